@@ -1,0 +1,11 @@
+-- How a batch keeps its writes.
+use Rattle.std.specs.Prelude.{◌≡◌, ℕ, List, length, All}
+use Rattle.tx_types.specs.Batch.{PageWrite}
+use Rattle.tx_types.specs.declared.batch.Entry.{Entry}
+
+abbrev pub write_of : Entry → PageWrite
+write_of e = record { page = e.page; bytes = e.bytes.items }
+
+-- each entry has the bytes of a whole page
+abbrev pub AreWhole : ℕ → List Entry → Type 0
+AreWhole size entries = All (λ e. length e.bytes.items ≡ size) entries
