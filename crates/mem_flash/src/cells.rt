@@ -1,0 +1,63 @@
+ghost use Rattle.std.specs.Prelude.{◌≡◌, ◌+◌, ◌-◌, ◌*◌, ◌≤◌, ◌++◌, length, take, drop, replicate};
+ghost use Rattle.std.specs.Fork.{slice_chunk};
+ghost use Rattle.mem_flash.specs.Slots.{cell_bytes, overwritten};
+ghost use Rattle.flash_model.specs.declared.flash.Seen.TheVariants as seen;
+ghost use Rattle.tx_types.specs.Config.{IsShape};
+
+use flash_model::{SPARE_BYTES, Seen};
+use tx_types::Shape;
+
+/// The bytes of a slot: a page of contents and its spare area.
+pub fn cell_bytes(shape: Shape) -> usize
+    requires { IsShape shape }
+    ensures { result ≡ cell_bytes shape.page_bytes }
+{
+    shape.page_bytes as usize + SPARE_BYTES
+}
+
+/// The bytes of the slot at this index, where each slot has `size` bytes.
+pub fn cell_at(cells: &[u8], size: usize, at: usize) -> &[u8]
+    requires { at * size + size ≤ length cells.now }
+    ensures cell { result.now ≡ slice_chunk cells.now size at }
+    ensures whole { length result.now ≡ size }
+{
+    let from = at * size;
+    &cells[from..from + size]
+}
+
+/// Copies a slot's contents and its spare area out of its bytes.
+pub fn read_cell(cell: &[u8], into: &mut [u8], spare: &mut [u8; 64])
+    requires { length cell.now ≡ length into.old + 64 }
+    ensures page { into.new ≡ take (length into.old) cell.now }
+    ensures spare { spare.new ≡ drop (length into.old) cell.now }
+{
+    let (page, rest) = cell.split_at(into.len());
+    into.copy_from_slice(page);
+    spare.copy_from_slice(rest);
+}
+
+/// Writes a page of contents and its spare area, from an index of the bytes on.
+pub fn write_cell(cells: &mut [u8], from: usize, bytes: &[u8], spare: &[u8; 64])
+    requires { from + length bytes.now + 64 ≤ length cells.old }
+    ensures { cells.new ≡ overwritten cells.old from (bytes.now ++ spare.now) }
+{
+    let middle = from + bytes.len();
+    cells[from..middle].copy_from_slice(bytes);
+    cells[middle..middle + spare.len()].copy_from_slice(spare);
+}
+
+/// Writes 0xff into this many bytes, from an index on.
+pub fn fill_cells(cells: &mut [u8], from: usize, count: usize)
+    requires { from + count ≤ length cells.old }
+    ensures { cells.new ≡ overwritten cells.old from (replicate count 255) }
+{
+    cells[from..from + count].fill(0xff);
+}
+
+/// Marks this many slots as blank, from an index on.
+pub fn mark_blank(states: &mut [Seen], from: usize, count: usize)
+    requires { from + count ≤ length states.old }
+    ensures { states.new ≡ overwritten states.old from (replicate count seen.Blank) }
+{
+    states[from..from + count].fill(Seen::Blank);
+}
