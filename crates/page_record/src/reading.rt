@@ -1,0 +1,122 @@
+ghost use Rattle.std.specs.Prelude.{◌≡◌, ◌&&◌, ◌+◌, ◌≤◌, IfOk, Ok};
+ghost use Rattle.std.specs.Result.{result_ok, result_err};
+ghost use Rattle.std.specs.Int.{w32, w64};
+ghost use Rattle.tx_types.specs.declared.record.Rec.{Rec};
+ghost use Rattle.page_record.specs.Spelling.{spelling, CanBeSpelled};
+ghost use Rattle.page_record.specs.Rules.{number_at, fields_of, are_zeros, is_version, is_back, first_broken, record_of};
+
+use crate::SpareError;
+use crate::layout::{FORMAT, MARK, code};
+use tx_types::{Link, MAX_VERSION, Protocol, Rec};
+
+/// The record that a spare area spells under this protocol, or the first rule that its bytes break.
+pub fn read_spare(spare: &[u8; 64], protocol: Protocol) -> Result<Rec, SpareError>
+    // What is read is spelled so.
+    ensures spelled { IfOk result (λ rec.
+        CanBeSpelled protocol rec × (spare.now ≡ spelling protocol rec)) }
+    // What is spelled so is read.
+    ensures only { (rec : Rec) → CanBeSpelled protocol rec → spare.now ≡ spelling protocol rec →
+        result ≡ Ok rec }
+
+    // Both answers as functions of the bytes: the error is the first rule in the table that is broken.
+    ensures found { result_ok result ≡ record_of protocol spare.now }
+    ensures error { result_err result ≡ first_broken protocol spare.now }
+{
+    match broken_rule(spare, protocol) {
+        Some(rule) => Err(rule),
+        None => Ok(fields(spare)),
+    }
+}
+
+/// The first rule that the bytes break.
+#[tactic(auto, unfolding(crate::specs::Rules::first_broken))]
+fn broken_rule(spare: &[u8; 64], protocol: Protocol) -> Option<SpareError>
+    ensures { result ≡ first_broken protocol spare.now }
+{
+    let rec = fields(spare);
+    if !spare.starts_with(&MARK) {
+        Some(SpareError::Mark)
+    } else if spare[4] != FORMAT {
+        Some(SpareError::Format)
+    } else if spare[5] != code(protocol) {
+        Some(SpareError::Protocol)
+    } else if !are_zeros(&spare[6..8]) {
+        Some(SpareError::Flags)
+    } else if !has_versions(rec) {
+        Some(SpareError::Version)
+    } else if !is_back(protocol, rec.version, rec.back) {
+        Some(SpareError::Back)
+    } else if !are_zeros(&spare[40..]) {
+        Some(SpareError::Rest)
+    } else {
+        None
+    }
+}
+
+/// The record whose numbers stand in the bytes.
+fn fields(spare: &[u8; 64]) -> Rec
+    ensures { result ≡ fields_of spare.now }
+{
+    Rec {
+        page: u32_at(spare, 8),
+        version: u64_at(spare, 16),
+        next: Link {
+            page: u32_at(spare, 12),
+            version: u64_at(spare, 24),
+        },
+        back: u64_at(spare, 32),
+    }
+}
+
+/// The number in the four bytes at an offset.
+#[tactic(auto, unfolding(crate::specs::Rules::number_at))]
+fn u32_at(spare: &[u8; 64], offset: usize) -> u32
+    requires { offset + 4 ≤ 64 }
+    ensures { result ≡ number_at w32 offset spare.now }
+{
+    let bytes = &spare[offset..offset + 4];
+    u32::from_le_bytes([bytes[0], bytes[1], bytes[2], bytes[3]])
+}
+
+/// The number in the eight bytes at an offset.
+#[tactic(auto, unfolding(crate::specs::Rules::number_at))]
+fn u64_at(spare: &[u8; 64], offset: usize) -> u64
+    requires { offset + 8 ≤ 64 }
+    ensures { result ≡ number_at w64 offset spare.now }
+{
+    let bytes = &spare[offset..offset + 8];
+    u64::from_le_bytes([
+        bytes[0], bytes[1], bytes[2], bytes[3], bytes[4], bytes[5], bytes[6], bytes[7],
+    ])
+}
+
+/// Whether each byte is 0.
+fn are_zeros(bytes: &[u8]) -> bool
+    ensures { result ≡ are_zeros bytes.now }
+{
+    bytes.iter().all(|b| *b == 0)
+}
+
+/// Whether the version and the link version are in range.
+fn has_versions(rec: Rec) -> bool
+    ensures { result ≡ (is_version rec.version && is_version rec.next.version) }
+{
+    is_version(rec.version) && is_version(rec.next.version)
+}
+
+/// Whether a number is in the range of versions.
+fn is_version(number: u64) -> bool
+    ensures { result ≡ is_version number }
+{
+    1 <= number && number <= MAX_VERSION
+}
+
+/// Whether a record of this version may have this back version.
+fn is_back(protocol: Protocol, version: u64, back: u64) -> bool
+    ensures { result ≡ is_back protocol version back }
+{
+    match protocol {
+        Protocol::Scc => back == 0,
+        Protocol::Bpcc => back < version,
+    }
+}

@@ -1,0 +1,228 @@
+use super::*;
+use std::test::*;
+use tx_types::Protocol::{Bpcc, Scc};
+use tx_types::{Link, Protocol, Rec};
+
+/// Page 0 at version 1 under Simple Cyclic Commit, with a link to page 1 at version 1.
+const SCC: [u8; 64] = [
+    0x54, 0x58, 0x46, 0x52, 1, 1, 0, 0, // mark, format, protocol, flags
+    0, 0, 0, 0, 1, 0, 0, 0, // page, link page
+    1, 0, 0, 0, 0, 0, 0, 0, // version
+    1, 0, 0, 0, 0, 0, 0, 0, // link version
+    0, 0, 0, 0, 0, 0, 0, 0, // back version
+    0, 0, 0, 0, 0, 0, 0, 0, 0, 0, 0, 0, 0, 0, 0, 0, 0, 0, 0, 0, 0, 0, 0, 0, // rest
+];
+
+/// Page 1 at version 3 under Back Pointer Cyclic Commit, with a link to itself and back version 2.
+const BPCC: [u8; 64] = [
+    0x54, 0x58, 0x46, 0x52, 1, 2, 0, 0, // mark, format, protocol, flags
+    1, 0, 0, 0, 1, 0, 0, 0, // page, link page
+    3, 0, 0, 0, 0, 0, 0, 0, // version
+    3, 0, 0, 0, 0, 0, 0, 0, // link version
+    2, 0, 0, 0, 0, 0, 0, 0, // back version
+    0, 0, 0, 0, 0, 0, 0, 0, 0, 0, 0, 0, 0, 0, 0, 0, 0, 0, 0, 0, 0, 0, 0, 0, // rest
+];
+
+/// Numbers whose bytes all differ, under Back Pointer Cyclic Commit.
+const WIDE: [u8; 64] = [
+    0x54, 0x58, 0x46, 0x52, 1, 2, 0, 0, // mark, format, protocol, flags
+    4, 3, 2, 1, 0xf8, 0xf7, 0xf6, 0xf5, // page, link page
+    0x18, 0x17, 0x16, 0x15, 0x14, 0x13, 0x12, 0x11, // version
+    0x28, 0x27, 0x26, 0x25, 0x24, 0x23, 0x22, 0x21, // link version
+    0x38, 0x37, 0x36, 0x35, 0x34, 0x33, 0x32, 0x10, // back version
+    0, 0, 0, 0, 0, 0, 0, 0, 0, 0, 0, 0, 0, 0, 0, 0, 0, 0, 0, 0, 0, 0, 0, 0, // rest
+];
+
+/// A record of these numbers: page and version, those of the link, and the back version.
+fn rec(page: u32, version: u64, link_page: u32, link_version: u64, back: u64) -> Rec {
+    Rec {
+        page,
+        version,
+        next: Link {
+            page: link_page,
+            version: link_version,
+        },
+        back,
+    }
+}
+
+/// The bytes with other values at some places.
+fn changed(spare: &[u8; 64], changes: &[(usize, u8)]) -> [u8; 64] {
+    let mut bytes = *spare;
+    for (place, byte) in changes {
+        if let Some(b) = bytes.get_mut(*place) {
+            *b = *byte;
+        }
+    }
+    bytes
+}
+
+#[test]
+fn writes_over_what_stood_there(rt: HostRuntime) {
+    let mut area = [0xff; 64];
+    let link = Link {
+        page: 1,
+        version: 1,
+    };
+    let first = Rec {
+        page: 0,
+        version: 1,
+        next: link,
+        back: 0,
+    };
+    write_spare(first, Scc, &mut area);
+    assert!(rt; area == SCC);
+
+    let link = Link {
+        page: 1,
+        version: 3,
+    };
+    let alone = Rec {
+        page: 1,
+        version: 3,
+        next: link,
+        back: 2,
+    };
+    write_spare(alone, Bpcc, &mut area);
+    assert!(rt; area == BPCC);
+
+    let link = Link {
+        page: 0xf5f6f7f8,
+        version: 0x2122232425262728,
+    };
+    let wide = Rec {
+        page: 0x01020304,
+        version: 0x1112131415161718,
+        next: link,
+        back: 0x1032333435363738,
+    };
+    write_spare(wide, Bpcc, &mut area);
+    assert!(rt; area == WIDE);
+}
+
+/// A spare area, what is changed in it, the protocol that it is read for, and the answer.
+type Case = (
+    &'static [u8; 64],
+    &'static [(usize, u8)],
+    Protocol,
+    Result<Rec, SpareError>,
+);
+
+#[test]
+fn reads_the_record_or_the_first_broken_rule(rt: HostRuntime) {
+    const MOST: u64 = 1 << 62;
+    let wide = rec(
+        0x01020304,
+        0x1112131415161718,
+        0xf5f6f7f8,
+        0x2122232425262728,
+        0x1032333435363738,
+    );
+    let cases: [Case; 33] = [
+        (&SCC, &[], Scc, Ok(rec(0, 1, 1, 1, 0))),
+        (&BPCC, &[], Bpcc, Ok(rec(1, 3, 1, 3, 2))),
+        (&WIDE, &[], Bpcc, Ok(wide)),
+        // Every rule is broken, and then one rule fewer at each line.
+        (
+            &SCC,
+            &[(3, 0), (4, 0), (5, 3), (7, 1), (31, 0x80), (32, 1), (63, 1)],
+            Scc,
+            Err(SpareError::Mark),
+        ),
+        (
+            &SCC,
+            &[(4, 0), (5, 3), (7, 1), (31, 0x80), (32, 1), (63, 1)],
+            Scc,
+            Err(SpareError::Format),
+        ),
+        (
+            &SCC,
+            &[(5, 3), (7, 1), (31, 0x80), (32, 1), (63, 1)],
+            Scc,
+            Err(SpareError::Protocol),
+        ),
+        (
+            &SCC,
+            &[(7, 1), (31, 0x80), (32, 1), (63, 1)],
+            Scc,
+            Err(SpareError::Flags),
+        ),
+        (
+            &SCC,
+            &[(31, 0x80), (32, 1), (63, 1)],
+            Scc,
+            Err(SpareError::Version),
+        ),
+        (&SCC, &[(32, 1), (63, 1)], Scc, Err(SpareError::Back)),
+        (&SCC, &[(63, 1)], Scc, Err(SpareError::Rest)),
+        // The mark in lower case, another format, flags.
+        (&SCC, &[(0, 0x74)], Scc, Err(SpareError::Mark)),
+        (&SCC, &[(4, 2)], Scc, Err(SpareError::Format)),
+        (&SCC, &[(6, 1)], Scc, Err(SpareError::Flags)),
+        // The other protocol, and none.
+        (&SCC, &[], Bpcc, Err(SpareError::Protocol)),
+        (&BPCC, &[], Scc, Err(SpareError::Protocol)),
+        (&SCC, &[(5, 0)], Scc, Err(SpareError::Protocol)),
+        // Versions 0, 1, the greatest, and the one above it.
+        (&SCC, &[(16, 0)], Scc, Err(SpareError::Version)),
+        (&SCC, &[(16, 0), (23, 0x40)], Scc, Ok(rec(0, MOST, 1, 1, 0))),
+        (&SCC, &[(23, 0x40)], Scc, Err(SpareError::Version)),
+        (&SCC, &[(24, 0)], Scc, Err(SpareError::Version)),
+        (&SCC, &[(24, 0), (31, 0x40)], Scc, Ok(rec(0, 1, 1, MOST, 0))),
+        (&SCC, &[(31, 0x40)], Scc, Err(SpareError::Version)),
+        // Back versions.
+        (&SCC, &[(32, 1)], Scc, Err(SpareError::Back)),
+        (&SCC, &[(39, 1)], Scc, Err(SpareError::Back)),
+        (&SCC, &[(5, 2), (32, 1)], Bpcc, Err(SpareError::Back)),
+        (&BPCC, &[(32, 0)], Bpcc, Ok(rec(1, 3, 1, 3, 0))),
+        (&BPCC, &[(32, 3)], Bpcc, Err(SpareError::Back)),
+        (&BPCC, &[(39, 1)], Bpcc, Err(SpareError::Back)),
+        // Each end of the rest.
+        (&SCC, &[(40, 1)], Scc, Err(SpareError::Rest)),
+        (&BPCC, &[(63, 0x80)], Bpcc, Err(SpareError::Rest)),
+        // Nothing was programmed, or all bits were.
+        (
+            &SCC,
+            &[(0, 0xff), (1, 0xff), (2, 0xff), (3, 0xff)],
+            Scc,
+            Err(SpareError::Mark),
+        ),
+        (
+            &SCC,
+            &[(0, 0), (1, 0), (2, 0), (3, 0)],
+            Scc,
+            Err(SpareError::Mark),
+        ),
+        // Any page and link page.
+        (
+            &SCC,
+            &[(8, 0xff), (11, 0xff), (12, 0xff), (15, 0xff)],
+            Scc,
+            Ok(rec(0xff0000ff, 1, 0xff0000ff, 1, 0)),
+        ),
+    ];
+    for (spare, changes, protocol, want) in cases {
+        assert_eq!(rt;
+            read_spare(&changed(spare, changes), protocol),
+            want,
+            "after {changes:?}"
+        );
+    }
+}
+
+#[test]
+fn errors_are_named(rt: HostRuntime) -> Result<(), Fail> {
+    let names = [
+        (SpareError::Mark, "mark"),
+        (SpareError::Format, "format"),
+        (SpareError::Protocol, "protocol"),
+        (SpareError::Flags, "flags"),
+        (SpareError::Version, "version"),
+        (SpareError::Back, "back"),
+        (SpareError::Rest, "rest"),
+    ];
+    for (error, name) in names {
+        assert_eq!(rt; error.to_string(rt.alloc())?.as_str(), name);
+    }
+    Ok(())
+}
