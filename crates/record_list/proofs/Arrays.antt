@@ -1,0 +1,190 @@
+-- What the four changes do to the array that a list with bytes stands for, from what they keep of its records.
+use Rattle.std.proofs.Common.{◌≡◌, ℕ, zero, suc, ◌+◌, ◌<◌, ◌≤◌, ◌⊎◌, Bool, true, false, ◌||◌, Some, None, List, [], ◌∷◌, ◌++◌, map, All, refl, sym, ap, ◌∙◌, subst, inl, inr, arith}
+use Rattle.std.specs.Prelude.{find}
+use Rattle.std.specs.List.{range_with_len}
+use Rattle.std.specs.Option.{option_map}
+use Rattle.std.proofs.lemmas.Bool.{cases_Bool, cases_lt, cond-true, cond-false, both_ways}
+use Rattle.tx_types.specs.declared.record.Link.{Link}
+use Rattle.tx_types.specs.declared.config.Protocol.{Protocol}
+use Rattle.tx_types.specs.declared.config.Shape.{Shape}
+use Rattle.record_list.specs.declared.found.Found.{Found}
+use Rattle.record_list.specs.Records.{name_of, has_name, is_present, IsScanned}
+use Rattle.record_list.specs.Current.{cur, IsCurrent, is_held}
+use Rattle.record_list.specs.SoundList.{current_name, IsSoundList}
+use Rattle.record_list.specs.Changes.{IsInserted, SameCurrent, left}
+use Rattle.record_list.specs.Written.{Written, found_of, records_of, bytes_at, page_at, array_of, BytesAgree, is_outside, IsRemovable}
+use Rattle.record_list.specs.WrittenChanges.{left_outside}
+use Rattle.record_list.proofs.Names.{IsIn, all_at, has_name_true, found_named}
+use Rattle.record_list.proofs.SoundNames.{sound_map}
+use Rattle.record_list.proofs.Facts.{cur_present}
+use Rattle.record_list.proofs.LossMembers.{in_inserted, from_filter, present_as}
+use Rattle.record_list.proofs.WrittenLists.{in_records, IsOneText, one_text, records_left}
+
+-- the item that is new is there
+in_new : {X : Type 0} (l m : List X) (x : X) → IsInserted l x m → IsIn m x
+in_new {X = X} l m x added = subst (λ z. IsIn z x) (sym added.now) (behind added.before)
+  where
+    behind : (before : List X) → IsIn (before ++ x ∷ added.after) x
+    behind [] = inl refl
+    behind (y ∷ ys) = inr (behind ys)
+
+-- a current version that is not 0 is present
+current_present : (p : Protocol) (l : List Found) (n page : ℕ) → IsSoundList p l n → IsScanned l → 0 < cur p l n page →
+    is_present l (current_name p l n page) ≡ true
+current_present p l n page sound scanned some = elim (cur_present p l n (sound_map p l n sound scanned) page) [
+  | inl none ↦ absurd (omega arith)
+  | inr there' ↦ there'
+]
+
+-- a name has the bytes of one of its records, or has none
+pub data HasBytes (l : List Written) (name : Link) : Type 0 where
+  there : (w : Written) → IsIn l w → name_of w.rec ≡ name → bytes_at l name ≡ Some w.bytes → HasBytes l name
+  nowhere : bytes_at l name ≡ None → is_present (records_of l) name ≡ false → HasBytes l name
+
+pub has_bytes : (l : List Written) (name : Link) → HasBytes l name
+has_bytes [] name = nowhere refl refl
+has_bytes (v ∷ vs) name = elim (cases_Bool (has_name name v.rec)) [
+  | inl named ↦ there v (inl refl) (has_name_true name v.rec named)
+      (ap (option_map (λ w. w.bytes)) (cond-true (has_name name v.rec) (Some v) (find (λ w. has_name name w.rec) vs) named))
+  | inr other ↦
+      (let skips : bytes_at (v ∷ vs) name ≡ bytes_at vs name =
+      ap (option_map (λ w. w.bytes)) (cond-false (has_name name v.rec) (Some v) (find (λ w. has_name name w.rec) vs) other) in
+      elim (has_bytes vs name) [
+        | there w is_in named is ↦ there w (inr is_in) named (skips ∙ is)
+        | nowhere is absent ↦ nowhere (skips ∙ is) (none_of (has_name name v.rec) (is_present (records_of vs) name) other absent)
+      ])
+]
+  where
+    none_of : (a b : Bool) → a ≡ false → b ≡ false → (a || b) ≡ false
+    none_of a b e f = cc
+
+-- a record in the list, whatever its slot, has the bytes of its name
+pub bytes_of : (l : List Written) (w : Written) → IsOneText l → IsIn l w → bytes_at l (name_of w.rec) ≡ Some w.bytes
+bytes_of l w text is_in = elim (has_bytes l (name_of w.rec)) [
+  | there v v_in named is ↦ is ∙ ap Some (text.same v w v_in is_in named)
+  | nowhere is absent ↦ absurd (both_ways (is_present (records_of l) (name_of w.rec)) absent (present_as (records_of l) (found_of w) (name_of w.rec) (in_records l w is_in) refl))
+]
+
+-- a present name has some bytes
+pub bytes_present : (l : List Written) (name : Link) → is_present (records_of l) name ≡ true →
+    (w : Written) × IsIn l w × (name_of w.rec ≡ name) × (bytes_at l name ≡ Some w.bytes)
+bytes_present l name h = elim (has_bytes l name) [
+  | there w is_in named is ↦ (w, is_in, named, is)
+  | nowhere is absent ↦ absurd (both_ways (is_present (records_of l) name) absent h)
+]
+
+pub bytes_absent : (l : List Written) (name : Link) → is_present (records_of l) name ≡ false → bytes_at l name ≡ None
+bytes_absent l name h = elim (has_bytes l name) [
+  | there w is_in named is ↦ absurd (both_ways (is_present (records_of l) name) h (present_as (records_of l) (found_of w) name (in_records l w is_in) named))
+  | nowhere is absent ↦ is
+]
+
+-- a name that was present has its bytes still, with more records
+pub bytes_grow : (l m : List Written) (name : Link) → IsOneText m → ((w : Written) → IsIn l w → IsIn m w) →
+    is_present (records_of l) name ≡ true → bytes_at m name ≡ bytes_at l name
+bytes_grow l m name text more h =
+    let v = bytes_present l name h in
+    subst (λ n. bytes_at m n ≡ Some v.0.bytes) v.2 (bytes_of m v.0 text (more v.0 v.1)) ∙ sym v.3
+
+-- two functions that agree on a range
+map_range : {X : Type 0} (f g : ℕ → X) (a n : ℕ) → ((i : ℕ) → a ≤ i → i < a + n → f i ≡ g i) → map f (range_with_len a n) ≡ map g (range_with_len a n)
+map_range f g a zero h = refl
+map_range f g a (suc n) h =
+    ap (λ x. x ∷ map f (range_with_len (a + 1) n)) (h a (omega arith) (omega arith))
+    ∙ ap (λ xs. g a ∷ xs) (map_range f g (a + 1) n (λ i low high. h i (omega arith) (omega arith)))
+
+-- an array is known by its pages
+pub same_array : (p : Protocol) (l m : List Written) (n : ℕ) → ((page : ℕ) → page < n → page_at p m n page ≡ page_at p l n page) →
+    array_of p m n ≡ array_of p l n
+same_array p l m n h = map_range (page_at p m n) (page_at p l n) 0 n (λ i low high. h i (omega arith))
+
+-- version 0 is no record's
+zero_absent : (l : List Found) (page : ℕ) → IsScanned l → is_present l (record { page = page; version = 0 }) ≡ false
+zero_absent l page scanned = elim (cases_Bool (is_present l (record { page = page; version = 0 }))) [
+  | inl h ↦
+      (let f = found_named l (record { page = page; version = 0 }) h in
+      let low : 1 ≤ f.0.rec.version = (all_at (λ g. (1 ≤ g.rec.version) × (1 ≤ g.rec.next.version)) l f.0 scanned.versions f.1).0 in
+      let is : f.0.rec.version ≡ 0 = ap (λ (y : Link). y.version) f.2 in
+      absurd (omega arith))
+  | inr h ↦ h
+]
+
+-- a page without a current version is blank
+pub blank_page : (p : Protocol) (l : List Written) (n page : ℕ) → IsScanned (records_of l) → cur p (records_of l) n page ≡ 0 → page_at p l n page ≡ None
+blank_page p l n page scanned none =
+    bytes_absent l (current_name p (records_of l) n page)
+    (subst (λ v. is_present (records_of l) (record { page = page; version = v }) ≡ false) (sym none) (zero_absent (records_of l) page scanned))
+
+-- a page whose current version stays holds what it held: with more records
+pub page_grows : (p : Protocol) (l m : List Written) (n page : ℕ) → IsSoundList p (records_of l) n → IsScanned (records_of l) → IsScanned (records_of m) →
+    IsOneText m → ((w : Written) → IsIn l w → IsIn m w) →
+    cur p (records_of m) n page ≡ cur p (records_of l) n page → page_at p m n page ≡ page_at p l n page
+page_grows p l m n page sound scanned scanned' text more same = elim (cases_lt 0 (cur p (records_of l) n page)) [
+  | inl some ↦
+      ap (λ v. bytes_at m (record { page = page; version = v })) same
+      ∙ bytes_grow l m (current_name p (records_of l) n page) text more (current_present p (records_of l) n page sound scanned some)
+  | inr low ↦
+      (let none : cur p (records_of l) n page ≡ 0 = omega arith in
+      blank_page p m n page scanned' (same ∙ none) ∙ sym (blank_page p l n page scanned none))
+]
+
+-- and with fewer records, where the current one has a copy that stays
+pub page_left : (p : Protocol) (l m : List Written) (n page : ℕ) → IsSoundList p (records_of l) n → IsScanned (records_of l) → IsScanned (records_of m) →
+    IsOneText l → ((w : Written) → IsIn m w → IsIn l w) →
+    (0 < cur p (records_of l) n page → is_present (records_of m) (current_name p (records_of l) n page) ≡ true) →
+    cur p (records_of m) n page ≡ cur p (records_of l) n page → page_at p m n page ≡ page_at p l n page
+page_left p l m n page sound scanned scanned' text fewer stays same = elim (cases_lt 0 (cur p (records_of l) n page)) [
+  | inl some ↦
+      ap (λ v. bytes_at m (record { page = page; version = v })) same
+      ∙ sym (bytes_grow m l (current_name p (records_of l) n page) text fewer (stays some))
+  | inr low ↦
+      (let none : cur p (records_of l) n page ≡ 0 = omega arith in
+      blank_page p m n page scanned' (same ∙ none) ∙ sym (blank_page p l n page scanned none))
+]
+
+-- the array stays at a partial write and at a copy
+pub array_grows : (p : Protocol) (l m : List Written) (n : ℕ) (w : Written) → IsSoundList p (records_of l) n → IsScanned (records_of l) → IsScanned (records_of m) →
+    All (BytesAgree m) m → IsInserted l w m → SameCurrent p (records_of l) (records_of m) n → array_of p m n ≡ array_of p l n
+array_grows p l m n w sound scanned scanned' bytes added same =
+    same_array p l m n (λ page within.
+    page_grows p l m n page sound scanned scanned' (one_text m scanned' bytes) (λ v c. in_inserted l m w v added c) (same page within))
+
+-- and at the loss of a block
+pub array_left : (p : Protocol) (l : List Written) (n : ℕ) (shape : Shape) (block : ℕ) → IsSoundList p (records_of l) n → IsScanned (records_of l) →
+    IsScanned (records_of (left_outside shape block l)) → All (BytesAgree l) l → IsRemovable p (records_of l) n shape block →
+    SameCurrent p (records_of l) (records_of (left_outside shape block l)) n → array_of p (left_outside shape block l) n ≡ array_of p l n
+array_left p l n shape block sound scanned scanned' bytes removable same =
+    let m = left_outside shape block l in
+    same_array p l m n (λ page within.
+    page_left p l m n page sound scanned scanned' (one_text l scanned bytes) (λ v c. (from_filter (λ w. is_outside shape block w.slot.0) v l c).0)
+    (λ some.
+    let name = current_name p (records_of l) n page in
+    let f = found_named (records_of l) name (current_present p (records_of l) n page sound scanned some) in
+    let at_page : f.0.rec.page ≡ page = ap (λ (y : Link). y.page) f.2 in
+    let version : f.0.rec.version ≡ cur p (records_of l) n page = ap (λ (y : Link). y.version) f.2 in
+    let current : f.0.rec.version ≡ cur p (records_of l) n f.0.rec.page = version ∙ ap (cur p (records_of l) n) (sym at_page) in
+    let kept : is_present (left (is_outside shape block) (records_of l)) (name_of f.0.rec) ≡ true =
+    all_at (λ g. IsCurrent p (records_of l) n g.rec ⊎ (is_held p (records_of l) n (name_of g.rec) ≡ true) → is_present (left (is_outside shape block) (records_of l)) (name_of g.rec) ≡ true)
+    (records_of l) f.0 removable f.1 (inl current) in
+    subst (λ fs. is_present fs name ≡ true) (sym (records_left (is_outside shape block) l))
+    (subst (λ u. is_present (left (is_outside shape block) (records_of l)) u ≡ true) f.2 kept))
+    (same page within))
+
+-- at a completing write the pages of the transaction hold the bytes of its records, and every other page what it held
+pub page_committed : (p : Protocol) (m : List Written) (n : ℕ) (name : Link) → cur p (records_of m) n name.page ≡ name.version →
+    page_at p m n name.page ≡ bytes_at m name
+page_committed p m n name is = ap (λ v. bytes_at m (record { page = name.page; version = v })) is
+
+pub bytes_new : (l m : List Written) (w : Written) → IsScanned (records_of m) → All (BytesAgree m) m → IsInserted l w m →
+    bytes_at m (name_of w.rec) ≡ Some w.bytes
+bytes_new l m w scanned' bytes added = bytes_of m w (one_text m scanned' bytes) (in_new l m w added)
+
+pub bytes_old : (l m : List Written) (w : Written) (name : Link) → IsScanned (records_of m) → All (BytesAgree m) m → IsInserted l w m →
+    is_present (records_of l) name ≡ true → bytes_at m name ≡ bytes_at l name
+bytes_old l m w name scanned' bytes added h = bytes_grow l m name (one_text m scanned' bytes) (λ v c. in_inserted l m w v added c) h
+
+pub page_elsewhere : (p : Protocol) (l m : List Written) (n page : ℕ) (w : Written) → IsSoundList p (records_of l) n → IsScanned (records_of l) →
+    IsScanned (records_of m) → All (BytesAgree m) m → IsInserted l w m → cur p (records_of m) n page ≡ cur p (records_of l) n page →
+    page_at p m n page ≡ page_at p l n page
+page_elsewhere p l m n page w sound scanned scanned' bytes added same =
+    page_grows p l m n page sound scanned scanned' (one_text m scanned' bytes) (λ v c. in_inserted l m w v added c) same

@@ -1,0 +1,119 @@
+-- Back Pointer Cyclic Commit: what a write keeps that completes its cycle.
+use Rattle.std.proofs.Common.{◌≡◌, ◌≢◌, ℕ, ◌<◌, true, ◌⊎◌, List, Contains, refl, sym, ap, ◌∙◌, subst, inl, inr, arith}
+use Rattle.std.proofs.lemmas.Bool.{cases_order}
+use Rattle.tx_types.specs.declared.record.Link.{Link}
+use Rattle.tx_types.specs.declared.config.Protocol.TheVariants.{Bpcc}
+use Rattle.record_list.specs.declared.found.Found.{Found}
+use Rattle.record_list.specs.Records.{name_of, is_present}
+use Rattle.record_list.specs.Verdict.{link_of, back_of}
+use Rattle.record_list.specs.Current.{cur, responsible, answers_for, is_held}
+use Rattle.record_list.specs.Changes.{IsInserted, CompletingWriteLaw}
+use Rattle.record_list.proofs.Names.{IsIn, all_from, all_at, contains_from, same_name, present_in}
+use Rattle.record_list.proofs.SoundNames.{IsSoundMap, LooseNames, EndingNames, sound_map, sound_list}
+use Rattle.record_list.proofs.Rounds.{cases_page}
+use Rattle.record_list.proofs.OneMore.{IsStep, inserted_in, old_link, old_back, next_after}
+use Rattle.record_list.proofs.Untouched.{OldLinks}
+use Rattle.record_list.proofs.Keeping.{step_of, back_of_step, page_apart, others_on}
+use Rattle.record_list.proofs.Completing.{completed, elsewhere, completing_map}
+use Rattle.record_list.proofs.BpccLinks.{bpcc_old_links}
+use Rattle.record_list.proofs.BpccAnswers.{name_back, was_loose, answer_elsewhere, answer_name, answer_below}
+use Rattle.record_list.proofs.Ending.{ends_out}
+use Rattle.record_list.proofs.Held.{answer_of, answers, any_of, any_from}
+
+module _ (l l' : List Found) (logical : ℕ) (names : List Link) (f : Found) (s : IsStep l l' logical names f.rec) (m : IsSoundMap Bpcc l logical)
+    (back : f.rec.back ≡ cur Bpcc l logical f.rec.page) (old : OldLinks Bpcc l l' logical names f.rec) (all : (a : Link) → IsIn names a → is_present l' a ≡ true)
+    (backs : (a : Link) → IsIn names a → is_present l a ≡ true → back_of l a ≡ cur Bpcc l logical a.page) where
+  -- law 6 afterwards
+  completing_loose : LooseNames Bpcc l' logical
+  completing_loose u here at =
+      let was = was_loose l l' logical names f s m back old all backs u here at in
+      let out : IsIn names u → ⊥ = λ i. was.0 u i refl in
+      let level = was.2 in
+      let law = m.loose u was.1 (omega arith) in
+      let q = link_of l u in
+      let link = old_link l l' logical names f.rec s u was.1 in
+      let both : (q.version ≡ cur Bpcc l' logical q.page → ⊥) × (q.version < cur Bpcc l' logical q.page → responsible Bpcc l' logical q ≡ 0 → ⊥) = elim (cases_page names q.page) [
+        | inl of_page ↦ (
+            let a = of_page.0 in
+            let low = (s.underway.lower u was.1 out a of_page.1).1 (sym of_page.2) in
+            let done : cur Bpcc l' logical q.page ≡ a.version = ap (cur Bpcc l' logical) (sym of_page.2) ∙ completed Bpcc l l' logical names f s m old all a of_page.1 in (
+              λ x. omega arith,
+              λ less none. elim (cases_order q.version (cur Bpcc l logical q.page)) [
+                | inl at_current ↦ law.1 at_current
+                | inr (inl below) ↦ law.2 below (sym (answer_below l l' logical names f s m back old all backs q a of_page.1 of_page.2 below) ∙ none)
+                | inr (inr above) ↦ (let e = answer_name l l' logical names f s m back old all backs q a of_page.1 of_page.2 above low in omega arith)
+              ],
+            ))
+        | inr off ↦ (
+            let same = elsewhere Bpcc l l' logical names f s m old all q.page off in
+            (λ x. law.1 (x ∙ same), λ less none. law.2 (omega arith) (sym (answer_elsewhere l l' logical names f s m back old all backs q off) ∙ none)))
+      ] in (
+        old_back l l' logical names f.rec s u was.1 ∙ law.0 ∙ sym level,
+        subst (λ z. z.version ≡ cur Bpcc l' logical z.page → ⊥) (sym link) both.0,
+        subst (λ z. z.version < cur Bpcc l' logical z.page → responsible Bpcc l' logical z ≡ 0 → ⊥) (sym link) both.1,
+      )
+
+  -- law 7 afterwards
+  completing_ending : EndingNames Bpcc l' logical
+  completing_ending u here at =
+      let was = was_loose l l' logical names f s m back old all backs u here at in
+      let level = was.2 in
+      ends_out l l' logical names f.rec s u was.1 (λ i. was.0 u i refl) (m.ending u was.1 (omega arith))
+
+  -- a record that is held was held, or is one of the names'
+  completing_held : IsInserted l f l' → (name : Link) → is_held Bpcc l' logical name ≡ true → (is_held Bpcc l logical name ≡ true) ⊎ Contains names name
+  completing_held ins name held =
+      let found = any_of (λ g. answers_for Bpcc l' logical name g.rec) l' held in
+      let g = found.0 in
+      let a = answer_of l' logical name g.rec found.2 in
+      let was = was_loose l l' logical names f s m back old all backs (name_of g.rec) (present_in l' g found.1) a.loose in
+      let level = was.2 in
+      let loose' = a.loose in
+      let q = g.rec.next in
+      let below' = a.below in
+      let inside : IsIn l g = elim (inserted_in l l' f ins g found.1) [
+        | inl e ↦ absurd (was.0 (name_of f.rec) s.of_names (ap (λ x. x.rec.page) e))
+        | inr i ↦ i
+      ] in
+      let before : cur Bpcc l logical g.rec.page < g.rec.version = omega arith in
+      let held_if : q.version < cur Bpcc l logical name.page → responsible Bpcc l logical q ≡ name.version → is_held Bpcc l logical name ≡ true = λ below version.
+      any_from (λ h. answers_for Bpcc l logical name h.rec) l g inside (answers l logical name g.rec (record { loose = before; page = a.page; below = below; version = version })) in
+      elim (cases_page names q.page) [
+        | inl of_page ↦ (
+            let n = of_page.0 in
+            let link = (m.copies g inside).0 in
+            let law = (m.loose (name_of g.rec) was.1 before).1 in
+            let low : q.version < n.version = subst (λ z. z.page ≡ n.page → z.version < n.version) (sym link) (s.underway.lower (name_of g.rec) was.1 (λ i. was.0 (name_of g.rec) i refl) n of_page.1).1 (sym of_page.2) in
+            let page = ap (cur Bpcc l logical) a.page in
+            elim (cases_order q.version (cur Bpcc l logical q.page)) [
+              | inl at ↦ absurd (law (subst (λ z. z.version ≡ cur Bpcc l logical z.page) link at))
+              | inr (inl below) ↦ inl (held_if (omega arith) (sym (answer_below l l' logical names f s m back old all backs q n of_page.1 of_page.2 below) ∙ a.version))
+              | inr (inr above) ↦ (
+                  let e : n ≡ name = same_name n name (of_page.2 ∙ a.page) (sym (answer_name l l' logical names f s m back old all backs q n of_page.1 of_page.2 above low) ∙ a.version) in
+                  inr (contains_from names name (subst (IsIn names) e of_page.1)))
+            ])
+        | inr off ↦ (
+            let same = elsewhere Bpcc l l' logical names f s m old all q.page off in
+            let page = ap (cur Bpcc l logical) a.page in
+            let page' = ap (cur Bpcc l' logical) a.page in
+            inl (held_if (omega arith) (sym (answer_elsewhere l l' logical names f s m back old all backs q off) ∙ a.version)))
+      ]
+
+-- the law of a write that completes its cycle
+pub bpcc_completing_write : CompletingWriteLaw Bpcc
+bpcc_completing_write l l' logical names f sound w every =
+    let s = step_of Bpcc l l' logical names f w in
+    let m = sound_map Bpcc l logical sound w.scanned in
+    let back = back_of_step Bpcc l l' logical names f w f.rec.next (next_after l l' logical names f.rec s) in
+    let old = bpcc_old_links l l' logical names f.rec s m back in
+    let all : (a : Link) → IsIn names a → is_present l' a ≡ true = λ a i. all_at (λ n. is_present l' n ≡ true) names a every i in
+    let backs = name_back Bpcc l logical names w.in_progress.begun in
+    record {
+      sound = sound_list Bpcc l' logical (completing_map Bpcc l l' logical names f s m old all w.added back
+          (completing_loose l l' logical names f s m back old all backs) (completing_ending l l' logical names f s m back old all backs));
+      committed = all_from (λ n. cur Bpcc l' logical n.page ≡ n.version) names (completed Bpcc l l' logical names f s m old all);
+      elsewhere = λ page below out. elsewhere Bpcc l l' logical names f s m old all page (λ a i. all_at (λ n. n.page ≢ page) names a out i);
+      held = completing_held l l' logical names f s m back old all backs w.added;
+      others = λ others share h. others_on Bpcc l l' logical names f w others share
+          (λ b j. elsewhere Bpcc l l' logical names f s m old all b.page (λ a i e. page_apart Bpcc l l' logical names f w others share a b i j e)) h;
+    }

@@ -1,0 +1,175 @@
+-- The records of a list by their names: what is so of each record, greatest numbers, and what a present name says.
+use Rattle.std.proofs.Common.{◌≡◌, ℕ, ◌<◌, ◌≤◌, Bool, true, false, cond, ◌&&◌, ◌||◌, eqb, ltb, ◌⊎◌, List, [], ◌∷◌, get_or, All, AllPairs, Contains, refl, sym, ap, ap₂, ◌∙◌, subst, inl, inr, arith, eqb-true, eq-eqb, lt-ltb, ltb-true, le_trans}
+use Rattle.std.proofs.Math.Nat.{le-max_left, le-max_right, max-le, max-eq_left, max-eq_right}
+use Rattle.std.specs.List.{AllByRecursion}
+use Rattle.std.proofs.lemmas.Bool.{false≢true, cases_Bool, cases_lt, cases_order, cond-true, cond-false, and_parts, and_from, or_left, or_right, or_parts}
+use Rattle.std.proofs.lemmas.List.{get_or_default}
+use Rattle.std.proofs.lemmas.List.Elements.{All-from_recursion, recursion_from_All, All-contains, All-contains_itself}
+use Rattle.tx_types.specs.declared.record.Link.{Link}
+use Rattle.tx_types.specs.declared.record.Rec.{Rec}
+use Rattle.record_list.specs.declared.found.Found.{Found}
+use Rattle.record_list.specs.Records.{greatest, version_of, version_below, newest, next_older, name_of, has_name, is_present}
+use Rattle.record_list.specs.Verdict.{newest_name, link_of, back_of}
+
+-- an item is in a list
+abbrev pub IsIn : {X : Type 0} → List X → X → Type 0
+IsIn [] x = ⊥
+IsIn (y ∷ ys) x = (y ≡ x) ⊎ IsIn ys x
+
+-- from each item to the fact by recursion
+in_recursion : {X : Type 0} (P : X → Type 0) (xs : List X) → ((x : X) → IsIn xs x → P x) → AllByRecursion P xs
+in_recursion P [] h = tt
+in_recursion P (x ∷ xs) h = (h x (inl refl), in_recursion P xs (λ y i. h y (inr i)))
+
+-- and from that to each item
+recursion_in : {X : Type 0} (P : X → Type 0) (xs : List X) (x : X) → AllByRecursion P xs → IsIn xs x → P x
+recursion_in P [] x a i = absurd i
+recursion_in P (y ∷ ys) x a (inl e) = subst P e a.0
+recursion_in P (y ∷ ys) x a (inr i) = recursion_in P ys x a.1 i
+
+-- what is so of each item in a list is so of all
+pub all_from : {X : Type 0} (P : X → Type 0) (xs : List X) → ((x : X) → IsIn xs x → P x) → All P xs
+all_from P xs h = All-from_recursion P xs (in_recursion P xs h)
+
+-- and back, at an item
+pub all_at : {X : Type 0} (P : X → Type 0) (xs : List X) (x : X) → All P xs → IsIn xs x → P x
+all_at P xs x a i = recursion_in P xs x (recursion_from_All P xs a) i
+
+-- an item in the list is one that the list contains
+pub contains_from : {X : Type 0} (xs : List X) (x : X) → IsIn xs x → Contains xs x
+contains_from xs x i = all_at (Contains xs) xs x (All-contains_itself xs) i
+
+-- and the other way round
+pub in_from : {X : Type 0} (xs : List X) (x : X) → Contains xs x → IsIn xs x
+in_from xs x c = All-contains (IsIn xs) xs x (all_from (IsIn xs) xs (λ y i. i)) c
+
+-- of two items in a list with a relation along it, one comes first or they are one
+pub in_order : {X : Type 0} (R : X → X → Type 0) (xs : List X) (x y : X) → AllPairs R xs → IsIn xs x → IsIn xs y → (x ≡ y) ⊎ (R x y ⊎ R y x)
+in_order R xs x y all i j =
+    let a = contains_from xs x i in
+    let b = contains_from xs y j in
+    elim (cases_order a.0 b.0) [
+      | inl e ↦ inl (sym a.2 ∙ get_or_default xs a.0 x y a.1 ∙ ap (λ k. get_or xs k y) e ∙ b.2)
+      | inr (inl less) ↦ inr (inl (subst (λ z. R z y) a.2 (subst (λ z. R (get_or xs a.0 x) z) (get_or_default xs b.0 x y b.1 ∙ b.2) (all a.0 b.0 x less b.1))))
+      | inr (inr more) ↦ inr (inr (subst (λ z. R z x) b.2 (subst (λ z. R (get_or xs b.0 y) z) (get_or_default xs a.0 y x a.1 ∙ a.2) (all b.0 a.0 y more a.1))))
+    ]
+
+-- a name from its parts
+abbrev pub named : ℕ → ℕ → Link
+named p v = record { page = p; version = v }
+
+-- two names with equal parts are one
+pub same_name : (u v : Link) → u.page ≡ v.page → u.version ≡ v.version → u ≡ v
+same_name u v e f = ap₂ named e f
+
+-- a record that passes the test for a name has it
+pub has_name_true : (u : Link) (r : Rec) → has_name u r ≡ true → name_of r ≡ u
+has_name_true u r h =
+    let parts = and_parts (eqb r.page u.page) (eqb r.version u.version) h in
+    same_name (name_of r) u (eqb-true r.page u.page parts.0) (eqb-true r.version u.version parts.1)
+
+-- and a record that has a name passes its test
+pub has_own_name : (u : Link) (r : Rec) → name_of r ≡ u → has_name u r ≡ true
+has_own_name u r e = and_from (eqb r.page u.page) (eqb r.version u.version) (eq-eqb _ _ (ap (λ n. n.page) e)) (eq-eqb _ _ (ap (λ n. n.version) e))
+
+-- two records with equal parts are one
+pub same_record : (r s : Rec) → name_of r ≡ name_of s → r.next ≡ s.next → r.back ≡ s.back → r ≡ s
+same_record r s e f g =
+    ap₂ (λ (n : Link) (m : Link). the_record n m r.back) e f ∙ ap (λ b. the_record (name_of s) s.next b) g
+  where
+    the_record : Link → Link → ℕ → Rec
+    the_record n m b = record { page = n.page; version = n.version; next = m; back = b }
+
+-- a greatest number bounds that of each record
+pub greatest_bound : (of : Rec → ℕ) (l : List Found) (f : Found) → IsIn l f → of f.rec ≤ greatest of l
+greatest_bound of [] f i = absurd i
+greatest_bound of (g ∷ gs) f (inl e) = subst (λ x. of x.rec ≤ greatest of (g ∷ gs)) e (le-max_left (of g.rec) (greatest of gs))
+greatest_bound of (g ∷ gs) f (inr i) = le_trans (greatest_bound of gs f i) (le-max_right (of g.rec) (greatest of gs))
+
+-- what bounds each record bounds the greatest
+pub greatest_least : (of : Rec → ℕ) (l : List Found) (m : ℕ) → ((f : Found) → IsIn l f → of f.rec ≤ m) → greatest of l ≤ m
+greatest_least of [] m h = omega arith
+greatest_least of (g ∷ gs) m h = max-le (h g (inl refl)) (greatest_least of gs m (λ f i. h f (inr i)))
+
+-- a record has the greatest number, where this is not 0
+pub greatest_attained : (of : Rec → ℕ) (l : List Found) → 0 < greatest of l → (f : Found) × IsIn l f × (of f.rec ≡ greatest of l)
+greatest_attained of [] h = absurd (omega arith)
+greatest_attained of (g ∷ gs) h = elim (cases_lt (of g.rec) (greatest of gs)) [
+  | inl less ↦ (let ih = greatest_attained of gs (omega arith) in
+      (ih.0, inr ih.1, ih.2 ∙ sym (max-eq_right (omega arith))))
+  | inr more ↦ (g, inl refl, sym (max-eq_left more))
+]
+
+-- the record that a present name has
+pub found_named : (l : List Found) (u : Link) → is_present l u ≡ true →
+    (f : Found) × IsIn l f × (name_of f.rec ≡ u) × (f.rec.next ≡ link_of l u) × (f.rec.back ≡ back_of l u)
+found_named [] u h = absurd (false≢true h)
+found_named (f ∷ fs) u h = elim (cases_Bool (has_name u f.rec)) [
+  | inl e ↦ (f, inl refl, has_name_true u f.rec e, sym (cond-true (has_name u f.rec) f.rec.next (link_of fs u) e), sym (cond-true (has_name u f.rec) f.rec.back (back_of fs u) e))
+  | inr e ↦ (let ih = found_named fs u (present_rest (has_name u f.rec) (is_present fs u) e h) in
+      (ih.0, inr ih.1, ih.2, ih.3 ∙ sym (cond-false (has_name u f.rec) f.rec.next (link_of fs u) e), ih.4 ∙ sym (cond-false (has_name u f.rec) f.rec.back (back_of fs u) e)))
+]
+  where
+    present_rest : (a b : Bool) → a ≡ false → (a || b) ≡ true → b ≡ true
+    present_rest true b e k = absurd (false≢true (sym e))
+    present_rest false b e k = k
+
+-- the name of a record in the list is present
+pub present_in : (l : List Found) (f : Found) → IsIn l f → is_present l (name_of f.rec) ≡ true
+present_in [] f i = absurd i
+present_in (g ∷ gs) f (inl e) = or_left (has_name (name_of f.rec) g.rec) (is_present gs (name_of f.rec)) (has_own_name (name_of f.rec) g.rec (ap (λ x. name_of x.rec) e))
+present_in (g ∷ gs) f (inr i) = or_right (has_name (name_of f.rec) g.rec) (is_present gs (name_of f.rec)) (present_in gs f i)
+
+-- an absent name leads no further
+pub absent_link : (l : List Found) (u : Link) → is_present l u ≡ false → link_of l u ≡ u
+absent_link [] u h = refl
+absent_link (f ∷ fs) u h =
+    let parts = or_parts (has_name u f.rec) (is_present fs u) h in
+    cond-false (has_name u f.rec) f.rec.next (link_of fs u) parts.0 ∙ absent_link fs u parts.1
+
+-- where one of two numbers is chosen and the other is 0
+if_positive : (b : Bool) (n : ℕ) → 0 < cond b n 0 → (b ≡ true) × (cond b n 0 ≡ n)
+if_positive true n h = (refl, refl)
+if_positive false n h = absurd (omega arith)
+
+-- the newest version of a page bounds the present ones
+pub newest_bound : (l : List Found) (u : Link) → is_present l u ≡ true → u.version ≤ newest l u.page
+newest_bound l u h =
+    let f = found_named l u h in
+    let bound = greatest_bound (version_of u.page) l f.0 f.1 in
+    let at_page : version_of u.page f.0.rec ≡ f.0.rec.version = cond-true (eqb f.0.rec.page u.page) f.0.rec.version 0 (eq-eqb _ _ (ap (λ n. n.page) f.2)) in
+    let version : f.0.rec.version ≡ u.version = ap (λ n. n.version) f.2 in
+    omega arith
+
+-- the newest version of a page is present, where it is not 0
+pub newest_present : (l : List Found) (page : ℕ) → 0 < newest l page → is_present l (newest_name l page) ≡ true
+newest_present l page h =
+    let f = greatest_attained (version_of page) l h in
+    let h' : 0 < version_of page f.0.rec = omega arith in
+    let at = if_positive (eqb f.0.rec.page page) f.0.rec.version h' in
+    let name : name_of f.0.rec ≡ newest_name l page = same_name (name_of f.0.rec) (newest_name l page) (eqb-true f.0.rec.page page at.0) (sym at.1 ∙ f.2) in
+    subst (λ u. is_present l u ≡ true) name (present_in l f.0 f.1)
+
+-- a present version below another is at most the next older one
+pub older_bound : (l : List Found) (u : Link) (below : ℕ) → is_present l u ≡ true → u.version < below → u.version ≤ next_older l u.page below
+older_bound l u below h less =
+    let f = found_named l u h in
+    let bound = greatest_bound (version_below u.page below) l f.0 f.1 in
+    let version : f.0.rec.version ≡ u.version = ap (λ n. n.version) f.2 in
+    let at : version_below u.page below f.0.rec ≡ f.0.rec.version =
+    cond-true (eqb f.0.rec.page u.page && ltb f.0.rec.version below) f.0.rec.version 0
+    (and_from (eqb f.0.rec.page u.page) (ltb f.0.rec.version below) (eq-eqb _ _ (ap (λ n. n.page) f.2)) (lt-ltb f.0.rec.version below (omega arith))) in
+    omega arith
+
+-- the next older version is present and is older, where it is not 0
+pub older_name : (l : List Found) (page below : ℕ) → 0 < next_older l page below →
+    (is_present l (named page (next_older l page below)) ≡ true) × (next_older l page below < below)
+older_name l page below h =
+    let f = greatest_attained (version_below page below) l h in
+    let h' : 0 < version_below page below f.0.rec = omega arith in
+    let at = if_positive (eqb f.0.rec.page page && ltb f.0.rec.version below) f.0.rec.version h' in
+    let tests = and_parts (eqb f.0.rec.page page) (ltb f.0.rec.version below) at.0 in
+    let less : f.0.rec.version < below = ltb-true f.0.rec.version below tests.1 in
+    let version : f.0.rec.version ≡ next_older l page below = sym at.1 ∙ f.2 in
+    let name : name_of f.0.rec ≡ named page (next_older l page below) = same_name (name_of f.0.rec) (named page (next_older l page below)) (eqb-true f.0.rec.page page tests.0) version in
+    (subst (λ u. is_present l u ≡ true) name (present_in l f.0 f.1), omega arith)

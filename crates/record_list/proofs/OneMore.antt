@@ -1,0 +1,275 @@
+-- One record more in a list, under a name that was absent.
+use Rattle.std.proofs.Common.{◌≡◌, ℕ, ◌<◌, ◌≤◌, max, Bool, true, false, cond, ◌&&◌, ◌||◌, eqb, ltb, ◌⊎◌, List, [], ◌∷◌, ◌++◌, All, refl, sym, ap, ◌∙◌, subst, inl, inr, arith, if◌then◌else◌, ne_eqb, eq-eqb, le-ltb}
+use Rattle.std.specs.List.{list_any}
+use Rattle.std.proofs.lemmas.Bool.{false≢true, cases_Bool, cases_lt, cond-true, cond-false, or_cases, or_left, or_right, or_parts, and_left}
+use Rattle.tx_types.specs.declared.record.Link.{Link}
+use Rattle.tx_types.specs.declared.record.Rec.{Rec}
+use Rattle.tx_types.specs.declared.config.Protocol.{Protocol}
+use Rattle.tx_types.specs.declared.config.Protocol.TheVariants.{Scc, Bpcc}
+use Rattle.record_list.specs.declared.found.Found.{Found}
+use Rattle.record_list.specs.declared.found.Why.TheVariants.{Passed, Straddled}
+use Rattle.record_list.specs.Records.{greatest, version_of, version_below, newest, next_older, name_of, has_name, is_present}
+use Rattle.record_list.specs.Verdict.{newest_name, link_of, back_of, straddles, straddling_version, straddling, is_committed}
+use Rattle.record_list.specs.Changes.{IsInserted}
+use Rattle.record_list.proofs.Names.{IsIn, all_from, all_at, has_name_true, has_own_name, newest_present, newest_bound, older_bound, older_name, named}
+use Rattle.record_list.proofs.Safe.{top_link, is_clear, IsLinked}
+use Rattle.record_list.proofs.Rounds.{Follows, follows_of, follows_in}
+use Rattle.record_list.proofs.Progress.{IsUnderway, name_ahead, links_to_name}
+
+-- what is read of a list with one record more, under a fresh name
+pub record IsOneMore (l l' : List Found) (r : Rec) : Type 0 where
+  pub fresh : is_present l (name_of r) ≡ false
+  pub kept : (u : Link) → is_present l u ≡ true → is_present l' u ≡ true
+  pub cases : (u : Link) → is_present l' u ≡ true → (u ≡ name_of r) ⊎ (is_present l u ≡ true)
+  pub own : is_present l' (name_of r) ≡ true
+  pub links : (u : Link) → (u ≡ name_of r → ⊥) → link_of l' u ≡ link_of l u
+  pub backs : (u : Link) → (u ≡ name_of r → ⊥) → back_of l' u ≡ back_of l u
+  pub link : link_of l' (name_of r) ≡ r.next
+  pub back : back_of l' (name_of r) ≡ r.back
+  pub greatest_is : (of : Rec → ℕ) → greatest of l' ≡ max (of r) (greatest of l)
+
+-- which of two tests comes first does not matter
+or_swap : (a b c : Bool) → (a || (b || c)) ≡ (b || (a || c))
+or_swap true true c = refl
+or_swap true false c = refl
+or_swap false true c = refl
+or_swap false false c = refl
+
+module _ (f : Found) (after : List Found) where
+  -- one record more: the names present
+  present_more : (before : List Found) (u : Link) → is_present (before ++ f ∷ after) u ≡ (has_name u f.rec || is_present (before ++ after) u)
+  present_more [] u = refl
+  present_more (x ∷ xs) u = ap (λ b. has_name u x.rec || b) (present_more xs u) ∙ or_swap (has_name u x.rec) (has_name u f.rec) (is_present (xs ++ after) u)
+
+  -- the links of other names
+  links_more : (before : List Found) (u : Link) → has_name u f.rec ≡ false → link_of (before ++ f ∷ after) u ≡ link_of (before ++ after) u
+  links_more [] u h = cond-false (has_name u f.rec) f.rec.next (link_of after u) h
+  links_more (x ∷ xs) u h = ap (λ n. if has_name u x.rec then x.rec.next else n) (links_more xs u h)
+
+  -- the back versions of other names
+  backs_more : (before : List Found) (u : Link) → has_name u f.rec ≡ false → back_of (before ++ f ∷ after) u ≡ back_of (before ++ after) u
+  backs_more [] u h = cond-false (has_name u f.rec) f.rec.back (back_of after u) h
+  backs_more (x ∷ xs) u h = ap (λ n. if has_name u x.rec then x.rec.back else n) (backs_more xs u h)
+
+  -- the link of the new name
+  link_new : (before : List Found) → is_present (before ++ after) (name_of f.rec) ≡ false → link_of (before ++ f ∷ after) (name_of f.rec) ≡ f.rec.next
+  link_new [] h = cond-true (has_name (name_of f.rec) f.rec) f.rec.next (link_of after (name_of f.rec)) (has_own_name (name_of f.rec) f.rec refl)
+  link_new (x ∷ xs) h =
+      let parts = or_parts (has_name (name_of f.rec) x.rec) (is_present (xs ++ after) (name_of f.rec)) h in
+      cond-false (has_name (name_of f.rec) x.rec) x.rec.next (link_of (xs ++ f ∷ after) (name_of f.rec)) parts.0 ∙ link_new xs parts.1
+
+  -- the back version of the new name
+  back_new : (before : List Found) → is_present (before ++ after) (name_of f.rec) ≡ false → back_of (before ++ f ∷ after) (name_of f.rec) ≡ f.rec.back
+  back_new [] h = cond-true (has_name (name_of f.rec) f.rec) f.rec.back (back_of after (name_of f.rec)) (has_own_name (name_of f.rec) f.rec refl)
+  back_new (x ∷ xs) h =
+      let parts = or_parts (has_name (name_of f.rec) x.rec) (is_present (xs ++ after) (name_of f.rec)) h in
+      cond-false (has_name (name_of f.rec) x.rec) x.rec.back (back_of (xs ++ f ∷ after) (name_of f.rec)) parts.0 ∙ back_new xs parts.1
+
+  -- greatest numbers
+  greatest_more : (of : Rec → ℕ) (before : List Found) → greatest of (before ++ f ∷ after) ≡ max (of f.rec) (greatest of (before ++ after))
+  greatest_more of [] = refl
+  greatest_more of (x ∷ xs) = let ih = greatest_more of xs in omega arith
+
+  -- tests
+  any_more : (test : Found → Bool) (before : List Found) → list_any test (before ++ f ∷ after) ≡ (test f || list_any test (before ++ after))
+  any_more test [] = refl
+  any_more test (x ∷ xs) = ap (λ b. test x || b) (any_more test xs) ∙ or_swap (test x) (test f) (list_any test (xs ++ after))
+
+  -- records
+  in_more : (before : List Found) (g : Found) → IsIn (before ++ f ∷ after) g → (f ≡ g) ⊎ IsIn (before ++ after) g
+  in_more [] g i = i
+  in_more (x ∷ xs) g (inl e) = inr (inl e)
+  in_more (x ∷ xs) g (inr i) = elim (in_more xs g i) [ inl e ↦ inl e | inr j ↦ inr (inr j) ]
+
+-- a record of the longer list is the new one or an old one
+pub inserted_in : (l l' : List Found) (f : Found) → IsInserted l f l' → (g : Found) → IsIn l' g → (f ≡ g) ⊎ IsIn l g
+inserted_in l l' f ins g i =
+    elim (in_more f ins.after ins.before g (subst (λ x. IsIn x g) ins.now i)) [
+      | inl e ↦ inl e
+      | inr j ↦ inr (subst (λ x. IsIn x g) (sym ins.was) j)
+    ]
+
+-- what is so of all and of the new record is so of all
+pub inserted_all : (P : Found → Type 0) (l l' : List Found) (f : Found) → IsInserted l f l' → All P l → P f → All P l'
+inserted_all P l l' f ins all own = all_from P l' (λ g i. elim (inserted_in l l' f ins g i) [
+  | inl e ↦ subst P e own
+  | inr j ↦ all_at P l g all j
+])
+
+-- a test passes for some record of the longer list where it does for the new one or an old one
+pub inserted_any : (test : Found → Bool) (l l' : List Found) (f : Found) → IsInserted l f l' → list_any test l' ≡ (test f || list_any test l)
+inserted_any test l l' f ins =
+    ap (list_any test) ins.now ∙ any_more f ins.after test ins.before ∙ ap (λ x. test f || list_any test x) (sym ins.was)
+
+-- an inserted record of a fresh name is one record more
+pub one_more : (l l' : List Found) (f : Found) → IsInserted l f l' → is_present l (name_of f.rec) ≡ false → IsOneMore l l' f.rec
+one_more l l' f ins fresh =
+    let b = ins.before in
+    let a = ins.after in
+    let fresh' : is_present (b ++ a) (name_of f.rec) ≡ false = subst (λ x. is_present x (name_of f.rec) ≡ false) ins.was fresh in
+    let present : (u : Link) → is_present l' u ≡ (has_name u f.rec || is_present l u) = λ u.
+    subst (λ x. is_present x u ≡ (has_name u f.rec || is_present l u)) (sym ins.now)
+    (subst (λ x. is_present (b ++ f ∷ a) u ≡ (has_name u f.rec || is_present x u)) (sym ins.was) (present_more f a b u)) in
+    let other : (u : Link) → (u ≡ name_of f.rec → ⊥) → has_name u f.rec ≡ false = λ u off. elim (cases_Bool (has_name u f.rec)) [
+      | inl e ↦ absurd (off (sym (has_name_true u f.rec e)))
+      | inr e ↦ e
+    ] in
+    record {
+      fresh = fresh;
+      kept = λ u h. present u ∙ or_right (has_name u f.rec) (is_present l u) h;
+      cases = λ u h. elim (or_cases (has_name u f.rec) (is_present l u) (sym (present u) ∙ h)) [
+        | inl e ↦ inl (sym (has_name_true u f.rec e))
+        | inr e ↦ inr e
+      ];
+      own = present (name_of f.rec) ∙ or_left (has_name (name_of f.rec) f.rec) (is_present l (name_of f.rec)) (has_own_name (name_of f.rec) f.rec refl);
+      links = λ u off. ap (λ x. link_of x u) ins.now ∙ links_more f a b u (other u off) ∙ ap (λ x. link_of x u) (sym ins.was);
+      backs = λ u off. ap (λ x. back_of x u) ins.now ∙ backs_more f a b u (other u off) ∙ ap (λ x. back_of x u) (sym ins.was);
+      link = ap (λ x. link_of x (name_of f.rec)) ins.now ∙ link_new f a b fresh';
+      back = ap (λ x. back_of x (name_of f.rec)) ins.now ∙ back_new f a b fresh';
+      greatest_is = λ of. ap (greatest of) ins.now ∙ greatest_more f a of b ∙ ap (λ x. max (of f.rec) (greatest of x)) (sym ins.was);
+    }
+
+-- the new record is one that a transaction asks for
+pub record IsStep (l l' : List Found) (logical : ℕ) (names : List Link) (r : Rec) : Type 0 where
+  pub one : IsOneMore l l' r
+  pub underway : IsUnderway l logical names
+  pub of_names : IsIn names (name_of r)
+  pub next : (b : Link) → Follows names (name_of r) b → r.next ≡ b
+
+module _ (l l' : List Found) (logical : ℕ) (names : List Link) (r : Rec) (s : IsStep l l' logical names r) where
+  -- newest versions, and what else is read of a page
+  pub newest_own : newest l' r.page ≡ r.version
+  newest_own =
+      let e = s.one.greatest_is (version_of r.page) in
+      let at : version_of r.page r ≡ r.version = cond-true (eqb r.page r.page) r.version 0 (eq-eqb r.page r.page refl) in
+      let ahead = name_ahead l logical names s.underway (name_of r) s.of_names s.one.fresh in
+      omega arith
+
+  -- other pages keep their newest version
+  pub newest_else : (page : ℕ) → (page ≡ r.page → ⊥) → newest l' page ≡ newest l page
+  newest_else page off =
+      let e = s.one.greatest_is (version_of page) in
+      let at : version_of page r ≡ 0 = cond-false (eqb r.page page) r.version 0 (ne_eqb r.page page (λ x. off (sym x))) in
+      omega arith
+
+  -- and their next older versions
+  pub older_else : (page below : ℕ) → (page ≡ r.page → ⊥) → next_older l' page below ≡ next_older l page below
+  older_else page below off =
+      let e = s.one.greatest_is (version_below page below) in
+      let at : version_below page below r ≡ 0 = cond-false (eqb r.page page && ltb r.version below) r.version 0
+      (and_left (eqb r.page page) (ltb r.version below) (ne_eqb r.page page (λ x. off (sym x)))) in
+      omega arith
+
+  -- and their newest name
+  pub name_else : (page : ℕ) → (page ≡ r.page → ⊥) → newest_name l' page ≡ newest_name l page
+  name_else page off = ap (named page) (newest_else page off)
+
+  -- and their newest link
+  pub top_else : (page : ℕ) → (page ≡ r.page → ⊥) → top_link l' page ≡ top_link l page
+  top_else page off = ap (link_of l') (name_else page off) ∙ s.one.links (newest_name l page) (λ e. off (ap (λ n. n.page) e))
+
+  -- and its back version
+  pub back_else : (page : ℕ) → (page ≡ r.page → ⊥) → back_of l' (newest_name l' page) ≡ back_of l (newest_name l page)
+  back_else page off = ap (back_of l') (name_else page off) ∙ s.one.backs (newest_name l page) (λ e. off (ap (λ n. n.page) e))
+
+  -- the new record straddles no name of another page
+  pub straddling_else : (q : Link) → (q.page ≡ r.page → ⊥) → straddling l' q ≡ straddling l q
+  straddling_else q off =
+      let e = s.one.greatest_is (straddling_version q) in
+      let at : straddling_version q r ≡ 0 = cond-false (eqb r.page q.page && straddles r q.version) r.version 0
+      (and_left (eqb r.page q.page) (straddles r q.version) (ne_eqb r.page q.page (λ x. off (sym x)))) in
+      omega arith
+
+  -- so a name of another page is clear as before
+  pub clear_else : (p : Protocol) (q : Link) → (q.page ≡ r.page → ⊥) → is_clear p l' q ≡ is_clear p l q
+  clear_else Scc q off = refl
+  clear_else Bpcc q off = ap (λ (n : ℕ). is_committed (if eqb n 0 then Passed else Straddled n)) (straddling_else q off)
+
+  -- the next older version of the new record's page is the old newest one
+  pub older_own : next_older l' r.page r.version ≡ newest l r.page
+  older_own =
+      let e = s.one.greatest_is (version_below r.page r.version) in
+      let at : version_below r.page r.version r ≡ 0 = below_self (eqb r.page r.page) r.version in
+      let ahead = name_ahead l logical names s.underway (name_of r) s.of_names s.one.fresh in
+      let high : next_older l r.page r.version ≤ newest l r.page = elim (cases_lt 0 (next_older l r.page r.version)) [
+        | inl has ↦ newest_bound l (named r.page (next_older l r.page r.version)) (older_name l r.page r.version has).0
+        | inr none ↦ omega arith
+      ] in
+      let low : newest l r.page ≤ next_older l r.page r.version = elim (cases_lt 0 (newest l r.page)) [
+        | inl has ↦ older_bound l (newest_name l r.page) r.version (newest_present l r.page has) ahead
+        | inr none ↦ omega arith
+      ] in
+      omega arith
+    where
+      below_self : (b : Bool) (v : ℕ) → cond (b && ltb v v) v 0 ≡ 0
+      below_self true v = cond-false (ltb v v) v 0 (le-ltb v v (omega arith))
+      below_self false v = refl
+
+  -- the names stand in the longer list as they did
+  pub step_underway : IsUnderway l' logical names
+  step_underway = record {
+    apart = s.underway.apart;
+    range = s.underway.range;
+    asked = λ a b i here. elim (s.one.cases a here) [
+      | inl e ↦ ap (link_of l') e ∙ s.one.link ∙ s.next b (subst (λ n. Follows names n b) e i)
+      | inr old ↦ s.one.links a (λ e. false≢true (sym s.one.fresh ∙ subst (λ n. is_present l n ≡ true) e old)) ∙ s.underway.asked a b i old
+    ];
+    lower = λ u here out a i. elim (s.one.cases u here) [
+      | inl e ↦ absurd (out (subst (IsIn names) (sym e) s.of_names))
+      | inr old ↦ (
+          let low = s.underway.lower u old out a i in
+          let e = s.one.links u (λ same. out (subst (IsIn names) (sym same) s.of_names)) in
+          (low.0, subst (λ n. n.page ≡ a.page → n.version < a.version) (sym e) low.1))
+    ];
+  }
+
+  -- the link of the new record is a name too
+  pub next_after : Follows names (name_of r) r.next
+  next_after =
+      let after = follows_of names (name_of r) s.of_names in
+      subst (λ n. Follows names (name_of r) n) (sym (s.next after.0 after.1)) after.1
+
+  -- it is one of the names
+  pub next_in : IsIn names r.next
+  next_in = (follows_in names (name_of r) r.next next_after).1
+
+  -- an old name is not the new one, and has its link and back version
+  pub not_new : (u : Link) → is_present l u ≡ true → u ≡ name_of r → ⊥
+  not_new u old e = false≢true (sym s.one.fresh ∙ subst (λ n. is_present l n ≡ true) e old)
+
+  -- its link
+  pub old_link : (u : Link) → is_present l u ≡ true → link_of l' u ≡ link_of l u
+  old_link u old = s.one.links u (not_new u old)
+
+  -- its back version
+  pub old_back : (u : Link) → is_present l u ≡ true → back_of l' u ≡ back_of l u
+  old_back u old = s.one.backs u (not_new u old)
+
+  -- no old record links where the new one does
+  before_next : (u : Link) → is_present l u ≡ true → link_of l u ≡ r.next → u ≡ name_of r
+  before_next u old e = links_to_name l logical names s.underway u (name_of r) r.next old next_after e
+
+  -- its pages exist, and two names have two links
+  pub step_linked : IsLinked l logical → IsLinked l' logical
+  step_linked linked = record {
+    pages = λ u here. elim (s.one.cases u here) [
+      | inl e ↦ subst (λ n. (n.page < logical) × ((link_of l' n).page < logical)) (sym e)
+          ((s.underway.range (name_of r) s.of_names).0, subst (λ n. n.page < logical) (sym s.one.link) (s.underway.range r.next next_in).0)
+      | inr old ↦ (let h = linked.pages u old in (h.0, subst (λ n. n.page < logical) (sym (old_link u old)) h.1))
+    ];
+    versions = λ u here. elim (s.one.cases u here) [
+      | inl e ↦ subst (λ n. (1 ≤ n.version) × (1 ≤ (link_of l' n).version)) (sym e)
+          ((s.underway.range (name_of r) s.of_names).1, subst (λ n. 1 ≤ n.version) (sym s.one.link) (s.underway.range r.next next_in).1)
+      | inr old ↦ (let h = linked.versions u old in (h.0, subst (λ n. 1 ≤ n.version) (sym (old_link u old)) h.1))
+    ];
+    once = λ u v hu hv same. elim (s.one.cases u hu) [
+      | inl e ↦ elim (s.one.cases v hv) [
+        | inl f ↦ e ∙ sym f
+        | inr old ↦ e ∙ sym (before_next v old (sym (old_link v old) ∙ sym same ∙ ap (link_of l') e ∙ s.one.link))
+      ]
+      | inr oldu ↦ elim (s.one.cases v hv) [
+        | inl f ↦ before_next u oldu (sym (old_link u oldu) ∙ same ∙ ap (link_of l') f ∙ s.one.link) ∙ sym f
+        | inr oldv ↦ linked.once u v oldu oldv (sym (old_link u oldu) ∙ same ∙ old_link v oldv)
+      ]
+    ];
+  }

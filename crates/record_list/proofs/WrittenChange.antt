@@ -1,0 +1,146 @@
+-- The four laws of change with bytes follow from those without, for any protocol: what bytes say stays, and some block
+-- stays removable.
+use Rattle.std.proofs.Common.{◌≡◌, ◌≢◌, ℕ, ◌<◌, ◌≤◌, ◌⊎◌, Bool, true, false, List, Any, Contains, sym, ap, ◌∙◌, subst, inl, inr, ⊎_elim}
+use Rattle.std.proofs.lemmas.Bool.{both_ways}
+use Rattle.std.proofs.lemmas.List.Elements.{All-filter}
+use Rattle.tx_types.specs.declared.record.Link.{Link}
+use Rattle.tx_types.specs.declared.config.Protocol.{Protocol}
+use Rattle.record_list.specs.declared.found.Found.{Found}
+use Rattle.record_list.specs.Records.{name_of, is_present, IsScanned}
+use Rattle.record_list.specs.Current.{cur, is_held}
+use Rattle.record_list.specs.SoundList.{IsSoundList}
+use Rattle.record_list.specs.Changes.{left, KeepsCounted, PartialWriteLaw, PartialWriteKeeps, CompletingWriteLaw, CompletingWriteKeeps, CopyLaw, CopyKeeps, LossLaw, LossKeeps}
+use Rattle.record_list.specs.Written.{Written, found_of, records_of, is_outside}
+use Rattle.record_list.specs.WrittenChanges.{WrittenPartialWriteLaw, WrittenCompletingWriteLaw, WrittenCopyLaw, left_outside, WrittenLossLaw}
+use Rattle.record_list.proofs.LossMembers.{in_inserted, present_as}
+use Rattle.record_list.proofs.LossCounted.{IsCountedKept, counted_names, counted_records}
+use Rattle.record_list.proofs.WrittenLists.{in_records, inserted_records, IsOneText, one_text, bytes_inserted, bytes_filtered, records_left, present_more, left_more, left_twice}
+use Rattle.record_list.proofs.SoundNames.{sound_map}
+use Rattle.record_list.proofs.Rounds.{cases_page}
+use Rattle.record_list.proofs.Names.{IsIn, all_from, all_at, in_from, contains_from, same_name}
+
+-- current or held
+IsCounted : Protocol → List Found → ℕ → Link → Type 0
+IsCounted p l n name = (name.version ≡ cur p l n name.page) ⊎ (is_held p l n name ≡ true)
+
+-- with more records the same block is removable, where each name that counts then counted before or lies outside it
+counted_grows : (p : Protocol) (l m : List Found) (n : ℕ) (keep : ℕ → Bool) →
+    IsSoundList p l n → IsScanned l → IsScanned m → IsSoundList p m n → ((f : Found) → IsIn l f → IsIn m f) →
+    ((name : Link) → name.page < n → IsCounted p m n name → IsCounted p l n name ⊎ (is_present (left keep m) name ≡ true)) →
+    KeepsCounted p l n keep → KeepsCounted p m n keep
+unfolding IsCounted
+counted_grows p l m n keep sl scanned s sm sub was k =
+    let b : IsCountedKept p l n keep = counted_names p l n keep (sound_map p l n sl scanned) k in
+    counted_records p m n keep s.versions sm (record {
+      kept = λ name low h c.
+          ⊎_elim
+          (λ old. present_more (left keep l) (left keep m) (left_more keep l m sub) name (b.kept name low h old))
+          (λ there. there)
+          (was name low c);
+    })
+
+-- an absent name is no record's
+fresh_bytes : (l : List Written) (w : Written) → is_present (records_of l) (name_of w.rec) ≡ false →
+    (v : Written) → IsIn l v → name_of v.rec ≡ name_of w.rec → v.bytes ≡ w.bytes
+fresh_bytes l w fresh v c e = absurd (both_ways (is_present (records_of l) (name_of w.rec)) fresh (present_as (records_of l) (found_of v) (name_of w.rec) (in_records l v c) e))
+
+-- a write that leaves a name absent: the same block stays removable
+pub written_partial_write : (p : Protocol) → PartialWriteLaw p → WrittenPartialWriteLaw p
+unfolding IsCounted
+written_partial_write p law l m n shape names w sound i write some =
+    let k : PartialWriteKeeps p (records_of l) (records_of m) n names = law (records_of l) (records_of m) n names (found_of w) sound.records write some in (
+      record {
+        records = k.sound;
+        bytes = bytes_inserted l m w i sound.bytes (fresh_bytes l w write.fresh);
+        removable = record {
+          block = sound.removable.block;
+          exists = sound.removable.exists;
+          removable = counted_grows p (records_of l) (records_of m) n (is_outside shape sound.removable.block) sound.records write.scanned write.scanned' k.sound
+              (λ f c. in_inserted (records_of l) (records_of m) (found_of w) f write.added c)
+              (λ name low c. inl (⊎_elim (λ e. inl (e ∙ k.same_current name.page low)) (λ h. inr (sym (k.same_held name) ∙ h)) c))
+              sound.removable.removable;
+        };
+      },
+      k,
+    )
+
+-- a write that completes its cycle: the block that has room around it is removable
+pub written_completing_write : (p : Protocol) → CompletingWriteLaw p → WrittenCompletingWriteLaw p
+unfolding IsCounted
+written_completing_write p law l m n shape names w sound i write all room =
+    let k : CompletingWriteKeeps p (records_of l) (records_of m) n names = law (records_of l) (records_of m) n names (found_of w) sound.records write all in (
+      record {
+        records = k.sound;
+        bytes = bytes_inserted l m w i sound.bytes (fresh_bytes l w write.fresh);
+        removable = record {
+          block = room.block;
+          exists = room.exists;
+          removable = counted_grows p (records_of l) (records_of m) n (is_outside shape room.block) sound.records write.scanned write.scanned' k.sound
+              (λ f c. in_inserted (records_of l) (records_of m) (found_of w) f write.added c)
+              (λ name low c. elim c [
+                | inl e ↦ elim (cases_page names name.page) [
+                  | inl t ↦ inr (subst (λ a. is_present (left (is_outside shape room.block) (records_of m)) a ≡ true)
+                      (same_name t.0 name t.2 (sym (all_at (λ a. cur p (records_of m) n a.page ≡ a.version) names t.0 k.committed t.1) ∙ (ap (cur p (records_of m) n) t.2 ∙ sym e)))
+                      (all_at (λ a. is_present (left (is_outside shape room.block) (records_of m)) a ≡ true) names t.0 room.outside t.1))
+                  | inr other ↦ inl (inl (e ∙ k.elsewhere name.page low (all_from (λ a. a.page ≢ name.page) names other)))
+                ]
+                | inr h ↦ elim (k.held name h) [
+                  | inl old ↦ inl (inr old)
+                  | inr t ↦ inr (all_at (λ a. is_present (left (is_outside shape room.block) (records_of m)) a ≡ true) names name room.outside (in_from names name t))
+                ]
+              ])
+              room.removable;
+        };
+      },
+      k,
+    )
+
+-- a copy: the same block stays removable
+pub written_copy : (p : Protocol) → CopyLaw p → WrittenCopyLaw p
+unfolding IsCounted
+written_copy p law l m n shape w sound i scanned scanned' source =
+    let v = source.1 in
+    let there : IsIn l v = in_from l v (source.0, source.2, source.3) in
+    let same = source.4 in
+    let at : Contains (records_of l) (found_of v) = contains_from (records_of l) (found_of v) (in_records l v there) in
+    let src : Any (λ g. g.rec ≡ w.rec) (records_of l) = (at.0, found_of v, at.1, at.2, same.0) in
+    let k : CopyKeeps p (records_of l) (records_of m) n = law (records_of l) (records_of m) n (found_of w) sound.records
+    (record { scanned = scanned; scanned' = scanned'; added = inserted_records l m w i; source = src }) in
+    let o : IsOneText l = one_text l scanned sound.bytes in (
+      record {
+        records = k.sound;
+        bytes = bytes_inserted l m w i sound.bytes (λ u c e. o.same u v c there (e ∙ sym (ap name_of same.0)) ∙ same.1);
+        removable = record {
+          block = sound.removable.block;
+          exists = sound.removable.exists;
+          removable = counted_grows p (records_of l) (records_of m) n (is_outside shape sound.removable.block) sound.records scanned scanned' k.sound
+              (λ f c. in_inserted (records_of l) (records_of m) (found_of w) f (inserted_records l m w i) c)
+              (λ name low c. inl (⊎_elim (λ e. inl (e ∙ k.same_current name.page low)) (λ h. inr (sym (k.same_held name) ∙ h)) c))
+              sound.removable.removable;
+        };
+      },
+      k,
+    )
+
+-- the loss of a block: the block itself is removable
+pub written_loss : (p : Protocol) → LossLaw p → WrittenLossLaw p
+written_loss p law l n shape block sound scanned exists removable =
+    let keep : ℕ → Bool = is_outside shape block in
+    let fewer : List Found = left keep (records_of l) in
+    let is : records_of (left_outside shape block l) ≡ fewer = records_left keep l in
+    let k : LossKeeps p (records_of l) fewer n = law (records_of l) n keep sound.records scanned removable in
+    let k' : LossKeeps p (records_of l) (records_of (left_outside shape block l)) n = subst (λ z. LossKeeps p (records_of l) z n) (sym is) k in
+    let b : IsCountedKept p (records_of l) n keep = counted_names p (records_of l) n keep (sound_map p (records_of l) n sound.records scanned) removable in
+    let r : KeepsCounted p fewer n keep = counted_records p fewer n keep
+    (All-filter (λ f. keep f.slot.0) (λ f. (1 ≤ f.rec.version) × (1 ≤ f.rec.next.version)) (records_of l) scanned.versions) k.sound
+    (record {
+      kept = λ name low h c. present_more fewer (left keep fewer) (left_twice keep (records_of l)) name
+          (b.kept name low h (⊎_elim (λ e. inl (e ∙ k.same_current name.page low)) (λ held. inr (k.held name held)) c));
+    }) in (
+      record {
+        records = k'.sound;
+        bytes = bytes_filtered (λ w. keep w.slot.0) l sound.bytes;
+        removable = record { block = block; exists = exists; removable = subst (λ z. KeepsCounted p z n keep) (sym is) r };
+      },
+      k',
+    )

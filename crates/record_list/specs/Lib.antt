@@ -1,0 +1,9 @@
+pub mod Records
+pub mod Verdict
+pub mod Current
+pub mod SoundList
+pub mod Transaction
+pub mod Changes
+pub mod Written
+pub mod WrittenChanges
+pub mod Search

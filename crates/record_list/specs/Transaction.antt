@@ -1,0 +1,45 @@
+-- A transaction, and when it is in progress among the records of a list.
+use Rattle.std.specs.Prelude.{◌≡◌, ◌≢◌, ℕ, ◌^◌, ◌<◌, ◌≤◌, false, List, [], ◌∷◌, ◌++◌, All, Any, AllPairs, Contains}
+use Rattle.std.specs.List.{zip}
+use Rattle.tx_types.specs.declared.record.Link.{Link}
+use Rattle.tx_types.specs.declared.record.Rec.{Rec}
+use Rattle.tx_types.specs.declared.config.Protocol.{Protocol}
+use Rattle.tx_types.specs.declared.config.Protocol.TheVariants.{Scc, Bpcc}
+use Rattle.record_list.specs.declared.found.Found.{Found}
+use Rattle.record_list.specs.Records.{mentioned_at, name_of, is_present}
+use Rattle.record_list.specs.Current.{cur}
+
+-- the names that a transaction writes: distinct pages, each at a version
+pub record IsTransaction (logical : ℕ) (names : List Link) : Type 0 where
+  pub distinct : AllPairs (λ a b. a.page ≢ b.page) names
+  pub in_range : All (λ a. (a.page < logical) × (1 ≤ a.version) × (a.version ≤ 2 ^ 62)) names
+
+-- the names from the second on, and then the first: `zip names (rounded names)` has each name with the one that follows it
+abbrev pub rounded : List Link → List Link
+rounded [] = []
+rounded (name ∷ names) = names ++ name ∷ []
+
+-- the back version of a record of this page that is written now
+abbrev pub back_version : Protocol → List Found → ℕ → ℕ → ℕ
+back_version Scc list logical page = 0
+back_version Bpcc list logical page = cur Bpcc list logical page
+
+-- a record with one of the names has the link and the back version that the transaction asks for, as the list stands
+abbrev pub IsAsked : Protocol → List Found → ℕ → List Link → Rec → Type 0
+IsAsked protocol list logical names r =
+    All (λ (name, next). name_of r ≡ name → (r.next ≡ next) × (r.back ≡ back_version protocol list logical name.page)) (zip names (rounded names))
+
+-- the records of the transaction are as it asks, and every other record mentions its pages below its versions
+pub record IsBegun (protocol : Protocol) (list : List Found) (logical : ℕ) (names : List Link) : Type 0 where
+  pub transaction : IsTransaction logical names
+  pub asked : All (λ f. IsAsked protocol list logical names f.rec) list
+  pub others : All (λ f. (Contains names (name_of f.rec) → ⊥) → All (λ name. mentioned_at name.page f.rec < name.version) names) list
+
+-- it is begun, and a name is absent
+pub record InProgress (protocol : Protocol) (list : List Found) (logical : ℕ) (names : List Link) : Type 0 where
+  pub begun : IsBegun protocol list logical names
+  pub absent : Any (λ name. is_present list name ≡ false) names
+
+-- two transactions with no page in common
+abbrev pub ShareNoPage : List Link → List Link → Type 0
+ShareNoPage names others = All (λ a. All (λ b. a.page ≢ b.page) others) names

@@ -1,0 +1,18 @@
+//! Lists of the records that a flash holds: which records count, what a sound list is, and the
+//! trait of a commit protocol.
+#![tactic(auto)]
+
+mod found;
+mod laws;
+mod plain;
+mod rule;
+mod walks;
+
+pub use found::{Breach, Found, Verdict, Why};
+pub use laws::{
+    breach_at, first_contradiction, first_early_link, first_misplaced, first_shared_link,
+    first_without_current, loose, mentions_below,
+};
+pub use plain::{mention, newest, next_older, present};
+pub use rule::CommitRule;
+pub use walks::{back_of, current_version, link_of, reason, straddling};
