@@ -1,0 +1,88 @@
+-- The page and the contents that an entry gives.
+use Rattle.std.proofs.Common.{◌≡◌, ℕ, ◌+◌, ◌*◌, ◌/◌, ◌<◌, ◌≤◌, ◌≢◌, true, false, ◌⊎◌, inl, inr, List, [], length, take, drop, refl, ◌∙◌, arith, Some, None, Result, Ok, Err}
+use Rattle.std.specs.Prelude.{position, codes}
+use Rattle.std.specs.Str.{bytes_eq}
+use Rattle.std.proofs.lemmas.Bool.{le-leb, lt-leb}
+use Rattle.hex.proofs.HexLemmas.{decode_of-ok}
+use Rattle.hex.specs.Hex.{decode_of}
+use Rattle.hex.specs.declared.error.FromHexError.{FromHexError}
+use Rattle.hex.specs.declared.error.FromHexError.TheVariants.{OutOfMemory, InvalidHexCharacter, OddLength, InvalidStringLength}
+use Rattle.host_protocol.specs.Reading.{Fails, error_of}
+use Rattle.tx_types.specs.Batch.{padded}
+use Rattle.host_protocol.specs.Commands.{contents_of, contents_from, entry_of, write_of, is_equals}
+use Rattle.host_protocol.proofs.PartLemmas.{parts, split_some, split_none}
+
+-- a word without an equals sign is no entry
+pub entry_none : (size : ℕ) (word : List ℕ) → position is_equals word ≡ None → entry_of size word ≡ None
+unfolding entry_of
+entry_none size word h = rw (split_none is_equals word h) refl
+
+-- nor is one with two
+pub entry_many : (size : ℕ) (word : List ℕ) (i j : ℕ) → position is_equals word ≡ Some i → position is_equals (drop (i + 1) word) ≡ Some j
+    → entry_of size word ≡ None
+unfolding entry_of
+entry_many size word i j first second =
+    let text = drop (i + 1) word in
+    let more = parts is_equals (drop (j + 1) text) in
+    rw (split_some is_equals word i first, split_some is_equals text j second, more.all) refl
+
+-- one equals sign stands between the page and its contents
+pub entry_one : (size : ℕ) (word : List ℕ) (i : ℕ) → position is_equals word ≡ Some i → position is_equals (drop (i + 1) word) ≡ None
+    → entry_of size word ≡ write_of size (take i word) (drop (i + 1) word)
+unfolding entry_of
+entry_one size word i first second =
+    rw (split_some is_equals word i first, split_none is_equals (drop (i + 1) word) second) refl
+
+pub contents_dash : (size : ℕ) (text : List ℕ) → bytes_eq text (codes "-") ≡ true → contents_of size text ≡ Some (padded size [])
+unfolding contents_of
+contents_dash size text h = rw h refl
+
+-- digits for one byte up to a whole page
+contents_hex : (size : ℕ) (text bytes : List ℕ) → bytes_eq text (codes "-") ≡ false → decode_of text ≡ Ok bytes
+    → contents_of size text ≡ contents_from size bytes
+unfolding contents_of
+contents_hex size text bytes other h = rw (other, h) refl
+
+within : (size : ℕ) (bytes : List ℕ) → 1 ≤ length bytes → length bytes ≤ size → contents_from size bytes ≡ Some (padded size bytes)
+within size bytes some most = rw (le-leb 1 (length bytes) some, le-leb (length bytes) size most) refl
+
+outside : (size : ℕ) (bytes : List ℕ) → (length bytes ≡ 0) ⊎ (size < length bytes) → contents_from size bytes ≡ None
+outside size bytes (inl none) = rw none refl
+outside size bytes (inr more) =
+    let some : 1 ≤ length bytes = omega arith in
+    rw (le-leb 1 (length bytes) some, lt-leb (length bytes) size more) refl
+
+-- the digits of a page
+pub contents_ok : (size : ℕ) (text bytes : List ℕ) → bytes_eq text (codes "-") ≡ false → decode_of text ≡ Ok bytes
+    → length text ≢ 0 → length text / 2 ≤ size → contents_of size text ≡ Some (padded size bytes)
+contents_ok size text bytes other h some most =
+    let twice : length text ≡ 2 * length bytes = (decode_of-ok text bytes h).2 in
+    contents_hex size text bytes other h ∙ within size bytes (omega arith) (omega arith)
+
+pub contents_length : (size : ℕ) (text bytes : List ℕ) → decode_of text ≡ Ok bytes → length text / 2 ≤ size → length bytes ≤ size
+contents_length size text bytes h most =
+    let twice : length text ≡ 2 * length bytes = (decode_of-ok text bytes h).2 in omega arith
+
+-- what is no digits
+contents_err : (size : ℕ) (text : List ℕ) (e : FromHexError) → bytes_eq text (codes "-") ≡ false → decode_of text ≡ Err e → contents_of size text ≡ None
+unfolding contents_of
+contents_err size text e other h = rw (other, h) refl
+
+pub contents_fails : (size : ℕ) (text : List ℕ) (e : FromHexError) → bytes_eq text (codes "-") ≡ false → (e ≡ OutOfMemory) ⊎ (decode_of text ≡ Err e)
+    → Fails (error_of e) (contents_of size text)
+contents_fails size text OutOfMemory other h = tt
+contents_fails size text e other (inl h) = absurd (cc)
+contents_fails size text (InvalidHexCharacter c i) other (inr h) = contents_err size text (InvalidHexCharacter c i) other h
+contents_fails size text OddLength other (inr h) = contents_err size text OddLength other h
+contents_fails size text InvalidStringLength other (inr h) = contents_err size text InvalidStringLength other h
+
+by_decoding : (size : ℕ) (text : List ℕ) → bytes_eq text (codes "-") ≡ false → (length text ≡ 0) ⊎ (size < length text / 2)
+    → (r : Result (List ℕ) FromHexError) → decode_of text ≡ r → contents_of size text ≡ None
+by_decoding size text other out (Ok bytes) h =
+    let twice : length text ≡ 2 * length bytes = (decode_of-ok text bytes h).2 in
+    contents_hex size text bytes other h ∙ outside size bytes (elim out [ inl none ↦ inl (omega arith) | inr more ↦ inr (omega arith) ])
+by_decoding size text other out (Err e) h = contents_err size text e other h
+
+-- no digits, or too many
+pub contents_out : (size : ℕ) (text : List ℕ) → bytes_eq text (codes "-") ≡ false → (length text ≡ 0) ⊎ (size < length text / 2) → contents_of size text ≡ None
+contents_out size text other out = by_decoding size text other out (decode_of text) refl

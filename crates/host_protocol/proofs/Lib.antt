@@ -1,0 +1,8 @@
+pub mod CommandLemmas
+pub mod EntryLemmas
+pub mod FileLemmas
+pub mod LineLemmas
+pub mod PartLemmas
+pub mod ReadingLemmas
+pub mod ReplyLemmas
+pub mod WordLemmas

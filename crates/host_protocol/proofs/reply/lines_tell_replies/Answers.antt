@@ -1,0 +1,5 @@
+use Rattle.host_protocol.proofs.ReplyLemmas.{texts_tell}
+use Rattle.host_protocol.proofs.reply.lines_tell_replies.Goals as goal
+
+pub returns : goal.returns
+returns c = texts_tell

@@ -1,0 +1,7 @@
+pub mod Commands
+pub mod Files
+pub mod Lines
+pub mod Numbers
+pub mod Reading
+pub mod Replies
+pub mod Verbs

@@ -1,0 +1,63 @@
+ghost use Rattle.std.specs.Prelude.{◌≡◌};
+ghost use Rattle.host_protocol.specs.Reading.{error_of, text_error};
+ghost use Rattle.host_protocol.specs.declared.fault.LineError.TheVariants.{Memory};
+ghost use Rattle.host_protocol.specs.declared.fault.TextError.TheVariants as text;
+
+use hex::FromHexError;
+
+/// Why a line gave no command.
+#[derive(Clone, Copy, Debug)]
+pub enum LineError {
+    /// The line is not in the grammar, or brings the file past a limit.
+    Bad,
+    /// There was no memory for the command.
+    Memory,
+}
+
+/// Why a file gave no commands.
+#[derive(Clone, Copy, Debug, PartialEq, Eq)]
+pub enum TextError {
+    /// The number, from 1, of the first line that is not in the grammar or brings the file past a limit.
+    Line(u32),
+    /// There was no memory for the commands.
+    Memory,
+}
+
+impl From<tx_types::Memory> for LineError {
+    ghost from_gives = { λ _ e. e ≡ Memory };
+
+    fn from(_: tx_types::Memory) -> Self {
+        LineError::Memory
+    }
+}
+
+impl From<FromHexError> for LineError {
+    ghost from_gives = { λ e found. found ≡ error_of e };
+
+    fn from(e: FromHexError) -> Self {
+        match e {
+            FromHexError::OutOfMemory => LineError::Memory,
+            _ => LineError::Bad,
+        }
+    }
+}
+
+impl LineError {
+    /// The error of a file whose line of this number has this one.
+    pub fn at(self, number: u32) -> TextError
+        ensures { result ≡ text_error number self }
+    {
+        match self {
+            LineError::Bad => TextError::Line(number),
+            LineError::Memory => TextError::Memory,
+        }
+    }
+}
+
+impl From<tx_types::Memory> for TextError {
+    ghost from_gives = { λ _ e. e ≡ text.Memory };
+
+    fn from(_: tx_types::Memory) -> Self {
+        TextError::Memory
+    }
+}

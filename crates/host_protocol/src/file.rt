@@ -1,0 +1,75 @@
+ghost use Rattle.std.specs.Prelude.{◌≡◌, ◌+◌, ◌≤◌, ◌++◌, ◌⊎◌, ℕ, List, length, sum_by, IfOk, IfErr, OnOk, MatchResult, All};
+ghost use Rattle.std.specs.Option.{option_to_list};
+ghost use Rattle.host_protocol.specs.Commands.{Suits};
+ghost use Rattle.host_protocol.specs.Files.{entries_in, IsFile, IsFirstBad};
+ghost use Rattle.host_protocol.specs.Reading.{EndsAt};
+ghost use Rattle.host_protocol.specs.declared.command.Command.{Command};
+
+use crate::command::Command;
+use crate::fault::TextError;
+use crate::line::line_command;
+use crate::lines::first_line;
+use std::alloc::Global;
+use tx_types::Memory;
+
+/// The most commands of a file.
+pub const MAX_COMMANDS: usize = 65536;
+
+/// The most entries that all writes of a file may have.
+pub const MAX_ENTRIES: usize = 262144;
+
+/// The most bytes of a file.
+pub const MAX_FILE_BYTES: usize = 134217728;
+
+/// The commands of a file, for pages of this many bytes.
+pub fn parse(alloc: Global, bytes: &[u8], page_bytes: u32) -> Result<Vec<Command>, TextError>
+    requires { length bytes.now ≤ MAX_FILE_BYTES }
+
+    // What is read is the file.
+    ensures file { IfOk result (λ list. IsFile page_bytes bytes.now list.items) }
+    ensures suits { IfOk result (λ list. All (Suits page_bytes) list.items) }
+    ensures line { IfErr result (EndsAt page_bytes bytes.now) }
+
+    // What is in the grammar is read, and the first line that is not is named, unless memory runs out.
+    ensures only { (commands : List Command) → IsFile page_bytes bytes.now commands
+        → MatchResult result (λ list. list.items ≡ commands) (λ e. e ≡ TextError.Memory) }
+    ensures first { (n : ℕ) → IsFirstBad page_bytes bytes.now n
+        → MatchResult result (λ list. ⊥) (λ e. (e ≡ TextError.Line n) ⊎ (e ≡ TextError.Memory)) }
+{
+    let mut commands = Vec::new(alloc);
+    let mut room = MAX_ENTRIES;
+    let mut number = 0;
+    let mut rest = bytes;
+    while let Some((line, behind)) = first_line(rest) {
+        number += 1;
+        match line_command(alloc, line, page_bytes, commands.len(), room) {
+            Ok(found) => keep(&mut commands, &mut room, found)?,
+            Err(e) => return Err(e.at(number)),
+        }
+        rest = behind;
+    }
+    Ok(commands)
+}
+
+/// Keeps the command of a line, if it has one, and takes its entries from the room.
+fn keep(commands: &mut Vec<Command>, room: &mut usize, found: Option<Command>) -> Result<(), Memory>
+    requires { sum_by entries_in (option_to_list found) ≤ room.old }
+    ensures commands { OnOk result (commands.new.items ≡ commands.old.items ++ option_to_list found) }
+    ensures room { OnOk result (room.new + sum_by entries_in (option_to_list found) ≡ room.old) }
+{
+    if let Some(command) = found {
+        *room -= entry_count(&command);
+        commands.push(command)?;
+    }
+    Ok(())
+}
+
+/// How many entries a command has.
+fn entry_count(command: &Command) -> usize
+    ensures { result ≡ entries_in command.now }
+{
+    match command {
+        Command::Write { batch, .. } => batch.len(),
+        _ => 0,
+    }
+}

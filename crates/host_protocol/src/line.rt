@@ -1,0 +1,142 @@
+ghost use Rattle.std.specs.Prelude.{◌≡◌, ◌<◌, ◌≤◌, ℕ, false, length, map, List, IfOk, IfNone, IfSome, IsErrOf};
+ghost use Rattle.tx_types.specs.Batch.{PageWrite, Writes};
+ghost use Rattle.host_protocol.specs.Commands.{AreOperands, IsWrite, entry_of, verb_of};
+ghost use Rattle.host_protocol.specs.Files.{entries_in, is_command_line};
+ghost use Rattle.host_protocol.specs.Lines.{words_of};
+ghost use Rattle.host_protocol.specs.Reading.{AddsCommand, AddsNone, MakesPlain};
+ghost use Rattle.host_protocol.specs.declared.command.Command.{Command};
+
+use crate::command::Command;
+use crate::entry::entry;
+use crate::fault::LineError;
+use crate::file::MAX_COMMANDS;
+use crate::numbers::number;
+use crate::operands::{arm, lone_count, lone_number, no_word};
+use crate::verb::Verb;
+use crate::words::first_word;
+use std::alloc::Global;
+use tx_types::Batch;
+
+/// The command of a line, none for a blank line or a comment. There are `before` commands before it, and a
+/// write may have at most `room` entries.
+pub fn line_command(
+    alloc: Global,
+    line: &[u8],
+    page_bytes: u32,
+    before: usize,
+    room: usize,
+) -> Result<Option<Command>, LineError>
+    ensures idle { IfOk result (λ found. IfNone found (is_command_line line.now ≡ false)) }
+    ensures command { IfOk result (λ found. IfSome found (AddsCommand page_bytes line.now before room)) }
+    ensures bad { IsErrOf result LineError.Bad → AddsNone page_bytes line.now before room }
+{
+    let Some((word, words)) = first_word(line) else {
+        return Ok(None);
+    };
+    if word.starts_with(b"#") {
+        return Ok(None);
+    }
+    if before >= MAX_COMMANDS {
+        return Err(LineError::Bad);
+    }
+    let verb = Verb::from_word(word).ok_or(LineError::Bad)?;
+    Ok(Some(command(alloc, verb, words, page_bytes, room)?))
+}
+
+/// The command of a verb and the words behind it. A write may have at most `room` entries.
+fn command(
+    alloc: Global,
+    verb: Verb,
+    words: &[u8],
+    page_bytes: u32,
+    room: usize,
+) -> Result<Command, LineError>
+    ensures ok { IfOk result (λ what. (verb ≡ verb_of what) × AreOperands page_bytes (words_of words.now) what × (entries_in what ≤ room)) }
+    ensures bad { IsErrOf result LineError.Bad → (what : Command) → verb ≡ verb_of what → AreOperands page_bytes (words_of words.now) what → room < entries_in what }
+{
+    match verb {
+        Verb::Write => {
+            let (tag, batch) = write(alloc, words, page_bytes, room)?;
+            Ok(Command::Write { tag, batch })
+        }
+        _ => plain(verb, words).ok_or(LineError::Bad),
+    }
+}
+
+/// The command of a verb and the words behind it, where it is no write.
+fn plain(verb: Verb, words: &[u8]) -> Option<Command>
+    ensures { MakesPlain verb (words_of words.now) result }
+{
+    Some(match verb {
+        Verb::Read => Command::Read {
+            page: lone_number(words)?,
+        },
+        Verb::Write => return None,
+        Verb::Step => Command::Step {
+            tag: lone_number(words)?,
+        },
+        Verb::Finish => Command::Finish {
+            tag: lone_number(words)?,
+        },
+        Verb::Abort => Command::Abort {
+            tag: lone_number(words)?,
+        },
+        Verb::Collect => {
+            no_word(words)?;
+            Command::Collect
+        },
+        Verb::Stats => {
+            no_word(words)?;
+            Command::Stats
+        },
+        Verb::Explain => {
+            no_word(words)?;
+            Command::Explain
+        },
+        Verb::Cut => {
+            let (count, outcome) = arm(words)?;
+            Command::Cut { count, outcome }
+        }
+        Verb::Fault => {
+            let (count, outcome) = arm(words)?;
+            Command::Fault { count, outcome }
+        }
+        Verb::BadRead => Command::BadRead {
+            count: lone_count(words)?,
+        },
+    })
+}
+
+/// The tag and the pages of a write, which may have at most `room` entries.
+fn write(
+    alloc: Global,
+    words: &[u8],
+    page_bytes: u32,
+    room: usize,
+) -> Result<(u32, Batch), LineError>
+    ensures ok { IfOk result (λ w. IsWrite page_bytes (words_of words.now) w.0 w.1 × (length w.1.entries ≤ room)) }
+    ensures bad { IsErrOf result LineError.Bad → (tag : ℕ) (batch : Writes) → IsWrite page_bytes (words_of words.now) tag batch → room < length batch.entries }
+{
+    let (first, behind) = first_word(words).ok_or(LineError::Bad)?;
+    let tag = number(first).ok_or(LineError::Bad)?;
+    let batch = entries(alloc, behind, page_bytes, room)?;
+    Ok((tag, batch))
+}
+
+/// The pages of a write, by its entries, of which there may be at most `room`.
+fn entries(alloc: Global, words: &[u8], page_bytes: u32, room: usize) -> Result<Batch, LineError>
+    ensures ok { IfOk result (λ b. (b.page_bytes ≡ page_bytes) × (map (entry_of page_bytes) (words_of words.now) ≡ map Some b.entries) × (length b.entries ≤ room)) }
+    ensures bad { IsErrOf result LineError.Bad → (writes : List PageWrite) → map (entry_of page_bytes) (words_of words.now) ≡ map Some writes → room < length writes }
+{
+    let mut batch = Batch::new(alloc, page_bytes);
+    let mut rest = words;
+    while let Some((word, behind)) = first_word(rest) {
+        if batch.len() >= room {
+            return Err(LineError::Bad);
+        }
+        let (page, bytes) = entry(alloc, word, page_bytes)?;
+        batch.add(page, &bytes)?;
+        rest = behind;
+    }
+    Ok(batch)
+}

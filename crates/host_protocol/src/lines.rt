@@ -1,0 +1,35 @@
+ghost use Rattle.std.specs.Prelude.{◌≡◌, ◌<◌, [], ◌∷◌, length, position, IfSome, IfNone};
+ghost use Rattle.std.specs.Str.Lines.{strip_carriage_return};
+ghost use Rattle.host_protocol.specs.Lines.{lines_of, is_line_feed};
+
+/// The first line of a file, and what is behind it.
+pub fn first_line(bytes: &[u8]) -> Option<(&[u8], &[u8])>
+    ensures line { IfSome result (λ found. lines_of bytes.now ≡ found.0.now ∷ lines_of found.1.now) }
+    ensures shorter { IfSome result (λ found. length found.1.now < length bytes.now) }
+    ensures none { IfNone result (lines_of bytes.now ≡ []) }
+{
+    if bytes.is_empty() {
+        return None;
+    }
+    match first_line_feed(bytes) {
+        Some(end) => Some((without_return(&bytes[..end]), &bytes[end + 1..])),
+        None => Some((without_return(bytes), &bytes[bytes.len()..])),
+    }
+}
+
+/// Where the first line feed stands.
+fn first_line_feed(bytes: &[u8]) -> Option<usize>
+    ensures { result ≡ position is_line_feed bytes.now }
+{
+    bytes.iter().position(|b| *b == b'\n')
+}
+
+/// The line without a carriage return at its end.
+fn without_return(line: &[u8]) -> &[u8]
+    ensures { result.now ≡ strip_carriage_return line.now }
+{
+    match line {
+        [front @ .., b'\r'] => front,
+        _ => line,
+    }
+}

@@ -1,0 +1,67 @@
+ghost use Rattle.std.specs.Prelude.{◌≡◌, ◌≢◌, ◌∷◌, [], ℕ, List, IfSome, IfNone, IsSome, ◌↔◌};
+ghost use Rattle.flash_model.specs.declared.outcome.Outcome.{Outcome};
+ghost use Rattle.host_protocol.specs.Commands.{alone, IsArm, outcome_word};
+ghost use Rattle.host_protocol.specs.Lines.{words_of};
+ghost use Rattle.host_protocol.specs.Numbers.{number_of, count_of};
+
+use crate::numbers::{count, number};
+use crate::words::first_word;
+use flash_model::Outcome;
+
+/// Some where there is no word.
+pub fn no_word(words: &[u8]) -> Option<()>
+    ensures { IsSome result ↔ (words_of words.now ≡ []) }
+{
+    match first_word(words) {
+        None => Some(()),
+        Some(_) => None,
+    }
+}
+
+/// The only word.
+fn only_word(words: &[u8]) -> Option<&[u8]>
+    ensures some { IfSome result (λ word. words_of words.now ≡ word.now ∷ []) }
+    ensures none { IfNone result ((word : List ℕ) → words_of words.now ≢ word ∷ []) }
+{
+    let (word, behind) = first_word(words)?;
+    no_word(behind)?;
+    Some(word)
+}
+
+/// The number that is the only word.
+pub fn lone_number(words: &[u8]) -> Option<u32>
+    ensures { result ≡ alone number_of (words_of words.now) }
+{
+    number(only_word(words)?)
+}
+
+/// The count that is the only word.
+pub fn lone_count(words: &[u8]) -> Option<u32>
+    ensures { result ≡ alone count_of (words_of words.now) }
+{
+    count(only_word(words)?)
+}
+
+/// A count, and what the broken operation leaves.
+pub fn arm(words: &[u8]) -> Option<(u32, Outcome)>
+    ensures some { IfSome result (λ a. IsArm (words_of words.now) a.0 a.1) }
+    ensures none { IfNone result ((n : ℕ) (what : Outcome) → ¬ IsArm (words_of words.now) n what) }
+{
+    let (first, behind) = first_word(words)?;
+    let count = count(first)?;
+    let outcome = outcome(only_word(behind)?)?;
+    Some((count, outcome))
+}
+
+/// What a broken operation leaves, by its word.
+fn outcome(word: &[u8]) -> Option<Outcome>
+    ensures some { IfSome result (λ what. word.now ≡ outcome_word what) }
+    ensures none { IfNone result ((what : Outcome) → word.now ≢ outcome_word what) }
+{
+    match word {
+        b"none" => Some(Outcome::None),
+        b"all" => Some(Outcome::All),
+        b"bad" => Some(Outcome::Bad),
+        _ => None,
+    }
+}

@@ -1,0 +1,149 @@
+ghost use Rattle.std.specs.Prelude.{◌≡◌, ◌++◌, List, IfOk, IsOkAnd, OnOk, OnErr, flat_map};
+ghost use Rattle.std.specs.List.{AllByRecursion};
+ghost use Rattle.std.specs.String.{string_bytes};
+ghost use Rattle.host_protocol.specs.declared.reply.Reply.{Reply};
+ghost use Rattle.host_protocol.specs.Replies.{text_of, IsLine, line_of, page_words, stats_words, flash_stats};
+
+use std::alloc::{AllocError, Global};
+use tx_types::{Bytes, Memory, Stats};
+
+/// The answer to a command.
+#[derive(Debug, Drop)]
+pub enum Reply {
+    /// The page was never written.
+    Blank(u32),
+    /// The page and its contents.
+    Page(u32, Bytes),
+    /// The tag of a transaction that was opened, and how many pages it has.
+    Opened(u32, u32),
+    /// The tag of an open transaction, how many of its pages are written, and how many it has.
+    Wrote(u32, u32, u32),
+    /// The tag of a transaction all of whose pages are changed now.
+    Done(u32),
+    /// The tag of a transaction none of whose pages was changed.
+    Aborted(u32),
+    /// The tag of a transaction that was to be aborted when its pages were changed already.
+    Late(u32),
+    /// No open transaction has the tag.
+    Unknown(u32),
+    /// A block was won back.
+    Collected,
+    /// There was nothing to win back.
+    Nothing,
+    /// The cut, the fault or the bad read is to come.
+    Armed,
+    /// Power was cut.
+    Cut,
+    /// The flash failed.
+    Fault,
+    /// A write without pages.
+    RefusedEmpty,
+    /// There is no such page.
+    RefusedRange(u32),
+    /// The page stood in the write before.
+    RefusedRepeated(u32),
+    /// An open transaction has the tag.
+    RefusedTag(u32),
+    /// The page belongs to an open transaction, and the tag of that one.
+    RefusedOverlap(u32, u32),
+    /// The write has more pages than may be pending; how many still may.
+    RefusedFull(u32),
+    /// The page has no version left.
+    RefusedSpent(u32),
+    Stats(Stats),
+    /// The lines of a report, each with its line feed.
+    Report(Bytes),
+}
+
+/// Appends the line of the reply with its line feed, or the lines of a report. After `Memory` the bytes
+/// are as before.
+pub fn reply_text(alloc: Global, reply: &Reply, out: &mut Vec<u8>) -> Result<(), Memory>
+    ensures ok { OnOk result (out.new.items ≡ out.old.items ++ text_of reply.now) }
+    ensures err { OnErr result (out.new.items ≡ out.old.items) }
+{
+    match reply {
+        Reply::Blank(page) => push(format!(in alloc; "blank {page}\n"), out),
+        Reply::Page(page, bytes) => push(page_line(alloc, *page, bytes.as_slice()), out),
+        Reply::Opened(tag, pages) => push(format!(in alloc; "open {tag} {pages}\n"), out),
+        Reply::Wrote(tag, done, all) => push(format!(in alloc; "wrote {tag} {done} {all}\n"), out),
+        Reply::Done(tag) => push(format!(in alloc; "done {tag}\n"), out),
+        Reply::Aborted(tag) => push(format!(in alloc; "aborted {tag}\n"), out),
+        Reply::Late(tag) => push(format!(in alloc; "late {tag}\n"), out),
+        Reply::Unknown(tag) => push(format!(in alloc; "unknown {tag}\n"), out),
+        Reply::Collected => append(b"collected\n", out),
+        Reply::Nothing => append(b"nothing\n", out),
+        Reply::Armed => append(b"armed\n", out),
+        Reply::Cut => append(b"cut\n", out),
+        Reply::Fault => append(b"fault\n", out),
+        Reply::RefusedEmpty => append(b"refused empty\n", out),
+        Reply::RefusedRange(page) => push(format!(in alloc; "refused range {page}\n"), out),
+        Reply::RefusedRepeated(page) => push(format!(in alloc; "refused repeated {page}\n"), out),
+        Reply::RefusedTag(tag) => push(format!(in alloc; "refused tag {tag}\n"), out),
+        Reply::RefusedOverlap(page, tag) => {
+            push(format!(in alloc; "refused overlap {page} {tag}\n"), out)
+        }
+        Reply::RefusedFull(free) => push(format!(in alloc; "refused full {free}\n"), out),
+        Reply::RefusedSpent(page) => push(format!(in alloc; "refused spent {page}\n"), out),
+        Reply::Stats(stats) => push(stats_line(alloc, stats), out),
+        Reply::Report(text) => append(text.as_slice(), out),
+    }
+}
+
+/// Appends bytes.
+fn append(bytes: &[u8], out: &mut Vec<u8>) -> Result<(), Memory>
+    ensures ok { OnOk result (out.new.items ≡ out.old.items ++ bytes.now) }
+    ensures err { OnErr result (out.new.items ≡ out.old.items) }
+{
+    out.extend_from_slice(bytes)?;
+    Ok(())
+}
+
+/// Appends a line, if there was memory for it.
+fn push(line: Result<String, AllocError>, out: &mut Vec<u8>) -> Result<(), Memory>
+    ensures ok { OnOk result (IsOkAnd line (λ l. out.new.items ≡ out.old.items ++ string_bytes l)) }
+    ensures err { OnErr result (out.new.items ≡ out.old.items) }
+{
+    append(line?.as_bytes(), out)
+}
+
+/// The line of a page with its contents.
+fn page_line(alloc: Global, page: u32, bytes: &[u8]) -> Result<String, AllocError>
+    ensures { IfOk result (λ l. string_bytes l ≡ line_of (page_words page bytes.now)) }
+{
+    let digits = hex::encode(alloc, bytes)?;
+    format!(in alloc; "page {page} {digits}\n")
+}
+
+/// The line of the numbers of a device.
+fn stats_line(alloc: Global, stats: &Stats) -> Result<String, AllocError>
+    ensures { IfOk result (λ l. string_bytes l ≡ line_of (stats_words stats.now)) }
+{
+    let flash = flash_part(alloc, stats)?;
+    let Stats {
+        written,
+        tags,
+        pending,
+        ..
+    } = stats;
+    format!(in alloc; "stats written {written} open {tags} pending {pending} {flash}")
+}
+
+/// The end of that line, which tells of the flash.
+fn flash_part(alloc: Global, stats: &Stats) -> Result<String, AllocError>
+    ensures { IfOk result (λ l. string_bytes l ≡ line_of (flash_stats stats.now)) }
+{
+    let Stats {
+        programs,
+        erases,
+        garbage,
+        ..
+    } = stats;
+    format!(in alloc; "programs {programs} erases {erases} garbage {garbage}\n")
+}
+
+/// The law that a reader of replies rests on: bytes are the lines of one list of replies at most, where none
+/// is a report. A report's text is free, and may be that of other replies.
+pub fn lines_tell_replies()
+    ensures { (xs ys : List Reply) → AllByRecursion IsLine xs → AllByRecursion IsLine ys
+        → flat_map text_of xs ≡ flat_map text_of ys → xs ≡ ys }
+{}

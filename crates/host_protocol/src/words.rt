@@ -1,0 +1,28 @@
+ghost use Rattle.std.specs.Prelude.{◌≡◌, ◌<◌, [], ◌∷◌, length, not, position, IfSome, IfNone};
+ghost use Rattle.host_protocol.specs.Lines.{words_of, is_blank};
+
+/// The first word of a line, and what is behind it.
+pub fn first_word(line: &[u8]) -> Option<(&[u8], &[u8])>
+    ensures word { IfSome result (λ found. words_of line.now ≡ found.0.now ∷ words_of found.1.now) }
+    ensures shorter { IfSome result (λ found. length found.1.now < length line.now) }
+    ensures none { IfNone result (words_of line.now ≡ []) }
+{
+    let start = first_filled(line)?;
+    let line = &line[start..];
+    let end = first_blank(line).unwrap_or(line.len());
+    Some(line.split_at(end))
+}
+
+/// Where the first byte stands that is neither a space nor a tab.
+fn first_filled(line: &[u8]) -> Option<usize>
+    ensures { result ≡ position (λ b. not (is_blank b)) line.now }
+{
+    line.iter().position(|b| *b != b' ' && *b != b'\t')
+}
+
+/// Where the first space or tab stands.
+fn first_blank(line: &[u8]) -> Option<usize>
+    ensures { result ≡ position is_blank line.now }
+{
+    line.iter().position(|b| *b == b' ' || *b == b'\t')
+}
