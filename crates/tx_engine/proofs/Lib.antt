@@ -1,0 +1,6 @@
+pub mod Entries
+pub mod Opening
+pub mod Places
+pub mod Refusals
+pub mod Stepping
+pub mod Writing

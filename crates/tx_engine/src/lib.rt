@@ -1,0 +1,14 @@
+//! The device: pages that are read, and transactions that are opened and written page by page.
+#![tactic(auto)]
+
+mod device;
+mod opened;
+mod read;
+mod step;
+mod submit;
+mod tables;
+
+pub use device::Device;
+pub use read::{ReadAnswer, ReadError};
+pub use step::{Aborted, Progress, StepError};
+pub use submit::SubmitError;
