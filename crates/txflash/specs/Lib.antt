@@ -1,0 +1,11 @@
+pub mod Desk
+pub mod DeskInMemory
+pub mod DeskKept
+pub mod DeskReal
+pub mod Parsing
+pub mod Refusals
+pub mod Run
+pub mod Served
+pub mod Serving
+pub mod Stopping
+pub mod Top
