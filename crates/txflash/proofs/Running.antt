@@ -1,5 +1,5 @@
 -- A run goes on by one command.
-use Rattle.std.proofs.Common.{◌≡◌, ℕ, ◌+◌, ◌≤◌, ◌<◌, ◌^◌, Bool, true, false, cond, inr, inl, List, [], ◌∷◌, ◌++◌, length, take, get_or, Some, refl, ap, sym, ◌∙◌, subst, arith, append-nil}
+use Rattle.std.proofs.Common.{◌≡◌, ℕ, ◌+◌, ◌≤◌, ◌<◌, ◌^◌, Bool, true, false, cond, inr, inl, List, [], ◌∷◌, ◌++◌, length, take, get_or, Option, Some, refl, ap, sym, ◌∙◌, subst, arith, append-nil, None, Result, length-append}
 use Rattle.std.specs.Prelude.{◌==◌, count_by, slice_get, slice_index, All}
 use Rattle.std.specs.List.{flat_map}
 use Rattle.std.proofs.lemmas.Grind.{flat_map-append}
@@ -9,9 +9,11 @@ use Rattle.std.proofs.lemmas.List.Sums.{sum_by_push}
 use Rattle.std.proofs.lemmas.Option.{slice_get_read}
 use Rattle.std.proofs.lemmas.Bool.Decides.{nat_tests}
 use Rattle.flash_model.specs.Flash.{FlashState}
-use Rattle.tx_engine.specs.ArrayState.{ArrayState}
+use Rattle.tx_engine.specs.ArrayState.{ArrayState, opening}
 use Rattle.tx_engine.specs.Device.{Standing, limits_of, is_spent}
-use Rattle.tx_engine.specs.Submit.{Limits}
+use Rattle.tx_types.specs.Batch.{PageWrite}
+use Rattle.tx_engine.specs.Submit.{Limits, Submits, opened, refusal}
+use Rattle.tx_engine.specs.declared.submit.SubmitError.{SubmitError}
 use Rattle.host_protocol.specs.declared.command.Command.{Command}
 use Rattle.host_protocol.specs.declared.command.Command.TheVariants as command
 use Rattle.host_protocol.specs.declared.reply.Reply.{Reply}
@@ -125,3 +127,20 @@ next_kind list at c lt read follow pages = served_kind (take at list) c (follow 
 -- what holds of each command holds of one that was read
 pub at_read : (P : Command → Type 0) (list : List Command) (at : ℕ) (c : Command) → All P list → at < length list → c ≡ get_or list at c → P c
 at_read P list at c h lt read = subst P (sym read) (h at c lt)
+
+one_more_open : (r : Option SubmitError) (tag : ℕ) (ws : List PageWrite) (m : ArrayState) → length (opened r tag ws m).entries ≤ length m.entries + 1
+one_more_open None tag ws m = omega (arith, length-append m.entries (opening tag ws ∷ []))
+one_more_open (Some e) tag ws m = omega arith
+
+-- a device after a write
+pub standing_write : (n : ℕ) (old new : Standing FlashState) (limits : Limits) (spent : ℕ → Bool) (tag : ℕ) (ws : List PageWrite) (result : Result (Unit {0}) SubmitError) →
+    Submits limits spent old.machine new.machine tag ws result → new ≡ record old { machine = new.machine } → IsStanding n old → IsStanding (n + 1) new
+standing_write n old new limits spent tag ws result submits stays h =
+    let used : new.used ≡ old.used = ap (λ (s : Standing FlashState). s.used) stays in
+    let entries : length new.machine.entries ≤ length old.machine.entries + 1 =
+    rw submits.opens (one_more_open (refusal limits spent old.machine.entries tag ws) tag ws old.machine) in
+    record {
+      config = ap (λ (s : Standing FlashState). s.config) stays ∙ h.config;
+      used = omega (arith, used, entries, h.used);
+      mentions = λ page. rw (used, ap (λ (s : Standing FlashState). s.mentions) stays) (h.mentions page);
+    }
