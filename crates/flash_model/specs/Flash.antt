@@ -1,8 +1,8 @@
 -- What a flash is.
-use Rattle.std.specs.Prelude.{◌≡◌, ℕ, ◌+◌, ◌*◌, ◌/◌, ◌<◌, ◌≤◌, Bool, List, length, slice_index_or, All, Option}
+use Rattle.std.specs.Prelude.{◌≡◌, ℕ, ◌+◌, ◌-◌, ◌^◌, min, Bool, true, List, length, slice_index_or, All, Option, IsSomeAnd}
 use Rattle.tx_types.specs.Config.{IsShape, slots_of}
 use Rattle.tx_types.specs.declared.config.Shape.{Shape}
-use Rattle.flash_model.specs.declared.outcome.Outcome.{Outcome}
+use Rattle.flash_model.specs.declared.outcome.Arm.{Arm}
 
 -- what a slot holds: nothing, something unreadable, or a page of contents with its spare area
 pub data Contents : Type 0 where
@@ -10,24 +10,17 @@ pub data Contents : Type 0 where
   damaged : Contents
   complete : (bytes spare : List ℕ) → Contents
 
--- how many power cuts, and how many faults, a flash may still give by itself
-pub record Remaining : Type 0 where
+-- What a flash tells of the breaks to come: how many power cuts and how many faults it may still give by itself, and
+-- its arms, which are the power cut and the fault that are to come, and the count of the read that is to fail.
+pub record Told : Type 0 where
   pub cuts : ℕ
   pub breaks : ℕ
-
--- the operation that is to be broken, counted from now, and what it will leave
-pub record Arm : Type 0 where
-  pub count : ℕ
-  pub outcome : Outcome
-
--- the power cut and the fault that are to come, and the read that is to fail
-pub record Armed : Type 0 where
   pub cut : Option Arm
   pub fault : Option Arm
   pub bad_read : Option ℕ
 
--- A flash: its shape, its slots in order, whether power is on, its count of faults, and its counts of the
--- programs and the erases that were done. It may tell what breaks are to come.
+-- A flash: its shape, its slots in order, whether power is on, its count of faults, its counts of the programs and
+-- the erases that were done, and of the reads that were asked for while power was on. It may tell what is to come.
 pub record FlashState : Type 0 where
   pub shape : Shape
   pub image : List Contents
@@ -35,8 +28,16 @@ pub record FlashState : Type 0 where
   pub faults : ℕ
   pub programs : ℕ
   pub erases : ℕ
-  pub remaining : Option Remaining
-  pub armed : Option Armed
+  pub reads : ℕ
+  pub told : Option Told
+
+-- a count goes up by so many and stands still at the end of its type
+abbrev pub counted_by : ℕ → ℕ → ℕ
+counted_by more n = min (n + more) (2 ^ 64 - 1)
+
+-- a count goes up by one
+abbrev pub counted : ℕ → ℕ
+counted n = counted_by 1 n
 
 -- what a slot of an image holds
 abbrev pub slot_at : List Contents → ℕ → Contents
@@ -48,17 +49,16 @@ IsWhole page_bytes (complete bytes spare) = (length bytes ≡ page_bytes) × (le
 IsWhole page_bytes blank = Unit {0}
 IsWhole page_bytes damaged = Unit {0}
 
--- a flash has as many slots as its shape says, each of the right size
-pub record IsFlash (s : FlashState) : Type 0 where
-  pub shape : IsShape s.shape
-  pub slots : length s.image ≡ slots_of s.shape
-  pub whole : All (IsWhole s.shape.page_bytes) s.image
+-- an image has as many slots as its shape says, each of the right size
+pub record IsImage (shape : Shape) (image : List Contents) : Type 0 where
+  pub bounds : IsShape shape
+  pub slots : length image ≡ slots_of shape
+  pub whole : All (IsWhole shape.page_bytes) image
 
--- the first slot after the block that a slot lies in
-abbrev pub block_end : Shape → ℕ → ℕ
-block_end shape at = (at / shape.pages_per_block + 1) * shape.pages_per_block
+abbrev pub IsFlash : FlashState → Type 0
+IsFlash s = IsImage s.shape s.image
 
--- a slot may be programmed: it exists, and it and all later slots of its block are blank
-pub record CanProgram (s : FlashState) (at : ℕ) : Type 0 where
-  pub in_range : at < slots_of s.shape
-  pub blank_on : (k : ℕ) → at ≤ k → k < block_end s.shape at → slot_at s.image k ≡ blank
+-- a flash that is live and tells that neither a cut nor a fault is to come
+pub record IsSteady (s : FlashState) : Type 0 where
+  pub live : s.live ≡ true
+  pub none : IsSomeAnd s.told (λ told. (told.cuts ≡ 0) × (told.breaks ≡ 0))

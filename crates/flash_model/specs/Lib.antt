@@ -1,2 +1,5 @@
+pub mod Arms
 pub mod Calls
 pub mod Flash
+pub mod Moves
+pub mod Operations

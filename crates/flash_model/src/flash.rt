@@ -1,6 +1,7 @@
 ghost use Rattle.std.specs.Prelude.{◌≡◌, ◌<◌, length};
 ghost use Rattle.tx_types.specs.Config.{slots_of, blocks_of};
-ghost use Rattle.flash_model.specs.Flash.{FlashState, IsFlash, CanProgram};
+ghost use Rattle.flash_model.specs.Flash.{FlashState, IsFlash};
+ghost use Rattle.flash_model.specs.Operations.{CanProgram};
 ghost use Rattle.flash_model.specs.Calls.{Reads, Programs, Erases};
 
 use tx_types::{Block, Shape, Slot};
@@ -57,7 +58,7 @@ pub trait Flash {
     /// Programs a slot with contents and a spare area. A broken program leaves the slot blank, or complete
     /// as asked for, or damaged, and all else as it was.
     fn program(&mut self, at: Slot, bytes: &[u8], spare: &[u8; 64]) -> Result<(), Broken>
-        requires blank { CanProgram (state self.old) at.0 }
+        requires blank { CanProgram (state self.old).shape (state self.old).image at.0 }
         requires page { length bytes.now ≡ (state self.old).shape.page_bytes }
         ensures { Programs (state self.old) (state self.new) at.0 bytes.now spare.now result };
 

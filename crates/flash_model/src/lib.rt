@@ -1,8 +1,12 @@
 //! What a flash is: its slots, what its calls do, and what a call leaves that is broken.
 #![tactic(auto)]
 
+mod arms;
 mod flash;
+mod laws;
 mod outcome;
 
+pub use arms::{Arms, Power};
 pub use flash::{Broken, Flash, SPARE_BYTES, Seen};
-pub use outcome::Outcome;
+pub use laws::{calls_compose, images_stay, operations_move, steady_stays};
+pub use outcome::{Arm, Outcome};

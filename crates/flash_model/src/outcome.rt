@@ -8,3 +8,11 @@ pub enum Outcome {
     /// The slot, or each slot of the block, is damaged.
     Bad,
 }
+
+/// A break that is to come: the operation that it will meet, counted from now on, and what it will leave.
+#[derive(Clone, Copy, Debug, PartialEq, Eq)]
+pub struct Arm {
+    /// The number of the operation, from 1 for the next one.
+    pub count: u32,
+    pub outcome: Outcome,
+}

@@ -1,6 +1,5 @@
 pub mod Chunks
 pub mod Images
 pub mod Programmed
-pub mod Erased
-mod Stored
-mod Done
+pub mod Filled
+mod Kept

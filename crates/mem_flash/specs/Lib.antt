@@ -1,3 +1,5 @@
+pub mod Breaking
+pub mod Memory
 pub mod Slots
-pub mod Stored
-pub mod Unbroken
+pub mod SlotsInside
+pub mod Standing

@@ -1,10 +1,16 @@
 -- What two flat lists hold: one state a slot, and the bytes of all slots, one slot after another.
 use Rattle.std.specs.Prelude.{◌≡◌, ℕ, ◌+◌, ◌<◌, List, [], ◌∷◌, ◌++◌, length, take, drop, replicate, slice_index_or}
 use Rattle.std.specs.Fork.{slice_chunk}
+use Rattle.tx_types.specs.declared.config.Shape.{Shape}
 use Rattle.flash_model.specs.declared.flash.Seen.{Seen}
 use Rattle.flash_model.specs.declared.flash.Seen.TheVariants.{Blank, Damaged, Complete}
 use Rattle.flash_model.specs.Flash.{Contents, blank, damaged, complete}
 use Rattle.flash_model.specs.Calls.{page_of, spare_of}
+
+-- the slots of a flash of this shape, in order
+pub record SlotImage : Type 0 where
+  pub shape : Shape
+  pub image : List Contents
 
 -- the list with new items in place of its own, from an index on
 abbrev pub overwritten : {A : Type 0} → List A → ℕ → List A → List A
@@ -30,6 +36,12 @@ image_of page_bytes [] cells = []
 image_of page_bytes (state ∷ states) cells =
     contents_of page_bytes state (take (cell_bytes page_bytes) cells)
     ∷ image_of page_bytes states (drop (cell_bytes page_bytes) cells)
+
+-- the byte that fills a slot without contents
+abbrev pub filler : Seen → ℕ
+filler Blank = 255
+filler Damaged = 0
+filler Complete = 0
 
 -- the bytes of a blank slot are all 0xff, and those of a damaged one all 0x00
 abbrev pub IsFilled : ℕ → Seen → List ℕ → Type 0

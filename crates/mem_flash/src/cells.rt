@@ -1,7 +1,6 @@
 ghost use Rattle.std.specs.Prelude.{◌≡◌, ◌+◌, ◌-◌, ◌*◌, ◌≤◌, ◌++◌, length, take, drop, replicate};
 ghost use Rattle.std.specs.Fork.{slice_chunk};
-ghost use Rattle.mem_flash.specs.Slots.{cell_bytes, overwritten};
-ghost use Rattle.flash_model.specs.declared.flash.Seen.TheVariants as seen;
+ghost use Rattle.mem_flash.specs.Slots.{cell_bytes, filler, overwritten};
 ghost use Rattle.tx_types.specs.Config.{IsShape};
 
 use flash_model::{SPARE_BYTES, Seen};
@@ -13,6 +12,16 @@ pub fn cell_bytes(shape: Shape) -> usize
     ensures { result ≡ cell_bytes shape.page_bytes }
 {
     shape.page_bytes as usize + SPARE_BYTES
+}
+
+/// The byte that fills a slot without contents.
+pub fn filler(how: Seen) -> u8
+    ensures { result ≡ filler how }
+{
+    match how {
+        Seen::Blank => 0xff,
+        Seen::Damaged | Seen::Complete => 0x00,
+    }
 }
 
 /// The bytes of the slot at this index, where each slot has `size` bytes.
@@ -46,18 +55,18 @@ pub fn write_cell(cells: &mut [u8], from: usize, bytes: &[u8], spare: &[u8; 64])
     cells[middle..middle + spare.len()].copy_from_slice(spare);
 }
 
-/// Writes 0xff into this many bytes, from an index on.
-pub fn fill_cells(cells: &mut [u8], from: usize, count: usize)
+/// Writes a byte this many times, from an index on.
+pub fn fill_cells(cells: &mut [u8], from: usize, count: usize, byte: u8)
     requires { from + count ≤ length cells.old }
-    ensures { cells.new ≡ overwritten cells.old from (replicate count 255) }
+    ensures { cells.new ≡ overwritten cells.old from (replicate count byte) }
 {
-    cells[from..from + count].fill(0xff);
+    cells[from..from + count].fill(byte);
 }
 
-/// Marks this many slots as blank, from an index on.
-pub fn mark_blank(states: &mut [Seen], from: usize, count: usize)
+/// Marks this many slots as reading this way, from an index on.
+pub fn mark(states: &mut [Seen], from: usize, count: usize, how: Seen)
     requires { from + count ≤ length states.old }
-    ensures { states.new ≡ overwritten states.old from (replicate count seen.Blank) }
+    ensures { states.new ≡ overwritten states.old from (replicate count how) }
 {
-    states[from..from + count].fill(Seen::Blank);
+    states[from..from + count].fill(how);
 }

@@ -1,8 +1,10 @@
-//! A flash in memory.
+//! A flash in memory, which breaks where it is told to.
 #![tactic(auto)]
 
+mod armed;
 mod cells;
 mod memory;
+mod slots;
 #[cfg(test)]
 mod tests;
 

@@ -1,54 +1,91 @@
-ghost use Rattle.std.specs.Prelude.{◌≡◌, ◌<◌, ◌+◌, ◌*◌, length, IfOk, IsOk};
+ghost use Rattle.std.specs.Prelude.{◌≡◌, ◌<◌, ◌≤◌, ◌+◌, ◌*◌, length, Some, true, IfOk, OnErr};
+ghost use Rattle.std.specs.Result.{is_err};
 ghost use Rattle.tx_types.specs.Config.{IsShape, slots_of, blocks_of};
-ghost use Rattle.flash_model.specs.Flash.{FlashState, IsFlash, CanProgram, slot_at};
+ghost use Rattle.flash_model.specs.Flash.{slot_at, IsFlash};
+ghost use Rattle.flash_model.specs.Operations.{CanProgram, program, erase};
 ghost use Rattle.flash_model.specs.Calls.{Reads, Programs, Erases, seen_of};
-ghost use Rattle.mem_flash.specs.Slots.{cell_of};
-ghost use Rattle.mem_flash.specs.Unbroken.{unbroken, blank_flash};
+ghost use Rattle.flash_model.specs.Arms.{TurnsOn, ArmsCut, ArmsFault, ArmsBadRead};
+ghost use Rattle.mem_flash.specs.Slots.{cell_bytes, cell_of, image_of, AreFilled};
+ghost use Rattle.mem_flash.specs.Memory.{state_of, fresh, blank_flash};
+ghost use Rattle.mem_flash.specs.Breaking.{broken_by, answered, met, operated, is_read_broken, after_read};
 
-use crate::cells::{cell_at, cell_bytes, fill_cells, mark_blank, read_cell, write_cell};
-use flash_model::{Broken, Flash, Seen};
+use crate::armed::{Armed, count_down, count_read};
+use crate::cells::cell_bytes;
+use crate::slots::Slots;
+use flash_model::{Arm, Arms, Broken, Flash, Outcome, Power, Seen};
 use std::alloc::Global;
 use std::marker::Model;
 use tx_types::{Block, Memory, Shape, Slot};
 
-/// A flash in memory, on which no call is broken.
+/// A flash in memory. Its calls are broken exactly where an arm comes due or power is off.
 #[derive(Debug, Drop)]
 pub struct MemFlash {
-    shape: Shape,
-    /// How each slot reads.
-    seen: Vec<Seen>,
-    /// For each slot its contents and then its spare area: all 0xff where it is blank, and all 0x00
-    /// where it is damaged.
-    cells: Vec<u8>,
+    slots: Slots,
+    live: bool,
+    armed: Armed,
     programs: u64,
     erases: u64,
+    /// Reads that were asked for while power was on.
+    reads: u64,
+    /// Calls that were broken.
+    faults: u64,
+    /// Room for a page and a spare area of each die, taken beforehand: no call of a flash takes memory.
+    room: Vec<u8>,
 }
 
 impl Model for MemFlash {
-    ghost use Rattle.flash_model.specs.Flash.{FlashState};
+    ghost use Rattle.mem_flash.specs.Memory.{MemoryState};
 
-    ghost Value = { FlashState };
+    ghost Value = { MemoryState };
 
-    ghost use Rattle.mem_flash.specs.Stored.{flash_of, IsStored};
+    ghost use Rattle.mem_flash.specs.Standing.{memory_of, HasRoom};
 
-    ghost view = { flash_of };
+    ghost view = { memory_of };
 
-    ghost invariant = { IsStored };
+    ghost invariant = { HasRoom };
 }
 
 impl MemFlash {
-    /// A flash of this shape. All its slots are blank.
+    /// A flash of this shape. All its slots are blank, power is on, and nothing is armed.
     pub fn new(alloc: Global, shape: Shape) -> Result<MemFlash, Memory>
         requires { IsShape shape }
         ensures { IfOk result (λ f. f ≡ blank_flash shape) }
     {
         let slots = shape.slots() as usize;
+        let seen = vec![in alloc; Seen::Blank; slots]?;
+        let cells = vec![in alloc; 0xff; slots * cell_bytes(shape)]?;
+        MemFlash::from_slots(alloc, shape, seen, cells)
+    }
+
+    /// A flash of this shape whose slots read this way. `cells` has for each slot its contents and then its
+    /// spare area: all 0xff where it is blank, and all 0x00 where it is damaged. Power is on, and nothing is
+    /// armed.
+    pub fn from_slots(
+        alloc: Global,
+        shape: Shape,
+        seen: Vec<Seen>,
+        cells: Vec<u8>,
+    ) -> Result<MemFlash, Memory>
+        requires shape { IsShape shape }
+        requires slots { length seen.items ≡ slots_of shape }
+        requires bytes { length cells.items ≡ slots_of shape * cell_bytes shape.page_bytes }
+        requires filled { AreFilled shape.page_bytes seen.items cells.items }
+        ensures { IfOk result (λ f.
+            f ≡ fresh shape (image_of shape.page_bytes seen.items cells.items)) }
+    {
         Ok(MemFlash {
-            shape,
-            seen: vec![in alloc; Seen::Blank; slots]?,
-            cells: vec![in alloc; 0xff; slots * cell_bytes(shape)]?,
+            slots: Slots::new(shape, seen, cells),
+            live: true,
+            armed: Armed {
+                cut: None,
+                fault: None,
+                bad_read: None,
+            },
             programs: 0,
             erases: 0,
+            reads: 0,
+            faults: 0,
+            room: vec![in alloc; 0; shape.dies as usize * cell_bytes(shape)]?,
         })
     }
 
@@ -57,29 +94,80 @@ impl MemFlash {
         requires { at.0 < slots_of self.now.shape }
         ensures { result ≡ seen_of (slot_at self.now.image at.0) }
     {
-        self.seen[at.0 as usize]
+        self.slots.seen(at)
     }
 
     /// The contents of a slot and then its spare area: all 0xff where the slot is blank, and all 0x00
     /// where it is damaged.
     pub fn cell(&self, at: Slot) -> &[u8]
         requires { at.0 < slots_of self.now.shape }
-        ensures bytes { result.now ≡ cell_of self.now.shape.page_bytes (slot_at self.now.image at.0) }
+        ensures bytes { result.now
+            ≡ cell_of self.now.shape.page_bytes (slot_at self.now.image at.0) }
         ensures whole { length result.now ≡ self.now.shape.page_bytes + 64 }
     {
-        cell_at(&self.cells, cell_bytes(self.shape), at.0 as usize)
+        self.slots.cell(at)
+    }
+
+    /// The number of reads that were asked for while power was on. It stands still at its type's end.
+    pub fn reads(&self) -> u64
+        ensures { result ≡ self.now.reads }
+    {
+        self.reads
+    }
+
+    /// The number of calls that were broken. It stands still at its type's end.
+    pub fn faults(&self) -> u64
+        ensures { result ≡ self.now.faults }
+    {
+        self.faults
+    }
+
+    /// Counts a program or an erase. Gives the outcome with which it is broken, if it is.
+    fn meet_arms(&mut self) -> Option<Outcome>
+        ensures broken { result ≡ broken_by self.old }
+        ensures met { self.new ≡ met self.old }
+        ensures later { self.old.faults ≤ self.new.faults }
+    {
+        if !self.live {
+            self.faults = self.faults.saturating_add(1);
+            return Some(Outcome::None);
+        }
+        let cut = count_down(&mut self.armed.cut);
+        let fault = count_down(&mut self.armed.fault);
+        self.live = cut.is_none();
+        let broken = cut.or(fault);
+        if broken.is_some() {
+            self.faults = self.faults.saturating_add(1);
+        }
+        broken
+    }
+
+    /// Counts a read. Tells whether it is broken.
+    fn meet_bad_read(&mut self) -> bool
+        ensures broken { result ≡ is_read_broken self.old }
+        ensures met { self.new ≡ after_read self.old }
+        ensures later { self.old.faults ≤ self.new.faults }
+    {
+        let broken = !self.live || count_read(&mut self.armed.bad_read);
+        if self.live {
+            self.reads = self.reads.saturating_add(1);
+        }
+        if broken {
+            self.faults = self.faults.saturating_add(1);
+        }
+        broken
     }
 }
 
 impl Flash for MemFlash {
-    ghost state = { unbroken };
+    ghost state = { state_of };
 
     fn shape(&self) -> Shape {
-        self.shape
+        self.slots.shape()
     }
 
     fn live(&self) -> bool {
-        true
+        self.live
     }
 
     fn programs(&self) -> u64 {
@@ -93,39 +181,94 @@ impl Flash for MemFlash {
     fn read(&mut self, at: Slot, into: &mut [u8], spare: &mut [u8; 64]) -> Result<Seen, Broken>
         requires exists { at.0 < slots_of self.old.shape }
         requires page { length into.old ≡ self.old.shape.page_bytes }
-        ensures reads { Reads (unbroken self.old) (unbroken self.new) at.0 into.new spare.new result }
-        ensures ok { IsOk result }
+        ensures next { self.new ≡ after_read self.old }
+        ensures answer { is_err result ≡ is_read_broken self.old }
+        ensures kept { OnErr result ((into.new ≡ into.old) × (spare.new ≡ spare.old)) }
+        ensures reads { Reads (state_of self.old) (state_of self.new)
+            at.0 into.new spare.new result }
     {
-        let at = at.0 as usize;
-        let cell = cell_at(&self.cells, cell_bytes(self.shape), at);
-        read_cell(cell, into, spare);
-        Ok(self.seen[at])
+        if self.meet_bad_read() {
+            return Err(Broken);
+        }
+        Ok(self.slots.read(at, into, spare))
     }
 
     fn program(&mut self, at: Slot, bytes: &[u8], spare: &[u8; 64]) -> Result<(), Broken>
-        requires blank { CanProgram (unbroken self.old) at.0 }
+        requires blank { CanProgram self.old.shape self.old.image at.0 }
         requires page { length bytes.now ≡ self.old.shape.page_bytes }
-        ensures programs { Programs (unbroken self.old) (unbroken self.new) at.0 bytes.now spare.now result }
-        ensures ok { IsOk result }
+        ensures next { self.new ≡ operated self.old (program at.0 bytes.now spare.now) }
+        ensures answer { result ≡ answered (broken_by self.old) }
+        ensures programs { Programs (state_of self.old) (state_of self.new)
+            at.0 bytes.now spare.now result }
     {
-        let at = at.0 as usize;
-        write_cell(&mut self.cells, at * cell_bytes(self.shape), bytes, spare);
-        self.seen[at] = Seen::Complete;
+        let broken = self.meet_arms();
+        let how = broken.unwrap_or(Outcome::All);
+        self.slots.program(at, bytes, spare, how);
+        if broken.is_some() {
+            return Err(Broken);
+        }
         self.programs = self.programs.saturating_add(1);
         Ok(())
     }
 
     fn erase(&mut self, block: Block) -> Result<(), Broken>
         requires { block.0 < blocks_of self.old.shape }
-        ensures erases { Erases (unbroken self.old) (unbroken self.new) block.0 result }
-        ensures ok { IsOk result }
+        ensures next { self.new ≡ operated self.old (erase block.0) }
+        ensures answer { result ≡ answered (broken_by self.old) }
+        ensures erases { Erases (state_of self.old) (state_of self.new) block.0 result }
     {
-        let size = cell_bytes(self.shape);
-        let slots = self.shape.pages_per_block as usize;
-        let first = block.0 as usize * slots;
-        mark_blank(&mut self.seen, first, slots);
-        fill_cells(&mut self.cells, first * size, slots * size);
+        let broken = self.meet_arms();
+        let how = broken.unwrap_or(Outcome::All);
+        self.slots.erase(block, how);
+        if broken.is_some() {
+            return Err(Broken);
+        }
         self.erases = self.erases.saturating_add(1);
         Ok(())
+    }
+}
+
+impl Power for MemFlash {
+    fn power_on(&mut self)
+        ensures exact { self.new ≡ record self.old { live = true } }
+        ensures power { TurnsOn (state_of self.old) (state_of self.new) }
+    {
+        self.live = true;
+    }
+}
+
+impl Arms for MemFlash {
+    fn arm_cut(&mut self, count: u32, outcome: Outcome)
+        requires { 1 ≤ count }
+        ensures exact { self.new ≡ record self.old {
+          armed = record self.old.armed {
+            cut = Some (record { count = count; outcome = outcome });
+          };
+        } }
+        ensures arms { ArmsCut (state_of self.old) (state_of self.new) count outcome }
+    {
+        self.armed.cut = Some(Arm { count, outcome });
+    }
+
+    fn arm_fault(&mut self, count: u32, outcome: Outcome)
+        requires { 1 ≤ count }
+        ensures exact { self.new ≡ record self.old {
+          armed = record self.old.armed {
+            fault = Some (record { count = count; outcome = outcome });
+          };
+        } }
+        ensures arms { ArmsFault (state_of self.old) (state_of self.new) count outcome }
+    {
+        self.armed.fault = Some(Arm { count, outcome });
+    }
+
+    fn arm_bad_read(&mut self, count: u32)
+        requires { 1 ≤ count }
+        ensures exact { self.new ≡ record self.old {
+          armed = record self.old.armed { bad_read = Some count };
+        } }
+        ensures arms { ArmsBadRead (state_of self.old) (state_of self.new) count }
+    {
+        self.armed.bad_read = Some(count);
     }
 }

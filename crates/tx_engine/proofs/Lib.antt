@@ -4,3 +4,4 @@ pub mod Places
 pub mod Refusals
 pub mod Stepping
 pub mod Writing
+pub mod Unbroken

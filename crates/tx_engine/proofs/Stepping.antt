@@ -1,8 +1,8 @@
 -- The transaction of a tag goes on: what the array machine says of it.
 use Rattle.std.proofs.Common.{◌≡◌, ℕ, zero, suc, ◌+◌, ◌<◌, Bool, true, false, cond, List, [], ◌∷◌, length, get_or, map, Some, None, Ok, Err, refl, ap, ◌∙◌, inl, inr, arith}
 use Rattle.std.specs.Prelude.{◌==◌, position, remove, slice_get, slice_set, option_map}
-use Rattle.tx_engine.specs.ArrayState.{ArrayState, Entry, Plain, Pages, has_tag, entry_of, without, opening}
-use Rattle.tx_engine.specs.Step.{Steps, settled, Settles}
+use Rattle.tx_engine.specs.ArrayState.{ArrayState, Entry, Pages, has_tag, entry_of, without, opening}
+use Rattle.tx_engine.specs.Step.{Steps, settled, settled_entry}
 use Rattle.tx_engine.specs.Tables.{entry_in, pages_at, standing_of, IsTabled}
 use Rattle.tx_engine.specs.declared.opened.Opened.{Opened}
 use Rattle.tx_engine.specs.declared.step.Progress.TheVariants.{Done}
@@ -29,18 +29,18 @@ abbrev pub standing : Pages → List Opened → ArrayState
 standing pages os = record { pages = pages; entries = map entry_in os }
 
 -- transactions that were just opened are settled
-settled_ones : (os : List Opened) → map entry_in os ≡ settled Plain (map entry_in os)
+settled_ones : (os : List Opened) → map (settled_entry false) (map entry_in os) ≡ map entry_in os
 settled_ones [] = refl
 settled_ones (o ∷ os) = ap (λ es. entry_in o ∷ es) (settled_ones os)
 
-stays_settled : (pages : Pages) (os : List Opened) → Settles (standing pages os) (standing pages os)
-stays_settled pages os = inl (ap (λ es. record { pages = pages; entries = es }) (settled_ones os))
+stays_settled : (pages : Pages) (os : List Opened) → settled false (standing pages os) ≡ standing pages os
+stays_settled pages os = ap (λ es. record { pages = pages; entries = es }) (settled_ones os)
 
 -- there is no transaction of this tag
 pub steps_unknown : (pages : Pages) (os : List Opened) (tag : ℕ) → position (λ o. o.tag == tag) os ≡ None →
     Steps (standing pages os) (standing pages os) tag (Err failed.Unknown)
 steps_unknown pages os tag h =
-    rw (find_map (has_tag tag) entry_in os, find_none (λ o. o.tag == tag) os h) (refl, refl)
+    (false, rw (find_map (has_tag tag) entry_in os, find_none (λ o. o.tag == tag) os h) (refl, refl))
 
 -- the entry of a tag
 pub entry_at : (os : List Opened) (tag at : ℕ) (o : Opened) → IsFirstAt (λ o. o.tag == tag) os at → slice_get os at ≡ Some o →
@@ -75,15 +75,14 @@ pub steps_fault : (pages : Pages) (os : List Opened) (tag at : ℕ) (o : Opened)
     IsFirstAt (λ o. o.tag == tag) os at → slice_get os at ≡ Some o →
     Steps (standing pages os) (standing pages os) tag (Err failed.Fault)
 steps_fault pages os tag at o first was =
-    rw (entry_at os tag at o first was) (standing pages os, stays_settled pages os, rw (entry_at os tag at o first was) (inl refl))
+    (false, rw (entry_at os tag at o first was) (inl refl))
 
 -- the array takes the page, and the transaction goes
 pub steps_done : (pages : Pages) (os : List Opened) (tag at : ℕ) (o : Opened) →
     IsFirstAt (λ o. o.tag == tag) os at → slice_get os at ≡ Some o →
     Steps (standing pages os) (standing (slice_set pages o.page (Some o.bytes.items)) (remove os at)) tag (Ok Done)
 steps_done pages os tag at o first was =
-    rw (entry_at os tag at o first was)
-    (standing pages os, stays_settled pages os, rw (entry_at os tag at o first was) (inr (refl, refl, rw (without_first os tag at first) refl)))
+    (false, rw (entry_at os tag at o first was) (inr (refl, refl, rw (settled_ones os, without_first os tag at first) refl)))
 
 -- a page that was written: what the machine says of it
 pub written_steps : {F : Type 0} (state : F → FlashState) (d : Inside F) (flash : F) (t : Tables) (tag at : ℕ) (home : Slot) (bytes spare : List ℕ) →
@@ -129,7 +128,7 @@ is_written state d flash t tag at home bytes spare done program first its_bytes 
   write = record { page = done.entry.page; bytes = done.entry.bytes.items };
   was = its_entry d.tables.opened.items tag at done.entry first done.was;
   program = rw (← its_bytes, ← its_spare) program;
-  image = program.done.0 ∙ ap (λ b. slice_set (state d.flash).image d.used (complete b spare)) its_bytes ∙ ap (λ s. slice_set (state d.flash).image d.used (complete done.entry.bytes.items s)) its_spare;
+  image = program.done.image ∙ ap (λ b. slice_set (state d.flash).image d.used (complete b spare)) its_bytes ∙ ap (λ s. slice_set (state d.flash).image d.used (complete done.entry.bytes.items s)) its_spare;
   mentions = done.mentions;
   used = refl;
 }

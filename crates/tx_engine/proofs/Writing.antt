@@ -1,13 +1,16 @@
 -- A page is written to the first slot that was not used: what the tables and the array keep.
-use Rattle.std.proofs.Common.{◌≡◌, ◌≢◌, ℕ, zero, suc, ◌+◌, ◌<◌, ◌≤◌, ◌^◌, List, [], ◌∷◌, length, take, drop, map, get_or, Option, Some, None, refl, ap, sym, ◌∙◌, subst, inl, inr, arith, get_or-set_other, get_or-set_same, length-set}
+use Rattle.std.proofs.Common.{◌≡◌, ◌≢◌, ℕ, zero, suc, ◌+◌, ◌<◌, ◌≤◌, ◌^◌, List, [], ◌∷◌, length, take, drop, map, get_or, Option, Some, None, refl, ap, sym, ◌∙◌, subst, arith, get_or-set_other, get_or-set_same, length-set}
 use Rattle.std.specs.Prelude.{slice_index, slice_get, slice_set, remove, All, AllPairs}
 use Rattle.std.proofs.lemmas.List.{map-set}
 use Rattle.std.proofs.lemmas.List.Elements.{All-append, All-take, All-drop, All-cons, All-set}
 use Rattle.std.proofs.lemmas.List.Quantifiers.{all_pairs_remove}
 use Rattle.tx_types.specs.declared.config.Slot.{Slot}
 use Rattle.tx_types.specs.Config.{slots_of, shape_of}
-use Rattle.flash_model.specs.Flash.{FlashState, Contents, blank, complete, slot_at}
-use Rattle.flash_model.specs.Calls.{TornProgram}
+use Rattle.tx_types.specs.declared.config.Shape.{Shape}
+use Rattle.flash_model.specs.Flash.{FlashState, Contents, blank, damaged, complete, slot_at}
+use Rattle.flash_model.specs.Operations.{program, image_left}
+use Rattle.flash_model.specs.declared.outcome.Outcome.{Outcome}
+use Rattle.flash_model.specs.declared.outcome.Outcome.TheVariants as outcome
 use Rattle.tx_engine.specs.Rooms.{Finishes}
 use Rattle.tx_engine.specs.Tables.{at_home, pages_at, IsHome, IsOpened, IsTabled}
 use Rattle.tx_engine.specs.declared.opened.Opened.{Opened}
@@ -21,10 +24,11 @@ set_blank (c ∷ cs) zero h = ap (λ c. c ∷ cs) (sym h)
 set_blank (c ∷ cs) (suc at) h = ap (λ cs. c ∷ cs) (set_blank cs at h)
 
 -- a broken program changes its slot alone
-pub changed_at : (image new : List Contents) (at : ℕ) (asked : Contents) → slot_at image at ≡ blank → TornProgram image at asked new → (c : Contents) × (new ≡ slice_set image at c)
-changed_at image new at asked h (inl same) = (blank, same ∙ sym (set_blank image at h))
-changed_at image new at asked h (inr (inl done)) = (asked, done)
-changed_at image new at asked h (inr (inr bad)) = (_, bad)
+pub changed_at : (shape : Shape) (image new : List Contents) (at : ℕ) (bytes spare : List ℕ) (how : Outcome) → slot_at image at ≡ blank →
+    new ≡ image_left shape image (program at bytes spare) how → (c : Contents) × (new ≡ slice_set image at c)
+changed_at shape image new at bytes spare outcome.None h left = (blank, left ∙ sym (set_blank image at h))
+changed_at shape image new at bytes spare outcome.All h left = (complete bytes spare, left)
+changed_at shape image new at bytes spare outcome.Bad h left = (damaged, left)
 
 elsewhere : (image : List Contents) (at k : ℕ) (c : Contents) → k ≢ at → slot_at (slice_set image at c) k ≡ slot_at image k
 elsewhere image at k c ne = rw get_or-set_other refl

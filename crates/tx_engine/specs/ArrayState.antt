@@ -1,5 +1,5 @@
 -- The array machine: pages, and transactions that are open. It knows nothing of slots, links or tables.
-use Rattle.std.specs.Prelude.{ℕ, ◌==◌, Bool, List, [], ◌∷◌, length, sum_by, find, slice_set, slice_index_or, Option, None, Some, if◌then◌else◌}
+use Rattle.std.specs.Prelude.{ℕ, ◌==◌, Bool, true, false, List, [], ◌∷◌, length, sum_by, find, slice_set, slice_index_or, Option, None, Some, if◌then◌else◌}
 use Rattle.tx_types.specs.Batch.{PageWrite}
 
 -- each logical page: its bytes, or none where it is blank
@@ -12,6 +12,11 @@ pub data Mark : Type 0 where
   Plain : Mark
   Doubt : Mark
   Whole : Mark
+
+abbrev pub is_doubted : Mark → Bool
+is_doubted Plain = false
+is_doubted Doubt = true
+is_doubted Whole = false
 
 -- an open transaction: its tag, what it writes, and how many of its pages are written
 pub record Entry : Type 0 where

@@ -1,4 +1,5 @@
 pub mod ArrayState
+pub mod Collect
 pub mod Device
 pub mod OnePage
 pub mod Read
@@ -6,3 +7,4 @@ pub mod Rooms
 pub mod Step
 pub mod Submit
 pub mod Tables
+pub mod Unbroken

@@ -1,6 +1,7 @@
 -- Going on with a transaction, giving it up, and what a power cut leaves of all of them.
-use Rattle.std.specs.Prelude.{◌≡◌, ◌≢◌, ◌⊎◌, ℕ, ◌+◌, ◌<◌, List, [], length, map, Contains, MatchOption, IsSomeAnd, Result, Ok, Err}
-use Rattle.tx_engine.specs.ArrayState.{ArrayState, Entry, Mark, Plain, Doubt, Whole, Pages, put, entry_of, without, with_entry}
+use Rattle.std.specs.Prelude.{◌≡◌, ◌≢◌, ◌⊎◌, ℕ, ◌+◌, ◌<◌, Bool, List, [], ◌∷◌, ◌++◌, length, map, Contains, MatchOption, Result, Ok, Err, if◌then◌else◌}
+use Rattle.tx_types.specs.Batch.{PageWrite}
+use Rattle.tx_engine.specs.ArrayState.{ArrayState, Entry, Mark, Plain, Doubt, Whole, Pages, is_doubted, put, entry_of, without, with_entry}
 use Rattle.tx_engine.specs.declared.step.Aborted.{Aborted}
 use Rattle.tx_engine.specs.declared.step.Aborted.TheVariants as aborted
 use Rattle.tx_engine.specs.declared.step.Progress.{Progress}
@@ -8,24 +9,27 @@ use Rattle.tx_engine.specs.declared.step.Progress.TheVariants as progress
 use Rattle.tx_engine.specs.declared.step.StepError.{StepError}
 use Rattle.tx_engine.specs.declared.step.StepError.TheVariants as failed
 
--- a mark, where Doubt is settled
-abbrev pub settled_mark : Mark → Mark → Mark
-settled_mark known Plain = Plain
-settled_mark known Doubt = known
-settled_mark known Whole = Whole
+-- the mark of a transaction of which it is known whether its last page is there
+abbrev pub settled_mark : Bool → Mark → Mark
+settled_mark there Plain = Plain
+settled_mark there Doubt = if there then Whole else Plain
+settled_mark there Whole = Whole
 
-abbrev pub settled_entry : Mark → Entry → Entry
-settled_entry known e = record e { mark = settled_mark known e.mark }
+abbrev pub settled_entry : Bool → Entry → Entry
+settled_entry there e = record e { mark = settled_mark there e.mark }
 
-abbrev pub settled : Mark → List Entry → List Entry
-settled known entries = map (settled_entry known) entries
+-- the writes of the transactions in doubt
+abbrev pub doubted : List Entry → List PageWrite
+doubted [] = []
+doubted (e ∷ es) = if is_doubted e.mark then e.writes ++ doubted es else doubted es
 
--- A state settles: a transaction in doubt turns out not to be there, or to be there, and then the array has
--- taken all its pages. There is at most one in doubt.
-abbrev pub Settles : ArrayState → ArrayState → Type 0
-Settles old new =
-    (new ≡ record old { entries = settled Plain old.entries })
-    ⊎ ((e : Entry) × Contains old.entries e × (e.mark ≡ Doubt) × (new ≡ record { pages = put old.pages e.writes; entries = settled Whole old.entries }))
+-- A state settles: it becomes known of what is in doubt whether it is there, and where it is, the array takes all
+-- its pages. A device has at most one transaction in doubt.
+abbrev pub settled : Bool → ArrayState → ArrayState
+settled there s = record {
+  pages = if there then put s.pages (doubted s.entries) else s.pages;
+  entries = map (settled_entry there) s.entries;
+}
 
 -- the transaction writes its last page next
 abbrev pub IsAtLast : Entry → Type 0
@@ -54,10 +58,13 @@ StepGives old mid tag e (Err failed.Unknown) new = ⊥
 StepGives old mid tag e (Err failed.Fault) new = FaultLeaves old mid tag e new
 
 -- a step of the transaction with a tag, where there is one: the state settles, and the transaction goes on
-abbrev pub Steps : ArrayState → ArrayState → ℕ → Result Progress StepError → Type 0
-Steps old new tag result =
+abbrev pub StepsAs : Bool → ArrayState → ArrayState → ℕ → Result Progress StepError → Type 0
+StepsAs there old new tag result =
     MatchOption (entry_of tag old.entries) ((result ≡ Err failed.Unknown) × (new ≡ old))
-    (λ _. (mid : ArrayState) × Settles old mid × IsSomeAnd (entry_of tag mid.entries) (λ e. StepGives old mid tag e result new))
+    (λ e. StepGives old (settled there old) tag (settled_entry there e) result new)
+
+abbrev pub Steps : ArrayState → ArrayState → ℕ → Result Progress StepError → Type 0
+Steps old new tag result = (there : Bool) × StepsAs there old new tag result
 
 abbrev pub AbortGives : ArrayState → ArrayState → ℕ → Entry → Result Aborted StepError → ArrayState → Type 0
 AbortGives old mid tag e (Ok aborted.Gone) new = (e.mark ≢ Whole) × (new ≡ record mid { entries = without tag mid.entries })
@@ -67,18 +74,20 @@ AbortGives old mid tag e (Err failed.Fault) new = new ≡ old
 
 -- the transaction with a tag is given up, where there is one: the state settles, and the transaction goes. It
 -- is too late where it turned out to be whole.
-abbrev pub Aborts : ArrayState → ArrayState → ℕ → Result Aborted StepError → Type 0
-Aborts old new tag result =
+abbrev pub AbortsAs : Bool → ArrayState → ArrayState → ℕ → Result Aborted StepError → Type 0
+AbortsAs there old new tag result =
     MatchOption (entry_of tag old.entries) ((result ≡ Err failed.Unknown) × (new ≡ old))
-    (λ _. (mid : ArrayState) × Settles old mid × IsSomeAnd (entry_of tag mid.entries) (λ e. AbortGives old mid tag e result new))
+    (λ e. AbortGives old (settled there old) tag (settled_entry there e) result new)
+
+abbrev pub Aborts : ArrayState → ArrayState → ℕ → Result Aborted StepError → Type 0
+Aborts old new tag result = (there : Bool) × AbortsAs there old new tag result
 
 -- the array as it was, or with the pages of a transaction of this kind
 abbrev pub MayTake : Pages → (Entry → Type 0) → Pages → Type 0
 MayTake old Q new = (new ≡ old) ⊎ ((e : Entry) × Q e × (new ≡ put old e.writes))
 
 -- What a power cut leaves, where `Q` are the open transactions whose last page may just have been written: no
--- transaction is open. The one in doubt may have been there, and then one of `Q`.
+-- transaction is open. What was in doubt may have been there, and then one of `Q`.
 abbrev pub CutLeaves : (Entry → Type 0) → ArrayState → ArrayState → Type 0
 CutLeaves Q old new =
-    (mid : Pages) × MayTake old.pages (λ e. Contains old.entries e × (e.mark ≡ Doubt)) mid
-    × MayTake mid (λ e. Contains old.entries e × Q e) new.pages × (new.entries ≡ [])
+    (there : Bool) × MayTake (settled there old).pages (λ e. Contains old.entries e × Q e) new.pages × (new.entries ≡ [])

@@ -1,6 +1,6 @@
 ghost use Rattle.std.specs.Prelude.{◌≡◌, ◌+◌, ◌^◌, ◌<◌, ◌≤◌, length, IsSome, IfOk, IsErrOf, OnOk, Err};
 ghost use Rattle.flash_model.specs.Calls.{Rose, Programs};
-ghost use Rattle.flash_model.specs.Flash.{CanProgram};
+ghost use Rattle.flash_model.specs.Operations.{CanProgram};
 ghost use Rattle.page_record.specs.Spelling.{CanBeSpelled, spelling};
 ghost use Rattle.tx_engine.specs.ArrayState.{entry_of};
 ghost use Rattle.tx_engine.specs.Device.{HasRoom};
@@ -101,7 +101,7 @@ fn program<F: Flash>(
     bytes: &[u8],
     rec: Rec,
 ) -> Result<(), Broken>
-    requires blank { CanProgram (F.state flash.old) at.0 }
+    requires blank { CanProgram (F.state flash.old).shape (F.state flash.old).image at.0 }
     requires page { length bytes.now ≡ (F.state flash.old).shape.page_bytes }
     requires spelled { CanBeSpelled protocol rec }
     ensures { Programs (F.state flash.old) (F.state flash.new) at.0 bytes.now (spelling protocol rec) result }

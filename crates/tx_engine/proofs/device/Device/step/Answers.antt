@@ -34,7 +34,7 @@ invariant_of-self g c =
     let d = c.self.inside in
     let state = g.F.Flash.state in
     let torn = rw c.in-Err.is at c.program.ensures.torn in
-    let changed = changed_at (state d.flash).image (state c.program.new.flash).image d.used _ (c.self.invariant.blank_on d.used (omega arith)) torn.0 in
+    let changed = changed_at (state d.flash).shape (state d.flash).image (state c.program.new.flash).image d.used _ _ torn.outcome (c.self.invariant.blank_on d.used (omega arith)) torn.image in
     tabled_fault state d c.program.new.flash changed.0 c.self.invariant c.program.ensures.carries.shape changed.1
 
 pub returns-in-Err-clause-steps : goal.returns-in-Err-clause-steps
@@ -42,7 +42,7 @@ returns-in-Err-clause-steps g c =
     let d = c.self.inside in
     let state = g.F.Flash.state in
     let torn = rw c.in-Err.is at c.program.ensures.torn in
-    let changed = changed_at (state d.flash).image (state c.program.new.flash).image d.used _ (c.self.invariant.blank_on d.used (omega arith)) torn.0 in
+    let changed = changed_at (state d.flash).shape (state d.flash).image (state c.program.new.flash).image d.used _ _ torn.outcome (c.self.invariant.blank_on d.used (omega arith)) torn.image in
     let o = c.index-opened.result.now in
     let found = place d.tables.opened.items c.args.tag c.in-Some.at o (sym c.position.ensures ∙ c.in-Some.is) c.index-opened.ensures in
     rw (← c.self.view_is, changed.1, pages_stay d.config.page_bytes (state d.flash).image d.used changed.0 d.tables.homes.items c.self.invariant.stand)
@@ -64,7 +64,7 @@ invariant_of-self-2 g c =
     let room = asked found.has_entry in
     let done = rw c.in_default-program.is at c.program.ensures.done in
     tabled_done g.F.Flash.state d c.program.new.flash c.finish.new.self c.in-Some.at _ _ _ c.self.invariant c.finish.ensures refl (omega (arith, room))
-    c.program.ensures.carries.shape done.0
+    c.program.ensures.carries.shape done.image
 
 pub returns-clause-steps : goal.returns-clause-steps
 returns-clause-steps g c =
@@ -78,7 +78,7 @@ returns-clause-steps g c =
     let bytes : o.bytes.items ≡ c.finish.ensures.entry.bytes.items = cc in
     rw (← c.self.view_is)
     (written_steps g.F.Flash.state d c.program.new.flash c.finish.new.self c.args.tag c.in-Some.at _ c.deref.result.now _ c.self.invariant c.finish.ensures refl (omega (arith, room))
-    done.0 found.first (c.deref.ensures.value ∙ bytes))
+    done.image found.first (c.deref.ensures.value ∙ bytes))
 
 pub returns-clause-written : goal.returns-clause-written
 returns-clause-written g c =

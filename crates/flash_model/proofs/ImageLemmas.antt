@@ -1,0 +1,127 @@
+-- What operations leave of an image.
+use Rattle.std.proofs.Common.{◌≡◌, ◌≢◌, ◌⊎◌, inl, inr, ℕ, ◌+◌, ◌*◌, ◌/◌, ◌<◌, ◌≤◌, Bool, true, false, List, [], ◌∷◌, ◌++◌, length, set, take, drop, replicate, refl, ap, sym, ◌∙◌, subst, arith}
+use Rattle.std.proofs.lemmas.List.{places, length-append, length-take, length-drop, length-replicate, length-set, get_or-set_other}
+use Rattle.std.proofs.lemmas.List.Elements.{All-append, All-take, All-drop, All-replicate, All-set, All-head, All-tail}
+use Rattle.std.proofs.lemmas.Bool.{cases_lt}
+use Rattle.std.proofs.Math.Nat.{mul-le-mul_right, div-eq_of_lt-le}
+use Rattle.tx_types.specs.Config.{slots_of, blocks_of}
+use Rattle.tx_types.specs.declared.config.Shape.{Shape}
+use Rattle.flash_model.specs.declared.outcome.Outcome.{Outcome}
+use Rattle.flash_model.specs.declared.outcome.Outcome.TheVariants as outcome
+use Rattle.flash_model.specs.Flash.{Contents, blank, damaged, complete, slot_at, IsWhole, IsImage}
+use Rattle.flash_model.specs.Operations.{Operation, program, erase, Moment, CanDo, block_of, with_block, image_after, image_left, after, Torn}
+use Rattle.flash_model.specs.Moves.{Does, Ends, Moves, StayOff}
+
+-- a block's slots end within all slots
+pub block_within : (shape : Shape) (block : ℕ) → block < blocks_of shape
+    → block * shape.pages_per_block + shape.pages_per_block ≤ slots_of shape
+block_within shape block below =
+    let wide : (block + 1) * shape.pages_per_block ≤ blocks_of shape * shape.pages_per_block = mul-le-mul_right shape.pages_per_block (omega arith) in
+    omega arith
+
+module _ (shape : Shape) (image : List Contents) (h : IsImage shape image) (block : ℕ) (below : block < blocks_of shape) (contents : Contents) where
+  abbrev per : ℕ
+  per = shape.pages_per_block
+
+  room : block * per + per ≤ length image
+  room = omega (arith, h.slots, block_within shape block below)
+
+  pub length-with_block : length (with_block shape image block contents) ≡ length image
+  length-with_block = simp (length-append, length-take, length-drop, length-replicate) (omega (arith, room))
+
+  -- the slots of the block hold these contents
+  pub slot_at-with_block_in : (k : ℕ) → block * per ≤ k → k < block * per + per
+      → slot_at (with_block shape image block contents) k ≡ contents
+  slot_at-with_block_in k low high = let r = room in grind (arith, places)
+
+  -- and the others what they held
+  pub slot_at-with_block_out : (k : ℕ) → (k < block * per) ⊎ (block * per + per ≤ k)
+      → slot_at (with_block shape image block contents) k ≡ slot_at image k
+  slot_at-with_block_out k (inl before) = let r = room in grind (arith, places)
+  slot_at-with_block_out k (inr behind) = let r = room in grind (arith, places)
+
+  pub IsImage-with_block : IsWhole shape.page_bytes contents → IsImage shape (with_block shape image block contents)
+  IsImage-with_block whole = record {
+    bounds = h.bounds;
+    slots = length-with_block ∙ h.slots;
+    whole = All-append (IsWhole shape.page_bytes) (take (block * per) image ++ replicate per contents) (drop ((block + 1) * per) image)
+        (All-append (IsWhole shape.page_bytes) (take (block * per) image) (replicate per contents)
+        (All-take (IsWhole shape.page_bytes) (block * per) image h.whole) (All-replicate (IsWhole shape.page_bytes) per contents whole))
+        (All-drop (IsWhole shape.page_bytes) ((block + 1) * per) image h.whole);
+  }
+
+IsImage-set : (shape : Shape) (image : List Contents) (at : ℕ) (contents : Contents) → IsImage shape image
+    → IsWhole shape.page_bytes contents → IsImage shape (set image at contents)
+IsImage-set shape image at contents h whole = record {
+  bounds = h.bounds;
+  slots = length-set image at contents ∙ h.slots;
+  whole = All-set (IsWhole shape.page_bytes) image at contents whole h.whole;
+}
+
+-- an operation leaves an image an image, however it ends
+pub IsImage-left : (shape : Shape) (image : List Contents) (o : Operation) (how : Outcome) → IsImage shape image → CanDo shape image o
+    → IsImage shape (image_left shape image o how)
+IsImage-left shape image o outcome.None h can = h
+IsImage-left shape image (program at bytes spare) outcome.All h can = IsImage-set shape image at (complete bytes spare) h (can.1, can.2)
+IsImage-left shape image (program at bytes spare) outcome.Bad h can = IsImage-set shape image at damaged h tt
+IsImage-left shape image (erase block) outcome.All h can = IsImage-with_block shape image h block can blank tt
+IsImage-left shape image (erase block) outcome.Bad h can = IsImage-with_block shape image h block can damaged tt
+
+pub IsImage-after : (shape : Shape) (image : List Contents) (o : Operation) → IsImage shape image → CanDo shape image o
+    → IsImage shape (image_after shape image o)
+IsImage-after shape image o h can = IsImage-left shape image o outcome.All h can
+
+pub IsImage-does : (shape : Shape) (a b : Moment) (list : List Operation) → IsImage shape a.image → Does shape a list b → IsImage shape b.image
+IsImage-does shape a b [] h does = subst (λ (m : Moment). IsImage shape m.image) (sym does) h
+IsImage-does shape a b (o ∷ rest) h does =
+    IsImage-does shape (after shape a o) b rest (IsImage-after shape a.image o h does.0) does.1
+
+IsImage-torn : (shape : Shape) (a b : Moment) (o : Operation) → IsImage shape a.image → CanDo shape a.image o → Torn shape a o b → IsImage shape b.image
+IsImage-torn shape a b o h can torn = subst (IsImage shape) (sym torn.image) (IsImage-left shape a.image o torn.outcome h can)
+
+IsImage-ends : (shape : Shape) (a b : Moment) (broken : Bool) → IsImage shape a.image → Ends shape a broken b → IsImage shape b.image
+IsImage-ends shape a b false h same = subst (λ (m : Moment). IsImage shape m.image) (sym same) h
+IsImage-ends shape a b true h (inl same) = subst (λ (m : Moment). IsImage shape m.image) (sym same) h
+IsImage-ends shape a b true h (inr torn) = IsImage-torn shape a b torn.0 h torn.1 torn.2
+
+-- and so do all operations of a call
+pub IsImage-moves : (shape : Shape) (a b : Moment) (broken : Bool) → IsImage shape a.image → Moves shape a broken b → IsImage shape b.image
+IsImage-moves shape a b broken h moves =
+    IsImage-ends shape moves.between b broken (IsImage-does shape a moves.between moves.done h moves.does) moves.ends
+
+-- a slot of another block lies before this block or behind it
+pub outside_block : (per block k : ℕ) → k / per ≢ block → (k < block * per) ⊎ (block * per + per ≤ k)
+outside_block per block k other =
+    elim (cases_lt k (block * per)) [
+      | inl before ↦ inl before
+      | inr from ↦ elim (cases_lt k (block * per + per)) [
+        | inl to ↦ absurd (other (div-eq_of_lt-le per from (let below : k < (block + 1) * per = omega arith in below)))
+        | inr behind ↦ inr behind
+      ]
+    ]
+
+-- an operation leaves the slots of other blocks, however it ends
+pub slot_at-left : (shape : Shape) (image : List Contents) (o : Operation) (how : Outcome) (k : ℕ) → IsImage shape image
+    → CanDo shape image o → block_of shape o ≢ k / shape.pages_per_block → slot_at (image_left shape image o how) k ≡ slot_at image k
+slot_at-left shape image o outcome.None k h can other = refl
+slot_at-left shape image (program at bytes spare) outcome.All k h can other =
+    get_or-set_other image at k (complete bytes spare) blank (λ same. other (ap (λ n. n / shape.pages_per_block) (sym same)))
+slot_at-left shape image (program at bytes spare) outcome.Bad k h can other =
+    get_or-set_other image at k damaged blank (λ same. other (ap (λ n. n / shape.pages_per_block) (sym same)))
+slot_at-left shape image (erase block) outcome.All k h can other =
+    slot_at-with_block_out shape image h block can blank k (outside_block shape.pages_per_block block k (λ same. other (sym same)))
+slot_at-left shape image (erase block) outcome.Bad k h can other =
+    slot_at-with_block_out shape image h block can damaged k (outside_block shape.pages_per_block block k (λ same. other (sym same)))
+
+pub slot_at-after : (shape : Shape) (image : List Contents) (o : Operation) (k : ℕ) → IsImage shape image
+    → CanDo shape image o → block_of shape o ≢ k / shape.pages_per_block → slot_at (image_after shape image o) k ≡ slot_at image k
+slot_at-after shape image o k h can other = slot_at-left shape image o outcome.All k h can other
+
+-- operations that stay off a block leave its slots
+pub slot_at-does : (shape : Shape) (a b : Moment) (list : List Operation) (k : ℕ) → IsImage shape a.image → Does shape a list b
+    → StayOff shape (k / shape.pages_per_block) list → slot_at b.image k ≡ slot_at a.image k
+slot_at-does shape a b [] k h does off = ap (λ (m : Moment). slot_at m.image k) does
+slot_at-does shape a b (o ∷ rest) k h does off =
+    slot_at-does shape (after shape a o) b rest k (IsImage-after shape a.image o h does.0) does.1
+    (All-tail (λ q. block_of shape q ≢ k / shape.pages_per_block) o rest off)
+    ∙ slot_at-after shape a.image o k h does.0 (All-head (λ q. block_of shape q ≢ k / shape.pages_per_block) o rest off)

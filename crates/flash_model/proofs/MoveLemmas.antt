@@ -1,0 +1,89 @@
+-- From one moment of a flash to another.
+use Rattle.std.proofs.Common.{◌≡◌, ℕ, Bool, true, false, List, [], ◌∷◌, ◌++◌, Result, Ok, Err, refl, sym, subst, inl, inr}
+use Rattle.std.specs.Result.{is_err}
+use Rattle.tx_types.specs.declared.config.Shape.{Shape}
+use Rattle.flash_model.specs.declared.flash.Broken.{Broken}
+use Rattle.flash_model.specs.declared.flash.Seen.{Seen}
+use Rattle.flash_model.specs.Flash.{FlashState, Contents}
+use Rattle.flash_model.specs.Operations.{Operation, Moment, moment_of, CanDo, after, Done, Torn}
+use Rattle.flash_model.specs.Moves.{Does, Ends, Moves, FlashMoves}
+use Rattle.flash_model.specs.Calls.{Reads, Operates}
+
+-- moments are equal that hold and have counted the same
+pub same_moments : (a b : Moment) → a.image ≡ b.image → a.programs ≡ b.programs → a.erases ≡ b.erases → a ≡ b
+same_moments a b image programs erases =
+    let moment : List Contents → ℕ → ℕ → Moment = λ i p e. record { image = i; programs = p; erases = e } in
+    let parts : moment a.image a.programs a.erases ≡ moment b.image b.programs b.erases = cc in
+    parts
+
+-- what is done in two parts is done
+pub Does-append : (shape : Shape) (a b c : Moment) (xs ys : List Operation) → Does shape a xs b → Does shape b ys c
+    → Does shape a (xs ++ ys) c
+Does-append shape a b c [] ys ab bc = subst (λ (m : Moment). Does shape m ys c) ab bc
+Does-append shape a b c (o ∷ rest) ys ab bc = (ab.0, Does-append shape (after shape a o) b c rest ys ab.1 bc)
+
+ends_nothing : (shape : Shape) (m : Moment) (broken : Bool) → Ends shape m broken m
+ends_nothing shape m true = inl refl
+ends_nothing shape m false = refl
+
+-- where nothing was done the moment is the same
+pub Moves-nothing : (shape : Shape) (m : Moment) (broken : Bool) → Moves shape m broken m
+Moves-nothing shape m broken = record { done = []; between = m; does = refl; ends = ends_nothing shape m broken }
+
+-- an operation that is done
+pub Moves-done : (shape : Shape) (old new : Moment) (o : Operation) → CanDo shape old.image o → Done shape old o new
+    → Moves shape old false new
+Moves-done shape old new o can done = record {
+  done = o ∷ [];
+  between = new;
+  does = (can, same_moments new (after shape old o) done.image done.programs done.erases);
+  ends = refl;
+}
+
+-- an operation that is broken
+pub Moves-torn : (shape : Shape) (old new : Moment) (o : Operation) → CanDo shape old.image o → Torn shape old o new
+    → Moves shape old true new
+Moves-torn shape old new o can torn = record { done = []; between = old; does = refl; ends = inr (o, can, torn) }
+
+-- operations that were done, and what comes after them
+pub Moves-after : (shape : Shape) (a b c : Moment) (list : List Operation) (broken : Bool) → Does shape a list b
+    → Moves shape b broken c → Moves shape a broken c
+Moves-after shape a b c list broken does moves = record {
+  done = list ++ moves.done;
+  between = moves.between;
+  does = Does-append shape a b moves.between list moves.done does moves.does;
+  ends = moves.ends;
+}
+
+-- a call that was not broken and then another
+pub Moves-then : (shape : Shape) (a b c : Moment) (broken : Bool) → Moves shape a false b → Moves shape b broken c
+    → Moves shape a broken c
+Moves-then shape a b c broken first second =
+    Moves-after shape a b c first.done broken (subst (λ (m : Moment). Does shape a first.done m) (sym first.ends) first.does) second
+
+-- what was done without a break may come before one
+pub Moves-broken : (shape : Shape) (a b : Moment) → Moves shape a false b → Moves shape a true b
+Moves-broken shape a b moves = Moves-then shape a b b true moves (Moves-nothing shape b true)
+
+-- the same from one state of a flash to another
+pub FlashMoves-nothing : (old new : FlashState) (broken : Bool) → moment_of new ≡ moment_of old → FlashMoves old new broken
+FlashMoves-nothing old new broken same =
+    subst (λ (m : Moment). Moves old.shape (moment_of old) broken m) (sym same) (Moves-nothing old.shape (moment_of old) broken)
+
+pub FlashMoves-then : (a b c : FlashState) (broken : Bool) → b.shape ≡ a.shape → FlashMoves a b false → FlashMoves b c broken
+    → FlashMoves a c broken
+FlashMoves-then a b c broken shape first second =
+    Moves-then a.shape (moment_of a) (moment_of b) (moment_of c) broken first
+    (subst (λ (s : Shape). Moves s (moment_of b) broken (moment_of c)) shape second)
+
+-- a read
+pub FlashMoves-reads : (old new : FlashState) (at : ℕ) (bytes spare : List ℕ) (result : Result Seen Broken) (broken : Bool)
+    → Reads old new at bytes spare result → FlashMoves old new broken
+FlashMoves-reads old new at bytes spare result broken reads =
+    FlashMoves-nothing old new broken (same_moments (moment_of new) (moment_of old) reads.image reads.programs reads.erases)
+
+-- a program or an erase
+pub FlashMoves-operates : (old new : FlashState) (o : Operation) (result : Result (Unit {0}) Broken)
+    → CanDo old.shape old.image o → Operates old new o result → FlashMoves old new (is_err result)
+FlashMoves-operates old new o (Ok done) can operates = Moves-done old.shape (moment_of old) (moment_of new) o can operates.done
+FlashMoves-operates old new o (Err broken) can operates = Moves-torn old.shape (moment_of old) (moment_of new) o can operates.torn

@@ -1,0 +1,33 @@
+-- How a flash gets from one moment to another: by operations, of which at most the last one is broken.
+use Rattle.std.specs.Prelude.{◌≡◌, ◌≢◌, ◌⊎◌, Bool, true, false, ℕ, List, [], ◌∷◌, All}
+use Rattle.tx_types.specs.declared.config.Shape.{Shape}
+use Rattle.flash_model.specs.Flash.{FlashState}
+use Rattle.flash_model.specs.Operations.{Operation, Moment, moment_of, CanDo, block_of, after, Torn}
+
+-- the operations are done in turn, each where it has what it needs
+abbrev pub Does : Shape → Moment → List Operation → Moment → Type 0
+Does shape old [] new = new ≡ old
+Does shape old (o ∷ rest) new = CanDo shape old.image o × Does shape (after shape old o) rest new
+
+-- one more operation is asked for, and broken
+abbrev pub LeavesTorn : Shape → Moment → Moment → Type 0
+LeavesTorn shape old new = (o : Operation) × CanDo shape old.image o × Torn shape old o new
+
+-- what comes after the operations that were done: nothing, or, where a call was broken, perhaps one that was broken
+abbrev pub Ends : Shape → Moment → Bool → Moment → Type 0
+Ends shape old false new = new ≡ old
+Ends shape old true new = (new ≡ old) ⊎ LeavesTorn shape old new
+
+pub record Moves (shape : Shape) (old : Moment) (broken : Bool) (new : Moment) : Type 0 where
+  pub done : List Operation
+  pub between : Moment
+  pub does : Does shape old done between
+  pub ends : Ends shape between broken new
+
+-- from one state of a flash to another
+abbrev pub FlashMoves : FlashState → FlashState → Bool → Type 0
+FlashMoves old new broken = Moves old.shape (moment_of old) broken (moment_of new)
+
+-- no operation works in this block
+abbrev pub StayOff : Shape → ℕ → List Operation → Type 0
+StayOff shape block list = All (λ o. block_of shape o ≢ block) list

@@ -1,0 +1,36 @@
+//! What holds of the calls of each flash. The functions do nothing: each is there for what it ensures.
+ghost use Rattle.std.specs.Prelude.{◌≡◌, Bool, false, Result};
+ghost use Rattle.std.specs.Result.{is_err};
+ghost use Rattle.tx_types.specs.declared.config.Shape.{Shape};
+ghost use Rattle.flash_model.specs.declared.flash.Broken.{Broken};
+ghost use Rattle.flash_model.specs.Flash.{FlashState, IsImage, IsSteady};
+ghost use Rattle.flash_model.specs.Operations.{Operation, Moment, CanDo};
+ghost use Rattle.flash_model.specs.Moves.{Moves, FlashMoves};
+ghost use Rattle.flash_model.specs.Calls.{Carries, Operates};
+
+/// A call that was not broken, and then another, keep together what each keeps, and move the flash together.
+pub fn calls_compose()
+    ensures keeps { (a b c : FlashState) (broken : Bool) →
+        Carries a b false → Carries b c broken → Carries a c broken }
+    ensures moves { (a b c : FlashState) (broken : Bool) → Carries a b false →
+        FlashMoves a b false → FlashMoves b c broken → FlashMoves a c broken }
+{}
+
+/// A program or an erase moves the flash by one operation, done or broken.
+pub fn operations_move()
+    ensures { (old new : FlashState) (o : Operation) (result : Result (Unit {0}) Broken) →
+        CanDo old.shape old.image o → Operates old new o result →
+        FlashMoves old new (is_err result) }
+{}
+
+/// An image stays one, whatever is done and however it is broken.
+pub fn images_stay()
+    ensures { (shape : Shape) (old new : Moment) (broken : Bool) →
+        IsImage shape old.image → Moves shape old broken new → IsImage shape new.image }
+{}
+
+/// No call is broken on a steady flash, which stays steady.
+pub fn steady_stays()
+    ensures { (old new : FlashState) (broken : Bool) →
+        IsSteady old → Carries old new broken → (broken ≡ false) × IsSteady new }
+{}

@@ -1,0 +1,151 @@
+-- What the slots are after the calls, by what these write.
+use Rattle.std.proofs.Common.{◌≡◌, ◌≢◌, ℕ, add-one, ◌+◌, ◌*◌, ◌<◌, ◌≤◌, ◌^◌, List, [], ◌++◌, length, get_or, set, take, drop, replicate, refl, ap, sym, ◌∙◌, arith}
+use Rattle.std.specs.Fork.{slice_chunk}
+use Rattle.std.proofs.lemmas.List.{length-set, length-replicate, get_or_read, set_split, append_assoc}
+use Rattle.std.proofs.Math.Nat.{mul-le-mul_right}
+use Rattle.tx_types.specs.Config.{IsShape, slots_of}
+use Rattle.tx_types.specs.declared.config.Shape.{Shape}
+use Rattle.flash_model.specs.declared.flash.Seen.{Seen}
+use Rattle.flash_model.specs.declared.flash.Seen.TheVariants.{Blank, Complete}
+use Rattle.flash_model.specs.Flash.{Contents, blank, complete, slot_at, IsImage}
+use Rattle.flash_model.specs.Operations.{with_block}
+use Rattle.flash_model.specs.Calls.{seen_of, page_of, spare_of}
+use Rattle.mem_flash.specs.Slots.{overwritten, cell_bytes, cell_of, contents_of, filler, image_of, IsFilled, AreFilled}
+use Rattle.mem_flash.specs.SlotsInside.{AreStored}
+use Rattle.mem_flash.specs.declared.slots.Slots.TheInside.{Inside}
+use Rattle.mem_flash.proofs.Chunks.{chunk_end}
+use Rattle.mem_flash.proofs.Images.{length-image_of, All-image_of, AreFilled-blank, image_of-blank, get_or-image_of, seen_of-contents_of, cell_of-contents_of, page_of-contents_of, spare_of-contents_of}
+use Rattle.mem_flash.proofs.Programmed.{image_of-programmed, AreFilled-programmed, length-programmed}
+use Rattle.mem_flash.proofs.Filled.{image_of-filled, AreFilled-filled, length-filled_states, length-filled_cells}
+
+-- the bytes of all slots are few
+pub all_bytes_fit : (shape : Shape) → IsShape shape → slots_of shape * cell_bytes shape.page_bytes < 2 ^ 32
+all_bytes_fit shape checked = omega arith
+
+-- new slots, all of them blank
+pub AreFilled-new : (shape : Shape) (states : List Seen) (cells : List ℕ) → states ≡ replicate (slots_of shape) Blank
+    → cells ≡ replicate (slots_of shape * cell_bytes shape.page_bytes) 255 → AreFilled shape.page_bytes states cells
+AreFilled-new shape states cells states_are cells_are =
+    rw (states_are, cells_are) (AreFilled-blank shape.page_bytes (slots_of shape))
+
+pub image_of-all_blank : (shape : Shape) (states : List Seen) (cells : List ℕ) → states ≡ replicate (slots_of shape) Blank
+    → image_of shape.page_bytes states cells ≡ replicate (slots_of shape) blank
+image_of-all_blank shape states cells states_are = rw states_are (image_of-blank shape.page_bytes (slots_of shape) cells)
+
+module _ (f : Inside) (stored : AreStored f) where
+  abbrev page : ℕ
+  page = f.shape.page_bytes
+
+  abbrev size : ℕ
+  size = cell_bytes f.shape.page_bytes
+
+  abbrev states : List Seen
+  states = f.seen.items
+
+  abbrev cells : List ℕ
+  cells = f.cells.items
+
+  bytes_long : length cells ≡ length states * size
+  bytes_long = stored.bytes ∙ ap (λ (n : ℕ). n * size) (sym stored.slots)
+
+  pub cell_within : (at : ℕ) → at < slots_of f.shape → at * size + size ≤ length cells
+  cell_within at below =
+      let ends : at * size + size ≤ slots_of f.shape * size = chunk_end size at (slots_of f.shape) below in
+      rw stored.bytes ends
+
+  pub cells_within : (i m : ℕ) → i + m ≤ slots_of f.shape → i * size + m * size ≤ length cells
+  cells_within i m within =
+      let ends : (i + m) * size ≤ slots_of f.shape * size = mul-le-mul_right size within in
+      rw stored.bytes (omega arith)
+
+  pub place_fits : (at : ℕ) → at < slots_of f.shape → at * size < 2 ^ 32
+  place_fits at below =
+      let ends : at * size + size ≤ slots_of f.shape * size = chunk_end size at (slots_of f.shape) below in
+      omega (arith, all_bytes_fit f.shape stored.shape)
+
+  pub IsImage-stored : IsImage f.shape (image_of page states cells)
+  IsImage-stored = record {
+    bounds = stored.shape;
+    slots = length-image_of page states cells ∙ stored.slots;
+    whole = All-image_of page states cells bytes_long;
+  }
+
+  -- what a slot shows
+  module _ (at : ℕ) (below : at < slots_of f.shape) where
+    abbrev state : Seen
+    state = get_or states at Blank
+
+    abbrev cell : List ℕ
+    cell = slice_chunk cells size at
+
+    is : slot_at (image_of page states cells) at ≡ contents_of page state cell
+    is = get_or-image_of page states cells at blank (rw stored.slots below)
+
+    filled : IsFilled page state cell
+    filled = stored.filled at (rw stored.slots below)
+
+    pub seen_of-slot : (how : Seen) → how ≡ get_or states at how → how ≡ seen_of (slot_at (image_of page states cells) at)
+    seen_of-slot how read =
+        rw is (get_or_read states at how (rw stored.slots below) read Blank ∙ sym (seen_of-contents_of page state cell))
+
+    pub cell_of-slot : cell_of page (slot_at (image_of page states cells) at) ≡ cell
+    cell_of-slot = rw is (cell_of-contents_of page state cell filled)
+
+    pub page_of-slot : page_of page (slot_at (image_of page states cells) at) ≡ take page cell
+    page_of-slot = rw is (page_of-contents_of page state cell filled)
+
+    pub spare_of-slot : spare_of (slot_at (image_of page states cells) at) ≡ drop page cell
+    spare_of-slot = rw is (spare_of-contents_of page state cell filled)
+
+  -- after a program
+  module _ (at : ℕ) (bytes spare : List ℕ) (below : at < slots_of f.shape) (whole : length bytes ≡ page) (tail : length spare ≡ 64) where
+    inside : at < length states
+    inside = rw stored.slots below
+
+    pub image-programmed : (new_states : List Seen) (new_cells : List ℕ)
+        → new_states ≡ set states at Complete → new_cells ≡ overwritten cells (at * size) (bytes ++ spare)
+        → image_of page new_states new_cells ≡ set (image_of page states cells) at (complete bytes spare)
+    image-programmed new_states new_cells states_are cells_are =
+        rw (states_are, cells_are) (image_of-programmed page states cells bytes_long at bytes spare inside whole tail)
+
+    pub AreStored-programmed : (g : Inside) → g.shape ≡ f.shape
+        → g.seen.items ≡ set states at Complete → g.cells.items ≡ overwritten cells (at * size) (bytes ++ spare) → AreStored g
+    AreStored-programmed g same states_are cells_are = record {
+      shape = rw same stored.shape;
+      slots = rw (states_are, same) (length-set states at Complete ∙ stored.slots);
+      bytes = rw (cells_are, same) (length-programmed page states cells bytes_long at bytes spare inside whole tail ∙ stored.bytes);
+      filled = rw (states_are, cells_are, same) (AreFilled-programmed page states cells bytes_long at bytes spare inside whole tail stored.filled);
+    }
+
+  -- after the m slots from slot i on have lost their contents
+  module _ (i m : ℕ) (how : Seen) (within : i + m ≤ slots_of f.shape) (bare : how ≢ Complete) where
+    all_inside : i + m ≤ length states
+    all_inside = rw stored.slots within
+
+    pub image-filled : (new_states : List Seen) (new_cells : List ℕ)
+        → new_states ≡ overwritten states i (replicate m how) → new_cells ≡ overwritten cells (i * size) (replicate (m * size) (filler how))
+        → image_of page new_states new_cells ≡ overwritten (image_of page states cells) i (replicate m (contents_of page how []))
+    image-filled new_states new_cells states_are cells_are =
+        rw (states_are, cells_are) (image_of-filled page states cells bytes_long i m all_inside how bare)
+
+    pub AreStored-filled : (g : Inside) → g.shape ≡ f.shape
+        → g.seen.items ≡ overwritten states i (replicate m how) → g.cells.items ≡ overwritten cells (i * size) (replicate (m * size) (filler how))
+        → AreStored g
+    AreStored-filled g same states_are cells_are = record {
+      shape = rw same stored.shape;
+      slots = rw (states_are, same) (length-filled_states page states cells bytes_long i m all_inside how bare ∙ stored.slots);
+      bytes = rw (cells_are, same) (length-filled_cells page states cells bytes_long i m all_inside how bare ∙ stored.bytes);
+      filled = rw (states_are, cells_are, same) (AreFilled-filled page states cells bytes_long i m all_inside how bare stored.filled);
+    }
+
+-- one slot written over, and the slots of a block
+pub overwritten-one : (image : List Contents) (at : ℕ) (contents : Contents) → at < length image
+    → overwritten image at (replicate 1 contents) ≡ set image at contents
+overwritten-one image at contents below = rw (set_split image at contents below, add-one) refl
+
+pub overwritten-with_block : (shape : Shape) (image : List Contents) (block : ℕ) (contents : Contents)
+    → overwritten image (block * shape.pages_per_block) (replicate shape.pages_per_block contents) ≡ with_block shape image block contents
+overwritten-with_block shape image block contents =
+    let end : block * shape.pages_per_block + shape.pages_per_block ≡ (block + 1) * shape.pages_per_block = omega arith in
+    rw (length-replicate, end)
+    (sym (append_assoc (take (block * shape.pages_per_block) image) (replicate shape.pages_per_block contents) (drop ((block + 1) * shape.pages_per_block) image)))

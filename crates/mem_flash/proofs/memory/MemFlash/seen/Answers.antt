@@ -1,7 +1,0 @@
-use Rattle.mem_flash.proofs.Stored.{seen_of-slot}
-use Rattle.mem_flash.proofs.memory.MemFlash.seen.Goals as goal
-
-pub returns : goal.returns
-returns c =
-    let below = rw (← c.self.view_is) at c.requires in
-    rw (← c.self.view_is) (seen_of-slot c.self.inside c.self.invariant c.args.at.0 below _ c.index.ensures)

@@ -1,0 +1,24 @@
+use Rattle.std.proofs.Common.{List, ap, refl, arith, rules}
+use Rattle.std.proofs.lemmas.List.{with_items_is}
+use Rattle.flash_model.specs.Flash.{Contents}
+use Rattle.mem_flash.specs.Slots.{SlotImage}
+use Rattle.mem_flash.proofs.Kept.{AreStored-programmed, image-programmed}
+use Rattle.mem_flash.proofs.slots.Slots.write.Goals as goal
+
+pub invariant_of-self : goal.invariant_of-self
+invariant_of-self c =
+    let below = rw (← c.self.view_is) at c.requires.exists in
+    let page = rw (← c.self.view_is) at c.requires.page in
+    let written = with_items_is c.self.inside.cells c.write_cell.new.cells (omega arith) in
+    AreStored-programmed c.self.inside c.self.invariant c.args.at c.args.bytes.now c.args.spare.now below page (omega arith)
+    _ refl (search rules) (cc)
+
+pub returns : goal.returns
+returns c =
+    let below = rw (← c.self.view_is) at c.requires.exists in
+    let page = rw (← c.self.view_is) at c.requires.page in
+    let written = with_items_is c.self.inside.cells c.write_cell.new.cells (omega arith) in
+    let slots : List Contents → SlotImage = λ image. record { shape = c.self.inside.shape; image = image } in
+    rw (← c.self.view_is)
+    (ap slots (image-programmed c.self.inside c.self.invariant c.args.at c.args.bytes.now c.args.spare.now below page (omega arith)
+    _ _ (search rules) (cc)))

@@ -1,0 +1,75 @@
+-- When a call of a flash in memory is broken, and what the flash is after each call.
+use Rattle.std.specs.Prelude.{ℕ, ◌-◌, Bool, false, ◌&&◌, ◌||◌, not, nat_le, Option, None, Some, is_none, is_some, unwrap_or, Result, Ok, Err, if◌then◌else◌}
+use Rattle.std.specs.Option.{option_or}
+use Rattle.flash_model.specs.declared.flash.Broken.{Broken}
+use Rattle.flash_model.specs.declared.outcome.Arm.{Arm}
+use Rattle.flash_model.specs.declared.outcome.Outcome.{Outcome}
+use Rattle.flash_model.specs.declared.outcome.Outcome.TheVariants as outcome
+use Rattle.flash_model.specs.Flash.{counted}
+use Rattle.flash_model.specs.Operations.{Operation, image_left, programs_after, erases_after}
+use Rattle.mem_flash.specs.Memory.{MemoryState}
+use Rattle.mem_flash.specs.declared.armed.Armed.{Armed}
+
+-- an arm with this count comes due at the next call that it counts
+abbrev pub is_next : ℕ → Bool
+is_next count = nat_le count 1
+
+-- the outcome with which an arm comes due at the next operation
+abbrev pub due : Option Arm → Option Outcome
+due None = None
+due (Some arm) = if is_next arm.count then Some arm.outcome else None
+
+-- an arm once it has counted an operation: it is spent where it came due
+abbrev pub counted_down : Option Arm → Option Arm
+counted_down None = None
+counted_down (Some arm) = if is_next arm.count then None else Some (record arm { count = arm.count - 1 })
+
+-- the same of the arm of a bad read
+abbrev pub is_due : Option ℕ → Bool
+is_due None = false
+is_due (Some count) = is_next count
+
+abbrev pub read_down : Option ℕ → Option ℕ
+read_down None = None
+read_down (Some count) = if is_next count then None else Some (count - 1)
+
+-- both arms of operations count each one, also where the other comes due
+abbrev pub operation_down : Armed → Armed
+operation_down armed = record armed { cut = counted_down armed.cut; fault = counted_down armed.fault }
+
+-- The outcome with which the next program or erase is broken, none where it will be done. Where a cut and a fault come
+-- due the cut decides, and without power all stays as before.
+abbrev pub broken_by : MemoryState → Option Outcome
+broken_by s = if s.live then option_or (due s.armed.cut) (due s.armed.fault) else Some outcome.None
+
+abbrev pub answered : Option Outcome → Result (Unit {0}) Broken
+answered None = Ok tt
+answered (Some how) = Err (record {})
+
+-- the flash once a program or an erase has met the arms, which count while power is on
+abbrev pub met : MemoryState → MemoryState
+met s = record s {
+  live = s.live && is_none (due s.armed.cut);
+  faults = if is_some (broken_by s) then counted s.faults else s.faults;
+  armed = if s.live then operation_down s.armed else s.armed;
+}
+
+-- the flash after a program or an erase
+abbrev pub operated : MemoryState → Operation → MemoryState
+operated s o = record (met s) {
+  image = image_left s.shape s.image o (unwrap_or (broken_by s) outcome.All);
+  programs = if is_some (broken_by s) then s.programs else programs_after o s.programs;
+  erases = if is_some (broken_by s) then s.erases else erases_after o s.erases;
+}
+
+-- the next read is broken: it is the one that is to fail, or power is off
+abbrev pub is_read_broken : MemoryState → Bool
+is_read_broken s = not s.live || is_due s.armed.bad_read
+
+-- the flash after a read, which is counted while power is on
+abbrev pub after_read : MemoryState → MemoryState
+after_read s = record s {
+  faults = if is_read_broken s then counted s.faults else s.faults;
+  reads = if s.live then counted s.reads else s.reads;
+  armed = if s.live then record s.armed { bad_read = read_down s.armed.bad_read } else s.armed;
+}

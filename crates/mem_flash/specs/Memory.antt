@@ -1,0 +1,61 @@
+-- What a flash in memory is.
+use Rattle.std.specs.Prelude.{ℕ, ◌+◌, Bool, true, List, replicate, Option, None, Some}
+use Rattle.tx_types.specs.Config.{slots_of}
+use Rattle.tx_types.specs.declared.config.Shape.{Shape}
+use Rattle.flash_model.specs.Flash.{FlashState, Told, Contents, blank}
+use Rattle.mem_flash.specs.declared.armed.Armed.{Armed}
+
+-- as each flash, and what is armed
+pub record MemoryState : Type 0 where
+  pub shape : Shape
+  pub image : List Contents
+  pub live : Bool
+  pub faults : ℕ
+  pub programs : ℕ
+  pub erases : ℕ
+  pub reads : ℕ
+  pub armed : Armed
+
+-- how many breaks an arm will give
+abbrev pub breaks_of : {T : Type 0} → Option T → ℕ
+breaks_of None = 0
+breaks_of (Some arm) = 1
+
+-- one cut may come where one is armed, and a fault for each of the two other arms
+abbrev pub told_of : Armed → Told
+told_of armed = record {
+  cuts = breaks_of armed.cut;
+  breaks = breaks_of armed.fault + breaks_of armed.bad_read;
+  cut = armed.cut;
+  fault = armed.fault;
+  bad_read = armed.bad_read;
+}
+
+abbrev pub state_of : MemoryState → FlashState
+state_of s = record {
+  shape = s.shape;
+  image = s.image;
+  live = s.live;
+  faults = s.faults;
+  programs = s.programs;
+  erases = s.erases;
+  reads = s.reads;
+  told = Some (told_of s.armed);
+}
+
+-- a flash with these slots that is live, has counted nothing, and has nothing armed
+abbrev pub fresh : Shape → List Contents → MemoryState
+fresh shape image = record {
+  shape = shape;
+  image = image;
+  live = true;
+  faults = 0;
+  programs = 0;
+  erases = 0;
+  reads = 0;
+  armed = record { cut = None; fault = None; bad_read = None };
+}
+
+-- a new flash, all slots of which are blank
+abbrev pub blank_flash : Shape → MemoryState
+blank_flash shape = fresh shape (replicate (slots_of shape) blank)

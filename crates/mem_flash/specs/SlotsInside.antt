@@ -1,0 +1,15 @@
+-- How the slots of a flash are kept.
+use Rattle.std.specs.Prelude.{◌≡◌, ◌*◌, length}
+use Rattle.tx_types.specs.Config.{IsShape, slots_of}
+use Rattle.mem_flash.specs.Slots.{SlotImage, cell_bytes, image_of, AreFilled}
+use Rattle.mem_flash.specs.declared.slots.Slots.TheInside.{Inside}
+
+abbrev pub slots_in : Inside → SlotImage
+slots_in s = record { shape = s.shape; image = image_of s.shape.page_bytes s.seen.items s.cells.items }
+
+-- there is one state for each slot, and the bytes of each, which fit how it reads
+pub record AreStored (s : Inside) : Type 0 where
+  pub shape : IsShape s.shape
+  pub slots : length s.seen.items ≡ slots_of s.shape
+  pub bytes : length s.cells.items ≡ slots_of s.shape * cell_bytes s.shape.page_bytes
+  pub filled : AreFilled s.shape.page_bytes s.seen.items s.cells.items

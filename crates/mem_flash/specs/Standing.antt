@@ -1,0 +1,21 @@
+-- How a flash in memory is kept.
+use Rattle.std.specs.Prelude.{◌≡◌, ◌*◌, length}
+use Rattle.mem_flash.specs.Memory.{MemoryState}
+use Rattle.mem_flash.specs.Slots.{cell_bytes}
+use Rattle.mem_flash.specs.declared.memory.MemFlash.TheInside.{Inside}
+
+abbrev pub memory_of : Inside → MemoryState
+memory_of f = record {
+  shape = f.slots.shape;
+  image = f.slots.image;
+  live = f.live;
+  faults = f.faults;
+  programs = f.programs;
+  erases = f.erases;
+  reads = f.reads;
+  armed = f.armed;
+}
+
+-- there is room for the contents and the spare area of a slot on each die
+abbrev pub HasRoom : Inside → Type 0
+HasRoom f = length f.room.items ≡ f.slots.shape.dies * cell_bytes f.slots.shape.page_bytes

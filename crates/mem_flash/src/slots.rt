@@ -1,0 +1,147 @@
+ghost use Rattle.std.specs.Prelude.{◌≡◌, ◌≢◌, [], ◌<◌, ◌≤◌, ◌+◌, ◌*◌, length, replicate, slice_set};
+ghost use Rattle.tx_types.specs.Config.{IsShape, slots_of, blocks_of};
+ghost use Rattle.flash_model.specs.Flash.{complete, slot_at, IsImage};
+ghost use Rattle.flash_model.specs.Operations.{program, erase, image_left};
+ghost use Rattle.flash_model.specs.Calls.{Shows, seen_of};
+ghost use Rattle.mem_flash.specs.Slots.{cell_of, cell_bytes, contents_of, image_of, overwritten, AreFilled};
+ghost use Rattle.flash_model.specs.declared.flash.Seen.TheVariants as seen;
+
+use crate::cells::{cell_at, cell_bytes, fill_cells, filler, mark, read_cell, write_cell};
+use flash_model::{Outcome, Seen};
+use std::marker::Model;
+use tx_types::{Block, Shape, Slot};
+
+/// The slots of a flash.
+#[derive(Debug, Drop)]
+pub struct Slots {
+    shape: Shape,
+    /// How each slot reads.
+    seen: Vec<Seen>,
+    /// For each slot its contents and then its spare area: all 0xff where it is blank, and all 0x00
+    /// where it is damaged.
+    cells: Vec<u8>,
+}
+
+impl Model for Slots {
+    ghost use Rattle.mem_flash.specs.Slots.{SlotImage};
+
+    ghost Value = { SlotImage };
+
+    ghost use Rattle.mem_flash.specs.SlotsInside.{slots_in, AreStored};
+
+    ghost view = { slots_in };
+
+    ghost invariant = { AreStored };
+}
+
+impl Slots {
+    /// Slots that read this way and have these bytes.
+    pub fn new(shape: Shape, seen: Vec<Seen>, cells: Vec<u8>) -> Slots
+        requires shape { IsShape shape }
+        requires slots { length seen.items ≡ slots_of shape }
+        requires bytes { length cells.items ≡ slots_of shape * cell_bytes shape.page_bytes }
+        requires filled { AreFilled shape.page_bytes seen.items cells.items }
+        ensures { result ≡ record {
+          shape = shape;
+          image = image_of shape.page_bytes seen.items cells.items;
+        } }
+    {
+        Slots { shape, seen, cells }
+    }
+
+    pub fn shape(&self) -> Shape
+        ensures shape { result ≡ self.now.shape }
+        ensures image { IsImage self.now.shape self.now.image }
+    {
+        self.shape
+    }
+
+    /// How a slot reads.
+    pub fn seen(&self, at: Slot) -> Seen
+        requires { at.0 < slots_of self.now.shape }
+        ensures { result ≡ seen_of (slot_at self.now.image at.0) }
+    {
+        self.seen[at.0 as usize]
+    }
+
+    /// The contents of a slot and then its spare area.
+    pub fn cell(&self, at: Slot) -> &[u8]
+        requires { at.0 < slots_of self.now.shape }
+        ensures bytes { result.now
+            ≡ cell_of self.now.shape.page_bytes (slot_at self.now.image at.0) }
+        ensures whole { length result.now ≡ self.now.shape.page_bytes + 64 }
+    {
+        cell_at(&self.cells, cell_bytes(self.shape), at.0 as usize)
+    }
+
+    /// Copies a slot's contents and its spare area, and tells how it reads.
+    pub fn read(&self, at: Slot, into: &mut [u8], spare: &mut [u8; 64]) -> Seen
+        requires exists { at.0 < slots_of self.now.shape }
+        requires page { length into.old ≡ self.now.shape.page_bytes }
+        ensures { let contents = slot_at self.now.image at.0 in
+            Shows self.now.shape.page_bytes contents result into.new spare.new }
+    {
+        let at = at.0 as usize;
+        let cell = cell_at(&self.cells, cell_bytes(self.shape), at);
+        read_cell(cell, into, spare);
+        self.seen[at]
+    }
+
+    /// Programs a slot, with this outcome.
+    pub fn program(&mut self, at: Slot, bytes: &[u8], spare: &[u8; 64], how: Outcome)
+        requires exists { at.0 < slots_of self.old.shape }
+        requires page { length bytes.now ≡ self.old.shape.page_bytes }
+        ensures { self.new ≡ record self.old {
+          image = image_left self.old.shape self.old.image (program at.0 bytes.now spare.now) how;
+        } }
+    {
+        match how {
+            Outcome::None => {}
+            Outcome::All => self.write(at.0 as usize, bytes, spare),
+            Outcome::Bad => self.fill(at.0 as usize, 1, Seen::Damaged),
+        }
+    }
+
+    /// Erases a block, with this outcome.
+    pub fn erase(&mut self, block: Block, how: Outcome)
+        requires { block.0 < blocks_of self.old.shape }
+        ensures { self.new ≡ record self.old {
+          image = image_left self.old.shape self.old.image (erase block.0) how;
+        } }
+    {
+        let slots = self.shape.pages_per_block as usize;
+        let first = block.0 as usize * slots;
+        match how {
+            Outcome::None => {}
+            Outcome::All => self.fill(first, slots, Seen::Blank),
+            Outcome::Bad => self.fill(first, slots, Seen::Damaged),
+        }
+    }
+
+    /// Writes the contents and the spare area of a slot, which is complete then.
+    fn write(&mut self, at: usize, bytes: &[u8], spare: &[u8; 64])
+        requires exists { at < slots_of self.old.shape }
+        requires page { length bytes.now ≡ self.old.shape.page_bytes }
+        ensures { self.new ≡ record self.old {
+          image = slice_set self.old.image at (complete bytes.now spare.now);
+        } }
+    {
+        write_cell(&mut self.cells, at * cell_bytes(self.shape), bytes, spare);
+        self.seen[at] = Seen::Complete;
+    }
+
+    /// Takes the contents of this many slots away, from one on. They are blank or damaged then.
+    fn fill(&mut self, first: usize, count: usize, how: Seen)
+        requires exist { first + count ≤ slots_of self.old.shape }
+        requires bare { how ≢ seen.Complete }
+        ensures slots { length self.old.image ≡ slots_of self.old.shape }
+        ensures filled { self.new ≡ record self.old {
+          image = overwritten self.old.image first
+              (replicate count (contents_of self.old.shape.page_bytes how []));
+        } }
+    {
+        let size = cell_bytes(self.shape);
+        mark(&mut self.seen, first, count, how);
+        fill_cells(&mut self.cells, first * size, count * size, filler(how));
+    }
+}

@@ -1,0 +1,21 @@
+-- Collecting a block, and what a device tells of its array.
+use Rattle.std.specs.Prelude.{◌≡◌, ◌⊎◌, Bool, length, count_by, is_some, Result, Ok, Err}
+use Rattle.tx_types.specs.declared.stats.Stats.{Stats}
+use Rattle.tx_engine.specs.ArrayState.{ArrayState, pages_in}
+use Rattle.tx_engine.specs.Step.{settled}
+use Rattle.tx_engine.specs.declared.collect.Collected.{Collected}
+use Rattle.tx_engine.specs.declared.collect.Fault.{Fault}
+
+-- A block is collected, or there is none to collect, and the state settles. A fault leaves it as before or settled.
+abbrev pub CollectsAs : Bool → ArrayState → ArrayState → Result Collected Fault → Type 0
+CollectsAs there old new (Ok collected) = new ≡ settled there old
+CollectsAs there old new (Err fault) = (new ≡ old) ⊎ (new ≡ settled there old)
+
+abbrev pub Collects : ArrayState → ArrayState → Result Collected Fault → Type 0
+Collects old new result = (there : Bool) × CollectsAs there old new result
+
+-- the numbers that the array and the open transactions give; the others are those of the flash
+pub record TellsStats (s : ArrayState) (told : Stats) : Type 0 where
+  pub written : told.written ≡ count_by is_some s.pages
+  pub tags : told.tags ≡ length s.entries
+  pub pending : told.pending ≡ pages_in s.entries
