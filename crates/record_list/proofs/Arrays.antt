@@ -1,9 +1,9 @@
 -- What the four changes do to the array that a list with bytes stands for, from what they keep of its records.
-use Rattle.std.proofs.Common.{◌≡◌, ℕ, zero, suc, ◌+◌, ◌<◌, ◌≤◌, ◌⊎◌, Bool, true, false, ◌||◌, Some, None, List, [], ◌∷◌, ◌++◌, map, All, refl, sym, ap, ◌∙◌, subst, inl, inr, arith}
+use Rattle.std.proofs.Common.{◌≡◌, ℕ, zero, suc, ◌+◌, ◌<◌, ◌≤◌, ◌⊎◌, true, false, Some, None, List, [], ◌∷◌, map, All, refl, sym, ap, ◌∙◌, subst, inl, inr, arith}
 use Rattle.std.specs.Prelude.{find}
 use Rattle.std.specs.List.{range_with_len}
 use Rattle.std.specs.Option.{option_map}
-use Rattle.std.proofs.lemmas.Bool.{cases_Bool, cases_lt, cond-true, cond-false, both_ways}
+use Rattle.std.proofs.lemmas.Bool.{cases_Bool, cases_lt, cond-true, cond-false, or_from, both_ways}
 use Rattle.tx_types.specs.declared.record.Link.{Link}
 use Rattle.tx_types.specs.declared.config.Protocol.{Protocol}
 use Rattle.tx_types.specs.declared.config.Shape.{Shape}
@@ -11,30 +11,22 @@ use Rattle.record_list.specs.declared.found.Found.{Found}
 use Rattle.record_list.specs.Records.{name_of, has_name, is_present, IsScanned}
 use Rattle.record_list.specs.Current.{cur, IsCurrent, is_held}
 use Rattle.record_list.specs.SoundList.{current_name, IsSoundList}
-use Rattle.record_list.specs.Changes.{IsInserted, SameCurrent, left}
+use Rattle.record_list.specs.Changes.{IsInserted, IsWrite, SameCurrent, left, PartialWriteLaw, CompletingWriteLaw, CopyLaw, LossLaw}
+use Rattle.record_list.specs.ArrayChanges.{PartialWriteLeavesArray, CompletingWriteTakesTransaction, CopyLeavesArray, BlockLossLeavesArray}
 use Rattle.record_list.specs.Written.{Written, found_of, records_of, bytes_at, page_at, array_of, BytesAgree, is_outside, IsRemovable}
 use Rattle.record_list.specs.WrittenChanges.{left_outside}
-use Rattle.record_list.proofs.Names.{IsIn, all_at, has_name_true, found_named}
+use Rattle.record_list.proofs.Names.{IsIn, all_from, all_at, in_from, from_filter, has_name_true, found_named, present_as}
 use Rattle.record_list.proofs.SoundNames.{sound_map}
-use Rattle.record_list.proofs.Facts.{cur_present}
-use Rattle.record_list.proofs.LossMembers.{in_inserted, from_filter, present_as}
-use Rattle.record_list.proofs.WrittenLists.{in_records, IsOneText, one_text, records_left}
-
--- the item that is new is there
-in_new : {X : Type 0} (l m : List X) (x : X) → IsInserted l x m → IsIn m x
-in_new {X = X} l m x added = subst (λ z. IsIn z x) (sym added.now) (behind added.before)
-  where
-    behind : (before : List X) → IsIn (before ++ x ∷ added.after) x
-    behind [] = inl refl
-    behind (y ∷ ys) = inr (behind ys)
+use Rattle.record_list.proofs.LossCounted.{counted_present}
+use Rattle.record_list.proofs.OneMore.{in_inserted, new_in}
+use Rattle.record_list.proofs.WrittenLists.{in_records, IsOneText, one_text, bytes_inserted, records_left}
+use Rattle.record_list.proofs.WrittenChange.{fresh_bytes, copied, bytes_copied}
+use Rattle.record_list.proofs.LossCurrent.{left_scanned}
 
 -- a current version that is not 0 is present
 current_present : (p : Protocol) (l : List Found) (n page : ℕ) → IsSoundList p l n → IsScanned l → 0 < cur p l n page →
     is_present l (current_name p l n page) ≡ true
-current_present p l n page sound scanned some = elim (cur_present p l n (sound_map p l n sound scanned) page) [
-  | inl none ↦ absurd (omega arith)
-  | inr there' ↦ there'
-]
+current_present p l n page sound scanned some = counted_present p l n (sound_map p l n sound scanned) (current_name p l n page) some (inl refl)
 
 -- a name has the bytes of one of its records, or has none
 pub data HasBytes (l : List Written) (name : Link) : Type 0 where
@@ -51,12 +43,9 @@ has_bytes (v ∷ vs) name = elim (cases_Bool (has_name name v.rec)) [
       ap (option_map (λ w. w.bytes)) (cond-false (has_name name v.rec) (Some v) (find (λ w. has_name name w.rec) vs) other) in
       elim (has_bytes vs name) [
         | there w is_in named is ↦ there w (inr is_in) named (skips ∙ is)
-        | nowhere is absent ↦ nowhere (skips ∙ is) (none_of (has_name name v.rec) (is_present (records_of vs) name) other absent)
+        | nowhere is absent ↦ nowhere (skips ∙ is) (or_from (has_name name v.rec) (is_present (records_of vs) name) other absent)
       ])
 ]
-  where
-    none_of : (a b : Bool) → a ≡ false → b ≡ false → (a || b) ≡ false
-    none_of a b e f = cc
 
 -- a record in the list, whatever its slot, has the bytes of its name
 pub bytes_of : (l : List Written) (w : Written) → IsOneText l → IsIn l w → bytes_at l (name_of w.rec) ≡ Some w.bytes
@@ -147,7 +136,7 @@ pub array_grows : (p : Protocol) (l m : List Written) (n : ℕ) (w : Written) �
     All (BytesAgree m) m → IsInserted l w m → SameCurrent p (records_of l) (records_of m) n → array_of p m n ≡ array_of p l n
 array_grows p l m n w sound scanned scanned' bytes added same =
     same_array p l m n (λ page within.
-    page_grows p l m n page sound scanned scanned' (one_text m scanned' bytes) (λ v c. in_inserted l m w v added c) (same page within))
+    page_grows p l m n page sound scanned scanned' (one_text m scanned' bytes) (in_inserted l m w added) (same page within))
 
 -- and at the loss of a block
 pub array_left : (p : Protocol) (l : List Written) (n : ℕ) (shape : Shape) (block : ℕ) → IsSoundList p (records_of l) n → IsScanned (records_of l) →
@@ -177,14 +166,50 @@ page_committed p m n name is = ap (λ v. bytes_at m (record { page = name.page; 
 
 pub bytes_new : (l m : List Written) (w : Written) → IsScanned (records_of m) → All (BytesAgree m) m → IsInserted l w m →
     bytes_at m (name_of w.rec) ≡ Some w.bytes
-bytes_new l m w scanned' bytes added = bytes_of m w (one_text m scanned' bytes) (in_new l m w added)
+bytes_new l m w scanned' bytes added = bytes_of m w (one_text m scanned' bytes) (new_in l m w added)
 
 pub bytes_old : (l m : List Written) (w : Written) (name : Link) → IsScanned (records_of m) → All (BytesAgree m) m → IsInserted l w m →
     is_present (records_of l) name ≡ true → bytes_at m name ≡ bytes_at l name
-bytes_old l m w name scanned' bytes added h = bytes_grow l m name (one_text m scanned' bytes) (λ v c. in_inserted l m w v added c) h
+bytes_old l m w name scanned' bytes added h = bytes_grow l m name (one_text m scanned' bytes) (in_inserted l m w added) h
 
 pub page_elsewhere : (p : Protocol) (l m : List Written) (n page : ℕ) (w : Written) → IsSoundList p (records_of l) n → IsScanned (records_of l) →
     IsScanned (records_of m) → All (BytesAgree m) m → IsInserted l w m → cur p (records_of m) n page ≡ cur p (records_of l) n page →
     page_at p m n page ≡ page_at p l n page
 page_elsewhere p l m n page w sound scanned scanned' bytes added same =
-    page_grows p l m n page sound scanned scanned' (one_text m scanned' bytes) (λ v c. in_inserted l m w v added c) same
+    page_grows p l m n page sound scanned scanned' (one_text m scanned' bytes) (in_inserted l m w added) same
+
+-- the bytes of the longer list agree, where the new item has a fresh name
+bytes_written : (p : Protocol) (l m : List Written) (n : ℕ) (names : List Link) (w : Written) → All (BytesAgree l) l → IsInserted l w m →
+    IsWrite p (records_of l) (records_of m) n names (found_of w) → All (BytesAgree m) m
+bytes_written p l m n names w bytes added write = bytes_inserted l m w added bytes (fresh_bytes l w write.fresh)
+
+-- the four changes, each by its law
+pub partial_write_leaves_array : (p : Protocol) → PartialWriteLaw p → PartialWriteLeavesArray p
+partial_write_leaves_array p law l m n names w sound bytes added write some =
+    array_grows p l m n w sound write.scanned write.scanned' (bytes_written p l m n names w bytes added write) added
+    (law (records_of l) (records_of m) n names (found_of w) sound write some).same_current
+
+pub completing_write_takes_transaction : (p : Protocol) → CompletingWriteLaw p → CompletingWriteTakesTransaction p
+completing_write_takes_transaction p law l m n names w sound bytes added write all =
+    let keeps = law (records_of l) (records_of m) n names (found_of w) sound write all in
+    let bytes' = bytes_written p l m n names w bytes added write in
+    let committed : (a : Link) → IsIn names a → page_at p m n a.page ≡ bytes_at m a = λ a i.
+    page_committed p m n a (all_at (λ b. cur p (records_of m) n b.page ≡ b.version) names a keeps.committed i) in
+    record {
+      last = committed (name_of w.rec) (in_from names (name_of w.rec) write.named) ∙ bytes_new l m w write.scanned' bytes' added;
+      earlier = all_from (λ a. is_present (records_of l) a ≡ true → page_at p m n a.page ≡ bytes_at l a) names
+          (λ a i there. committed a i ∙ bytes_old l m w a write.scanned' bytes' added there);
+      elsewhere = λ page within other. page_elsewhere p l m n page w sound write.scanned write.scanned' bytes' added (keeps.elsewhere page within other);
+    }
+
+pub copy_leaves_array : (p : Protocol) → CopyLaw p → CopyLeavesArray p
+copy_leaves_array p law l m n w sound bytes added scanned scanned' source =
+    array_grows p l m n w sound scanned scanned' (bytes_copied l m w added scanned source bytes) added
+    (law (records_of l) (records_of m) n (found_of w) sound (copied l m w added scanned source scanned')).same_current
+
+pub block_loss_leaves_array : (p : Protocol) → LossLaw p → BlockLossLeavesArray p
+block_loss_leaves_array p law l n shape block sound bytes scanned removable =
+    let keeps = law (records_of l) n (is_outside shape block) sound scanned removable in
+    let is = sym (records_left (is_outside shape block) l) in
+    array_left p l n shape block sound scanned (subst IsScanned is (left_scanned (is_outside shape block) (records_of l) scanned)) bytes removable
+    (subst (λ fs. SameCurrent p (records_of l) fs n) is keeps.same_current)

@@ -1,10 +1,10 @@
 -- What a device needs to open a transaction and to ask for its records: by the places of the names, and by mentions.
-use Rattle.std.proofs.Common.{◌≡◌, ℕ, zero, suc, ◌+◌, ◌<◌, false, List, [], ◌∷◌, length, get_or, All, Any, Contains, refl, sym, ap, ◌∙◌, subst, inl, inr, eq-eqb, add-one, arith}
+use Rattle.std.proofs.Common.{◌≡◌, ℕ, ◌+◌, ◌<◌, false, List, [], ◌∷◌, length, get_or, All, Any, Contains, refl, sym, ap, ◌∙◌, subst, inl, inr, eq-eqb, add-one, arith}
 use Rattle.std.specs.Prelude.{◌==◌, if◌then◌else◌}
 use Rattle.std.specs.List.{zip}
 use Rattle.std.proofs.lemmas.Bool.{cases_order, cases_eq, cases_Bool, cond-true, cond-false, ne_eqb}
 use Rattle.std.proofs.lemmas.List.{get_or_default, get_or_append_left, get_or_push}
-use Rattle.std.proofs.lemmas.Slice.Zip.{get_or-zip}
+use Rattle.std.proofs.lemmas.Slice.Zip.{length-zip, get_or-zip}
 use Rattle.tx_types.specs.declared.record.Link.{Link}
 use Rattle.tx_types.specs.declared.record.Rec.{Rec}
 use Rattle.tx_types.specs.declared.config.Protocol.{Protocol}
@@ -20,10 +20,7 @@ following names k = if k + 1 == length names then 0 else k + 1
 
 -- a place in two lists side by side is one in each
 zip_within : (xs ys : List Link) (i : ℕ) → i < length (zip xs ys) → (i < length xs) × (i < length ys)
-zip_within [] ys i h = absurd (omega arith)
-zip_within (x ∷ xs) [] i h = absurd (omega arith)
-zip_within (x ∷ xs) (y ∷ ys) zero h = (omega arith, omega arith)
-zip_within (x ∷ xs) (y ∷ ys) (suc i) h = let rest = zip_within xs ys i (omega arith) in (omega arith, omega arith)
+zip_within xs ys i h = let shorter = length-zip xs ys in (omega arith, omega arith)
 
 -- a record is as a transaction asks where it has the k-th name, the link to the one that follows, and the back version
 pub asked_at : (p : Protocol) (l : List Found) (logical : ℕ) (names : List Link) (k : ℕ) (r : Rec) (d : Link) → IsTransaction logical names →

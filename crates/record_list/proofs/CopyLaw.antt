@@ -12,10 +12,10 @@ use Rattle.record_list.specs.Verdict.{newest_name, link_of, back_of, straddling_
 use Rattle.record_list.specs.Current.{cur, fallback, is_held}
 use Rattle.record_list.specs.Changes.{CopyLaw}
 use Rattle.record_list.proofs.SoundNames.{IsSoundMap, sound_map, sound_list}
-use Rattle.record_list.proofs.LossAmong.{IsOneEach, IsSame, one_each, one_each_among, same_greatest, same_present, same_link, same_back}
+use Rattle.record_list.proofs.LossAmong.{among_of, IsOneEach, IsSame, one_each, one_each_among, same_greatest, same_present, same_link, same_back}
 use Rattle.record_list.proofs.LossCounted.{counted_present}
-use Rattle.record_list.proofs.LossKept.{IsReduced, reduced_sound, reduced_held, reduced_progress}
-use Rattle.record_list.proofs.LossMembers.{in_inserted, from_inserted}
+use Rattle.record_list.proofs.LossKept.{IsReduced, reduced_sound, reduced_held, reduced_answers, reduced_progress}
+use Rattle.record_list.proofs.OneMore.{inserted_in, in_inserted}
 use Rattle.record_list.proofs.Names.{named, in_from}
 
 -- one turn of a walk, by its parts
@@ -69,12 +69,12 @@ module _ (l m : List Found) (s : IsSame l m) (o : IsOneEach m) where
 pub copy_law : (p : Protocol) → CopyLaw p
 copy_law p l m n f sound c =
     let s : IsSame l m = record {
-      there = record { among = λ g i. record { at = g; is_in = in_inserted l m f g c.added i; is = refl } };
+      there = among_of l m (in_inserted l m f c.added);
       back = record {
         among = λ g i. ⊎_elim
             (λ e. record { at = c.source.1; is_in = in_from l c.source.1 (c.source.0, c.source.2, c.source.3); is = c.source.4 ∙ ap (λ (x : Found). x.rec) e })
             (λ old. record { at = g; is_in = old; is = refl })
-            (from_inserted l m f g c.added i);
+            (inserted_in l m f c.added g i);
       };
     } in
     let was : IsSoundMap p l n = sound_map p l n sound c.scanned in
@@ -103,5 +103,6 @@ copy_law p l m n f sound c =
           (λ e. e ∙ sym (reduced_held p l m n forth name e))
           (λ e. e ∙ sym (false_from_ne_true (is_held p l n name) (λ t. both_ways (is_held p m n name) e (reduced_held p m l n back name t))))
           (cases_Bool (is_held p m n name));
+      responsible = reduced_answers p l m n forth;
       in_progress = reduced_progress p l m n forth;
     }

@@ -10,7 +10,7 @@ use Rattle.record_list.specs.Verdict.{newest_name, link_of, passed, is_ahead, is
 use Rattle.record_list.specs.Current.{cur, fallback}
 use Rattle.record_list.specs.SoundList.{current_name}
 use Rattle.record_list.proofs.Names.{absent_link, newest_bound, newest_present, older_bound}
-use Rattle.record_list.proofs.Safe.{top_link, Goes, IsLinked, Counts, counts_from, counts_safe, turn_closes}
+use Rattle.record_list.proofs.Safe.{top_link, IsLinked, Counts, counts_from, turn_closes}
 use Rattle.record_list.proofs.SoundNames.{IsSoundMap}
 
 -- the current version of a page whose newest record is committed, and of one whose newest is not
@@ -65,19 +65,6 @@ module _ (p : Protocol) (l : List Found) (logical : ℕ) (m : IsSoundMap p l log
               | inr at_newest ↦ (let same : link.version ≡ newest l link.page = omega arith in inr (same, (omega arith, omega arith)))
             ];
       }) page (has, at)
-
-  -- where the newest record of a page links to the newest of another, both count or none
-  pub counts_on : (page other : ℕ) → 0 < newest l page → top_link l page ≡ newest_name l other → Counts p l logical other → Counts p l logical page
-  counts_on page other has e c =
-      let safe = counts_safe p l logical m.linked in
-      let X : ℕ → Type 0 = λ q. (q ≡ page) ⊎ Counts p l logical q in
-      counts_from p l logical m.linked X (record {
-        written = λ q x. elim x [ inl same ↦ subst (λ z. 0 < newest l z) (sym same) has | inr counts ↦ counts.0 ];
-        goes = λ q x. elim x [
-          | inl same ↦ subst (λ z. Goes p l X (top_link l z)) (sym same) (subst (λ z. Goes p l X z) (sym e) (inr (refl, inr c)))
-          | inr counts ↦ elim (safe.goes q counts) [ inl passes ↦ inl passes | inr on ↦ inr (on.0, inr on.1) ]
-        ];
-      }) page (inl refl)
 
 -- under Simple Cyclic Commit the only loose version of a page is its newest
 pub scc_loose : (l : List Found) (logical : ℕ) (u : Link) → is_present l u ≡ true → cur Scc l logical u.page < u.version →

@@ -1,6 +1,6 @@
 -- Lists of which one has its records among those of the other: what the other shares with it. A list counts as the set of
 -- its records, where records of one name are equal.
-use Rattle.std.proofs.Common.{◌≡◌, ℕ, ◌≤◌, true, false, List, sym, ap, ◌∙◌, ⊎_elim, arith}
+use Rattle.std.proofs.Common.{◌≡◌, ℕ, ◌≤◌, true, false, List, refl, sym, ap, ◌∙◌, ⊎_elim, arith}
 use Rattle.std.proofs.lemmas.Bool.{cases_Bool, false_from_ne_true, both_ways}
 use Rattle.tx_types.specs.declared.record.Link.{Link}
 use Rattle.tx_types.specs.declared.record.Rec.{Rec}
@@ -8,9 +8,8 @@ use Rattle.tx_types.specs.declared.config.Protocol.{Protocol}
 use Rattle.record_list.specs.declared.found.Found.{Found}
 use Rattle.record_list.specs.Records.{greatest, name_of, is_present}
 use Rattle.record_list.specs.Verdict.{link_of, back_of}
-use Rattle.record_list.proofs.LossMembers.{absent_back, present_as}
 use Rattle.record_list.proofs.SoundNames.{IsSoundMap}
-use Rattle.record_list.proofs.Names.{IsIn, same_record, greatest_bound, greatest_least, found_named, absent_link}
+use Rattle.record_list.proofs.Names.{IsIn, same_record, greatest_bound, greatest_least, found_named, present_as, absent_link, absent_back}
 
 -- a record of the list that is equal to this one
 pub record IsEqual (l : List Found) (r : Rec) : Type 0 where
@@ -21,6 +20,10 @@ pub record IsEqual (l : List Found) (r : Rec) : Type 0 where
 -- each record of the first list is equal to one of the second
 pub record IsAmong (l m : List Found) : Type 0 where
   pub among : (f : Found) → IsIn l f → IsEqual m f.rec
+
+-- as where each record of the first is in the second
+pub among_of : (l m : List Found) → ((f : Found) → IsIn l f → IsIn m f) → IsAmong l m
+among_of l m sub = record { among = λ f i. record { at = f; is_in = sub f i; is = refl } }
 
 -- records of one name are equal, whatever their slots
 pub record IsOneEach (l : List Found) : Type 0 where

@@ -1,7 +1,8 @@
 -- Each current version stays in a loss: a page whose newest record left is the current one counts, and where a page with
 -- a later record left does not count, its current version is that of before.
-use Rattle.std.proofs.Common.{◌≡◌, ℕ, ◌<◌, ◌≤◌, Bool, true, List, refl, ◌∙◌, subst, inl, inr, ⊎_elim, arith}
+use Rattle.std.proofs.Common.{◌≡◌, ℕ, ◌<◌, ◌≤◌, Bool, true, List, ◌∙◌, subst, inl, inr, ⊎_elim, arith}
 use Rattle.std.proofs.lemmas.Bool.{cases_Bool, cases_lt}
+use Rattle.std.proofs.lemmas.List.Elements.{All-filter}
 use Rattle.tx_types.specs.declared.record.Link.{Link}
 use Rattle.tx_types.specs.declared.config.Protocol.{Protocol}
 use Rattle.record_list.specs.declared.found.Found.{Found}
@@ -13,11 +14,11 @@ use Rattle.record_list.specs.Changes.{SameCurrent, left, KeepsCounted, LossKeeps
 use Rattle.record_list.proofs.Safe.{top_link, Goes, Counts, counts_from}
 use Rattle.record_list.proofs.SoundNames.{sound_map, sound_list}
 use Rattle.record_list.proofs.Facts.{bare_page, cur_committed, cur_uncommitted}
-use Rattle.record_list.proofs.LossMembers.{from_filter}
 use Rattle.record_list.proofs.LossCounted.{counted_names}
 use Rattle.record_list.proofs.LossSetting.{IsLoss, was_present, link_was, link_low, lost_linked, lost_clear, newest_left}
-use Rattle.record_list.proofs.LossKept.{IsReduced, reduced_sound, reduced_held, reduced_progress}
-use Rattle.record_list.proofs.Names.{newest_present}
+use Rattle.record_list.proofs.LossKept.{IsReduced, reduced_sound, reduced_held, reduced_answers, reduced_progress}
+use Rattle.record_list.proofs.Names.{from_filter, pairs_filter, newest_present}
+use Rattle.record_list.proofs.LossAmong.{among_of}
 
 -- a page whose newest record left is its current one
 abbrev pub EndsCurrent : Protocol → List Found → List Found → ℕ → ℕ → Type 0
@@ -68,11 +69,18 @@ module _ (p : Protocol) (l m : List Found) (n : ℕ) (r : IsLoss p l m n) where
         ]
       ]
 
--- the records left by a test of their slots are a loss
+-- the records left by a test of their slots are as a scan gives them
+pub left_scanned : (keep : ℕ → Bool) (l : List Found) → IsScanned l → IsScanned (left keep l)
+left_scanned keep l scanned = record {
+  ascending = pairs_filter (λ f g. f.slot.0 < g.slot.0) (λ f. keep f.slot.0) l scanned.ascending;
+  versions = All-filter (λ f. keep f.slot.0) (λ f. (1 ≤ f.rec.version) × (1 ≤ f.rec.next.version)) l scanned.versions;
+}
+
+-- and are a loss
 pub loss_of : (p : Protocol) (l : List Found) (n : ℕ) (keep : ℕ → Bool) → IsSoundList p l n → IsScanned l → KeepsCounted p l n keep → IsLoss p l (left keep l) n
 loss_of p l n keep sound scanned k = record {
   sound = sound_map p l n sound scanned;
-  among = record { among = λ f c. record { at = f; is_in = (from_filter (λ g. keep g.slot.0) f l c).0; is = refl } };
+  among = among_of (left keep l) l (λ f c. (from_filter (λ g. keep g.slot.0) f l c).0);
   kept = (counted_names p l n keep (sound_map p l n sound scanned) k).kept;
 }
 
@@ -84,5 +92,6 @@ loss_keeps p l m n r same =
       sound = sound_list p m n (reduced_sound p l m n reduced);
       same_current = same;
       held = reduced_held p l m n reduced;
+      responsible = reduced_answers p l m n reduced;
       in_progress = reduced_progress p l m n reduced;
     }

@@ -1,8 +1,7 @@
 -- A list whose records are among those of a sound list, and in which each name is present that is current or held there:
 -- where the current versions are the same, the laws stay, nothing more is held, and what is in progress stays so.
-use Rattle.std.proofs.Common.{◌≡◌, ◌≢◌, ℕ, zero, suc, ◌<◌, ◌≤◌, ◌⊎◌, true, false, List, All, Contains, zip, sym, refl, ap, ◌∙◌, subst, inl, inr, ⊎_elim, arith}
+use Rattle.std.proofs.Common.{◌≡◌, ◌≢◌, ℕ, zero, suc, ◌^◌, ◌<◌, ◌≤◌, ◌⊎◌, true, false, List, All, Contains, sym, refl, ap, ◌∙◌, subst, inl, inr, ⊎_elim, arith}
 use Rattle.std.proofs.lemmas.Bool.{cases_Bool, cases_lt}
-use Rattle.std.proofs.lemmas.List.Elements.{All-weaker}
 use Rattle.tx_types.specs.declared.record.Link.{Link}
 use Rattle.tx_types.specs.declared.record.Rec.{Rec}
 use Rattle.tx_types.specs.declared.config.Protocol.{Protocol}
@@ -10,17 +9,18 @@ use Rattle.tx_types.specs.declared.config.Protocol.TheVariants.{Scc, Bpcc}
 use Rattle.record_list.specs.declared.found.Found.{Found}
 use Rattle.record_list.specs.Records.{greatest, newest, mentioned_at, name_of, is_present}
 use Rattle.record_list.specs.Verdict.{newest_name, link_of}
-use Rattle.record_list.specs.Current.{cur, straddling_upto, responsible, answers_for, is_held}
+use Rattle.record_list.specs.Current.{cur, IsLoose, straddling_upto, responsible, answers_for, is_held}
 use Rattle.record_list.specs.SoundList.{current_name, follow}
-use Rattle.record_list.specs.Transaction.{rounded, back_version, IsAsked, InProgress}
-use Rattle.record_list.specs.Changes.{SameCurrent}
+use Rattle.record_list.specs.Transaction.{IsAsked, InProgress}
+use Rattle.record_list.specs.Changes.{SameCurrent, SameResponsible}
 use Rattle.record_list.proofs.Safe.{is_clear}
 use Rattle.record_list.proofs.SoundNames.{IsSoundMap, LooseNames, EndingNames}
-use Rattle.record_list.proofs.LossMembers.{IsPassing, passing_at, passing_in, present_as}
+use Rattle.record_list.proofs.Held.{IsAnswer, answer_of, answers, any_of, any_from}
 use Rattle.record_list.proofs.LossAmong.{IsEqual, among_absent}
 use Rattle.record_list.proofs.LossSetting.{IsLoss, was_present, link_was, back_was, low, link_low, lost_linked, lost_copies, lost_clear, lost_responsible}
-use Rattle.record_list.proofs.LossCounted.{IsAnswered, answered, answers}
-use Rattle.record_list.proofs.Names.{all_from, all_at, newest_present}
+use Rattle.record_list.proofs.LossCounted.{responsible_high}
+use Rattle.record_list.proofs.Keeping.{asked_same}
+use Rattle.record_list.proofs.Names.{all_from, all_at, present_as, newest_present}
 
 -- the list m has some of the records of the sound list l, each name that counts among them, and the same current versions
 pub record IsReduced (p : Protocol) (l m : List Found) (n : ℕ) : Type 0 where
@@ -93,14 +93,14 @@ module _ (l m : List Found) (n : ℕ) (r : IsReduced Bpcc l m n) where
   -- a name that is held was held
   reduced_held_bpcc : (name : Link) → is_held Bpcc m n name ≡ true → is_held Bpcc l n name ≡ true
   reduced_held_bpcc name held =
-      let f : IsPassing (λ g. answers_for Bpcc m n name g.rec) m = passing_at (λ g. answers_for Bpcc m n name g.rec) m held in
-      let y : Rec = f.at.rec in
-      let a : IsAnswered m n name y = answered m n name y f.passes in
-      let x : IsEqual l y = r.loss.among.among f.at f.is_in in
+      let f = any_of (λ g. answers_for Bpcc m n name g.rec) m held in
+      let y : Rec = f.0.rec in
+      let a : IsAnswer m n name y = answer_of m n name y f.2 in
+      let x : IsEqual l y = r.loss.among.among f.0 f.1 in
       let u : Link = name_of y in
-      let h : is_present m u ≡ true = present_as m f.at u f.is_in refl in
+      let h : is_present m u ≡ true = present_as m f.0 u f.1 refl in
       let was : is_present l u ≡ true = was_present Bpcc l m n r.loss u h in
-      let links : link_of l u ≡ y.next = link_was Bpcc l m n r.loss u h ∙ sym (lost_copies Bpcc l m n r.loss f.at f.is_in).0 in
+      let links : link_of l u ≡ y.next = link_was Bpcc l m n r.loss u h ∙ sym (lost_copies Bpcc l m n r.loss f.0 f.1).0 in
       let in_range : (link_of l u).page < n = link_low Bpcc l m n r.loss u h in
       let same_page : (link_of l u).page ≡ name.page = ap (λ (k : Link). k.page) links ∙ a.page in
       let e : cur Bpcc m n name.page ≡ cur Bpcc l n name.page = r.same name.page (subst (λ k. k < n) same_page in_range) in
@@ -109,9 +109,24 @@ module _ (l m : List Found) (n : ℕ) (r : IsReduced Bpcc l m n) where
       let below' : (link_of l u).version < cur Bpcc l n (link_of l u).page =
       subst (λ k. (link_of l u).version < cur Bpcc l n k) (sym same_page) (subst (λ (k : Link). k.version < cur Bpcc l n name.page) (sym links) below) in
       let is : responsible Bpcc l n y.next ≡ name.version =
-      sym (subst (λ k. responsible Bpcc m n k ≡ responsible Bpcc l n k) links (reduced_responsible u was loose below' ((r.loss.sound.loose u was loose).2 below'))) ∙ a.is in
-      passing_in (λ g. answers_for Bpcc l n name g.rec) l x.at x.is_in
-      (subst (λ z. answers_for Bpcc l n name z ≡ true) (sym x.is) (answers l n name y (record { loose = loose; page = a.page; below = below; is = is })))
+      sym (subst (λ k. responsible Bpcc m n k ≡ responsible Bpcc l n k) links (reduced_responsible u was loose below' ((r.loss.sound.loose u was loose).2 below'))) ∙ a.version in
+      any_from (λ g. answers_for Bpcc l n name g.rec) l x.at x.is_in
+      (subst (λ z. answers_for Bpcc l n name z ≡ true) (sym x.is) (answers l n name y (record { loose = loose; page = a.page; below = below; some = a.some; version = is })))
+
+  -- each record that is loose has the responsible record that it had
+  reduced_same_responsible : SameResponsible Bpcc l m n
+  reduced_same_responsible = all_from (λ f. IsLoose Bpcc m n f.rec → responsible Bpcc m n f.rec.next ≡ responsible Bpcc l n f.rec.next) m (λ f i at.
+      let u : Link = name_of f.rec in
+      let h : is_present m u ≡ true = present_as m f u i refl in
+      let was : is_present l u ≡ true = was_present Bpcc l m n r.loss u h in
+      let q : Link = link_of l u in
+      let link : q ≡ f.rec.next = link_was Bpcc l m n r.loss u h ∙ sym (lost_copies Bpcc l m n r.loss f i).0 in
+      let loose : cur Bpcc l n u.page < u.version = subst (λ c. c < u.version) (r.same u.page (low Bpcc l m n r.loss u h)) at in
+      let e : cur Bpcc m n q.page ≡ cur Bpcc l n q.page = r.same q.page (link_low Bpcc l m n r.loss u h) in
+      subst (λ k. responsible Bpcc m n k ≡ responsible Bpcc l n k) link (elim (cases_lt q.version (cur Bpcc l n q.page)) [
+        | inl below ↦ reduced_responsible u was loose below ((r.loss.sound.loose u was loose).2 below)
+        | inr high ↦ responsible_high Bpcc m n q (omega arith) ∙ sym (responsible_high Bpcc l n q high)
+      ]))
 
 -- laws 6 and 7
 loose_stays : (p : Protocol) (l m : List Found) (n : ℕ) → IsReduced p l m n → LooseNames p m n
@@ -138,10 +153,10 @@ pub reduced_held : (p : Protocol) (l m : List Found) (n : ℕ) → IsReduced p l
 reduced_held Scc l m n r name h = h
 reduced_held Bpcc l m n r name h = reduced_held_bpcc l m n r name h
 
--- a transaction asks for the same back versions
-same_back_version : (p : Protocol) (l m : List Found) (n page : ℕ) → cur p m n page ≡ cur p l n page → back_version p m n page ≡ back_version p l n page
-same_back_version Scc l m n page e = refl
-same_back_version Bpcc l m n page e = e
+-- each loose record keeps its responsible record
+pub reduced_answers : (p : Protocol) (l m : List Found) (n : ℕ) → IsReduced p l m n → SameResponsible p l m n
+reduced_answers Scc l m n r = tt
+reduced_answers Bpcc l m n r = reduced_same_responsible l m n r
 
 -- a transaction in progress stays so
 pub reduced_progress : (p : Protocol) (l m : List Found) (n : ℕ) → IsReduced p l m n → (names : List Link) → InProgress p l n names → InProgress p m n names
@@ -150,13 +165,9 @@ reduced_progress p l m n r names t = record {
     transaction = t.begun.transaction;
     asked = all_from (λ f. IsAsked p m n names f.rec) m (λ f c.
         let x : IsEqual l f.rec = r.loss.among.among f c in
-        let was : IsAsked p l n names f.rec = subst (λ y. IsAsked p l n names y) x.is (all_at (λ g. IsAsked p l n names g.rec) l x.at t.begun.asked x.is_in) in
-        let in_range : f.rec.page < n = low p l m n r.loss (name_of f.rec) (present_as m f (name_of f.rec) c refl) in
-        All-weaker
-        (λ (z : Link × Link). name_of f.rec ≡ z.0 → (f.rec.next ≡ z.1) × (f.rec.back ≡ back_version p l n z.0.page))
-        (λ (z : Link × Link). name_of f.rec ≡ z.0 → (f.rec.next ≡ z.1) × (f.rec.back ≡ back_version p m n z.0.page))
-        (λ z h e. ((h e).0, (h e).1 ∙ sym (same_back_version p l m n z.0.page (r.same z.0.page (subst (λ k. k < n) (ap (λ (u : Link). u.page) e) in_range)))))
-        (zip names (rounded names)) was);
+        asked_same p l m n names
+        (λ a i. r.same a.page (all_at (λ b. (b.page < n) × (1 ≤ b.version) × (b.version ≤ 2 ^ 62)) names a t.begun.transaction.in_range i).0)
+        f.rec (subst (λ y. IsAsked p l n names y) x.is (all_at (λ g. IsAsked p l n names g.rec) l x.at t.begun.asked x.is_in)));
     others = all_from (λ f. (Contains names (name_of f.rec) → ⊥) → All (λ name. mentioned_at name.page f.rec < name.version) names) m (λ f c.
         let x : IsEqual l f.rec = r.loss.among.among f c in
         subst (λ (y : Rec). (Contains names (name_of y) → ⊥) → All (λ name. mentioned_at name.page y < name.version) names) x.is

@@ -12,9 +12,9 @@ use Rattle.record_list.specs.Current.{cur, straddling_upto, responsible, answers
 use Rattle.record_list.specs.SoundList.{current_name}
 use Rattle.record_list.proofs.Safe.{is_clear, IsLinked}
 use Rattle.record_list.proofs.SoundNames.{IsSoundMap, clear_from, clear_gives}
-use Rattle.record_list.proofs.LossMembers.{passing_in}
+use Rattle.record_list.proofs.Held.{answers, any_from}
 use Rattle.record_list.proofs.LossAmong.{among_named, IsEqual, IsAmong, one_each, among_greatest, among_present, among_link, among_back}
-use Rattle.record_list.proofs.LossCounted.{IsResponsible, responsible_at, answers}
+use Rattle.record_list.proofs.LossCounted.{IsResponsible, responsible_at}
 use Rattle.record_list.proofs.Names.{IsIn, named, same_name, greatest_bound, found_named, present_in, newest_bound}
 
 -- the list m has some of the records of the sound list l, and each name that counts there
@@ -88,12 +88,13 @@ module _ (l m : List Found) (n : ℕ) (r : IsLoss Bpcc l m n) where
       let name : Link = named q.page (responsible Bpcc l n q) in
       let x : IsResponsible Bpcc l n q = responsible_at Bpcc l n q (omega arith) in
       let f = found_named l u h in
-      let held : is_held Bpcc l n name ≡ true = passing_in (λ g. answers_for Bpcc l n name g.rec) l f.0 f.1
+      let held : is_held Bpcc l n name ≡ true = any_from (λ g. answers_for Bpcc l n name g.rec) l f.0 f.1
       (answers l n name f.0.rec (record {
         loose = subst (λ (y : Link). cur Bpcc l n y.page < y.version) (sym f.2) loose;
         page = ap (λ (y : Link). y.page) f.3;
         below = subst (λ (y : Link). y.version < cur Bpcc l n q.page) (sym f.3) below;
-        is = ap (responsible Bpcc l n) f.3;
+        some = omega arith;
+        version = ap (responsible Bpcc l n) f.3;
       })) in
       let g = found_named m name (r.kept name low (omega arith) (inr held)) in
       let one : g.0.rec ≡ x.at.rec = among_named l m r.among (one_each Bpcc l n r.sound) name g.0 x.at g.1 g.2 x.is_in (same_name (name_of x.at.rec) name x.page x.version) in

@@ -4,8 +4,7 @@ use Rattle.std.proofs.Math.Nat.{le-max_left, le-max_right}
 use Rattle.record_list.specs.declared.found.Found.{Found}
 use Rattle.record_list.specs.Records.{mention, mentioned_at}
 use Rattle.record_list.specs.Changes.{IsInserted, left}
-use Rattle.record_list.proofs.Names.{greatest_bound, greatest_least}
-use Rattle.record_list.proofs.LossMembers.{from_filter}
+use Rattle.record_list.proofs.Names.{from_filter, greatest_bound, greatest_least}
 use Rattle.record_list.proofs.OneMore.{inserted_in}
 
 -- one record more mentions the page at its own mention at most

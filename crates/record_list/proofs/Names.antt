@@ -1,10 +1,10 @@
--- The records of a list by their names: what is so of each record, greatest numbers, and what a present name says.
-use Rattle.std.proofs.Common.{◌≡◌, ℕ, ◌<◌, ◌≤◌, Bool, true, false, cond, ◌&&◌, ◌||◌, eqb, ltb, ◌⊎◌, List, [], ◌∷◌, get_or, All, AllPairs, Contains, refl, sym, ap, ap₂, ◌∙◌, subst, inl, inr, arith, eqb-true, eq-eqb, lt-ltb, ltb-true, le_trans}
+-- The records of a list by their names: the items of a list, greatest numbers, and what a present name says.
+use Rattle.std.proofs.Common.{◌≡◌, ℕ, zero, suc, ◌<◌, ◌≤◌, Bool, true, false, cond, ◌&&◌, ◌||◌, eqb, ltb, ◌⊎◌, List, [], ◌∷◌, filter, get_or, All, AllPairs, Contains, refl, sym, ap, ap₂, ◌∙◌, subst, inl, inr, arith, eqb-true, eq-eqb, lt-ltb, ltb-true, le_trans}
 use Rattle.std.proofs.Math.Nat.{le-max_left, le-max_right, max-le, max-eq_left, max-eq_right}
 use Rattle.std.specs.List.{AllByRecursion}
-use Rattle.std.proofs.lemmas.Bool.{false≢true, cases_Bool, cases_lt, cases_order, cond-true, cond-false, and_parts, and_from, or_left, or_right, or_parts}
+use Rattle.std.proofs.lemmas.Bool.{false≢true, cases_Bool, cases_lt, cases_order, cond-true, cond-false, cond_both, and_parts, and_from, or_left, or_right, or_parts}
 use Rattle.std.proofs.lemmas.List.{get_or_default}
-use Rattle.std.proofs.lemmas.List.Elements.{All-from_recursion, recursion_from_All, All-contains, All-contains_itself}
+use Rattle.std.proofs.lemmas.List.Elements.{All-from_recursion, recursion_from_All, All-contains, All-contains_itself, All-filter, filter_passes, Contains-get_or}
 use Rattle.tx_types.specs.declared.record.Link.{Link}
 use Rattle.tx_types.specs.declared.record.Rec.{Rec}
 use Rattle.record_list.specs.declared.found.Found.{Found}
@@ -53,6 +53,56 @@ in_order R xs x y all i j =
       | inr (inl less) ↦ inr (inl (subst (λ z. R z y) a.2 (subst (λ z. R (get_or xs a.0 x) z) (get_or_default xs b.0 x y b.1 ∙ b.2) (all a.0 b.0 x less b.1))))
       | inr (inr more) ↦ inr (inr (subst (λ z. R z x) b.2 (subst (λ z. R (get_or xs b.0 y) z) (get_or_default xs a.0 y x a.1 ∙ a.2) (all b.0 a.0 y more a.1))))
     ]
+
+-- a relation along a list: from its first item to each other one, and along the rest
+pub pairs_head : {X : Type 0} (R : X → X → Type 0) (x : X) (xs : List X) (y : X) → AllPairs R (x ∷ xs) → IsIn xs y → R x y
+pairs_head R x xs y all i =
+    let c = contains_from xs y i in
+    subst (R x) c.2 (all 0 (suc c.0) y (omega arith) (let within = c.1 in omega arith))
+
+pub pairs_tail : {X : Type 0} (R : X → X → Type 0) (x : X) (xs : List X) → AllPairs R (x ∷ xs) → AllPairs R xs
+pairs_tail R x xs all = λ i j d less le. all (suc i) (suc j) d (omega arith) (omega arith)
+
+-- and back
+pub pairs_cons : {X : Type 0} (R : X → X → Type 0) (x : X) (xs : List X) → ((y : X) → IsIn xs y → R x y) → AllPairs R xs → AllPairs R (x ∷ xs)
+pairs_cons R x xs first all zero zero d less le = absurd (omega arith)
+pairs_cons R x xs first all zero (suc j) d less le = first (get_or xs j d) (in_from xs (get_or xs j d) (Contains-get_or xs j d (omega arith)))
+pairs_cons R x xs first all (suc i) zero d less le = absurd (omega arith)
+pairs_cons R x xs first all (suc i) (suc j) d less le = all i j d (omega arith) (omega arith)
+
+-- what is so of two items of an ascending list, the one below the other, is so of any two
+pub of_any_two : {X : Type 0} (at : X → ℕ) (l : List X) → AllPairs (λ x y. at x < at y) l → (P : X → X → Type 0) →
+    ((x y : X) → P x y → P y x) → ((x : X) → P x x) →
+    ((x y : X) → IsIn l x → IsIn l y → at y < at x → P x y) →
+    (x y : X) → IsIn l x → IsIn l y → P x y
+of_any_two at l up P turn self below x y i j = elim (in_order (λ a b. at a < at b) l x y up i j) [
+  | inl e ↦ subst (P x) e (self x)
+  | inr (inl less) ↦ turn y x (below y x j i less)
+  | inr (inr more) ↦ below x y i j more
+]
+
+-- an item that passes a test is among those that pass
+pub in_filter : {X : Type 0} (p : X → Bool) (x : X) (xs : List X) → IsIn xs x → p x ≡ true → IsIn (filter p xs) x
+in_filter p x [] i h = absurd i
+in_filter p x (y ∷ ys) (inl same) h = subst (λ zs. IsIn zs x) (sym (cond-true (p y) (y ∷ filter p ys) (filter p ys) (ap p same ∙ h))) (inl same)
+in_filter p x (y ∷ ys) (inr i) h =
+    let rest = in_filter p x ys i h in
+    cond_both (p y) (y ∷ filter p ys) (filter p ys) (λ zs. IsIn zs x) (λ e. inr rest) (λ e. rest)
+
+-- an item among those that pass is in the list, and passes
+pub from_filter : {X : Type 0} (p : X → Bool) (x : X) (xs : List X) → IsIn (filter p xs) x → IsIn xs x × (p x ≡ true)
+from_filter p x xs i = (
+  all_at (IsIn xs) (filter p xs) x (All-filter p (IsIn xs) xs (all_from (IsIn xs) xs (λ y j. j))) i,
+  all_at (λ y. p y ≡ true) (filter p xs) x (filter_passes p xs) i,
+)
+
+-- a relation along a list is one along the items that pass
+pub pairs_filter : {X : Type 0} (R : X → X → Type 0) (p : X → Bool) (xs : List X) → AllPairs R xs → AllPairs R (filter p xs)
+pairs_filter R p [] all = all
+pairs_filter R p (x ∷ xs) all =
+    let rest = pairs_filter R p xs (pairs_tail R x xs all) in
+    cond_both (p x) (x ∷ filter p xs) (filter p xs) (AllPairs R)
+    (λ e. pairs_cons R x (filter p xs) (λ y i. pairs_head R x xs y all (from_filter p y xs i).0) rest) (λ e. rest)
 
 -- a name from its parts
 abbrev pub named : ℕ → ℕ → Link
@@ -120,6 +170,10 @@ present_in [] f i = absurd i
 present_in (g ∷ gs) f (inl e) = or_left (has_name (name_of f.rec) g.rec) (is_present gs (name_of f.rec)) (has_own_name (name_of f.rec) g.rec (ap (λ x. name_of x.rec) e))
 present_in (g ∷ gs) f (inr i) = or_right (has_name (name_of f.rec) g.rec) (is_present gs (name_of f.rec)) (present_in gs f i)
 
+-- a name that a record has is present
+pub present_as : (l : List Found) (f : Found) (name : Link) → IsIn l f → name_of f.rec ≡ name → is_present l name ≡ true
+present_as l f name i e = subst (λ u. is_present l u ≡ true) e (present_in l f i)
+
 -- an absent name leads no further
 pub absent_link : (l : List Found) (u : Link) → is_present l u ≡ false → link_of l u ≡ u
 absent_link [] u h = refl
@@ -127,8 +181,15 @@ absent_link (f ∷ fs) u h =
     let parts = or_parts (has_name u f.rec) (is_present fs u) h in
     cond-false (has_name u f.rec) f.rec.next (link_of fs u) parts.0 ∙ absent_link fs u parts.1
 
+-- and has no back version
+pub absent_back : (l : List Found) (u : Link) → is_present l u ≡ false → back_of l u ≡ 0
+absent_back [] u h = refl
+absent_back (f ∷ fs) u h =
+    let parts = or_parts (has_name u f.rec) (is_present fs u) h in
+    cond-false (has_name u f.rec) f.rec.back (back_of fs u) parts.0 ∙ absent_back fs u parts.1
+
 -- where one of two numbers is chosen and the other is 0
-if_positive : (b : Bool) (n : ℕ) → 0 < cond b n 0 → (b ≡ true) × (cond b n 0 ≡ n)
+pub if_positive : (b : Bool) (n : ℕ) → 0 < cond b n 0 → (b ≡ true) × (cond b n 0 ≡ n)
 if_positive true n h = (refl, refl)
 if_positive false n h = absurd (omega arith)
 

@@ -1,6 +1,7 @@
 -- One record more in a list, under a name that was absent.
 use Rattle.std.proofs.Common.{◌≡◌, ℕ, ◌<◌, ◌≤◌, max, Bool, true, false, cond, ◌&&◌, ◌||◌, eqb, ltb, ◌⊎◌, List, [], ◌∷◌, ◌++◌, All, refl, sym, ap, ◌∙◌, subst, inl, inr, arith, if◌then◌else◌, ne_eqb, eq-eqb, le-ltb}
 use Rattle.std.specs.List.{list_any}
+use Rattle.std.proofs.lemmas.List.Folds.{list_any-append}
 use Rattle.std.proofs.lemmas.Bool.{false≢true, cases_Bool, cases_lt, cond-true, cond-false, or_cases, or_left, or_right, or_parts, and_left}
 use Rattle.tx_types.specs.declared.record.Link.{Link}
 use Rattle.tx_types.specs.declared.record.Rec.{Rec}
@@ -36,11 +37,6 @@ or_swap false true c = refl
 or_swap false false c = refl
 
 module _ (f : Found) (after : List Found) where
-  -- one record more: the names present
-  present_more : (before : List Found) (u : Link) → is_present (before ++ f ∷ after) u ≡ (has_name u f.rec || is_present (before ++ after) u)
-  present_more [] u = refl
-  present_more (x ∷ xs) u = ap (λ b. has_name u x.rec || b) (present_more xs u) ∙ or_swap (has_name u x.rec) (has_name u f.rec) (is_present (xs ++ after) u)
-
   -- the links of other names
   links_more : (before : List Found) (u : Link) → has_name u f.rec ≡ false → link_of (before ++ f ∷ after) u ≡ link_of (before ++ after) u
   links_more [] u h = cond-false (has_name u f.rec) f.rec.next (link_of after u) h
@@ -70,24 +66,42 @@ module _ (f : Found) (after : List Found) where
   greatest_more of [] = refl
   greatest_more of (x ∷ xs) = let ih = greatest_more of xs in omega arith
 
-  -- tests
-  any_more : (test : Found → Bool) (before : List Found) → list_any test (before ++ f ∷ after) ≡ (test f || list_any test (before ++ after))
-  any_more test [] = refl
-  any_more test (x ∷ xs) = ap (λ b. test x || b) (any_more test xs) ∙ or_swap (test x) (test f) (list_any test (xs ++ after))
+module _ {X : Type 0} where
+  -- a test over a list with one item more
+  any_more : (test : X → Bool) (x : X) (before after : List X) → list_any test (before ++ x ∷ after) ≡ (test x || list_any test (before ++ after))
+  any_more test x before after =
+      list_any-append test before (x ∷ after)
+      ∙ or_swap (list_any test before) (test x) (list_any test after)
+      ∙ ap (λ b. test x || b) (sym (list_any-append test before after))
 
-  -- records
-  in_more : (before : List Found) (g : Found) → IsIn (before ++ f ∷ after) g → (f ≡ g) ⊎ IsIn (before ++ after) g
-  in_more [] g i = i
-  in_more (x ∷ xs) g (inl e) = inr (inl e)
-  in_more (x ∷ xs) g (inr i) = elim (in_more xs g i) [ inl e ↦ inl e | inr j ↦ inr (inr j) ]
+  -- an item of the longer list is the new one or an old one
+  from_more : (before after : List X) (x y : X) → IsIn (before ++ x ∷ after) y → (x ≡ y) ⊎ IsIn (before ++ after) y
+  from_more [] after x y i = i
+  from_more (z ∷ zs) after x y (inl e) = inr (inl e)
+  from_more (z ∷ zs) after x y (inr i) = elim (from_more zs after x y i) [ inl e ↦ inl e | inr j ↦ inr (inr j) ]
 
--- a record of the longer list is the new one or an old one
-pub inserted_in : (l l' : List Found) (f : Found) → IsInserted l f l' → (g : Found) → IsIn l' g → (f ≡ g) ⊎ IsIn l g
-inserted_in l l' f ins g i =
-    elim (in_more f ins.after ins.before g (subst (λ x. IsIn x g) ins.now i)) [
-      | inl e ↦ inl e
-      | inr j ↦ inr (subst (λ x. IsIn x g) (sym ins.was) j)
-    ]
+  pub inserted_in : (l l' : List X) (x : X) → IsInserted l x l' → (y : X) → IsIn l' y → (x ≡ y) ⊎ IsIn l y
+  inserted_in l l' x ins y i = elim (from_more ins.before ins.after x y (subst (λ zs. IsIn zs y) ins.now i)) [
+    | inl e ↦ inl e
+    | inr j ↦ inr (subst (λ zs. IsIn zs y) (sym ins.was) j)
+  ]
+
+  -- an old one is there still
+  in_more : (before after : List X) (x y : X) → IsIn (before ++ after) y → IsIn (before ++ x ∷ after) y
+  in_more [] after x y i = inr i
+  in_more (z ∷ zs) after x y (inl e) = inl e
+  in_more (z ∷ zs) after x y (inr i) = inr (in_more zs after x y i)
+
+  pub in_inserted : (l l' : List X) (x : X) → IsInserted l x l' → (y : X) → IsIn l y → IsIn l' y
+  in_inserted l l' x ins y i = subst (λ zs. IsIn zs y) (sym ins.now) (in_more ins.before ins.after x y (subst (λ zs. IsIn zs y) ins.was i))
+
+  -- and the new one is there
+  pub new_in : (l l' : List X) (x : X) → IsInserted l x l' → IsIn l' x
+  new_in l l' x ins = subst (λ zs. IsIn zs x) (sym ins.now) (behind ins.before)
+    where
+      behind : (before : List X) → IsIn (before ++ x ∷ ins.after) x
+      behind [] = inl refl
+      behind (z ∷ zs) = inr (behind zs)
 
 -- what is so of all and of the new record is so of all
 pub inserted_all : (P : Found → Type 0) (l l' : List Found) (f : Found) → IsInserted l f l' → All P l → P f → All P l'
@@ -99,7 +113,7 @@ inserted_all P l l' f ins all own = all_from P l' (λ g i. elim (inserted_in l l
 -- a test passes for some record of the longer list where it does for the new one or an old one
 pub inserted_any : (test : Found → Bool) (l l' : List Found) (f : Found) → IsInserted l f l' → list_any test l' ≡ (test f || list_any test l)
 inserted_any test l l' f ins =
-    ap (list_any test) ins.now ∙ any_more f ins.after test ins.before ∙ ap (λ x. test f || list_any test x) (sym ins.was)
+    ap (list_any test) ins.now ∙ any_more test f ins.before ins.after ∙ ap (λ x. test f || list_any test x) (sym ins.was)
 
 -- an inserted record of a fresh name is one record more
 pub one_more : (l l' : List Found) (f : Found) → IsInserted l f l' → is_present l (name_of f.rec) ≡ false → IsOneMore l l' f.rec
@@ -109,7 +123,7 @@ one_more l l' f ins fresh =
     let fresh' : is_present (b ++ a) (name_of f.rec) ≡ false = subst (λ x. is_present x (name_of f.rec) ≡ false) ins.was fresh in
     let present : (u : Link) → is_present l' u ≡ (has_name u f.rec || is_present l u) = λ u.
     subst (λ x. is_present x u ≡ (has_name u f.rec || is_present l u)) (sym ins.now)
-    (subst (λ x. is_present (b ++ f ∷ a) u ≡ (has_name u f.rec || is_present x u)) (sym ins.was) (present_more f a b u)) in
+    (subst (λ x. is_present (b ++ f ∷ a) u ≡ (has_name u f.rec || is_present x u)) (sym ins.was) (any_more (λ g. has_name u g.rec) f b a)) in
     let other : (u : Link) → (u ≡ name_of f.rec → ⊥) → has_name u f.rec ≡ false = λ u off. elim (cases_Bool (has_name u f.rec)) [
       | inl e ↦ absurd (off (sym (has_name_true u f.rec e)))
       | inr e ↦ e

@@ -1,9 +1,9 @@
 -- A cycle of names: what passes from each name to the one that follows it goes round.
-use Rattle.std.proofs.Common.{◌≡◌, ℕ, ◌≢◌, suc, ◌⊎◌, List, [], ◌∷◌, ◌++◌, zip, AllPairs, refl, sym, ap, ◌∙◌, subst, inl, inr, arith}
+use Rattle.std.proofs.Common.{◌≡◌, ℕ, ◌≢◌, ◌⊎◌, List, [], ◌∷◌, ◌++◌, zip, AllPairs, refl, sym, ap, ◌∙◌, subst, inl, inr}
 use Rattle.std.proofs.lemmas.Bool.{cases_eq}
 use Rattle.tx_types.specs.declared.record.Link.{Link}
 use Rattle.record_list.specs.Transaction.{rounded}
-use Rattle.record_list.proofs.Names.{IsIn, contains_from, same_name}
+use Rattle.record_list.proofs.Names.{IsIn, pairs_head, pairs_tail, same_name}
 
 -- a name of the cycle and the name after it
 abbrev pub Follows : List Link → Link → Link → Type 0
@@ -102,15 +102,12 @@ follows_in (x ∷ xs) a b i =
 abbrev pub Apart : List Link → Type 0
 Apart names = AllPairs (λ a b. a.page ≢ b.page) names
 
--- the first page is none of the others
+-- the first page is none of the others, which are distinct
 head_apart : (x : Link) (xs : List Link) (y : Link) → Apart (x ∷ xs) → IsIn xs y → x.page ≡ y.page → ⊥
-head_apart x xs y all i e =
-    let c = contains_from xs y i in
-    all 0 (suc c.0) y (omega arith) (let lt = c.1 in omega arith) (e ∙ sym (ap (λ n. n.page) c.2))
+head_apart x xs y all i = pairs_head (λ a b. a.page ≢ b.page) x xs y all i
 
--- the others are distinct
 tail_apart : (x : Link) (xs : List Link) → Apart (x ∷ xs) → Apart xs
-tail_apart x xs all = λ i j d less le. all (suc i) (suc j) d (omega arith) (omega arith)
+tail_apart x xs all = pairs_tail (λ a b. a.page ≢ b.page) x xs all
 
 -- two names before one are one
 chain_once : (x : Link) (xs : List Link) (end a c b : Link) → Apart (x ∷ xs) → ((y : Link) → IsIn xs y → y.page ≡ end.page → ⊥) →

@@ -1,5 +1,6 @@
 -- A page counts exactly where a safe set of pages contains it: from each page of the set the link of its newest record
--- passes, or leads to the newest record of a page of the set. So no other proof speaks of the turns of a walk.
+-- passes, or leads to the newest record of a page of the set. So no other proof speaks of the turns of a walk. And a walk
+-- that may look at more links than there are pages ends as it does.
 use Rattle.std.proofs.Common.{◌≡◌, ℕ, zero, suc, ◌+◌, ◌<◌, ◌≤◌, Bool, true, false, eqb, ◌⊎◌, List, [], ◌∷◌, length, refl, sym, ap, ◌∙◌, subst, inl, inr, arith, if◌then◌else◌, eqb-true, eq-eqb, ne_eqb, lt-ltb, le-ltb, ltb-true, ltb-false}
 use Rattle.std.specs.List.{AllByRecursion, IsDistinct, list_any}
 use Rattle.std.proofs.lemmas.Bool.{false≢true, cases_lt, cases_eq, and_parts, and_from, or_cases}
@@ -68,6 +69,14 @@ turn_goes false true c w x e f h = absurd (false≢true (sym f))
 turn_goes false false true w x e f h = refl
 turn_goes false false false w x e f h = h
 
+-- two turns at one link that go on alike
+turn_same : (a b c : Bool) (w x y : Why) → (a ≡ false → b ≡ false → c ≡ false → x ≡ y) →
+    (if a then Absent else if b then w else if c then Cycle else x) ≡ (if a then Absent else if b then w else if c then Cycle else y)
+turn_same true b c w x y h = refl
+turn_same false true c w x y h = refl
+turn_same false false true w x y h = refl
+turn_same false false false w x y h = h refl refl refl
+
 -- the pages from which a walk that began at `start` says yes
 abbrev pub Reaches : Protocol → List Found → ℕ → ℕ → Type 0
 Reaches p l start page =
@@ -111,9 +120,9 @@ abbrev trails : List Found → ℕ → ℕ → List ℕ
 trails l start zero = start ∷ []
 trails l start (suc n) = trail l start (suc n) ∷ trails l start n
 
--- a trail within a set that follows newest records and has not come back to its start
-record IsTrail (l : List Found) (X : ℕ → Type 0) (start n : ℕ) : Type 0 where
-  inside : (j : ℕ) → j ≤ n → X (trail l start j)
+-- a trail of newest records that has not come back to its start
+record IsTrail (l : List Found) (start n : ℕ) : Type 0 where
+  written : (j : ℕ) → j ≤ n → 0 < newest l (trail l start j)
   joined : (j : ℕ) → j < n → top_link l (trail l start j) ≡ newest_name l (trail l start (suc j))
   away : (j : ℕ) → j < n → trail l start (suc j) ≡ start → ⊥
 
@@ -135,19 +144,19 @@ below_any (x ∷ xs) n q a h = elim (or_cases (eqb q x) (list_any (eqb q) xs) h)
   | inr more ↦ below_any xs n q a.1 more
 ]
 
-module _ (p : Protocol) (l : List Found) (logical : ℕ) (linked : IsLinked l logical) (X : ℕ → Type 0) (safe : IsSafe p l logical X) (start : ℕ) where
+module _ (l : List Found) (logical : ℕ) (linked : IsLinked l logical) (start : ℕ) where
   -- no page stands twice on such a trail, since two names have two links
-  apart : (n : ℕ) → IsTrail l X start n → (i j : ℕ) → i < j → j ≤ n → trail l start i ≡ trail l start j → ⊥
+  apart : (n : ℕ) → IsTrail l start n → (i j : ℕ) → i < j → j ≤ n → trail l start i ≡ trail l start j → ⊥
   apart n t i zero less le e = absurd (omega arith)
   apart n t zero (suc j) less le e = t.away j (omega arith) (sym e)
   apart n t (suc i) (suc j) less le e =
-      let near = newest_present l (trail l start i) (safe.written (trail l start i) (t.inside i (omega arith))) in
-      let far = newest_present l (trail l start j) (safe.written (trail l start j) (t.inside j (omega arith))) in
+      let near = newest_present l (trail l start i) (t.written i (omega arith)) in
+      let far = newest_present l (trail l start j) (t.written j (omega arith)) in
       let links = t.joined i (omega arith) ∙ ap (newest_name l) e ∙ sym (t.joined j (omega arith)) in
       apart n t i j (omega arith) (omega arith) (ap (λ u. u.page) (linked.once (newest_name l (trail l start i)) (newest_name l (trail l start j)) near far links))
 
   -- so its pages are distinct
-  distinct : (n m : ℕ) → IsTrail l X start n → m ≤ n → IsDistinct eqb (trails l start m)
+  distinct : (n m : ℕ) → IsTrail l start n → m ≤ n → IsDistinct eqb (trails l start m)
   unfolding IsDistinct
   distinct n zero t le = (tt, tt)
   distinct n (suc m) t le = (
@@ -156,21 +165,21 @@ module _ (p : Protocol) (l : List Found) (logical : ℕ) (linked : IsLinked l lo
   )
 
   -- a trail that has not come back is no longer than there are pages
-  trail_short : (n : ℕ) → IsTrail l X start n → suc n ≤ logical
+  trail_short : (n : ℕ) → IsTrail l start n → suc n ≤ logical
   trail_short n t =
       let len = length-le_from_distinct_below (trails l start n) logical (distinct n n t (omega arith))
       (λ q h. below_any (trails l start n) logical q
-      (along_trails (λ x. x < logical) l start n (λ j le. (linked.pages (newest_name l (trail l start j)) (newest_present l (trail l start j) (safe.written (trail l start j) (t.inside j le)))).0)) h) in
+      (along_trails (λ x. x < logical) l start n (λ j le. (linked.pages (newest_name l (trail l start j)) (newest_present l (trail l start j) (t.written j le))).0)) h) in
       let e = trails_length l start n in
       omega arith
 
   -- one page more on the trail
-  longer : (n : ℕ) → IsTrail l X start n → X (trail l start (suc n)) →
-      top_link l (trail l start n) ≡ newest_name l (trail l start (suc n)) → (trail l start (suc n) ≡ start → ⊥) → IsTrail l X start (suc n)
-  longer n t x e away = record {
-    inside = λ j le. elim (cases_lt n j) [
-      | inl more ↦ (let at : suc n ≡ j = omega arith in subst (λ i. X (trail l start i)) at x)
-      | inr less ↦ t.inside j less
+  longer : (n : ℕ) → IsTrail l start n → 0 < newest l (trail l start (suc n)) →
+      top_link l (trail l start n) ≡ newest_name l (trail l start (suc n)) → (trail l start (suc n) ≡ start → ⊥) → IsTrail l start (suc n)
+  longer n t has e away = record {
+    written = λ j le. elim (cases_lt n j) [
+      | inl more ↦ (let at : suc n ≡ j = omega arith in subst (λ i. 0 < newest l (trail l start i)) at has)
+      | inr less ↦ t.written j less
     ];
     joined = λ j le. elim (cases_lt j n) [
       | inl less ↦ t.joined j less
@@ -182,14 +191,43 @@ module _ (p : Protocol) (l : List Found) (logical : ℕ) (linked : IsLinked l lo
     ];
   }
 
+  -- a page with records begins one
+  begins : 0 < newest l start → IsTrail l start zero
+  begins has = record {
+    written = λ j le. (let at : zero ≡ j = omega arith in subst (λ i. 0 < newest l (trail l start i)) at has);
+    joined = λ j less. absurd (omega arith);
+    away = λ j less. absurd (omega arith);
+  }
+
+module _ (p : Protocol) (l : List Found) (logical : ℕ) (linked : IsLinked l logical) (start : ℕ) where
+  -- walks along a trail that may look at as many links as there are pages end alike
+  walk_alike : (few many n : ℕ) → logical ≤ n + few → logical ≤ n + many → IsTrail l start n →
+      walk p l (newest_name l start) few (top_link l (trail l start n)) ≡ walk p l (newest_name l start) many (top_link l (trail l start n))
+  walk_alike zero many n enough too t = let short = trail_short l logical linked start n t in absurd (omega arith)
+  walk_alike (suc a) zero n enough too t = let short = trail_short l logical linked start n t in absurd (omega arith)
+  walk_alike (suc a) (suc b) n enough too t =
+      let q = top_link l (trail l start n) in
+      let step = walk_alike a b (suc n) (omega arith) (omega arith) in
+      let positive = (linked.versions (newest_name l (trail l start n)) (newest_present l (trail l start n) (t.written n (omega arith)))).1 in
+      turn_same (is_ahead l q) (is_behind l q) (is_same q (newest_name l start)) (passed p l q) (walk p l (newest_name l start) a (link_of l q)) (walk p l (newest_name l start) b (link_of l q)) (λ ahead behind other.
+      let high : q.version ≤ newest l q.page = ltb-false (newest l q.page) q.version ahead in
+      let low : newest l q.page ≤ q.version = ltb-false q.version (newest l q.page) behind in
+      let at : q.version ≡ newest l q.page = omega arith in
+      let name : q ≡ newest_name l q.page = same_name q (newest_name l q.page) refl at in
+      let away : q.page ≡ start → ⊥ = λ e. false≢true (sym other
+      ∙ and_from (eqb q.page start) (eqb q.version (newest l start)) (eq-eqb q.page start e) (eq-eqb q.version (newest l start) (at ∙ ap (newest l) e))) in
+      subst (λ x. walk p l (newest_name l start) a (link_of l x) ≡ walk p l (newest_name l start) b (link_of l x)) (sym name)
+      (step (longer l logical linked start n t (omega arith) name away)))
+
+module _ (p : Protocol) (l : List Found) (logical : ℕ) (linked : IsLinked l logical) (X : ℕ → Type 0) (safe : IsSafe p l logical X) (start : ℕ) where
   -- a walk that stays in a safe set says yes
-  safe_walk : (turns n : ℕ) → logical ≤ n + turns → IsTrail l X start n →
+  safe_walk : (turns n : ℕ) → logical ≤ n + turns → IsTrail l start n → X (trail l start n) →
       is_committed (walk p l (newest_name l start) turns (top_link l (trail l start n))) ≡ true
-  safe_walk zero n enough t = let short = trail_short n t in absurd (omega arith)
-  safe_walk (suc m) n enough t =
+  safe_walk zero n enough t x = let short = trail_short l logical linked start n t in absurd (omega arith)
+  safe_walk (suc m) n enough t x =
       let q = top_link l (trail l start n) in
       let step = safe_walk m (suc n) (omega arith) in
-      elim (safe.goes (trail l start n) (t.inside n (omega arith))) [
+      elim (safe.goes (trail l start n) x) [
         | inl passes ↦ turn_passes (is_ahead l q) (is_behind l q) (is_same q (newest_name l start)) (passed p l q) (walk p l (newest_name l start) m (link_of l q))
             (le-ltb (newest l q.page) q.version (omega arith)) (lt-ltb q.version (newest l q.page) passes.0) passes.1
         | inr on ↦ (
@@ -200,7 +238,7 @@ module _ (p : Protocol) (l : List Found) (logical : ℕ) (linked : IsLinked l lo
               | inl back ↦ turn_closes (is_ahead l q) (is_behind l q) (is_same q (newest_name l start)) (passed p l q) (walk p l (newest_name l start) m (link_of l q)) ahead behind
                   (and_from (eqb q.page start) (eqb q.version (newest l start)) (eq-eqb q.page start back) (eq-eqb q.version (newest l start) (on.0 ∙ ap (newest l) back)))
               | inr off ↦ turn_goes (is_ahead l q) (is_behind l q) (is_same q (newest_name l start)) (passed p l q) (walk p l (newest_name l start) m (link_of l q)) ahead behind
-                  (subst (λ x. is_committed (walk p l (newest_name l start) m (link_of l x)) ≡ true) (sym name) (step (longer n t on.1 name off)))
+                  (subst (λ x. is_committed (walk p l (newest_name l start) m (link_of l x)) ≡ true) (sym name) (step (longer l logical linked start n t (safe.written q.page on.1) name off) on.1))
             ])
       ]
 
@@ -209,11 +247,7 @@ module _ (p : Protocol) (l : List Found) (logical : ℕ) (linked : IsLinked l lo
   pub counts_from : (X : ℕ → Type 0) → IsSafe p l logical X → (page : ℕ) → X page → Counts p l logical page
   counts_from X safe page x = (
     safe.written page x,
-    safe_walk p l logical linked X safe page (suc logical) zero (omega arith) (record {
-      inside = λ j le. (let at : zero ≡ j = omega arith in subst (λ i. X (trail l page i)) at x);
-      joined = λ j less. absurd (omega arith);
-      away = λ j less. absurd (omega arith);
-    }),
+    safe_walk p l logical linked X safe page (suc logical) zero (omega arith) (begins l logical linked page (safe.written page x)) x,
   )
 
   -- the pages that count are a safe set
@@ -227,3 +261,7 @@ module _ (p : Protocol) (l : List Found) (logical : ℕ) (linked : IsLinked l lo
           | inr on ↦ inr (on.0, counts_from (Reaches p l page) safe (top_link l page).page on.1)
         ];
   }
+
+  -- as many links as there are pages decide the verdict
+  pub walk_ends : (page turns : ℕ) → 0 < newest l page → logical ≤ turns → walk p l (newest_name l page) turns (top_link l page) ≡ why p l logical page
+  walk_ends page turns has enough = walk_alike p l logical linked page turns (suc logical) zero (omega arith) (omega arith) (begins l logical linked page has)

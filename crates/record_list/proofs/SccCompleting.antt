@@ -1,5 +1,5 @@
 -- Simple Cyclic Commit: what a write keeps that completes its cycle.
-use Rattle.std.proofs.Common.{◌≡◌, ◌≢◌, true}
+use Rattle.std.proofs.Common.{◌≡◌, ◌≢◌, ◌<◌, true}
 use Rattle.std.proofs.lemmas.Bool.{false≢true}
 use Rattle.tx_types.specs.declared.record.Link.{Link}
 use Rattle.tx_types.specs.declared.config.Protocol.TheVariants.{Scc}
@@ -10,7 +10,7 @@ use Rattle.record_list.proofs.Names.{IsIn, all_from, all_at}
 use Rattle.record_list.proofs.SoundNames.{sound_map, sound_list}
 use Rattle.record_list.proofs.OneMore.{next_after}
 use Rattle.record_list.proofs.Keeping.{step_of, back_of_step, page_apart, others_on}
-use Rattle.record_list.proofs.Completing.{completed, elsewhere, completing_map}
+use Rattle.record_list.proofs.Completing.{completed, was_lower, elsewhere, completing_map}
 use Rattle.record_list.proofs.SccPartial.{scc_old_links}
 
 -- the law of a write that completes its cycle
@@ -25,7 +25,9 @@ scc_completing_write l l' logical names f sound w every =
           (back_of_step Scc l l' logical names f w f.rec.next (next_after l l' logical names f.rec s)) tt tt);
       committed = all_from (λ n. cur Scc l' logical n.page ≡ n.version) names (completed Scc l l' logical names f s m old all);
       elsewhere = λ page below out. elsewhere Scc l l' logical names f s m old all page (λ a i. all_at (λ n. n.page ≢ page) names a out i);
+      rises = all_from (λ n. cur Scc l logical n.page < n.version) names (was_lower Scc l l' logical names f s m old all);
       held = λ name is. absurd (false≢true is);
+      responsible = tt;
       others = λ others share h. others_on Scc l l' logical names f w others share
           (λ b j. elsewhere Scc l l' logical names f s m old all b.page (λ a i e. page_apart Scc l l' logical names f w others share a b i j e)) h;
     }

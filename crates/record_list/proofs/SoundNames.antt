@@ -1,5 +1,6 @@
 -- The laws of a sound list by names: each name that is present has one link and one back version.
-use Rattle.std.proofs.Common.{◌≡◌, ◌≢◌, ℕ, ◌<◌, ◌≤◌, Bool, true, false, eqb, ◌⊎◌, List, refl, sym, ap, ◌∙◌, subst, inl, inr, arith, eqb-true, eq-eqb, if◌then◌else◌}
+use Rattle.std.proofs.Common.{◌≡◌, ◌≢◌, ℕ, ◌<◌, ◌≤◌, Bool, true, false, eqb, ◌⊎◌, List, All, refl, sym, ap, ◌∙◌, subst, inl, inr, arith, eqb-true, eq-eqb, if◌then◌else◌}
+use Rattle.std.proofs.lemmas.List.Elements.{All-weaker}
 use Rattle.tx_types.specs.declared.record.Link.{Link}
 use Rattle.tx_types.specs.declared.config.Protocol.{Protocol}
 use Rattle.tx_types.specs.declared.config.Protocol.TheVariants.{Scc, Bpcc}
@@ -8,7 +9,7 @@ use Rattle.record_list.specs.declared.found.Why.TheVariants.{Passed, Straddled}
 use Rattle.record_list.specs.Records.{newest, name_of, is_present, IsScanned}
 use Rattle.record_list.specs.Verdict.{newest_name, link_of, back_of, straddling, is_committed}
 use Rattle.record_list.specs.Current.{cur, responsible}
-use Rattle.record_list.specs.SoundList.{Pages, Copies, Links, Present, Counted, Loose, Ending, PagesExist, CopiesAgree, LinksDiffer, CurrentIsPresent, LinkHasCounted, LooseIsShown, LooseEnds, current_name, follow, IsSoundList}
+use Rattle.record_list.specs.SoundList.{Pages, Copies, Links, Present, Counted, Loose, Ending, OwnPageExists, PagesExist, CopiesAgree, LinksDiffer, CurrentIsPresent, LinkHasCounted, LooseIsShown, LooseEnds, current_name, follow, IsSoundList}
 use Rattle.record_list.proofs.Names.{IsIn, all_from, all_at, in_order, same_record, found_named, present_in, newest_present}
 use Rattle.record_list.proofs.Safe.{is_clear, IsLinked}
 
@@ -25,6 +26,10 @@ abbrev pub EndingNames : Protocol → List Found → ℕ → Type 0
 EndingNames Scc l logical = Unit {0}
 EndingNames Bpcc l logical = (u : Link) → is_present l u ≡ true → cur Bpcc l logical u.page < u.version →
     ((n : ℕ) × (is_present l (follow l (link_of l u) n) ≡ false))
+
+-- where each record keeps law 1, its own page exists
+pub own_pages : (l : List Found) (logical : ℕ) → All (PagesExist logical) l → All (OwnPageExists logical) l
+own_pages l logical all = All-weaker (PagesExist logical) (OwnPageExists logical) (λ f pages. pages.0) l all
 
 -- laws 1 to 7 by names
 pub record IsSoundMap (p : Protocol) (l : List Found) (logical : ℕ) : Type 0 where

@@ -1,6 +1,6 @@
 -- The four laws of change with bytes follow from those without, for any protocol: what bytes say stays, and some block
 -- stays removable.
-use Rattle.std.proofs.Common.{◌≡◌, ◌≢◌, ℕ, ◌<◌, ◌≤◌, ◌⊎◌, Bool, true, false, List, Any, Contains, sym, ap, ◌∙◌, subst, inl, inr, ⊎_elim}
+use Rattle.std.proofs.Common.{◌≡◌, ◌≢◌, ℕ, ◌<◌, ◌≤◌, ◌⊎◌, Bool, true, false, List, All, Any, Contains, sym, ap, ◌∙◌, subst, inl, inr, ⊎_elim}
 use Rattle.std.proofs.lemmas.Bool.{both_ways}
 use Rattle.std.proofs.lemmas.List.Elements.{All-filter}
 use Rattle.tx_types.specs.declared.record.Link.{Link}
@@ -9,15 +9,16 @@ use Rattle.record_list.specs.declared.found.Found.{Found}
 use Rattle.record_list.specs.Records.{name_of, is_present, IsScanned}
 use Rattle.record_list.specs.Current.{cur, is_held}
 use Rattle.record_list.specs.SoundList.{IsSoundList}
-use Rattle.record_list.specs.Changes.{left, KeepsCounted, PartialWriteLaw, PartialWriteKeeps, CompletingWriteLaw, CompletingWriteKeeps, CopyLaw, CopyKeeps, LossLaw, LossKeeps}
-use Rattle.record_list.specs.Written.{Written, found_of, records_of, is_outside}
+use Rattle.record_list.specs.Changes.{IsInserted, IsCopy, left, KeepsCounted, PartialWriteLaw, PartialWriteKeeps, CompletingWriteLaw, CompletingWriteKeeps, CopyLaw, CopyKeeps, LossLaw, LossKeeps}
+use Rattle.record_list.specs.Written.{Written, found_of, records_of, BytesAgree, is_outside}
 use Rattle.record_list.specs.WrittenChanges.{WrittenPartialWriteLaw, WrittenCompletingWriteLaw, WrittenCopyLaw, left_outside, WrittenLossLaw}
-use Rattle.record_list.proofs.LossMembers.{in_inserted, present_as}
+use Rattle.record_list.proofs.OneMore.{in_inserted}
+use Rattle.record_list.proofs.LossAmong.{among_of, among_present}
 use Rattle.record_list.proofs.LossCounted.{IsCountedKept, counted_names, counted_records}
-use Rattle.record_list.proofs.WrittenLists.{in_records, inserted_records, IsOneText, one_text, bytes_inserted, bytes_filtered, records_left, present_more, left_more, left_twice}
+use Rattle.record_list.proofs.WrittenLists.{in_records, inserted_records, one_text, bytes_inserted, bytes_filtered, records_left, left_more, left_twice}
 use Rattle.record_list.proofs.SoundNames.{sound_map}
 use Rattle.record_list.proofs.Rounds.{cases_page}
-use Rattle.record_list.proofs.Names.{IsIn, all_from, all_at, in_from, contains_from, same_name}
+use Rattle.record_list.proofs.Names.{IsIn, all_from, all_at, in_from, contains_from, same_name, present_as}
 
 -- current or held
 IsCounted : Protocol → List Found → ℕ → Link → Type 0
@@ -34,13 +35,13 @@ counted_grows p l m n keep sl scanned s sm sub was k =
     counted_records p m n keep s.versions sm (record {
       kept = λ name low h c.
           ⊎_elim
-          (λ old. present_more (left keep l) (left keep m) (left_more keep l m sub) name (b.kept name low h old))
+          (λ old. among_present (left keep l) (left keep m) (among_of (left keep l) (left keep m) (left_more keep l m sub)) name (b.kept name low h old))
           (λ there. there)
           (was name low c);
     })
 
 -- an absent name is no record's
-fresh_bytes : (l : List Written) (w : Written) → is_present (records_of l) (name_of w.rec) ≡ false →
+pub fresh_bytes : (l : List Written) (w : Written) → is_present (records_of l) (name_of w.rec) ≡ false →
     (v : Written) → IsIn l v → name_of v.rec ≡ name_of w.rec → v.bytes ≡ w.bytes
 fresh_bytes l w fresh v c e = absurd (both_ways (is_present (records_of l) (name_of w.rec)) fresh (present_as (records_of l) (found_of v) (name_of w.rec) (in_records l v c) e))
 
@@ -56,7 +57,7 @@ written_partial_write p law l m n shape names w sound i write some =
           block = sound.removable.block;
           exists = sound.removable.exists;
           removable = counted_grows p (records_of l) (records_of m) n (is_outside shape sound.removable.block) sound.records write.scanned write.scanned' k.sound
-              (λ f c. in_inserted (records_of l) (records_of m) (found_of w) f write.added c)
+              (in_inserted (records_of l) (records_of m) (found_of w) write.added)
               (λ name low c. inl (⊎_elim (λ e. inl (e ∙ k.same_current name.page low)) (λ h. inr (sym (k.same_held name) ∙ h)) c))
               sound.removable.removable;
         };
@@ -76,7 +77,7 @@ written_completing_write p law l m n shape names w sound i write all room =
           block = room.block;
           exists = room.exists;
           removable = counted_grows p (records_of l) (records_of m) n (is_outside shape room.block) sound.records write.scanned write.scanned' k.sound
-              (λ f c. in_inserted (records_of l) (records_of m) (found_of w) f write.added c)
+              (in_inserted (records_of l) (records_of m) (found_of w) write.added)
               (λ name low c. elim c [
                 | inl e ↦ elim (cases_page names name.page) [
                   | inl t ↦ inr (subst (λ a. is_present (left (is_outside shape room.block) (records_of m)) a ≡ true)
@@ -95,26 +96,35 @@ written_completing_write p law l m n shape names w sound i write all room =
       k,
     )
 
+module _ (l m : List Written) (w : Written) (i : IsInserted l w m) (scanned : IsScanned (records_of l)) (source : Any (λ v. (v.rec ≡ w.rec) × (v.bytes ≡ w.bytes)) l) where
+  -- a copy with its bytes is a copy
+  pub copied : IsScanned (records_of m) → IsCopy (records_of l) (records_of m) (found_of w)
+  copied scanned' =
+      let v = source.1 in
+      let at : Contains (records_of l) (found_of v) = contains_from (records_of l) (found_of v) (in_records l v (in_from l v (source.0, source.2, source.3))) in
+      record { scanned = scanned; scanned' = scanned'; added = inserted_records l m w i; source = (at.0, found_of v, at.1, at.2, source.4.0) }
+
+  -- and the bytes agree
+  pub bytes_copied : All (BytesAgree l) l → All (BytesAgree m) m
+  bytes_copied bytes =
+      let v = source.1 in
+      let there : IsIn l v = in_from l v (source.0, source.2, source.3) in
+      bytes_inserted l m w i bytes (λ u c e. (one_text l scanned bytes).same u v c there (e ∙ sym (ap name_of source.4.0)) ∙ source.4.1)
+
 -- a copy: the same block stays removable
 pub written_copy : (p : Protocol) → CopyLaw p → WrittenCopyLaw p
 unfolding IsCounted
 written_copy p law l m n shape w sound i scanned scanned' source =
-    let v = source.1 in
-    let there : IsIn l v = in_from l v (source.0, source.2, source.3) in
-    let same = source.4 in
-    let at : Contains (records_of l) (found_of v) = contains_from (records_of l) (found_of v) (in_records l v there) in
-    let src : Any (λ g. g.rec ≡ w.rec) (records_of l) = (at.0, found_of v, at.1, at.2, same.0) in
-    let k : CopyKeeps p (records_of l) (records_of m) n = law (records_of l) (records_of m) n (found_of w) sound.records
-    (record { scanned = scanned; scanned' = scanned'; added = inserted_records l m w i; source = src }) in
-    let o : IsOneText l = one_text l scanned sound.bytes in (
+    let copy : IsCopy (records_of l) (records_of m) (found_of w) = copied l m w i scanned source scanned' in
+    let k : CopyKeeps p (records_of l) (records_of m) n = law (records_of l) (records_of m) n (found_of w) sound.records copy in (
       record {
         records = k.sound;
-        bytes = bytes_inserted l m w i sound.bytes (λ u c e. o.same u v c there (e ∙ sym (ap name_of same.0)) ∙ same.1);
+        bytes = bytes_copied l m w i scanned source sound.bytes;
         removable = record {
           block = sound.removable.block;
           exists = sound.removable.exists;
           removable = counted_grows p (records_of l) (records_of m) n (is_outside shape sound.removable.block) sound.records scanned scanned' k.sound
-              (λ f c. in_inserted (records_of l) (records_of m) (found_of w) f (inserted_records l m w i) c)
+              (in_inserted (records_of l) (records_of m) (found_of w) copy.added)
               (λ name low c. inl (⊎_elim (λ e. inl (e ∙ k.same_current name.page low)) (λ h. inr (sym (k.same_held name) ∙ h)) c))
               sound.removable.removable;
         };
@@ -134,7 +144,7 @@ written_loss p law l n shape block sound scanned exists removable =
     let r : KeepsCounted p fewer n keep = counted_records p fewer n keep
     (All-filter (λ f. keep f.slot.0) (λ f. (1 ≤ f.rec.version) × (1 ≤ f.rec.next.version)) (records_of l) scanned.versions) k.sound
     (record {
-      kept = λ name low h c. present_more fewer (left keep fewer) (left_twice keep (records_of l)) name
+      kept = λ name low h c. among_present fewer (left keep fewer) (among_of fewer (left keep fewer) (left_twice keep (records_of l))) name
           (b.kept name low h (⊎_elim (λ e. inl (e ∙ k.same_current name.page low)) (λ held. inr (k.held name held)) c));
     }) in (
       record {

@@ -1,13 +1,12 @@
 -- Lists of records with bytes: their records, one item more, and the slots outside a block.
 use Rattle.std.proofs.Common.{◌≡◌, ℕ, ◌<◌, Bool, true, false, cond, List, [], ◌∷◌, length, filter, All, AllPairs, inl, inr, sym, refl, ap, ◌∙◌, subst, subst₂, arith}
 use Rattle.std.proofs.lemmas.List.{map-append, get_or-map, length-map}
-use Rattle.tx_types.specs.declared.record.Link.{Link}
 use Rattle.record_list.specs.declared.found.Found.{Found}
-use Rattle.record_list.specs.Records.{name_of, is_present, IsScanned}
+use Rattle.record_list.specs.Records.{name_of, IsScanned}
 use Rattle.record_list.specs.Changes.{IsInserted, left}
 use Rattle.record_list.specs.Written.{Written, found_of, records_of, BytesAgree}
-use Rattle.record_list.proofs.LossMembers.{in_filter, from_filter, from_inserted, of_any_two, present_as}
-use Rattle.record_list.proofs.Names.{IsIn, all_from, all_at, found_named}
+use Rattle.record_list.proofs.OneMore.{inserted_in}
+use Rattle.record_list.proofs.Names.{IsIn, all_from, all_at, of_any_two, in_filter, from_filter}
 
 -- an item's record is among the records
 pub in_records : (l : List Written) (w : Written) → IsIn l w → IsIn (records_of l) (found_of w)
@@ -48,12 +47,12 @@ one_text l s b = record {
 pub bytes_inserted : (l m : List Written) (w : Written) → IsInserted l w m → All (BytesAgree l) l →
     ((v : Written) → IsIn l v → name_of v.rec ≡ name_of w.rec → v.bytes ≡ w.bytes) → All (BytesAgree m) m
 bytes_inserted l m w i b new = all_from (BytesAgree m) m (λ u cu. all_from (λ v. v.slot.0 < u.slot.0 → name_of v.rec ≡ name_of u.rec → v.bytes ≡ u.bytes) m (λ v cv lt e.
-    elim (from_inserted l m w u i cu) [
-      | inl wu ↦ elim (from_inserted l m w v i cv) [
+    elim (inserted_in l m w i u cu) [
+      | inl wu ↦ elim (inserted_in l m w i v cv) [
         | inl wv ↦ ap (λ (x : Written). x.bytes) (sym wv ∙ wu)
         | inr old ↦ new v old (e ∙ ap (λ (x : Written). name_of x.rec) (sym wu)) ∙ ap (λ (x : Written). x.bytes) wu
       ]
-      | inr ou ↦ elim (from_inserted l m w v i cv) [
+      | inr ou ↦ elim (inserted_in l m w i v cv) [
         | inl wv ↦ ap (λ (x : Written). x.bytes) (sym wv) ∙ sym (new u ou (sym e ∙ ap (λ (x : Written). name_of x.rec) (sym wv)))
         | inr ov ↦ all_at (λ x. x.slot.0 < u.slot.0 → name_of x.rec ≡ name_of u.rec → x.bytes ≡ u.bytes) l v (all_at (BytesAgree l) l u b ou) ov lt e
       ]
@@ -76,10 +75,6 @@ records_left keep [] = refl
 records_left keep (w ∷ ws) =
     map_cond (keep w.slot.0) w (filter (λ w. keep w.slot.0) ws) (filter (λ w. keep w.slot.0) ws)
     ∙ ap (λ z. cond (keep w.slot.0) (found_of w ∷ z) z) (records_left keep ws)
-
--- a present name stays present with more records, and among those left
-pub present_more : (l m : List Found) → ((f : Found) → IsIn l f → IsIn m f) → (name : Link) → is_present l name ≡ true → is_present m name ≡ true
-present_more l m sub name h = let x = found_named l name h in present_as m x.0 name (sub x.0 x.1) x.2
 
 -- more records leave more, and what is left once is left twice
 pub left_more : (keep : ℕ → Bool) (l m : List Found) → ((f : Found) → IsIn l f → IsIn m f) → (f : Found) → IsIn (left keep l) f → IsIn (left keep m) f

@@ -39,22 +39,24 @@ must_go Bpcc list logical page below r = false
 
 -- the version of a record, at most `top`, that straddles this name, else 0
 abbrev pub straddling_upto : ℕ → Link → Rec → ℕ
-straddling_upto top name r = if ((r.page == name.page) && straddles r name.version) && nat_le r.version top then r.version else 0
+straddling_upto top name r =
+    if ((r.page == name.page) && straddles r name.version) && nat_le r.version top then r.version else 0
 
 -- the version of the record that is responsible for loose records which link to this name, 0 for none
 abbrev pub responsible : Protocol → List Found → ℕ → Link → ℕ
 responsible protocol list logical name =
     greatest (straddling_upto (cur protocol list logical name.page) name) list
 
--- whether the record of this name is responsible for the record r
+-- whether the record of this name is responsible for the record r; version 0 is no record's
 abbrev pub answers_for : Protocol → List Found → ℕ → Link → Rec → Bool
 answers_for protocol list logical name r =
     is_loose protocol list logical r
     && (r.next.page == name.page)
     && nat_lt r.next.version (cur protocol list logical name.page)
+    && nat_lt 0 name.version
     && (responsible protocol list logical r.next == name.version)
 
--- whether the record of this name is responsible for some loose record
+-- whether the record of this name is responsible for some loose record; under Simple Cyclic Commit none is
 abbrev pub is_held : Protocol → List Found → ℕ → Link → Bool
 is_held Scc list logical name = false
 is_held Bpcc list logical name = list_any (λ f. answers_for Bpcc list logical name f.rec) list

@@ -6,4 +6,6 @@ pub mod Transaction
 pub mod Changes
 pub mod Written
 pub mod WrittenChanges
+pub mod ArrayChanges
 pub mod Search
+pub mod Examples

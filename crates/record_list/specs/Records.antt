@@ -24,7 +24,8 @@ mentioned_at page r = max (version_of page r) (linked_at page r)
 
 -- whether a record mentions this page below a version, by either mention
 abbrev pub mentions_below : ℕ → ℕ → Rec → Bool
-mentions_below page below r = ((r.page == page) && nat_lt r.version below) || ((r.next.page == page) && nat_lt r.next.version below)
+mentions_below page below r =
+    ((r.page == page) && nat_lt r.version below) || ((r.next.page == page) && nat_lt r.next.version below)
 
 -- the version of a record of this page that is below a version, else 0
 abbrev pub version_below : ℕ → ℕ → Rec → ℕ
@@ -58,7 +59,10 @@ is_present list name = list_any (λ f. has_name name f.rec) list
 
 -- what stands for the record at an index where there is none
 abbrev pub nothing : Found
-nothing = record { slot = record { 0 = 0 }; rec = record { page = 0; version = 0; next = record { page = 0; version = 0 }; back = 0 } }
+nothing = record {
+  slot = record { 0 = 0 };
+  rec = record { page = 0; version = 0; next = record { page = 0; version = 0 }; back = 0 };
+}
 
 -- the record at this index
 abbrev pub record_at : List Found → ℕ → Rec

@@ -1,6 +1,6 @@
 -- The laws of a sound list of records, each as a fact on one record of the list. The slot that a law names is the least
 -- slot of a record that breaks it.
-use Rattle.std.specs.Prelude.{◌≡◌, ◌≢◌, ℕ, zero, suc, ◌<◌, ◌≤◌, ◌⊎◌, true, false, List, All, Any}
+use Rattle.std.specs.Prelude.{◌≡◌, ◌≢◌, ℕ, zero, suc, ◌<◌, ◌≤◌, ◌⊎◌, true, false, Option, MatchOption, List, All, Any}
 use Rattle.tx_types.specs.declared.record.Link.{Link}
 use Rattle.tx_types.specs.declared.config.Protocol.{Protocol}
 use Rattle.tx_types.specs.declared.config.Protocol.TheVariants.{Scc, Bpcc}
@@ -9,6 +9,10 @@ use Rattle.record_list.specs.declared.found.Breach.{Breach}
 use Rattle.record_list.specs.Records.{newest, name_of, is_present}
 use Rattle.record_list.specs.Verdict.{link_of, straddling}
 use Rattle.record_list.specs.Current.{cur, IsCurrent, IsLoose, responsible}
+
+-- its own page exists, wherever its link leads
+abbrev pub OwnPageExists : ℕ → Found → Type 0
+OwnPageExists logical f = f.rec.page < logical
 
 -- law 1: its page and its link's page exist
 abbrev pub PagesExist : ℕ → Found → Type 0
@@ -95,3 +99,7 @@ pub record IsLeastBreach (protocol : Protocol) (list : List Found) (logical : �
   pub breaks : Any (λ f. (f.slot.0 ≡ b.slot.0) × (Keeps protocol list logical law f → ⊥)) list
   pub earlier_laws : (l : Law) → number l < number law → All (Keeps protocol list logical l) list
   pub earlier_slots : All (λ f. f.slot.0 < b.slot.0 → Keeps protocol list logical law f) list
+
+-- the first law that is broken with the slot that it names, nothing where the list is sound
+abbrev pub IsFirstBreach : Protocol → List Found → ℕ → Option Breach → Type 0
+IsFirstBreach protocol list logical breach = MatchOption breach (IsSoundList protocol list logical) (IsLeastBreach protocol list logical)

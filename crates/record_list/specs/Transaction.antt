@@ -27,13 +27,17 @@ back_version Bpcc list logical page = cur Bpcc list logical page
 -- a record with one of the names has the link and the back version that the transaction asks for, as the list stands
 abbrev pub IsAsked : Protocol → List Found → ℕ → List Link → Rec → Type 0
 IsAsked protocol list logical names r =
-    All (λ (name, next). name_of r ≡ name → (r.next ≡ next) × (r.back ≡ back_version protocol list logical name.page)) (zip names (rounded names))
+    All
+    (λ (name, next). name_of r ≡ name →
+    (r.next ≡ next) × (r.back ≡ back_version protocol list logical name.page))
+    (zip names (rounded names))
 
 -- the records of the transaction are as it asks, and every other record mentions its pages below its versions
 pub record IsBegun (protocol : Protocol) (list : List Found) (logical : ℕ) (names : List Link) : Type 0 where
   pub transaction : IsTransaction logical names
   pub asked : All (λ f. IsAsked protocol list logical names f.rec) list
-  pub others : All (λ f. (Contains names (name_of f.rec) → ⊥) → All (λ name. mentioned_at name.page f.rec < name.version) names) list
+  pub others :
+      All (λ f. (Contains names (name_of f.rec) → ⊥) → All (λ name. mentioned_at name.page f.rec < name.version) names) list
 
 -- it is begun, and a name is absent
 pub record InProgress (protocol : Protocol) (list : List Found) (logical : ℕ) (names : List Link) : Type 0 where

@@ -1,4 +1,6 @@
--- A list of records with the bytes of their slots: the array that it stands for, the eight laws, homes and garbage.
+-- A list of records with the bytes of their slots: the array that it stands for, laws 1 to 8, homes and
+-- garbage. Law 1 is here its part on pages: a slot whose spare area does not read has no record, so that part
+-- of the law comes with the image, above this crate.
 use Rattle.std.specs.Prelude.{◌≡◌, ℕ, ◌/◌, ◌<◌, ◌==◌, ◌⊎◌, Bool, true, false, not, ◌&&◌, ◌||◌, Option, Some, None, List, All, Any, map, find}
 use Rattle.std.specs.List.{list_any, range_with_len}
 use Rattle.std.specs.Option.{option_map, option_or}
@@ -12,10 +14,10 @@ use Rattle.tx_types.specs.declared.config.BlockState.TheVariants as state
 use Rattle.tx_types.specs.Config.{blocks_of}
 use Rattle.record_list.specs.declared.found.Found.{Found}
 use Rattle.record_list.specs.declared.found.Breach.{Breach}
-use Rattle.record_list.specs.Records.{name_of, has_name}
+use Rattle.record_list.specs.Records.{name_of, has_name, is_present}
 use Rattle.record_list.specs.Current.{cur, is_held}
 use Rattle.record_list.specs.SoundList.{current_name, Law, Pages, Copies, Links, Present, Counted, Loose, Ending, number, Keeps, IsSoundList}
-use Rattle.record_list.specs.Changes.{KeepsCounted}
+use Rattle.record_list.specs.Changes.{left, KeepsCounted}
 
 -- a record, its slot, and the bytes of the slot's contents
 pub record Written : Type 0 where
@@ -53,13 +55,28 @@ is_outside shape block slot = not (slot / shape.pages_per_block == block)
 abbrev pub IsRemovable : Protocol → List Found → ℕ → Shape → ℕ → Type 0
 IsRemovable protocol list logical shape block = KeepsCounted protocol list logical (is_outside shape block)
 
+-- whether a record is current, held or pinned
+abbrev pub is_wanted : Protocol → List Found → ℕ → List Link → Rec → Bool
+is_wanted protocol list logical pinned r =
+    (r.version == cur protocol list logical r.page)
+    || is_held protocol list logical (name_of r)
+    || list_any (λ name. has_name name r) pinned
+
+-- each current, each held and each pinned record of the list has a slot outside the block
+abbrev pub IsDispensable : Protocol → List Found → ℕ → List Link → Shape → ℕ → Type 0
+IsDispensable protocol list logical pinned shape block =
+    All
+    (λ f. is_wanted protocol list logical pinned f.rec ≡ true →
+    is_present (left (is_outside shape block) list) (name_of f.rec) ≡ true)
+    list
+
 -- law 8: some block is removable
 pub record HasRemovable (protocol : Protocol) (list : List Found) (logical : ℕ) (shape : Shape) : Type 0 where
   pub block : ℕ
   pub exists : block < blocks_of shape
   pub removable : IsRemovable protocol list logical shape block
 
--- the eight laws
+-- laws 1 to 8 of the records and their bytes
 pub record IsSoundWritten (protocol : Protocol) (list : List Written) (logical : ℕ) (shape : Shape) : Type 0 where
   pub records : IsSoundList protocol (records_of list) logical
   pub bytes : All (BytesAgree list) list
@@ -90,7 +107,7 @@ pub record IsUnremovable (protocol : Protocol) (list : List Written) (logical : 
   pub earlier_laws : (l : Law) → All (KeepsWritten protocol list logical l) list
   pub breaks : HasRemovable protocol (records_of list) logical shape → ⊥
 
--- the first of the eight laws that is broken, and the slot that it names
+-- the first of laws 1 to 8 that is broken by records and bytes, and the slot that it names
 abbrev pub IsLeastWrittenBreach : Protocol → List Written → ℕ → Shape → Breach → Type 0
 IsLeastWrittenBreach protocol list logical shape b =
     IsFirstBroken protocol list logical b ⊎ IsUnremovable protocol list logical shape b
@@ -107,21 +124,22 @@ first_slot test list = option_map (λ f. f.slot.0) (find test list)
 -- the home of a record: its lowest slot outside the spare, or its lowest slot where it has none outside
 abbrev pub home : Shape → Option ℕ → List Found → Link → Option ℕ
 home shape spare list name =
-    option_or (first_slot (λ f. has_name name f.rec && is_outside_spare shape spare f.slot.0) list) (first_slot (λ f. has_name name f.rec) list)
+    option_or
+    (first_slot (λ f. has_name name f.rec && is_outside_spare shape spare f.slot.0) list)
+    (first_slot (λ f. has_name name f.rec) list)
 
 abbrev pub is_slot : ℕ → Option ℕ → Bool
 is_slot at None = false
 is_slot at (Some slot) = slot == at
 
--- whether a record is current, held or pinned
-abbrev pub is_wanted : Protocol → List Found → ℕ → List Link → Rec → Bool
-is_wanted protocol list logical pinned r =
-    (r.version == cur protocol list logical r.page) || is_held protocol list logical (name_of r) || list_any (λ name. has_name name r) pinned
-
 -- whether a slot is the home of a record that is current, held or pinned
 abbrev pub is_needed : Protocol → List Found → ℕ → Shape → Option ℕ → List Link → ℕ → Bool
 is_needed protocol list logical shape spare pinned at =
-    list_any (λ f. (f.slot.0 == at) && is_slot at (home shape spare list (name_of f.rec)) && is_wanted protocol list logical pinned f.rec) list
+    list_any
+    (λ f. (f.slot.0 == at)
+    && is_slot at (home shape spare list (name_of f.rec))
+    && is_wanted protocol list logical pinned f.rec)
+    list
 
 -- whether a slot is garbage, by the state of its block, whether it reads blank, and whether it is needed
 abbrev pub is_garbage : BlockState → Bool → Bool → Bool

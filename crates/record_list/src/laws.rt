@@ -89,7 +89,7 @@ fn has_counted(protocol: Protocol, list: &[Found], logical: u32, found: &Found) 
 }
 
 /// Whether a record's version is above the current one of its page.
-pub fn loose(protocol: Protocol, list: &[Found], logical: u32, rec: Rec) -> bool
+pub fn is_loose(protocol: Protocol, list: &[Found], logical: u32, rec: Rec) -> bool
     ensures { result ≡ is_loose protocol list.now logical rec }
 {
     rec.version > current_version(protocol, list, logical, rec.page)

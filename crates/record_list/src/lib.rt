@@ -6,13 +6,15 @@ mod found;
 mod laws;
 mod plain;
 mod rule;
+mod theorems;
 mod walks;
 
 pub use found::{Breach, Found, Verdict, Why};
 pub use laws::{
     breach_at, first_contradiction, first_early_link, first_misplaced, first_shared_link,
-    first_without_current, loose, mentions_below,
+    first_without_current, is_loose, mentions_below,
 };
 pub use plain::{mention, newest, next_older, present};
 pub use rule::CommitRule;
+pub use theorems::{array_changes, current_is_present, walk_ends, worked_examples};
 pub use walks::{back_of, current_version, link_of, reason, straddling};

@@ -1,9 +1,9 @@
-ghost use Rattle.std.specs.Prelude.{◌≡◌, ℕ, ◌<◌, All, length, MatchOption};
+ghost use Rattle.std.specs.Prelude.{◌≡◌, ℕ, ◌<◌, All, length};
 ghost use Rattle.tx_types.specs.declared.config.Protocol.{Protocol};
 ghost use Rattle.record_list.specs.Records.{newest, name_of, record_at, IsScanned};
 ghost use Rattle.record_list.specs.Verdict.{why, verdict_of};
 ghost use Rattle.record_list.specs.Current.{cur, must_go, is_held};
-ghost use Rattle.record_list.specs.SoundList.{PagesExist, IsSoundList, IsLeastBreach};
+ghost use Rattle.record_list.specs.SoundList.{OwnPageExists, IsFirstBreach};
 ghost use Rattle.record_list.specs.Changes.{PartialWriteLaw, CompletingWriteLaw, CopyLaw, LossLaw};
 ghost use Rattle.record_list.specs.WrittenChanges.{WrittenPartialWriteLaw, WrittenCompletingWriteLaw, WrittenCopyLaw, WrittenLossLaw};
 
@@ -11,8 +11,8 @@ use crate::{Breach, Found, Verdict, Why};
 use tx_types::Protocol;
 
 /// What a protocol makes of a list of records, which stands in ascending order of distinct slots. No
-/// version and no link version of the list is 0, and each page is below `logical`, the number of
-/// logical pages.
+/// version and no link version of the list is 0, and each record's own page is below `logical`, the
+/// number of logical pages. Its link may lead to any page.
 pub trait CommitRule {
     ghost kept: { Protocol };
 
@@ -23,7 +23,7 @@ pub trait CommitRule {
     /// The verdict on the newest record of a page that has a record, and what decides it.
     fn verdict(list: &[Found], logical: u32, page: u32) -> (Verdict, Why)
         requires scanned { IsScanned list.now }
-        requires pages { All (PagesExist logical) list.now }
+        requires pages { All (OwnPageExists logical) list.now }
         requires found { 0 < newest list.now page }
         ensures verdict { result.0 ≡ verdict_of (why kept list.now logical page) }
         ensures why { result.1 ≡ why kept list.now logical page };
@@ -31,31 +31,31 @@ pub trait CommitRule {
     /// The current version of a page, 0 for none.
     fn current(list: &[Found], logical: u32, page: u32) -> u64
         requires scanned { IsScanned list.now }
-        requires pages { All (PagesExist logical) list.now }
+        requires pages { All (OwnPageExists logical) list.now }
         ensures { result ≡ cur kept list.now logical page };
 
     /// Whether the record at this index must go before the version `below` of a page is programmed.
     fn must_go(list: &[Found], logical: u32, at: usize, page: u32, below: u64) -> bool
         requires scanned { IsScanned list.now }
-        requires pages { All (PagesExist logical) list.now }
+        requires pages { All (OwnPageExists logical) list.now }
         requires within { at < length list.now }
         ensures { result ≡ must_go kept list.now logical page below (record_at list.now at) };
 
     /// Whether the record at this index is responsible for some loose record.
     fn held(list: &[Found], logical: u32, at: usize) -> bool
         requires scanned { IsScanned list.now }
-        requires pages { All (PagesExist logical) list.now }
+        requires pages { All (OwnPageExists logical) list.now }
         requires within { at < length list.now }
         ensures { result ≡ is_held kept list.now logical (name_of (record_at list.now at)) };
 
-    /// The first law of a sound list that is broken, and the slot that it names. The pages of the list
-    /// may be any.
+    /// The first law of a sound list that is broken, and the slot that it names. The pages of the
+    /// list may be any.
     fn audit(list: &[Found], logical: u32) -> Option<Breach>
         requires scanned { IsScanned list.now }
-        ensures { MatchOption result (IsSoundList kept list.now logical) (IsLeastBreach kept list.now logical) };
+        ensures { IsFirstBreach kept list.now logical result };
 
     // The commit laws: what the four changes of a list of records keep. Each is a law of a list that
-    // keeps laws 1 to 7, and beside it of a list with bytes that keeps all eight.
+    // keeps laws 1 to 7, and beside it of a list with bytes that keeps laws 1 to 8.
     ghost partial_write: { PartialWriteLaw kept };
 
     ghost completing_write: { CompletingWriteLaw kept };

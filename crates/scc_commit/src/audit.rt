@@ -1,7 +1,6 @@
-ghost use Rattle.std.specs.Prelude.{◌<◌, MatchOption};
 ghost use Rattle.tx_types.specs.declared.config.Protocol.TheVariants.{Scc as SccRule};
 ghost use Rattle.record_list.specs.Records.{IsScanned};
-ghost use Rattle.record_list.specs.SoundList.{IsSoundList, IsLeastBreach};
+ghost use Rattle.record_list.specs.SoundList.{IsFirstBreach};
 
 use record_list::{
     Breach, Found, breach_at, first_contradiction, first_early_link, first_misplaced,
@@ -14,7 +13,7 @@ use tx_types::Protocol;
 #[tactic(auto, using(record_list::proofs::Breaches::first_breaches), unfolding(record_list::specs::SoundList::LooseIsShown, record_list::specs::SoundList::LooseEnds))]
 pub fn first_breach(list: &[Found], logical: u32) -> Option<Breach>
     requires scanned { IsScanned list.now }
-    ensures { MatchOption result (IsSoundList SccRule list.now logical) (IsLeastBreach SccRule list.now logical) }
+    ensures { IsFirstBreach SccRule list.now logical result }
 {
     if let Some(at) = first_misplaced(list, logical) {
         return Some(breach_at(list, 1, at));

@@ -7,7 +7,7 @@ ghost use Rattle.tx_types.specs.declared.config.Protocol.TheVariants.{Scc as Scc
 
 use crate::audit::first_breach;
 use record_list::{
-    Breach, CommitRule, Found, Verdict, Why, current_version, loose, mentions_below, reason,
+    Breach, CommitRule, Found, Verdict, Why, current_version, is_loose, mentions_below, reason,
 };
 use tx_types::Protocol;
 
@@ -34,7 +34,7 @@ impl CommitRule for Scc {
     /// Whether the record is loose and mentions the page below the version.
     fn must_go(list: &[Found], logical: u32, at: usize, page: u32, below: u64) -> bool {
         let rec = list[at].rec;
-        loose(Protocol::Scc, list, logical, rec) && mentions_below(rec, page, below)
+        is_loose(Protocol::Scc, list, logical, rec) && mentions_below(rec, page, below)
     }
 
     /// No record is responsible for another.

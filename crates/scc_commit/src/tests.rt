@@ -1,9 +1,10 @@
 ghost use Rattle.record_list.specs.Records.{IsScanned};
-ghost use Rattle.std.specs.Prelude.{IsTrue};
+ghost use Rattle.record_list.specs.SoundList.{OwnPageExists};
+ghost use Rattle.std.specs.Prelude.{IsTrue, All};
 
 use crate::Scc;
 use record_list::{
-    Breach, CommitRule, Found, Verdict, Why, current_version, first_early_link, first_misplaced,
+    Breach, CommitRule, Found, Verdict, Why, current_version, first_early_link,
     first_without_current, mention, newest, next_older, present, reason,
 };
 use std::process::Abort;
@@ -39,10 +40,16 @@ fn is_scanned(list: &[Found]) -> bool
     true
 }
 
+/// Whether each record's own page is below `logical`.
+fn has_its_pages(list: &[Found], logical: u32) -> bool
+    ensures { IsTrue result → All (OwnPageExists logical) list.now }
+{
+    list.iter().all(|found| found.rec.page < logical)
+}
+
 /// The verdict on a page, what decides it, and the current version.
 fn expect_verdict(rt: &impl Abort, list: &[Found], page: u32, want: (Verdict, Why), current: u64) {
-    assert!(rt; is_scanned(list));
-    assert!(rt; first_misplaced(list, 20).is_none());
+    assert!(rt; is_scanned(list) && has_its_pages(list, 20));
     assert!(rt; newest(list, page) > 0);
     assert_eq!(rt; Scc::verdict(list, 20, page), want, "page {page}");
     assert_eq!(rt; Scc::current(list, 20, page), current, "page {page}");
@@ -74,6 +81,10 @@ fn verdicts_of_a_cycle(rt: HostRuntime) {
     ] {
         expect_verdict(&rt, &cycle[..records], page, want, current);
     }
+    // a link to a page that does not exist leads to an absent record
+    let stray = [found(0, (4, 1), (25, 1), 0), found(1, (5, 1), (5, 1), 0)];
+    expect_verdict(&rt, &stray, 4, aborted, 0);
+    expect_verdict(&rt, &stray, 5, whole, 1);
 }
 
 #[test]
@@ -124,7 +135,7 @@ fn breaches_of_the_laws(rt: HostRuntime) {
 fn records_that_must_go(rt: HostRuntime) {
     // an aborted record of page 0 that links to page 1, and a committed one of page 2
     let list = [found(0, (0, 2), (1, 5), 0), found(1, (2, 4), (2, 4), 0)];
-    assert!(rt; is_scanned(&list) && first_misplaced(&list, 20).is_none());
+    assert!(rt; is_scanned(&list) && has_its_pages(&list, 20));
     for (at, page, below, want) in [
         (0, 0, 3, true),
         (0, 0, 2, false),
@@ -142,7 +153,7 @@ fn records_that_must_go(rt: HostRuntime) {
     assert!(rt; !Scc::held(&list, 20, 0));
     // a record of its own page below a version that it links to above
     let twice = [found(0, (3, 3), (3, 9), 0)];
-    assert!(rt; is_scanned(&twice) && first_misplaced(&twice, 20).is_none());
+    assert!(rt; is_scanned(&twice) && has_its_pages(&twice, 20));
     assert!(rt; Scc::must_go(&twice, 20, 0, 3, 5));
 }
 

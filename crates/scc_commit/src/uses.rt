@@ -20,7 +20,8 @@ fn partial_write_keeps<R: CommitRule>(
     R::current(before, logical, page) == R::current(after, logical, page)
 }
 
-/// A write that completes its transaction makes each of its versions current.
+/// A write that completes its transaction makes each of its versions current, and each was above the
+/// current version.
 fn completing_write_commits<R: CommitRule>(
     before: &[Found],
     after: &[Found],
@@ -30,8 +31,9 @@ fn completing_write_commits<R: CommitRule>(
     requires { IsCompletingWrite R.kept before.now after.now logical name }
     ensures { result ≡ true }
 {
-    let _ = before;
-    R::current(after, logical, name.page) == name.version
+    let old = R::current(before, logical, name.page);
+    let new = R::current(after, logical, name.page);
+    old < name.version && new == name.version
 }
 
 /// A copy keeps the current version of a page.

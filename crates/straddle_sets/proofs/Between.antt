@@ -10,8 +10,8 @@ use Rattle.record_list.specs.Current.{cur, straddling_upto, responsible}
 use Rattle.record_list.proofs.Names.{IsIn, greatest_least, present_in}
 use Rattle.record_list.proofs.Safe.{is_clear}
 use Rattle.record_list.proofs.SoundNames.{IsSoundMap, clear_from}
-use Rattle.record_list.proofs.Straddle.{Straddles, straddling_cases, straddling_is, straddling_none, upto_is, upto_cases, greatest_more}
-use Rattle.record_list.proofs.BpccLinks.{clear_low}
+use Rattle.straddle_sets.proofs.Straddle.{Straddles, straddling_cases, straddling_none, upto_is, upto_below, greatest_more}
+use Rattle.straddle_sets.proofs.BpccLinks.{clear_low}
 
 module _ (l : List Found) (logical : ℕ) (m : IsSoundMap Bpcc l logical) where
   -- a loose record begins to straddle at the current version of its page
@@ -52,8 +52,5 @@ module _ (l : List Found) (logical : ℕ) (m : IsSoundMap Bpcc l logical) where
         | inl h ↦ (let at = h.1 in let same = upto_is top q f.rec h.0 (straddles_low f q i h.0 (omega arith)) in omega arith)
         | inr none ↦ omega arith
       ]) in
-      let down : responsible Bpcc l logical q ≤ straddling l q = greatest_more (straddling_upto top q) (straddling_version q) l (λ f i. elim (upto_cases top q f.rec) [
-        | inl h ↦ (let at = h.2 in let same = straddling_is f.rec q h.0 in omega arith)
-        | inr none ↦ omega arith
-      ]) in
+      let down : responsible Bpcc l logical q ≤ straddling l q = upto_below top q l in
       omega arith

@@ -16,7 +16,7 @@ use Rattle.record_list.proofs.Progress.{name_uncounted}
 use Rattle.record_list.proofs.OneMore.{IsStep, newest_own, step_underway, step_linked}
 use Rattle.record_list.proofs.Untouched.{OldLinks}
 use Rattle.record_list.proofs.Completing.{clear_at_newest}
-use Rattle.record_list.proofs.Straddle.{straddling_is, straddling_none, blocks}
+use Rattle.straddle_sets.proofs.Straddle.{straddling_is, straddling_none, blocks}
 
 -- an uncommitted newest record has the current version of its page as its back version, so it straddles what lies between
 pub clear_low : (l : List Found) (logical : ℕ) (q : Link) → q.version < newest l q.page → is_clear Bpcc l q ≡ true → q.version ≤ cur Bpcc l logical q.page

@@ -4,10 +4,10 @@ use Rattle.std.proofs.lemmas.Bool.{cases_Bool, cond-true, cond-false, and_parts,
 use Rattle.tx_types.specs.declared.record.Link.{Link}
 use Rattle.tx_types.specs.declared.record.Rec.{Rec}
 use Rattle.record_list.specs.declared.found.Found.{Found}
-use Rattle.record_list.specs.Records.{greatest, is_present}
+use Rattle.record_list.specs.Records.{greatest, newest, name_of, is_present}
 use Rattle.record_list.specs.Verdict.{back_of, straddles, straddling_version, straddling}
 use Rattle.record_list.specs.Current.{straddling_upto}
-use Rattle.record_list.proofs.Names.{IsIn, greatest_bound, greatest_least, found_named}
+use Rattle.record_list.proofs.Names.{IsIn, greatest_bound, greatest_least, found_named, newest_bound, present_in}
 
 -- a record of the page that straddles the name's version
 abbrev pub Straddles : Rec → Link → Type 0
@@ -87,6 +87,22 @@ greatest_more of of' l h = greatest_least of l (greatest of' l) (λ f i.
     let here = h f i in
     let bound = greatest_bound of' l f i in
     omega arith)
+
+-- what straddles a name up to some version straddles it
+pub upto_below : (top : ℕ) (q : Link) (l : List Found) → greatest (straddling_upto top q) l ≤ straddling l q
+upto_below top q l = greatest_more (straddling_upto top q) (straddling_version q) l (λ f i. elim (upto_cases top q f.rec) [
+  | inl h ↦ (let at = h.2 in let same = straddling_is f.rec q h.0 in omega arith)
+  | inr none ↦ omega arith
+])
+
+-- nothing straddles a version that is not below the newest
+pub none_above : (l : List Found) (q : Link) → newest l q.page ≤ q.version → straddling l q ≡ 0
+none_above l q high =
+    let none : straddling l q ≤ 0 = greatest_least (straddling_version q) l 0 (λ f i.
+    let bound = newest_bound l (name_of f.rec) (present_in l f i) in
+    let off = straddling_none f.rec q (λ h. (let page = ap (newest l) h.0 in let over = h.2 in omega arith)) in
+    omega arith) in
+    omega arith
 
 -- a name that is present and straddles another by its back version blocks it
 pub blocks : (l : List Found) (u q : Link) → is_present l u ≡ true → u.page ≡ q.page → back_of l u < q.version → q.version < u.version → straddling l q ≡ 0 → ⊥

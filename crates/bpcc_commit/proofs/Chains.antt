@@ -1,7 +1,8 @@
 -- Links followed from a name: if they ever lead to an absent name, they do within as many links as there are records.
-use Rattle.std.proofs.Common.{◌≡◌, ℕ, zero, suc, ◌+◌, ◌<◌, ◌≤◌, Bool, true, false, ◌||◌, eqb, List, [], ◌∷◌, length, refl, sym, ap, ◌∙◌, subst, inl, inr, arith, if◌then◌else◌, ne_eqb, add-zero, add-suc, ◌-◌}
+use Rattle.std.proofs.Common.{◌≡◌, ◌↔◌, ℕ, zero, suc, ◌+◌, ◌<◌, ◌≤◌, Bool, true, false, not, ◌||◌, eqb, List, [], ◌∷◌, length, refl, sym, ap, ◌∙◌, subst, inl, inr, arith, if◌then◌else◌, ne_eqb, add-zero, add-one, add-suc, ◌-◌}
+use Rattle.std.specs.Prelude.{IsTrue}
 use Rattle.std.specs.List.{AllByRecursion, IsDistinct}
-use Rattle.std.proofs.lemmas.Bool.{false≢true, cases_Bool, cases_lt, cond-true, cond-false, or_cases, true_from_ne_false}
+use Rattle.std.proofs.lemmas.Bool.{false≢true, cases_Bool, cases_lt, cond-true, cond-false, or_cases, true_from_ne_false, not-true, not_from_false}
 use Rattle.std.proofs.lemmas.Map.Steps.{length-le_from_distinct_below}
 use Rattle.tx_types.specs.declared.record.Link.{Link}
 use Rattle.record_list.specs.declared.found.Found.{Found}
@@ -10,7 +11,7 @@ use Rattle.record_list.specs.Verdict.{link_of}
 use Rattle.record_list.specs.SoundList.{follow}
 use Rattle.record_list.proofs.Names.{has_name_true, absent_link}
 use Rattle.record_list.proofs.Safe.{below_any}
-use Rattle.record_list.proofs.Ending.{Ends}
+use Rattle.straddle_sets.proofs.Ending.{Ends}
 
 -- the place of the first record with a name
 abbrev place : List Found → Link → ℕ
@@ -127,7 +128,7 @@ module _ (l : List Found) (u : Link) (ends : Ends l u) where
   )
 
   -- so an absent name is met within as many links as there are records
-  pub ends_in_time : is_present l (follow l u (length l)) ≡ false
+  ends_in_time : is_present l (follow l u (length l)) ≡ false
   ends_in_time = elim (cases_Bool (is_present l (follow l u (length l)))) [
     | inr gone ↦ gone
     | inl at_last ↦ (
@@ -139,3 +140,17 @@ module _ (l : List Found) (u : Link) (ends : Ends l u) where
         let e = places_length l u n in
         absurd (omega arith))
   ]
+
+-- the name that a loop has in hand, a link later
+pub follow_more : (l : List Found) (u v : Link) (n : ℕ) → v ≡ follow l u n → link_of l v ≡ follow l u (n + 1)
+follow_more l u v n e = ap (link_of l) e ∙ sym (follow_last l u n) ∙ ap (follow l u) (sym (add-one n))
+
+-- after as many links as there are records the name in hand decides
+pub reached : (l : List Found) (u v : Link) (n : ℕ) (here : Bool) → v ≡ follow l u n → length l ≤ n → n ≤ length l → here ≡ is_present l v →
+    IsTrue (not here) ↔ Ends l u
+reached l u v n here at low high is =
+    let all : n ≡ length l = omega arith in
+    let same : here ≡ is_present l (follow l u (length l)) = is ∙ ap (is_present l) (at ∙ ap (follow l u) all) in (
+      λ gone. (length l, sym same ∙ not-true here gone),
+      λ ends. not_from_false here (same ∙ ends_in_time l u ends),
+    )

@@ -6,18 +6,18 @@ use Rattle.tx_types.specs.declared.config.Protocol.TheVariants.{Bpcc}
 use Rattle.record_list.specs.declared.found.Found.{Found}
 use Rattle.record_list.specs.Records.{name_of, is_present}
 use Rattle.record_list.specs.Verdict.{link_of, back_of}
-use Rattle.record_list.specs.Current.{cur, responsible, answers_for, is_held}
-use Rattle.record_list.specs.Changes.{IsInserted, CompletingWriteLaw}
+use Rattle.record_list.specs.Current.{cur, IsLoose, responsible, answers_for, is_held}
+use Rattle.record_list.specs.Changes.{IsInserted, IsOvertaken, IsAnsweredAfter, NewResponsible, CompletingWriteLaw}
 use Rattle.record_list.proofs.Names.{IsIn, all_from, all_at, contains_from, same_name, present_in}
 use Rattle.record_list.proofs.SoundNames.{IsSoundMap, LooseNames, EndingNames, sound_map, sound_list}
 use Rattle.record_list.proofs.Rounds.{cases_page}
 use Rattle.record_list.proofs.OneMore.{IsStep, inserted_in, old_link, old_back, next_after}
 use Rattle.record_list.proofs.Untouched.{OldLinks}
 use Rattle.record_list.proofs.Keeping.{step_of, back_of_step, page_apart, others_on}
-use Rattle.record_list.proofs.Completing.{completed, elsewhere, completing_map}
-use Rattle.record_list.proofs.BpccLinks.{bpcc_old_links}
-use Rattle.record_list.proofs.BpccAnswers.{name_back, was_loose, answer_elsewhere, answer_name, answer_below}
-use Rattle.record_list.proofs.Ending.{ends_out}
+use Rattle.record_list.proofs.Completing.{completed, was_lower, elsewhere, completing_map}
+use Rattle.straddle_sets.proofs.BpccLinks.{bpcc_old_links}
+use Rattle.straddle_sets.proofs.BpccAnswers.{name_back, was_loose, answer_elsewhere, answer_name, answer_below}
+use Rattle.straddle_sets.proofs.Ending.{ends_out}
 use Rattle.record_list.proofs.Held.{answer_of, answers, any_of, any_from}
 
 module _ (l l' : List Found) (logical : ℕ) (names : List Link) (f : Found) (s : IsStep l l' logical names f.rec) (m : IsSoundMap Bpcc l logical)
@@ -77,7 +77,7 @@ module _ (l l' : List Found) (logical : ℕ) (names : List Link) (f : Found) (s 
       ] in
       let before : cur Bpcc l logical g.rec.page < g.rec.version = omega arith in
       let held_if : q.version < cur Bpcc l logical name.page → responsible Bpcc l logical q ≡ name.version → is_held Bpcc l logical name ≡ true = λ below version.
-      any_from (λ h. answers_for Bpcc l logical name h.rec) l g inside (answers l logical name g.rec (record { loose = before; page = a.page; below = below; version = version })) in
+      any_from (λ h. answers_for Bpcc l logical name h.rec) l g inside (answers l logical name g.rec (record { loose = before; page = a.page; below = below; some = a.some; version = version })) in
       elim (cases_page names q.page) [
         | inl of_page ↦ (
             let n = of_page.0 in
@@ -99,6 +99,32 @@ module _ (l l' : List Found) (logical : ℕ) (names : List Link) (f : Found) (s 
             inl (held_if (omega arith) (sym (answer_elsewhere l l' logical names f s m back old all backs q off) ∙ a.version)))
       ]
 
+  -- which record is responsible for each that is loose
+  completing_answers : IsInserted l f l' → NewResponsible Bpcc l l' logical names
+  completing_answers ins = all_from (λ g. IsLoose Bpcc l' logical g.rec → IsAnsweredAfter l l' logical names g.rec) l' (λ g i at.
+      let was = was_loose l l' logical names f s m back old all backs (name_of g.rec) (present_in l' g i) at in
+      let level = was.2 in
+      let q = g.rec.next in
+      let inside : IsIn l g = elim (inserted_in l l' f ins g i) [
+        | inl e ↦ absurd (was.0 (name_of f.rec) s.of_names (ap (λ x. x.rec.page) e))
+        | inr j ↦ j
+      ] in
+      let link : q ≡ link_of l (name_of g.rec) = (m.copies g inside).0 in
+      let other = (m.loose (name_of g.rec) was.1 (omega arith)).1 in record {
+        anew = all_from (λ a. IsOvertaken l logical q a → responsible Bpcc l' logical q ≡ a.version) names (λ a j over.
+            let low : q.version < a.version = subst (λ z. z.page ≡ a.page → z.version < a.version) (sym link)
+            (s.underway.lower (name_of g.rec) was.1 (λ k. was.0 (name_of g.rec) k refl) a j).1 (sym over.0) in
+            answer_name l l' logical names f s m back old all backs q a j over.0 over.1 low);
+        still = λ none. elim (cases_page names q.page) [
+          | inl of_page ↦ elim (cases_order q.version (cur Bpcc l logical q.page)) [
+            | inl same ↦ absurd (other (subst (λ z. z.version ≡ cur Bpcc l logical z.page) link same))
+            | inr (inl below) ↦ answer_below l l' logical names f s m back old all backs q of_page.0 of_page.1 of_page.2 below
+            | inr (inr above) ↦ absurd (all_at (λ a. IsOvertaken l logical q a → ⊥) names of_page.0 none of_page.1 (of_page.2, above))
+          ]
+          | inr off ↦ answer_elsewhere l l' logical names f s m back old all backs q off
+        ];
+      })
+
 -- the law of a write that completes its cycle
 pub bpcc_completing_write : CompletingWriteLaw Bpcc
 bpcc_completing_write l l' logical names f sound w every =
@@ -113,7 +139,9 @@ bpcc_completing_write l l' logical names f sound w every =
           (completing_loose l l' logical names f s m back old all backs) (completing_ending l l' logical names f s m back old all backs));
       committed = all_from (λ n. cur Bpcc l' logical n.page ≡ n.version) names (completed Bpcc l l' logical names f s m old all);
       elsewhere = λ page below out. elsewhere Bpcc l l' logical names f s m old all page (λ a i. all_at (λ n. n.page ≢ page) names a out i);
+      rises = all_from (λ n. cur Bpcc l logical n.page < n.version) names (was_lower Bpcc l l' logical names f s m old all);
       held = completing_held l l' logical names f s m back old all backs w.added;
+      responsible = completing_answers l l' logical names f s m back old all backs w.added;
       others = λ others share h. others_on Bpcc l l' logical names f w others share
           (λ b j. elsewhere Bpcc l l' logical names f s m old all b.page (λ a i e. page_apart Bpcc l l' logical names f w others share a b i j e)) h;
     }

@@ -16,7 +16,7 @@ use Rattle.record_list.proofs.Progress.{name_newest}
 use Rattle.record_list.proofs.OneMore.{IsStep, step_underway, old_back}
 use Rattle.record_list.proofs.Untouched.{OldLinks}
 use Rattle.record_list.proofs.Completing.{completed, elsewhere, was_lower}
-use Rattle.record_list.proofs.Straddle.{upto_is, upto_none, upto_cases, upto_le, upto_more, greatest_more}
+use Rattle.straddle_sets.proofs.Straddle.{upto_is, upto_none, upto_cases, upto_le, upto_more, greatest_more}
 
 -- a name that is present has the back version that its transaction asks for
 pub name_back : (p : Protocol) (l : List Found) (logical : ℕ) (names : List Link) → IsBegun p l logical names →

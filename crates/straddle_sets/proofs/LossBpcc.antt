@@ -1,44 +1,20 @@
 -- The loss of slots under Back Pointer Cyclic Commit.
-use Rattle.std.proofs.Common.{◌≡◌, ◌≢◌, ℕ, zero, suc, ◌<◌, ◌≤◌, ◌&&◌, eqb, leb, ltb, true, List, inl, inr, sym, refl, ap, ◌∙◌, subst, arith}
-use Rattle.std.proofs.lemmas.Bool.{cases_lt, both_ways, and_parts, and_from, eq-eqb, lt-ltb, cond-true}
+use Rattle.std.proofs.Common.{◌≡◌, ◌≢◌, ℕ, zero, suc, ◌<◌, ◌≤◌, true, List, inl, inr, sym, refl, ◌∙◌, subst, arith}
+use Rattle.std.proofs.lemmas.Bool.{cases_lt, both_ways}
 use Rattle.tx_types.specs.declared.record.Link.{Link}
-use Rattle.tx_types.specs.declared.record.Rec.{Rec}
 use Rattle.tx_types.specs.declared.config.Protocol.TheVariants.{Bpcc}
 use Rattle.record_list.specs.declared.found.Found.{Found}
 use Rattle.record_list.specs.Records.{greatest, newest, is_present}
-use Rattle.record_list.specs.Verdict.{newest_name, link_of, back_of, straddles, straddling, straddling_version}
+use Rattle.record_list.specs.Verdict.{newest_name, link_of, back_of, straddling}
 use Rattle.record_list.specs.Current.{cur, fallback, straddling_upto}
 use Rattle.record_list.specs.SoundList.{follow}
 use Rattle.record_list.specs.Changes.{left, LossLaw}
 use Rattle.record_list.proofs.Safe.{top_link, Goes, Counts, counts_safe}
 use Rattle.record_list.proofs.SoundNames.{clear_gives}
-use Rattle.record_list.proofs.LossCounted.{picked_mono}
 use Rattle.record_list.proofs.LossSetting.{IsLoss, was_present, back_was, link_low, lost_linked, newest_left, lost_responsible}
 use Rattle.record_list.proofs.LossCurrent.{EndsLater, top_was, current_stays, loss_of, loss_keeps}
-use Rattle.record_list.proofs.Names.{same_name, greatest_bound, greatest_least, found_named, newest_present}
-
--- what straddles a name up to some version straddles it
-upto_bound : (top : ℕ) (q : Link) (m : List Found) → greatest (straddling_upto top q) m ≤ straddling m q
-upto_bound top q m = greatest_least (straddling_upto top q) m (straddling m q) (λ f c.
-    let b : straddling_version q f.rec ≤ straddling m q = greatest_bound (straddling_version q) m f c in
-    let k : straddling_upto top q f.rec ≤ straddling_version q f.rec =
-    picked_mono ((eqb f.rec.page q.page && straddles f.rec q.version) && leb f.rec.version top) (eqb f.rec.page q.page && straddles f.rec q.version) f.rec.version
-    (λ h. (and_parts (eqb f.rec.page q.page && straddles f.rec q.version) (leb f.rec.version top) h).0) in
-    omega arith)
-
--- a present name straddles what lies between its back version and its own
-straddled_by : (m : List Found) (u q : Link) → is_present m u ≡ true → u.page ≡ q.page → back_of m u < q.version → q.version < u.version → 0 < straddling m q
-straddled_by m u q here same back below =
-    let f = found_named m u here in
-    let r : Rec = f.0.rec in
-    let page : r.page ≡ q.page = ap (λ (x : Link). x.page) f.2 ∙ same in
-    let version : r.version ≡ u.version = ap (λ (x : Link). x.version) f.2 in
-    let backs : r.back ≡ back_of m u = f.4 in
-    let counts : straddling_version q r ≡ r.version = cond-true (eqb r.page q.page && straddles r q.version) r.version 0
-    (and_from (eqb r.page q.page) (straddles r q.version) (eq-eqb r.page q.page page)
-    (and_from (ltb r.back q.version) (ltb q.version r.version) (lt-ltb r.back q.version (omega arith)) (lt-ltb q.version r.version (omega arith)))) in
-    let b : straddling_version q r ≤ straddling m q = greatest_bound (straddling_version q) m f.0 f.1 in
-    omega arith
+use Rattle.record_list.proofs.Names.{same_name, newest_present}
+use Rattle.straddle_sets.proofs.Straddle.{upto_below, blocks}
 
 module _ (l m : List Found) (n : ℕ) (r : IsLoss Bpcc l m n) where
   -- pages that end later and yet count
@@ -59,7 +35,7 @@ module _ (l m : List Found) (n : ℕ) (r : IsLoss Bpcc l m n) where
       let never : straddling m q ≡ 0 → q.version < newest m q.page → ⊥ = λ none behind. elim (cases_lt q.version (cur Bpcc l n q.page)) [
         | inl below ↦ (
             let answers = lost_responsible l m n r u was w.0 below (law.2 below) in
-            let bound : greatest (straddling_upto (cur Bpcc l n q.page) q) m ≤ straddling m q = upto_bound (cur Bpcc l n q.page) q m in
+            let bound : greatest (straddling_upto (cur Bpcc l n q.page) q) m ≤ straddling m q = upto_below (cur Bpcc l n q.page) q m in
             law.2 below (omega arith))
         | inr above ↦ (
             let v : Link = newest_name m q.page in
@@ -67,8 +43,7 @@ module _ (l m : List Found) (n : ℕ) (r : IsLoss Bpcc l m n) where
             let back : back_of l v ≡ cur Bpcc l n q.page = (r.sound.loose v (was_present Bpcc l m n r v there) (omega arith)).0 in
             let same : back_of l v ≡ back_of m v = back_was Bpcc l m n r v there in
             let other : q.version ≢ cur Bpcc l n q.page = law.1 in
-            let some : 0 < straddling m q = straddled_by m v q there refl (omega arith) behind in
-            omega arith)
+            blocks m v q there refl (omega arith) behind none)
       ] in
       let goes : Goes Bpcc m (Counts Bpcc m n) q =
       subst (λ k. Goes Bpcc m (Counts Bpcc m n) k) (sym (top_was Bpcc l m n r page w.1.0)) ((counts_safe Bpcc m n (lost_linked Bpcc l m n r)).goes page w.1) in

@@ -8,18 +8,18 @@ use Rattle.tx_types.specs.declared.config.Protocol.TheVariants.{Bpcc}
 use Rattle.record_list.specs.declared.found.Found.{Found}
 use Rattle.record_list.specs.Records.{greatest, name_of, is_present}
 use Rattle.record_list.specs.Verdict.{link_of, back_of}
-use Rattle.record_list.specs.Current.{cur, straddling_upto, responsible, answers_for, is_held}
+use Rattle.record_list.specs.Current.{cur, IsLoose, straddling_upto, responsible, answers_for, is_held}
 use Rattle.record_list.specs.Changes.{IsInserted, PartialWriteLaw}
-use Rattle.record_list.proofs.Names.{IsIn}
+use Rattle.record_list.proofs.Names.{IsIn, all_from}
 use Rattle.record_list.proofs.SoundNames.{IsSoundMap, LooseNames, EndingNames, sound_map, sound_list}
 use Rattle.record_list.proofs.Rounds.{cases_in}
 use Rattle.record_list.proofs.Progress.{name_loose, absent_name}
 use Rattle.record_list.proofs.OneMore.{IsStep, inserted_any, old_link, old_back, next_after, next_in}
 use Rattle.record_list.proofs.Keeping.{step_of, back_of_step, begun_on, others_on, absent_before}
 use Rattle.record_list.proofs.Partial.{partial_cur, partial_map}
-use Rattle.record_list.proofs.Straddle.{upto_none}
-use Rattle.record_list.proofs.BpccLinks.{bpcc_old_links, bpcc_own_cur}
-use Rattle.record_list.proofs.Ending.{ends_out, ends_names}
+use Rattle.straddle_sets.proofs.Straddle.{upto_none}
+use Rattle.straddle_sets.proofs.BpccLinks.{bpcc_old_links, bpcc_own_cur}
+use Rattle.straddle_sets.proofs.Ending.{ends_out, ends_names}
 use Rattle.record_list.proofs.Held.{answer_of, any_same}
 
 module _ (l l' : List Found) (logical : ℕ) (names : List Link) (f : Found) (s : IsStep l l' logical names f.rec) (m : IsSoundMap Bpcc l logical)
@@ -81,7 +81,7 @@ module _ (l l' : List Found) (logical : ℕ) (names : List Link) (f : Found) (s 
   -- each record answers for the same ones
   same_answers : (name : Link) (r : Rec) → answers_for Bpcc l' logical name r ≡ answers_for Bpcc l logical name r
   same_answers name r =
-      let g : ℕ → ℕ → ℕ → Bool = λ c d v. ltb c r.version && eqb r.next.page name.page && ltb r.next.version d && eqb v name.version in
+      let g : ℕ → ℕ → ℕ → Bool = λ c d v. ltb c r.version && eqb r.next.page name.page && ltb r.next.version d && ltb 0 name.version && eqb v name.version in
       ap (λ c. g c (cur Bpcc l' logical name.page) (responsible Bpcc l' logical r.next)) (same r.page)
       ∙ ap (λ d. g (cur Bpcc l logical r.page) d (responsible Bpcc l' logical r.next)) (same name.page)
       ∙ ap (g (cur Bpcc l logical r.page) (cur Bpcc l logical name.page)) (same_responsible r.next)
@@ -114,6 +114,8 @@ bpcc_partial_write l l' logical names f sound w any =
           (partial_loose l l' logical names f s m back same gone.0 gone.1 gone.2) (partial_ending l l' logical names f s m back same gone.0 gone.1 gone.2));
       same_current = λ page below. same page;
       same_held = partial_held l l' logical names f s m back same gone.0 gone.1 gone.2 w.added;
+      responsible = all_from (λ g. IsLoose Bpcc l' logical g.rec → responsible Bpcc l' logical g.rec.next ≡ responsible Bpcc l logical g.rec.next) l'
+          (λ g i loose. same_responsible l l' logical names f s m back same gone.0 gone.1 gone.2 g.rec.next);
       in_progress = record { begun = begun_on Bpcc l l' logical names f w (λ a i. same a.page); absent = any };
       others = λ others share h. others_on Bpcc l l' logical names f w others share (λ b i. same b.page) h;
     }

@@ -1,0 +1,2 @@
+pub mod LooseBreaches
+pub mod Chains

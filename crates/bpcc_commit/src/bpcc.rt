@@ -1,0 +1,67 @@
+ghost use Rattle.straddle_sets.proofs.BpccPartial.{bpcc_partial_write};
+ghost use Rattle.straddle_sets.proofs.BpccCompleting.{bpcc_completing_write};
+ghost use Rattle.record_list.proofs.CopyLaw.{copy_law};
+ghost use Rattle.straddle_sets.proofs.LossBpcc.{bpcc_loss};
+ghost use Rattle.record_list.proofs.WrittenChange.{written_partial_write, written_completing_write, written_copy, written_loss};
+ghost use Rattle.tx_types.specs.declared.config.Protocol.TheVariants.{Bpcc as BpccRule};
+
+use crate::audit::first_breach;
+use record_list::{Breach, CommitRule, Found, Verdict, Why, current_version, reason};
+use straddle_sets::answers_for;
+use tx_types::{Link, Protocol};
+
+/// The rules of Back Pointer Cyclic Commit.
+#[derive(Clone, Copy, Debug, PartialEq, Eq)]
+pub struct Bpcc;
+
+impl CommitRule for Bpcc {
+    ghost kept = { BpccRule };
+
+    fn protocol() -> Protocol {
+        Protocol::Bpcc
+    }
+
+    fn verdict(list: &[Found], logical: u32, page: u32) -> (Verdict, Why) {
+        let why = reason(Protocol::Bpcc, list, logical, page);
+        (why.verdict(), why)
+    }
+
+    fn current(list: &[Found], logical: u32, page: u32) -> u64 {
+        current_version(Protocol::Bpcc, list, logical, page)
+    }
+
+    /// No record stands in the way of another.
+    fn must_go(_list: &[Found], _logical: u32, _at: usize, _page: u32, _below: u64) -> bool {
+        false
+    }
+
+    fn held(list: &[Found], logical: u32, at: usize) -> bool {
+        let rec = list[at].rec;
+        let name = Link {
+            page: rec.page,
+            version: rec.version,
+        };
+        list.iter()
+            .any(|found| answers_for(list, logical, name, found.rec))
+    }
+
+    fn audit(list: &[Found], logical: u32) -> Option<Breach> {
+        first_breach(list, logical)
+    }
+
+    ghost partial_write = { bpcc_partial_write };
+
+    ghost completing_write = { bpcc_completing_write };
+
+    ghost copy = { copy_law BpccRule };
+
+    ghost block_loss = { bpcc_loss };
+
+    ghost written_partial_write = { written_partial_write BpccRule bpcc_partial_write };
+
+    ghost written_completing_write = { written_completing_write BpccRule bpcc_completing_write };
+
+    ghost written_copy = { written_copy BpccRule (copy_law BpccRule) };
+
+    ghost written_block_loss = { written_loss BpccRule bpcc_loss };
+}

@@ -1,0 +1,12 @@
+//! Back Pointer Cyclic Commit: a record says which version of its page was current when it was written,
+//! so that the versions between the two count as aborted and nothing must go before a page is written
+//! again.
+#![tactic(auto)]
+
+mod audit;
+mod bpcc;
+mod loose;
+#[cfg(test)]
+mod tests;
+
+pub use bpcc::Bpcc;

@@ -1,0 +1,5 @@
+use Rattle.record_list.proofs.SccCurrent.{scc_current_present}
+use Rattle.record_list.proofs.theorems.current_is_present.Goals as goal
+
+pub returns : goal.returns
+returns c = scc_current_present

@@ -1,0 +1,88 @@
+-- Lists of a few records, and what the definitions say of them.
+use Rattle.std.specs.Prelude.{◌≡◌, ℕ, true, false, Some, None, List, [], ◌∷◌}
+use Rattle.tx_types.specs.declared.record.Link.{Link}
+use Rattle.tx_types.specs.declared.config.Shape.{Shape}
+use Rattle.tx_types.specs.declared.config.Protocol.TheVariants.{Scc, Bpcc}
+use Rattle.record_list.specs.declared.found.Found.{Found}
+use Rattle.record_list.specs.declared.found.Why.TheVariants.{Passed, Straddled}
+use Rattle.record_list.specs.Verdict.{why}
+use Rattle.record_list.specs.Current.{cur, responsible, is_held, must_go}
+use Rattle.record_list.specs.SoundList.{LooseIsShown, LooseEnds}
+use Rattle.record_list.specs.Written.{home, is_needed}
+
+abbrev pub name : ℕ → ℕ → Link
+name page version = record { page = page; version = version }
+
+-- the record P.v -> Q.k b in a slot
+abbrev pub found : ℕ → ℕ → ℕ → ℕ → ℕ → ℕ → Found
+found slot page version to at back = record {
+  slot = record { 0 = slot };
+  rec = record { page = page; version = version; next = name to at; back = back };
+}
+
+abbrev pub shape : Shape
+shape = record { page_bytes = 16; pages_per_block = 4; blocks_per_die = 4; dies = 2 }
+
+-- an aborted record of page 0, a superseded one of page 1 that straddles its link, and the current one of page 1
+abbrev pub straddled : List Found
+straddled = found 0 0 1 1 1 0 ∷ found 1 1 2 1 2 0 ∷ found 2 1 3 1 3 2 ∷ []
+
+-- the verdict on page 0, and the current versions
+abbrev pub StraddledVerdict : Type 0
+StraddledVerdict =
+    (why Bpcc straddled 3 0 ≡ Straddled 2) × (why Scc straddled 3 0 ≡ Passed)
+    × (cur Bpcc straddled 3 0 ≡ 0) × (cur Bpcc straddled 3 1 ≡ 3) × (cur Bpcc straddled 3 2 ≡ 0)
+
+-- the superseded record is responsible, it alone is held, and its slot is needed; that of the aborted record
+-- is needed where this is pinned
+abbrev pub StraddledIsHeld : Type 0
+StraddledIsHeld =
+    (responsible Bpcc straddled 3 (name 1 1) ≡ 2)
+    × (is_held Bpcc straddled 3 (name 1 2) ≡ true)
+    × (is_held Bpcc straddled 3 (name 1 3) ≡ false)
+    × (is_needed Bpcc straddled 3 shape (Some 7) [] 1 ≡ true)
+    × (is_needed Bpcc straddled 3 shape (Some 7) [] 0 ≡ false)
+    × (is_needed Bpcc straddled 3 shape (Some 7) (name 0 1 ∷ []) 0 ≡ true)
+
+-- a record with slots in the blocks 0, 1 and 2
+abbrev pub copied : List Found
+copied = found 1 0 1 0 1 0 ∷ found 5 0 1 0 1 0 ∷ found 9 0 1 0 1 0 ∷ []
+
+-- its home, by which block is the spare
+abbrev pub CopiedHome : Type 0
+CopiedHome =
+    (home shape (Some 0) copied (name 0 1) ≡ Some 5) × (home shape (Some 1) copied (name 0 1) ≡ Some 1)
+    × (home shape None copied (name 0 1) ≡ Some 1) × (home shape None copied (name 0 2) ≡ None)
+
+-- a loose record that links below a current version where nothing straddles
+abbrev pub unanswered : List Found
+unanswered = found 0 0 1 1 2 0 ∷ found 1 0 2 2 9 0 ∷ found 2 1 5 1 5 4 ∷ []
+
+-- it breaks law 6, and no name is held for it
+abbrev pub UnansweredBreaks : Type 0
+UnansweredBreaks =
+    (LooseIsShown Bpcc unanswered 3 (found 0 0 1 1 2 0) → ⊥)
+    × (is_held Bpcc unanswered 3 (name 1 0) ≡ false)
+    × (is_held Bpcc unanswered 3 (name 1 5) ≡ false)
+
+-- a loose record whose back version is not the current one
+abbrev pub misled : List Found
+misled = found 0 0 1 0 1 0 ∷ found 1 0 3 1 5 2 ∷ found 2 0 4 2 5 1 ∷ []
+
+-- it breaks law 6
+abbrev pub MisledBreaks : Type 0
+MisledBreaks = (cur Bpcc misled 20 0 ≡ 1) × (LooseIsShown Bpcc misled 20 (found 1 0 3 1 5 2) → ⊥)
+
+-- a loose record that links to itself, and one that links to an absent name
+abbrev pub closed : List Found
+closed = found 0 0 1 0 1 0 ∷ found 1 0 2 0 2 1 ∷ found 2 0 3 1 9 1 ∷ []
+
+-- the one breaks law 7, the other keeps it
+abbrev pub ClosedBreaks : Type 0
+ClosedBreaks =
+    (LooseEnds Bpcc closed 20 (found 1 0 2 0 2 1) → ⊥)
+    × LooseEnds Bpcc closed 20 (found 2 0 3 1 9 1)
+
+-- a record that mentions its page at two versions must go before either is passed
+abbrev pub TwiceMentioned : Type 0
+TwiceMentioned = must_go Scc (found 0 3 3 3 9 0 ∷ []) 20 3 5 (found 0 3 3 3 9 0).rec ≡ true

@@ -1,0 +1,49 @@
+//! What holds of all lists of records. The functions do nothing: each is there for what it ensures.
+ghost use Rattle.std.specs.Prelude.{◌≡◌, ℕ, ◌<◌, ◌≤◌, List};
+ghost use Rattle.tx_types.specs.declared.config.Protocol.{Protocol};
+ghost use Rattle.tx_types.specs.declared.config.Protocol.TheVariants.{Scc as SccRule};
+ghost use Rattle.record_list.specs.declared.found.Found.{Found};
+ghost use Rattle.record_list.specs.Records.{newest, IsScanned};
+ghost use Rattle.record_list.specs.Verdict.{newest_name, link_of, walk, why};
+ghost use Rattle.record_list.specs.SoundList.{CurrentIsPresent, IsSoundList};
+ghost use Rattle.record_list.specs.Changes.{PartialWriteLaw, CompletingWriteLaw, CopyLaw, LossLaw};
+ghost use Rattle.record_list.specs.ArrayChanges.{PartialWriteLeavesArray, CompletingWriteTakesTransaction, CopyLeavesArray, BlockLossLeavesArray};
+ghost use Rattle.record_list.specs.Examples.{StraddledVerdict, StraddledIsHeld, CopiedHome, UnansweredBreaks, MisledBreaks, ClosedBreaks, TwiceMentioned};
+
+/// On a sound list as many links as there are pages decide a verdict: a walk that may look at more of
+/// them ends alike.
+pub fn walk_ends()
+    ensures { (protocol : Protocol) (list : List Found) (logical page turns : ℕ) →
+        IsSoundList protocol list logical → IsScanned list →
+        0 < newest list page → logical ≤ turns →
+        walk protocol list (newest_name list page) turns (link_of list (newest_name list page))
+        ≡ why protocol list logical page }
+{}
+
+/// Under Simple Cyclic Commit no list breaks law 4.
+pub fn current_is_present()
+    ensures { (list : List Found) (logical : ℕ) (found : Found) →
+        CurrentIsPresent SccRule list logical found }
+{}
+
+/// Whichever protocol has the commit laws, only a completing write changes the array that a list with
+/// bytes stands for, and it changes all pages of its transaction at once.
+pub fn array_changes()
+    ensures partial_write { (protocol : Protocol) → PartialWriteLaw protocol →
+        PartialWriteLeavesArray protocol }
+    ensures completing_write { (protocol : Protocol) → CompletingWriteLaw protocol →
+        CompletingWriteTakesTransaction protocol }
+    ensures copy { (protocol : Protocol) → CopyLaw protocol → CopyLeavesArray protocol }
+    ensures block_loss { (protocol : Protocol) → LossLaw protocol → BlockLossLeavesArray protocol }
+{}
+
+/// What the definitions say of lists of a few records.
+pub fn worked_examples()
+    ensures straddled_verdict { StraddledVerdict }
+    ensures straddled_is_held { StraddledIsHeld }
+    ensures copied_home { CopiedHome }
+    ensures unanswered { UnansweredBreaks }
+    ensures misled { MisledBreaks }
+    ensures closed { ClosedBreaks }
+    ensures twice_mentioned { TwiceMentioned }
+{}

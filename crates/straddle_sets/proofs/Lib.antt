@@ -1,0 +1,10 @@
+pub mod Straddle
+pub mod BpccLinks
+pub mod Between
+pub mod Ending
+pub mod BpccPartial
+pub mod BpccAnswers
+pub mod BpccCompleting
+pub mod LossBpcc
+pub mod Homes
+pub mod Responsibles

@@ -1,0 +1,11 @@
+//! Back Pointer Cyclic Commit: which records straddle a version that an aborted transaction wrote, and
+//! which of them is responsible for a loose record.
+#![tactic(auto)]
+
+mod straddling;
+#[cfg(test)]
+mod tests;
+mod theorems;
+
+pub use straddling::{answers_for, responsible, responsible_version, straddles, straddling_up_to};
+pub use theorems::{responsible_records, straddlers_by_place};
