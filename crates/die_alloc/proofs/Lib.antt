@@ -1,0 +1,4 @@
+pub mod FirstAnswers
+pub mod OpenBlocks
+pub mod NextSlots
+pub mod Changes

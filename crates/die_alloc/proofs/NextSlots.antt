@@ -1,0 +1,132 @@
+-- What is known of the slot that is programmed next.
+use Rattle.std.proofs.Common.{◌≡◌, ℕ, ◌-◌, ◌/◌, ◌<◌, ◌↔◌, inl, inr, Option, Some, None, refl, sym, ◌∙◌, arith}
+use Rattle.std.specs.List.{range_with_len}
+use Rattle.std.specs.Option.{IsSome, IsNone, option_or, option_map}
+use Rattle.tx_types.specs.declared.config.Slot.{Slot}
+use Rattle.std.proofs.Math.Nat.{mul_comm}
+use Rattle.std.proofs.lemmas.Bool.{cases_lt}
+use Rattle.std.proofs.lemmas.Nat.{div_below, div-add-mod', mod_below, mul-add-lt, div-mul-add, mod-mul-add}
+use Rattle.tx_types.specs.Config.{blocks_of}
+use Rattle.die_alloc.specs.BlockTable.{BlockTable, IsBlockTable, used_of, HasRoom, IsFull, IsFirstFree, block_of}
+use Rattle.die_alloc.specs.NextSlot.{first_answer, open_block, next_block, next_slot, first_unused}
+use Rattle.die_alloc.proofs.FirstAnswers.{first_answer-append, answer_of_one, no_answer, option_or_some, option_or_none}
+use Rattle.die_alloc.proofs.OpenBlocks.{die_lies, open_block_has_room, no_open_block}
+
+-- the block with room in the first die from the cursor on that has one, and in the first one before the cursor
+abbrev pub from_cursor : BlockTable → Option ℕ
+from_cursor t = first_answer (open_block t) (range_with_len t.cursor (t.shape.dies - t.cursor))
+
+abbrev pub before_cursor : BlockTable → Option ℕ
+before_cursor t = first_answer (open_block t) (range_with_len 0 t.cursor)
+
+pub next_block_split : (t : BlockTable) → next_block t ≡ option_or (from_cursor t) (before_cursor t)
+unfolding next_block
+next_block_split t = first_answer-append (open_block t) (range_with_len t.cursor (t.shape.dies - t.cursor)) (range_with_len 0 t.cursor)
+
+-- the block that is programmed next is one of the table, and has room
+pub next_block_has_room : (t : BlockTable) → IsBlockTable t → (block : ℕ) → next_block t ≡ Some block
+    → (block < blocks_of t.shape) × HasRoom t block
+next_block_has_room t h block e =
+    elim (option_or_some (from_cursor t) (before_cursor t) block (sym (next_block_split t) ∙ e)) [
+      | inl later ↦
+          let die = answer_of_one (open_block t) t.cursor (t.shape.dies - t.cursor) block later in
+          let below : die.0 < t.shape.dies = omega (arith, h.die, die.2) in
+          from_die die.0 below die.3
+      | inr sooner ↦
+          let die = answer_of_one (open_block t) 0 t.cursor block sooner.1 in
+          let below : die.0 < t.shape.dies = omega (arith, h.die, die.2) in
+          from_die die.0 below die.3
+    ]
+  where
+    from_die : (die : ℕ) → die < t.shape.dies → open_block t die ≡ Some block → (block < blocks_of t.shape) × HasRoom t block
+    from_die die below e =
+        let found = open_block_has_room t h die block below e in
+        (omega (arith, found.1, rw h.count at (die_lies t h die below)), found.2)
+
+-- where there is none, no block has room
+pub no_next_block : (t : BlockTable) → IsBlockTable t → next_block t ≡ None → IsFull t
+no_next_block t h e block within room =
+    let none = option_or_none (from_cursor t) (before_cursor t) (sym (next_block_split t) ∙ e) in
+    let size = t.shape.blocks_per_die in
+    let die = block / size in
+    let below : die < t.shape.dies = div_below block size t.shape.dies (omega (arith, h.numbers.blocks_least)) (omega (arith, within, mul_comm size t.shape.dies)) in
+    let split = div-add-mod' block size in
+    let rest = mod_below block size (omega (arith, h.numbers.blocks_least)) in
+    let gives_none : open_block t die ≡ None =
+    elim (cases_lt die t.cursor) [
+      | inl sooner ↦ no_answer (open_block t) 0 t.cursor none.1 die (omega arith) (omega arith)
+      | inr later ↦ no_answer (open_block t) t.cursor (t.shape.dies - t.cursor) none.0 die later (omega arith)
+    ]
+    in
+    no_open_block t h die block below gives_none (omega (arith, split)) (omega (arith, split, rest)) room
+
+-- a block with room has fewer used slots than it has slots
+pub room_left : (t : BlockTable) → IsBlockTable t → (block : ℕ) → block < blocks_of t.shape → HasRoom t block
+    → used_of t block < t.shape.pages_per_block
+room_left t h block within room =
+    let may = h.bounds block within in
+    elim room [
+      | inl clean ↦ let none = rw clean at may in omega (arith, none, h.numbers.pages_least)
+      | inr part ↦ let some = rw part at may in some.1
+    ]
+
+-- so the slot that follows the used ones is the first free slot of the block
+pub first_unused_is_free : (t : BlockTable) → IsBlockTable t → (block : ℕ) → block < blocks_of t.shape → HasRoom t block
+    → IsFirstFree t (first_unused t block).0
+first_unused_is_free t h block within room =
+    let left = room_left t h block within room in
+    let lies : block_of t.shape (first_unused t block).0 ≡ block = div-mul-add block t.shape.pages_per_block _ left in
+    let place = mod-mul-add block t.shape.pages_per_block _ left in
+    record {
+      free = record {
+        within = mul-add-lt block t.shape.pages_per_block _ (blocks_of t.shape) within left;
+        room = rw lies room;
+        unused = rw (lies, place) (omega arith);
+      };
+      first = rw (lies, place) refl;
+    }
+
+-- no block is programmed next exactly where none has room
+pub no_block_where_full : (t : BlockTable) → IsBlockTable t → IsNone (next_block t) ↔ IsFull t
+no_block_where_full t h = by_block (next_block t) refl
+  where
+    by_block : (o : Option ℕ) → next_block t ≡ o → IsNone o ↔ IsFull t
+    by_block None e = (λ _. no_next_block t h e, λ _. refl)
+    by_block (Some block) e =
+        let found = next_block_has_room t h block e in
+        (λ no. cc, λ full. absurd (full block found.0 found.1))
+
+-- and no slot is
+pub none_where_full : (t : BlockTable) → IsBlockTable t → IsNone (next_slot t) ↔ IsFull t
+unfolding next_slot
+none_where_full t h = by_block (next_block t) (no_block_where_full t h)
+  where
+    by_block : (o : Option ℕ) → IsNone o ↔ IsFull t → IsNone (option_map (first_unused t) o) ↔ IsFull t
+    by_block None e = e
+    by_block (Some block) e = e
+
+-- the slot that is programmed next is the first free slot of its block
+pub next_slot_is_free : (t : BlockTable) → IsBlockTable t → (at : Slot) → next_slot t ≡ Some at → IsFirstFree t at.0
+unfolding next_slot
+next_slot_is_free t h at e = by_block (next_block t) refl e
+  where
+    by_block : (o : Option ℕ) → next_block t ≡ o → option_map (first_unused t) o ≡ Some at → IsFirstFree t at.0
+    by_block None b g = cc
+    by_block (Some block) b g =
+        let found = next_block_has_room t h block b in
+        let is : first_unused t block ≡ at = cc in
+        rw (← is) (first_unused_is_free t h block found.0 found.1)
+
+-- where a block has room, there is a next slot
+pub next_slot_where_room : (t : BlockTable) → IsBlockTable t → (block : ℕ) → block < blocks_of t.shape → HasRoom t block → IsSome (next_slot t)
+next_slot_where_room t h block within room = by_answer (next_slot t) refl
+  where
+    by_answer : (o : Option Slot) → next_slot t ≡ o → IsSome o
+    by_answer (Some at) e = refl
+    by_answer None e = absurd ((none_where_full t h).0 (rw e refl) block within room)
+
+-- the cursor plays no part in what is free
+pub is_first_free_moved : (t : BlockTable) (at die : ℕ) → IsFirstFree t at → IsFirstFree (record t { cursor = die }) at
+is_first_free_moved t at die h = record { free = record { within = h.free.within; room = h.free.room; unused = h.free.unused }; first = h.first }
+
+pub ruleset next_blocks = (next_block_split, next_block_has_room, no_block_where_full)

@@ -1,0 +1,3 @@
+pub mod BlockTable
+pub mod NextSlot
+pub mod Kept

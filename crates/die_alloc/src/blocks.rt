@@ -1,0 +1,206 @@
+ghost use Rattle.std.specs.Prelude.{◌≡◌, ◌≢◌, ◌-◌, ◌*◌, position, ◌/◌, ◌%◌, ◌<◌, ◌≤◌, ◌↔◌, IfOk, IfSome, IfNone, IsNone};
+ghost use Rattle.tx_types.specs.Config.{IsShape, slots_of, blocks_of};
+ghost use Rattle.die_alloc.specs.BlockTable.{IsBlockTable, MayHave, state_of, used_of, fresh_table, with_slot, with_use, with_spare, HasRoom, IsFree, IsFirstFree, IsFull};
+ghost use Rattle.die_alloc.specs.NextSlot.{next_slot, first_unused, next_block, open_block, after_next_slot, first_answer, is_part, is_clean};
+ghost use Rattle.std.specs.List.{range_with_len};
+
+use crate::block_use::BlockUse;
+use std::alloc::Global;
+use std::marker::Model;
+use tx_types::{Block, BlockState, Memory, Shape, Slot};
+
+/// What a device keeps of the blocks of its flash.
+#[derive(Debug, Drop)]
+pub struct Blocks {
+    shape: Shape,
+    blocks: Vec<BlockUse>,
+    spare: Block,
+    /// The die at which the search for a slot begins.
+    cursor: u32,
+}
+
+impl Model for Blocks {
+    ghost use Rattle.die_alloc.specs.BlockTable.{BlockTable};
+
+    ghost Value = { BlockTable };
+
+    ghost use Rattle.die_alloc.specs.Kept.{table_of, IsKept};
+
+    ghost view = { table_of };
+
+    ghost invariant = { IsKept };
+}
+
+impl Blocks {
+    /// All blocks of a flash of this shape are clean, and the last one is the spare.
+    pub fn new(alloc: Global, shape: Shape) -> Result<Blocks, Memory>
+        requires { IsShape shape }
+        ensures fresh { IfOk result (λ b. b ≡ fresh_table shape) }
+        ensures table { IfOk result IsBlockTable }
+    {
+        let last = shape.blocks() - 1;
+        let mut blocks = vec![in alloc; BlockUse::CLEAN; shape.blocks() as usize]?;
+        blocks[last as usize] = BlockUse::SPARE;
+        Ok(Blocks {
+            shape,
+            blocks,
+            spare: Block(last),
+            cursor: 0,
+        })
+    }
+
+    /// The slot that is programmed next. The search for the one after it begins at the next die. Where
+    /// each block but the spare is shut there is none, and nothing changes.
+    #[tactic(auto, using(crate::proofs::NextSlots::is_first_free_moved), unfolding(crate::specs::NextSlot::next_slot))]
+    pub fn next_slot(&mut self) -> Option<Slot>
+        ensures slot { result ≡ next_slot self.old }
+        ensures cursor { self.new ≡ after_next_slot self.old }
+        ensures free { IfSome result (λ at. IsFirstFree self.new at.0) }
+        ensures full { IsNone result ↔ IsFull self.old }
+        ensures unchanged { IfNone result (self.new ≡ self.old) }
+        ensures table { IsBlockTable self.new }
+    {
+        let block = self.next_block()?;
+        let at = self.first_unused(block);
+        self.cursor = (block / self.shape.blocks_per_die + 1) % self.shape.dies;
+        Some(at)
+    }
+
+    /// The first slot of a block after its used ones.
+    #[tactic(auto, using(crate::proofs::NextSlots::first_unused_is_free))]
+    fn first_unused(&self, block: u32) -> Slot
+        requires within { block < blocks_of self.now.shape }
+        requires room { HasRoom self.now block }
+        ensures slot { result ≡ first_unused self.now block }
+        ensures free { IsFirstFree self.now result.0 }
+    {
+        let used = self.blocks[block as usize].used;
+        Slot(block * self.shape.pages_per_block + used)
+    }
+
+    /// The block that is programmed next.
+    #[tactic(auto, using(crate::proofs::NextSlots::next_blocks))]
+    fn next_block(&self) -> Option<u32>
+        ensures block { result ≡ next_block self.now }
+        ensures room { IfSome result (λ block.
+            (block < blocks_of self.now.shape) × HasRoom self.now block) }
+        ensures full { IsNone result ↔ IsFull self.now }
+    {
+        match self.first_open(self.cursor, self.shape.dies) {
+            Some(block) => Some(block),
+            None => self.first_open(0, self.cursor),
+        }
+    }
+
+    /// The block with room in the first of these dies that has one.
+    #[tactic(auto, using(crate::proofs::FirstAnswers::first_range))]
+    fn first_open(&self, from: u32, to: u32) -> Option<u32>
+        requires { to ≤ self.now.shape.dies }
+        ensures { result ≡ first_answer (open_block self.now) (range_with_len from (to - from)) }
+    {
+        for die in from..to {
+            if let Some(block) = self.open_block(die) {
+                return Some(block);
+            }
+        }
+        None
+    }
+
+    /// The block of a die that has room.
+    #[tactic(auto, unfolding(crate::specs::NextSlot::open_block))]
+    fn open_block(&self, die: u32) -> Option<u32>
+        requires { die < self.now.shape.dies }
+        ensures { result ≡ open_block self.now die }
+    {
+        let first = die * self.shape.blocks_per_die;
+        let end = first + self.shape.blocks_per_die;
+        let blocks = &self.blocks[first as usize..end as usize];
+        let place = match lowest_part(blocks) {
+            Some(place) => place,
+            None => lowest_clean(blocks)?,
+        };
+        Some(first + place as u32)
+    }
+
+    /// What a block is kept for.
+    pub fn state(&self, block: Block) -> BlockState
+        requires { block.0 < blocks_of self.now.shape }
+        ensures state { result ≡ state_of self.now block.0 }
+        ensures table { IsBlockTable self.now }
+    {
+        self.blocks[block.0 as usize].state
+    }
+
+    /// How many of a block's first slots are used.
+    pub fn used(&self, block: Block) -> u32
+        requires { block.0 < blocks_of self.now.shape }
+        ensures used { result ≡ used_of self.now block.0 }
+        ensures table { IsBlockTable self.now }
+    {
+        self.blocks[block.0 as usize].used
+    }
+
+    /// The block that is kept for the collector.
+    pub fn spare(&self) -> Block
+        ensures spare { result.0 ≡ self.now.spare }
+        ensures table { IsBlockTable self.now }
+    {
+        self.spare
+    }
+
+    /// The slots of a block up to this one are used. The block is shut where this is its last slot.
+    pub fn note_used(&mut self, at: Slot)
+        requires { IsFree self.old at.0 }
+        ensures used { self.new ≡ with_slot self.old at.0 }
+        ensures table { IsBlockTable self.new }
+    {
+        let used = at.0 % self.shape.pages_per_block + 1;
+        let state = if used == self.shape.pages_per_block {
+            BlockState::Shut
+        } else {
+            BlockState::Part
+        };
+        self.blocks[(at.0 / self.shape.pages_per_block) as usize] = BlockUse { state, used };
+    }
+
+    /// Gives a block that is not the spare this state and this number of used slots.
+    pub fn set(&mut self, block: Block, state: BlockState, used: u32)
+        requires exists { block.0 < blocks_of self.old.shape }
+        requires not_the_spare { block.0 ≢ self.old.spare }
+        requires no_spare { state ≢ BlockState.Spare }
+        requires fits { MayHave self.old.shape.pages_per_block state used }
+        ensures set { self.new ≡ with_use self.old block.0 state used }
+        ensures table { IsBlockTable self.new }
+    {
+        self.blocks[block.0 as usize] = BlockUse { state, used };
+    }
+
+    /// Makes a block the spare. The one that was it before, where it is another block, is clean.
+    pub fn make_spare(&mut self, block: Block)
+        requires { block.0 < blocks_of self.old.shape }
+        ensures spare { self.new ≡ with_spare self.old block.0 }
+        ensures table { IsBlockTable self.new }
+    {
+        self.blocks[self.spare.0 as usize] = BlockUse::CLEAN;
+        self.blocks[block.0 as usize] = BlockUse::SPARE;
+        self.spare = block;
+    }
+}
+
+/// The place of the first block with a blank tail.
+fn lowest_part(blocks: &[BlockUse]) -> Option<usize>
+    ensures { result ≡ position (λ b. is_part b.state) blocks.now }
+{
+    blocks
+        .iter()
+        .position(|b| matches!(b.state, BlockState::Part))
+}
+
+/// The place of the first block that is clean.
+fn lowest_clean(blocks: &[BlockUse]) -> Option<usize>
+    ensures { result ≡ position (λ b. is_clean b.state) blocks.now }
+{
+    blocks
+        .iter()
+        .position(|b| matches!(b.state, BlockState::Clean))
+}

@@ -1,0 +1,9 @@
+//! The blocks of a flash: what each is kept for, and the slot that is programmed next.
+#![tactic(auto)]
+
+mod block_use;
+mod blocks;
+#[cfg(test)]
+mod tests;
+
+pub use blocks::Blocks;

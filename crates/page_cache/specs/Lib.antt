@@ -1,0 +1,3 @@
+pub mod CachedPages
+pub mod Entries
+pub mod Kept

@@ -1,0 +1,5 @@
+pub mod NewestLemmas
+pub mod WalkLemmas
+pub mod LineLemmas
+pub mod PageLemmas
+pub mod Examples

@@ -1,0 +1,70 @@
+-- The words of a line, one after another.
+use Rattle.std.proofs.Common.{◌≡◌, ℕ, cond, List, [], ◌∷◌, ◌++◌, map, sym, ap, ap₂, ◌∙◌, append-nil, append_assoc, codes}
+use Rattle.std.specs.List.{join_with_byte}
+use Rattle.std.specs.Fmt.{decimal}
+use Rattle.std.proofs.lemmas.List.Concat.{flat_map-append}
+use Rattle.tx_types.specs.declared.record.Link.{Link}
+use Rattle.tx_types.specs.declared.config.Protocol.{Protocol}
+use Rattle.record_list.specs.declared.found.Found.{Found}
+use Rattle.record_list.specs.declared.found.Why.{Why}
+use Rattle.record_list.specs.Records.{newest}
+use Rattle.record_list.specs.Verdict.{newest_name, why, verdict_of, is_committed}
+use Rattle.record_list.specs.Current.{cur, fallback}
+use Rattle.verdict_report.specs.declared.walk.Walk.{Walk}
+use Rattle.verdict_report.specs.Walks.{links_of, why_at}
+use Rattle.verdict_report.specs.Report.{verdict_word, reason_words, link_word, more_words, walk_words, page_line, verdict_line}
+use Rattle.verdict_report.specs.Lines.{after_spaces, IsWalk, words_of}
+use Rattle.verdict_report.proofs.WalkLemmas.{why_shown}
+
+-- words with a space between each two are the first and the others with a space before each
+join_after_spaces : (word : List ℕ) (words : List (List ℕ)) → join_with_byte 32 (word ∷ words) ≡ word ++ after_spaces words
+join_after_spaces word [] = sym (append-nil word)
+join_after_spaces word (next ∷ words) = ap (λ text. word ++ 32 ∷ text) (join_after_spaces next words)
+
+after_spaces-append : (xs ys : List (List ℕ)) → after_spaces (xs ++ ys) ≡ after_spaces xs ++ after_spaces ys
+after_spaces-append xs ys = flat_map-append (λ word. 32 ∷ word) xs ys
+
+parts_after_spaces : (a b c d e f : List (List ℕ)) →
+    after_spaces (a ++ (b ++ (c ++ (d ++ (e ++ f))))) ≡ after_spaces a ++ (after_spaces b ++ (after_spaces c ++ (after_spaces d ++ (after_spaces e ++ after_spaces f))))
+parts_after_spaces a b c d e f = simp after_spaces-append
+
+-- texts that grow part by part
+grown : (old first a b c d e f s t u v w x y : List ℕ) →
+    s ≡ old ++ (first ++ a) → t ≡ s ++ b → u ≡ t ++ c → v ≡ u ++ d → w ≡ v ++ e → x ≡ w ++ f → y ≡ x ++ 10 ∷ [] →
+    y ≡ old ++ ((first ++ (a ++ (b ++ (c ++ (d ++ (e ++ f)))))) ++ 10 ∷ [])
+grown old first a b c d e f s t u v w x y es et eu ev ew ex ey = rw (ey, ex, ew, ev, eu, et, es) (simp append_assoc)
+
+-- a line that is written part by part
+pub line_written : (page version : ℕ) (why : Why) (current : ℕ) (links more : List (List ℕ)) (old s t u v w x y : List ℕ) →
+    s ≡ old ++ (codes "verdict" ++ after_spaces (decimal page ∷ codes "newest" ∷ decimal version ∷ [])) →
+    t ≡ s ++ after_spaces (verdict_word (verdict_of why) ∷ []) →
+    u ≡ t ++ after_spaces (reason_words why) →
+    v ≡ u ++ after_spaces (codes "current" ∷ decimal current ∷ codes "walk" ∷ []) →
+    w ≡ v ++ after_spaces links → x ≡ w ++ after_spaces more → y ≡ x ++ 10 ∷ [] →
+    y ≡ old ++ page_line page version why current (links ++ more)
+line_written page version why current links more old s t u v w x y es et eu ev ew ex ey =
+    let first = codes "verdict" in
+    let a = decimal page ∷ codes "newest" ∷ decimal version ∷ [] in
+    let b = verdict_word (verdict_of why) ∷ [] in
+    let c = reason_words why in
+    let d = codes "current" ∷ decimal current ∷ codes "walk" ∷ [] in
+    grown old first (after_spaces a) (after_spaces b) (after_spaces c) (after_spaces d) (after_spaces links) (after_spaces more) s t u v w x y es et eu ev ew ex ey
+    ∙ ap (λ text. old ++ (text ++ 10 ∷ []))
+    (ap (λ text. first ++ text) (sym (parts_after_spaces a b c d links more))
+    ∙ sym (join_after_spaces first (a ++ (b ++ (c ++ (d ++ (links ++ more)))))))
+
+-- a line whose parts are those of a page
+pub line_explained : (protocol : Protocol) (list : List Found) (logical page version : ℕ) (start : Link) (reason : Why) (current : ℕ) (walk : Walk) →
+    version ≡ newest list page → start ≡ newest_name list page → IsWalk walk (links_of list logical page) →
+    reason ≡ why_at protocol list start walk.last →
+    current ≡ cond (is_committed reason) (newest list page) (fallback protocol list page) →
+    page_line page version reason current (words_of walk) ≡ verdict_line protocol list logical page
+line_explained protocol list logical page version start reason current walk ev es is er ec =
+    let decided : reason ≡ why protocol list logical page =
+    er ∙ ap (λ s. why_at protocol list s walk.last) es ∙ sym (why_shown protocol list logical page walk is) in
+    let counts : current ≡ cur protocol list logical page =
+    ec ∙ ap (λ r. cond (is_committed r) (newest list page) (fallback protocol list page)) decided in
+    let words : words_of walk ≡ walk_words (links_of list logical page) =
+    ap₂ (λ links n. map link_word links ++ more_words n) is.shown is.count in
+    ap₂ (λ v r. page_line page v r current (words_of walk)) ev decided
+    ∙ ap₂ (λ n ws. page_line page (newest list page) (why protocol list logical page) n ws) counts words

@@ -1,0 +1,6 @@
+use Rattle.std.proofs.Common.{take}
+use Rattle.verdict_report.specs.Newest.{KeepsNewest}
+use Rattle.verdict_report.proofs.records.newest_records.Given as goal
+
+abbrev pub invariant-loop-found : goal.invariant-loop-found
+invariant-loop-found l = KeepsNewest (take l.found-index l.list) l.newest.items

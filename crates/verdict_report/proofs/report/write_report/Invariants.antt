@@ -1,0 +1,8 @@
+use Rattle.std.specs.String.{string_bytes}
+use Rattle.verdict_report.specs.Report.{verdict_line}
+use Rattle.verdict_report.proofs.PageLemmas.{HasLines}
+use Rattle.verdict_report.proofs.report.write_report.Given as goal
+
+abbrev pub invariant-loop-page : goal.invariant-loop-page
+invariant-loop-page l =
+    HasLines (verdict_line l.protocol l.list l.logical) l.list l.page (string_bytes l.initial.text) (string_bytes l.text) l.count

@@ -1,0 +1,13 @@
+//! The report that explains the verdict on each page of a list of records.
+#![tactic(auto)]
+
+mod line;
+mod records;
+mod report;
+#[cfg(test)]
+mod tests;
+mod theorems;
+mod walk;
+
+pub use report::explain;
+pub use theorems::{pages_are_those_of_records, walk_decides, worked_reports};

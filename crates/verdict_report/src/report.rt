@@ -1,0 +1,99 @@
+ghost use Rattle.std.specs.Prelude.{◌≡◌, ◌++◌, Some, IfOk, OnOk, OnErr, length};
+ghost use Rattle.std.specs.String.{string_bytes};
+ghost use Rattle.verdict_report.specs.Report.{pages, verdict_line, last_line, report};
+ghost use Rattle.verdict_report.specs.Newest.{IsNewestRecord};
+ghost use Rattle.verdict_report.specs.Lines.{line_text};
+
+use crate::line::Line;
+use crate::records::Records;
+use crate::walk::Walk;
+use record_list::{CommitRule, Found};
+use std::alloc::{AllocError, Global};
+use tx_types::{Link, Memory, Protocol, Rec};
+
+/// Appends the report on a list of records, and answers the number of pages that it explains. After
+/// `Memory` the bytes are as before.
+///
+/// Each page below `logical` that has a record has a line, in ascending order:
+/// `verdict P newest V WORD REASON current C walk LINKS`. V is the newest version of page P and C its
+/// current one, 0 for none. WORD is `committed` or `uncommitted`. REASON is `cycle`, `passed`,
+/// `absent` or `straddled A`, A being the greatest version that straddles the last link. LINKS are the
+/// links that the walk from the newest record takes, each as page, colon and version: the first is that
+/// record's own, and the last one decides. Of more than 16 links the first 16 are followed by `more M`,
+/// M being the number of the others. The last line is `explained N`, N being the number of lines
+/// before it.
+pub fn explain<R: CommitRule>(
+    alloc: Global,
+    list: &[Found],
+    logical: u32,
+    out: &mut Vec<u8>,
+) -> Result<u32, Memory>
+    ensures count { IfOk result (λ n. n ≡ length (pages list.now logical)) }
+    ensures text { OnOk result (out.new.items ≡ out.old.items ++ report R.kept list.now logical) }
+    ensures err { OnErr result (out.new.items ≡ out.old.items) }
+{
+    let mut text = String::new(alloc);
+    let count = write_report(alloc, R::protocol(), list, logical, &mut text)?;
+    out.extend_from_slice(text.as_bytes())?;
+    Ok(count)
+}
+
+/// Appends the report, and answers the number of pages.
+fn write_report(
+    alloc: Global,
+    protocol: Protocol,
+    list: &[Found],
+    logical: u32,
+    text: &mut String,
+) -> Result<u32, Memory>
+    ensures count { IfOk result (λ n. n ≡ length (pages list.now logical)) }
+    ensures text { OnOk result (string_bytes text.new
+        ≡ string_bytes text.old ++ report protocol list.now logical) }
+{
+    let records = Records::new(alloc, list)?;
+    let mut count = 0;
+    for page in 0..logical {
+        if let Some(rec) = records.newest_record(page) {
+            let line = explained(alloc, protocol, &records, logical, page, &rec)?;
+            line.write(text)?;
+            count += 1;
+        }
+    }
+    write_last(count, text)?;
+    Ok(count)
+}
+
+/// Appends the last line of a report on so many pages.
+fn write_last(count: u32, text: &mut String) -> Result<(), AllocError>
+    ensures { OnOk result (string_bytes text.new ≡ string_bytes text.old ++ last_line count) }
+{
+    writeln!(text, "explained {count}")
+}
+
+/// What the report says of a page, from its newest record.
+fn explained(
+    alloc: Global,
+    protocol: Protocol,
+    records: &Records,
+    logical: u32,
+    page: u32,
+    rec: &Rec,
+) -> Result<Line, Memory>
+    requires { IsNewestRecord records.now.list.now page (Some rec.now) }
+    ensures { IfOk result (λ l. line_text l
+        ≡ verdict_line protocol records.now.list.now logical page) }
+{
+    let walk = Walk::of_page(alloc, records, logical, page)?;
+    let start = Link {
+        page,
+        version: rec.version,
+    };
+    let why = records.why_at(protocol, start, walk.last);
+    Ok(Line {
+        page,
+        newest: rec.version,
+        why,
+        current: records.current(protocol, page, rec, why),
+        walk,
+    })
+}

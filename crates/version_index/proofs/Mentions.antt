@@ -1,0 +1,56 @@
+-- Mentions that a noted record raises.
+use Rattle.std.proofs.Common.{◌≡◌, ℕ, ◌<◌, ◌≤◌, max, ◌==◌, List, length, get_or, sym, ap, ◌∙◌, subst, inl, inr, arith, eqb, eq-eqb, ne_eqb, if◌then◌else◌}
+use Rattle.std.proofs.lemmas.Bool.{cases_eq, cond-true, cond-false}
+use Rattle.std.proofs.lemmas.List.{length-set, get_or-set_same, get_or-set_other}
+use Rattle.std.proofs.Math.Nat.{max-eq_left}
+use Rattle.tx_types.specs.declared.record.Link.{Link}
+use Rattle.tx_types.specs.declared.record.Rec.{Rec}
+use Rattle.record_list.specs.declared.found.Found.{Found}
+use Rattle.record_list.specs.Records.{mention, mentioned_at, version_of, linked_at, name_of}
+use Rattle.record_list.specs.Changes.{IsInserted}
+use Rattle.record_list.proofs.Names.{greatest_bound, greatest_least}
+use Rattle.record_list.proofs.OneMore.{inserted_in}
+use Rattle.version_index.specs.Noted.{raised, raised_to}
+
+-- the version at which a name mentions a page
+abbrev named_at : ℕ → Link → ℕ
+named_at page name = if name.page == page then name.version else 0
+
+pub length-raised : (rec : Rec) (mentions : List ℕ) → length (raised rec mentions) ≡ length mentions
+length-raised rec mentions = length-set (raised_to (name_of rec) mentions) rec.next.page _ ∙ length-set mentions rec.page _
+
+raised_to_at : (name : Link) (mentions : List ℕ) (page : ℕ) → name.page < length mentions →
+    get_or (raised_to name mentions) page 0 ≡ max (get_or mentions page 0) (named_at page name)
+raised_to_at name mentions page within = elim (cases_eq name.page page) [
+  | inl same ↦ (
+      let at : get_or (raised_to name mentions) name.page 0 ≡ max (get_or mentions name.page 0) name.version = get_or-set_same mentions name.page _ 0 within in
+      subst (λ p. get_or (raised_to name mentions) p 0 ≡ max (get_or mentions p 0) name.version) same at
+      ∙ ap (max (get_or mentions page 0)) (sym (cond-true (eqb name.page page) name.version 0 (eq-eqb name.page page same))))
+  | inr other ↦ (
+      get_or-set_other mentions name.page page _ 0 (λ e. other (sym e))
+      ∙ sym (max-eq_left (omega arith))
+      ∙ ap (max (get_or mentions page 0)) (sym (cond-false (eqb name.page page) name.version 0 (ne_eqb name.page page other))))
+]
+
+-- a mention is the greater of what it was and of that by the record
+pub raised_at : (rec : Rec) (mentions : List ℕ) (page : ℕ) → rec.page < length mentions → rec.next.page < length mentions →
+    get_or (raised rec mentions) page 0 ≡ max (get_or mentions page 0) (mentioned_at page rec)
+raised_at rec mentions page within next_within =
+    let once = raised_to_at (name_of rec) mentions page within in
+    let long : rec.next.page < length (raised_to (name_of rec) mentions) = subst (λ k. rec.next.page < k) (sym (length-set mentions rec.page _)) next_within in
+    raised_to_at rec.next (raised_to (name_of rec) mentions) page long
+    ∙ ap (λ m. max m (named_at page rec.next)) once ∙ assoc (get_or mentions page 0) (version_of page rec) (linked_at page rec)
+  where
+    assoc : (a b c : ℕ) → max (max a b) c ≡ max a (max b c)
+    assoc a b c = omega arith
+
+-- with a record more no mention of the records is above the raised ones
+pub raised_bounds : (list list' : List Found) (f : Found) (mentions : List ℕ) (page : ℕ) → IsInserted list f list' →
+    f.rec.page < length mentions → f.rec.next.page < length mentions → mention list page ≤ get_or mentions page 0 →
+    mention list' page ≤ get_or (raised f.rec mentions) page 0
+raised_bounds list list' f mentions page ins within next_within before =
+    let at = raised_at f.rec mentions page within next_within in
+    greatest_least (mentioned_at page) list' (get_or (raised f.rec mentions) page 0) (λ g i. elim (inserted_in list list' f ins g i) [
+      | inl new ↦ (let same = ap (λ h. mentioned_at page h.rec) new in omega arith)
+      | inr old ↦ (let bound = greatest_bound (mentioned_at page) list g old in omega arith)
+    ])

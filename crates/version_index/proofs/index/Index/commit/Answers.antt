@@ -1,0 +1,8 @@
+use Rattle.std.proofs.Common.{subst}
+use Rattle.version_index.specs.Noted.{IsNoted}
+use Rattle.version_index.proofs.Cycles.{cycle_current}
+use Rattle.version_index.proofs.index.Index.commit.Goals as goal
+
+pub returns-clause-current : goal.returns-clause-current
+returns-clause-current g c =
+    cycle_current _ c.args.self.now (subst (IsNoted _) c.self.view_is c.self.invariant.noted) c.args.names.now c.requires.complete

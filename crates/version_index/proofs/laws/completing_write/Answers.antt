@@ -1,0 +1,5 @@
+use Rattle.version_index.proofs.ImageLaws.{image_completing_law}
+use Rattle.version_index.proofs.laws.completing_write.Goals as goal
+
+pub returns : goal.returns
+returns g c = image_completing_law g.R.CommitRule.kept g.met.R.CommitRule.written_completing_write

@@ -1,0 +1,5 @@
+use Rattle.version_index.proofs.ImageLaws.{image_damage_law}
+use Rattle.version_index.proofs.laws.image_damaged.Goals as goal
+
+pub returns : goal.returns
+returns c = image_damage_law

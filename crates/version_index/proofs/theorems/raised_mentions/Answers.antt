@@ -1,0 +1,5 @@
+use Rattle.version_index.proofs.Mentions.{raised_at}
+use Rattle.version_index.proofs.theorems.raised_mentions.Goals as goal
+
+pub returns : goal.returns
+returns c = raised_at

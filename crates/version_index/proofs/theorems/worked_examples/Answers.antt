@@ -1,0 +1,13 @@
+use Rattle.version_index.proofs.Examples.{doubled_homes, doubled_goes, doubled_garbage, doubled_pinned, mentions_raised, least_slots, written_array}
+use Rattle.version_index.proofs.theorems.worked_examples.Goals as goal
+
+pub returns : goal.returns
+returns c = record {
+  homes = doubled_homes;
+  goes = doubled_goes;
+  garbage = doubled_garbage;
+  pinned = doubled_pinned;
+  mentions = mentions_raised;
+  least = least_slots;
+  array = written_array;
+}

@@ -1,0 +1,87 @@
+ghost use Rattle.std.specs.Prelude.{◌≡◌, length, map, IfOk, Ok};
+ghost use Rattle.tx_types.specs.Config.{checked, shape_of, slots_of};
+ghost use Rattle.record_list.specs.Records.{IsScanned};
+ghost use Rattle.record_list.specs.SoundList.{IsSoundList};
+ghost use Rattle.version_index.specs.Notes.{complete_slots};
+ghost use Rattle.version_index.specs.Noted.{IsNoted, IsNotedFrom};
+
+use crate::Note;
+use crate::tables::{first_mentions, no_pins, noted_slots, recount};
+use flash_model::Seen;
+use record_list::{CommitRule, Found};
+use std::alloc::Global;
+use std::marker::{Model, PhantomData};
+use tx_types::{Block, Config, Memory, Shape};
+
+/// What a device has noted of its flash, and what the commit rule `R` makes of it: the record of each
+/// slot, the current version of each page, where its record stands, and which slots are needed. It is
+/// seen as what was noted. All its memory is taken when it is made.
+#[derive(Drop)]
+pub struct Index<R: CommitRule> {
+    pub(crate) config: Config,
+    pub(crate) shape: Shape,
+    pub(crate) notes: Vec<Note>,
+    /// The noted records, in the order of their slots.
+    pub(crate) list: Vec<Found>,
+    /// The version at which each page is pinned, 0 for none.
+    pub(crate) pins: Vec<u64>,
+    pub(crate) spare: Option<Block>,
+    pub(crate) mentions: Vec<u64>,
+    rule: PhantomData<R>,
+}
+
+impl<R: CommitRule> Model for Index<R> {
+    ghost use Rattle.version_index.specs.Noted.{Noted};
+
+    ghost Value = { Noted };
+
+    ghost use Rattle.version_index.specs.Tables.{noted_of, IsTabled};
+
+    ghost view = { noted_of };
+
+    ghost invariant = { IsTabled R.kept };
+}
+
+impl<R: CommitRule> Index<R> {
+    /// The tables of slots that read so and hold these records, in the order of their slots. Nothing
+    /// is pinned, and no spare is chosen.
+    pub fn from_scan(
+        alloc: Global,
+        config: Config,
+        seen: &[Seen],
+        list: &[Found],
+    ) -> Result<Index<R>, Memory>
+        requires check { checked config ≡ Ok (shape_of config) }
+        requires rule { config.protocol ≡ R.kept }
+        requires seen { length seen.now ≡ slots_of (shape_of config) }
+        requires complete { map (λ f. f.slot.0) list.now ≡ complete_slots seen.now }
+        requires scanned { IsScanned list.now }
+        requires sound { IsSoundList R.kept list.now config.logical }
+        ensures { IfOk result (λ index. IsNotedFrom config seen.now list.now index) }
+    {
+        let Ok(shape) = config.check() else {
+            unreachable!();
+        };
+        let notes = noted_slots(alloc, seen, list)?;
+        let mut all = Vec::with_capacity(alloc, shape.slots() as usize)?;
+        recount(&mut all, &notes);
+        Ok(Index {
+            config,
+            shape,
+            notes,
+            list: all,
+            pins: no_pins(alloc, config.logical)?,
+            spare: None,
+            mentions: first_mentions(alloc, list, config.logical)?,
+            rule: PhantomData,
+        })
+    }
+
+    /// The configuration of the device.
+    pub fn config(&self) -> Config
+        ensures config { result ≡ self.now.config }
+        ensures noted { IsNoted R.kept self.now }
+    {
+        self.config
+    }
+}

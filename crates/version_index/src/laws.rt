@@ -1,0 +1,30 @@
+//! The commit laws stated of images. The functions do nothing: each is there for what it ensures.
+ghost use Rattle.version_index.specs.ImageLaws.{ImagePartialLaw, ImageCompletingLaw, ImageCopyLaw, ImageLossLaw, ImageDamageLaw};
+ghost use Rattle.tx_types.specs.declared.config.Protocol.{Protocol};
+
+use record_list::CommitRule;
+
+/// A slot that was blank is damaged: the image stays sound, and its records and array stay.
+pub fn image_damaged()
+    ensures { (protocol : Protocol) → ImageDamageLaw protocol }
+{}
+
+/// A record that leaves its cycle open.
+pub fn partial_write<R: CommitRule>()
+    ensures { ImagePartialLaw R.kept }
+{}
+
+/// A record that completes its cycle.
+pub fn completing_write<R: CommitRule>()
+    ensures { ImageCompletingLaw R.kept }
+{}
+
+/// An equal copy of a record.
+pub fn copy<R: CommitRule>()
+    ensures { ImageCopyLaw R.kept }
+{}
+
+/// A block without its records.
+pub fn block_loss<R: CommitRule>()
+    ensures { ImageLossLaw R.kept }
+{}

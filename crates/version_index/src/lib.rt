@@ -1,0 +1,18 @@
+//! The tables that a device keeps of its flash, and what an image of a flash stands for.
+#![tactic(auto)]
+
+mod changing;
+mod homes;
+mod index;
+pub mod laws;
+mod needs;
+mod note;
+mod reading;
+mod tables;
+#[cfg(test)]
+mod tests;
+mod theorems;
+
+pub use index::Index;
+pub use note::Note;
+pub use theorems::{complete_cycles, noted_images, raised_mentions, worked_examples};

@@ -1,0 +1,334 @@
+ghost use Rattle.record_list.specs.Records.{IsScanned};
+ghost use Rattle.std.specs.Prelude.{◌≡◌, ◌<◌, [], ◌∷◌, length, map, IsTrue, Ok};
+ghost use Rattle.tx_types.specs.Config.{checked, shape_of, slots_of, blocks_of};
+ghost use Rattle.version_index.specs.declared.note.Note.TheVariants as note;
+ghost use Rattle.version_index.specs.Notes.{note_at, found_in, complete_slots};
+ghost use Rattle.version_index.specs.Noted.{IsNextRecord, IsCompleteCycle};
+
+use crate::{Index, Note};
+use bpcc_commit::Bpcc;
+use flash_model::Seen;
+use flash_model::Seen::{Blank, Complete, Damaged};
+use record_list::{CommitRule, Found, link_of, newest, present};
+use scc_commit::Scc;
+use std::alloc::Global;
+use std::process::Abort;
+use std::test::Fail;
+use tx_types::{Block, Config, Link, MAX_VERSION, Memory, Protocol, Rec, Slot};
+
+/// Two dies of two blocks of three slots.
+const CONFIG: Config = Config {
+    protocol: Protocol::Scc,
+    page_bytes: 16,
+    pages_per_block: 3,
+    blocks_per_die: 2,
+    dies: 2,
+    logical: 4,
+    pending: 1,
+};
+
+/// The record of a page and a version, with its link and its back version.
+fn rec(name: (u32, u64), next: (u32, u64), back: u64) -> Rec {
+    Rec {
+        page: name.0,
+        version: name.1,
+        next: Link {
+            page: next.0,
+            version: next.1,
+        },
+        back,
+    }
+}
+
+/// A record in a slot.
+fn found(slot: u32, rec: Rec) -> Found
+    ensures { result.slot.0 ≡ slot }
+{
+    Found {
+        slot: Slot(slot),
+        rec,
+    }
+}
+
+/// Whether a list stands in ascending order of slots and has no version 0.
+fn is_scanned(list: &[Found]) -> bool
+    ensures { IsTrue result → IsScanned list.now }
+{
+    let mut low = 0;
+    for found in list {
+        if u64::from(found.slot.0) < low || found.rec.version == 0 || found.rec.next.version == 0 {
+            return false;
+        }
+        low = u64::from(found.slot.0) + 1;
+    }
+    true
+}
+
+/// The tables of slots that read so and hold these records, which keep the laws.
+fn opened<R: CommitRule>(
+    rt: &impl Abort,
+    alloc: Global,
+    config: Config,
+    seen: &[Seen],
+    list: &[Found],
+) -> Result<Index<R>, Memory>
+    requires check { checked config ≡ Ok (shape_of config) }
+    requires rule { config.protocol ≡ R.kept }
+    requires seen { length seen.now ≡ slots_of (shape_of config) }
+    requires complete { map (λ f. f.slot.0) list.now ≡ complete_slots seen.now }
+{
+    assert!(rt; is_scanned(list));
+    assert_eq!(rt; R::audit(list, config.logical), None);
+    Index::from_scan(alloc, config, seen, list)
+}
+
+/// Whether a page exists.
+fn has_page<R: CommitRule>(index: &Index<R>, page: u32) -> bool
+    ensures { IsTrue result → page < index.now.config.logical }
+{
+    page < index.config().logical
+}
+
+/// Whether a block exists.
+fn has_block<R: CommitRule>(index: &Index<R>, block: Block) -> bool
+    ensures { IsTrue result → block.0 < blocks_of (shape_of index.now.config) }
+{
+    let config = index.config();
+    block.0 < config.blocks_per_die * config.dies
+}
+
+/// Whether a slot exists.
+fn has_slot<R: CommitRule>(index: &Index<R>, at: Slot) -> bool
+    ensures { IsTrue result → at.0 < slots_of (shape_of index.now.config) }
+{
+    let config = index.config();
+    at.0 < config.pages_per_block * (config.blocks_per_die * config.dies)
+}
+
+/// Whether a slot exists and is blank.
+fn is_blank<R: CommitRule>(index: &Index<R>, at: Slot) -> bool
+    ensures { IsTrue result → (at.0 < slots_of (shape_of index.now.config))
+        × (note_at index.now.notes at.0 ≡ note.Blank) }
+{
+    has_slot(index, at) && index.notes[at.0 as usize] == Note::Blank
+}
+
+/// Whether no slot holds a record.
+fn has_no_record<R: CommitRule>(index: &Index<R>) -> bool
+    ensures { IsTrue result → found_in index.now.notes ≡ [] }
+{
+    index.list.is_empty()
+}
+
+/// Whether a record is one that a transaction of one page asks for where there is no record yet.
+fn is_first_record(index: &Index<Scc>, rec: Rec) -> bool
+    ensures { IsTrue result → IsNextRecord index.now rec }
+{
+    let config = index.config();
+    if !has_no_record(index) {
+        return false;
+    }
+    if rec.page >= config.logical {
+        return false;
+    }
+    if rec.version < 1 {
+        return false;
+    }
+    if rec.version > MAX_VERSION {
+        return false;
+    }
+    if rec.next.page != rec.page {
+        return false;
+    }
+    if rec.next.version != rec.version {
+        return false;
+    }
+    rec.back == 0
+}
+
+/// Whether a record that links to itself is the newest of its page.
+fn is_cycle_of_one<R: CommitRule>(index: &Index<R>, name: Link) -> bool
+    ensures { IsTrue result → IsCompleteCycle index.now (name ∷ []) }
+{
+    present(&index.list, name)
+        && newest(&index.list, name.page) == name.version
+        && link_of(&index.list, name) == name
+}
+
+/// Of a page its current version, its mention, its home, and its lowest slot outside block 1.
+type PageRow = (u32, u64, u64, Option<Slot>, Option<Slot>);
+
+fn expect_pages<R: CommitRule>(rt: &impl Abort, index: &Index<R>, rows: &[PageRow]) {
+    for (page, current, mention, home, off) in rows {
+        assert!(rt; has_page(index, *page) && has_block(index, Block(1)));
+        assert_eq!(rt; index.current(*page), *current, "page {page}");
+        assert_eq!(rt; index.mention(*page), *mention, "page {page}");
+        assert_eq!(rt; index.locate(*page), *home, "page {page}");
+        assert_eq!(rt; index.locate_off(*page, Block(1)), *off, "page {page}");
+    }
+}
+
+/// Of a block its garbage where it is not shut and where it is.
+fn expect_garbage<R: CommitRule>(rt: &impl Abort, index: &Index<R>, rows: &[(u32, u32, u32)]) {
+    for (block, part, shut) in rows {
+        assert!(rt; has_block(index, Block(*block)));
+        assert_eq!(rt; index.garbage(Block(*block), false), *part, "block {block}");
+        assert_eq!(rt; index.garbage(Block(*block), true), *shut, "block {block}");
+    }
+}
+
+/// Of the first slots those that are needed.
+fn expect_needed<R: CommitRule>(rt: &impl Abort, index: &Index<R>, first: u32, needed: &[u32]) {
+    for at in 0..first {
+        assert!(rt; has_slot(index, Slot(at)));
+        assert_eq!(rt; index.needed(Slot(at)), needed.contains(&at), "slot {at}");
+    }
+}
+
+/// A record of page 0 with a copy in each of the blocks 0 to 2, a damaged slot, and an aborted record
+/// of page 1.
+#[test]
+fn a_doubled_record(rt: HostRuntime) -> Result<(), Fail> {
+    let seen = [
+        Blank, Complete, Blank, Damaged, Complete, Blank, Complete, Complete, Blank, Blank, Blank,
+        Blank,
+    ];
+    let whole = rec((0, 1), (0, 1), 0);
+    let aborted = rec((1, 3), (2, 7), 0);
+    let list = [
+        found(1, whole),
+        found(4, whole),
+        found(6, aborted),
+        found(7, whole),
+    ];
+    let mut index = opened::<Scc>(&rt, rt.alloc(), CONFIG, &seen, &list)?;
+    assert!(rt; has_block(&index, Block(0)));
+    index.set_spare(Block(0));
+    // the home is outside the spare, and outside block 1 the copy in the spare is the lowest
+    expect_pages(
+        &rt,
+        &index,
+        &[
+            (0, 1, 1, Some(Slot(4)), Some(Slot(1))),
+            (1, 0, 3, None, None),
+            (2, 0, 7, None, None),
+            (3, 0, 0, None, None),
+        ],
+    );
+    expect_needed(&rt, &index, 12, &[4]);
+    expect_garbage(&rt, &index, &[(0, 0, 0), (1, 1, 2), (2, 2, 3), (3, 0, 3)]);
+    // the aborted record goes by its own mention and by its link's
+    for (page, below, block) in [
+        (1, 4, Some(Block(2))),
+        (1, 3, None),
+        (2, 8, Some(Block(2))),
+        (2, 7, None),
+        (0, 9, None),
+    ] {
+        assert!(rt; has_page(&index, page));
+        assert_eq!(rt;
+            index.must_go(page, below),
+            block,
+            "page {page} below {below}"
+        );
+    }
+    // pinned, it is needed
+    assert!(rt; has_page(&index, 1));
+    index.pin(1, 2);
+    index.pin(1, 3);
+    expect_needed(&rt, &index, 12, &[4, 6]);
+    index.unpin(1);
+    expect_needed(&rt, &index, 12, &[4]);
+    // a copy of it raises no mention, and is garbage like the slot that is damaged
+    assert!(rt; has_slot(&index, Slot(6)) && is_blank(&index, Slot(9)));
+    assert_eq!(rt; index.rec(Slot(6)), Some(aborted));
+    index.note_copy(Slot(6), Slot(9));
+    assert!(rt; is_blank(&index, Slot(10)));
+    index.note_damaged(Slot(10));
+    assert!(rt; has_slot(&index, Slot(9)) && has_slot(&index, Slot(10)));
+    assert_eq!(rt; index.rec(Slot(9)), Some(aborted));
+    assert_eq!(rt; index.seen(Slot(9)), Complete);
+    assert_eq!(rt; index.seen(Slot(10)), Damaged);
+    expect_pages(&rt, &index, &[(1, 0, 3, None, None), (2, 0, 7, None, None)]);
+    expect_garbage(&rt, &index, &[(2, 2, 3), (3, 2, 3)]);
+    Ok(())
+}
+
+/// Blocks of a blank flash that are lost and erased, and the first record there.
+#[test]
+fn a_first_record(rt: HostRuntime) -> Result<(), Fail> {
+    let mut index = opened::<Scc>(&rt, rt.alloc(), CONFIG, &[Blank; 12], &[])?;
+    assert!(rt; has_no_record(&index) && has_block(&index, Block(3)));
+    index.note_lost(Block(3));
+    expect_garbage(&rt, &index, &[(2, 0, 3), (3, 3, 3)]);
+    assert!(rt; has_no_record(&index) && has_block(&index, Block(3)));
+    index.note_erased(Block(3));
+    expect_garbage(&rt, &index, &[(3, 0, 3)]);
+    let first = rec((2, 5), (2, 5), 0);
+    assert!(rt; is_blank(&index, Slot(9)) && is_first_record(&index, first));
+    index.note_program(Slot(9), first);
+    let name = Link {
+        page: 2,
+        version: 5,
+    };
+    assert!(rt; is_cycle_of_one(&index, name));
+    index.commit(&[name]);
+    expect_pages(
+        &rt,
+        &index,
+        &[
+            (0, 0, 0, None, None),
+            (2, 5, 5, Some(Slot(9)), Some(Slot(9))),
+        ],
+    );
+    expect_needed(&rt, &index, 12, &[9]);
+    expect_garbage(&rt, &index, &[(2, 0, 3), (3, 0, 2)]);
+    Ok(())
+}
+
+/// Under Back Pointer Cyclic Commit: an aborted record of page 0, a superseded one of page 1 that
+/// straddles its link, and pages that were written since.
+#[test]
+fn a_held_record(rt: HostRuntime) -> Result<(), Fail> {
+    let config = Config {
+        protocol: Protocol::Bpcc,
+        page_bytes: 16,
+        pages_per_block: 4,
+        blocks_per_die: 4,
+        dies: 2,
+        logical: 20,
+        pending: 7,
+    };
+    let seen = [
+        Complete, Complete, Complete, Complete, Blank, Blank, Blank, Blank, Blank, Blank, Blank,
+        Blank, Blank, Blank, Blank, Blank, Complete, Complete, Complete, Complete, Blank, Blank,
+        Blank, Blank, Blank, Blank, Blank, Blank, Blank, Blank, Blank, Blank,
+    ];
+    let list = [
+        found(0, rec((0, 1), (1, 1), 0)),
+        found(1, rec((1, 3), (1, 3), 2)),
+        found(2, rec((3, 1), (3, 1), 0)),
+        found(3, rec((4, 1), (4, 1), 0)),
+        found(16, rec((1, 2), (1, 2), 0)),
+        found(17, rec((2, 1), (2, 1), 0)),
+        found(18, rec((2, 2), (2, 2), 1)),
+        found(19, rec((2, 3), (2, 3), 2)),
+    ];
+    let mut index = opened::<Bpcc>(&rt, rt.alloc(), config, &seen, &list)?;
+    assert!(rt; has_block(&index, Block(7)));
+    index.set_spare(Block(7));
+    expect_pages(
+        &rt,
+        &index,
+        &[
+            (0, 0, 1, None, None),
+            (1, 3, 3, Some(Slot(1)), Some(Slot(1))),
+            (2, 3, 3, Some(Slot(19)), Some(Slot(19))),
+        ],
+    );
+    expect_needed(&rt, &index, 32, &[1, 2, 3, 16, 19]);
+    expect_garbage(&rt, &index, &[(0, 1, 1), (4, 2, 2), (5, 0, 4), (7, 0, 0)]);
+    assert!(rt; has_page(&index, 1));
+    assert_eq!(rt; index.must_go(1, 9), None);
+    Ok(())
+}
