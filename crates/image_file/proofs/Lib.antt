@@ -1,0 +1,7 @@
+mod Firsts
+mod SlotLemmas
+mod ImageLemmas
+mod HeaderLemmas
+mod SpellingLemmas
+mod RefusalLemmas
+mod BehindLemmas

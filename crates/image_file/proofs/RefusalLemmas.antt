@@ -1,0 +1,75 @@
+-- What the code found, as the first rule that is broken.
+use Rattle.std.proofs.Common.{◌≡◌, ◌≢◌, ℕ, List, length, Option, Some, None, Ok, Err, refl, ap, ◌∙◌}
+use Rattle.std.specs.Option.{option_map, option_or, option_map_or}
+use Rattle.std.proofs.lemmas.Bool.{ne_eqb, eq-eqb}
+use Rattle.tx_types.specs.Config.{image_bytes}
+use Rattle.tx_types.specs.declared.config.Config.{Config}
+use Rattle.flash_model.specs.Flash.{Contents}
+use Rattle.mem_flash.specs.Slots.{cell_bytes}
+use Rattle.image_file.specs.Spelling.{Spells}
+use Rattle.image_file.specs.Rules.{config_in, image_in, reading, shape_in, states_in, cells_in, all_seen, wrong_state, wrong_bytes, number_at, broken_header, broken_slots, first_broken, IsRefusal}
+use Rattle.image_file.specs.declared.error.ImageError.{ImageError}
+use Rattle.image_file.specs.declared.error.ImageError.TheVariants as error
+use Rattle.image_file.proofs.SpellingLemmas.{first_broken-spelling}
+
+-- a rule that is broken is a refusal
+pub refusal-some : (broken : Option ImageError) (e : ImageError) → broken ≡ Some e → IsRefusal broken e
+refusal-some broken error.Memory h = tt
+refusal-some broken e h = h
+
+-- a refusal stands before later rules
+pub refusal-before : (broken rest : Option ImageError) (e : ImageError) → IsRefusal broken e → IsRefusal (option_or broken rest) e
+refusal-before broken rest error.Memory h = tt
+refusal-before broken rest e h = ap (λ o. option_or o rest) h
+
+-- and behind rules that hold
+pub refusal-behind : (before broken : Option ImageError) (e : ImageError) → before ≡ None → IsRefusal broken e → IsRefusal (option_or before broken) e
+refusal-behind before broken error.Memory none h = tt
+refusal-behind before broken e none h = ap (λ o. option_or o broken) none ∙ h
+
+-- nothing but want of memory refuses what breaks no rule
+pub only_memory : (broken : Option ImageError) (e : ImageError) → IsRefusal broken e → broken ≡ None → e ≡ error.Memory
+only_memory broken error.Memory h none = refl
+only_memory broken e h none = absurd cc
+
+pub spelled_memory : (bytes : List ℕ) (e : ImageError) → IsRefusal (first_broken bytes) e → (c : Config) (image : List Contents)
+    → Spells bytes c image → e ≡ error.Memory
+spelled_memory bytes e refused c image spelled =
+    only_memory (first_broken bytes) e refused (ap first_broken spelled.same ∙ first_broken-spelling c image spelled.can)
+
+pub refused_header : (bytes : List ℕ) (e : ImageError) → broken_header bytes ≡ Some e → IsRefusal (first_broken bytes) e
+unfolding first_broken
+refused_header bytes e h = refusal-before (broken_header bytes) (broken_slots bytes) e (refusal-some (broken_header bytes) e h)
+
+pub refused_slots : (bytes : List ℕ) (e : ImageError) → broken_header bytes ≡ None → IsRefusal (broken_slots bytes) e → IsRefusal (first_broken bytes) e
+unfolding first_broken
+refused_slots bytes e none h = refusal-behind (broken_header bytes) (broken_slots bytes) e none h
+
+-- ---- behind the header
+
+pub broken-length : (bytes : List ℕ) → length bytes ≢ image_bytes (shape_in bytes) → broken_slots bytes ≡ Some error.Length
+broken-length bytes wrong = rw (ne_eqb (length bytes) (image_bytes (shape_in bytes)) wrong) refl
+
+module _ (bytes : List ℕ) (long : length bytes ≡ image_bytes (shape_in bytes)) where
+  pub refused_state : (e : ImageError) → IsRefusal (option_map (λ at. error.SlotState (record { 0 = at })) (wrong_state (states_in bytes))) e
+      → IsRefusal (broken_slots bytes) e
+  refused_state e h = rw (eq-eqb (length bytes) (image_bytes (shape_in bytes)) long) (refusal-before _ _ e h)
+
+  module _ (states : wrong_state (states_in bytes) ≡ None) where
+    abbrev wrong : Option ℕ
+    wrong = wrong_bytes (cell_bytes (number_at 12 bytes)) (all_seen (states_in bytes)) (cells_in bytes)
+
+    pub broken-bytes : (at : ℕ) → wrong ≡ Some at → broken_slots bytes ≡ Some (error.SlotBytes (record { 0 = at }))
+    broken-bytes at h = rw (eq-eqb (length bytes) (image_bytes (shape_in bytes)) long, states, h) refl
+
+    pub broken-nothing : wrong ≡ None → broken_slots bytes ≡ None
+    broken-nothing h = rw (eq-eqb (length bytes) (image_bytes (shape_in bytes)) long, states, h) refl
+
+-- ---- nothing is broken
+
+pub nothing_broken : (bytes : List ℕ) → broken_header bytes ≡ None → broken_slots bytes ≡ None → first_broken bytes ≡ None
+unfolding first_broken
+nothing_broken bytes header slots = ap (λ o. option_or o (broken_slots bytes)) header ∙ slots
+
+pub reading-read : (bytes : List ℕ) → first_broken bytes ≡ None → reading bytes ≡ Ok (config_in bytes, image_in bytes)
+reading-read bytes none = ap (λ o. option_map_or Err o (Ok (config_in bytes, image_in bytes))) none

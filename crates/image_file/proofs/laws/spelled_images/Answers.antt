@@ -1,0 +1,5 @@
+use Rattle.image_file.proofs.SpellingLemmas.{reading-iff, AreBytes-all}
+use Rattle.image_file.proofs.laws.spelled_images.Goals as goal
+
+pub returns : goal.returns
+returns c = λ bytes config image all. reading-iff bytes config image (AreBytes-all bytes all)
