@@ -1,5 +1,6 @@
-mod DeskFiles
+mod Endings
 pub mod Finished
 pub mod Parsed
+mod Readings
 pub mod Running
-pub mod Tried
+mod Unbroken

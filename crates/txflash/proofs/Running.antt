@@ -8,7 +8,8 @@ use Rattle.std.proofs.lemmas.List.Elements.{All-push}
 use Rattle.std.proofs.lemmas.List.Sums.{sum_by_push}
 use Rattle.std.proofs.lemmas.Option.{slice_get_read}
 use Rattle.std.proofs.lemmas.Bool.Decides.{nat_tests}
-use Rattle.flash_model.specs.Flash.{FlashState}
+use Rattle.flash_model.specs.Flash.{IsSteady}
+use Rattle.mem_flash.specs.Memory.{MemoryState, state_of}
 use Rattle.tx_engine.specs.ArrayState.{ArrayState, opening}
 use Rattle.tx_engine.specs.Device.{Standing, limits_of, is_spent}
 use Rattle.tx_types.specs.Batch.{PageWrite}
@@ -81,15 +82,15 @@ not_last : (m : ℕ) → m ≤ 28 → (m == 2 ^ 62) ≡ false
 not_last m le = grind (arith, nat_tests)
 
 -- where few slots were used no page is spent
-pub none_spent : (n : ℕ) (s : Standing FlashState) → IsStanding n s → n ≤ 28 → (page : ℕ) → is_spent s.mentions page ≡ false
+pub none_spent : (n : ℕ) (s : Standing MemoryState) → IsStanding n s → n ≤ 28 → (page : ℕ) → is_spent s.mentions page ≡ false
 none_spent n s h most page = not_last (slice_index s.mentions page) (omega (arith, h.mentions page, h.used))
 
 -- a device after so many writes is one after more
-pub standing_later : (n m : ℕ) (s : Standing FlashState) → n ≤ m → IsStanding n s → IsStanding m s
-standing_later n m s le h = record { config = h.config; used = omega (arith, h.used); mentions = h.mentions }
+pub standing_later : (n m : ℕ) (s : Standing MemoryState) → n ≤ m → IsStanding n s → IsStanding m s
+standing_later n m s le h = record { config = h.config; used = omega (arith, h.used); mentions = h.mentions; steady = h.steady }
 
 -- what is known after so many commands of a list, with these replies
-pub record HasServed (list : List Command) (at : ℕ) (d : Standing FlashState) (text : List ℕ) (replies : List Reply) : Type 0 where
+pub record HasServed (list : List Command) (at : ℕ) (d : Standing MemoryState) (text : List ℕ) (replies : List Reply) : Type 0 where
   pub run : Run (limits_of DEFAULT) nothing_seen blank_state (take at list) replies (record { machine = d.machine; up = true })
   pub whole : All (λ r. is_break r ≡ false) replies
   pub said : text ≡ flat_map text_of replies
@@ -101,7 +102,7 @@ one_text rs r old new h k =
     k ∙ ap (λ t. t ++ text_of r) h ∙ sym (flat_map-append text_of rs (r ∷ []) ∙ ap (λ t. flat_map text_of rs ++ t) (append-nil (text_of r)))
 
 -- one command more was done
-pub serves_more : (list : List Command) (at : ℕ) (old new : Standing FlashState) (before after : List ℕ) (replies : List Reply) (c : Command) (r : Reply) →
+pub serves_more : (list : List Command) (at : ℕ) (old new : Standing MemoryState) (before after : List ℕ) (replies : List Reply) (c : Command) (r : Reply) →
     HasServed list at old before replies → at < length list → c ≡ get_or list at c → EachFollows list → HasPages c →
     Does (limits_of DEFAULT) (is_spent old.mentions) c old.machine r new.machine → is_break r ≡ false → after ≡ before ++ text_of r →
     ((n : ℕ) → IsStanding n old → IsStanding (n + write_count c) new) → HasServed list (at + 1) new after (replies ++ r ∷ [])
@@ -132,15 +133,29 @@ one_more_open : (r : Option SubmitError) (tag : ℕ) (ws : List PageWrite) (m : 
 one_more_open None tag ws m = omega (arith, length-append m.entries (opening tag ws ∷ []))
 one_more_open (Some e) tag ws m = omega arith
 
+-- a device after a read
+pub standing_read : (n : ℕ) (old new : Standing MemoryState) → new ≡ record old { flash = new.flash } → IsSteady (state_of new.flash)
+    → IsStanding n old → IsStanding n new
+standing_read n old new stays steady h =
+    let used : new.used ≡ old.used = ap (λ (s : Standing MemoryState). s.used) stays in
+    let entries : length new.machine.entries ≡ length old.machine.entries = ap (λ (s : Standing MemoryState). length s.machine.entries) stays in
+    record {
+      config = ap (λ (s : Standing MemoryState). s.config) stays ∙ h.config;
+      used = omega (arith, used, entries, h.used);
+      mentions = λ page. rw (used, ap (λ (s : Standing MemoryState). s.mentions) stays) (h.mentions page);
+      steady = steady;
+    }
+
 -- a device after a write
-pub standing_write : (n : ℕ) (old new : Standing FlashState) (limits : Limits) (spent : ℕ → Bool) (tag : ℕ) (ws : List PageWrite) (result : Result (Unit {0}) SubmitError) →
+pub standing_write : (n : ℕ) (old new : Standing MemoryState) (limits : Limits) (spent : ℕ → Bool) (tag : ℕ) (ws : List PageWrite) (result : Result (Unit {0}) SubmitError) →
     Submits limits spent old.machine new.machine tag ws result → new ≡ record old { machine = new.machine } → IsStanding n old → IsStanding (n + 1) new
 standing_write n old new limits spent tag ws result submits stays h =
-    let used : new.used ≡ old.used = ap (λ (s : Standing FlashState). s.used) stays in
+    let used : new.used ≡ old.used = ap (λ (s : Standing MemoryState). s.used) stays in
     let entries : length new.machine.entries ≤ length old.machine.entries + 1 =
     rw submits.opens (one_more_open (refusal limits spent old.machine.entries tag ws) tag ws old.machine) in
     record {
-      config = ap (λ (s : Standing FlashState). s.config) stays ∙ h.config;
+      config = ap (λ (s : Standing MemoryState). s.config) stays ∙ h.config;
       used = omega (arith, used, entries, h.used);
-      mentions = λ page. rw (used, ap (λ (s : Standing FlashState). s.mentions) stays) (h.mentions page);
+      mentions = λ page. rw (used, ap (λ (s : Standing MemoryState). s.mentions) stays) (h.mentions page);
+      steady = rw (ap (λ (s : Standing MemoryState). s.flash) stays) h.steady;
     }

@@ -1,11 +1,9 @@
-pub mod Desk
-pub mod DeskInMemory
-pub mod DeskKept
-pub mod DeskReal
+pub mod Fate
 pub mod Parsing
-pub mod Refusals
 pub mod Run
 pub mod Served
 pub mod Serving
-pub mod Stopping
+pub mod Stops
 pub mod Top
+pub mod Words
+pub mod Unbroken

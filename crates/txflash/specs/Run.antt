@@ -1,11 +1,12 @@
 -- What a list of commands does on the array machine, and the replies that it may give.
-use Rattle.std.specs.Prelude.{◌≡◌, ◌⊎◌, ℕ, ◌+◌, ◌^◌, ◌≤◌, Bool, true, false, List, [], ◌∷◌, length, count_by, is_some, IsSome, Result, Ok, Err, MatchBool, if◌then◌else◌}
+use Rattle.std.specs.Prelude.{◌≡◌, ◌⊎◌, ℕ, ◌+◌, ◌^◌, ◌≤◌, Bool, true, false, List, [], ◌∷◌, length, count_by, IsSome, Result, Ok, Err, MatchBool, if◌then◌else◌}
 use Rattle.tx_types.specs.Batch.{PageWrite}
 use Rattle.tx_types.specs.declared.stats.Stats.{Stats}
-use Rattle.tx_engine.specs.ArrayState.{ArrayState, Entry, Pages, page_at, pages_in}
+use Rattle.tx_engine.specs.ArrayState.{ArrayState, Entry, Pages, page_at}
+use Rattle.tx_engine.specs.Collect.{Collects, TellsStats}
 use Rattle.tx_engine.specs.Read.{ReadsPage}
 use Rattle.tx_engine.specs.Submit.{Limits, Submits, is_of}
-use Rattle.tx_engine.specs.Step.{Settles, Steps, Aborts, IsAtLast, CutLeaves}
+use Rattle.tx_engine.specs.Step.{Steps, Aborts, IsAtLast, CutLeaves}
 use Rattle.tx_engine.specs.declared.read.ReadAnswer.{ReadAnswer}
 use Rattle.tx_engine.specs.declared.read.ReadAnswer.TheVariants as answer
 use Rattle.tx_engine.specs.declared.read.ReadError.{ReadError}
@@ -18,6 +19,9 @@ use Rattle.tx_engine.specs.declared.step.StepError.{StepError}
 use Rattle.tx_engine.specs.declared.step.StepError.TheVariants as failed
 use Rattle.tx_engine.specs.declared.step.Aborted.{Aborted}
 use Rattle.tx_engine.specs.declared.step.Aborted.TheVariants as aborted
+use Rattle.tx_engine.specs.declared.collect.Collected.{Collected}
+use Rattle.tx_engine.specs.declared.collect.Collected.TheVariants as collected
+use Rattle.tx_engine.specs.declared.collect.Fault.{Fault}
 use Rattle.host_protocol.specs.declared.command.Command.{Command}
 use Rattle.host_protocol.specs.declared.command.Command.TheVariants as command
 use Rattle.host_protocol.specs.declared.reply.Reply.{Reply}
@@ -67,17 +71,11 @@ Finishes old (mid ∷ mids) new tag result =
 abbrev pub MayBeSpent : (ℕ → ℕ) → (ℕ → Bool) → Type 0
 MayBeSpent seen spent = (page : ℕ) → spent page ≡ true → 2 ^ 62 ≤ seen page
 
-abbrev pub Collects : ArrayState → Reply → ArrayState → Type 0
-Collects old r new =
-    (((r ≡ reply.Collected) ⊎ (r ≡ reply.Nothing)) × Settles old new) ⊎ ((r ≡ reply.Fault) × ((new ≡ old) ⊎ Settles old new))
-
--- the numbers of the array machine: the other three are the flash's
-pub record TellsStats (s : ArrayState) (r : Reply) : Type 0 where
-  pub told : Stats
-  pub is : r ≡ reply.Stats told
-  pub written : told.written ≡ count_by is_some s.pages
-  pub tags : told.tags ≡ length s.entries
-  pub pending : told.pending ≡ pages_in s.entries
+-- the reply of a collection
+abbrev pub collect_reply : Result Collected Fault → Reply
+collect_reply (Ok collected.One) = reply.Collected
+collect_reply (Ok collected.Nothing) = reply.Nothing
+collect_reply (Err fault) = reply.Fault
 
 abbrev pub TellsReport : Reply → Type 0
 TellsReport r = (text : List ℕ) × (r ≡ reply.Report text)
@@ -96,8 +94,10 @@ Does limits spent (command.Finish tag) old r new =
     (mids : List ArrayState) × (result : Result Progress StepError) × Finishes old mids new tag result × (r ≡ step_reply tag result)
 Does limits spent (command.Abort tag) old r new =
     (result : Result Aborted StepError) × Aborts old new tag result × (r ≡ abort_reply tag result)
-Does limits spent command.Collect old r new = Collects old r new
-Does limits spent command.Stats old r new = TellsStats old r × (new ≡ old)
+Does limits spent command.Collect old r new =
+    (result : Result Collected Fault) × Collects old new result × (r ≡ collect_reply result)
+Does limits spent command.Stats old r new =
+    (told : Stats) × TellsStats old told × (r ≡ reply.Stats told) × (new ≡ old)
 Does limits spent command.Explain old r new = TellsReport r × (new ≡ old)
 Does limits spent (command.Cut count what) old r new = ⊥
 Does limits spent (command.Fault count what) old r new = ⊥

@@ -1,7 +1,8 @@
 -- Serving commands on a fresh default device, on which nothing fails.
 use Rattle.std.specs.Prelude.{◌≡◌, ℕ, ◌+◌, ◌≤◌, true, false, List, length, replicate, slice_index, All, None, if◌then◌else◌}
 use Rattle.std.specs.List.{flat_map}
-use Rattle.flash_model.specs.Flash.{FlashState}
+use Rattle.flash_model.specs.Flash.{IsSteady}
+use Rattle.mem_flash.specs.Memory.{MemoryState, state_of}
 use Rattle.tx_engine.specs.ArrayState.{idle}
 use Rattle.tx_engine.specs.Device.{Standing, limits_of}
 use Rattle.host_protocol.specs.Replies.{text_of}
@@ -12,12 +13,13 @@ use Rattle.txflash.specs.Run.{Run, RunState, is_break}
 use Rattle.txflash.specs.Served.{is_write}
 use Rattle.txflash.specs.declared.serving.TheConstants.{DEFAULT}
 
--- A default device after so many writes: each took a slot at most, and no page was mentioned more often than slots
--- were used.
-pub record IsStanding (writes : ℕ) (s : Standing FlashState) : Type 0 where
+-- A default device after so many writes: each took a slot at most, no page was mentioned more often than slots were
+-- used, and nothing will break the flash.
+pub record IsStanding (writes : ℕ) (s : Standing MemoryState) : Type 0 where
   pub config : s.config ≡ DEFAULT
   pub used : s.used + length s.machine.entries ≤ writes
   pub mentions : (page : ℕ) → slice_index s.mentions page ≤ s.used
+  pub steady : IsSteady (state_of s.flash)
 
 -- the batch of a write has the pages of the default device
 abbrev pub HasPages : Command → Type 0
@@ -40,7 +42,7 @@ abbrev pub blank_state : RunState
 blank_state = record { machine = idle (replicate DEFAULT.logical None); up = true }
 
 -- a fresh default device
-pub record IsFresh (s : Standing FlashState) : Type 0 where
+pub record IsFresh (s : Standing MemoryState) : Type 0 where
   pub standing : IsStanding 0 s
   pub blank : s.machine ≡ blank_state.machine
 

@@ -1,114 +1,69 @@
--- What the program answers, and why.
-use Rattle.std.specs.Prelude.{◌≡◌, ◌⊎◌, ℕ, ◌≤◌, ◌<◌, List, [], ◌∷◌, ◌++◌, length, codes, Option, Some, None, IfSome, IsSomeAnd}
-use Rattle.std.specs.Fmt.{decimal}
-use Rattle.host_protocol.specs.declared.command.Command.{Command}
-use Rattle.txflash.specs.Desk.{DeskState, Files, file_at, max_file_bytes, Grew, Rose}
-use Rattle.txflash.specs.Served.{IsServedFile, IsNotBuilt}
-use Rattle.txflash.specs.Serving.{RunText}
+-- What the program answers, what it says, and why.
+use Rattle.std.specs.Prelude.{◌≡◌, ◌⊎◌, ℕ, zero, suc, ◌<◌, ◌≤◌, List, [], ◌∷◌, codes, Option, IsSome, Result, Err}
+use Rattle.std.specs.Option.{option_map}
+use Rattle.desk_io.specs.Desk.{DeskState, Files, Rose, Says, after_answer, after_fault, as_before, with_said}
+use Rattle.desk_io.specs.declared.desk.SinkError.{SinkError}
+use Rattle.desk_io.specs.declared.desk.SinkError.TheVariants as sink
+use Rattle.txflash.specs.Fate.{Fate, IsFate, IsText, status, line}
+use Rattle.txflash.specs.Words.{Asked, files_of}
 
--- the words are `try` and a name of at least one byte
-pub record IsTry (words : List (List ℕ)) (name : List ℕ) : Type 0 where
-  pub are : words ≡ codes "try" ∷ name ∷ []
-  pub named : 1 ≤ length name
+-- the desk after so many loads, none of which failed
+abbrev pub after_loads : ℕ → DeskState → DeskState
+after_loads zero desk = desk
+after_loads (suc n) desk = after_answer as_before (after_loads n desk)
 
--- the words are not in the program's table
-abbrev pub AreBad : List (List ℕ) → Type 0
-AreBad words = (name : List ℕ) → IsTry words name → ⊥
+-- the desk after a text was said whole; where there is none, nothing is said
+abbrev pub after_text : List ℕ → DeskState → DeskState
+after_text [] desk = desk
+after_text (c ∷ cs) desk = after_answer (with_said (c ∷ cs)) desk
 
--- a desk that tells its files has this at the name
-abbrev pub HasFile : DeskState → List ℕ → (Option (List ℕ) → Type 0) → Type 0
-HasFile desk name P = IfSome desk.files (λ files. P (file_at files name))
+-- A line was tried. What came of it decides nothing.
+abbrev pub Attempts : DeskState → DeskState → List ℕ → Type 0
+Attempts old new text = (result : Result (Unit {0}) SinkError) × Says old new text result
 
-abbrev pub IsLong : Option (List ℕ) → Type 0
-IsLong file = IsSomeAnd file (λ bytes. max_file_bytes < length bytes)
-
--- what ends a try
-pub data Fate : Type 0 where
-  BadWords : Fate
-  Missing : (name : List ℕ) → Fate
-  TooLong : (name : List ℕ) → Fate
-  NotBuilt : (name bytes : List ℕ) → (n : ℕ) → Fate
-  Served : (name bytes : List ℕ) → (commands : List Command) → (text : List ℕ) → Fate
-
--- the cause of each
-abbrev pub IsFate : List (List ℕ) → DeskState → Fate → Type 0
-IsFate words desk BadWords = AreBad words
-IsFate words desk (Missing name) = IsTry words name × HasFile desk name (λ file. file ≡ None)
-IsFate words desk (TooLong name) = IsTry words name × HasFile desk name IsLong
-IsFate words desk (NotBuilt name bytes n) =
-    IsTry words name × HasFile desk name (λ file. file ≡ Some bytes) × (length bytes ≤ max_file_bytes) × IsNotBuilt 16 bytes n
-IsFate words desk (Served name bytes commands text) =
-    IsTry words name × HasFile desk name (λ file. file ≡ Some bytes) × (length bytes ≤ max_file_bytes)
-    × IsServedFile 16 bytes commands × RunText commands text
-
--- the status of each
-abbrev pub status : Fate → ℕ
-status (Served name bytes commands text) = 0
-status BadWords = 1
-status (Missing name) = 2
-status (TooLong name) = 9
-status (NotBuilt name bytes n) = 10
-
--- what is said
-abbrev pub text_of_fate : Fate → List ℕ
-text_of_fate BadWords = codes "bad words" ++ 10 ∷ []
-text_of_fate (Missing name) = codes "no file " ++ name ++ 10 ∷ []
-text_of_fate (TooLong name) = codes "file too long " ++ name ++ 10 ∷ []
-text_of_fate (NotBuilt name bytes n) = codes "not built " ++ decimal n ++ 10 ∷ []
-text_of_fate (Served name bytes commands text) = text
-
--- The status has its cause, and what was said grew by its text: so it is unless the status is 5, only where the
--- desk's count of faults rose, or 6, for want of memory.
-abbrev pub HasCause : List (List ℕ) → DeskState → DeskState → ℕ → Type 0
-HasCause words old new answer =
-    (answer ≡ 6) ⊎ (((answer ≡ 5) × Rose old.faults new.faults)
-    ⊎ ((fate : Fate) × IsFate words old fate × (answer ≡ status fate) × Grew old.said new.said (text_of_fate fate)))
-
--- status 0: the file was read to its end, each of its lines is served, and the texts of the replies of a run from
--- the blank array were said
-pub record IsDone (words : List (List ℕ)) (old new : DeskState) : Type 0 where
-  pub name : List ℕ
-  pub bytes : List ℕ
-  pub commands : List Command
+-- a fate of a task, how many loads it comes after, and a text of it
+pub record Decision (task : Option Asked) (desk : DeskState) : Type 0 where
+  pub fate : Fate
+  pub loads : ℕ
   pub text : List ℕ
-  pub tried : IsTry words name
-  pub file : HasFile old name (λ file. file ≡ Some bytes)
-  pub served : IsServedFile 16 bytes commands
-  pub run : RunText commands text
-  pub said : Grew old.said new.said text
+  pub is_fate : IsFate task desk fate loads
+  pub is_text : IsText fate text
 
--- status 2: the file is not there, and a line was said
-pub record IsMissing (words : List (List ℕ)) (old new : DeskState) : Type 0 where
-  pub name : List ℕ
-  pub tried : IsTry words name
-  pub file : HasFile old name (λ file. file ≡ None)
-  pub said : Grew old.said new.said (codes "no file " ++ name ++ 10 ∷ [])
+-- a load failed
+abbrev pub LoadFails : Option Asked → DeskState → DeskState → Type 0
+LoadFails task old new = (n : ℕ) × (n < files_of task) × (new ≡ after_fault as_before (after_loads n old))
 
--- status 9: the file is too long, and a line was said
-pub record IsTooLong (words : List (List ℕ)) (old new : DeskState) : Type 0 where
-  pub name : List ℕ
-  pub tried : IsTry words name
-  pub file : HasFile old name IsLong
-  pub said : Grew old.said new.said (codes "file too long " ++ name ++ 10 ∷ [])
+-- the saying of a fate's text failed
+abbrev pub TextFails : Option Asked → DeskState → DeskState → Type 0
+TextFails task old new = (it : Decision task old) × Says (after_loads it.loads old) new it.text (Err sink.Failed)
 
--- status 10: a line of the file is not served, and the number of the first one was said
-pub record IsUnbuilt (words : List (List ℕ)) (old new : DeskState) : Type 0 where
-  pub name : List ℕ
-  pub bytes : List ℕ
-  pub number : ℕ
-  pub tried : IsTry words name
-  pub file : HasFile old name (λ file. file ≡ Some bytes)
-  pub not_built : IsNotBuilt 16 bytes number
-  pub said : Grew old.said new.said (codes "not built " ++ decimal number ++ 10 ∷ [])
+-- a load or the saying of the text failed, and then a line was tried
+abbrev pub IsFaulted : Option Asked → DeskState → DeskState → Type 0
+IsFaulted task old new =
+    (mid : DeskState) × (LoadFails task old mid ⊎ TextFails task old mid) × Attempts mid new (line (codes "desk fault"))
 
--- each cause gives its status, where the desk tells its files, unless its count of faults rose or memory ran out
-pub record IsExact (words : List (List ℕ)) (old new : DeskState) (answer : ℕ) : Type 0 where
-  pub done : (files : Files) (name bytes : List ℕ) (commands : List Command) → (Rose old.faults new.faults → ⊥) → old.files ≡ Some files →
-      IsTry words name → file_at files name ≡ Some bytes → length bytes ≤ max_file_bytes → IsServedFile 16 bytes commands → (answer ≡ 0) ⊎ (answer ≡ 6)
-  pub bad_words : (Rose old.faults new.faults → ⊥) → AreBad words → (answer ≡ 1) ⊎ (answer ≡ 6)
-  pub missing : (files : Files) (name : List ℕ) → (Rose old.faults new.faults → ⊥) → old.files ≡ Some files →
-      IsTry words name → file_at files name ≡ None → (answer ≡ 2) ⊎ (answer ≡ 6)
-  pub too_long : (files : Files) (name : List ℕ) → (Rose old.faults new.faults → ⊥) → old.files ≡ Some files →
-      IsTry words name → IsLong (file_at files name) → (answer ≡ 9) ⊎ (answer ≡ 6)
-  pub not_built : (files : Files) (name bytes : List ℕ) (n : ℕ) → (Rose old.faults new.faults → ⊥) → old.files ≡ Some files →
-      IsTry words name → file_at files name ≡ Some bytes → length bytes ≤ max_file_bytes → IsNotBuilt 16 bytes n → (answer ≡ 10) ⊎ (answer ≡ 6)
+-- memory ran out before anything was said, and then a line was tried
+abbrev pub IsStarved : Option Asked → DeskState → DeskState → Type 0
+IsStarved task old new =
+    (n : ℕ) × (n ≤ files_of task) × Attempts (after_loads n old) new (line (codes "no memory"))
+
+-- How a call of the program ends, with which status: a fate decided and its text was said whole, or a call of the
+-- desk failed, or memory ran out.
+pub data Ends (task : Option Asked) (old new : DeskState) (answer : ℕ) : Type 0 where
+  Decided : (it : Decision task old) → answer ≡ status it.fate →
+      new ≡ after_text it.text (after_loads it.loads old) → Ends task old new answer
+  Faulted : answer ≡ 5 → IsFaulted task old new → Ends task old new answer
+  Starved : answer ≡ 6 → IsStarved task old new → Ends task old new answer
+
+-- the desk tells what the fate of a task hangs on: its files, where the task loads any
+abbrev pub TellsFate : Option Asked → DeskState → Type 0
+TellsFate task desk = (files_of task ≡ 0) ⊎ IsSome desk.told
+
+-- Where the desk tells it, each fate gives its status, unless the desk's count of faults rose or memory ran out.
+pub record IsExact (task : Option Asked) (old new : DeskState) (answer : ℕ) : Type 0 where
+  pub fate_gives : (fate : Fate) (loads : ℕ) → IsFate task old fate loads → TellsFate task old →
+      (Rose old.faults new.faults → ⊥) → (answer ≡ status fate) ⊎ (answer ≡ 6)
+
+-- the files of a desk, if it tells them
+abbrev pub files_in : DeskState → Option Files
+files_in desk = option_map (λ c. c.files) desk.told

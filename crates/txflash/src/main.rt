@@ -3,15 +3,16 @@
 
 ghost use Rattle.std.specs.Prelude.{◌≡◌, ◌⊎◌, ◌↔◌};
 
-mod desk;
+mod laws;
 mod parser;
 mod refusal;
 mod serving;
 #[cfg(test)]
 mod tests;
 mod top;
+mod words;
 
-use crate::desk::RealDesk;
+use desk_io::RealDesk;
 use std::env;
 use std::io::ErrorKind;
 use std::process::ExitCode;

@@ -1,6 +1,7 @@
 ghost use Rattle.std.specs.Prelude.{◌≡◌, IfOk};
 ghost use Rattle.std.specs.String.{string_bytes};
-ghost use Rattle.txflash.specs.Refusals.{status_of, line_of};
+ghost use Rattle.txflash.specs.Fate.{IsText, status};
+ghost use Rattle.txflash.specs.Stops.{refused};
 
 use std::alloc::{AllocError, Global};
 
@@ -20,7 +21,7 @@ pub enum Refusal<'a> {
 impl Refusal<'_> {
     /// The status that the program answers.
     pub fn status(&self) -> u8
-        ensures { result ≡ status_of self.now }
+        ensures { result ≡ status (refused self.now) }
     {
         match self {
             Refusal::BadWords => 1,
@@ -32,7 +33,7 @@ impl Refusal<'_> {
 
     /// The line that it says.
     pub fn line(&self, alloc: Global) -> Result<String, AllocError>
-        ensures { IfOk result (λ line. string_bytes line ≡ line_of self.now) }
+        ensures { IfOk result (λ line. IsText (refused self.now) (string_bytes line)) }
     {
         match self {
             Refusal::BadWords => String::from_str(alloc, "bad words\n"),

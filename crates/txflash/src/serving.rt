@@ -1,4 +1,6 @@
 ghost use Rattle.std.specs.Prelude.{◌≡◌, ◌+◌, ℕ, All, Err, IfOk, length, false};
+ghost use Rattle.flash_model.specs.Flash.{IsSteady};
+ghost use Rattle.mem_flash.specs.Memory.{state_of};
 ghost use Rattle.tx_engine.specs.Device.{limits_of, is_spent};
 ghost use Rattle.host_protocol.specs.declared.command.Command.{Command};
 ghost use Rattle.txflash.specs.Run.{Does, is_break, submit_reply};
@@ -89,6 +91,7 @@ fn read(
     ensures does { IfOk result (λ r. Does (limits_of DEFAULT) (is_spent device.old.mentions) (Command.Read at) device.old.machine r device.new.machine) }
     ensures whole { IfOk result (λ r. is_break r ≡ false) }
     ensures stays { device.new ≡ record device.old { flash = device.new.flash } }
+    ensures steady { IsSteady (state_of device.new.flash) }
 {
     match device.read(at, page) {
         Ok(ReadAnswer::Blank) => Ok(Reply::Blank(at)),

@@ -1,5 +1,5 @@
-use crate::desk::MemDesk;
 use crate::top::top;
+use desk_io::MemDesk;
 use std::alloc::Global;
 use std::test::Fail;
 
@@ -73,7 +73,7 @@ fn says_the_replies_of_a_file(rt: HostRuntime) -> Result<(), Fail> {
 
 #[test]
 fn refuses_words_and_names_what_fails(rt: HostRuntime) -> Result<(), Fail> {
-    let rows: [(&[&str], &[u32], &str, u8); 9] = [
+    let rows: [(&[&str], &[u32], &str, u8); 11] = [
         (&[], &[], "bad words\n", 1),
         (&["try"], &[], "bad words\n", 1),
         (&["try", ""], &[], "bad words\n", 1),
@@ -82,7 +82,9 @@ fn refuses_words_and_names_what_fails(rt: HostRuntime) -> Result<(), Fail> {
         (&["run", "a.img", "c.txt"], &[], "bad words\n", 1),
         (&["try", "none.txt"], &[], "no file none.txt\n", 2),
         (&["try", "c.txt"], &[1], "desk fault\n", 5),
+        (&["try", "c.txt"], &[1, 2], "desk ", 5),
         (&["try", "c.txt"], &[2], "blandesk fault\n", 5),
+        (&["try", "c.txt"], &[2, 3], "blandesk ", 5),
     ];
     for (words, fails, want, status) in rows {
         let got = said(rt.alloc(), words, b"read 3\n", fails)?;

@@ -1,15 +1,32 @@
-ghost use Rattle.std.specs.Prelude.{◌≡◌, ◌≤◌, ◌++◌, ◌∷◌, [], map, codes, string_bytes, IfOk, IfErr, IfSome, IfNone};
-ghost use Rattle.txflash.specs.Desk.{Grew, Rose};
-ghost use Rattle.txflash.specs.Stopping.{StopIs, IsServedText, IsQuiet, Ends};
-ghost use Rattle.txflash.specs.Top.{HasCause, IsTry, AreBad, IsDone, IsMissing, IsTooLong, IsUnbuilt, IsExact};
+ghost use Rattle.std.specs.Prelude.{◌≡◌, Some, codes};
+ghost use Rattle.desk_io.specs.Desk.{Rose};
+ghost use Rattle.txflash.specs.Fate.{line};
+ghost use Rattle.txflash.specs.Stops.{Fetches, Works, Speaks};
+ghost use Rattle.txflash.specs.Top.{Attempts, Ends, IsExact, files_in};
+ghost use Rattle.txflash.specs.Words.{Try, asked_by};
 
-use crate::desk::{Desk, LoadError, SinkError};
-use crate::parser::{ParseError, served_commands};
+use crate::parser::{MAX_WRITES, ParseError, served_commands};
 use crate::refusal::Refusal;
 use crate::serving::{DEFAULT, tried};
+use crate::words::{Task, asked};
+use desk_io::{Desk, LoadError, SinkError};
 use std::alloc::Global;
+use tx_types::Protocol;
 
-/// Why there is no text to say.
+// What the clauses cite by name.
+const _: () = prove!(host_protocol::MAX_COMMANDS == 65536 && MAX_WRITES == 28);
+
+const _: () = prove!(host_protocol::MAX_FILE_BYTES == desk_io::MAX_FILE_BYTES);
+
+const _: () = prove!(DEFAULT.protocol as u8 == Protocol::Scc as u8 && DEFAULT.page_bytes == 16);
+
+const _: () = prove!(
+    DEFAULT.pages_per_block == 4 && DEFAULT.blocks_per_die == 4 && DEFAULT.dies == 2
+);
+
+const _: () = prove!(DEFAULT.logical == 20 && DEFAULT.pending == 7);
+
+/// Why there is no text of replies.
 #[derive(Clone, Copy, Debug)]
 enum Stop<'a> {
     Refused(Refusal<'a>),
@@ -18,44 +35,23 @@ enum Stop<'a> {
     Memory,
 }
 
-/// Does what the words ask for, and answers the status: 0 where it is done, 1 for words that are not in the
-/// table, 2 for a file that is missing, 5 for a fault of the desk, 6 for want of memory, 9 for a file that
-/// is too long, and 10 for a command that is not built.
+/// Does what the words ask for, and answers the status: 0 where it is done, 1 for words that are not
+/// in the table, 2 for a file that is missing, 5 for a fault of the desk, 6 for want of memory, 9 for
+/// a file that is too long, and 10 for a command that is not built.
 pub fn top<D: Desk>(alloc: Global, words: &[String], desk: &mut D) -> u8
-    ensures cause { HasCause (map string_bytes words.now) (D.state desk.old) (D.state desk.new) result }
-    ensures files { (D.state desk.new).files ≡ (D.state desk.old).files }
-    ensures faults { (D.state desk.old).faults ≤ (D.state desk.new).faults }
-
-    ensures done { result ≡ 0 → IsDone (map string_bytes words.now) (D.state desk.old) (D.state desk.new) }
-    ensures bad_words { result ≡ 1 → AreBad (map string_bytes words.now) × Grew (D.state desk.old).said (D.state desk.new).said (codes "bad words" ++ 10 ∷ []) }
-    ensures missing { result ≡ 2 → IsMissing (map string_bytes words.now) (D.state desk.old) (D.state desk.new) }
+    ensures ends { Ends (asked_by words.now) (D.state desk.old) (D.state desk.new) result }
+    ensures exact { IsExact (asked_by words.now) (D.state desk.old) (D.state desk.new) result }
     ensures fault { result ≡ 5 → Rose (D.state desk.old).faults (D.state desk.new).faults }
-    ensures too_long { result ≡ 9 → IsTooLong (map string_bytes words.now) (D.state desk.old) (D.state desk.new) }
-    ensures not_built { result ≡ 10 → IsUnbuilt (map string_bytes words.now) (D.state desk.old) (D.state desk.new) }
-
-    // Each cause gives its status: so where all is there it is done.
-    ensures exact { IsExact (map string_bytes words.now) (D.state desk.old) (D.state desk.new) result }
-{
-    run_exactly(alloc, words, desk)
-}
-
-/// The same, by the cause of the status, which no other status has.
-fn run_exactly<D: Desk>(alloc: Global, words: &[String], desk: &mut D) -> u8
-    ensures cause { HasCause (map string_bytes words.now) (D.state desk.old) (D.state desk.new) result }
-    ensures files { (D.state desk.new).files ≡ (D.state desk.old).files }
-    ensures faults { (D.state desk.old).faults ≤ (D.state desk.new).faults }
-    ensures exact { IsExact (map string_bytes words.now) (D.state desk.old) (D.state desk.new) result }
+    ensures files { files_in (D.state desk.new) ≡ files_in (D.state desk.old) }
 {
     run(alloc, words, desk)
 }
 
-/// The same, by the cause of the status alone.
+/// The same, by how it ends.
 fn run<D: Desk>(alloc: Global, words: &[String], desk: &mut D) -> u8
-    ensures cause { HasCause (map string_bytes words.now) (D.state desk.old) (D.state desk.new) result }
-    ensures files { (D.state desk.new).files ≡ (D.state desk.old).files }
-    ensures faults { (D.state desk.old).faults ≤ (D.state desk.new).faults }
+    ensures { Ends (asked_by words.now) (D.state desk.old) (D.state desk.new) result }
 {
-    match answer(alloc, words, desk) {
+    match work(alloc, words, desk) {
         Ok(text) => say(desk, text.as_slice(), 0),
         Err(Stop::Refused(refusal)) => match refusal.line(alloc) {
             Ok(line) => say(desk, line.as_bytes(), refusal.status()),
@@ -66,26 +62,25 @@ fn run<D: Desk>(alloc: Global, words: &[String], desk: &mut D) -> u8
     }
 }
 
-/// The text of the replies to the commands of the file that the words name.
-fn answer<'a, D: Desk>(
+/// The text of the replies to what the words ask for.
+fn work<'a, D: Desk>(alloc: Global, words: &'a [String], desk: &mut D) -> Result<Vec<u8>, Stop<'a>>
+    ensures { Works (asked_by words.now) (D.state desk.old) (D.state desk.new) result }
+{
+    match asked(words) {
+        Some(Task::Try(commands)) => try_commands(alloc, commands, desk),
+        None => Err(Stop::Refused(Refusal::BadWords)),
+    }
+}
+
+/// The text of the replies to the commands of a file on a fresh device.
+fn try_commands<'a, D: Desk>(
     alloc: Global,
-    words: &'a [String],
+    name: &'a str,
     desk: &mut D,
 ) -> Result<Vec<u8>, Stop<'a>>
-    ensures quiet { IsQuiet (D.state desk.old) (D.state desk.new) }
-    ensures ok { IfOk result (λ text. IsServedText (map string_bytes words.now) (D.state desk.old) text.items) }
-    ensures err { IfErr result (StopIs (map string_bytes words.now) (D.state desk.old) (D.state desk.new)) }
+    ensures { Works (Some (Try name.now)) (D.state desk.old) (D.state desk.new) result }
 {
-    let Some(name) = file_name(words) else {
-        return Err(Stop::Refused(Refusal::BadWords));
-    };
-    let bytes = match desk.load(name) {
-        Ok(bytes) => bytes,
-        Err(LoadError::Missing) => return Err(Stop::Refused(Refusal::Missing(name))),
-        Err(LoadError::TooLong) => return Err(Stop::Refused(Refusal::TooLong(name))),
-        Err(LoadError::Failed) => return Err(Stop::Fault),
-        Err(LoadError::Memory) => return Err(Stop::Memory),
-    };
+    let bytes = fetch(name, desk)?;
     let commands = match served_commands(alloc, &bytes, DEFAULT.page_bytes) {
         Ok(commands) => commands,
         Err(ParseError::NotBuilt(n)) => return Err(Stop::Refused(Refusal::NotBuilt(n))),
@@ -97,20 +92,21 @@ fn answer<'a, D: Desk>(
     }
 }
 
-/// The name behind the word `try`.
-fn file_name(words: &[String]) -> Option<&str>
-    ensures some { IfSome result (λ name. IsTry (map string_bytes words.now) name.now) }
-    ensures none { IfNone result (AreBad (map string_bytes words.now)) }
+/// The bytes of a file.
+fn fetch<'a, D: Desk>(name: &'a str, desk: &mut D) -> Result<Vec<u8>, Stop<'a>>
+    ensures { Fetches (D.state desk.old) (D.state desk.new) name.now result }
 {
-    match words {
-        [verb, name] if verb.as_str() == "try" && !name.is_empty() => Some(name.as_str()),
-        _ => None,
-    }
+    desk.load(name).map_err(|error| match error {
+        LoadError::Missing => Stop::Refused(Refusal::Missing(name)),
+        LoadError::TooLong => Stop::Refused(Refusal::TooLong(name)),
+        LoadError::Failed => Stop::Fault,
+        LoadError::Memory => Stop::Memory,
+    })
 }
 
 /// Says a text, if there is one, and answers the status.
 fn say<D: Desk>(desk: &mut D, text: &[u8], status: u8) -> u8
-    ensures { Ends (D.state desk.old) (D.state desk.new) text.now status result }
+    ensures { Speaks (D.state desk.old) (D.state desk.new) text.now status result }
 {
     if text.is_empty() {
         return status;
@@ -122,21 +118,19 @@ fn say<D: Desk>(desk: &mut D, text: &[u8], status: u8) -> u8
     }
 }
 
-/// Tries to say that the desk met a fault.
+/// Attempts to say that the desk met a fault.
 fn desk_fault<D: Desk>(desk: &mut D) -> u8
     ensures status { result ≡ 5 }
-    ensures files { (D.state desk.new).files ≡ (D.state desk.old).files }
-    ensures faults { (D.state desk.old).faults ≤ (D.state desk.new).faults }
+    ensures attempts { Attempts (D.state desk.old) (D.state desk.new) (line (codes "desk fault")) }
 {
     let _ = desk.say(b"desk fault\n");
     5
 }
 
-/// Tries to say that there was no memory.
+/// Attempts to say that there was no memory.
 fn no_memory<D: Desk>(desk: &mut D) -> u8
     ensures status { result ≡ 6 }
-    ensures files { (D.state desk.new).files ≡ (D.state desk.old).files }
-    ensures faults { (D.state desk.old).faults ≤ (D.state desk.new).faults }
+    ensures attempts { Attempts (D.state desk.old) (D.state desk.new) (line (codes "no memory")) }
 {
     let _ = desk.say(b"no memory\n");
     6

@@ -1,6 +1,7 @@
 use Rattle.std.proofs.Common.{[], Ok, Err, refl, arith, ◌∙◌}
 use Rattle.tx_engine.specs.declared.step.Progress.TheVariants.{Done}
 use Rattle.tx_engine.specs.declared.step.StepError.TheVariants.{Unknown}
+use Rattle.flash_model.proofs.CallLemmas.{IsSteady-carries}
 use Rattle.txflash.proofs.Finished.{one_ended, one_higher}
 use Rattle.txflash.proofs.serving.finish.Goals as goal
 
@@ -16,6 +17,7 @@ returns-in-Ok-Done-clause-standing c = λ n h.
       config = c.in-Ok-Done.ensures.config ∙ h.config;
       used = omega (arith, written.used, ended, h.used);
       mentions = rw (written.used, written.mentions) (one_higher c.args.device.now.mentions written.write.page c.args.device.now.used h.mentions);
+      steady = IsSteady-carries _ _ h.steady written.program.carries;
     }
 
 pub returns-in-Err-Unknown-clause-does : goal.returns-in-Err-Unknown-clause-does

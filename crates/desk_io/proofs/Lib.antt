@@ -1,0 +1,3 @@
+mod DeskFiles
+mod Keeping
+mod Limits

@@ -1,0 +1,4 @@
+pub mod Desk
+pub mod InMemory
+pub mod Kept
+pub mod System

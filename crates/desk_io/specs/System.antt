@@ -1,0 +1,45 @@
+-- A desk of the system's files and its output, and what it answers to the system's answers.
+use Rattle.std.specs.Prelude.{◌≡◌, ℕ, nat_le, if◌then◌else◌, List, length, Option, None, Some, IfSome, Result, Ok, Err, Vec}
+use Rattle.std.specs.Global.{Global}
+use Rattle.std.specs.IoError.{error_kind}
+use Rattle.std.specs.declared.io.Error.{Error}
+use Rattle.std.specs.declared.io.ErrorKind.{ErrorKind}
+use Rattle.std.specs.declared.io.ErrorKind.TheVariants as kind
+use Rattle.desk_io.specs.declared.desk.LoadError.{LoadError}
+use Rattle.desk_io.specs.declared.desk.LoadError.TheVariants as load
+use Rattle.desk_io.specs.declared.desk.SinkError.{SinkError}
+use Rattle.desk_io.specs.declared.desk.SinkError.TheVariants as sink
+use Rattle.desk_io.specs.Desk.{DeskState, counted, found_of, max_file_bytes}
+
+-- a desk that tells nothing but how many of its calls failed
+abbrev pub closed_desk : ℕ → DeskState
+closed_desk faults = record { told = None; faults = faults }
+
+-- why a file was not loaded, by the kind of the error
+abbrev pub load_error : ErrorKind → LoadError
+load_error kind.NotFound = load.Missing
+load_error kind.OutOfMemory = load.Memory
+load_error _ = load.Failed
+
+-- a load finds the same in these bytes as in all that a reader has left, if that tells them
+abbrev pub FindsSame : Option (List ℕ) → List ℕ → Type 0
+FindsSame remaining bytes = IfSome remaining (λ all. found_of (Some bytes) ≡ found_of (Some all))
+
+-- the answer of a load, after reading a file
+abbrev pub load_answer : Result (Vec ℕ Global) Error → Result (Vec ℕ Global) LoadError
+load_answer (Ok bytes) = if nat_le (length bytes.items) max_file_bytes then Ok bytes else Err load.TooLong
+load_answer (Err error) = Err (load_error (error_kind error))
+
+-- the answer of a save or a say, after writing: any error is a fault
+abbrev pub sink_answer : Result (Unit {0}) Error → Result (Unit {0}) SinkError
+sink_answer (Ok done) = Ok done
+sink_answer (Err error) = Err sink.Failed
+
+-- a load that failed is counted, and so is a save or a say
+abbrev pub load_faults : Result (Vec ℕ Global) LoadError → ℕ → ℕ
+load_faults (Err load.Failed) faults = counted faults
+load_faults _ faults = faults
+
+abbrev pub sink_faults : Result (Unit {0}) SinkError → ℕ → ℕ
+sink_faults (Err sink.Failed) faults = counted faults
+sink_faults _ faults = faults

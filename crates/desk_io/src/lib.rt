@@ -1,0 +1,12 @@
+//! A desk: files that are loaded and saved by their names, and a place where bytes are said.
+#![tactic(auto)]
+
+mod desk;
+mod memory;
+mod real;
+#[cfg(test)]
+mod tests;
+
+pub use desk::{Desk, LoadError, MAX_FILE_BYTES, SinkError};
+pub use memory::{MemDesk, Memory};
+pub use real::RealDesk;
