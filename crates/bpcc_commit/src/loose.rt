@@ -9,9 +9,9 @@ use record_list::{Found, current_version, is_loose, link_of, present};
 use straddle_sets::responsible_version;
 use tx_types::{Link, Protocol};
 
-/// The index of the first record that breaks law 6: where it is loose, its back version is the current
-/// one of its page, its link is not to a current record, and where its link is below the current
-/// version there, a record is responsible for it.
+/// The index of the first record that breaks law 6: where it is loose, its back version is the
+/// current one of its page, its link is not to a current record, and where its link is below the
+/// current version there, a record is responsible for it.
 pub fn first_unshown(list: &[Found], logical: u32) -> Option<usize>
     ensures { FindsFirst (LooseIsShown BpccRule list.now logical) list.now result }
 {
@@ -34,7 +34,8 @@ fn is_shown(list: &[Found], logical: u32, found: &Found) -> bool
         && (rec.next.version > linked || responsible_version(list, logical, rec.next) != 0)
 }
 
-/// The index of the first record that breaks law 7: where it is loose, its links lead to an absent name.
+/// The index of the first record that breaks law 7: where it is loose, its links lead to an absent
+/// name.
 pub fn first_endless(list: &[Found], logical: u32) -> Option<usize>
     ensures { FindsFirst (LooseEnds BpccRule list.now logical) list.now result }
 {
@@ -49,8 +50,8 @@ fn is_ending(list: &[Found], logical: u32, found: &Found) -> bool
     !is_loose(Protocol::Bpcc, list, logical, found.rec) || leads_out(list, found.rec.next)
 }
 
-/// Whether the links from a name lead to an absent one. If they ever do, they do within as many links
-/// as there are records.
+/// Whether the links from a name lead to an absent one. If they ever do, they do within as many
+/// links as there are records.
 #[tactic(auto, using(crate::proofs::Chains::follow_more, crate::proofs::Chains::reached))]
 fn leads_out(list: &[Found], name: Link) -> bool
     ensures { IsTrue result ↔ ((n : ℕ) × (is_present list.now (follow list.now name n) ≡ false)) }

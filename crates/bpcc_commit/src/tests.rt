@@ -47,8 +47,8 @@ fn breach(law: u8, slot: u32) -> Option<Breach> {
     })
 }
 
-/// What a rule makes of a list: for each page what decides its verdict, where it has a record, and its
-/// current version; the indices of the held records; and the breach.
+/// What a rule makes of a list: for each page what decides its verdict, where it has a record, and
+/// its current version; the indices of the held records; and the breach.
 fn expect<R: CommitRule>(
     rt: &impl Abort,
     list: &[Found],

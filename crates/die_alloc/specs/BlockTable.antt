@@ -22,6 +22,7 @@ no_block = record { state = Shut; used = 0 }
 abbrev pub use_of : BlockTable → ℕ → BlockUse
 use_of t block = slice_index_or t.blocks block no_block
 
+-- what a block is kept for
 abbrev pub state_of : BlockTable → ℕ → BlockState
 state_of t block = (use_of t block).state
 

@@ -9,12 +9,14 @@ use Rattle.tx_types.specs.declared.config.BlockState.TheVariants.{Spare, Clean, 
 use Rattle.die_alloc.specs.declared.block_use.BlockUse.{BlockUse}
 use Rattle.die_alloc.specs.BlockTable.{BlockTable, used_of}
 
+-- whether a block was programmed in this session and has a blank tail
 abbrev pub is_part : BlockState → Bool
 is_part Part = true
 is_part Spare = false
 is_part Clean = false
 is_part Shut = false
 
+-- whether a block is all blank
 abbrev pub is_clean : BlockState → Bool
 is_clean Clean = true
 is_clean Spare = false

@@ -14,6 +14,7 @@ pub record CachedPages : Type 0 where
   pub page_bytes : ℕ
   pub entries : List CachedPage
 
+-- whether an entry has as many bytes as a page
 abbrev pub is_whole : ℕ → CachedPage → Bool
 is_whole page_bytes e = length e.bytes == page_bytes
 
@@ -22,6 +23,7 @@ pub record IsPageCache (c : CachedPages) : Type 0 where
   pub most : length c.entries ≤ 16
   pub whole : IsTrue (list_all (is_whole c.page_bytes) c.entries)
 
+-- whether an entry is of this page at this version
 abbrev pub has_key : ℕ → ℕ → CachedPage → Bool
 has_key page version e = (page == e.page) && (version == e.version)
 

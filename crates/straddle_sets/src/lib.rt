@@ -1,5 +1,5 @@
-//! Back Pointer Cyclic Commit: which records straddle a version that an aborted transaction wrote, and
-//! which of them is responsible for a loose record.
+//! Back Pointer Cyclic Commit: which records straddle a version that an aborted transaction wrote,
+//! and which of them is responsible for a loose record.
 #![tactic(auto)]
 
 mod straddling;

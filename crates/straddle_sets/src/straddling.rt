@@ -30,8 +30,8 @@ pub fn straddling_up_to(list: &[Found], name: Link, top: u64) -> u64
     best
 }
 
-/// The version of the record that is responsible for the loose records which link to this name, 0 for
-/// none: the greatest that straddles it, up to the current version of its page.
+/// The version of the record that is responsible for the loose records which link to this name, 0
+/// for none: the greatest that straddles it, up to the current version of its page.
 pub fn responsible_version(list: &[Found], logical: u32, name: Link) -> u64
     ensures { result ≡ responsible Bpcc list.now logical name }
 {
@@ -51,8 +51,8 @@ pub fn answers_for(list: &[Found], logical: u32, name: Link, rec: Rec) -> bool
         && is_loose(Protocol::Bpcc, list, logical, rec)
 }
 
-/// The index of the record that is responsible for the one at this index, in its lowest slot. There is
-/// none for a record that is not loose.
+/// The index of the record that is responsible for the one at this index, in its lowest slot. There
+/// is none for a record that is not loose.
 #[tactic(auto, using(crate::proofs::Homes::unanswered))]
 pub fn responsible(list: &[Found], logical: u32, at: usize) -> Option<usize>
     requires { at < length list.now }

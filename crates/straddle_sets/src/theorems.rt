@@ -12,9 +12,9 @@ ghost use Rattle.record_list.specs.Current.{cur, is_held, is_loose, responsible}
 ghost use Rattle.record_list.specs.SoundList.{IsSoundList};
 ghost use Rattle.straddle_sets.specs.Responsible.{is_responsible, responsible_index};
 
-/// Whether a record of a sound list straddles a name goes by the current version of its page. Below it,
-/// the greatest straddling version is that of the responsible record; nothing straddles the current
-/// version; and above it, the newest record of the page straddles all that is below its own version.
+/// Whether a record of a sound list straddles a name goes by the current version of its page. Below
+/// it, the greatest straddling version is that of the responsible record; nothing straddles the
+/// current version; and above it, all is straddled that is below the newest version.
 pub fn straddlers_by_place()
     ensures below { (list : List Found) (logical : ℕ) (name : Link) → IsScanned list →
         IsSoundList Bpcc list logical → name.version < cur Bpcc list logical name.page →
