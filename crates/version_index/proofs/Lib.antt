@@ -17,3 +17,4 @@ pub mod ImageScans
 pub mod ImageLaws
 pub mod NotedImages
 pub mod FirstRecord
+pub mod Going

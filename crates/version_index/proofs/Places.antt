@@ -1,8 +1,8 @@
 -- The one record of a slot, and the first record that passes a test.
-use Rattle.std.proofs.Common.{◌≡◌, ◌≢◌, ℕ, ◌+◌, ◌<◌, ◌≤◌, Bool, true, false, ◌&&◌, eqb, List, length, get_or, drop, find, AllPairs, Option, Some, None, sym, ap, ◌∙◌, inl, inr, arith, eqb-true, eq-eqb}
+use Rattle.std.proofs.Common.{◌≡◌, ◌≢◌, ℕ, ◌<◌, Bool, false, ◌&&◌, eqb, List, length, get_or, AllPairs, Option, sym, ap, ◌∙◌, inl, inr, arith, eqb-true, eq-eqb}
 use Rattle.std.specs.List.{list_any}
-use Rattle.std.proofs.lemmas.Bool.{false≢true, cases_Bool, cond-true, cond-false, and_parts, and_from}
-use Rattle.std.proofs.lemmas.List.{get_or_default, drop_more, drop_all}
+use Rattle.std.proofs.lemmas.Bool.{false≢true, cases_Bool, and_parts, and_from}
+use Rattle.std.proofs.lemmas.List.{get_or_default}
 use Rattle.tx_types.specs.declared.record.Link.{Link}
 use Rattle.tx_types.specs.declared.config.Protocol.{Protocol}
 use Rattle.tx_types.specs.declared.config.Shape.{Shape}
@@ -72,17 +72,3 @@ module _ (p : Protocol) (list : List Found) (logical : ℕ) (shape : Shape) (spa
       is_needed p list logical shape spare pinned at ≡ (is_slot at (home shape spare list (name_of (record_at list i))) && is_wanted p list logical pinned (record_at list i))
   needed_at i up within here =
       any_in_slot list at i (λ f. is_slot at (home shape spare list (name_of f.rec))) (λ f. is_wanted p list logical pinned f.rec) up within here
-
--- the first record that passes, once those before an index have failed
-pub find_passing : (p : Found → Bool) (list : List Found) (i : ℕ) → i < length list → find p list ≡ find p (drop i list) → p (get_or list i nothing) ≡ true →
-    find p list ≡ Some (get_or list i nothing)
-find_passing p list i within so_far pass =
-    so_far ∙ ap (find p) (drop_more list i nothing within) ∙ cond-true (p (get_or list i nothing)) (Some (get_or list i nothing)) (find p (drop (i + 1) list)) pass
-
-pub find_failing : (p : Found → Bool) (list : List Found) (i : ℕ) → i < length list → find p list ≡ find p (drop i list) → p (get_or list i nothing) ≡ false →
-    find p list ≡ find p (drop (i + 1) list)
-find_failing p list i within so_far fail =
-    so_far ∙ ap (find p) (drop_more list i nothing within) ∙ cond-false (p (get_or list i nothing)) (Some (get_or list i nothing)) (find p (drop (i + 1) list)) fail
-
-pub find_none : (p : Found → Bool) (list : List Found) (i : ℕ) → length list ≤ i → find p list ≡ find p (drop i list) → find p list ≡ None
-find_none p list i all so_far = so_far ∙ ap (find p) (drop_all i list all)

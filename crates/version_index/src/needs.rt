@@ -62,6 +62,7 @@ fn index_at(list: &[Found], at: Slot) -> Option<usize>
 
 /// The lowest block that holds a record which must go before the version `below` of a page is
 /// programmed.
+#[tactic(auto, using(crate::proofs::Going::going_on))]
 pub fn block_to_go<R: CommitRule>(
     list: &[Found],
     logical: u32,
