@@ -1,12 +1,11 @@
 -- Where nothing is in doubt and nothing fails, the calls of the array machine are functions.
-use Rattle.std.proofs.Common.{◌≡◌, ◌≢◌, ℕ, suc, ◌+◌, ◌<◌, Bool, true, false, cond, List, [], ◌∷◌, length, map, Option, Some, None, Result, Ok, Err, refl, sym, ap, ap₂, ◌∙◌, subst, inl, inr, arith}
-use Rattle.std.specs.Prelude.{MatchOption, All, nat_lt, IfSome}
+use Rattle.std.proofs.Common.{◌≡◌, ◌≢◌, ℕ, ◌+◌, Bool, true, false, cond, List, [], ◌∷◌, length, map, Option, Some, None, Result, Ok, Err, refl, sym, ap, ap₂, ◌∙◌, subst, inl, inr, arith}
+use Rattle.std.specs.Prelude.{MatchOption, All, IfSome}
 use Rattle.std.proofs.lemmas.Bool.{cases_Bool}
 use Rattle.std.proofs.lemmas.Bool.Decides.{nat_tests}
-use Rattle.std.proofs.lemmas.List.Elements.{All-nil, All-cons, All-head, All-tail}
-use Rattle.tx_types.specs.Batch.{PageWrite}
+use Rattle.std.proofs.lemmas.List.Elements.{All-cons, All-head, All-tail}
 use Rattle.tx_engine.specs.ArrayState.{ArrayState, Entry, Plain, Doubt, Whole, Mark, entry_of, has_tag, put, with_entry, without}
-use Rattle.tx_engine.specs.Step.{settled, settled_mark, settled_entry, doubted, IsAtLast, GoesOn, StepGives, StepsAs, Steps, AbortGives, AbortsAs, Aborts}
+use Rattle.tx_engine.specs.Step.{settled, settled_mark, settled_entry, doubted, StepGives, Steps, AbortGives, Aborts}
 use Rattle.tx_engine.specs.Unbroken.{AllPlain, has_more, taken, step_answer, stepped, finish_answer, finished, abort_answer, aborted_from}
 use Rattle.tx_engine.specs.declared.step.Aborted.{Aborted}
 use Rattle.tx_engine.specs.declared.step.Aborted.TheVariants as aborted
@@ -26,7 +25,6 @@ same_mark there Whole h = refl
 
 pub same_entry : (there : Bool) (e : Entry) → IsPlain e → settled_entry there e ≡ e
 same_entry there e h = ap (λ m. record e { mark = m }) (same_mark there e.mark h)
-
 
 pub nothing_doubted : (es : List Entry) → All IsPlain es → doubted es ≡ []
 nothing_doubted [] h = refl
@@ -216,9 +214,10 @@ wrote_more old tag done all (Some e) is h = elim (cases_Bool (has_more e)) [
       let found : entry_of tag (with_entry tag next old.entries) ≡ Some next = again tag next e old.entries t is in
       let gone : without tag (with_entry tag next old.entries) ≡ without tag old.entries = goes_again tag next old.entries t in
       let mid : stepped (Some e) tag old ≡ record old { entries = with_entry tag next old.entries } = rw more refl in
-      let at : entry_of tag (stepped (Some e) tag old).entries ≡ Some next = ap (λ s. entry_of tag s.entries) mid ∙ found in
-      (ap finish_answer at,
-       ap₂ (λ o s. finished o tag s) at mid ∙ ap (λ es. record { pages = put old.pages e.writes; entries = es }) gone))
+      let at : entry_of tag (stepped (Some e) tag old).entries ≡ Some next = ap (λ s. entry_of tag s.entries) mid ∙ found in (
+        ap finish_answer at,
+        ap₂ (λ o s. finished o tag s) at mid ∙ ap (λ es. record { pages = put old.pages e.writes; entries = es }) gone,
+      ))
   | inr last ↦ (let ends : step_answer (Some e) ≡ Ok progress.Done = rw last refl in let both = h ∙ ends in cc)
 ]
 

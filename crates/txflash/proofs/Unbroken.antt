@@ -1,24 +1,22 @@
 -- Runs in which power is not cut and nothing fails.
-use Rattle.std.proofs.Common.{◌≡◌, ◌≢◌, ◌⊎◌, ℕ, ◌+◌, ◌<◌, ◌≤◌, ◌^◌, Bool, true, false, cond, List, [], ◌∷◌, ◌++◌, length, Option, Some, None, Result, Ok, Err, refl, sym, ap, ap₂, ◌∙◌, subst, inl, inr, arith}
+use Rattle.std.proofs.Common.{◌≡◌, ◌≢◌, ◌⊎◌, ℕ, ◌+◌, ◌<◌, ◌≤◌, ◌^◌, Bool, true, false, cond, List, [], ◌∷◌, length, Option, Some, None, Result, Ok, Err, refl, sym, ap, ◌∙◌, subst, inl, inr, arith}
 use Rattle.std.specs.Prelude.{All, nat_lt, count_by}
 use Rattle.std.proofs.lemmas.Bool.{cases_Bool}
 use Rattle.std.proofs.lemmas.Bool.Decides.{nat_tests}
 use Rattle.std.proofs.lemmas.List.Elements.{All-push, All-head, All-tail}
 use Rattle.std.proofs.lemmas.List.Sums.{sum_by-cons}
 use Rattle.tx_types.specs.Batch.{PageWrite}
-use Rattle.tx_engine.specs.ArrayState.{ArrayState, Entry, Plain, entry_of, page_at, opening}
+use Rattle.tx_engine.specs.ArrayState.{ArrayState, Entry, entry_of, page_at, opening}
 use Rattle.tx_engine.specs.Read.{ReadsPage}
-use Rattle.tx_engine.specs.Collect.{CollectsAs, Collects}
-use Rattle.tx_engine.specs.Submit.{Limits, is_of, Submits, answer, opened, refusal, spent_page, or_else, empty, range, repeated, tag_used, overlap, full, free_of}
-use Rattle.tx_engine.specs.Step.{Steps, Aborts, settled}
-use Rattle.tx_engine.specs.Unbroken.{AllPlain, step_answer, stepped, finish_answer, finished, abort_answer, aborted_from}
+use Rattle.tx_engine.specs.Collect.{Collects}
+use Rattle.tx_engine.specs.Submit.{Limits, is_of, answer, opened, refusal, spent_page, or_else, empty, range, repeated, tag_used, overlap, full, free_of}
+use Rattle.tx_engine.specs.Unbroken.{AllPlain, finish_answer, finished}
 use Rattle.tx_engine.proofs.Unbroken.{IsPlain, settled_same, step_fine, abort_fine, last_finishes, wrote_finishes}
 use Rattle.tx_engine.specs.declared.read.ReadAnswer.{ReadAnswer}
 use Rattle.tx_engine.specs.declared.read.ReadAnswer.TheVariants as read
 use Rattle.tx_engine.specs.declared.read.ReadError.{ReadError}
 use Rattle.tx_engine.specs.declared.read.ReadError.TheVariants as unread
 use Rattle.tx_engine.specs.declared.submit.SubmitError.{SubmitError}
-use Rattle.tx_engine.specs.declared.submit.SubmitError.TheVariants as refused
 use Rattle.tx_engine.specs.declared.step.Progress.{Progress}
 use Rattle.tx_engine.specs.declared.step.Progress.TheVariants as progress
 use Rattle.tx_engine.specs.declared.step.StepError.{StepError}
@@ -31,7 +29,7 @@ use Rattle.host_protocol.specs.declared.command.Command.{Command}
 use Rattle.host_protocol.specs.declared.command.Command.TheVariants as command
 use Rattle.host_protocol.specs.declared.reply.Reply.{Reply}
 use Rattle.host_protocol.specs.declared.reply.Reply.TheVariants as reply
-use Rattle.txflash.specs.Run.{Run, RunState, Serves, Does, Finishes, NotDone, IsCut, MayBeSpent, seen_after, is_break, is_arm, is_opened, writes_in, read_reply, submit_reply, step_reply, abort_reply, collect_reply}
+use Rattle.txflash.specs.Run.{Run, RunState, Serves, Does, Finishes, NotDone, IsCut, MayBeSpent, seen_after, is_break, is_opened, writes_in, read_reply, submit_reply, step_reply, abort_reply, collect_reply}
 use Rattle.txflash.specs.Unbroken.{IsReply, page_reply, state_after, unspent, UnbrokenRun, writes_of, VersionsSuffice}
 
 -- a reply that is no break
@@ -95,9 +93,11 @@ does_fine : (limits : Limits) (spent : ℕ → Bool) (c : Command) (old : ArrayS
 does_fine limits spent (command.Read page) old r new plain h b =
     (h.3 ∙ read_fine limits old page h.0 h.1 h.2 (ap is_break (sym h.3) ∙ b), h.4, subst AllPlain (sym h.4) plain)
 does_fine limits spent (command.Write tag batch) old r new plain h b =
-    let opens = h.1.opens in
-    (h.2 ∙ ap (submit_reply tag (length batch.entries)) h.1.answers, opens,
-     subst AllPlain (sym opens) (opened_plain (refusal limits spent old.entries tag batch.entries) tag batch.entries old plain))
+    let opens = h.1.opens in (
+      h.2 ∙ ap (submit_reply tag (length batch.entries)) h.1.answers,
+      opens,
+      subst AllPlain (sym opens) (opened_plain (refusal limits spent old.entries tag batch.entries) tag batch.entries old plain),
+    )
 does_fine limits spent (command.Step tag) old r new plain h b =
     let is = step_fine old new tag h.0 plain h.1 (step_unbroken tag r h.0 h.2 b) in
     (h.2 ∙ ap (step_reply tag) is.0, is.1, is.2)
@@ -109,7 +109,7 @@ does_fine limits spent (command.Abort tag) old r new plain h b =
     (h.2 ∙ ap (abort_reply tag) is.0, is.1, is.2)
 does_fine limits spent command.Collect old r new plain h b =
     let is = collect_fine old new h.0 plain h.1 (ap is_break (sym h.2) ∙ b) in
-    (elim is.0 [ | inl one ↦ inl (h.2 ∙ one) | inr none ↦ inr (h.2 ∙ none) ], is.1, subst AllPlain (sym is.1) plain)
+    (elim is.0 [ inl one ↦ inl (h.2 ∙ one) | inr none ↦ inr (h.2 ∙ none) ], is.1, subst AllPlain (sym is.1) plain)
 does_fine limits spent command.Stats old r new plain h b = ((h.0, h.1, h.2), h.3, subst AllPlain (sym h.3) plain)
 does_fine limits spent command.Explain old r new plain h b = (h.0, h.1, subst AllPlain (sym h.1) plain)
 does_fine limits spent (command.Cut count what) old r new plain h b = absurd h
@@ -153,7 +153,7 @@ same_refusal : (limits : Limits) (spent : ℕ → Bool) → ((page : ℕ) → sp
     refusal limits spent es tag ws ≡ refusal limits unspent es tag ws
 same_refusal limits spent none es tag ws =
     ap (λ last. or_else (empty ws) (or_else (range limits.logical ws) (or_else (repeated [] ws)
-        (or_else (tag_used tag es) (or_else (overlap es ws) (or_else (full (free_of limits.pending es) ws) last))))))
+    (or_else (tag_used tag es) (or_else (overlap es ws) (or_else (full (free_of limits.pending es) ws) last))))))
     (none_spent spent none ws)
 
 reply_unspent : (limits : Limits) (spent : ℕ → Bool) → ((page : ℕ) → spent page ≡ false) → (c : Command) (s : ArrayState) (r : Reply) →
@@ -207,11 +207,11 @@ run_fine limits seen old (c ∷ cs) (r ∷ rs) new plain low run whole =
     let none : (page : ℕ) → spent page ≡ false = λ page. not_yet spent seen page (writes_of page (c ∷ cs)) run.2 (low page) in
     let first = command_fine limits spent c old r mid plain run.3 (All-head (λ r. is_break r ≡ false) r rs whole) in
     let lower : VersionsSuffice (seen_after seen c r) cs = λ page.
-        (
-        let most : seen_after seen c r page ≤ seen page + count_by (is_of page) (writes_in c) = seen_step (is_opened r) (seen page) (count_by (is_of page) (writes_in c)) in
-        let split : writes_of page (c ∷ cs) ≡ count_by (is_of page) (writes_in c) + writes_of page cs = sum_by-cons (λ c. count_by (is_of page) (writes_in c)) c cs in
-        let all = low page in
-        omega arith) in
+    (
+    let most : seen_after seen c r page ≤ seen page + count_by (is_of page) (writes_in c) = seen_step (is_opened r) (seen page) (count_by (is_of page) (writes_in c)) in
+    let split : writes_of page (c ∷ cs) ≡ count_by (is_of page) (writes_in c) + writes_of page cs = sum_by-cons (λ c. count_by (is_of page) (writes_in c)) c cs in
+    let all = low page in
+    omega arith) in
     let rest = run_fine limits (seen_after seen c r) mid cs rs new first.2 lower run.4 (All-tail (λ r. is_break r ≡ false) r rs whole) in
     let at = first.1 ∙ state_unspent limits spent none c old.machine in
     ((reply_unspent limits spent none c old.machine r first.0, subst (λ (s : ArrayState). UnbrokenRun limits s cs rs new.machine) at rest.0), rest.1)
