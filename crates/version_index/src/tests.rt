@@ -185,25 +185,34 @@ fn expect_needed<R: CommitRule>(rt: &impl Abort, index: &Index<R>, first: u32, n
     }
 }
 
-/// A record of page 0 with a copy in each of the blocks 0 to 2, a damaged slot, and an aborted record
-/// of page 1.
-#[test]
-fn a_doubled_record(rt: HostRuntime) -> Result<(), Fail> {
+/// A record that was aborted.
+fn aborted() -> Rec {
+    rec((1, 3), (2, 7), 0)
+}
+
+/// A record of page 0 with a copy in each of the blocks 0 to 2, of which block 0 is the spare, a damaged
+/// slot, and an aborted record.
+fn doubled(rt: &impl Abort, alloc: Global) -> Result<Index<Scc>, Memory> {
     let seen = [
         Blank, Complete, Blank, Damaged, Complete, Blank, Complete, Complete, Blank, Blank, Blank,
         Blank,
     ];
     let whole = rec((0, 1), (0, 1), 0);
-    let aborted = rec((1, 3), (2, 7), 0);
     let list = [
         found(1, whole),
         found(4, whole),
-        found(6, aborted),
+        found(6, aborted()),
         found(7, whole),
     ];
-    let mut index = opened::<Scc>(&rt, rt.alloc(), CONFIG, &seen, &list)?;
+    let mut index = opened::<Scc>(rt, alloc, CONFIG, &seen, &list)?;
     assert!(rt; has_block(&index, Block(0)));
     index.set_spare(Block(0));
+    Ok(index)
+}
+
+#[test]
+fn a_doubled_record(rt: HostRuntime) -> Result<(), Fail> {
+    let index = doubled(&rt, rt.alloc())?;
     // the home is outside the spare, and outside block 1 the copy in the spare is the lowest
     expect_pages(
         &rt,
@@ -232,7 +241,13 @@ fn a_doubled_record(rt: HostRuntime) -> Result<(), Fail> {
             "page {page} below {below}"
         );
     }
-    // pinned, it is needed
+    Ok(())
+}
+
+#[test]
+fn changes_beside_it(rt: HostRuntime) -> Result<(), Fail> {
+    let mut index = doubled(&rt, rt.alloc())?;
+    // pinned, the aborted record is needed
     assert!(rt; has_page(&index, 1));
     index.pin(1, 2);
     index.pin(1, 3);
@@ -241,12 +256,12 @@ fn a_doubled_record(rt: HostRuntime) -> Result<(), Fail> {
     expect_needed(&rt, &index, 12, &[4]);
     // a copy of it raises no mention, and is garbage like the slot that is damaged
     assert!(rt; has_slot(&index, Slot(6)) && is_blank(&index, Slot(9)));
-    assert_eq!(rt; index.rec(Slot(6)), Some(aborted));
+    assert_eq!(rt; index.rec(Slot(6)), Some(aborted()));
     index.note_copy(Slot(6), Slot(9));
     assert!(rt; is_blank(&index, Slot(10)));
     index.note_damaged(Slot(10));
     assert!(rt; has_slot(&index, Slot(9)) && has_slot(&index, Slot(10)));
-    assert_eq!(rt; index.rec(Slot(9)), Some(aborted));
+    assert_eq!(rt; index.rec(Slot(9)), Some(aborted()));
     assert_eq!(rt; index.seen(Slot(9)), Complete);
     assert_eq!(rt; index.seen(Slot(10)), Damaged);
     expect_pages(&rt, &index, &[(1, 0, 3, None, None), (2, 0, 7, None, None)]);
