@@ -1,0 +1,6 @@
+use Rattle.std.proofs.Common.{◌≡◌, drop}
+use Rattle.host_protocol.specs.Lines.{words_of}
+use Rattle.drive_gen.proofs.words.word_at.Given as goal
+
+abbrev pub invariant-loop-passed : goal.invariant-loop-passed
+invariant-loop-passed l = drop l._passed (words_of l.line) ≡ words_of l.rest

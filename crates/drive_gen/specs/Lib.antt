@@ -1,0 +1,5 @@
+pub mod Generator
+pub mod Kinds
+pub mod Summary
+pub mod Tally
+pub mod Work

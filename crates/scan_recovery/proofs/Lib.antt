@@ -1,0 +1,13 @@
+pub mod ReadingSteps
+pub mod Used
+pub mod Highest
+pub mod Outside
+pub mod Firsts
+pub mod BlankBlocks
+pub mod ComparedSteps
+pub mod OpenedTable
+pub mod ScanSteps
+pub mod LawTwo
+pub mod Upto
+pub mod SoundScans
+pub mod OpenedImages

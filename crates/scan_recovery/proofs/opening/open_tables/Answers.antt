@@ -1,0 +1,25 @@
+use Rattle.std.proofs.Common.{sym, ap, ◌∙◌, subst, subst₂}
+use Rattle.tx_types.specs.Config.{IsShape, slots_of}
+use Rattle.tx_types.proofs.ConfigLemmas.{checked_config}
+use Rattle.scan_recovery.specs.Opening.{opening_table, IsChosenFrom}
+use Rattle.scan_recovery.proofs.opening.open_tables.Goals as goal
+
+pub chosen_spare-requires-clause-shape : goal.chosen_spare-requires-clause-shape
+chosen_spare-requires-clause-shape g c =
+    let its = checked_config c.args.config c.args.shape c.requires.check in
+    subst IsShape (sym its.1) its.0.shape
+
+pub from_scan-requires-clause-seen : goal.from_scan-requires-clause-seen
+from_scan-requires-clause-seen g c = c.requires.seen ∙ ap slots_of (checked_config c.args.config c.args.shape c.requires.check).1
+
+pub returns-clause-tables : goal.returns-clause-tables
+returns-clause-tables g c =
+    let same = (checked_config c.args.config c.args.shape c.requires.check).1 in
+    record {
+      spare = c.in-Some-chosen_spare.spare.0;
+      chosen = subst₂ (λ p s. IsChosenFrom p c.args.config.logical s c.args.seen.now c.args.list.now c.in-Some-chosen_spare.spare.0) (sym c.requires.rule) same c.in-Some-chosen_spare.ensures.0;
+      scan = c.in_ok-index.index;
+      scanned = c.in_ok-index.ensures;
+      noted_is = c.set_spare.ensures;
+      table_is = c.in_ok-blocks.ensures ∙ ap (λ s. opening_table s c.args.seen.now c.in-Some-chosen_spare.spare.0) same;
+    }

@@ -1,0 +1,103 @@
+ghost use Rattle.std.specs.Prelude.{◌≡◌, ◌+◌, ◌*◌, ◌<◌, ◌≤◌, All, map, length, Ok, OnOk, IfOk, IfErr, false};
+ghost use Rattle.tx_types.specs.Config.{IsShape, checked, shape_of, slots_of, blocks_of};
+ghost use Rattle.record_list.specs.Records.{IsScanned};
+ghost use Rattle.record_list.specs.SoundList.{OwnPageExists, IsSoundList};
+ghost use Rattle.record_list.specs.Written.{HasRemovable};
+ghost use Rattle.die_alloc.specs.BlockTable.{IsBlockTable};
+ghost use Rattle.version_index.specs.Notes.{complete_slots};
+ghost use Rattle.scan_recovery.specs.Opening.{used_in, opening_table, with_slots, IsOpenedFrom, IsBroken};
+ghost use Rattle.scan_recovery.specs.Recovered.{IfUnsound, is_fault};
+
+use crate::RecoverError;
+use crate::spare::{chosen_spare, is_blank, slots_in};
+use die_alloc::Blocks;
+use flash_model::Seen;
+use record_list::{Breach, CommitRule, Found};
+use std::alloc::Global;
+use tx_types::{Block, BlockState, Config, Memory, Shape, Slot};
+use version_index::Index;
+
+/// The tables of slots that read so and hold these records, or the first of laws 1 to 8 that the
+/// records break, and the slot that it names.
+pub fn open_tables<R: CommitRule>(
+    alloc: Global,
+    config: Config,
+    shape: Shape,
+    seen: &[Seen],
+    list: &[Found],
+) -> Result<(Index<R>, Blocks), RecoverError>
+    requires check { checked config ≡ Ok shape }
+    requires rule { config.protocol ≡ R.kept }
+    requires seen { length seen.now ≡ slots_of shape }
+    requires complete { map (λ f. f.slot.0) list.now ≡ complete_slots seen.now }
+    requires scanned { IsScanned list.now }
+    requires pages { All (OwnPageExists config.logical) list.now }
+    ensures sound { OnOk result
+        (IsSoundList R.kept list.now config.logical
+        × HasRemovable R.kept list.now config.logical shape) }
+    ensures tables { IfOk result (λ opened.
+        IsOpenedFrom config seen.now list.now opened.0 opened.1) }
+    ensures unsound { IfErr result (λ e. IfUnsound e
+        (IsBroken R.kept list.now config.logical shape)) }
+    ensures no_fault { is_fault result ≡ false }
+{
+    if let Some(Breach { law, slot }) = R::audit(list, config.logical) {
+        return Err(RecoverError::Unsound { law, slot });
+    }
+    let Some(spare) = chosen_spare::<R>(seen, list, config.logical, shape) else {
+        return Err(RecoverError::Unsound {
+            law: 8,
+            slot: Slot(0),
+        });
+    };
+    let mut index = Index::from_scan(alloc, config, seen, list)?;
+    index.set_spare(spare);
+    let blocks = block_table(alloc, shape, seen, spare)?;
+    Ok((index, blocks))
+}
+
+/// The block table of slots that read so, with this spare.
+fn block_table(alloc: Global, shape: Shape, seen: &[Seen], spare: Block) -> Result<Blocks, Memory>
+    requires shape { IsShape shape }
+    requires seen { length seen.now ≡ slots_of shape }
+    requires spare { spare.0 < blocks_of shape }
+    ensures { IfOk result (λ blocks. blocks ≡ opening_table shape seen.now spare.0) }
+{
+    let mut blocks = Blocks::new(alloc, shape)?;
+    blocks.make_spare(spare);
+    for block in 0..shape.blocks() {
+        note_block(
+            &mut blocks,
+            slots_in(seen, shape, Block(block)),
+            Block(block),
+        );
+    }
+    Ok(blocks)
+}
+
+/// Shuts a block that is not the spare, where not all its slots are blank.
+fn note_block(blocks: &mut Blocks, slots: &[Seen], block: Block)
+    requires exists { block.0 < blocks_of blocks.old.shape }
+    requires slots { length slots.now ≡ blocks.old.shape.pages_per_block }
+    ensures noted { blocks.new ≡ with_slots blocks.old block.0 slots.now }
+    ensures table { IsBlockTable blocks.new }
+{
+    let spare = blocks.spare();
+    let used = used_in(slots);
+    if used > 0 && block != spare {
+        blocks.set(block, BlockState::Shut, used);
+    }
+}
+
+/// How many of the first slots are used: those up to the last one that is not blank.
+fn used_in(slots: &[Seen]) -> u32
+    requires { length slots.now ≤ 256 }
+    ensures used { result ≡ used_in slots.now }
+    ensures within { result ≤ length slots.now }
+{
+    let mut used = slots.len();
+    while used > 0 && is_blank(slots[used - 1]) {
+        used -= 1;
+    }
+    used as u32
+}

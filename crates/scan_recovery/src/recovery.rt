@@ -1,0 +1,88 @@
+ghost use Rattle.std.specs.Prelude.{◌≡◌, All, Ok, OnOk, IfOk, IfErr};
+ghost use Rattle.tx_types.specs.Config.{checked};
+ghost use Rattle.flash_model.specs.Calls.{Carries};
+ghost use Rattle.flash_model.specs.Operations.{moment_of};
+ghost use Rattle.version_index.specs.Images.{IsSoundImage, written_in, IsLeastImageBreach};
+ghost use Rattle.record_list.specs.SoundList.{Copies};
+ghost use Rattle.record_list.specs.Written.{KeepsWritten};
+ghost use Rattle.scan_recovery.specs.Scans.{IsScanOf};
+ghost use Rattle.scan_recovery.specs.Opening.{IsOpened};
+ghost use Rattle.scan_recovery.specs.Recovered.{IfUnsound, is_fault, ReadsFor};
+
+use crate::RecoverError;
+use crate::opening::open_tables;
+use crate::scan::{Scanned, scan};
+use crate::twins::first_contradiction;
+use die_alloc::Blocks;
+use flash_model::Flash;
+use record_list::CommitRule;
+use std::alloc::Global;
+use tx_types::Config;
+use version_index::Index;
+
+/// Opens a device from its flash alone: the tables of a sound image, with the block that becomes
+/// the spare, or the first of laws 1 to 8 that the image breaks.
+///
+/// Each slot is read once, the lowest first. Where law 1 holds, law 2 is tried record by record,
+/// the lowest slot first: where another slot is the lowest that holds the record's name, and the
+/// two records are equal, these two slots are read again, the lowest first, to compare their bytes.
+/// Nothing is read after a slot that breaks law 2.
+///
+/// `Fault` comes at the first read that fails, and nothing is read after it. `Unsound` comes where
+/// no read failed and the image is not sound: law 1 names the lowest slot that does not read or has
+/// a page that does not exist, laws 2 to 7 the lowest slot whose record breaks them, law 8 slot 0.
+/// All memory of the tables is taken here.
+pub fn recover<F: Flash, R: CommitRule>(
+    alloc: Global,
+    flash: &mut F,
+    config: Config,
+) -> Result<(Index<R>, Blocks), RecoverError>
+    requires check { checked config ≡ Ok (F.state flash.old).shape }
+    requires rule { config.protocol ≡ R.kept }
+    // The tables of a sound image.
+    ensures sound { let old = F.state flash.old in
+        OnOk result (IsSoundImage R.kept config.logical old.shape old.image) }
+    ensures tables { IfOk result (λ opened.
+        IsOpened config (F.state flash.old).image opened.0 opened.1) }
+    // Else the first law that is broken, and its slot.
+    ensures unsound { let old = F.state flash.old in
+        IfErr result (λ e. IfUnsound e
+        (IsLeastImageBreach R.kept config.logical old.shape old.image)) }
+
+    // Nothing changes, and so many slots are read.
+    ensures moment { moment_of (F.state flash.new) ≡ moment_of (F.state flash.old) }
+    ensures carries { Carries (F.state flash.old) (F.state flash.new) (is_fault result) }
+    ensures reads { ReadsFor config.protocol (F.state flash.old) (F.state flash.new) result }
+{
+    let scanned = sound_scan(alloc, flash, config)?;
+    open_tables(alloc, config, flash.shape(), &scanned.seen, &scanned.list)
+}
+
+/// Scans the flash, and tries laws 1 and 2.
+fn sound_scan<F: Flash>(
+    alloc: Global,
+    flash: &mut F,
+    config: Config,
+) -> Result<Scanned, RecoverError>
+    ensures scan { let image = (F.state flash.old).image in
+        IfOk result (λ s. IsScanOf config.protocol config.logical image
+        s.seen.items s.list.items) }
+    ensures copies { let list = written_in config.protocol (F.state flash.old).image in
+        OnOk result (All (KeepsWritten config.protocol list config.logical Copies) list) }
+    ensures unsound { let old = F.state flash.old in
+        IfErr result (λ e. IfUnsound e
+        (IsLeastImageBreach config.protocol config.logical old.shape old.image)) }
+    ensures reads { ReadsFor config.protocol (F.state flash.old) (F.state flash.new) result }
+{
+    let size = flash.shape().page_bytes as usize;
+    let mut one = vec![in alloc; 0; size]?;
+    let mut two = vec![in alloc; 0; size]?;
+    let scanned = scan(alloc, flash, config, &mut one)?;
+    match first_contradiction(flash, &scanned.list, &mut one, &mut two)? {
+        None => Ok(scanned),
+        Some(at) => Err(RecoverError::Unsound {
+            law: 2,
+            slot: scanned.list[at].slot,
+        }),
+    }
+}

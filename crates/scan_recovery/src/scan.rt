@@ -1,0 +1,120 @@
+ghost use Rattle.std.specs.Prelude.{◌≡◌, ◌+◌, ◌<◌, ◌++◌, ◌∷◌, [], ◌≤◌, true, length, vec_len, vec_capacity, IfOk, IfErr, Some, Ok, MatchResult};
+ghost use Rattle.std.specs.List.{cons_option};
+ghost use Rattle.std.specs.Option.{unwrap_or};
+ghost use Rattle.tx_types.specs.Config.{checked, slots_of};
+ghost use Rattle.flash_model.specs.Flash.{slot_at};
+ghost use Rattle.version_index.specs.Images.{IsFirstUnread};
+ghost use Rattle.version_index.specs.Notes.{seen_as, found_at};
+ghost use Rattle.scan_recovery.specs.Reading.{ReadsAll, ReadsSome};
+ghost use Rattle.scan_recovery.specs.Scans.{IsKeptRecord, IsNote, IsScanOf};
+ghost use Rattle.scan_recovery.specs.Recovered.{IfUnsound, ReadsTo};
+
+use crate::RecoverError;
+use flash_model::{Broken, Flash, Seen};
+use page_record::read_spare;
+use record_list::Found;
+use std::alloc::Global;
+use tx_types::{Config, Rec, Slot};
+use version_index::Note;
+
+/// How the slots of a flash read, and their records, in the order of the slots.
+#[derive(Drop)]
+pub struct Scanned {
+    pub seen: Vec<Seen>,
+    pub list: Vec<Found>,
+}
+
+/// Reads each slot once, the lowest first, and stops at the first read that fails. Where slots
+/// break law 1, the lowest one is named once all are read.
+pub fn scan<F: Flash>(
+    alloc: Global,
+    flash: &mut F,
+    config: Config,
+    page: &mut [u8],
+) -> Result<Scanned, RecoverError>
+    requires page { length page.old ≡ (F.state flash.old).shape.page_bytes }
+    ensures scan { let image = (F.state flash.old).image in
+        IfOk result (λ s. IsScanOf config.protocol config.logical image
+        s.seen.items s.list.items) }
+    ensures unread { let image = (F.state flash.old).image in
+        IfErr result (λ e. IfUnsound e (IsFirstUnread config.protocol config.logical image)) }
+    ensures reads { let old = F.state flash.old in
+        ReadsTo old (F.state flash.new) (slots_of old.shape) result }
+{
+    let slots = flash.shape().slots();
+    let mut seen = Vec::with_capacity(alloc, slots as usize)?;
+    let mut list = Vec::with_capacity(alloc, slots as usize)?;
+    let mut unread = None;
+    for at in 0..slots {
+        match look_at(flash, config, Slot(at), page)? {
+            Some(note) => add(&mut seen, &mut list, Slot(at), note),
+            None => unread = first_of(unread, Slot(at)),
+        }
+    }
+    match unread {
+        None => Ok(Scanned { seen, list }),
+        Some(slot) => Err(RecoverError::Unsound { law: 1, slot }),
+    }
+}
+
+/// The slot that is named already, else this one.
+fn first_of(unread: Option<Slot>, slot: Slot) -> Option<Slot>
+    ensures { result ≡ Some (unwrap_or unread slot) }
+{
+    Some(unread.unwrap_or(slot))
+}
+
+/// Adds how a slot reads, and its record.
+fn add(seen: &mut Vec<Seen>, list: &mut Vec<Found>, slot: Slot, note: Note)
+    requires seen { vec_len seen.old < vec_capacity seen.old }
+    requires list { vec_len list.old < vec_capacity list.old }
+    ensures seen { seen.new.items ≡ seen.old.items ++ seen_as note ∷ [] }
+    ensures list { list.new.items ≡ list.old.items ++ cons_option (found_at slot.0 note) [] }
+    ensures seen_room { vec_capacity seen.new ≡ vec_capacity seen.old }
+    ensures list_room { vec_capacity list.new ≡ vec_capacity list.old }
+    ensures seen_len { vec_len seen.new ≡ vec_len seen.old + 1 }
+    ensures list_len { vec_len list.new ≤ vec_len list.old + 1 }
+{
+    match note {
+        Note::Blank => seen.push_reserved(Seen::Blank),
+        Note::Damaged => seen.push_reserved(Seen::Damaged),
+        Note::Holds(rec) => {
+            seen.push_reserved(Seen::Complete);
+            list.push_reserved(Found { slot, rec });
+        }
+    }
+}
+
+/// Reads a slot. What is noted of it, nothing where it breaks law 1.
+fn look_at<F: Flash>(
+    flash: &mut F,
+    config: Config,
+    at: Slot,
+    page: &mut [u8],
+) -> Result<Option<Note>, Broken>
+    requires exists { at.0 < slots_of (F.state flash.old).shape }
+    requires page { length page.old ≡ (F.state flash.old).shape.page_bytes }
+    ensures note { let contents = slot_at (F.state flash.old).image at.0 in
+        IfOk result (IsNote config.protocol config.logical contents) }
+    ensures reads { MatchResult result
+        (λ _. ReadsAll (F.state flash.old) (F.state flash.new) 1)
+        (λ _. ReadsSome (F.state flash.old) (F.state flash.new) true 1) }
+{
+    let mut spare = [0; 64];
+    Ok(match flash.read(at, page, &mut spare)? {
+        Seen::Blank => Some(Note::Blank),
+        Seen::Damaged => Some(Note::Damaged),
+        Seen::Complete => record_in(&spare, config).map(Note::Holds),
+    })
+}
+
+/// The record of a spare area, where it reads for the protocol and its page and its link's page
+/// exist.
+fn record_in(spare: &[u8; 64], config: Config) -> Option<Rec>
+    ensures { IsKeptRecord config.protocol config.logical spare.now result }
+{
+    match read_spare(spare, config.protocol) {
+        Ok(rec) if rec.page < config.logical && rec.next.page < config.logical => Some(rec),
+        _ => None,
+    }
+}
