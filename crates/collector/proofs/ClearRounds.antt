@@ -1,0 +1,154 @@
+-- The rounds of clearing: what is so between two rounds, and what a round leaves.
+use Rattle.std.proofs.Common.{◌≡◌, ℕ, ◌+◌, ◌^◌, ◌<◌, ◌≤◌, true, false, List, Some, refl, sym, ap, ◌∙◌, subst, inl, inr, arith}
+use Rattle.std.proofs.Math.Nat.{mul_comm}
+use Rattle.std.proofs.lemmas.Bool.{cases_eq}
+use Rattle.std.proofs.lemmas.Nat.{div_below}
+use Rattle.tx_types.specs.Config.{shape_of, blocks_of}
+use Rattle.tx_types.specs.declared.config.Config.{Config}
+use Rattle.tx_types.specs.declared.config.Protocol.{Protocol}
+use Rattle.tx_types.specs.declared.record.Link.{Link}
+use Rattle.flash_model.specs.Calls.{Carries}
+use Rattle.flash_model.specs.Flash.{FlashState}
+use Rattle.flash_model.specs.Moves.{FlashMoves}
+use Rattle.flash_model.proofs.CallLemmas.{Carries-nothing, Carries-then}
+use Rattle.flash_model.proofs.MoveLemmas.{FlashMoves-nothing, FlashMoves-then}
+use Rattle.record_list.specs.Changes.{LossLaw}
+use Rattle.record_list.proofs.Names.{all_at, in_from}
+use Rattle.version_index.specs.declared.note.Note.TheVariants.{Blank}
+use Rattle.version_index.specs.Noted.{Noted, block_to_go, erased}
+use Rattle.version_index.proofs.FoundIn.{noted_from}
+use Rattle.die_alloc.specs.BlockTable.{BlockTable}
+use Rattle.collector.specs.declared.unsure.Unsure.{Unsure}
+use Rattle.collector.specs.declared.unsure.Unsure.TheVariants as unsure
+use Rattle.collector.specs.Collecting.{HasUnneeded}
+use Rattle.collector.specs.Going.{IsNextName, IsTreated, CostsAtMost, is_going, blocks_to_go}
+use Rattle.collector.specs.Matches.{Matches}
+use Rattle.collector.specs.Preserves.{Preserves, KeepsArray}
+use Rattle.collector.proofs.Chains.{CostsAtMost-nothing, CostsAtMost-then, CostsAtMost-more}
+use Rattle.collector.proofs.Keeping.{preserves_then, preserves_same, keeps_array_then, keeps_array_same}
+use Rattle.collector.proofs.GoneRecords.{GoesFrom, going_some}
+use Rattle.collector.proofs.GoingCounts.{at_going, goes_unneeded, erased_fewer, collected_fewer, some_going}
+use Rattle.collector.proofs.Losing.{preserves}
+use Rattle.collector.proofs.NextNames.{next_stays}
+use Rattle.collector.proofs.RoomMade.{spare_within}
+
+-- what is so between two rounds
+pub record ClearsSoFar (p : Protocol) (page below : ℕ) (s0 s : FlashState) (n0 n : Noted) (t : BlockTable) (u : Unsure) : Type 0 where
+  pub nothing : u ≡ unsure.Nothing
+  pub matches : Matches s n t u
+  pub names : List Link
+  pub next : IsNextName n names (record { page = page; version = below })
+  pub kept : Preserves n0 n
+  pub array : KeepsArray p n0.config.logical s0.image s.image
+  pub rounds : ℕ
+  pub left : rounds + blocks_to_go n page below ≤ blocks_to_go n0 page below
+  pub costs : CostsAtMost n0.config.pages_per_block rounds s0 s
+  pub moves : FlashMoves s0 s false
+  pub carries : Carries s0 s false
+
+pub clears_none : (p : Protocol) (page below : ℕ) (s : FlashState) (n : Noted) (t : BlockTable) (u : Unsure) → u ≡ unsure.Nothing → Matches s n t u →
+    ((names : List Link) × IsNextName n names (record { page = page; version = below })) → ClearsSoFar p page below s s n n t u
+clears_none p page below s n t u nothing matches next = record {
+  nothing = nothing;
+  matches = matches;
+  names = next.0;
+  next = next.1;
+  kept = preserves_same n;
+  array = keeps_array_same p n.config.logical s.image s.image refl;
+  rounds = 0;
+  left = omega arith;
+  costs = CostsAtMost-nothing n.config.pages_per_block s;
+  moves = FlashMoves-nothing s s false refl;
+  carries = Carries-nothing s;
+}
+
+module _ (p : Protocol) (page below : ℕ) (s0 s : FlashState) (n0 n : Noted) (t : BlockTable) (u : Unsure) (so : ClearsSoFar p page below s0 s n0 n t u) where
+  pub page_within : page < n.config.logical
+  page_within =
+      (all_at (λ (a : Link). (a.page < n.config.logical) × (1 ≤ a.version) × (a.version ≤ 2 ^ 62)) so.names (record { page = page; version = below })
+      so.next.in_progress.begun.transaction.in_range (in_from so.names (record { page = page; version = below }) so.next.named)).0
+
+  -- at the end the costs are those of the blocks that there were
+  pub costs_all : CostsAtMost n0.config.pages_per_block (blocks_to_go n0 page below) s0 s
+  costs_all = CostsAtMost-more n0.config.pages_per_block so.rounds (blocks_to_go n0 page below) s0 s (let low = so.left in omega arith) so.costs
+
+  module _ (block : ℕ) (found : block_to_go n page below ≡ Some block) where
+    from : GoesFrom n page below block
+    from = going_some n page below block found
+
+    pub block_exists : block < blocks_of (shape_of n.config)
+    block_exists =
+        let per = n.config.pages_per_block in
+        let within = (noted_from n.notes from.found from.is_in).0 in
+        let some : 0 < n.config.pages_per_block = (let b = so.matches.noted.bounds.shape.pages_least in omega arith) in
+        subst (λ b. b < blocks_of (shape_of n.config)) from.slot
+        (div_below from.found.slot.0 per (blocks_of (shape_of n.config)) some (omega (arith, within, so.matches.noted.slots, mul_comm per (blocks_of (shape_of n.config)))))
+
+    pub block_unneeded : HasUnneeded n block
+    block_unneeded = goes_unneeded n so.matches.noted page below so.names so.next block from
+
+    now : is_going n page below block ≡ true
+    now = at_going n page below block from.found (record { is_in = from.is_in; slot = from.slot; goes = from.goes })
+
+    module _ (loss : LossLaw p) (rule : n0.config.protocol ≡ p) (s' : FlashState) (n' : Noted) (t' : BlockTable) (u' : Unsure) (matches' : Matches s' n' t' u') (kept' : Preserves n n') where
+      calm : Matches s n t unsure.Nothing
+      calm = subst (Matches s n t) so.nothing so.matches
+
+      law : LossLaw n.config.protocol
+      law = subst LossLaw (sym rule ∙ ap (λ (k : Config). k.protocol) (sym so.kept.config)) loss
+
+      -- there are fewer such blocks after the round
+      pub round_fewer : IsTreated n t.spare block n' → blocks_to_go n' page below < blocks_to_go n page below
+      round_fewer treated = elim (cases_eq block t.spare) [
+        | inl same ↦ (
+            let is : n' ≡ erased n block = treated.0 same ∙ ap (erased n) (sym same) in
+            subst (λ (k : Noted). blocks_to_go k page below < blocks_to_go n page below) (sym is)
+            (erased_fewer n so.matches.noted page below so.names so.next block block_exists now (subst (Preserves n) is kept')))
+        | inr apart ↦ (
+            let is = treated.1 apart in
+            let low = spare_within s n t calm in
+            subst (λ (k : Noted). blocks_to_go k page below < blocks_to_go n page below) (sym is)
+            (collected_fewer n so.matches.noted page below so.names so.next block t.spare low block_exists
+            (preserves n so.matches.noted law t.spare low so.matches.spared Blank refl) (subst (Preserves n) is kept') now))
+      ]
+
+      per_same : n.config.pages_per_block ≡ n0.config.pages_per_block
+      per_same = ap (λ (k : Config). k.pages_per_block) so.kept.config
+
+      pub round_kept : Preserves n0 n'
+      round_kept = preserves_then n0 n n' so.kept kept'
+
+      pub round_array : KeepsArray p n.config.logical s.image s'.image → KeepsArray p n0.config.logical s0.image s'.image
+      round_array array =
+          keeps_array_then p n0.config.logical s0.image s.image s'.image so.array (subst (λ (k : Config). KeepsArray p k.logical s.image s'.image) so.kept.config array)
+
+      round_costs : CostsAtMost n.config.pages_per_block 1 s s' → CostsAtMost n0.config.pages_per_block (so.rounds + 1) s0 s'
+      round_costs costs =
+          CostsAtMost-then n0.config.pages_per_block so.rounds 1 s0 s s' so.costs (subst (λ k. CostsAtMost k 1 s s') per_same costs)
+
+      pub round_costs_all : CostsAtMost n.config.pages_per_block 1 s s' → CostsAtMost n0.config.pages_per_block (blocks_to_go n0 page below) s0 s'
+      round_costs_all costs =
+          CostsAtMost-more n0.config.pages_per_block (so.rounds + 1) (blocks_to_go n0 page below) s0 s'
+          (let some = some_going n page below block block_exists now in let low = so.left in omega arith) (round_costs costs)
+
+      pub round_moves : (broken : _) → FlashMoves s s' broken → FlashMoves s0 s' broken
+      round_moves broken moves = FlashMoves-then s0 s s' broken so.carries.shape so.moves moves
+
+      pub round_carries : (broken : _) → Carries s s' broken → Carries s0 s' broken
+      round_carries broken carries = Carries-then s0 s s' broken so.carries carries
+
+      pub round_done : u' ≡ unsure.Nothing → IsTreated n t.spare block n' → KeepsArray p n.config.logical s.image s'.image → CostsAtMost n.config.pages_per_block 1 s s' →
+          FlashMoves s s' false → Carries s s' false → ClearsSoFar p page below s0 s' n0 n' t' u'
+      round_done sure treated array costs moves carries = record {
+        nothing = sure;
+        matches = matches';
+        names = so.names;
+        next = next_stays n n' so.names (record { page = page; version = below }) so.matches.noted.pages kept' so.next;
+        kept = round_kept;
+        array = round_array array;
+        rounds = so.rounds + 1;
+        left = (let less = round_fewer treated in let low = so.left in omega arith);
+        costs = round_costs costs;
+        moves = round_moves false moves;
+        carries = round_carries false carries;
+      }

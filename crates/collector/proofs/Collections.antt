@@ -1,0 +1,115 @@
+-- Collecting a block: the spare is made blank, what is needed is copied, and the block is erased.
+use Rattle.std.proofs.Common.{◌≡◌, ◌≢◌, ℕ, ◌+◌, ◌-◌, ◌*◌, ◌/◌, ◌<◌, false, List, [], ◌∷◌, ◌++◌, OnOk, Ok, Err, Result, sym, ap, ◌∙◌, subst, inl, inr, arith}
+use Rattle.std.specs.List.{range_with_len}
+use Rattle.std.specs.Result.{is_err}
+use Rattle.std.proofs.lemmas.Bool.{cases_Bool, cond_both, both_ways}
+use Rattle.std.proofs.lemmas.Nat.{div-mul-add}
+use Rattle.tx_types.specs.Config.{shape_of, blocks_of}
+use Rattle.tx_types.specs.declared.config.Protocol.{Protocol}
+use Rattle.tx_types.specs.declared.config.Shape.{Shape}
+use Rattle.flash_model.specs.declared.flash.Broken.{Broken}
+use Rattle.flash_model.specs.Flash.{FlashState, slot_at}
+use Rattle.flash_model.specs.Calls.{Erases}
+use Rattle.flash_model.specs.Operations.{Operation, erase, block_of, moment_of, after, CanDo}
+use Rattle.flash_model.specs.Moves.{Does, FlashMoves, StayOff}
+use Rattle.flash_model.proofs.ImageLemmas.{block_within, slot_at-does}
+use Rattle.flash_model.proofs.MoveLemmas.{same_moments, Does-append, FlashMoves-operates}
+use Rattle.record_list.specs.Changes.{LossLaw}
+use Rattle.record_list.proofs.Names.{IsIn, all_from, from_filter}
+use Rattle.version_index.specs.declared.note.Note.TheVariants.{Blank}
+use Rattle.version_index.specs.Noted.{Noted, needed_of, erased}
+use Rattle.die_alloc.specs.BlockTable.{BlockTable}
+use Rattle.collector.specs.declared.unsure.Unsure.{Unsure}
+use Rattle.collector.specs.Matches.{Matches, IsNextOfSpare}
+use Rattle.collector.specs.Collecting.{is_blank_block, cleaning, copies, collecting, noted_cleaned, needed_slots, CopiesDone, HasUnneeded}
+use Rattle.collector.proofs.CopyLists.{copies_same, in_range}
+use Rattle.collector.proofs.Homes.{cleaned_needs}
+use Rattle.collector.proofs.NotesLeft.{note_at-in}
+
+module _ (p : Protocol) (loss : LossLaw p) (s0 : FlashState) (n0 : Noted) (t : BlockTable) (u0 : Unsure) (rule : n0.config.protocol ≡ p) (m : Matches s0 n0 t u0) where
+  below : t.spare < blocks_of (shape_of n0.config)
+  below = omega (arith, m.table.spare_within, ap blocks_of m.blocks, ap blocks_of m.shape)
+
+  some : 0 < n0.config.pages_per_block
+  some = (let b = m.noted.bounds.shape.pages_least in omega arith)
+
+  -- what is not needed is not needed once the spare is blank
+  pub unneeded_cleaned : (n1 : Noted) (block : ℕ) → n1 ≡ erased n0 t.spare → HasUnneeded n0 block → HasUnneeded n1 block
+  unneeded_cleaned n1 block is any =
+      subst (λ k. HasUnneeded k block) (sym is) (any.0, any.1, any.2, any.3, still)
+    where
+      still : needed_of (erased n0 t.spare) any.1 ≡ false
+      still = elim (cases_Bool (needed_of (erased n0 t.spare) any.1)) [
+        | inl needed ↦ absurd (both_ways (needed_of n0 any.1) any.4
+            (cleaned_needs n0 m.noted (subst LossLaw (sym rule) loss) t.spare below m.spared m.spare any.1 needed))
+        | inr not_needed ↦ not_needed
+      ]
+
+  -- the first slot of the blank spare comes next
+  pub first_of_spare : (n1 : Noted) (t1 : BlockTable) → n1 ≡ erased n0 t.spare → t1 ≡ t → IsNextOfSpare n1 t1.spare (t1.spare * n1.config.pages_per_block)
+  first_of_spare n1 t1 is same =
+      subst (λ (k : BlockTable). IsNextOfSpare n1 k.spare (k.spare * n1.config.pages_per_block)) (sym same)
+      (subst (λ (k : Noted). IsNextOfSpare k t.spare (t.spare * k.config.pages_per_block)) (sym is) first)
+    where
+      first : IsNextOfSpare (erased n0 t.spare) t.spare (t.spare * n0.config.pages_per_block)
+      first = record {
+        within = (let end = block_within (shape_of n0.config) t.spare below in omega (arith, end, some));
+        in_spare = ap (λ k. k / n0.config.pages_per_block) (let zero : t.spare * n0.config.pages_per_block ≡ t.spare * n0.config.pages_per_block + 0 = omega arith in zero)
+            ∙ div-mul-add t.spare n0.config.pages_per_block 0 some;
+        blank_on = λ k from before. note_at-in (shape_of n0.config) some n0.notes m.noted.slots t.spare below Blank k from before;
+      }
+
+  -- the operations of the whole
+  module _ (s1 s2 s3 : FlashState) (n1 n2 : Noted) (t1 : BlockTable) (block used : ℕ) (noted : n1 ≡ erased n0 t.spare) (table : t1 ≡ t) (apart : block ≢ t.spare)
+      (exists : block < blocks_of (shape_of n0.config)) (shape1 : s1.shape ≡ s0.shape) (shape2 : s2.shape ≡ s0.shape)
+      (cleans : Does s0.shape (moment_of s0) (cleaning n0 s0.image t.spare) (moment_of s1))
+      (copied : CopiesDone n1 n2 s1 s2 t1.spare block used) (r : Result (Unit {0}) Broken) (erases : Erases s2 s3 block r) where
+    can : CanDo s2.shape s2.image (erase block)
+    can = omega (arith, exists, ap blocks_of (shape2 ∙ m.shape))
+
+    pub victim_moves : FlashMoves s2 s3 (is_err r)
+    victim_moves = FlashMoves-operates s2 s3 (erase block) r can erases
+
+    abbrev slots : List ℕ
+    slots = needed_slots (noted_cleaned n0 t.spare) block
+
+    -- the copied slots hold what they held before the spare was made blank
+    stay_off : (k : ℕ) → IsIn slots k → StayOff s0.shape (k / s0.shape.pages_per_block) (cleaning n0 s0.image t.spare)
+    stay_off k i =
+        let parts = from_filter (needed_of (erased n0 t.spare)) k (range_with_len (block * n0.config.pages_per_block) n0.config.pages_per_block) i in
+        let place = in_range (block * n0.config.pages_per_block) n0.config.pages_per_block k parts.0 in
+        let its : k ≡ block * n0.config.pages_per_block + (k - block * n0.config.pages_per_block) = omega (arith, place.0) in
+        let there : k / s0.shape.pages_per_block ≡ block =
+        ap (λ (x : Shape). k / x.pages_per_block) m.shape ∙ ap (λ q. q / n0.config.pages_per_block) its
+        ∙ div-mul-add block n0.config.pages_per_block (k - block * n0.config.pages_per_block) (omega (arith, place.0, place.1)) in
+        cond_both (is_blank_block n0 s0.image t.spare) [] (erase t.spare ∷ []) (StayOff s0.shape (k / s0.shape.pages_per_block))
+        (λ e. all_from (λ o. block_of s0.shape o ≢ k / s0.shape.pages_per_block) [] (λ o j. absurd j))
+        (λ e. all_from (λ o. block_of s0.shape o ≢ k / s0.shape.pages_per_block) (erase t.spare ∷ []) (λ o j. elim j [
+          | inl same ↦ λ q. apart (sym there ∙ sym q ∙ ap (block_of s0.shape) (sym same))
+          | inr none ↦ absurd none
+        ]))
+
+    same_slots : (k : ℕ) → IsIn slots k → slot_at s1.image k ≡ slot_at s0.image k
+    same_slots k i = slot_at-does s0.shape (moment_of s0) (moment_of s1) (cleaning n0 s0.image t.spare) k m.flash cleans (stay_off k i)
+
+    abbrev programs : List Operation
+    programs = copies n0.config.page_bytes s0.image (t.spare * n0.config.pages_per_block) slots
+
+    copies_are : Does s0.shape (moment_of s1) programs (moment_of s2)
+    copies_are =
+        subst (λ l. Does s0.shape (moment_of s1) l (moment_of s2)) (copies_same n0.config.page_bytes s1.image s0.image (t.spare * n0.config.pages_per_block) slots same_slots)
+        (subst (λ sh. Does sh (moment_of s1) (copies n0.config.page_bytes s1.image (t.spare * n0.config.pages_per_block) slots) (moment_of s2)) shape1
+        (subst (λ (k : Noted). Does s1.shape (moment_of s1) (copies k.config.page_bytes s1.image (t.spare * k.config.pages_per_block) (needed_slots k block)) (moment_of s2)) noted
+        (subst (λ (k : BlockTable). Does s1.shape (moment_of s1) (copies n1.config.page_bytes s1.image (k.spare * n1.config.pages_per_block) (needed_slots n1 block)) (moment_of s2)) table
+        copied.programmed)))
+
+    pub collects : OnOk r (Does s0.shape (moment_of s0) (collecting n0 s0.image t.spare block) (moment_of s3))
+    collects = by r erases
+      where
+        by : (q : Result (Unit {0}) Broken) → Erases s2 s3 block q → OnOk q (Does s0.shape (moment_of s0) (collecting n0 s0.image t.spare block) (moment_of s3))
+        by (Err x) e = tt
+        by (Ok x) e =
+            Does-append s0.shape (moment_of s0) (moment_of s2) (moment_of s3) (cleaning n0 s0.image t.spare ++ programs) (erase block ∷ [])
+            (Does-append s0.shape (moment_of s0) (moment_of s1) (moment_of s2) (cleaning n0 s0.image t.spare) programs cleans copies_are)
+            (subst (λ sh. Does sh (moment_of s2) (erase block ∷ []) (moment_of s3)) shape2
+            (can, same_moments (moment_of s3) (after s2.shape (moment_of s2) (erase block)) e.done.image e.done.programs e.done.erases))

@@ -1,0 +1,179 @@
+-- A round of clearing: the treated block holds no record any more that must go, and no other does that did not.
+use Rattle.std.proofs.Common.{◌≡◌, ◌≢◌, ℕ, zero, suc, ◌+◌, ◌*◌, ◌/◌, ◌<◌, ◌≤◌, Bool, true, false, ◌&&◌, cond, eqb, eqb-true, eq-eqb, ltb, List, count_by, None, refl, sym, ap, ◌∙◌, subst, inl, inr, arith}
+use Rattle.std.specs.List.{range_with_len}
+use Rattle.std.proofs.lemmas.Bool.{cases_lt, and_parts, and_from, both_ways, false_from_ne_true, false≢true}
+use Rattle.tx_types.specs.Config.{shape_of, blocks_of}
+use Rattle.tx_types.specs.declared.config.Config.{Config}
+use Rattle.tx_types.specs.declared.config.Protocol.{Protocol}
+use Rattle.tx_types.specs.declared.config.Protocol.TheVariants.{Scc, Bpcc}
+use Rattle.tx_types.specs.declared.record.Link.{Link}
+use Rattle.tx_types.specs.declared.record.Rec.{Rec}
+use Rattle.record_list.specs.declared.found.Found.{Found}
+use Rattle.record_list.specs.Records.{mentions_below}
+use Rattle.record_list.specs.Current.{cur, must_go}
+use Rattle.record_list.specs.SoundList.{Pages, PagesExist}
+use Rattle.record_list.proofs.Held.{any_of, any_from}
+use Rattle.record_list.proofs.Names.{IsIn, all_at, contains_from}
+use Rattle.version_index.specs.Notes.{found_in}
+use Rattle.version_index.specs.Noted.{Noted, IsNoted, current_of, needed_of, erased, block_to_go}
+use Rattle.version_index.proofs.Blocks.{other_block, inside_block}
+use Rattle.collector.specs.Collecting.{collected, noted_cleaned, slots_in, HasUnneeded}
+use Rattle.collector.specs.Going.{is_going, blocks_to_go, IsNextName, HasNoNewRecord}
+use Rattle.collector.specs.Preserves.{Preserves}
+use Rattle.collector.proofs.Chains.{was_there}
+use Rattle.collector.proofs.CollectedNotes.{erased_from, collected_outside, collected_from, in_place, in_copy}
+use Rattle.collector.proofs.GoneRecords.{GoesFrom, going_none, none_going, slot_needless}
+use Rattle.collector.proofs.NextNames.{next_stays}
+use Rattle.collector.proofs.Ranges.{count_first}
+
+abbrev pub one_of : Bool → ℕ
+one_of b = cond b 1 0
+
+one_more : (b c : Bool) → (c ≡ true → b ≡ true) → cond c 1 0 ≤ cond b 1 0
+one_more true true h = omega arith
+one_more true false h = omega arith
+one_more false true h = absurd (false≢true (h refl))
+one_more false false h = omega arith
+
+-- of two tests of a range the first passes where the second does
+count_more : (p q : ℕ → Bool) (a n : ℕ) → ((k : ℕ) → a ≤ k → k < a + n → q k ≡ true → p k ≡ true) → count_by q (range_with_len a n) ≤ count_by p (range_with_len a n)
+count_more p q a zero h = omega arith
+count_more p q a (suc n) h =
+    let rest = count_more p q (a + 1) n (λ k low high. h k (omega arith) (omega arith)) in
+    let here = one_more (p a) (q a) (h a (omega arith) (omega arith)) in
+    omega (arith, count_first p a n, count_first q a n, rest, here)
+
+-- and somewhere the second does not
+count_less : (p q : ℕ → Bool) (a n j : ℕ) → ((k : ℕ) → a ≤ k → k < a + n → q k ≡ true → p k ≡ true) → a ≤ j → j < a + n → p j ≡ true → q j ≡ false →
+    count_by q (range_with_len a n) < count_by p (range_with_len a n)
+count_less p q a zero j h low high pass off = absurd (omega arith)
+count_less p q a (suc n) j h low high pass off = elim (cases_lt a j) [
+  | inl later ↦ (
+      let rest = count_less p q (a + 1) n j (λ k low high. h k (omega arith) (omega arith)) (omega arith) (omega arith) pass off in
+      let here = one_more (p a) (q a) (h a (omega arith) (omega arith)) in
+      omega (arith, count_first p a n, count_first q a n, rest, here))
+  | inr now ↦ (
+      let same : j ≡ a = omega arith in
+      let rest = count_more p q (a + 1) n (λ k low high. h k (omega arith) (omega arith)) in
+      let one : one_of (p a) ≡ 1 = ap one_of (ap p (sym same) ∙ pass) in
+      let none : one_of (q a) ≡ 0 = ap one_of (ap q (sym same) ∙ off) in
+      omega (arith, count_first p a n, count_first q a n, rest, one, none))
+]
+
+-- a record that must go, in a block
+pub record GoesIn (n : Noted) (page below block : ℕ) (f : Found) : Type 0 where
+  pub is_in : IsIn (found_in n.notes) f
+  pub slot : f.slot.0 / n.config.pages_per_block ≡ block
+  pub goes : must_go n.config.protocol (found_in n.notes) n.config.logical page below f.rec ≡ true
+
+going_at : (n : Noted) (page below block : ℕ) → is_going n page below block ≡ true → (f : Found) × GoesIn n page below block f
+going_at n page below block h =
+    let any = any_of (λ f. eqb (f.slot.0 / n.config.pages_per_block) block && must_go n.config.protocol (found_in n.notes) n.config.logical page below f.rec) (found_in n.notes) h in
+    let parts = and_parts (eqb (any.0.slot.0 / n.config.pages_per_block) block) (must_go n.config.protocol (found_in n.notes) n.config.logical page below any.0.rec) any.2 in
+    (any.0, record { is_in = any.1; slot = eqb-true (any.0.slot.0 / n.config.pages_per_block) block parts.0; goes = parts.1 })
+
+pub at_going : (n : Noted) (page below block : ℕ) (f : Found) → GoesIn n page below block f → is_going n page below block ≡ true
+at_going n page below block f g =
+    any_from (λ f. eqb (f.slot.0 / n.config.pages_per_block) block && must_go n.config.protocol (found_in n.notes) n.config.logical page below f.rec) (found_in n.notes) f g.is_in
+    (and_from (eqb (f.slot.0 / n.config.pages_per_block) block) (must_go n.config.protocol (found_in n.notes) n.config.logical page below f.rec)
+    (eq-eqb (f.slot.0 / n.config.pages_per_block) block g.slot) g.goes)
+
+-- where the records that must go afterwards stood there before, and none is left of a block that held one, there are fewer
+-- such blocks
+pub fewer_going : (n m : Noted) (page below block : ℕ) → m.config ≡ n.config → block < blocks_of (shape_of n.config) → is_going n page below block ≡ true →
+    ((b : ℕ) (f : Found) → GoesIn m page below b f → GoesIn n page below b f × (b ≢ block)) → blocks_to_go m page below < blocks_to_go n page below
+unfolding blocks_to_go
+fewer_going n m page below block config within now still =
+    let less = count_less (is_going n page below) (is_going m page below) 0 (blocks_of (shape_of n.config)) block
+    (λ k low high there. let g = going_at m page below k there in at_going n page below k g.0 (still k g.0 g.1).0) (omega arith) (omega arith) now
+    (false_from_ne_true (is_going m page below block) (λ there. let g = going_at m page below block there in (still block g.0 g.1).1 refl)) in
+    subst (λ (c : Config). count_by (is_going m page below) (range_with_len 0 (blocks_of (shape_of c))) < count_by (is_going n page below) (range_with_len 0 (blocks_of (shape_of n.config))))
+    (sym config) less
+
+-- whether a record must go hangs on the current version of its page alone
+go_same : (p : Protocol) (l m : List Found) (logical page below : ℕ) (r : Rec) → cur p m logical r.page ≡ cur p l logical r.page →
+    must_go p m logical page below r ≡ must_go p l logical page below r
+go_same Scc l m logical page below r same = ap (λ v. ltb v r.version && mentions_below page below r) same
+go_same Bpcc l m logical page below r same = refl
+
+pub goes_same : (n m : Noted) → Preserves n m → (page below : ℕ) (r : Rec) → r.page < n.config.logical →
+    must_go m.config.protocol (found_in m.notes) m.config.logical page below r ≡ must_go n.config.protocol (found_in n.notes) n.config.logical page below r
+unfolding current_of
+goes_same n m kept page below r within =
+    ap (λ (c : Config). must_go c.protocol (found_in m.notes) c.logical page below r) kept.config
+    ∙ go_same n.config.protocol (found_in n.notes) (found_in m.notes) n.config.logical page below r
+    (ap (λ (c : Config). cur c.protocol (found_in m.notes) c.logical r.page) (sym kept.config) ∙ kept.current r.page within)
+
+-- what need not go before a program need not go afterwards
+pub clear_stays : (n m : Noted) → IsNoted n.config.protocol n → Preserves n m → HasNoNewRecord n m → (page below : ℕ) → block_to_go n page below ≡ None → block_to_go m page below ≡ None
+clear_stays n m noted kept fewer page below none = none_going m page below (λ f i.
+    let w = was_there n m fewer f i in
+    let page_low = (all_at (PagesExist n.config.logical) (found_in n.notes) w.was (noted.sound Pages) w.is_in).0 in
+    goes_same n m kept page below f.rec (subst (λ (r : Rec). r.page < n.config.logical) w.same page_low)
+    ∙ ap (must_go n.config.protocol (found_in n.notes) n.config.logical page below) (sym w.same)
+    ∙ going_none n page below none w.was w.is_in)
+
+pub in_range : (a n k : ℕ) → a ≤ k → k < a + n → IsIn (range_with_len a n) k
+in_range a zero k low high = absurd (omega arith)
+in_range a (suc n) k low high = elim (cases_lt a k) [
+  | inl later ↦ inr (in_range (a + 1) n k (omega arith) (omega arith))
+  | inr here ↦ inl (omega arith)
+]
+
+-- a slot of a block is one of its slots
+pub in_slots : (n : Noted) (block slot : ℕ) → 0 < n.config.pages_per_block → slot / n.config.pages_per_block ≡ block → IsIn (slots_in n block) slot
+in_slots n block slot some here =
+    let inside = inside_block n.config.pages_per_block block slot some here in
+    in_range (block * n.config.pages_per_block) n.config.pages_per_block slot inside.0 inside.1
+
+pub has_unneeded : (n : Noted) (block slot : ℕ) → IsIn (slots_in n block) slot → needed_of n slot ≡ false → HasUnneeded n block
+has_unneeded n block slot i off = (let c = contains_from (slots_in n block) slot i in (c.0, slot, c.1, c.2, off))
+
+module _ (n : Noted) (noted : IsNoted n.config.protocol n) (page below : ℕ) (names : List Link)
+    (next : IsNextName n names (record { page = page; version = below })) (block : ℕ) where
+  some : 0 < n.config.pages_per_block
+  some = (let b = noted.bounds.shape.pages_least in omega arith)
+
+  -- the block of a record that must go has a slot that is not needed
+  pub goes_unneeded : GoesFrom n page below block → HasUnneeded n block
+  goes_unneeded g =
+      has_unneeded n block g.found.slot.0 (in_slots n block g.found.slot.0 some g.slot)
+      (slot_needless n names (record { page = page; version = below }) next g.found g.is_in g.goes)
+
+  page_of : (f : Found) → IsIn (found_in n.notes) f → f.rec.page < n.config.logical
+  page_of f i = (all_at (PagesExist n.config.logical) (found_in n.notes) f (noted.sound Pages) i).0
+
+  pub erased_fewer : block < blocks_of (shape_of n.config) → is_going n page below block ≡ true → Preserves n (erased n block) →
+      blocks_to_go (erased n block) page below < blocks_to_go n page below
+  erased_fewer within now kept = fewer_going n (erased n block) page below block refl within now (λ b f g.
+      let was = erased_from n some noted.slots block within f g.is_in in (
+        record { is_in = was.0; slot = g.slot; goes = sym (goes_same n (erased n block) kept page below f.rec (page_of f was.0)) ∙ g.goes },
+        λ same. other_block (f.slot.0 / n.config.pages_per_block) block (eqb (f.slot.0 / n.config.pages_per_block) block) refl was.1 (g.slot ∙ same),
+      ))
+
+  module _ (spare : ℕ) (spare_below : spare < blocks_of (shape_of n.config)) (within : block < blocks_of (shape_of n.config))
+      (clean : Preserves n (noted_cleaned n spare)) (done : Preserves n (collected n spare block)) where
+    pub collected_fewer : is_going n page below block ≡ true → blocks_to_go (collected n spare block) page below < blocks_to_go n page below
+    collected_fewer now = fewer_going n (collected n spare block) page below block done.config within now (λ b f g.
+        let out = collected_outside n some noted.slots spare block spare_below within f g.is_in in
+        let slot = subst (λ (c : Config). f.slot.0 / c.pages_per_block ≡ b) done.config g.slot in (
+          elim (collected_from n some noted.slots spare block spare_below within f g.is_in) [
+            | in_place was away ↦ record { is_in = was; slot = slot; goes = sym (goes_same n (collected n spare block) done page below f.rec (page_of f was)) ∙ g.goes }
+            | in_copy from was needed ↦ (
+                let before = (erased_from n some noted.slots spare spare_below _ was).0 in
+                let low = page_of _ before in
+                let goes = goes_same n (noted_cleaned n spare) clean page below f.rec low
+                ∙ sym (goes_same n (collected n spare block) done page below f.rec low) ∙ g.goes in
+                absurd (both_ways (needed_of (noted_cleaned n spare) from)
+                (slot_needless (noted_cleaned n spare) names (record { page = page; version = below })
+                (next_stays n (noted_cleaned n spare) names (record { page = page; version = below }) noted.pages clean next) _ was goes) needed))
+          ],
+          λ same. other_block (f.slot.0 / n.config.pages_per_block) block (eqb (f.slot.0 / n.config.pages_per_block) block) refl out (slot ∙ same),
+        ))
+
+-- a block that holds one is counted
+pub some_going : (n : Noted) (page below block : ℕ) → block < blocks_of (shape_of n.config) → is_going n page below block ≡ true → 0 < blocks_to_go n page below
+unfolding blocks_to_go
+some_going n page below block within now =
+    let less = count_less (is_going n page below) (λ k. false) 0 (blocks_of (shape_of n.config)) block (λ k low high h. absurd (false≢true h)) (omega arith) (omega arith) now refl in
+    omega (arith, less)

@@ -1,0 +1,54 @@
+pub mod NotesLeft
+pub mod Calm
+pub mod Losing
+pub mod EraseExits
+pub mod Exchange
+pub mod CopyNotes
+pub mod CopyExits
+pub mod NeedFacts
+pub mod Space
+pub mod SettledExits
+pub mod SettledBlocks
+pub mod OwnExits
+pub mod Programming
+pub mod SpareCalls
+pub mod Ranges
+pub mod Victims
+pub mod Shapes
+pub mod Cleanings
+pub mod VictimCalls
+pub mod CopyCalls
+pub mod OwnCalls
+pub mod FoundCopies
+pub mod Looked
+pub mod Keeping
+pub mod Homes
+mod CopyLists
+mod Sparing
+mod CopyingBlocks
+mod Collections
+mod BlockReadings
+mod ErasedBlocks
+mod SpareFound
+mod VictimFound
+pub mod TableChanges
+pub mod SettledImages
+pub mod KnownArrays
+pub mod WantedImages
+pub mod KeptArrays
+pub mod NextNames
+pub mod NotedWrites
+pub mod TidyImages
+pub mod KnownImages
+pub mod SpelledNotes
+pub mod Chains
+pub mod GoneRecords
+pub mod RoundCosts
+pub mod CollectedNotes
+pub mod GoingCounts
+pub mod RoomMade
+pub mod RoomCalls
+pub mod ClearRounds
+pub mod FoundSlots
+mod BrokenCollections
+mod BlankFlash

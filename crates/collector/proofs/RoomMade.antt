@@ -1,0 +1,234 @@
+-- Where no block has room and the spare is blank, some block has garbage; and once it was collected the old spare has room.
+use Rattle.std.proofs.Common.{◌≡◌, ◌≢◌, ◌⊎◌, ℕ, zero, suc, ◌+◌, ◌*◌, ◌/◌, ◌<◌, ◌≤◌, Bool, true, false, not, ◌||◌, eqb, eqb-true, eq-eqb, ne_eqb, List, zip, count_by, Contains, refl, sym, ap, ◌∙◌, subst, inl, inr, arith, if◌then◌else◌}
+use Rattle.std.specs.List.{range_with_len}
+use Rattle.std.proofs.Math.ListN.{length-set}
+use Rattle.std.proofs.Math.Nat.{mul_comm}
+use Rattle.std.proofs.lemmas.Nat.{div_below}
+use Rattle.std.proofs.lemmas.Bool.{cases_Bool, cases_lt, or_parts, false≢true}
+use Rattle.std.proofs.lemmas.List.{get_or-set_same}
+use Rattle.tx_types.specs.Config.{shape_of, slots_of, blocks_of}
+use Rattle.tx_types.specs.declared.config.Shape.{Shape}
+use Rattle.tx_types.specs.declared.config.BlockState.TheVariants as state
+use Rattle.tx_types.specs.declared.record.Link.{Link}
+use Rattle.flash_model.specs.Flash.{FlashState}
+use Rattle.record_list.specs.declared.found.Found.{Found}
+use Rattle.record_list.specs.Records.{name_of}
+use Rattle.record_list.specs.Current.{IsCurrent, responsible}
+use Rattle.record_list.specs.Transaction.{rounded, back_version, IsAsked, InProgress}
+use Rattle.record_list.specs.Written.{is_outside, is_slot}
+use Rattle.record_list.proofs.LossCounted.{responsible_high}
+use Rattle.record_list.proofs.Names.{IsIn, all_at, in_from}
+use Rattle.record_list.proofs.Progress.{underway_of, name_loose, absent_name}
+use Rattle.record_list.proofs.Rounds.{follows_of, follows_in}
+use Rattle.record_list.proofs.SoundNames.{sound_map}
+use Rattle.version_index.specs.declared.note.Note.{Note}
+use Rattle.version_index.specs.declared.note.Note.TheVariants.{Blank, Damaged, Holds}
+use Rattle.version_index.specs.Notes.{note_at, found_in}
+use Rattle.version_index.specs.Noted.{Noted, IsNoted, current_of, needed_of, garbage_of, is_garbage_at, shut_or_part, pinned_names, erased, is_blank as is_blank_noted}
+use Rattle.version_index.proofs.Blocks.{other_block, in_it, inside_block}
+use Rattle.version_index.proofs.NotedFacts.{spare_garbage, other_garbage}
+use Rattle.die_alloc.specs.BlockTable.{BlockTable, IsBlockTable, IsFull, MayHave, no_block, use_of, state_of, used_of, with_spare}
+use Rattle.die_alloc.specs.declared.block_use.BlockUse.{BlockUse}
+use Rattle.die_alloc.proofs.Changes.{shut_where_full}
+use Rattle.collector.specs.declared.unsure.Unsure.TheVariants as unsure
+use Rattle.collector.specs.Collecting.{is_noted_blank, exchanged, open_state, HasUnneeded}
+use Rattle.collector.specs.Going.{IsNextName, IsPinBeside}
+use Rattle.collector.specs.Matches.{Matches}
+use Rattle.collector.specs.Victim.{IsVictim, HasNoGarbage, is_shut}
+use Rattle.collector.proofs.GoingCounts.{one_of, has_unneeded, in_range}
+use Rattle.collector.proofs.Ranges.{count_first}
+use Rattle.collector.proofs.NotesLeft.{note_at-in}
+use Rattle.collector.proofs.Ranges.{all_range, range_all}
+use Rattle.collector.proofs.Space.{IsFilled, slots_few}
+
+one_when : (b : Bool) → b ≡ true → one_of b ≡ 1
+one_when true e = refl
+one_when false e = absurd (false≢true e)
+
+-- where none of a range is counted, each fails
+count_none : (p : ℕ → Bool) (a n : ℕ) → count_by p (range_with_len a n) ≡ 0 → (k : ℕ) → a ≤ k → k < a + n → p k ≡ false
+count_none p a zero e k low high = absurd (omega arith)
+count_none p a (suc n) e k low high = elim (cases_lt a k) [
+  | inl later ↦ count_none p (a + 1) n (omega (arith, count_first p a n)) k (omega arith) (omega arith)
+  | inr here ↦ elim (cases_Bool (p k)) [
+    | inl pass ↦ (
+        let same : k ≡ a = omega arith in
+        let one = one_when (p a) (ap p (sym same) ∙ pass) in
+        absurd (omega (arith, count_first p a n, one)))
+    | inr fail ↦ fail
+  ]
+]
+
+-- a number of a range that passes
+record PassesIn (p : ℕ → Bool) (a n : ℕ) : Type 0 where
+  at : ℕ
+  low : a ≤ at
+  high : at < a + n
+  passes : p at ≡ true
+
+-- where some are counted, one passes
+count_some : (p : ℕ → Bool) (a n : ℕ) → 0 < count_by p (range_with_len a n) → PassesIn p a n
+count_some p a zero h = absurd (omega arith)
+count_some p a (suc n) h = elim (cases_Bool (p a)) [
+  | inl pass ↦ record { at = a; low = omega arith; high = omega arith; passes = pass }
+  | inr fail ↦ (
+      let none : one_of (p a) ≡ 0 = ap one_of fail in
+      let rest = count_some p (a + 1) n (omega (arith, count_first p a n, none)) in
+      let low = rest.low in
+      let high = rest.high in
+      record { at = rest.at; low = omega arith; high = omega arith; passes = rest.passes })
+]
+
+noted_blank : (note : Note) → is_blank_noted note ≡ true → note ≡ Blank
+noted_blank Blank e = refl
+noted_blank Damaged e = absurd (false≢true e)
+noted_blank (Holds rec) e = absurd (false≢true e)
+
+not_off : (b : Bool) → not b ≡ false → b ≡ true
+not_off true e = refl
+not_off false e = absurd (false≢true (sym e))
+
+not_on : (b : Bool) → not b ≡ true → b ≡ false
+not_on true e = absurd (false≢true e)
+not_on false e = refl
+
+-- a garbage slot is not needed
+garbage_unneeded : (n : Noted) (shut : Bool) (slot : ℕ) → is_garbage_at n (shut_or_part shut) slot ≡ true → needed_of n slot ≡ false
+garbage_unneeded n true slot e = not_on (needed_of n slot) e
+garbage_unneeded n false slot e =
+    (or_parts (is_blank_noted (note_at n.notes slot)) (needed_of n slot) (not_on (is_blank_noted (note_at n.notes slot) || needed_of n slot) e)).1
+
+-- the slots of a block that is all blank
+pub blank_erased : (n : Noted) → IsNoted n.config.protocol n → (block : ℕ) → block < blocks_of (shape_of n.config) → is_noted_blank (erased n block) block ≡ true
+blank_erased n noted block below =
+    range_all (λ slot. is_blank_noted (note_at (erased n block).notes slot)) (block * n.config.pages_per_block) n.config.pages_per_block
+    (λ k low high. ap is_blank_noted
+    (note_at-in (shape_of n.config) (let b = noted.bounds.shape.pages_least in omega arith) n.notes noted.slots block below Blank k low high))
+
+-- a name of a transaction in progress that is there has nobody responsible
+unanswered : (n : Noted) → IsNoted n.config.protocol n → (ts : List Link) → InProgress n.config.protocol (found_in n.notes) n.config.logical ts →
+    (f : Found) → IsIn (found_in n.notes) f → IsIn ts (name_of f.rec) → responsible n.config.protocol (found_in n.notes) n.config.logical f.rec.next ≡ 0
+unanswered n noted ts h f i own =
+    let p = n.config.protocol in
+    let list = found_in n.notes in
+    let logical = n.config.logical in
+    let after = follows_of ts (name_of f.rec) own in
+    let asks = all_at (λ g. IsAsked n.config.protocol (found_in n.notes) n.config.logical ts g.rec) (found_in n.notes) f h.begun.asked i in
+    let pair = all_at (λ (x : Link × Link). name_of f.rec ≡ x.0 → (f.rec.next ≡ x.1) × (f.rec.back ≡ back_version n.config.protocol (found_in n.notes) n.config.logical x.0.page))
+    (zip ts (rounded ts)) (name_of f.rec, after.0) asks after.1 in
+    let link = (pair refl).0 in
+    let gone = absent_name list ts h.absent in
+    let loose = name_loose list logical ts (underway_of p list logical ts h.begun) p (sound_map p list logical noted.sound noted.scanned) gone.0 gone.1 gone.2
+    f.rec.next (subst (IsIn ts) (sym link) (follows_in ts (name_of f.rec) after.0 after.1).1) in
+    responsible_high p list logical f.rec.next (omega arith)
+
+module _ (s : FlashState) (n : Noted) (t : BlockTable) (m : Matches s n t unsure.Nothing) where
+  some : 0 < n.config.pages_per_block
+  some = (let b = m.noted.bounds.shape.pages_least in omega arith)
+
+  shape_same : t.shape ≡ shape_of n.config
+  shape_same = m.blocks ∙ m.shape
+
+  pub spare_within : t.spare < blocks_of (shape_of n.config)
+  spare_within = subst (λ (k : Shape). t.spare < blocks_of k) shape_same m.table.spare_within
+
+  not_its_spare : (block : ℕ) → block ≢ t.spare → is_slot block n.spare ≡ false
+  not_its_spare block apart = ap (is_slot block) m.spare ∙ ne_eqb t.spare block (λ same. apart (sym same))
+
+  -- the block with the most garbage is not the spare
+  pub victim_apart : (block : ℕ) → IsVictim n t block → block ≢ t.spare
+  victim_apart block v same =
+      let none = spare_garbage n block (is_shut (state_of t block)) (ap (is_slot block) m.spare ∙ eq-eqb t.spare block (sym same)) in
+      let more = v.some in absurd (omega arith)
+
+  -- and has a slot that is not needed
+  pub victim_unneeded : (block : ℕ) → IsVictim n t block → HasUnneeded n block
+  victim_unneeded block v =
+      let shut = is_shut (state_of t block) in
+      let more : 0 < count_by (is_garbage_at n (shut_or_part (is_shut (state_of t block)))) (range_with_len (block * n.config.pages_per_block) n.config.pages_per_block) =
+      subst (λ k. 0 < k) (other_garbage n block (is_shut (state_of t block)) (not_its_spare block (victim_apart block v))) v.some in
+      let one = count_some (is_garbage_at n (shut_or_part (is_shut (state_of t block)))) (block * n.config.pages_per_block) n.config.pages_per_block more in
+      has_unneeded n block one.at (in_range (block * n.config.pages_per_block) n.config.pages_per_block one.at one.low one.high)
+      (garbage_unneeded n (is_shut (state_of t block)) one.at one.passes)
+
+  module _ (blanked : is_noted_blank n t.spare ≡ true) (full : IsFull t) (names : List Link) (name : Link) (next : IsNextName n names name) where
+    spare_blank : (slot : ℕ) → is_outside (shape_of n.config) t.spare slot ≡ false → note_at n.notes slot ≡ Blank
+    spare_blank slot out =
+        let inside = inside_block n.config.pages_per_block t.spare slot some (in_it (shape_of n.config) t.spare slot out) in
+        noted_blank (note_at n.notes slot)
+        (all_range (λ k. is_blank_noted (note_at n.notes k)) (t.spare * n.config.pages_per_block) n.config.pages_per_block blanked slot inside.0 inside.1)
+
+    -- a slot outside the spare that is not garbage is needed
+    all_needed : HasNoGarbage n t → (slot : ℕ) → slot < slots_of (shape_of n.config) → is_outside (shape_of n.config) t.spare slot ≡ true → needed_of n slot ≡ true
+    all_needed none slot within out =
+        let per = n.config.pages_per_block in
+        let block = slot / n.config.pages_per_block in
+        let below : block < blocks_of (shape_of n.config) = div_below slot per (blocks_of (shape_of n.config)) some (omega (arith, within, mul_comm per (blocks_of (shape_of n.config)))) in
+        let apart = other_block (slot / n.config.pages_per_block) t.spare (eqb (slot / n.config.pages_per_block) t.spare) refl out in
+        let shut = shut_where_full t m.table full block (subst (λ (k : Shape). block < blocks_of k) (sym shape_same) below) apart in
+        let zero : garbage_of n block true ≡ 0 = ap (λ q. garbage_of n block (is_shut q)) (sym shut) ∙ none block below in
+        let count = sym (other_garbage n block true (not_its_spare block apart)) ∙ zero in
+        let inside = inside_block per block slot some refl in
+        not_off (needed_of n slot) (count_none (is_garbage_at n (shut_or_part true)) (block * per) per count slot inside.0 inside.1)
+
+    pin_unanswered : (f : Found) → IsIn (found_in n.notes) f → IsPinBeside n names (name_of f.rec) →
+        IsCurrent n.config.protocol (found_in n.notes) n.config.logical f.rec
+        ⊎ (responsible n.config.protocol (found_in n.notes) n.config.logical f.rec.next ≡ 0)
+    unfolding current_of
+    pin_unanswered f i (inl current) = inl (sym current)
+    pin_unanswered f i (inr (inl own)) = inr (unanswered n m.noted names next.in_progress f i (in_from names (name_of f.rec) own))
+    pin_unanswered f i (inr (inr o)) = inr (unanswered n m.noted o.others o.in_progress f i (in_from o.others (name_of f.rec) o.named))
+
+    filled : HasNoGarbage n t → IsFilled n t.spare
+    filled none = record {
+      noted = m.noted;
+      below = spare_within;
+      blank = spare_blank;
+      needed = all_needed none;
+      pins = λ f i pin. pin_unanswered f i (all_at (IsPinBeside n names) (pinned_names n.pins) (name_of f.rec) next.beside (in_from (pinned_names n.pins) (name_of f.rec) pin));
+      absent = name;
+      is_pinned = in_from (pinned_names n.pins) name (all_at (λ own. Contains (pinned_names n.pins) own) names name next.pinned (in_from names name next.named));
+      is_absent = next.absent;
+    }
+
+    -- so there is garbage
+    pub some_garbage : HasNoGarbage n t → ⊥
+    some_garbage none =
+        let count = slots_few n t.spare (filled none) in
+        let few = next.few in
+        let space = m.noted.bounds.space in
+        absurd (omega (arith, count, few, space))
+
+-- the old spare once it was exchanged for a block
+use_old : (t : BlockTable) → IsBlockTable t → (block used : ℕ) → use_of (exchanged t block used) t.spare ≡ record { state = open_state used; used = used }
+use_old t h block used =
+    get_or-set_same (with_spare t block).blocks t.spare (record { state = open_state used; used = used }) no_block
+    (rw (length-set, length-set, h.count) h.spare_within)
+
+-- it has room
+pub record HasRoomMade (t : BlockTable) (block used : ℕ) : Type 0 where
+  pub few : used < t.shape.pages_per_block
+  pub room : IsFull (exchanged t block used) → ⊥
+
+pub room_made : (t : BlockTable) → IsBlockTable t → (block used : ℕ) → IsBlockTable (exchanged t block used) → HasRoomMade t block used
+room_made t h block used h' = by (eqb used 0) refl
+  where
+    its_state : state_of (exchanged t block used) t.spare ≡ open_state used
+    its_state = ap (λ (u : BlockUse). u.state) (use_old t h block used)
+
+    its_used : used_of (exchanged t block used) t.spare ≡ used
+    its_used = ap (λ (u : BlockUse). u.used) (use_old t h block used)
+
+    bound : MayHave t.shape.pages_per_block (open_state used) used
+    bound = subst (λ k. MayHave t.shape.pages_per_block (open_state used) k) its_used
+        (subst (λ q. MayHave t.shape.pages_per_block q (used_of (exchanged t block used) t.spare)) its_state (h'.bounds t.spare h.spare_within))
+
+    by : (b : Bool) → eqb used 0 ≡ b → HasRoomMade t block used
+    by true e = record {
+      few = (let none = eqb-true used 0 e in let least = h.numbers.pages_least in omega arith);
+      room = λ full. full t.spare h.spare_within (inl (its_state ∙ ap (λ b. if b then state.Clean else state.Part) e));
+    }
+    by false e = record {
+      few = (subst (λ q. MayHave t.shape.pages_per_block q used) (ap (λ b. if b then state.Clean else state.Part) e) bound).1;
+      room = λ full. full t.spare h.spare_within (inr (its_state ∙ ap (λ b. if b then state.Clean else state.Part) e));
+    }

@@ -1,0 +1,78 @@
+-- Making room for the next record of a transaction: which blocks hold records that must go before it, and what is known of
+-- the pinned records beside it.
+use Rattle.std.specs.Prelude.{◌≡◌, ◌≢◌, ◌⊎◌, ℕ, ◌+◌, ◌-◌, ◌*◌, ◌/◌, ◌≤◌, ◌==◌, Bool, false, ◌&&◌, List, All, Any, Contains, count_by, length}
+use Rattle.std.specs.List.{list_any, range_with_len}
+use Rattle.tx_types.specs.Config.{shape_of, blocks_of}
+use Rattle.tx_types.specs.declared.record.Link.{Link}
+use Rattle.flash_model.specs.Flash.{FlashState}
+use Rattle.record_list.specs.Records.{is_present}
+use Rattle.record_list.specs.Current.{must_go}
+use Rattle.record_list.specs.Transaction.{InProgress, ShareNoPage}
+use Rattle.version_index.specs.Notes.{found_in}
+use Rattle.version_index.specs.Noted.{Noted, current_of, pinned_names, erased}
+use Rattle.die_alloc.specs.BlockTable.{BlockTable}
+use Rattle.collector.specs.Victim.{IsVictim}
+use Rattle.collector.specs.Collecting.{collected, exchanged, needed_slots, noted_cleaned}
+
+-- whether a block holds a record that must go before this version of a page is programmed
+abbrev pub is_going : Noted → ℕ → ℕ → ℕ → Bool
+is_going n page below block =
+    list_any
+    (λ f. (f.slot.0 / n.config.pages_per_block == block)
+    && must_go n.config.protocol (found_in n.notes) n.config.logical page below f.rec)
+    (found_in n.notes)
+
+-- how many blocks hold such a record
+unfoldable pub blocks_to_go : Noted → ℕ → ℕ → ℕ
+blocks_to_go n page below = count_by (is_going n page below) (range_with_len 0 (blocks_of (shape_of n.config)))
+
+-- a transaction in progress that has a name
+pub record IsOfOther (n : Noted) (names : List Link) (name : Link) : Type 0 where
+  pub others : List Link
+  pub in_progress : InProgress n.config.protocol (found_in n.notes) n.config.logical others
+  pub apart : ShareNoPage names others
+  pub named : Contains others name
+
+-- a pinned name is current, or one of these, or of another transaction in progress, which shares no page with them
+abbrev pub IsPinBeside : Noted → List Link → Link → Type 0
+IsPinBeside n names name = (current_of n name.page ≡ name.version) ⊎ (Contains names name ⊎ IsOfOther n names name)
+
+-- A name that a transaction in progress writes next: it is absent. All names of the transaction are pinned, and what is
+-- pinned beside them is current or of other transactions in progress.
+pub record IsNextName (n : Noted) (names : List Link) (name : Link) : Type 0 where
+  pub in_progress : InProgress n.config.protocol (found_in n.notes) n.config.logical names
+  pub named : Contains names name
+  pub absent : is_present (found_in n.notes) name ≡ false
+  pub pinned : All (λ own. Contains (pinned_names n.pins) own) names
+  pub beside : All (IsPinBeside n names) (pinned_names n.pins)
+  pub few : length (pinned_names n.pins) ≤ n.config.pending
+
+-- the counts of a flash rose at most by the copies and the erases of so many collections
+pub record CostsAtMost (pages_per_block collections : ℕ) (old new : FlashState) : Type 0 where
+  pub programs : new.programs ≤ old.programs + collections * (pages_per_block - 1)
+  pub erases : new.erases ≤ old.erases + collections * 2
+
+-- a block that holds a record which must go was treated: erased where it is the spare, and else collected
+abbrev pub IsTreated : Noted → ℕ → ℕ → Noted → Type 0
+IsTreated n spare block n' = (block ≡ spare → n' ≡ erased n spare) × (block ≢ spare → n' ≡ collected n spare block)
+
+-- each record that is noted afterwards was noted before
+abbrev pub HasNoNewRecord : Noted → Noted → Type 0
+HasNoNewRecord old new = All (λ f. Any (λ g. g.rec ≡ f.rec) (found_in old.notes)) (found_in new.notes)
+
+-- copying what is needed in a block takes fewer programs than it has slots, and no erase
+pub record CostsCopying (pages_per_block : ℕ) (old new : FlashState) : Type 0 where
+  pub programs : new.programs ≤ old.programs + (pages_per_block - 1)
+  pub erases : new.erases ≤ old.erases
+
+-- a broken collection did at most the copies, and the erase of the spare
+pub record CostsBroken (pages_per_block : ℕ) (old new : FlashState) : Type 0 where
+  pub programs : new.programs ≤ old.programs + (pages_per_block - 1)
+  pub erases : new.erases ≤ old.erases + 1
+
+-- The spare was made blank, and a block was collected: of the blocks with the most garbage then, the lowest.
+pub record MakesRoom (n : Noted) (t : BlockTable) (n' : Noted) (t' : BlockTable) : Type 0 where
+  pub victim : ℕ
+  pub is_victim : IsVictim (noted_cleaned n t.spare) t victim
+  pub noted : n' ≡ collected n t.spare victim
+  pub table : t' ≡ exchanged t victim (length (needed_slots (noted_cleaned n t.spare) victim))

@@ -1,0 +1,9 @@
+pub mod Known
+pub mod Matches
+pub mod Preserves
+pub mod Victim
+pub mod Collecting
+pub mod Settling
+pub mod Looking
+pub mod Going
+pub mod Tidy

@@ -1,0 +1,36 @@
+-- What stays of what is noted, and of the bytes, while blocks are collected.
+use Rattle.std.specs.Prelude.{◌≡◌, ℕ, ◌<◌, true, List, Contains}
+use Rattle.tx_types.specs.declared.config.Protocol.{Protocol}
+use Rattle.tx_types.specs.declared.record.Link.{Link}
+use Rattle.flash_model.specs.Flash.{Contents}
+use Rattle.record_list.specs.Records.{is_present}
+use Rattle.record_list.specs.Transaction.{InProgress}
+use Rattle.record_list.specs.Written.{bytes_at}
+use Rattle.version_index.specs.Images.{written_in, records_in, array_in}
+use Rattle.version_index.specs.Notes.{found_in}
+use Rattle.version_index.specs.Noted.{Noted, current_of, current_name_of, held_of, pinned_names}
+
+-- a name that some noted record has
+abbrev pub IsThere : Noted → Link → Type 0
+IsThere n name = is_present (found_in n.notes) name ≡ true
+
+-- Current versions, pins and mentions stay. No name is added; those that are current or pinned stay, and so do the
+-- transactions in progress. No record is held that was not.
+pub record Preserves (old new : Noted) : Type 0 where
+  pub config : new.config ≡ old.config
+  pub pins : new.pins ≡ old.pins
+  pub mentions : new.mentions ≡ old.mentions
+  pub current : (page : ℕ) → page < old.config.logical → current_of new page ≡ current_of old page
+  pub fewer : (name : Link) → IsThere new name → IsThere old name
+  pub pinned : (name : Link) → Contains (pinned_names old.pins) name → IsThere old name → IsThere new name
+  pub present : (page : ℕ) → page < old.config.logical → IsThere old (current_name_of old page) → IsThere new (current_name_of old page)
+  pub held : (name : Link) → held_of new name ≡ true → held_of old name ≡ true
+  pub in_progress : (names : List Link) →
+      InProgress old.config.protocol (found_in old.notes) old.config.logical names →
+      InProgress old.config.protocol (found_in new.notes) old.config.logical names
+
+-- The image stands for the same array, and a name that it has now has the bytes that it had.
+pub record KeepsArray (protocol : Protocol) (logical : ℕ) (old new : List Contents) : Type 0 where
+  pub array : array_in protocol logical new ≡ array_in protocol logical old
+  pub bytes : (name : Link) → is_present (records_in protocol new) name ≡ true →
+      bytes_at (written_in protocol new) name ≡ bytes_at (written_in protocol old) name

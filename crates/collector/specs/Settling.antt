@@ -1,0 +1,95 @@
+-- Finding out what a broken operation left: what is noted then, how the blocks stand, and the answer.
+use Rattle.std.specs.Prelude.{ℕ, Bool, true, false, List, count_by, if◌then◌else◌}
+use Rattle.std.specs.List.{list_all}
+use Rattle.flash_model.specs.declared.flash.Seen.{Seen}
+use Rattle.flash_model.specs.declared.flash.Seen.TheVariants as seen
+use Rattle.flash_model.specs.Flash.{Contents, blank, damaged, complete, slot_at}
+use Rattle.version_index.specs.declared.note.Note.{Note}
+use Rattle.version_index.specs.declared.note.Note.TheVariants.{Blank, Damaged, Holds}
+use Rattle.version_index.specs.Notes.{note_at}
+use Rattle.version_index.specs.Noted.{Noted, programmed, damaged_at, copied, erased, lost, with_spare}
+use Rattle.die_alloc.specs.BlockTable.{BlockTable, with_slot}
+use Rattle.collector.specs.declared.unsure.Settled.{Settled}
+use Rattle.collector.specs.declared.unsure.Settled.TheVariants.{Other, Present, Missing}
+use Rattle.collector.specs.declared.unsure.Unsure.{Unsure}
+use Rattle.collector.specs.declared.unsure.Unsure.TheVariants as unsure
+use Rattle.collector.specs.Collecting.{slots_in, is_blank_block, exchanged}
+
+-- what is known once the place was read
+pub record Settlement : Type 0 where
+  pub noted : Noted
+  pub table : BlockTable
+  pub answer : Settled
+
+-- a slot reads as it is noted: blank, damaged or complete
+abbrev pub reads_as : Note → Contents → Bool
+reads_as Blank blank = true
+reads_as Damaged damaged = true
+reads_as (Holds rec) (complete bytes spare) = true
+reads_as _ _ = false
+
+-- two slots read alike
+abbrev pub reads_alike : Seen → Seen → Bool
+reads_alike seen.Blank seen.Blank = true
+reads_alike seen.Damaged seen.Damaged = true
+reads_alike seen.Complete seen.Complete = true
+reads_alike _ _ = false
+
+abbrev pub block_reads_as_noted : Noted → List Contents → ℕ → Bool
+block_reads_as_noted n image block =
+    list_all (λ slot. reads_as (note_at n.notes slot) (slot_at image slot)) (slots_in n block)
+
+abbrev pub holds_record : Note → Bool
+holds_record Blank = false
+holds_record Damaged = false
+holds_record (Holds rec) = true
+
+-- how many slots of a block hold records
+abbrev pub records_held : Noted → ℕ → ℕ
+records_held n block = count_by (λ slot. holds_record (note_at n.notes slot)) (slots_in n block)
+
+-- the slot of a program of an open transaction's record: a damaged one is used too
+abbrev pub own_settled : Noted → BlockTable → ℕ → (Noted → Noted) → Contents → Settlement
+own_settled n t at done blank = record { noted = n; table = t; answer = Missing }
+own_settled n t at done damaged = record { noted = damaged_at n at; table = with_slot t at; answer = Missing }
+own_settled n t at done (complete bytes spare) = record { noted = done n; table = with_slot t at; answer = Present }
+
+-- the slot of a copy
+abbrev pub copy_settled : Noted → ℕ → ℕ → Contents → Noted
+copy_settled n from to blank = n
+copy_settled n from to damaged = damaged_at n to
+copy_settled n from to (complete bytes spare) = copied n from to
+
+-- a block whose erase is known to have changed it: erased, where it reads all blank, and else lost
+abbrev pub block_settled : Noted → List Contents → ℕ → Noted
+block_settled n image block = if is_blank_block n image block then erased n block else lost n block
+
+-- a collected block that was erased or lost is the spare
+abbrev pub victim_settled : Noted → BlockTable → List Contents → ℕ → Settlement
+victim_settled n t image block = record {
+  noted = with_spare (block_settled n image block) block;
+  table = exchanged t block (records_held n t.spare);
+  answer = Other;
+}
+
+abbrev pub unchanged : Noted → BlockTable → Settlement
+unchanged n t = record { noted = n; table = t; answer = Other }
+
+-- what is known once the place was read that was not known
+abbrev pub settlement : Noted → BlockTable → List Contents → Unsure → Settlement
+settlement n t image unsure.Nothing = unchanged n t
+settlement n t image (unsure.Own at rec) = own_settled n t at.0 (λ m. programmed m at.0 rec) (slot_at image at.0)
+settlement n t image (unsure.Copy from to) = record { noted = copy_settled n from.0 to.0 (slot_at image to.0); table = t; answer = Other }
+settlement n t image unsure.SpareErase =
+    if block_reads_as_noted n image t.spare then unchanged n t
+    else record { noted = block_settled n image t.spare; table = t; answer = Other }
+settlement n t image (unsure.VictimErase block) =
+    if block_reads_as_noted n image block.0 then unchanged n t else victim_settled n t image block.0
+
+-- how many slots are read for it
+abbrev pub slots_read : Noted → Unsure → ℕ
+slots_read n unsure.Nothing = 0
+slots_read n (unsure.Own at rec) = 1
+slots_read n (unsure.Copy from to) = 1
+slots_read n unsure.SpareErase = n.config.pages_per_block
+slots_read n (unsure.VictimErase block) = n.config.pages_per_block

@@ -1,0 +1,38 @@
+-- Which block is collected: the one outside the spare with the most garbage.
+use Rattle.std.specs.Prelude.{◌≡◌, ℕ, ◌<◌, ◌≤◌, Bool, true, false, Option, Some, None, MatchOption}
+use Rattle.tx_types.specs.Config.{shape_of, blocks_of}
+use Rattle.tx_types.specs.declared.config.Block.{Block}
+use Rattle.tx_types.specs.declared.config.BlockState.{BlockState}
+use Rattle.tx_types.specs.declared.config.BlockState.TheVariants.{Spare, Clean, Part, Shut}
+use Rattle.version_index.specs.Noted.{Noted, garbage_of}
+use Rattle.die_alloc.specs.BlockTable.{BlockTable, state_of}
+
+abbrev pub is_shut : BlockState → Bool
+is_shut Spare = false
+is_shut Clean = false
+is_shut Part = false
+is_shut Shut = true
+
+-- the number of garbage slots of a block: none in the spare
+abbrev pub garbage_in : Noted → BlockTable → ℕ → ℕ
+garbage_in n t block = garbage_of n block (is_shut (state_of t block))
+
+-- the block has garbage, none has more, and none that is lower has as much
+pub record IsVictim (n : Noted) (t : BlockTable) (block : ℕ) : Type 0 where
+  pub exists : block < blocks_of (shape_of n.config)
+  pub some : 0 < garbage_in n t block
+  pub most : (other : ℕ) → other < blocks_of (shape_of n.config) → garbage_in n t other ≤ garbage_in n t block
+  pub lowest : (other : ℕ) → other < block → garbage_in n t other < garbage_in n t block
+
+-- no slot outside the spare is garbage
+abbrev pub HasNoGarbage : Noted → BlockTable → Type 0
+HasNoGarbage n t = (block : ℕ) → block < blocks_of (shape_of n.config) → garbage_in n t block ≡ 0
+
+abbrev pub FindsVictim : Noted → BlockTable → Option Block → Type 0
+FindsVictim n t None = HasNoGarbage n t
+FindsVictim n t (Some block) = IsVictim n t block.0
+
+-- of the blocks below this one, the choice so far
+pub record IsBestSoFar (n : Noted) (t : BlockTable) (upto most : ℕ) (best : Option Block) : Type 0 where
+  pub at_most : (block : ℕ) → block < upto → garbage_in n t block ≤ most
+  pub found : MatchOption best (most ≡ 0) (λ b. (b.0 < upto) × (garbage_in n t b.0 ≡ most) × (0 < most) × ((other : ℕ) → other < b.0 → garbage_in n t other < most))

@@ -1,0 +1,26 @@
+//! The collector: it changes blocks for the sake of room, and finds out what a broken operation left. Whatever
+//! breaks, the image stays sound and stands for the same array.
+#![tactic(auto)]
+
+mod block_settling;
+mod broken_operation;
+mod choosing;
+mod cleaning;
+mod collecting;
+mod copying;
+mod erasing;
+mod exchanging;
+pub mod laws;
+mod making_room;
+mod reading;
+mod settling;
+#[cfg(test)]
+mod tests;
+mod unsure;
+
+pub use broken_operation::settle;
+pub use choosing::victim;
+pub use cleaning::clean_spare;
+pub use collecting::collect;
+pub use making_room::{clear, free_slot};
+pub use unsure::{Settled, Unsure};
