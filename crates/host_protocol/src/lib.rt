@@ -18,6 +18,7 @@ pub use fault::{LineError, TextError};
 pub use file::{MAX_COMMANDS, MAX_ENTRIES, MAX_FILE_BYTES, parse};
 pub use line::line_command;
 pub use lines::first_line;
+pub use numbers::number;
 pub use reply::{Reply, reply_text};
 
 #[cfg(test)]

@@ -4,11 +4,13 @@ use Rattle.std.specs.Prelude.{MatchOption, All, IfSome}
 use Rattle.std.proofs.lemmas.Bool.{cases_Bool}
 use Rattle.std.proofs.lemmas.Bool.Decides.{nat_tests}
 use Rattle.std.proofs.lemmas.List.Elements.{All-cons, All-head, All-tail}
-use Rattle.tx_engine.specs.ArrayState.{ArrayState, Entry, Plain, Doubt, Whole, Mark, entry_of, has_tag, put, with_entry, without}
+use Rattle.tx_engine.specs.ArrayState.{ArrayState, Entry, entry_of, has_tag, put, with_entry, without}
+use Rattle.tx_engine.specs.declared.mark.Mark.{Mark}
+use Rattle.tx_engine.specs.declared.mark.Mark.TheVariants.{Plain, Doubt, Whole}
 use Rattle.tx_engine.specs.Step.{settled, settled_mark, settled_entry, doubted, StepGives, Steps, AbortGives, Aborts}
 use Rattle.tx_engine.specs.Unbroken.{AllPlain, has_more, taken, step_answer, stepped, finish_answer, finished, abort_answer, aborted_from}
-use Rattle.tx_engine.specs.declared.step.Aborted.{Aborted}
-use Rattle.tx_engine.specs.declared.step.Aborted.TheVariants as aborted
+use Rattle.tx_engine.specs.declared.abort.Aborted.{Aborted}
+use Rattle.tx_engine.specs.declared.abort.Aborted.TheVariants as aborted
 use Rattle.tx_engine.specs.declared.step.Progress.{Progress}
 use Rattle.tx_engine.specs.declared.step.Progress.TheVariants as progress
 use Rattle.tx_engine.specs.declared.step.StepError.{StepError}
@@ -150,7 +152,7 @@ tagged_step : (tag : ℕ) (x e : Entry) (r : Option Entry) (b : Bool) → has_ta
 tagged_step tag x e r true is rest h = let same : x ≡ e = cc in ap (has_tag tag) (sym same) ∙ is
 tagged_step tag x e r false is rest h = rest h
 
-tagged : (tag : ℕ) (es : List Entry) (e : Entry) → entry_of tag es ≡ Some e → has_tag tag e ≡ true
+pub tagged : (tag : ℕ) (es : List Entry) (e : Entry) → entry_of tag es ≡ Some e → has_tag tag e ≡ true
 tagged tag [] e h = cc
 tagged tag (x ∷ xs) e h = tagged_step tag x e (entry_of tag xs) (has_tag tag x) refl (tagged tag xs e) h
 
@@ -160,7 +162,7 @@ again_step : (tag : ℕ) (new x e : Entry) (xs : List Entry) (b : Bool) → has_
 again_step tag new x e xs true is t rest h = rw t refl
 again_step tag new x e xs false is t rest h = rw is (rest h)
 
-again : (tag : ℕ) (new e : Entry) (es : List Entry) → has_tag tag new ≡ true → entry_of tag es ≡ Some e → entry_of tag (with_entry tag new es) ≡ Some new
+pub again : (tag : ℕ) (new e : Entry) (es : List Entry) → has_tag tag new ≡ true → entry_of tag es ≡ Some e → entry_of tag (with_entry tag new es) ≡ Some new
 again tag new e [] t h = cc
 again tag new e (x ∷ xs) t h = again_step tag new x e xs (has_tag tag x) refl t (again tag new e xs t) h
 
@@ -169,7 +171,7 @@ goes_step : (tag : ℕ) (new x : Entry) (xs : List Entry) (b : Bool) → has_tag
 goes_step tag new x xs true is t rest = rw t refl
 goes_step tag new x xs false is t rest = rw is (ap (λ es. x ∷ es) rest)
 
-goes_again : (tag : ℕ) (new : Entry) (es : List Entry) → has_tag tag new ≡ true → without tag (with_entry tag new es) ≡ without tag es
+pub goes_again : (tag : ℕ) (new : Entry) (es : List Entry) → has_tag tag new ≡ true → without tag (with_entry tag new es) ≡ without tag es
 goes_again tag new [] t = refl
 goes_again tag new (x ∷ xs) t = goes_step tag new x xs (has_tag tag x) refl t (goes_again tag new xs t)
 

@@ -1,17 +1,12 @@
 -- The array machine: pages, and transactions that are open. It knows nothing of slots, links or tables.
 use Rattle.std.specs.Prelude.{ℕ, ◌==◌, Bool, true, false, List, [], ◌∷◌, length, sum_by, find, slice_set, slice_index_or, Option, None, Some, if◌then◌else◌}
 use Rattle.tx_types.specs.Batch.{PageWrite}
+use Rattle.tx_engine.specs.declared.mark.Mark.{Mark}
+use Rattle.tx_engine.specs.declared.mark.Mark.TheVariants.{Plain, Doubt, Whole}
 
 -- each logical page: its bytes, or none where it is blank
 abbrev pub Pages : Type 0
 Pages = List (Option (List ℕ))
-
--- what is known of the last page of an open transaction: it is not written; its write failed, and it may
--- be there or not; it is there, so all pages were taken into the array
-pub data Mark : Type 0 where
-  Plain : Mark
-  Doubt : Mark
-  Whole : Mark
 
 abbrev pub is_doubted : Mark → Bool
 is_doubted Plain = false

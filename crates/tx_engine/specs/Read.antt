@@ -1,10 +1,14 @@
 -- Reading a page of the array.
-use Rattle.std.specs.Prelude.{◌≡◌, ℕ, ◌<◌, ◌≤◌, List, None, Some, Result, Ok, Err, IsSome}
-use Rattle.flash_model.specs.Calls.{Reads}
-use Rattle.flash_model.specs.Flash.{FlashState}
+use Rattle.std.specs.Prelude.{◌≡◌, ℕ, ◌<◌, ◌≤◌, Bool, true, false, List, None, Some, Result, Ok, Err, IsSome}
+use Rattle.tx_types.specs.Config.{slots_of}
+use Rattle.flash_model.specs.Calls.{Reads, page_of}
+use Rattle.flash_model.specs.Flash.{FlashState, slot_at}
+use Rattle.version_index.specs.Noted.{Noted}
 use Rattle.flash_model.specs.declared.flash.Broken.{Broken}
 use Rattle.flash_model.specs.declared.flash.Seen.{Seen}
+use Rattle.collector.specs.Known.{page_known}
 use Rattle.tx_engine.specs.ArrayState.{Pages, page_at}
+use Rattle.tx_engine.specs.Stored.{Stored}
 use Rattle.tx_engine.specs.declared.read.ReadAnswer.{ReadAnswer}
 use Rattle.tx_engine.specs.declared.read.ReadAnswer.TheVariants as answer
 use Rattle.tx_engine.specs.declared.read.ReadError.{ReadError}
@@ -26,3 +30,24 @@ ReadsFlash state old new before after (Ok answer.Page) =
 ReadsFlash state old new before after (Err failed.Range) = (new ≡ old) × (after ≡ before)
 ReadsFlash state old new before after (Err failed.Fault) =
     (at : ℕ) × (spare : List ℕ) × (broken : Broken) × Reads (state old) (state new) at after spare (Err broken)
+
+-- a slot shows the bytes that are known of a page
+pub record ShowsKnown (s : FlashState) (n : Noted) (page at : ℕ) : Type 0 where
+  pub within : at < slots_of s.shape
+  pub shows : page_known n s.image page ≡ Some (page_of s.shape.page_bytes (slot_at s.image at))
+
+-- A read of the current record of a page: its bytes, by one read of a slot; a page without one is answered without the flash.
+abbrev pub ReadsKnown : {F : Type 0} → (F → FlashState) → Stored F → Stored F → ℕ → List ℕ → List ℕ → Result Bool Broken → Type 0
+ReadsKnown state old new page before after (Ok false) =
+    (page_known old.noted (state old.flash).image page ≡ None) × (new.flash ≡ old.flash) × (after ≡ before)
+ReadsKnown state old new page before after (Ok true) =
+    (page_known old.noted (state old.flash).image page ≡ Some after)
+    × ((at : ℕ) × (spare : List ℕ) × (how : Seen) × Reads (state old.flash) (state new.flash) at after spare (Ok how))
+ReadsKnown state old new page before after (Err broken) =
+    IsSome (page_known old.noted (state old.flash).image page)
+    × ((at : ℕ) × (spare : List ℕ) × Reads (state old.flash) (state new.flash) at after spare (Err broken))
+
+abbrev pub is_read_fault : Result ReadAnswer ReadError → Bool
+is_read_fault (Ok answer) = false
+is_read_fault (Err failed.Range) = false
+is_read_fault (Err failed.Fault) = true

@@ -1,9 +1,11 @@
 -- Going on with a transaction, giving it up, and what a power cut leaves of all of them.
 use Rattle.std.specs.Prelude.{◌≡◌, ◌≢◌, ◌⊎◌, ℕ, ◌+◌, ◌<◌, Bool, List, [], ◌∷◌, ◌++◌, length, map, Contains, MatchOption, Result, Ok, Err, if◌then◌else◌}
 use Rattle.tx_types.specs.Batch.{PageWrite}
-use Rattle.tx_engine.specs.ArrayState.{ArrayState, Entry, Mark, Plain, Doubt, Whole, Pages, is_doubted, put, entry_of, without, with_entry}
-use Rattle.tx_engine.specs.declared.step.Aborted.{Aborted}
-use Rattle.tx_engine.specs.declared.step.Aborted.TheVariants as aborted
+use Rattle.tx_engine.specs.ArrayState.{ArrayState, Entry, Pages, is_doubted, put, entry_of, without, with_entry}
+use Rattle.tx_engine.specs.declared.mark.Mark.{Mark}
+use Rattle.tx_engine.specs.declared.mark.Mark.TheVariants.{Plain, Doubt, Whole}
+use Rattle.tx_engine.specs.declared.abort.Aborted.{Aborted}
+use Rattle.tx_engine.specs.declared.abort.Aborted.TheVariants as aborted
 use Rattle.tx_engine.specs.declared.step.Progress.{Progress}
 use Rattle.tx_engine.specs.declared.step.Progress.TheVariants as progress
 use Rattle.tx_engine.specs.declared.step.StepError.{StepError}

@@ -61,12 +61,16 @@ full free writes = if nat_le (length writes) free then None else Some (refused.F
 abbrev pub spent_page : (ℕ → Bool) → List PageWrite → Option SubmitError
 spent_page spent = first_refusal (λ w. if spent w.page then Some (refused.Spent w.page) else None)
 
+-- the first refusal of a batch for which the limits and the open transactions are enough
+abbrev pub first_refusals : Limits → List Entry → ℕ → List PageWrite → Option SubmitError
+first_refusals limits entries tag writes =
+    or_else (empty writes) (or_else (range limits.logical writes) (or_else (repeated [] writes)
+    (or_else (tag_used tag entries) (or_else (overlap entries writes) (full (free_of limits.pending entries) writes)))))
+
 -- the refusal of a batch, or none where it is opened
 abbrev pub refusal : Limits → (ℕ → Bool) → List Entry → ℕ → List PageWrite → Option SubmitError
 refusal limits spent entries tag writes =
-    or_else (empty writes) (or_else (range limits.logical writes) (or_else (repeated [] writes)
-    (or_else (tag_used tag entries) (or_else (overlap entries writes)
-    (or_else (full (free_of limits.pending entries) writes) (spent_page spent writes))))))
+    or_else (first_refusals limits entries tag writes) (spent_page spent writes)
 
 -- the answer to a batch
 abbrev pub answer : Option SubmitError → Result (Unit {0}) SubmitError

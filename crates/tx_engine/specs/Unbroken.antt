@@ -1,8 +1,9 @@
 -- What the calls of the array machine give where nothing fails: functions of the state and of what is asked.
 use Rattle.std.specs.Prelude.{◌≡◌, ℕ, ◌+◌, Bool, length, All, nat_lt, Option, None, Some, Result, Ok, Err, if◌then◌else◌}
-use Rattle.tx_engine.specs.ArrayState.{ArrayState, Entry, Plain, put, with_entry, without}
-use Rattle.tx_engine.specs.declared.step.Aborted.{Aborted}
-use Rattle.tx_engine.specs.declared.step.Aborted.TheVariants as aborted
+use Rattle.tx_engine.specs.ArrayState.{ArrayState, Entry, put, with_entry, without}
+use Rattle.tx_engine.specs.declared.mark.Mark.TheVariants.{Plain}
+use Rattle.tx_engine.specs.declared.abort.Aborted.{Aborted}
+use Rattle.tx_engine.specs.declared.abort.Aborted.TheVariants as aborted
 use Rattle.tx_engine.specs.declared.step.Progress.{Progress}
 use Rattle.tx_engine.specs.declared.step.Progress.TheVariants as progress
 use Rattle.tx_engine.specs.declared.step.StepError.{StepError}

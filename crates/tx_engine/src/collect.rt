@@ -1,3 +1,23 @@
+ghost use Rattle.std.specs.Prelude.{◌≡◌, OnOk, IfOk, Ok};
+ghost use Rattle.std.specs.Result.{is_err};
+ghost use Rattle.collector.specs.Settling.{settlement};
+ghost use Rattle.collector.specs.declared.unsure.Unsure.TheVariants as unsure;
+ghost use Rattle.tx_engine.specs.Collect.{CollectsAs};
+ghost use Rattle.tx_engine.specs.Collections.{CollectsTables, HasNothingToCollect};
+ghost use Rattle.tx_engine.specs.Exits.{Exits, CollectRises, is_there};
+ghost use Rattle.tx_engine.specs.OpenTable.{entries_of};
+ghost use Rattle.tx_engine.specs.Settling.{IsLeft};
+ghost use Rattle.tx_engine.specs.Standing.{Stands};
+ghost use Rattle.tx_engine.specs.Tables.{standing_in};
+
+use crate::Device;
+use crate::openings::Openings;
+use crate::settling::settle;
+use crate::store::Store;
+use collector::laws;
+use flash_model::{Broken, Flash};
+use record_list::CommitRule;
+
 /// What a collection did.
 #[derive(Clone, Copy, Debug, PartialEq, Eq)]
 pub enum Collected {
@@ -10,3 +30,54 @@ pub enum Collected {
 /// The flash met a fault.
 #[derive(Clone, Copy, Debug, PartialEq, Eq)]
 pub struct Fault;
+
+impl From<Broken> for Fault {
+    fn from(_: Broken) -> Fault {
+        Fault
+    }
+}
+
+impl<F: Flash, R: CommitRule> Device<F, R> {
+    /// Collects the block with the most garbage, if there is any. First it becomes known what a broken operation left, and
+    /// the spare is made blank.
+    pub fn collect(&mut self) -> Result<Collected, Fault>
+        ensures collects { CollectsAs (is_there F.state self.old) self.old.machine self.new.machine result }
+        ensures exits { Exits F.state self.old self.new (is_err result) }
+        ensures rises { CollectRises (is_there F.state self.old) self.old self.new result }
+        ensures sure { OnOk result (self.new.unsure ≡ unsure.Nothing) }
+        // What it did to the tables that are known once the place is settled, and so to the flash.
+        ensures tables { IfOk result (λ answer.
+            let found = settlement self.old.noted self.old.table (F.state self.old.flash).image self.old.unsure in
+            CollectsTables (F.state self.old.flash) (F.state self.new.flash) found.noted self.new.noted found.table self.new.table answer) }
+        ensures nothing { result ≡ Ok Collected.Nothing → HasNothingToCollect self.old.config.protocol
+            self.old.config.logical (F.state self.new.flash).image self.new.machine.entries }
+    {
+        settle(&mut self.store, &mut self.openings)?;
+        Ok(collect_settled(&mut self.store, &self.openings)?)
+    }
+}
+
+/// Collects the block with the most garbage of a device that settled, if there is any.
+fn collect_settled<F: Flash, R: CommitRule>(
+    store: &mut Store<F, R>,
+    openings: &Openings,
+) -> Result<Collected, Broken>
+    requires stands { Stands F.state (standing_in F.state store.old openings.now) }
+    requires rule { store.old.noted.config.protocol ≡ R.kept }
+    requires sure { store.old.unsure ≡ unsure.Nothing }
+    ensures left { IsLeft F.state (standing_in F.state store.old openings.now)
+        (standing_in F.state store.new openings.now) (is_err result) }
+    ensures tables { IfOk result (CollectsTables (F.state store.old.flash) (F.state store.new.flash)
+        store.old.noted store.new.noted store.old.table store.new.table) }
+    ensures sure { OnOk result (store.new.unsure ≡ unsure.Nothing) }
+    ensures nothing { result ≡ Ok Collected.Nothing →
+        HasNothingToCollect store.new.noted.config.protocol store.new.noted.config.logical
+        (F.state store.new.flash).image (entries_of openings.now) }
+{
+    laws::arrays_stay::<R>();
+    laws::images_stand::<R>();
+    laws::tidy_images();
+    let collected = store.collect();
+    store.config();
+    collected
+}

@@ -1,72 +1,60 @@
-ghost use Rattle.std.specs.Prelude.{◌≡◌, replicate, Ok, IfOk, IfErr, None};
-ghost use Rattle.tx_types.specs.Config.{checked, slots_of};
-ghost use Rattle.flash_model.specs.Flash.{blank};
-ghost use Rattle.tx_engine.specs.ArrayState.{idle};
+ghost use Rattle.std.specs.Prelude.{◌≡◌};
+ghost use Rattle.tx_engine.specs.Standing.{Stands};
 
-use crate::tables::{Tables, blank_tables};
+use crate::openings::Openings;
+use crate::store::Store;
 use flash_model::Flash;
-use std::alloc::Global;
+use record_list::CommitRule;
 use std::marker::Model;
-use tx_types::{Config, Memory};
+use tx_types::Config;
 
-/// A device over a flash: an array of logical pages, in which a transaction changes all its pages at once.
+/// A device over a flash: an array of logical pages, in which a transaction changes all its pages at once, whatever breaks.
 #[derive(Drop)]
-pub struct Device<F: Flash> {
-    pub(crate) flash: F,
-    pub(crate) config: Config,
-    pub(crate) tables: Tables,
-    /// How many slots were used. They are the first ones, and all others are blank.
-    pub(crate) used: u32,
+pub struct Device<F: Flash, R: CommitRule> {
+    pub(crate) store: Store<F, R>,
+    pub(crate) openings: Openings,
 }
 
-impl<F: Flash> Model for Device<F> {
-    ghost use Rattle.tx_engine.specs.Device.{Standing};
+impl<F: Flash, R: CommitRule> Model for Device<F, R> {
+    ghost use Rattle.tx_engine.specs.Standing.{Standing};
 
     ghost Value = { Standing F };
 
-    ghost use Rattle.tx_engine.specs.Tables.{standing_of, IsTabled};
+    ghost use Rattle.tx_engine.specs.Tables.{standing_of, IsStanding};
 
     ghost view = { standing_of F.state };
 
-    ghost invariant = { IsTabled F.state };
+    ghost invariant = { IsStanding F.state R.kept };
 }
 
-impl<F: Flash> Device<F> {
-    /// A device on a flash that is all blank, with nothing open. The flash comes back where there is no
-    /// memory for the tables.
-    pub fn fresh(alloc: Global, flash: F, config: Config) -> Result<Device<F>, (F, Memory)>
-        requires shape { checked config ≡ Ok (F.state flash).shape }
-        requires blank { (F.state flash).image ≡ replicate (slots_of (F.state flash).shape) blank }
-        ensures fresh { IfOk result (λ device. device ≡ record {
-          flash = flash;
-          config = config;
-          machine = idle (replicate config.logical None);
-          mentions = replicate config.logical 0;
-          used = 0;
-        }) }
-        ensures back { IfErr result (λ e. e.0 ≡ flash) }
+impl<F: Flash, R: CommitRule> Device<F, R> {
+    /// The configuration that the device was mounted with, and what holds of it at every moment.
+    pub fn config(&self) -> Config
+        ensures config { result ≡ self.now.config }
+        ensures stands { Stands F.state self.now }
+        ensures rule { self.now.config.protocol ≡ R.kept }
     {
-        match blank_tables(alloc, &config) {
-            Ok(tables) => Ok(Device {
-                flash,
-                config,
-                tables,
-                used: 0,
-            }),
-            Err(memory) => Err((flash, memory)),
-        }
+        self.store.config()
+    }
+
+    /// The flash, as it stands.
+    pub fn flash(&self) -> &F
+        ensures { result.now ≡ self.now.flash }
+    {
+        &self.store.flash
+    }
+
+    /// Whether power is on.
+    pub fn live(&self) -> bool
+        ensures { result ≡ (F.state self.now.flash).live }
+    {
+        self.store.flash.live()
     }
 
     /// The flash, as it stands.
     pub fn close(self) -> F
         ensures { result ≡ self.flash }
     {
-        let Device {
-            flash,
-            config: _,
-            tables: _,
-            used: _,
-        } = self;
-        flash
+        self.store.close()
     }
 }

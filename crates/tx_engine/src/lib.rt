@@ -1,17 +1,33 @@
-//! The device: pages that are read, and transactions that are opened and written page by page.
+//! The device: pages that are read, and transactions that are opened and written page by page, over power cuts and
+//! faults of its flash.
 #![tactic(auto)]
 
+mod abort;
+mod arms;
+mod closing;
 mod collect;
 mod device;
 pub mod laws;
-mod opened;
+mod mark;
+mod mount;
+mod openings;
+mod pending;
 mod read;
+mod refusals;
+mod settling;
 mod step;
+mod store;
 mod submit;
-mod tables;
+mod telling;
+#[cfg(test)]
+mod tests;
+mod writing;
 
+pub use abort::Aborted;
 pub use collect::{Collected, Fault};
 pub use device::Device;
+pub use mark::Mark;
+pub use mount::MountError;
 pub use read::{ReadAnswer, ReadError};
-pub use step::{Aborted, Progress, StepError};
+pub use step::{Progress, StepError};
 pub use submit::SubmitError;

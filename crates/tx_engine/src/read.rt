@@ -1,9 +1,11 @@
-ghost use Rattle.std.specs.Prelude.{◌≡◌, length, IsErrOf};
-ghost use Rattle.flash_model.specs.Calls.{Rose};
-ghost use Rattle.tx_engine.specs.Read.{ReadsPage, ReadsFlash};
+ghost use Rattle.std.specs.Prelude.{◌≡◌, length};
+ghost use Rattle.flash_model.specs.Operations.{moment_of};
+ghost use Rattle.flash_model.specs.Calls.{Carries};
+ghost use Rattle.tx_engine.specs.Read.{ReadsPage, ReadsFlash, is_read_fault};
 
 use crate::Device;
 use flash_model::Flash;
+use record_list::CommitRule;
 
 /// How a logical page reads.
 #[derive(Clone, Copy, Debug, PartialEq, Eq)]
@@ -23,26 +25,23 @@ pub enum ReadError {
     Fault,
 }
 
-impl<F: Flash> Device<F> {
-    /// Reads a logical page into room for a page of bytes. A page that is blank is answered without the
-    /// flash, and leaves the room as it was. After a fault the room holds any bytes.
+impl<F: Flash, R: CommitRule> Device<F, R> {
+    /// Reads a logical page into room for a page of bytes, as the array has it. A page that is blank is answered without
+    /// the flash, and leaves the room as it was; any other one takes one read. After a fault the room holds any bytes.
     pub fn read(&mut self, page: u32, into: &mut [u8]) -> Result<ReadAnswer, ReadError>
         requires { length into.old ≡ self.old.config.page_bytes }
         ensures reads { ReadsPage self.old.config.logical self.old.machine.pages page into.new result }
         ensures flash { ReadsFlash F.state self.old.flash self.new.flash into.old into.new result }
-        ensures fault { IsErrOf result ReadError.Fault → Rose (F.state self.old.flash).faults (F.state self.new.flash).faults }
+        ensures moment { moment_of (F.state self.new.flash) ≡ moment_of (F.state self.old.flash) }
+        ensures carries { Carries (F.state self.old.flash) (F.state self.new.flash) (is_read_fault result) }
         ensures stays { self.new ≡ record self.old { flash = self.new.flash } }
-        ensures image { (F.state self.new.flash).image ≡ (F.state self.old.flash).image }
     {
-        if page >= self.config.logical {
+        if page >= self.store.config().logical {
             return Err(ReadError::Range);
         }
-        let Some(at) = self.tables.homes[page as usize] else {
-            return Ok(ReadAnswer::Blank);
-        };
-        let mut spare = [0; 64];
-        match self.flash.read(at, into, &mut spare) {
-            Ok(_) => Ok(ReadAnswer::Page),
+        match self.store.read(page, into) {
+            Ok(false) => Ok(ReadAnswer::Blank),
+            Ok(true) => Ok(ReadAnswer::Page),
             Err(_) => Err(ReadError::Fault),
         }
     }

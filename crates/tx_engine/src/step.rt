@@ -1,16 +1,24 @@
-ghost use Rattle.std.specs.Prelude.{◌≡◌, ◌+◌, ◌^◌, ◌<◌, ◌≤◌, length, IsSome, IfOk, IsErrOf, OnOk, Err};
-ghost use Rattle.flash_model.specs.Calls.{Rose, Programs};
-ghost use Rattle.flash_model.specs.Operations.{CanProgram};
-ghost use Rattle.page_record.specs.Spelling.{CanBeSpelled, spelling};
+ghost use Rattle.std.specs.Prelude.{◌≡◌, ◌<◌, ℕ, OnOk, IfSome, Err, length, false};
+ghost use Rattle.std.specs.Result.{is_err};
+ghost use Rattle.version_index.specs.Noted.{current_of};
 ghost use Rattle.tx_engine.specs.ArrayState.{entry_of};
-ghost use Rattle.tx_engine.specs.Device.{HasRoom};
-ghost use Rattle.tx_engine.specs.OnePage.{lone_record, IsTorn, IsWritten};
-ghost use Rattle.tx_engine.specs.Step.{Steps};
+ghost use Rattle.tx_engine.specs.Step.{StepsAs};
+ghost use Rattle.tx_engine.specs.Exits.{Exits, StepRises, is_there, is_step_fault};
+ghost use Rattle.tx_engine.specs.Costs.{CostsStep, StepCosts};
+ghost use Rattle.tx_engine.specs.OpenTable.{opening_at};
+ghost use Rattle.tx_engine.specs.Settling.{Advances, AdvanceRises, Counts, IsReady, is_due};
+ghost use Rattle.tx_engine.specs.Standing.{Stands, name_at};
+ghost use Rattle.tx_engine.specs.Tables.{standing_in};
+ghost use Rattle.collector.specs.declared.unsure.Unsure.TheVariants as unsure;
 
-use crate::Device;
+use crate::closing::close;
+use crate::openings::Openings;
+use crate::settling::settle;
+use crate::store::Store;
+use crate::writing::write_next;
+use crate::{Device, Mark};
 use flash_model::{Broken, Flash};
-use page_record::write_spare;
-use tx_types::{Link, Protocol, Rec, Slot};
+use record_list::CommitRule;
 
 /// How far a step brought a transaction.
 #[derive(Clone, Copy, Debug, PartialEq, Eq)]
@@ -30,83 +38,115 @@ pub enum StepError {
     Fault,
 }
 
-/// How a transaction was given up.
-#[derive(Clone, Copy, Debug, PartialEq, Eq)]
-pub enum Aborted {
-    /// None of its pages is in the array.
-    Gone,
-    /// It was too late: the array has taken all its pages.
-    Late,
+impl From<Broken> for StepError {
+    ghost use Rattle.tx_engine.specs.declared.step.StepError.TheVariants.{Fault};
+
+    ghost from_gives = { λ _ e. e ≡ Fault };
+
+    fn from(_: Broken) -> StepError {
+        StepError::Fault
+    }
 }
 
-impl<F: Flash> Device<F> {
-    /// Writes the page of the transaction with this tag, if there is one, in the first slot that was not
-    /// used: it is done then. After a fault the transaction is as before, and the slot counts as used.
+impl<F: Flash, R: CommitRule> Device<F, R> {
+    /// Writes the next page of the transaction with this tag, if there is one. First it becomes known what a broken
+    /// operation left. A page that turns out to be written takes no flash operation more. Before a page is written, records
+    /// that must go are cleared away, and where no block has room one is collected. After a fault the transaction has as
+    /// many pages written as before.
     pub fn step(&mut self, tag: u32) -> Result<Progress, StepError>
-        requires room { IsSome (entry_of tag self.old.machine.entries) → HasRoom self.old.config self.old.used }
-        ensures steps { Steps self.old.machine self.new.machine tag result }
+        ensures steps { StepsAs (is_there F.state self.old) self.old.machine self.new.machine tag result }
+        ensures exits { Exits F.state self.old self.new (is_step_fault result) }
+        ensures rises { StepRises (is_there F.state self.old) self.old self.new tag result }
+        ensures sure { OnOk result (self.new.unsure ≡ unsure.Nothing) }
         ensures unknown { result ≡ Err StepError.Unknown → self.new ≡ self.old }
-        ensures fault { IsErrOf result StepError.Fault → Rose (F.state self.old.flash).faults (F.state self.new.flash).faults }
-        ensures whole { IfOk result (λ progress. progress ≡ Progress.Done) }
-        ensures written { OnOk result (IsWritten F.state self.old self.new tag) }
-        ensures torn { IsErrOf result StepError.Fault → IsTorn F.state self.old self.new tag }
-        ensures config { self.new.config ≡ self.old.config }
-        ensures used { self.new.used ≤ self.old.used + 1 }
+        ensures costs { CostsStep F.state self.old self.new tag }
     {
-        let Some(at) = self.tables.position(tag) else {
+        let Some(at) = self.openings.position(tag) else {
             return Err(StepError::Unknown);
         };
-        let slot = Slot(self.used);
-        let opened = &self.tables.opened[at];
-        let mention = self.tables.mentions[opened.page as usize];
-        self.used += 1;
-        let rec = lone_record(self.config.protocol, opened.page, mention);
-        if let Err(Broken) = program(
-            &mut self.flash,
-            self.config.protocol,
-            slot,
-            &opened.bytes,
-            rec,
-        ) {
-            return Err(StepError::Fault);
+        settle(&mut self.store, &mut self.openings)?;
+        Ok(advance(&mut self.store, &mut self.openings, at)?)
+    }
+}
+
+/// The transaction at an index of a settled device goes on: its next page is written where it is not
+/// noted, and counted.
+fn advance<F: Flash, R: CommitRule>(
+    store: &mut Store<F, R>,
+    openings: &mut Openings,
+    at: usize,
+) -> Result<Progress, Broken>
+    requires stands { Stands F.state (standing_in F.state store.old openings.old) }
+    requires rule { store.old.noted.config.protocol ≡ R.kept }
+    requires sure { store.old.unsure ≡ unsure.Nothing }
+    requires at { at < length openings.old.all }
+    requires size { openings.old.page_bytes ≡ store.old.noted.config.page_bytes }
+    ensures stands { Stands F.state (standing_in F.state store.new openings.new) }
+    ensures advances { let entry = (opening_at openings.old at).entry in
+        Advances (standing_in F.state store.old openings.old).machine entry.tag entry result
+        (standing_in F.state store.new openings.new).machine }
+    ensures exits { Exits F.state (standing_in F.state store.old openings.old)
+        (standing_in F.state store.new openings.new) (is_err result) }
+    ensures rises { AdvanceRises (standing_in F.state store.old openings.old)
+        (standing_in F.state store.new openings.new) (opening_at openings.old at).entry result }
+    ensures sure { OnOk result (store.new.unsure ≡ unsure.Nothing) }
+    ensures limits { (openings.new.page_bytes ≡ openings.old.page_bytes)
+        × (openings.new.pending ≡ openings.old.pending) }
+    ensures costs { StepCosts F.state (standing_in F.state store.old openings.old)
+        (standing_in F.state store.new openings.new)
+        (name_at (opening_at openings.old at).naming (opening_at openings.old at).entry.done) }
+{
+    if !is_due(openings, at) {
+        return Ok(count_next(store, openings, at));
+    }
+    write_next(store, openings, at)?;
+    Ok(count_next(store, openings, at))
+}
+
+/// Whether the next page of the transaction at an index is to be written.
+fn is_due(openings: &Openings, at: usize) -> bool
+    requires { at < length openings.now.all }
+    ensures { result ≡ is_due (opening_at openings.now at) }
+{
+    match openings.mark(at) {
+        Mark::Whole => false,
+        Mark::Plain | Mark::Doubt => openings.there(at) == openings.done(at),
+    }
+}
+
+/// A transaction whose next page is noted, or which is whole, goes on without the flash.
+fn count_next<F: Flash, R: CommitRule>(
+    store: &mut Store<F, R>,
+    openings: &mut Openings,
+    at: usize,
+) -> Progress
+    requires stands { Stands F.state (standing_in F.state store.old openings.old) }
+    requires sure { store.old.unsure ≡ unsure.Nothing }
+    requires at { at < length openings.old.all }
+    requires ready { IsReady (opening_at openings.old at) }
+    ensures stands { Stands F.state (standing_in F.state store.new openings.new) }
+    ensures counts { let entry = (opening_at openings.old at).entry in
+        Counts (standing_in F.state store.old openings.old).machine entry.tag entry result
+        (standing_in F.state store.new openings.new).machine }
+    ensures exits { Exits F.state (standing_in F.state store.old openings.old)
+        (standing_in F.state store.new openings.new) false }
+    ensures versions { (page : ℕ) →
+        current_of store.new.noted page ≡ current_of store.old.noted page }
+    ensures flash { store.new.flash ≡ store.old.flash }
+    ensures sure { store.new.unsure ≡ unsure.Nothing }
+    ensures limits { (openings.new.page_bytes ≡ openings.old.page_bytes)
+        × (openings.new.pending ≡ openings.old.pending) }
+{
+    match openings.mark(at) {
+        Mark::Whole => {
+            close(store, openings, at);
+            Progress::Done
         }
-        self.tables.finish(at, slot);
-        Ok(Progress::Done)
+        Mark::Plain | Mark::Doubt => {
+            let all = openings.pages(at);
+            let done = openings.done(at) + 1;
+            openings.set_done(at, done);
+            Progress::Wrote { done, all }
+        }
     }
-}
-
-/// The record of a transaction of one page that was last mentioned at this version.
-fn lone_record(protocol: Protocol, page: u32, mention: u64) -> Rec
-    requires { mention < 2 ^ 62 }
-    ensures record { result ≡ lone_record protocol page mention }
-    ensures spelled { CanBeSpelled protocol result }
-{
-    let version = mention + 1;
-    Rec {
-        page,
-        version,
-        next: Link { page, version },
-        back: match protocol {
-            Protocol::Scc => 0,
-            Protocol::Bpcc => mention,
-        },
-    }
-}
-
-/// Programs a slot with contents and the spelling of their record.
-fn program<F: Flash>(
-    flash: &mut F,
-    protocol: Protocol,
-    at: Slot,
-    bytes: &[u8],
-    rec: Rec,
-) -> Result<(), Broken>
-    requires blank { CanProgram (F.state flash.old).shape (F.state flash.old).image at.0 }
-    requires page { length bytes.now ≡ (F.state flash.old).shape.page_bytes }
-    requires spelled { CanBeSpelled protocol rec }
-    ensures { Programs (F.state flash.old) (F.state flash.new) at.0 bytes.now (spelling protocol rec) result }
-{
-    let mut spare = [0; 64];
-    write_spare(rec, protocol, &mut spare);
-    flash.program(at, bytes, &spare)
 }

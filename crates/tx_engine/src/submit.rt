@@ -1,13 +1,16 @@
-ghost use Rattle.std.specs.Prelude.{◌≡◌, ◌≤◌, ◌==◌, length, find, option_copied};
-ghost use Rattle.std.specs.List.{list_any};
-ghost use Rattle.tx_engine.specs.Device.{limits_of, is_spent};
-ghost use Rattle.tx_engine.specs.OnePage.{one_refusal};
-ghost use Rattle.tx_engine.specs.Submit.{Submits, answer};
+ghost use Rattle.std.specs.Prelude.{◌≡◌, ◌^◌, ◌<◌, map, All};
+ghost use Rattle.version_index.specs.Noted.{mention_of};
+ghost use Rattle.tx_engine.specs.Naming.{is_spent, with_pins, named_after, KeepsTables};
+ghost use Rattle.tx_engine.specs.OpenTable.{next_name};
+ghost use Rattle.tx_engine.specs.Standing.{limits_of};
+ghost use Rattle.tx_engine.specs.Stored.{IsStored};
+ghost use Rattle.tx_engine.specs.Submit.{Submits, spent_page};
 
 use crate::Device;
-use crate::opened::Opened;
+use crate::store::Store;
 use flash_model::Flash;
-use tx_types::{Batch, Config, MAX_VERSION};
+use record_list::CommitRule;
+use tx_types::{Batch, MAX_VERSION};
 
 /// Why a transaction was not opened. Each kind of refusal looks at the whole batch before the next kind is
 /// tried, in this order.
@@ -29,73 +32,66 @@ pub enum SubmitError {
     Spent(u32),
 }
 
-impl<F: Flash> Device<F> {
-    /// Opens a transaction, with no page written. The flash is not touched.
-    pub fn submit(&mut self, tag: u32, batch: &Batch) -> Result<(), SubmitError>
-        requires page { batch.now.page_bytes ≡ self.old.config.page_bytes }
-        requires one { length batch.now.entries ≡ 1 }
-        ensures submits { Submits (limits_of self.old.config) (is_spent self.old.mentions) self.old.machine self.new.machine tag batch.now.entries result }
-        ensures stays { self.new ≡ record self.old { machine = self.new.machine } }
+impl<F: Flash, R: CommitRule> Store<F, R> {
+    /// The refusal of the first page of a batch that has no version left.
+    fn spent(&self, batch: &Batch) -> Option<SubmitError>
+        requires { All (λ w. w.page < self.now.noted.config.logical) batch.now.entries }
+        ensures { result ≡ spent_page (is_spent self.now.noted.mentions) batch.now.entries }
     {
-        let page = batch.page(0);
-        if let Err(refusal) = judged(
-            &self.config,
-            &self.tables.opened,
-            &self.tables.mentions,
-            tag,
-            page,
-        ) {
+        let index = self.index();
+        for at in 0..batch.len() {
+            let page = batch.page(at);
+            if MAX_VERSION <= index.mention(page) {
+                return Some(SubmitError::Spent(page));
+            }
+        }
+        None
+    }
+
+    /// Pins each page of a batch one version above its greatest mention.
+    fn pin_all(&mut self, batch: &Batch)
+        requires range { All (λ w. w.page < self.old.noted.config.logical) batch.now.entries }
+        requires unspent { All (λ w. mention_of self.old.noted w.page < 2 ^ 62) batch.now.entries }
+        ensures pinned { self.new ≡ record self.old {
+          noted = record self.old.noted {
+            pins = with_pins self.old.noted.pins (map (next_name self.old.noted) batch.now.entries);
+          };
+        } }
+        ensures stored { IsStored F.state R.kept self.new }
+    {
+        for at in 0..batch.len() {
+            // What holds of the store, whatever is pinned.
+            let _kept = self.config();
+            let page = batch.page(at);
+            let version = self.index().mention(page) + 1;
+            self.pin(page, version);
+        }
+        let _kept = self.config();
+    }
+}
+
+impl<F: Flash, R: CommitRule> Device<F, R> {
+    /// Opens a transaction, with no page written. Each page is named one version above its greatest mention. The flash is
+    /// not touched.
+    pub fn submit(&mut self, tag: u32, batch: &Batch) -> Result<(), SubmitError>
+        requires { batch.now.page_bytes ≡ self.old.config.page_bytes }
+        ensures submits { Submits (limits_of self.old.config) (is_spent self.old.noted.mentions)
+            self.old.machine self.new.machine tag batch.now.entries result }
+        ensures named { self.new.namings ≡ named_after self.old.noted batch.now.entries result self.old.namings }
+        // All else stays, but for the pins of what is opened.
+        ensures keeps { KeepsTables self.old self.new }
+    {
+        let logical = self.store.config().logical;
+        if let Some(refusal) = self.openings.refusal(logical, tag, batch) {
             return Err(refusal);
         }
-        self.tables.open(tag, page, batch.bytes(0));
+        if let Some(spent) = self.store.spent(batch) {
+            return Err(spent);
+        }
+        self.openings.open(tag, batch, self.store.index());
+        self.store.pin_all(batch);
+        // What holds of the open transactions.
+        let _open = self.openings.count();
         Ok(())
     }
-}
-
-/// The answer to a batch that writes one page.
-fn judged(
-    config: &Config,
-    opened: &[Opened],
-    mentions: &[u64],
-    tag: u32,
-    page: u32,
-) -> Result<(), SubmitError>
-    requires mentions { length mentions.now ≡ config.now.logical }
-    requires pending { length opened.now ≤ config.now.pending }
-    ensures { result ≡ answer (one_refusal config.now mentions.now opened.now tag page) }
-{
-    if page >= config.logical {
-        return Err(SubmitError::Range(page));
-    }
-    if is_tag_used(opened, tag) {
-        return Err(SubmitError::Tag);
-    }
-    if let Some(owner) = owner(opened, page) {
-        return Err(SubmitError::Overlap {
-            page,
-            tag: owner.tag,
-        });
-    }
-    let free = config.pending - opened.len() as u32;
-    if free == 0 {
-        return Err(SubmitError::Full { free });
-    }
-    if mentions[page as usize] == MAX_VERSION {
-        return Err(SubmitError::Spent(page));
-    }
-    Ok(())
-}
-
-/// Whether an open transaction has a tag.
-fn is_tag_used(opened: &[Opened], tag: u32) -> bool
-    ensures { result ≡ list_any (λ o. o.tag == tag) opened.now }
-{
-    opened.iter().any(|o| o.tag == tag)
-}
-
-/// The open transaction that writes a page.
-fn owner(opened: &[Opened], page: u32) -> Option<&Opened>
-    ensures { option_copied result ≡ find (λ o. o.page == page) opened.now }
-{
-    opened.iter().find(|o| o.page == page)
 }

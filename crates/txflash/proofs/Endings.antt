@@ -1,91 +1,89 @@
--- How a call of the program ends, and that its fate is the only one.
-use Rattle.std.proofs.Common.{◌≡◌, ◌⊎◌, inl, inr, ℕ, zero, suc, ◌≤◌, List, [], ◌∷◌, take, Option, None, Some, Result, Ok, Err, refl, ap, sym, ◌∙◌, arith}
-use Rattle.std.specs.Prelude.{IfSome, IsSome}
+-- How a call of the program ends, and what follows for its status and the files.
+use Rattle.std.proofs.Common.{◌≡◌, ◌⊎◌, inl, inr, ℕ, zero, suc, List, [], ◌∷◌, take, Option, None, Some, Result, Ok, Err, refl, ap, sym, subst, ◌∙◌, arith}
 use Rattle.std.specs.Option.{option_map}
-use Rattle.desk_io.specs.Desk as found
-use Rattle.desk_io.specs.Desk.{Contents, DeskState, Found, Rose, Says, after_answer, after_fault, as_before, with_said, called, counted, file_at, found_of}
+use Rattle.desk_io.specs.Desk.{Contents, DeskState, Files, Rose, Says, as_before, called, counted, put, with_file, with_said}
 use Rattle.desk_io.specs.declared.desk.SinkError.{SinkError}
 use Rattle.desk_io.specs.declared.desk.SinkError.TheVariants as sink
-use Rattle.txflash.proofs.Readings.{one_reading}
-use Rattle.txflash.specs.Fate.{Fate, IsFate, IsText, TriesTo, fate_of, status}
-use Rattle.txflash.specs.Stops.{Comes, Speaks}
-use Rattle.txflash.specs.Top.{Decision, Ends, Decided, Faulted, Starved, IsExact, IsFaulted, LoadFails, TextFails, TellsFate, Attempts, after_loads, after_text, files_in}
-use Rattle.txflash.specs.Words.{Asked, Try, files_of}
+use Rattle.txflash.specs.Fate.{Fate, status, refusal_line}
+use Rattle.txflash.specs.Gives.{Product, SavedFile, Gives}
+use Rattle.txflash.specs.Steps.{IsFate}
+use Rattle.txflash.specs.Stops.{Comes, Delivers, MemoryTold, Speaks, refused}
+use Rattle.txflash.specs.Top.{Decision, Ends, Decided, Faulted, Starved, IsExact, IsFaulted, Leaves, LeavesFiles, CallFails, FileFails, RunsOut, TellsFate, after_loads, after_save, after_text, files_in, loaded, saved}
+use Rattle.txflash.specs.Words.{Asked, file_of}
+use Rattle.txflash.specs.declared.refusal.Refusal.{Refusal}
+use Rattle.txflash.specs.declared.refusal.Refusal.TheVariants as refusal
+use Rattle.txflash.proofs.OneFate.{one_fate}
+use Rattle.txflash.proofs.Saving.{fate_within, gives_saves, never_five, refusal_saves, saver}
 
--- a fate comes after no more loads than the task names files
-pub loads_within : (task : Option Asked) (desk : DeskState) (fate : Fate) (loads : ℕ) → IsFate task desk fate loads → loads ≤ files_of task
-loads_within None desk fate loads is = omega (arith, is.1)
-loads_within (Some (Try name)) desk fate loads is = omega (arith, is.3)
+-- ---- the end after a fate
 
--- the end after a fate whose text is tried
-pub ends_spoken : (task : Option Asked) (old mid new : DeskState) (fate : Fate) (text : List ℕ) (wanted answer : ℕ) →
-    Comes task old mid fate → IsText fate text → wanted ≡ status fate → Speaks mid new text wanted answer → Ends task old new answer
-ends_spoken task old mid new fate text wanted answer comes is_text same speaks =
-    let at = comes.2 in
-    let it : Decision task old = record { fate = fate; loads = comes.0; text = text; is_fate = comes.1; is_text = is_text } in
-    elim speaks [
-      | inl whole ↦ Decided it (whole.0 ∙ same) (rw (← at) whole.1)
-      | inr rest ↦ elim rest [
-        | inl five ↦
-            let fails : TextFails task old five.1.0 = (it, rw (← at) five.1.1) in
-            Faulted five.0 (five.1.0, inr fails, five.1.2)
-        | inr six ↦ Starved six.0 (comes.0, loads_within task old fate comes.0 comes.1, rw (← at) six.1)
-      ]
-    ]
+-- after a fate, what it gives is saved and said
+pub ends_delivered : (task : Option Asked) (old mid new : DeskState) (fate : Fate) (product : Product) (wanted answer : ℕ) →
+    Comes task old mid fate → Gives fate product → wanted ≡ status fate → Delivers mid new product wanted answer → Ends task old new answer
+ends_delivered task old mid new fate product wanted answer (loads, is, at) gives same delivers =
+    ending (subst (λ desk. Delivers desk new product wanted answer) at delivers)
+  where
+    it : Decision task old
+    it = record { fate = fate; loads = loads; product = product; is_fate = is; gives = gives }
 
--- what is at a name, where the desk tells it
-one_found : (told : Option Contents) (name : List ℕ) (a b : Found) → IsSome told →
-    IfSome told (λ c. found_of (file_at c.files name) ≡ a) → IfSome told (λ c. found_of (file_at c.files name) ≡ b) → a ≡ b
-one_found None name a b tells h k = cc
-one_found (Some c) name a b tells h k = sym h ∙ k
+    ending : Delivers (loaded old it) new product wanted answer → Ends task old new answer
+    ending (inl (inl (said, after))) = Decided it (said ∙ same) after
+    ending (inl (inr (inl (mid, says, told)))) = Faulted told.0 (mid, inr (inr (it, says)), told.1)
+    ending (inl (inr (inr told))) = Starved told.0 (saved old it, inr (it, refl), told.1)
+    ending (inr (inl (mid, fails, told))) = Faulted told.0 (mid, inr (inl (it, fails)), told.1)
+    ending (inr (inr told)) = Starved told.0 (loaded old it, inl (loads, (fate_within task old fate loads is).0, refl), told.1)
 
-one_try : (name : List ℕ) (found : Found) (a b : Fate) → TriesTo name found a → TriesTo name found b → a ≡ b
-one_try name found.Missing a b h k = h ∙ sym k
-one_try name found.TooLong a b h k = h ∙ sym k
-one_try name (found.Bytes bytes) a b h k = h.2 ∙ ap fate_of (one_reading bytes h.0 k.0 h.1 k.1) ∙ sym k.2
-
--- a fate is the only one
-pub one_fate : (task : Option Asked) (desk : DeskState) (a b : Fate) (m n : ℕ) → TellsFate task desk →
-    IsFate task desk a m → IsFate task desk b n → a ≡ b
-one_fate None desk a b m n tells h k = h.0 ∙ sym k.0
-one_fate (Some (Try name)) desk a b m n tells h k = elim tells [
-  | inl none ↦ absurd (omega arith)
-  | inr tells ↦
-      let same = one_found desk.told name h.0 k.0 tells h.1.1 k.1.1 in
-      one_try name k.0 a b (rw same at h.2) k.2
-]
+-- ---- status 5 comes only where the count of faults rose
 
 faults_loads : (n : ℕ) (desk : DeskState) → (after_loads n desk).faults ≡ desk.faults
 faults_loads zero desk = refl
 faults_loads (suc n) desk = faults_loads n desk
 
-faults_failed : (old mid new : DeskState) (text : List ℕ) → mid.faults ≡ counted old.faults → Attempts mid new text → Rose old.faults new.faults
-faults_failed old mid new text rose tries = elim tries.0 as (λ r. Says mid new text r → Rose old.faults new.faults) [
-  | Ok done ↦ λ says. let same = ap (λ (d : DeskState). d.faults) says in omega arith
-  | Err e ↦ elim e as (λ e. Says mid new text (Err e) → Rose old.faults new.faults) [
-    | sink.Failed ↦ λ says. let same = ap (λ (d : DeskState). d.faults) says.1 in omega arith
-    | sink.Memory ↦ λ says. let same = ap (λ (d : DeskState). d.faults) says in omega arith
-  ]
-] tries.1
+faults_save : (file : Option SavedFile) (desk : DeskState) → (after_save file desk).faults ≡ desk.faults
+faults_save None desk = refl
+faults_save (Some file) desk = refl
 
--- status 5 comes only where the count of faults rose
+faults_file : (file : Option SavedFile) (old new : DeskState) → FileFails file old new → new.faults ≡ counted old.faults
+faults_file None old new fails = absurd fails
+faults_file (Some file) old new fails = ap (λ (d : DeskState). d.faults) fails.1
+
+faults_call : (task : Option Asked) (old new : DeskState) → CallFails task old new → new.faults ≡ counted old.faults
+faults_call task old new (inl (n, less, after)) = ap (λ (d : DeskState). d.faults) after ∙ ap counted (faults_loads n old)
+faults_call task old new (inr (inl (it, fails))) =
+    faults_file it.product.saved (loaded old it) new fails ∙ ap counted (faults_loads it.loads old)
+faults_call task old new (inr (inr (it, fails))) =
+    ap (λ (d : DeskState). d.faults) fails.1 ∙ ap counted (faults_save it.product.saved (loaded old it) ∙ faults_loads it.loads old)
+
+faults_tried : (n : ℕ) (mid new : DeskState) (text : List ℕ) (result : Result (Unit {0}) SinkError) → mid.faults ≡ counted n →
+    Says mid new text result → Rose n new.faults
+faults_tried n mid new text (Ok done) rose says = let same = ap (λ (d : DeskState). d.faults) says in omega arith
+faults_tried n mid new text (Err sink.Failed) rose says = let same = ap (λ (d : DeskState). d.faults) says.1 in omega arith
+faults_tried n mid new text (Err sink.Memory) rose says = let same = ap (λ (d : DeskState). d.faults) says in omega arith
+
 pub faulted : (task : Option Asked) (old new : DeskState) → IsFaulted task old new → Rose old.faults new.faults
-faulted task old new five = elim five.1 [
-  | inl load ↦
-      faults_failed old five.0 new _ (ap (λ (d : DeskState). d.faults) load.2 ∙ ap counted (faults_loads load.0 old)) five.2
-  | inr fails ↦
-      faults_failed old five.0 new _ (ap (λ (d : DeskState). d.faults) fails.1.1 ∙ ap counted (faults_loads (fails.0).loads old)) five.2
-]
+faulted task old new (mid, fails, (result, says)) = faults_tried old.faults mid new _ result (faults_call task old mid fails) says
 
--- each fate gives its status
+pub only_fault : (task : Option Asked) (old new : DeskState) (answer : ℕ) → Ends task old new answer → answer ≡ 5 → Rose old.faults new.faults
+only_fault task old new answer (Decided it same said) five = absurd (never_five it.fate (sym five ∙ same))
+only_fault task old new answer (Faulted is faults) five = faulted task old new faults
+only_fault task old new answer (Starved six starves) five = absurd (omega arith)
+
+-- ---- each fate gives its status
+
 pub exact : (task : Option Asked) (old new : DeskState) (answer : ℕ) → Ends task old new answer → IsExact task old new answer
-exact task old new answer (Decided it same said) = record {
-  fate_gives = λ fate loads is tells steady.
-      inl (same ∙ ap status (one_fate task old it.fate fate it.loads loads tells it.is_fate is));
+exact task old new answer ends = record {
+  one_fate = λ a b m n tells is also. one_fate task old a b m n tells is also;
+  fate_gives = gives ends;
 }
-exact task old new answer (Faulted five faults) =
-    record { fate_gives = λ fate loads is tells steady. absurd (steady (faulted task old new faults)) }
-exact task old new answer (Starved six starves) = record { fate_gives = λ fate loads is tells steady. inr six }
+  where
+    gives : Ends task old new answer → (fate : Fate) (loads : ℕ) → IsFate task old fate loads → TellsFate task old →
+        (Rose old.faults new.faults → ⊥) → (answer ≡ status fate) ⊎ (answer ≡ 6)
+    gives (Decided it same said) fate loads is tells steady =
+        inl (same ∙ ap status (one_fate task old it.fate fate it.loads loads tells it.is_fate is))
+    gives (Faulted five faults) fate loads is tells steady = absurd (steady (faulted task old new faults))
+    gives (Starved six starves) fate loads is tells steady = inr six
+
+-- ---- which file changes
 
 -- a call that keeps the files keeps them
 same_files : (change : Contents → Contents) (told : Option Contents) → ((c : Contents) → (change c).files ≡ c.files) →
@@ -106,17 +104,124 @@ files_said old new text (Ok done) says = ap files_in says ∙ same_files (with_s
 files_said old new text (Err sink.Failed) says = ap files_in says.1 ∙ same_files (with_said (take says.0 text)) old.told (λ c. refl)
 files_said old new text (Err sink.Memory) says = ap files_in says
 
-files_fail : (task : Option Asked) (old new : DeskState) → LoadFails task old new ⊎ TextFails task old new → files_in new ≡ files_in old
-files_fail task old new (inl load) =
-    ap files_in load.2 ∙ same_files as_before (after_loads load.0 old).told (λ c. refl) ∙ files_loads load.0 old
-files_fail task old new (inr fails) =
-    files_said (after_loads (fails.0).loads old) new (fails.0).text (Err sink.Failed) fails.1 ∙ files_loads (fails.0).loads old
+-- a call that changes a file changes that one
+other_files : (name : List ℕ) (left : Option (List ℕ)) (told : Option Contents) →
+    option_map (λ c. c.files) (option_map (called (with_file name left)) told) ≡ option_map (λ files. put files name left) (option_map (λ c. c.files) told)
+other_files name left None = refl
+other_files name left (Some c) = refl
 
--- no file changes
-pub keeps_files : (task : Option Asked) (old new : DeskState) (answer : ℕ) → Ends task old new answer → files_in new ≡ files_in old
-keeps_files task old new answer (Decided it same said) =
-    ap files_in said ∙ files_text it.text (after_loads it.loads old) ∙ files_loads it.loads old
-keeps_files task old new answer (Faulted five faults) =
-    files_said faults.0 new _ faults.2.0 faults.2.1 ∙ files_fail task old faults.0 faults.1
-keeps_files task old new answer (Starved six starves) =
-    files_said (after_loads starves.0 old) new _ starves.2.0 starves.2.1 ∙ files_loads starves.0 old
+-- ---- at each place where a call may end
+
+leaves_same : (file : Option (List ℕ)) (old new : Option Files) → new ≡ old → Leaves file old new
+leaves_same None old new e = e
+leaves_same (Some name) old new e = inl e
+
+-- where nothing else changes
+leaves_also : (file : Option (List ℕ)) (old mid new : Option Files) → Leaves file old mid → new ≡ mid → Leaves file old new
+leaves_also None old mid new h e = e ∙ h
+leaves_also (Some name) old mid new (inl h) e = inl (e ∙ h)
+leaves_also (Some name) old mid new (inr (left, h)) e = inr (left, e ∙ h)
+
+-- the file that a fate gives is that of its task
+saves_its : (task : Option Asked) (old : DeskState) (it : Decision task old) (file : SavedFile) → it.product.saved ≡ Some file →
+    file_of task ≡ Some file.name
+saves_its task old it file e =
+    let named : Some file.name ≡ saver it.fate = sym (ap (option_map (λ f. f.name)) e) ∙ gives_saves it.fate it.product it.gives in
+    elim (fate_within task old it.fate it.loads it.is_fate).1 [
+      | inl none ↦ absurd (cc)
+      | inr some ↦ sym (named ∙ some)
+    ]
+
+-- so is the one that is changed
+leaves_file : (task : Option Asked) (old new : DeskState) (it : Decision task old) (file : SavedFile) (left : Option (List ℕ)) →
+    it.product.saved ≡ Some file → files_in new ≡ option_map (λ files. put files file.name left) (files_in (loaded old it)) →
+    Leaves (file_of task) (files_in old) (files_in new)
+leaves_file task old new it file left e changed =
+    rw (saves_its task old it file e) (inr (left, changed ∙ ap (option_map (λ files. put files file.name left)) (files_loads it.loads old)))
+
+leaves_saved : (task : Option Asked) (old : DeskState) (it : Decision task old) → Leaves (file_of task) (files_in old) (files_in (saved old it))
+leaves_saved task old it = by_file it.product.saved refl
+  where
+    by_file : (file : Option SavedFile) → it.product.saved ≡ file → Leaves (file_of task) (files_in old) (files_in (after_save file (loaded old it)))
+    by_file None e = leaves_same (file_of task) (files_in old) (files_in (loaded old it)) (files_loads it.loads old)
+    by_file (Some file) e =
+        leaves_file task old (after_save (Some file) (loaded old it)) it file (Some file.bytes) e (other_files file.name (Some file.bytes) (loaded old it).told)
+
+leaves_failed : (task : Option Asked) (old new : DeskState) (it : Decision task old) → FileFails it.product.saved (loaded old it) new →
+    Leaves (file_of task) (files_in old) (files_in new)
+leaves_failed task old new it fails = by_file it.product.saved refl fails
+  where
+    by_file : (file : Option SavedFile) → it.product.saved ≡ file → FileFails file (loaded old it) new → Leaves (file_of task) (files_in old) (files_in new)
+    by_file None e fails = absurd fails
+    by_file (Some file) e fails =
+        leaves_file task old new it file fails.0 e (ap files_in fails.1 ∙ other_files file.name fails.0 (loaded old it).told)
+
+leaves_call : (task : Option Asked) (old new : DeskState) → CallFails task old new → Leaves (file_of task) (files_in old) (files_in new)
+leaves_call task old new (inl (n, less, after)) =
+    leaves_same (file_of task) (files_in old) (files_in new)
+    (ap files_in after ∙ same_files as_before (after_loads n old).told (λ c. refl) ∙ files_loads n old)
+leaves_call task old new (inr (inl (it, fails))) = leaves_failed task old new it fails
+leaves_call task old new (inr (inr (it, fails))) =
+    leaves_also (file_of task) (files_in old) (files_in (saved old it)) (files_in new) (leaves_saved task old it)
+    (files_said (saved old it) new it.product.text (Err sink.Failed) fails)
+
+leaves_out : (task : Option Asked) (old new : DeskState) → RunsOut task old new → Leaves (file_of task) (files_in old) (files_in new)
+leaves_out task old new (inl (n, most, after)) =
+    leaves_same (file_of task) (files_in old) (files_in new) (ap files_in after ∙ files_loads n old)
+leaves_out task old new (inr (it, after)) =
+    leaves_also (file_of task) (files_in old) (files_in (saved old it)) (files_in new) (leaves_saved task old it) (ap files_in after)
+
+others : (task : Option Asked) (old new : DeskState) (answer : ℕ) → Ends task old new answer → Leaves (file_of task) (files_in old) (files_in new)
+others task old new answer (Decided it same said) =
+    leaves_also (file_of task) (files_in old) (files_in (saved old it)) (files_in new) (leaves_saved task old it)
+    (ap files_in said ∙ files_text it.product.text (saved old it))
+others task old new answer (Faulted five (mid, fails, (result, says))) =
+    leaves_also (file_of task) (files_in old) (files_in mid) (files_in new) (leaves_call task old mid fails) (files_said mid new _ result says)
+others task old new answer (Starved six (mid, out, (result, says))) =
+    leaves_also (file_of task) (files_in old) (files_in mid) (files_in new) (leaves_out task old mid out) (files_said mid new _ result says)
+
+-- a refusal saves nothing
+unsaved : (task : Option Asked) (old : DeskState) (it : Decision task old) → (status it.fate ≡ 0 → ⊥) → files_in (saved old it) ≡ files_in old
+unsaved task old it refused = by_file it.product.saved (gives_saves it.fate it.product it.gives ∙ refusal_saves it.fate refused)
+  where
+    by_file : (file : Option SavedFile) → option_map (λ f. f.name) file ≡ None → files_in (after_save file (loaded old it)) ≡ files_in old
+    by_file None e = files_loads it.loads old
+    by_file (Some file) e = absurd (cc)
+
+refusals : (task : Option Asked) (old new : DeskState) (answer : ℕ) → Ends task old new answer →
+    (answer ≡ 0 → ⊥) → (answer ≡ 5 → ⊥) → (answer ≡ 6 → ⊥) → files_in new ≡ files_in old
+refusals task old new answer (Decided it same said) done five six =
+    ap files_in said ∙ files_text it.product.text (saved old it) ∙ unsaved task old it (λ e. done (same ∙ e))
+refusals task old new answer (Faulted is faults) done five six = absurd (five is)
+refusals task old new answer (Starved is starves) done five six = absurd (six is)
+
+-- no file changes but the one that a task saves
+pub leaves_files : (task : Option Asked) (old new : DeskState) (answer : ℕ) → Ends task old new answer → LeavesFiles task old new answer
+leaves_files task old new answer ends =
+    record { others = others task old new answer ends; refused = refusals task old new answer ends }
+
+-- ---- refusals
+
+-- a refusal gives its line
+refusal_gives : (r : Refusal) (text : List ℕ) → text ≡ refusal_line (refused r) → Gives (refused r) (record { saved = None; text = text })
+refusal_gives refusal.BadWords text e = record { saves_nothing = refl; said = e }
+refusal_gives (refusal.Missing name) text e = record { saves_nothing = refl; said = e }
+refusal_gives (refusal.TooLong name) text e = record { saves_nothing = refl; said = e }
+refusal_gives (refusal.BadImage rule) text e = record { saves_nothing = refl; said = e }
+refusal_gives (refusal.BadLine n) text e = record { saves_nothing = refl; said = e }
+refusal_gives (refusal.Unsound law slot) text e = record { saves_nothing = refl; said = e }
+refusal_gives (refusal.BadConfiguration rule) text e = record { saves_nothing = refl; said = e }
+
+-- the end after a refusal whose line is tried
+pub ends_refused : (task : Option Asked) (old mid new : DeskState) (r : Refusal) (text : List ℕ) (wanted answer : ℕ) →
+    Comes task old mid (refused r) → text ≡ refusal_line (refused r) → wanted ≡ status (refused r) → Speaks mid new text wanted answer →
+    Ends task old new answer
+ends_refused task old mid new r text wanted answer comes is_line same speaks =
+    ends_delivered task old mid new (refused r) (record { saved = None; text = text }) wanted answer comes (refusal_gives r text is_line) same (inl speaks)
+
+-- the end after a refusal for whose line there was no memory
+pub ends_unsaid : (task : Option Asked) (old mid new : DeskState) (r : Refusal) (answer : ℕ) →
+    Comes task old mid (refused r) → MemoryTold mid new answer → Ends task old new answer
+ends_unsaid task old mid new r answer comes told =
+    ends_delivered task old mid new (refused r) (record { saved = None; text = refusal_line (refused r) }) (status (refused r)) answer comes
+    (refusal_gives r (refusal_line (refused r)) refl) refl (inr (inr told))

@@ -1,6 +1,10 @@
-mod Endings
-pub mod Finished
-pub mod Parsed
-mod Readings
-pub mod Running
-mod Unbroken
+pub mod RunLemmas
+pub mod Unarmed
+pub mod Sound
+pub mod Works
+pub mod Parts
+pub mod OneFate
+pub mod Saving
+pub mod Endings
+pub mod Copies
+pub mod ArrayRuns

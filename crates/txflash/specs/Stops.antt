@@ -1,25 +1,72 @@
 -- How the steps of the work end, and how the work stops before its end.
 use Rattle.std.specs.Prelude.{◌≡◌, ◌⊎◌, ℕ, ◌≤◌, List, codes, Option, Result, Ok, Err, Vec}
 use Rattle.std.specs.Global.{Global}
-use Rattle.host_protocol.specs.declared.command.Command.{Command}
+use Rattle.std.specs.Option.{option_map}
+use Rattle.tx_types.specs.declared.config.Config.{Config}
+use Rattle.flash_model.specs.Flash.{Contents}
+use Rattle.record_list.specs.declared.found.Breach.{Breach}
+use Rattle.image_file.specs.declared.error.ImageError.{ImageError}
 use Rattle.desk_io.specs.Desk as found
 use Rattle.desk_io.specs.Desk.{DeskState, Finds, Says, after_answer, after_fault, as_before}
 use Rattle.desk_io.specs.declared.desk.SinkError.TheVariants as sink
-use Rattle.txflash.specs.Fate.{Fate, Served, BadWords, Missing, TooLong, NotBuilt, IsFate, line}
-use Rattle.txflash.specs.Serving.{RunText}
-use Rattle.txflash.specs.Top.{LoadFails, Attempts, after_loads, after_text}
+use Rattle.txflash.specs.Fate.{Fate, BadWords, Missing, TooLong, BadImage, BadLine, Unsound, BadConfiguration, line, status}
+use Rattle.txflash.specs.Gives.{Product, SavedFile, Gives}
+use Rattle.txflash.specs.Steps.{IsFate, ReadsImage, Parses, Opens}
+use Rattle.txflash.specs.Top.{LoadFails, FileFails, Attempts, after_loads, after_save, after_text}
 use Rattle.txflash.specs.Words.{Asked, files_of}
 use Rattle.txflash.specs.declared.refusal.Refusal.{Refusal}
 use Rattle.txflash.specs.declared.refusal.Refusal.TheVariants as refusal
-use Rattle.txflash.specs.declared.top.Stop.{Stop}
-use Rattle.txflash.specs.declared.top.Stop.TheVariants as stop
+use Rattle.txflash.specs.declared.outcome.Stop.{Stop}
+use Rattle.txflash.specs.declared.outcome.Stop.TheVariants as stop
+use Rattle.txflash.specs.declared.outcome.Text.{Text}
+use Rattle.txflash.specs.declared.outcome.Text.TheVariants as text
+use Rattle.txflash.specs.declared.outcome.File.{File}
+use Rattle.txflash.specs.declared.outcome.Outcome.{Outcome}
 
 -- the fate that a refusal is
 abbrev pub refused : Refusal → Fate
 refused refusal.BadWords = BadWords
 refused (refusal.Missing name) = Missing name.now
 refused (refusal.TooLong name) = TooLong name.now
-refused (refusal.NotBuilt n) = NotBuilt n
+refused (refusal.BadImage rule) = BadImage rule
+refused (refusal.BadLine n) = BadLine n
+refused (refusal.Unsound law slot) = Unsound (record { law = law; slot = slot })
+refused (refusal.BadConfiguration rule) = BadConfiguration rule
+
+-- the bytes of a text
+abbrev pub bytes_of : Text → List ℕ
+bytes_of (text.Replies lines) = lines
+bytes_of (text.Line bytes) = bytes.items
+
+abbrev pub file_saved : File → SavedFile
+file_saved f = record { name = f.name.now; bytes = f.bytes.items }
+
+-- what an outcome of the work stands for
+abbrev pub product_of : Outcome → Product
+product_of o = record { saved = option_map file_saved o.saved; text = bytes_of o.text }
+
+-- the bytes of an image file break this rule first
+abbrev pub RefusesImage : List ℕ → Fate → Type 0
+RefusesImage bytes fate = (rule : ImageError) × ReadsImage bytes (Err rule) × (fate ≡ BadImage rule)
+
+-- this line of a command file is the first bad one
+abbrev pub RefusesLine : ℕ → List ℕ → Fate → Type 0
+RefusesLine page_bytes bytes fate = (n : ℕ) × Parses page_bytes bytes (Err n) × (fate ≡ BadLine n)
+
+-- the image of a device breaks this law first
+abbrev pub RefusesDevice : Config → List Contents → Fate → Type 0
+RefusesDevice its image fate = (breach : Breach) × Opens its image (Err breach) × (fate ≡ Unsound breach)
+
+-- a step that asks nothing of the desk is refused so, or memory runs out
+abbrev pub StopsBy : (Fate → Type 0) → Stop → Type 0
+StopsBy comes (stop.Refused refusal) = comes (refused refusal)
+StopsBy comes stop.Fault = ⊥
+StopsBy comes stop.Memory = Unit {0}
+
+-- work that asks nothing of the desk is done: it comes to such a fate, with what it gives
+abbrev pub WorksTo : (Fate → Type 0) → Result Outcome Stop → Type 0
+WorksTo comes (Ok outcome) = (fate : Fate) × comes fate × (status fate ≡ 0) × Gives fate (product_of outcome)
+WorksTo comes (Err stopped) = StopsBy comes stopped
 
 -- a load for a task: a file that is missing or too long is refused
 abbrev pub Fetches : DeskState → DeskState → List ℕ → Result (Vec ℕ Global) Stop → Type 0
@@ -35,18 +82,31 @@ Fetches old new name (Err stop.Memory) = new ≡ old
 abbrev pub Comes : Option Asked → DeskState → DeskState → Fate → Type 0
 Comes task old new fate = (loads : ℕ) × IsFate task old fate loads × (new ≡ after_loads loads old)
 
--- the work for a task gives the text of its replies, or stops
-abbrev pub Works : Option Asked → DeskState → DeskState → Result (Vec ℕ Global) Stop → Type 0
-Works task old new (Ok text) = (commands : List Command) × Comes task old new (Served commands) × RunText commands text.items
+-- the work for a task gives what its fate gives, or stops
+abbrev pub Works : Option Asked → DeskState → DeskState → Result Outcome Stop → Type 0
+Works task old new (Ok outcome) =
+    (fate : Fate) × Comes task old new fate × (status fate ≡ 0) × Gives fate (product_of outcome)
 Works task old new (Err (stop.Refused refusal)) = Comes task old new (refused refusal)
 Works task old new (Err stop.Fault) = LoadFails task old new
 Works task old new (Err stop.Memory) = (n : ℕ) × (n ≤ files_of task) × (new ≡ after_loads n old)
 
--- A text was said whole, with this status; or the status is 5 for a fault, or 6 for want of memory, and a line was
--- tried.
+-- a line was tried after a fault, or for want of memory
+abbrev pub FaultTold : DeskState → DeskState → ℕ → Type 0
+FaultTold old new answer = (answer ≡ 5) × Attempts old new (line (codes "desk fault"))
+
+abbrev pub MemoryTold : DeskState → DeskState → ℕ → Type 0
+MemoryTold old new answer = (answer ≡ 6) × Attempts old new (line (codes "no memory"))
+
+-- A text was said whole, with this status; or the saying failed, or memory ran out.
 abbrev pub Speaks : DeskState → DeskState → List ℕ → ℕ → ℕ → Type 0
 Speaks old new text status answer =
     ((answer ≡ status) × (new ≡ after_text text old))
-    ⊎ (((answer ≡ 5)
-    × ((mid : DeskState) × Says old mid text (Err sink.Failed) × Attempts mid new (line (codes "desk fault"))))
-    ⊎ ((answer ≡ 6) × Attempts old new (line (codes "no memory"))))
+    ⊎ (((mid : DeskState) × Says old mid text (Err sink.Failed) × FaultTold mid new answer)
+    ⊎ MemoryTold old new answer)
+
+-- A file was saved, if there is one, and then a text was said; or the saving failed, or memory ran out.
+abbrev pub Delivers : DeskState → DeskState → Product → ℕ → ℕ → Type 0
+Delivers old new p status answer =
+    Speaks (after_save p.saved old) new p.text status answer
+    ⊎ (((mid : DeskState) × FileFails p.saved old mid × FaultTold mid new answer)
+    ⊎ MemoryTold old new answer)

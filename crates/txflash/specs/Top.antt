@@ -1,16 +1,25 @@
--- What the program answers, what it says, and why.
-use Rattle.std.specs.Prelude.{◌≡◌, ◌⊎◌, ℕ, zero, suc, ◌<◌, ◌≤◌, List, [], ◌∷◌, codes, Option, IsSome, Result, Err}
+-- What the program answers, what it says and saves, and why.
+use Rattle.std.specs.Prelude.{◌≡◌, ◌⊎◌, ℕ, zero, suc, ◌<◌, ◌≤◌, List, [], ◌∷◌, codes, Option, None, Some, IsSome, Result, Err}
 use Rattle.std.specs.Option.{option_map}
-use Rattle.desk_io.specs.Desk.{DeskState, Files, Rose, Says, after_answer, after_fault, as_before, with_said}
+use Rattle.desk_io.specs.Desk.{DeskState, Files, Rose, Saves, Says, after_answer, after_fault, as_before, put, with_file, with_said}
 use Rattle.desk_io.specs.declared.desk.SinkError.{SinkError}
 use Rattle.desk_io.specs.declared.desk.SinkError.TheVariants as sink
-use Rattle.txflash.specs.Fate.{Fate, IsFate, IsText, status, line}
-use Rattle.txflash.specs.Words.{Asked, files_of}
+use Rattle.txflash.specs.Fate.{Fate, status, line}
+use Rattle.txflash.specs.Gives.{Product, SavedFile, Gives}
+use Rattle.txflash.specs.Steps.{IsFate}
+use Rattle.txflash.specs.Words.{Asked, files_of, file_of}
+
+-- ---- the desk after the calls that were made of it
 
 -- the desk after so many loads, none of which failed
 abbrev pub after_loads : ℕ → DeskState → DeskState
 after_loads zero desk = desk
 after_loads (suc n) desk = after_answer as_before (after_loads n desk)
+
+-- the desk after a file was saved; where there is none, nothing is saved
+abbrev pub after_save : Option SavedFile → DeskState → DeskState
+after_save None desk = desk
+after_save (Some saved) desk = after_answer (with_file saved.name (Some saved.bytes)) desk
 
 -- the desk after a text was said whole; where there is none, nothing is said
 abbrev pub after_text : List ℕ → DeskState → DeskState
@@ -21,49 +30,91 @@ after_text (c ∷ cs) desk = after_answer (with_said (c ∷ cs)) desk
 abbrev pub Attempts : DeskState → DeskState → List ℕ → Type 0
 Attempts old new text = (result : Result (Unit {0}) SinkError) × Says old new text result
 
--- a fate of a task, how many loads it comes after, and a text of it
+-- a fate of a task, how many loads it comes after, and what it gives
 pub record Decision (task : Option Asked) (desk : DeskState) : Type 0 where
   pub fate : Fate
   pub loads : ℕ
-  pub text : List ℕ
+  pub product : Product
   pub is_fate : IsFate task desk fate loads
-  pub is_text : IsText fate text
+  pub gives : Gives fate product
+
+-- the desk before the saving, and before the saying, of what a decision gives
+abbrev pub loaded : {task : Option Asked} → (desk : DeskState) → Decision task desk → DeskState
+loaded desk it = after_loads it.loads desk
+
+abbrev pub saved : {task : Option Asked} → (desk : DeskState) → Decision task desk → DeskState
+saved desk it = after_save it.product.saved (loaded desk it)
+
+-- ---- how a call fails
 
 -- a load failed
 abbrev pub LoadFails : Option Asked → DeskState → DeskState → Type 0
 LoadFails task old new = (n : ℕ) × (n < files_of task) × (new ≡ after_fault as_before (after_loads n old))
 
--- the saying of a fate's text failed
+-- the saving of this file failed, if there is one
+abbrev pub FileFails : Option SavedFile → DeskState → DeskState → Type 0
+FileFails None old new = ⊥
+FileFails (Some file) old new = Saves old new file.name file.bytes (Err sink.Failed)
+
+-- the saving of what a fate gives failed
+abbrev pub SaveFails : Option Asked → DeskState → DeskState → Type 0
+SaveFails task old new = (it : Decision task old) × FileFails it.product.saved (loaded old it) new
+
+-- the saying of a fate's text failed, after what it gives was saved
 abbrev pub TextFails : Option Asked → DeskState → DeskState → Type 0
-TextFails task old new = (it : Decision task old) × Says (after_loads it.loads old) new it.text (Err sink.Failed)
+TextFails task old new = (it : Decision task old) × Says (saved old it) new it.product.text (Err sink.Failed)
 
--- a load or the saying of the text failed, and then a line was tried
+-- a call of the desk failed
+abbrev pub CallFails : Option Asked → DeskState → DeskState → Type 0
+CallFails task old new = LoadFails task old new ⊎ (SaveFails task old new ⊎ TextFails task old new)
+
+-- and then a line was tried
 abbrev pub IsFaulted : Option Asked → DeskState → DeskState → Type 0
-IsFaulted task old new =
-    (mid : DeskState) × (LoadFails task old mid ⊎ TextFails task old mid) × Attempts mid new (line (codes "desk fault"))
+IsFaulted task old new = (mid : DeskState) × CallFails task old mid × Attempts mid new (line (codes "desk fault"))
 
--- memory ran out before anything was said, and then a line was tried
+-- Memory ran out before anything was saved and said, or after what a fate gives was saved, and before it was said.
+abbrev pub RunsOut : Option Asked → DeskState → DeskState → Type 0
+RunsOut task old new =
+    ((n : ℕ) × (n ≤ files_of task) × (new ≡ after_loads n old))
+    ⊎ ((it : Decision task old) × (new ≡ saved old it))
+
+-- and then a line was tried
 abbrev pub IsStarved : Option Asked → DeskState → DeskState → Type 0
-IsStarved task old new =
-    (n : ℕ) × (n ≤ files_of task) × Attempts (after_loads n old) new (line (codes "no memory"))
+IsStarved task old new = (mid : DeskState) × RunsOut task old mid × Attempts mid new (line (codes "no memory"))
 
--- How a call of the program ends, with which status: a fate decided and its text was said whole, or a call of the
--- desk failed, or memory ran out.
+-- How a call of the program ends, with which status: a fate decided, what it gives was saved, and its text was said
+-- whole; or a call of the desk failed; or memory ran out.
 pub data Ends (task : Option Asked) (old new : DeskState) (answer : ℕ) : Type 0 where
-  Decided : (it : Decision task old) → answer ≡ status it.fate →
-      new ≡ after_text it.text (after_loads it.loads old) → Ends task old new answer
+  Decided : (it : Decision task old) → answer ≡ status it.fate → new ≡ after_text it.product.text (saved old it) →
+      Ends task old new answer
   Faulted : answer ≡ 5 → IsFaulted task old new → Ends task old new answer
   Starved : answer ≡ 6 → IsStarved task old new → Ends task old new answer
+
+-- ---- which status comes
 
 -- the desk tells what the fate of a task hangs on: its files, where the task loads any
 abbrev pub TellsFate : Option Asked → DeskState → Type 0
 TellsFate task desk = (files_of task ≡ 0) ⊎ IsSome desk.told
 
--- Where the desk tells it, each fate gives its status, unless the desk's count of faults rose or memory ran out.
+-- Where the desk tells it, a task has one fate, which gives its status, unless the desk's count of faults rose or memory
+-- ran out.
 pub record IsExact (task : Option Asked) (old new : DeskState) (answer : ℕ) : Type 0 where
+  pub one_fate : (a b : Fate) (m n : ℕ) → TellsFate task old → IsFate task old a m → IsFate task old b n → a ≡ b
   pub fate_gives : (fate : Fate) (loads : ℕ) → IsFate task old fate loads → TellsFate task old →
       (Rose old.faults new.faults → ⊥) → (answer ≡ status fate) ⊎ (answer ≡ 6)
+
+-- ---- which file changes
 
 -- the files of a desk, if it tells them
 abbrev pub files_in : DeskState → Option Files
 files_in desk = option_map (λ c. c.files) desk.told
+
+-- these files, but for the one of this name
+abbrev pub Leaves : Option (List ℕ) → Option Files → Option Files → Type 0
+Leaves None old new = new ≡ old
+Leaves (Some name) old new = (new ≡ old) ⊎ ((left : Option (List ℕ)) × (new ≡ option_map (λ files. put files name left) old))
+
+-- No file changes but the one that a task saves; and none does where the status is a refusal.
+pub record LeavesFiles (task : Option Asked) (old new : DeskState) (answer : ℕ) : Type 0 where
+  pub others : Leaves (file_of task) (files_in old) (files_in new)
+  pub refused : (answer ≡ 0 → ⊥) → (answer ≡ 5 → ⊥) → (answer ≡ 6 → ⊥) → files_in new ≡ files_in old

@@ -1,18 +1,91 @@
 -- What the words of a call of the program ask for.
-use Rattle.std.specs.Prelude.{ℕ, nat_lt, ◌&&◌, if◌then◌else◌, List, [], ◌∷◌, length, map, codes, string_bytes, String, Option, None, Some}
+use Rattle.std.specs.Prelude.{ℕ, nat_lt, if◌then◌else◌, List, [], ◌∷◌, length, map, codes, string_bytes, String, Option, None, Some}
 use Rattle.std.specs.Global.{Global}
+use Rattle.std.specs.Option.{option_map, option_and_then}
 use Rattle.std.specs.Str.{bytes_eq}
+use Rattle.tx_types.specs.declared.config.Config.{Config}
+use Rattle.tx_types.specs.declared.config.Protocol.{Protocol}
+use Rattle.tx_types.specs.declared.config.Protocol.TheVariants.{Scc, Bpcc}
+use Rattle.host_protocol.specs.Numbers.{number_of}
+use Rattle.txflash.specs.Numbers.{wide_number_of, draws_of}
 use Rattle.txflash.specs.declared.words.Task.{Task}
 use Rattle.txflash.specs.declared.words.Task.TheVariants as task
 
--- a task of the program, with the names of the files that it loads
+-- A task of the program, with the names of its files: to try commands on a fresh device, to write a blank image, to run
+-- commands on an image, to report on an image, to drive a fresh device by commands that are drawn.
 pub data Asked : Type 0 where
   Try : (commands : List ℕ) → Asked
+  Format : (image : List ℕ) → (config : Config) → Asked
+  Run : (image commands : List ℕ) → Asked
+  Explain : (image : List ℕ) → Asked
+  Drive : (start count : ℕ) → (protocol : Protocol) → Asked
 
--- The table of words: `try` and the name of a file, which has at least one byte. No other words are in it.
+-- a file's name has at least one byte
+abbrev pub name_of : List ℕ → Option (List ℕ)
+name_of word = if nat_lt 0 (length word) then Some word else None
+
+abbrev pub protocol_of : List ℕ → Option Protocol
+protocol_of word =
+    if bytes_eq word (codes "scc") then Some Scc else if bytes_eq word (codes "bpcc") then Some Bpcc else None
+
+-- six numbers, which are those of a configuration in their order
+abbrev pub config_of : Protocol → List (List ℕ) → Option Config
+config_of protocol (page ∷ pages ∷ blocks ∷ dies ∷ logical ∷ pending ∷ []) =
+    option_and_then (λ page. option_and_then (λ pages. option_and_then (λ blocks.
+    option_and_then (λ dies. option_and_then (λ logical. option_map (λ pending. record {
+      protocol = protocol;
+      page_bytes = page;
+      pages_per_block = pages;
+      blocks_per_die = blocks;
+      dies = dies;
+      logical = logical;
+      pending = pending;
+    })
+    (number_of pending)) (number_of logical)) (number_of dies)) (number_of blocks)) (number_of pages)) (number_of page)
+config_of protocol _ = None
+
+-- ---- the words behind the first one
+
+abbrev pub try_of : List (List ℕ) → Option Asked
+try_of (commands ∷ []) = option_map Try (name_of commands)
+try_of _ = None
+
+abbrev pub format_of : List (List ℕ) → Option Asked
+format_of (image ∷ protocol ∷ numbers) =
+    option_and_then
+    (λ image. option_and_then (λ protocol. option_map (Format image) (config_of protocol numbers)) (protocol_of protocol))
+    (name_of image)
+format_of _ = None
+
+abbrev pub run_of : List (List ℕ) → Option Asked
+run_of (image ∷ commands ∷ []) = option_and_then (λ image. option_map (Run image) (name_of commands)) (name_of image)
+run_of _ = None
+
+abbrev pub explain_of : List (List ℕ) → Option Asked
+explain_of (image ∷ []) = option_map Explain (name_of image)
+explain_of _ = None
+
+abbrev pub drive_of : List (List ℕ) → Option Asked
+drive_of (start ∷ count ∷ protocol ∷ []) =
+    option_and_then
+    (λ start. option_and_then (λ count. option_map (Drive start count) (protocol_of protocol)) (draws_of count))
+    (wide_number_of start)
+drive_of _ = None
+
+-- the task that the words behind this verb ask for
+abbrev pub behind : List ℕ → List (List ℕ) → Option Asked
+behind verb words =
+    if bytes_eq verb (codes "try") then try_of words
+    else if bytes_eq verb (codes "format") then format_of words
+    else if bytes_eq verb (codes "run") then run_of words
+    else if bytes_eq verb (codes "explain") then explain_of words
+    else if bytes_eq verb (codes "drive") then drive_of words
+    else None
+
+-- the table of words: no other words are in it
 abbrev pub asked : List (List ℕ) → Option Asked
-asked (verb ∷ name ∷ []) = if bytes_eq verb (codes "try") && nat_lt 0 (length name) then Some (Try name) else None
-asked _ = None
+asked [] = None
+asked (verb ∷ words) = behind verb words
 
 abbrev pub asked_by : List (String Global) → Option Asked
 asked_by words = asked (map string_bytes words)
@@ -21,7 +94,21 @@ asked_by words = asked (map string_bytes words)
 abbrev pub files_of : Option Asked → ℕ
 files_of None = 0
 files_of (Some (Try commands)) = 1
+files_of (Some (Format image config)) = 0
+files_of (Some (Run image commands)) = 2
+files_of (Some (Explain image)) = 1
+files_of (Some (Drive start count protocol)) = 0
+
+-- the file that a task saves
+abbrev pub file_of : Option Asked → Option (List ℕ)
+file_of (Some (Format image config)) = Some image
+file_of (Some (Run image commands)) = Some image
+file_of _ = None
 
 -- the task that a value of the program stands for
 abbrev pub asked_of : Task → Asked
 asked_of (task.Try commands) = Try commands.now
+asked_of (task.Format image config) = Format image.now config
+asked_of (task.Run image commands) = Run image.now commands.now
+asked_of (task.Explain image) = Explain image.now
+asked_of (task.Drive start count protocol) = Drive start count protocol

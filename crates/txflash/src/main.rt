@@ -1,12 +1,16 @@
-//! The program: it serves a file of commands on a fresh device, and says the replies.
+//! The program: it serves files of commands on devices whose flash is a file or in memory, and says
+//! the replies.
 #![tactic(auto)]
 
 ghost use Rattle.std.specs.Prelude.{◌≡◌, ◌⊎◌, ◌↔◌};
 
+mod devices;
+mod kept;
 mod laws;
-mod parser;
+mod numbers;
+mod outcome;
 mod refusal;
-mod serving;
+mod tasks;
 #[cfg(test)]
 mod tests;
 mod top;

@@ -1,48 +1,31 @@
-ghost use Rattle.std.specs.Prelude.{◌≡◌, Some, codes};
+ghost use Rattle.std.specs.Prelude.{◌≡◌, codes};
 ghost use Rattle.desk_io.specs.Desk.{Rose};
 ghost use Rattle.txflash.specs.Fate.{line};
-ghost use Rattle.txflash.specs.Stops.{Fetches, Works, Speaks};
-ghost use Rattle.txflash.specs.Top.{Attempts, Ends, IsExact, files_in};
-ghost use Rattle.txflash.specs.Words.{Try, asked_by};
+ghost use Rattle.txflash.specs.Stops.{Delivers, FaultTold, MemoryTold, Speaks, Works, product_of};
+ghost use Rattle.txflash.specs.Top.{Ends, IsExact, LeavesFiles};
+ghost use Rattle.txflash.specs.Words.{asked_by};
 
-use crate::parser::{MAX_WRITES, ParseError, served_commands};
+use crate::outcome::{Outcome, Stop};
 use crate::refusal::Refusal;
-use crate::serving::{DEFAULT, tried};
+use crate::tasks::{driven, formatted, to_explain, to_run, to_try};
 use crate::words::{Task, asked};
-use desk_io::{Desk, LoadError, SinkError};
+use desk_io::{Desk, SinkError};
 use std::alloc::Global;
-use tx_types::Protocol;
 
 // What the clauses cite by name.
-const _: () = prove!(host_protocol::MAX_COMMANDS == 65536 && MAX_WRITES == 28);
+const _: () = prove!(host_protocol::MAX_COMMANDS == 65536 && host_protocol::MAX_ENTRIES == 262144);
 
 const _: () = prove!(host_protocol::MAX_FILE_BYTES == desk_io::MAX_FILE_BYTES);
 
-const _: () = prove!(DEFAULT.protocol as u8 == Protocol::Scc as u8 && DEFAULT.page_bytes == 16);
-
-const _: () = prove!(
-    DEFAULT.pages_per_block == 4 && DEFAULT.blocks_per_die == 4 && DEFAULT.dies == 2
-);
-
-const _: () = prove!(DEFAULT.logical == 20 && DEFAULT.pending == 7);
-
-/// Why there is no text of replies.
-#[derive(Clone, Copy, Debug)]
-enum Stop<'a> {
-    Refused(Refusal<'a>),
-    /// The desk met a fault.
-    Fault,
-    Memory,
-}
-
 /// Does what the words ask for, and answers the status: 0 where it is done, 1 for words that are not
-/// in the table, 2 for a file that is missing, 5 for a fault of the desk, 6 for want of memory, 9 for
-/// a file that is too long, and 10 for a command that is not built.
+/// in the table, 2 for a file that is missing, 3 for bytes that are no image file, 4 for a line that
+/// is no command, 5 for a fault of the desk, 6 for want of memory, 7 for an image that is not sound,
+/// 8 for numbers of no device, and 9 for a file that is too long.
 pub fn top<D: Desk>(alloc: Global, words: &[String], desk: &mut D) -> u8
     ensures ends { Ends (asked_by words.now) (D.state desk.old) (D.state desk.new) result }
     ensures exact { IsExact (asked_by words.now) (D.state desk.old) (D.state desk.new) result }
     ensures fault { result ≡ 5 → Rose (D.state desk.old).faults (D.state desk.new).faults }
-    ensures files { files_in (D.state desk.new) ≡ files_in (D.state desk.old) }
+    ensures files { LeavesFiles (asked_by words.now) (D.state desk.old) (D.state desk.new) result }
 {
     run(alloc, words, desk)
 }
@@ -52,7 +35,7 @@ fn run<D: Desk>(alloc: Global, words: &[String], desk: &mut D) -> u8
     ensures { Ends (asked_by words.now) (D.state desk.old) (D.state desk.new) result }
 {
     match work(alloc, words, desk) {
-        Ok(text) => say(desk, text.as_slice(), 0),
+        Ok(outcome) => deliver(desk, &outcome),
         Err(Stop::Refused(refusal)) => match refusal.line(alloc) {
             Ok(line) => say(desk, line.as_bytes(), refusal.status()),
             Err(_) => no_memory(desk),
@@ -62,46 +45,42 @@ fn run<D: Desk>(alloc: Global, words: &[String], desk: &mut D) -> u8
     }
 }
 
-/// The text of the replies to what the words ask for.
-fn work<'a, D: Desk>(alloc: Global, words: &'a [String], desk: &mut D) -> Result<Vec<u8>, Stop<'a>>
+/// What the work that the words ask for gives.
+fn work<'a, D: Desk>(
+    alloc: Global,
+    words: &'a [String],
+    desk: &mut D,
+) -> Result<Outcome<'a>, Stop<'a>>
     ensures { Works (asked_by words.now) (D.state desk.old) (D.state desk.new) result }
 {
     match asked(words) {
-        Some(Task::Try(commands)) => try_commands(alloc, commands, desk),
+        Some(Task::Try { commands }) => to_try(alloc, commands, desk),
+        Some(Task::Format { image, config }) => formatted(alloc, image, config),
+        Some(Task::Run { image, commands }) => to_run(alloc, image, commands, desk),
+        Some(Task::Explain { image }) => to_explain(alloc, image, desk),
+        Some(
+            Task::Drive {
+                start,
+                count,
+                protocol,
+            },
+        ) => driven(alloc, start, count, protocol),
         None => Err(Stop::Refused(Refusal::BadWords)),
     }
 }
 
-/// The text of the replies to the commands of a file on a fresh device.
-fn try_commands<'a, D: Desk>(
-    alloc: Global,
-    name: &'a str,
-    desk: &mut D,
-) -> Result<Vec<u8>, Stop<'a>>
-    ensures { Works (Some (Try name.now)) (D.state desk.old) (D.state desk.new) result }
+/// Saves a file, if there is one, and then says a text. The status is 0 where that is done.
+fn deliver<D: Desk>(desk: &mut D, outcome: &Outcome) -> u8
+    ensures { Delivers (D.state desk.old) (D.state desk.new) (product_of outcome.now) 0 result }
 {
-    let bytes = fetch(name, desk)?;
-    let commands = match served_commands(alloc, &bytes, DEFAULT.page_bytes) {
-        Ok(commands) => commands,
-        Err(ParseError::NotBuilt(n)) => return Err(Stop::Refused(Refusal::NotBuilt(n))),
-        Err(ParseError::Memory) => return Err(Stop::Memory),
-    };
-    match tried(alloc, &commands) {
-        Ok(text) => Ok(text),
-        Err(_) => Err(Stop::Memory),
+    if let Some(file) = &outcome.saved {
+        match desk.save(file.name, &file.bytes) {
+            Ok(()) => {}
+            Err(SinkError::Failed) => return desk_fault(desk),
+            Err(SinkError::Memory) => return no_memory(desk),
+        }
     }
-}
-
-/// The bytes of a file.
-fn fetch<'a, D: Desk>(name: &'a str, desk: &mut D) -> Result<Vec<u8>, Stop<'a>>
-    ensures { Fetches (D.state desk.old) (D.state desk.new) name.now result }
-{
-    desk.load(name).map_err(|error| match error {
-        LoadError::Missing => Stop::Refused(Refusal::Missing(name)),
-        LoadError::TooLong => Stop::Refused(Refusal::TooLong(name)),
-        LoadError::Failed => Stop::Fault,
-        LoadError::Memory => Stop::Memory,
-    })
+    say(desk, outcome.text.as_slice(), 0)
 }
 
 /// Says a text, if there is one, and answers the status.
@@ -120,8 +99,7 @@ fn say<D: Desk>(desk: &mut D, text: &[u8], status: u8) -> u8
 
 /// Attempts to say that the desk met a fault.
 fn desk_fault<D: Desk>(desk: &mut D) -> u8
-    ensures status { result ≡ 5 }
-    ensures attempts { Attempts (D.state desk.old) (D.state desk.new) (line (codes "desk fault")) }
+    ensures { FaultTold (D.state desk.old) (D.state desk.new) result }
 {
     let _ = desk.say(b"desk fault\n");
     5
@@ -129,8 +107,7 @@ fn desk_fault<D: Desk>(desk: &mut D) -> u8
 
 /// Attempts to say that there was no memory.
 fn no_memory<D: Desk>(desk: &mut D) -> u8
-    ensures status { result ≡ 6 }
-    ensures attempts { Attempts (D.state desk.old) (D.state desk.new) (line (codes "no memory")) }
+    ensures { MemoryTold (D.state desk.old) (D.state desk.new) result }
 {
     let _ = desk.say(b"no memory\n");
     6

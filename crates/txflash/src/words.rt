@@ -1,22 +1,146 @@
-ghost use Rattle.std.specs.Prelude.{◌≡◌};
+ghost use Rattle.std.specs.Prelude.{◌≡◌, map, string_bytes};
 ghost use Rattle.std.specs.Option.{option_map};
-ghost use Rattle.txflash.specs.Words.{asked_by, asked_of};
+ghost use Rattle.txflash.specs.Words.{asked_by, asked_of, config_of, name_of, protocol_of};
+ghost use Rattle.txflash.specs.Words.{drive_of, explain_of, format_of, run_of, try_of};
+
+use crate::numbers::{draws, wide_number};
+use host_protocol::number;
+use tx_types::{Config, Protocol};
 
 /// What the program is asked for.
 #[derive(Clone, Copy, Debug)]
 pub enum Task<'a> {
     /// To try the commands of the file of this name on a fresh device.
-    Try(&'a str),
+    Try {
+        commands: &'a str,
+    },
+    /// To save the image of a blank device of this configuration.
+    Format {
+        image: &'a str,
+        config: Config,
+    },
+    /// To serve the commands of a file on the device of an image file, and to save that.
+    Run {
+        image: &'a str,
+        commands: &'a str,
+    },
+    /// To report on the records of an image file.
+    Explain {
+        image: &'a str,
+    },
+    /// To serve commands that are drawn on a fresh device of this protocol.
+    Drive {
+        start: u64,
+        count: u32,
+        protocol: Protocol,
+    },
 }
 
 /// The task that the words ask for, if they are in the table.
 pub fn asked(words: &[String]) -> Option<Task<'_>>
     ensures { option_map asked_of result ≡ asked_by words.now }
 {
-    match words {
-        [verb, name] if verb.as_str() == "try" && !name.is_empty() => {
-            Some(Task::Try(name.as_str()))
-        }
+    let (verb, rest) = words.split_first()?;
+    match verb.as_str() {
+        "try" => to_try(rest),
+        "format" => to_format(rest),
+        "run" => to_run(rest),
+        "explain" => to_explain(rest),
+        "drive" => to_drive(rest),
         _ => None,
     }
+}
+
+fn to_try(words: &[String]) -> Option<Task<'_>>
+    ensures { option_map asked_of result ≡ try_of (map string_bytes words.now) }
+{
+    let [commands] = words else {
+        return None;
+    };
+    Some(Task::Try {
+        commands: name(commands)?,
+    })
+}
+
+fn to_format(words: &[String]) -> Option<Task<'_>>
+    ensures { option_map asked_of result ≡ format_of (map string_bytes words.now) }
+{
+    let [image, protocol, numbers @ ..] = words else {
+        return None;
+    };
+    let image = name(image)?;
+    let config = config(protocol_named(protocol)?, numbers)?;
+    Some(Task::Format { image, config })
+}
+
+fn to_run(words: &[String]) -> Option<Task<'_>>
+    ensures { option_map asked_of result ≡ run_of (map string_bytes words.now) }
+{
+    let [image, commands] = words else {
+        return None;
+    };
+    Some(Task::Run {
+        image: name(image)?,
+        commands: name(commands)?,
+    })
+}
+
+fn to_explain(words: &[String]) -> Option<Task<'_>>
+    ensures { option_map asked_of result ≡ explain_of (map string_bytes words.now) }
+{
+    let [image] = words else {
+        return None;
+    };
+    Some(Task::Explain {
+        image: name(image)?,
+    })
+}
+
+fn to_drive(words: &[String]) -> Option<Task<'_>>
+    ensures { option_map asked_of result ≡ drive_of (map string_bytes words.now) }
+{
+    let [start, count, protocol] = words else {
+        return None;
+    };
+    Some(Task::Drive {
+        start: wide_number(start.as_bytes())?,
+        count: draws(count.as_bytes())?,
+        protocol: protocol_named(protocol)?,
+    })
+}
+
+/// The name of a file, which has at least one byte.
+fn name(word: &str) -> Option<&str>
+    ensures { option_map (λ n. n.now) result ≡ name_of word.now }
+{
+    if word.is_empty() { None } else { Some(word) }
+}
+
+/// The protocol of this name.
+fn protocol_named(word: &str) -> Option<Protocol>
+    ensures { result ≡ protocol_of word.now }
+{
+    match word {
+        "scc" => Some(Protocol::Scc),
+        "bpcc" => Some(Protocol::Bpcc),
+        _ => None,
+    }
+}
+
+/// The configuration of this protocol with these six numbers.
+fn config(protocol: Protocol, numbers: &[String]) -> Option<Config>
+    ensures { result ≡ config_of protocol (map string_bytes numbers.now) }
+{
+    let [page, pages, blocks, dies, logical, pending] = numbers else {
+        return None;
+    };
+    Some(Config {
+        protocol,
+        page_bytes: number(page.as_bytes())?,
+        pages_per_block: number(pages.as_bytes())?,
+        blocks_per_die: number(blocks.as_bytes())?,
+        dies: number(dies.as_bytes())?,
+        logical: number(logical.as_bytes())?,
+        pending: number(pending.as_bytes())?,
+    })
 }

@@ -1,8 +1,11 @@
-use Rattle.txflash.proofs.Endings.{exact, keeps_files}
+use Rattle.txflash.proofs.Endings.{exact, leaves_files, only_fault}
 use Rattle.txflash.proofs.top.top.Goals as goal
 
-pub returns-clause-files : goal.returns-clause-files
-returns-clause-files g c = keeps_files _ _ _ c.run.result c.run.ensures
-
 pub returns-clause-exact : goal.returns-clause-exact
-returns-clause-exact g c = search exact
+returns-clause-exact g c = exact _ _ _ c.run.result c.run.ensures
+
+pub returns-clause-fault : goal.returns-clause-fault
+returns-clause-fault g c = only_fault _ _ _ c.run.result c.run.ensures
+
+pub returns-clause-files : goal.returns-clause-files
+returns-clause-files g c = leaves_files _ _ _ c.run.result c.run.ensures

@@ -1,109 +1,155 @@
-use Rattle.std.proofs.Common.{◌≡◌, ◌<◌, Some, refl, sym, ap, ◌∙◌, arith}
-use Rattle.std.specs.Prelude.{slice_index}
-use Rattle.page_record.specs.Spelling.{spelling}
-use Rattle.tx_types.specs.Config.{shape_of, slots_of}
-use Rattle.tx_engine.specs.OnePage.{lone_record}
-use Rattle.tx_engine.specs.Tables.{IsOpened}
-use Rattle.tx_engine.proofs.Stepping.{place, steps_unknown, steps_fault, written_steps, is_torn, is_written}
-use Rattle.tx_engine.proofs.Writing.{tabled_fault, tabled_done, changed_at, pages_stay, at_found, read_number}
+use Rattle.std.proofs.Common.{◌≡◌, ◌<◌, ◌++◌, All, ap, sym, ◌∙◌, subst, refl, Ok, Err, Some}
+use Rattle.std.specs.Prelude.{false, true}
+use Rattle.std.specs.Result.{is_err}
+use Rattle.tx_types.specs.declared.config.Config.{Config}
+use Rattle.flash_model.proofs.CallLemmas.{Carries-nothing}
+use Rattle.flash_model.proofs.MoveLemmas.{FlashMoves-nothing}
+use Rattle.tx_engine.specs.ArrayState.{ArrayState, Entry, entry_of}
+use Rattle.tx_engine.specs.Costs.{CostsStep}
+use Rattle.tx_engine.specs.declared.step.StepError.TheVariants as failed
+use Rattle.tx_engine.specs.Exits.{Exits, VersionsRise, StepRises, is_there, is_step_fault, settled_writes, done_writes}
+use Rattle.tx_engine.specs.OpenTable.{opening_at, entries_of}
+use Rattle.tx_engine.specs.Standing.{Standing}
+use Rattle.tx_engine.specs.Step.{StepsAs, settled}
+use Rattle.tx_engine.specs.Tables.{standing_in}
+use Rattle.tx_engine.proofs.Aborting.{entry_found, entry_missing, entry_settled, fault_is}
+use Rattle.tx_engine.proofs.Collecting.{settled_low, own_writes_low}
+use Rattle.tx_engine.proofs.ExitsThen.{exits_still, exits_then, rises_then}
+use Rattle.tx_engine.proofs.Kept.{from_stands}
+use Rattle.tx_engine.proofs.OpenList.{first_position, first_of_own, entry_first}
+use Rattle.tx_engine.proofs.SettleExits.{failed_machine}
+use Rattle.tx_engine.proofs.StepExits.{step_missing, step_unsettled, step_settled, done_low, fault_rises, costs_found, costs_settled, ok_as}
 use Rattle.tx_engine.proofs.device.Device.step.Goals as goal
 
 pub returns-in_default-clause-steps : goal.returns-in_default-clause-steps
 returns-in_default-clause-steps g c =
-    rw (← c.self.view_is) (steps_unknown _ c.self.inside.tables.opened.items c.args.tag (sym c.position.ensures ∙ c.in_default.is))
-
-pub overflow_add-self : goal.overflow_add-self
-overflow_add-self g c =
-    let d = c.self.inside in
-    let found = place d.tables.opened.items c.args.tag c.in-Some.at c.index-opened.result.now (sym c.position.ensures ∙ c.in-Some.is) c.index-opened.ensures in
-    let asked = rw (← c.self.view_is) at c.requires.room in
-    let room = asked found.has_entry in
-    omega (arith, room, c.self.invariant.numbers.shape.slots_most)
-
-pub program-requires-clause-blank : goal.program-requires-clause-blank
-program-requires-clause-blank g c =
-    let d = c.self.inside in
-    let found = place d.tables.opened.items c.args.tag c.in-Some.at c.index-opened.result.now (sym c.position.ensures ∙ c.in-Some.is) c.index-opened.ensures in
-    let asked = rw (← c.self.view_is) at c.requires.room in
-    let room = asked found.has_entry in
-    let below : d.used < slots_of (shape_of d.config) = omega (arith, room) in
-    record { in_range = rw c.self.invariant.shape below; blank_on = λ k from below. c.self.invariant.blank_on k from }
-
-pub invariant_of-self : goal.invariant_of-self
-invariant_of-self g c =
-    let d = c.self.inside in
     let state = g.F.Flash.state in
-    let torn = rw c.in-Err.is at c.program.ensures.torn in
-    let changed = changed_at (state d.flash).shape (state d.flash).image (state c.program.new.flash).image d.used _ _ torn.outcome (c.self.invariant.blank_on d.used (omega arith)) torn.image in
-    tabled_fault state d c.program.new.flash changed.0 c.self.invariant c.program.ensures.carries.shape changed.1
+    subst (λ (s : Standing _). StepsAs (is_there state s) s.machine s.machine c.args.tag (Err failed.Unknown)) c.self.view_is
+    (let s = (standing_in state c.self.inside.store c.self.inside.openings) in step_missing (is_there state s) s.machine c.args.tag (entry_missing c.args.tag c.self.inside.openings (sym c.position.ensures ∙ c.in_default.is)))
 
-pub returns-in-Err-clause-steps : goal.returns-in-Err-clause-steps
-returns-in-Err-clause-steps g c =
-    let d = c.self.inside in
+pub returns-in_default-clause-exits : goal.returns-in_default-clause-exits
+returns-in_default-clause-exits g c =
+    let s = g.F.Flash.state c.args.self.now.flash in
+    exits_still g.F.Flash.state c.args.self.now c.args.self.now.flash _ c.args.self.now refl (FlashMoves-nothing s s _ refl) (Carries-nothing s)
+
+pub returns-in_err-settle-clause-steps : goal.returns-in_err-settle-clause-steps
+returns-in_err-settle-clause-steps g c =
     let state = g.F.Flash.state in
-    let torn = rw c.in-Err.is at c.program.ensures.torn in
-    let changed = changed_at (state d.flash).shape (state d.flash).image (state c.program.new.flash).image d.used _ _ torn.outcome (c.self.invariant.blank_on d.used (omega arith)) torn.image in
-    let o = c.index-opened.result.now in
-    let found = place d.tables.opened.items c.args.tag c.in-Some.at o (sym c.position.ensures ∙ c.in-Some.is) c.index-opened.ensures in
-    rw (← c.self.view_is, changed.1, pages_stay d.config.page_bytes (state d.flash).image d.used changed.0 d.tables.homes.items c.self.invariant.stand)
-    (steps_fault _ d.tables.opened.items c.args.tag c.in-Some.at o found.first found.was)
+    let old = (standing_in state c.self.inside.store c.self.inside.openings) in
+    let new = (standing_in state c.settle.new.store c.settle.new.openings).machine in
+    subst (λ r. StepsAs (is_there state c.args.self.now) c.args.self.now.machine new c.args.tag r) (sym (fault_is c.from_residual.result c.from_residual.ensures.1))
+    (subst (λ (s : Standing _). StepsAs (is_there state s) s.machine new c.args.tag (Err failed.Fault)) c.self.view_is
+    (step_unsettled (is_there state old) old.machine new c.args.tag (opening_at c.self.inside.openings c.in-Some.at).entry (entry_found c.args.tag c.self.inside.openings c.in-Some.at (sym c.position.ensures ∙ c.in-Some.is)).1
+    (failed_machine state c.self.inside.store c.settle.new.store c.self.inside.openings c.settle.new.openings c.in_err-settle.ensures.failed.0 c.in_err-settle.ensures.failed.1 c.settle.ensures.moment)))
 
-pub finish-requires-clause-exists : goal.finish-requires-clause-exists
-finish-requires-clause-exists g c =
-    let d = c.self.inside in
-    let o = c.index-opened.result.now in
-    let found = place d.tables.opened.items c.args.tag c.in-Some.at o (sym c.position.ensures ∙ c.in-Some.is) c.index-opened.ensures in
-    let one = at_found (IsOpened d.config.page_bytes d.config.logical d.tables.mentions.items) d.tables.opened.items c.in-Some.at o c.self.invariant.open_ones found.was in
-    (o, found.was, rw c.self.invariant.homes one.in_range, one.unspent)
+pub advance-requires-clause-at : goal.advance-requires-clause-at
+advance-requires-clause-at g c =
+    (entry_settled _ c.self.inside.openings c.settle.new.openings c.in-Some.at (ap (λ (m : ArrayState). m.entries) c.in_ok-settle.ensures.settles.machine) (entry_found c.args.tag c.self.inside.openings c.in-Some.at (sym c.position.ensures ∙ c.in-Some.is)).0).0
 
-pub invariant_of-self-2 : goal.invariant_of-self-2
-invariant_of-self-2 g c =
-    let d = c.self.inside in
-    let found = place d.tables.opened.items c.args.tag c.in-Some.at c.index-opened.result.now (sym c.position.ensures ∙ c.in-Some.is) c.index-opened.ensures in
-    let asked = rw (← c.self.view_is) at c.requires.room in
-    let room = asked found.has_entry in
-    let done = rw c.in_default-program.is at c.program.ensures.done in
-    tabled_done g.F.Flash.state d c.program.new.flash c.finish.new.self c.in-Some.at _ _ _ c.self.invariant c.finish.ensures refl (omega (arith, room))
-    c.program.ensures.carries.shape done.image
+pub returns-in_err-advance-clause-steps : goal.returns-in_err-advance-clause-steps
+returns-in_err-advance-clause-steps g c =
+    let state = g.F.Flash.state in
+    let old = standing_in state c.self.inside.store c.self.inside.openings in
+    let mid = standing_in state c.settle.new.store c.settle.new.openings in
+    let new = standing_in state c.advance.new.store c.advance.new.openings in
+    let there = is_there state old in
+    let found = (entry_found c.args.tag c.self.inside.openings c.in-Some.at (sym c.position.ensures ∙ c.in-Some.is)) in
+    let at = entry_settled there c.self.inside.openings c.settle.new.openings c.in-Some.at (ap (λ (m : ArrayState). m.entries) c.in_ok-settle.ensures.settles.machine) found.0 in
+    let tags : (opening_at c.settle.new.openings c.in-Some.at).entry.tag ≡ c.args.tag = ap (λ (e : Entry). e.tag) at.1 ∙ sym found.2 in
+    subst (λ (s : Standing _). StepsAs (is_there state s) s.machine new.machine c.args.tag c.from_residual-in_err-advance.result) c.self.view_is
+    (step_settled there old.machine mid.machine new.machine c.args.tag (opening_at c.self.inside.openings c.in-Some.at).entry (opening_at c.settle.new.openings c.in-Some.at).entry c.advance.result c.from_residual-in_err-advance.result found.1
+    c.in_ok-settle.ensures.settles.machine at.1 tags c.advance.ensures.advances (λ p is. let no = sym c.in_err-advance.was ∙ is in cc) (λ is. (fault_is c.from_residual-in_err-advance.result c.from_residual-in_err-advance.ensures.1)))
+
+pub returns-in_err-advance-clause-exits : goal.returns-in_err-advance-clause-exits
+returns-in_err-advance-clause-exits g c =
+    let state = g.F.Flash.state in
+    let old = standing_in state c.self.inside.store c.self.inside.openings in
+    let mid = standing_in state c.settle.new.store c.settle.new.openings in
+    let new = standing_in state c.advance.new.store c.advance.new.openings in
+    let there = is_there state old in
+    let found = (entry_found c.args.tag c.self.inside.openings c.in-Some.at (sym c.position.ensures ∙ c.in-Some.is)) in
+    let at = entry_settled there c.self.inside.openings c.settle.new.openings c.in-Some.at (ap (λ (m : ArrayState). m.entries) c.in_ok-settle.ensures.settles.machine) found.0 in
+    let tags : (opening_at c.settle.new.openings c.in-Some.at).entry.tag ≡ c.args.tag = ap (λ (e : Entry). e.tag) at.1 ∙ sym found.2 in
+    subst (λ (s : Standing _). Exits state s new (is_step_fault c.from_residual-in_err-advance.result)) c.self.view_is
+    (subst (λ r. Exits state old new (is_step_fault r)) (sym (fault_is c.from_residual-in_err-advance.result c.from_residual-in_err-advance.ensures.1))
+    (exits_then state old mid new true refl refl c.in_ok-settle.ensures.exits c.in_err-advance.ensures.exits))
+
+pub returns-in_err-advance-clause-rises : goal.returns-in_err-advance-clause-rises
+returns-in_err-advance-clause-rises g c =
+    let state = g.F.Flash.state in
+    let old = standing_in state c.self.inside.store c.self.inside.openings in
+    let mid = standing_in state c.settle.new.store c.settle.new.openings in
+    let new = standing_in state c.advance.new.store c.advance.new.openings in
+    let there = is_there state old in
+    let found = (entry_found c.args.tag c.self.inside.openings c.in-Some.at (sym c.position.ensures ∙ c.in-Some.is)) in
+    let at = entry_settled there c.self.inside.openings c.settle.new.openings c.in-Some.at (ap (λ (m : ArrayState). m.entries) c.in_ok-settle.ensures.settles.machine) found.0 in
+    let tags : (opening_at c.settle.new.openings c.in-Some.at).entry.tag ≡ c.args.tag = ap (λ (e : Entry). e.tag) at.1 ∙ sym found.2 in
+    subst (λ (s : Standing _). StepRises (is_there state s) s new c.args.tag c.from_residual-in_err-advance.result) c.self.view_is
+    (fault_rises there old mid new c.args.tag (opening_at c.settle.new.openings c.in-Some.at).entry.tag (opening_at c.settle.new.openings c.in-Some.at).entry c.advance.result c.from_residual-in_err-advance.result (ap is_err c.in_err-advance.was) (fault_is c.from_residual-in_err-advance.result c.from_residual-in_err-advance.ensures.1)
+    c.in_ok-settle.ensures.exits.config (settled_low state c.self.inside.store c.self.inside.openings there c.self.invariant.stands) c.in_ok-settle.ensures.settles.machine c.in_ok-settle.ensures.settles.rises
+    c.advance.ensures.advances c.advance.ensures.rises)
 
 pub returns-clause-steps : goal.returns-clause-steps
 returns-clause-steps g c =
-    let d = c.self.inside in
-    let o = c.index-opened.result.now in
-    let found = place d.tables.opened.items c.args.tag c.in-Some.at o (sym c.position.ensures ∙ c.in-Some.is) c.index-opened.ensures in
-    let asked = rw (← c.self.view_is) at c.requires.room in
-    let room = asked found.has_entry in
-    let done = rw c.in_default-program.is at c.program.ensures.done in
-    let both : Some o ≡ Some c.finish.ensures.entry = sym found.was ∙ c.finish.ensures.was in
-    let bytes : o.bytes.items ≡ c.finish.ensures.entry.bytes.items = cc in
-    rw (← c.self.view_is)
-    (written_steps g.F.Flash.state d c.program.new.flash c.finish.new.self c.args.tag c.in-Some.at _ c.deref.result.now _ c.self.invariant c.finish.ensures refl (omega (arith, room))
-    done.image found.first (c.deref.ensures.value ∙ bytes))
+    let state = g.F.Flash.state in
+    let old = standing_in state c.self.inside.store c.self.inside.openings in
+    let mid = standing_in state c.settle.new.store c.settle.new.openings in
+    let new = standing_in state c.advance.new.store c.advance.new.openings in
+    let there = is_there state old in
+    let found = (entry_found c.args.tag c.self.inside.openings c.in-Some.at (sym c.position.ensures ∙ c.in-Some.is)) in
+    let at = entry_settled there c.self.inside.openings c.settle.new.openings c.in-Some.at (ap (λ (m : ArrayState). m.entries) c.in_ok-settle.ensures.settles.machine) found.0 in
+    let tags : (opening_at c.settle.new.openings c.in-Some.at).entry.tag ≡ c.args.tag = ap (λ (e : Entry). e.tag) at.1 ∙ sym found.2 in
+    subst (λ (s : Standing _). StepsAs (is_there state s) s.machine new.machine c.args.tag (Ok c.in_ok-advance.field-0)) c.self.view_is
+    (step_settled there old.machine mid.machine new.machine c.args.tag (opening_at c.self.inside.openings c.in-Some.at).entry (opening_at c.settle.new.openings c.in-Some.at).entry c.advance.result (Ok c.in_ok-advance.field-0) found.1
+    c.in_ok-settle.ensures.settles.machine at.1 tags c.advance.ensures.advances (λ p is. ok_as c.in_ok-advance.field-0 p c.advance.result c.in_ok-advance.was is) (λ is. let no = sym (ap is_err c.in_ok-advance.was) ∙ is in cc))
 
-pub returns-clause-written : goal.returns-clause-written
-returns-clause-written g c =
-    let d = c.self.inside in
-    let o = c.index-opened.result.now in
-    let found = place d.tables.opened.items c.args.tag c.in-Some.at o (sym c.position.ensures ∙ c.in-Some.is) c.index-opened.ensures in
-    let program = rw c.in_default-program.is at c.program.ensures in
-    let both : Some o ≡ Some c.finish.ensures.entry = sym found.was ∙ c.finish.ensures.was in
-    let bytes : o.bytes.items ≡ c.finish.ensures.entry.bytes.items = cc in
-    let page : o.page ≡ c.finish.ensures.entry.page = cc in
-    let one = at_found (IsOpened d.config.page_bytes d.config.logical d.tables.mentions.items) d.tables.opened.items c.in-Some.at o c.self.invariant.open_ones found.was in
-    let mention = read_number d.tables.mentions.items o.page c.index-mention.result.now (rw c.self.invariant.mentioned one.in_range) c.index-mention.ensures in
-    let spare = ap (spelling d.config.protocol) (c.lone_record-rec.ensures.record
-    ∙ ap (lone_record d.config.protocol o.page) mention
-    ∙ ap (λ p. lone_record d.config.protocol p (slice_index d.tables.mentions.items p)) page) in
-    rw (← c.self.view_is)
-    (is_written g.F.Flash.state d c.program.new.flash c.finish.new.self c.args.tag c.in-Some.at _ c.deref.result.now _ c.finish.ensures program found.first (c.deref.ensures.value ∙ bytes) spare)
+pub returns-clause-exits : goal.returns-clause-exits
+returns-clause-exits g c =
+    let state = g.F.Flash.state in
+    let old = standing_in state c.self.inside.store c.self.inside.openings in
+    let mid = standing_in state c.settle.new.store c.settle.new.openings in
+    let new = standing_in state c.advance.new.store c.advance.new.openings in
+    let there = is_there state old in
+    let found = (entry_found c.args.tag c.self.inside.openings c.in-Some.at (sym c.position.ensures ∙ c.in-Some.is)) in
+    let at = entry_settled there c.self.inside.openings c.settle.new.openings c.in-Some.at (ap (λ (m : ArrayState). m.entries) c.in_ok-settle.ensures.settles.machine) found.0 in
+    let tags : (opening_at c.settle.new.openings c.in-Some.at).entry.tag ≡ c.args.tag = ap (λ (e : Entry). e.tag) at.1 ∙ sym found.2 in
+    subst (λ (s : Standing _). Exits state s new false) c.self.view_is
+    (exits_then state old mid new false refl refl c.in_ok-settle.ensures.exits c.in_ok-advance.ensures.exits)
 
-pub returns-in-Err-clause-torn : goal.returns-in-Err-clause-torn
-returns-in-Err-clause-torn g c = λ fault.
-    let d = c.self.inside in
-    let o = c.index-opened.result.now in
-    let found = place d.tables.opened.items c.args.tag c.in-Some.at o (sym c.position.ensures ∙ c.in-Some.is) c.index-opened.ensures in
-    let program = rw c.in-Err.is at c.program.ensures in
-    let one = at_found (IsOpened d.config.page_bytes d.config.logical d.tables.mentions.items) d.tables.opened.items c.in-Some.at o c.self.invariant.open_ones found.was in
-    let mention = read_number d.tables.mentions.items o.page c.index-mention.result.now (rw c.self.invariant.mentioned one.in_range) c.index-mention.ensures in
-    let spare = ap (spelling d.config.protocol) (c.lone_record-rec.ensures.record ∙ ap (lone_record d.config.protocol o.page) mention) in
-    rw (← c.self.view_is) (is_torn g.F.Flash.state d c.program.new.flash c.args.tag c.in-Some.at o _ _ (rw c.deref.ensures.value at program) found.first found.was spare)
+pub returns-clause-rises : goal.returns-clause-rises
+returns-clause-rises g c =
+    let state = g.F.Flash.state in
+    let old = standing_in state c.self.inside.store c.self.inside.openings in
+    let mid = standing_in state c.settle.new.store c.settle.new.openings in
+    let new = standing_in state c.advance.new.store c.advance.new.openings in
+    let there = is_there state old in
+    let found = (entry_found c.args.tag c.self.inside.openings c.in-Some.at (sym c.position.ensures ∙ c.in-Some.is)) in
+    let at = entry_settled there c.self.inside.openings c.settle.new.openings c.in-Some.at (ap (λ (m : ArrayState). m.entries) c.in_ok-settle.ensures.settles.machine) found.0 in
+    let tags : (opening_at c.settle.new.openings c.in-Some.at).entry.tag ≡ c.args.tag = ap (λ (e : Entry). e.tag) at.1 ∙ sym found.2 in
+    subst (λ (s : Standing _). VersionsRise s new (settled_writes (is_there state s) s.machine ++ done_writes (entry_of c.args.tag (settled (is_there state s) s.machine).entries) (Ok c.in_ok-advance.field-0))) c.self.view_is
+    (let k1 = from_stands state c.settle.new.store c.settle.new.openings c.in_ok-settle.ensures.stands in
+    let mine : entry_of c.args.tag (settled there old.machine).entries ≡ Some (opening_at c.settle.new.openings c.in-Some.at).entry =
+    ap (λ (m : ArrayState). entry_of c.args.tag m.entries) (sym c.in_ok-settle.ensures.settles.machine)
+    ∙ ap (λ t. entry_of t (entries_of c.settle.new.openings)) (sym tags) ∙ entry_first (opening_at c.settle.new.openings c.in-Some.at).entry.tag c.settle.new.openings.all c.in-Some.at (first_of_own c.settle.new.openings.all c.in-Some.at k1.tags at.0) in
+    subst (λ o. VersionsRise old new (settled_writes there old.machine ++ done_writes o (Ok c.in_ok-advance.field-0))) (sym mine)
+    (rises_then state old mid new (settled_writes there old.machine) (done_writes (Some (opening_at c.settle.new.openings c.in-Some.at).entry) (Ok c.in_ok-advance.field-0)) c.in_ok-settle.ensures.exits.config
+    (settled_low state c.self.inside.store c.self.inside.openings there c.self.invariant.stands)
+    (subst (λ (k : Config). All (λ w. w.page < k.logical) (done_writes (Some (opening_at c.settle.new.openings c.in-Some.at).entry) (Ok c.in_ok-advance.field-0))) c.in_ok-settle.ensures.exits.config
+    (done_low c.settle.new.store.noted.config.logical (opening_at c.settle.new.openings c.in-Some.at).entry c.in_ok-advance.field-0 (own_writes_low (state c.settle.new.store.flash) c.settle.new.store.noted c.settle.new.openings c.settle.new.store.table c.settle.new.store.unsure k1 c.in-Some.at at.0)))
+    c.in_ok-settle.ensures.exits.versions c.in_ok-advance.ensures.exits.versions c.in_ok-settle.ensures.settles.rises c.in_ok-advance.ensures.rises))
+
+pub returns-in_err-advance-clause-costs : goal.returns-in_err-advance-clause-costs
+returns-in_err-advance-clause-costs g c =
+    let state = g.F.Flash.state in
+    let new = (standing_in state c.advance.new.store c.advance.new.openings) in
+    subst (λ (s : Standing _). CostsStep state s new c.args.tag) c.self.view_is
+    (λ sure. costs_found state c.self.inside.store c.self.inside.openings new c.args.tag c.in-Some.at (first_position c.args.tag c.self.inside.openings.all c.in-Some.at (sym c.position.ensures ∙ c.in-Some.is))
+    (costs_settled state c.self.inside.store c.settle.new.store c.self.inside.openings c.settle.new.openings new c.in-Some.at (c.settle.ensures.idle sure).1 (c.settle.ensures.idle sure).2 c.advance.ensures.costs))
+
+pub returns-clause-costs : goal.returns-clause-costs
+returns-clause-costs g c =
+    let state = g.F.Flash.state in
+    let new = (standing_in state c.advance.new.store c.advance.new.openings) in
+    subst (λ (s : Standing _). CostsStep state s new c.args.tag) c.self.view_is
+    (λ sure. costs_found state c.self.inside.store c.self.inside.openings new c.args.tag c.in-Some.at (first_position c.args.tag c.self.inside.openings.all c.in-Some.at (sym c.position.ensures ∙ c.in-Some.is))
+    (costs_settled state c.self.inside.store c.settle.new.store c.self.inside.openings c.settle.new.openings new c.in-Some.at (c.settle.ensures.idle sure).1 (c.settle.ensures.idle sure).2 c.advance.ensures.costs))

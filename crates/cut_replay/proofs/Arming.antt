@@ -1,0 +1,159 @@
+-- Commands that set an arm.
+use Rattle.std.proofs.Common.{◌≡◌, ℕ, ◌≤◌, Bool, true, false, ◌||◌, List, Option, Some, None, Ok, refl, sym, ap, ◌∙◌, subst, inr, arith}
+use Rattle.std.specs.Prelude.{MatchBool, IfSome}
+use Rattle.std.proofs.lemmas.List.Elements.{All-weaker}
+use Rattle.tx_types.specs.declared.config.Config.{Config}
+use Rattle.tx_types.specs.declared.config.Protocol.{Protocol}
+use Rattle.tx_types.specs.Config.{shape_of}
+use Rattle.flash_model.specs.declared.outcome.Outcome.{Outcome}
+use Rattle.flash_model.specs.Flash.{FlashState, Told}
+use Rattle.flash_model.specs.Arms.{ChangesTold, SetsCut, SetsFault, SetsBadRead}
+use Rattle.flash_model.specs.Calls.{BothTell, NoMore}
+use Rattle.flash_model.specs.Operations.{Moment, moment_of}
+use Rattle.record_list.specs.Records.{mention}
+use Rattle.version_index.specs.Images.{IsSoundImage, records_in}
+use Rattle.page_cache.specs.CachedPages.{CachedPage}
+use Rattle.tx_engine.specs.Standing.{Standing}
+use Rattle.host_protocol.specs.declared.command.Command.{Command}
+use Rattle.host_protocol.specs.declared.command.Command.TheVariants as command
+use Rattle.host_protocol.specs.declared.reply.Reply.TheVariants as reply
+use Rattle.cut_replay.specs.Run.{is_arm, seen_after}
+use Rattle.cut_replay.specs.FlashRun.{Point, IsPoint, ServesFlash, opening_point}
+use Rattle.cut_replay.specs.Bounds.{IsSet}
+use Rattle.cut_replay.specs.Mounted.{point_at, IsSeen, IsCachedAs, IsCached, IsBacked}
+use Rattle.cut_replay.specs.Sessions.{flash_in, point_of, Fits, StandsAt, StandsMounted, IsSpentBy, Serves, StaysRefused, SetsArm}
+use Rattle.cut_replay.specs.declared.session.Session.{Session}
+use Rattle.cut_replay.specs.declared.session.Session.TheVariants as session
+use Rattle.cut_replay.proofs.Mountings.{mounted_point}
+use Rattle.cut_replay.proofs.Followed.{backed_point, or_left}
+use Rattle.cut_replay.proofs.Lifted.{Cases}
+
+-- what an arm of a kind sets and brings
+pub record IsArming (c : Command) (sets : Told → Told → Type 0) : Type 0 where
+  pub arm : is_arm c ≡ true
+  pub spent : (x y : Told) → sets x y → IsSpentBy c reply.Armed x y
+  pub set : (x y : Told) → sets x y → IsSet c y
+
+pub arming_cut : (count : ℕ) (what : Outcome) → IsArming (command.Cut count what) (SetsCut (record { count = count; outcome = what }))
+arming_cut count what = record { arm = refl; spent = λ x y h. record { cuts = omega (arith, h.cuts); breaks = omega (arith, h.breaks) }; set = λ x y h. h.cut }
+
+pub arming_fault : (count : ℕ) (what : Outcome) → IsArming (command.Fault count what) (SetsFault (record { count = count; outcome = what }))
+arming_fault count what = record { arm = refl; spent = λ x y h. record { cuts = omega (arith, h.cuts); breaks = omega (arith, h.breaks) }; set = λ x y h. h.fault }
+
+pub arming_bad_read : (count : ℕ) → IsArming (command.BadRead count) (SetsBadRead count)
+arming_bad_read count = record { arm = refl; spent = λ x y h. record { cuts = omega (arith, h.cuts); breaks = omega (arith, h.breaks) }; set = λ x y h. h.bad_read }
+
+-- Of what the flash tells
+pub weaker_told : (P Q : Told → Told → Type 0) → ((x y : Told) → P x y → Q x y) → (a b : Option Told) → BothTell P a b → BothTell Q a b
+weaker_told P Q weaker None None h = tt
+weaker_told P Q weaker None (Some y) h = absurd h
+weaker_told P Q weaker (Some x) None h = absurd h
+weaker_told P Q weaker (Some x) (Some y) h = weaker x y h
+
+then_told : (P : Told → Told → Type 0) (Q : Told → Type 0) → ((x y : Told) → P x y → Q y) → (a b : Option Told) → BothTell P a b → IfSome b Q
+then_told P Q then None None h = tt
+then_told P Q then None (Some y) h = absurd h
+then_told P Q then (Some x) None h = tt
+then_told P Q then (Some x) (Some y) h = then x y h
+
+still_armed : (sets : Told → Told → Type 0) (old new : FlashState) → ChangesTold sets old new → moment_of new ≡ moment_of old
+still_armed sets old new h = ap moment_of h.stays
+
+-- the point stays
+same_point : {F R : Type 0} (state : F → FlashState) (its : Config) (kept : Protocol) (sets : Told → Told → Type 0) (old new : Session F R) → SetsArm state kept sets old new → point_of state its new ≡ point_of state its old
+same_point {F = F} state its kept sets (session.Mounted s) (session.Mounted t) h =
+    ap (λ (x : Standing F). record { state = record { machine = x.machine; up = true }; moment = moment_of (state t.flash) }) h.stays
+    ∙ ap (λ (m : Moment). record { state = record { machine = s.machine; up = true }; moment = m }) (still_armed sets (state s.flash) (state t.flash) h.changes)
+same_point state its kept sets (session.Mounted s) (session.Unmounted f) h = absurd h
+same_point state its kept sets (session.Unmounted e) (session.Mounted t) h = absurd h
+same_point state its kept sets (session.Unmounted e) (session.Unmounted f) h = ap (λ (m : Moment). opening_point its false m) (still_armed sets (state e) (state f) h)
+
+armed_told : {F R : Type 0} (state : F → FlashState) (kept : Protocol) (sets : Told → Told → Type 0) (old new : Session F R) → SetsArm state kept sets old new →
+    BothTell sets (state (flash_in old)).told (state (flash_in new)).told
+armed_told state kept sets (session.Mounted s) (session.Mounted t) h = h.changes.told
+armed_told state kept sets (session.Mounted s) (session.Unmounted f) h = absurd h
+armed_told state kept sets (session.Unmounted e) (session.Mounted t) h = absurd h
+armed_told state kept sets (session.Unmounted e) (session.Unmounted f) h = h.told
+
+-- what stands still stands
+same_seen : {F : Type 0} (seen : ℕ → ℕ) (s : Standing F) (flash : F) → IsSeen seen s → IsSeen seen (record s { flash = flash })
+same_seen seen s flash h = record { mentions = h.mentions; names = h.names }
+
+armed_stands : {F R : Type 0} (state : F → FlashState) (its : Config) (kept : Protocol) (sets : Told → Told → Type 0) (c : Command) (seen : ℕ → ℕ) (faulted : Bool) (old new : Session F R) →
+    SetsArm state kept sets old new → StandsAt state its seen faulted old → StandsAt state its (seen_after seen c reply.Armed) (faulted || false) new
+armed_stands {F = F} state its kept sets c seen faulted (session.Mounted s) (session.Mounted t) h stands =
+    subst (λ (x : Standing F). StandsMounted (seen_after seen c reply.Armed) (faulted || false) x) (sym h.stays) (record {
+      sure = λ whole. stands.sure (or_left faulted false whole);
+      mentions = same_seen seen s t.flash stands.mentions;
+    })
+armed_stands state its kept sets c seen faulted (session.Mounted s) (session.Unmounted f) h stands = absurd h
+armed_stands state its kept sets c seen faulted (session.Unmounted e) (session.Mounted t) h stands = absurd h
+armed_stands state its kept sets c seen faulted (session.Unmounted e) (session.Unmounted f) h stands =
+    let moment = still_armed sets (state e) (state f) h in
+    record {
+      sound = subst (λ (m : Moment). IsSoundImage its.protocol its.logical (shape_of its) m.image) (sym moment) stands.sound;
+      mentions = λ page lt. subst (λ (m : Moment). mention (records_in its.protocol m.image) page ≤ seen page) (sym moment) (stands.mentions page lt);
+    }
+
+same_told : (a : Option Told) → BothTell NoMore a a
+same_told None = tt
+same_told (Some x) = (omega arith, omega arith)
+
+-- and the point is one still
+armed_point : {F R : Type 0} (state : F → FlashState) (its : Config) (kept : Protocol) (sets : Told → Told → Type 0) (entries : List CachedPage) (seen : ℕ → ℕ) (faulted : Bool) (old new : Session F R) →
+    SetsArm state kept sets old new → Fits state its entries old → StandsAt state its seen faulted old → IsPoint its (point_of state its new)
+armed_point state its kept sets entries seen faulted (session.Mounted s) (session.Mounted t) h fits stands =
+    subst (λ (x : Config). IsPoint x (point_at state t)) (ap (λ (x : Standing _). x.config) h.stays ∙ fits.config) (backed_point state kept t h.backed)
+armed_point state its kept sets entries seen faulted (session.Mounted s) (session.Unmounted f) h fits stands = absurd h
+armed_point state its kept sets entries seen faulted (session.Unmounted e) (session.Mounted t) h fits stands = absurd h
+armed_point {F = F} {R = R} state its kept sets entries seen faulted (session.Unmounted e) (session.Unmounted f) h fits stands =
+    let after : Session F R = session.Unmounted e in
+    subst (λ (p : Point). IsPoint its p) (sym (same_point {R = R} state its kept sets after (session.Unmounted f) h))
+    (mounted_point {R = R} state its e after (record { moment = refl; shape = refl; told = same_told (state e).told }) stands.sound)
+
+armed_serves_flash : (its : Config) (spent : ℕ → Bool) (faulted : Bool) (c : Command) (old new : Point) → is_arm c ≡ true → new ≡ old → ServesFlash its spent faulted c old reply.Armed new
+armed_serves_flash its spent faulted c old new arm same = subst (λ b. MatchBool b ((reply.Armed ≡ reply.Armed) × (new ≡ old)) (Cases its spent faulted c old reply.Armed new)) (sym arm) (refl, same)
+
+armed_refused : {F R : Type 0} (state : F → FlashState) (its : Config) (kept : Protocol) (sets : Told → Told → Type 0) (old new : Session F R) → SetsArm state kept sets old new → StaysRefused state its old new
+armed_refused state its kept sets (session.Mounted s) (session.Mounted t) h = tt
+armed_refused state its kept sets (session.Mounted s) (session.Unmounted f) h = absurd h
+armed_refused state its kept sets (session.Unmounted e) (session.Mounted t) h = tt
+armed_refused state its kept sets (session.Unmounted e) (session.Unmounted f) h = inr (ap (λ (m : Moment). m.image) (still_armed sets (state e) (state f) h))
+
+pub armed_serves : {F R : Type 0} (state : F → FlashState) (its : Config) (kept : Protocol) (sets : Told → Told → Type 0) (entries : List CachedPage) (c : Command) (old new : Session F R) →
+    IsArming c sets → Fits state its entries old → SetsArm state kept sets old new → Serves state its c old reply.Armed new
+armed_serves state its kept sets entries c old new arming fits h = record {
+  in_run = λ seen faulted stands. record {
+    spent = λ page. false;
+    may = λ page spent. (let not : false ≡ true = spent in absurd cc);
+    serves = armed_serves_flash its (λ page. false) faulted c (point_of state its old) (point_of state its new) arming.arm (same_point state its kept sets old new h);
+    point = armed_point state its kept sets entries seen faulted old new h fits stands;
+    stands = armed_stands state its kept sets c seen faulted old new h stands;
+  };
+  refused = armed_refused state its kept sets old new h;
+  spends = weaker_told sets (IsSpentBy c reply.Armed) arming.spent (state (flash_in old)).told (state (flash_in new)).told (armed_told state kept sets old new h);
+  set = then_told sets (IsSet c) arming.set (state (flash_in old)).told (state (flash_in new)).told (armed_told state kept sets old new h);
+}
+
+-- and the session fits still
+fits_flash : {F : Type 0} (s : Standing F) (flash : F) (e : CachedPage) → IsCachedAs s e → IsCachedAs (record s { flash = flash }) e
+fits_flash s flash e h = record { exists = h.exists; least = h.least; current = h.current }
+
+pub armed_fits : {F R : Type 0} (state : F → FlashState) (its : Config) (kept : Protocol) (sets : Told → Told → Type 0) (entries : List CachedPage) (old new : Session F R) → its.protocol ≡ kept →
+    Fits state its entries old → SetsArm state kept sets old new → Fits state its entries new
+armed_fits {F = F} state its kept sets entries (session.Mounted s) (session.Mounted t) rule fits h = record {
+  config = ap (λ (x : Standing F). x.config) h.stays ∙ fits.config;
+  check = fits.check ∙ ap (λ (x : FlashState). Ok x.shape) (sym h.changes.stays);
+  live = ap (λ (x : FlashState). x.live) h.changes.stays ∙ fits.live;
+  cached = subst (λ (x : Standing F). IsCached x entries) (sym h.stays) (All-weaker (IsCachedAs s) (IsCachedAs (record s { flash = t.flash })) (fits_flash s t.flash) entries fits.cached);
+  backed = subst (λ (p : Protocol). IsBacked state p t) (sym rule) h.backed;
+}
+armed_fits state its kept sets entries (session.Mounted s) (session.Unmounted f) rule fits h = absurd h
+armed_fits state its kept sets entries (session.Unmounted e) (session.Mounted t) rule fits h = absurd h
+armed_fits state its kept sets entries (session.Unmounted e) (session.Unmounted f) rule fits h = fits ∙ ap (λ (x : FlashState). Ok x.shape) (sym h.stays)
+
+-- at the command that was read
+pub armed_as : {F R : Type 0} (state : F → FlashState) (its : Config) (kept : Protocol) (sets : Told → Told → Type 0) (entries : List CachedPage) (c d : Command) (old new : Session F R) →
+    c ≡ d → IsArming d sets → Fits state its entries old → SetsArm state kept sets old new → Serves state its c old reply.Armed new
+armed_as state its kept sets entries c d old new is arming fits h =
+    subst (λ x. Serves state its x old reply.Armed new) (sym is) (armed_serves state its kept sets entries d old new arming fits h)

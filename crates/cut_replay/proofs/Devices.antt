@@ -1,0 +1,116 @@
+-- What calls of a device leave of its mentions, of the cache, and of what is told.
+use Rattle.std.proofs.Common.{◌≡◌, ◌⊎◌, ℕ, ◌+◌, ◌<◌, ◌≤◌, Bool, true, false, cond, List, [], ◌∷◌, ◌++◌, sym, ◌∙◌, subst, inl, inr, arith}
+use Rattle.std.specs.Prelude.{All, Any, count_by}
+use Rattle.std.proofs.lemmas.Bool.{cases_lt}
+use Rattle.std.proofs.lemmas.List.Elements.{All-weaker}
+use Rattle.tx_types.specs.declared.config.Config.{Config}
+use Rattle.tx_types.specs.declared.config.Protocol.{Protocol}
+use Rattle.tx_types.specs.declared.config.Shape.{Shape}
+use Rattle.tx_types.specs.declared.record.Link.{Link}
+use Rattle.flash_model.specs.Flash.{FlashState}
+use Rattle.flash_model.specs.Calls.{Carries}
+use Rattle.flash_model.specs.Moves.{Moves}
+use Rattle.flash_model.specs.Operations.{moment_of}
+use Rattle.record_list.proofs.Names.{IsIn, contains_from, in_from, all_at}
+use Rattle.version_index.specs.Noted.{mention_of}
+use Rattle.page_cache.specs.CachedPages.{CachedPage}
+use Rattle.tx_engine.specs.Exits.{Exits, IsNamedAt, VersionsTell}
+use Rattle.tx_engine.specs.Naming.{is_spent}
+use Rattle.tx_engine.specs.Submit.{is_of}
+use Rattle.tx_engine.specs.Standing.{Standing, Naming, limits_of}
+use Rattle.host_protocol.specs.declared.command.Command.{Command}
+use Rattle.host_protocol.specs.declared.reply.Reply.{Reply}
+use Rattle.collector.specs.declared.unsure.Unsure.TheVariants as unsure
+use Rattle.cut_replay.specs.Run.{Does, seen_after, is_break, is_opened, writes_in}
+use Rattle.cut_replay.specs.FlashRun.{Tells, is_fault, is_still}
+use Rattle.cut_replay.specs.Bounds.{is_cut}
+use Rattle.cut_replay.specs.Mounted.{point_at, IsSeen, IsCachedAs, IsCached, IsBacked, MayHaveCut, ServesHere}
+
+-- some item of a list, as an item in it, and back
+pub in_any : {X : Type 0} (P : X → Type 0) (xs : List X) → Any P xs → (x : X) × IsIn xs x × P x
+in_any P xs h = (h.1, in_from xs h.1 (h.0, h.2, h.3), h.4)
+
+pub any_in : {X : Type 0} (P : X → Type 0) (xs : List X) (x : X) → IsIn xs x → P x → Any P xs
+any_in P xs x i p = let c = contains_from xs x i in (c.0, x, c.1, c.2, p)
+
+-- an item of a list with one more is in the list, or is that one
+pub in_append : {X : Type 0} (xs : List X) (x y : X) → IsIn (xs ++ x ∷ []) y → IsIn xs y ⊎ (x ≡ y)
+in_append [] x y (inl e) = inr e
+in_append [] x y (inr i) = absurd i
+in_append (z ∷ zs) x y (inl e) = inl (inl e)
+in_append (z ∷ zs) x y (inr i) = elim (in_append zs x y i) [ inl before ↦ inl (inr before) | inr same ↦ inr same ]
+
+-- what is seen at least is not less after a command
+seen_least : (b : Bool) (n k : ℕ) → n ≤ cond b (n + k) n
+seen_least true n k = omega arith
+seen_least false n k = omega arith
+
+pub seen_at : (seen : ℕ → ℕ) (c : Command) (r : Reply) (page : ℕ) → seen page ≤ seen_after seen c r page
+seen_at seen c r page = seen_least (is_opened r) (seen page) (count_by (is_of page) (writes_in c))
+
+pub seen_later : {F : Type 0} (seen : ℕ → ℕ) (c : Command) (r : Reply) (s : Standing F) → IsSeen seen s → IsSeen (seen_after seen c r) s
+seen_later seen c r s h = record {
+  mentions = λ page. (let least = seen_at seen c r page in let most = h.mentions page in omega arith);
+  names = λ page version named. (let least = seen_at seen c r page in let most = h.names page version named in omega arith);
+}
+
+-- the names of the open transactions are those of before
+named_before : (old new : List Naming) (page version : ℕ) → All (λ x. Any (λ before. before.names ≡ x.names) old) new → IsNamedAt new page version → IsNamedAt old page version
+named_before old new page version names h =
+    let at = in_any (λ x. Any (λ name. (name.page ≡ page) × (name.version ≡ version)) x.names) new h in
+    let from = in_any (λ (before : Naming). before.names ≡ at.0.names) old (all_at (λ x. Any (λ before. before.names ≡ x.names) old) new at.0 names at.1) in
+    any_in (λ x. Any (λ name. (name.page ≡ page) × (name.version ≡ version)) x.names) old from.0 from.1
+    (subst (λ (names : List Link). Any (λ name. (name.page ≡ page) × (name.version ≡ version)) names) (sym from.2) at.2)
+
+-- a call that may settle, write and collect leaves the mentions within what was seen
+pub exits_seen : {F : Type 0} (state : F → FlashState) (kept : Protocol) (old new : Standing F) (broken : Bool) (seen : ℕ → ℕ) →
+    IsBacked state kept old → IsBacked state kept new → Exits state old new broken → IsSeen seen old → IsSeen seen new
+exits_seen state kept old new broken seen was is exits h = record {
+  mentions = λ page. elim (cases_lt page old.config.logical) [
+    | inl lt ↦ elim (exits.mentions page (subst (λ (c : Config). page < c.logical) (sym was.its) lt)) [
+      | inl same ↦ (let most = h.mentions page in omega (arith, same, most))
+      | inr rose ↦ h.names page (mention_of new.noted page) rose.1
+    ]
+    | inr ge ↦ (let none = is.beyond page (subst (λ (c : Config). c.logical ≤ page) (sym exits.config) ge) in omega (arith, none))
+  ];
+  names = λ page version named. h.names page version (named_before old.namings new.namings page version exits.names named);
+}
+
+-- the cache stays right where versions do not fall, and a page whose version stays has its bytes
+cached_page : {F : Type 0} (old new : Standing F) → new.config ≡ old.config → VersionsTell old new → (e : CachedPage) → IsCachedAs old e → IsCachedAs new e
+cached_page old new same tell e h =
+    let exists : e.page < new.config.logical = subst (λ (c : Config). e.page < c.logical) (sym same) h.exists in
+    elim (tell e.page h.exists) [
+      | inl rose ↦ (let most = h.least in record { exists = exists; least = omega arith; current = λ now. absurd (omega (arith, now, rose, most)) })
+      | inr stays ↦ record {
+        exists = exists;
+        least = subst (λ n. e.version ≤ n) (sym stays.0) h.least;
+        current = λ now. stays.1 ∙ h.current (now ∙ stays.0);
+      }
+    ]
+
+pub cached_stays : {F : Type 0} (old new : Standing F) (entries : List CachedPage) → new.config ≡ old.config → VersionsTell old new → IsCached old entries → IsCached new entries
+cached_stays old new entries same tell h = All-weaker (IsCachedAs old) (IsCachedAs new) (cached_page old new same tell) entries h
+
+-- what a command does that is one call which may settle, write and collect
+pub exits_serve : {F : Type 0} (state : F → FlashState) (kept : Protocol) (c : Command) (old new : Standing F) (r : Reply) (broken : Bool) →
+    IsBacked state kept old → IsBacked state kept new → Exits state old new broken → is_break r ≡ broken → is_fault r ≡ broken → is_cut r ≡ false →
+    Does (limits_of old.config) (is_spent old.noted.mentions) c old.machine r new.machine → (is_still c ≡ true → moment_of (state new.flash) ≡ moment_of (state old.flash)) →
+    ((faulted : Bool) → (faulted ≡ false → old.unsure ≡ unsure.Nothing) → Tells old.config faulted (point_at state old) r (point_at state new)) →
+    (old.unsure ≡ unsure.Nothing → is_fault r ≡ false → new.unsure ≡ unsure.Nothing) → (is_fault r ≡ true → MayHaveCut state c old new) → ServesHere state c old new r
+exits_serve state kept c old new r broken was is exits breaks faults whole does still tells sure cut = record {
+  config = exits.config;
+  does = does;
+  moves = record {
+    moves = subst (λ (x : Shape). Moves x (moment_of (state old.flash)) (is_break r) (moment_of (state new.flash))) was.shape
+        (subst (λ (b : Bool). Moves (state old.flash).shape (moment_of (state old.flash)) b (moment_of (state new.flash))) (sym breaks) exits.moves);
+    still = still;
+  };
+  carries = subst (λ (b : Bool). Carries (state old.flash) (state new.flash) b) (sym faults) exits.carries;
+  tells = tells;
+  sure = sure;
+  seen = λ seen h. seen_later seen c r new (exits_seen state kept old new broken seen was is exits h);
+  versions = exits.versions;
+  cut = cut;
+  whole = whole;
+}

@@ -1,0 +1,241 @@
+-- Going on with a transaction up to its end.
+use Rattle.std.proofs.Common.{◌≡◌, ◌≢◌, ◌⊎◌, ℕ, ◌+◌, ◌-◌, ◌<◌, Bool, true, false, cond, List, [], ◌∷◌, length, map, Option, Some, None, Result, Ok, Err, refl, sym, ap, ap₂, ◌∙◌, subst, inl, inr, arith}
+use Rattle.std.specs.Prelude.{MatchOption}
+use Rattle.tx_types.specs.declared.config.Config.{Config}
+use Rattle.tx_types.specs.Config.{shape_of}
+use Rattle.flash_model.specs.Flash.{FlashState}
+use Rattle.flash_model.specs.Moves.{Moves}
+use Rattle.flash_model.specs.Operations.{moment_of}
+use Rattle.flash_model.proofs.CallLemmas.{Carries-then}
+use Rattle.flash_model.proofs.MoveLemmas.{Moves-then}
+use Rattle.record_list.proofs.Names.{IsIn, contains_from, in_from}
+use Rattle.version_index.specs.Images.{array_in}
+use Rattle.tx_engine.specs.ArrayState.{ArrayState, Entry, entry_of, has_tag, is_doubted, put, with_entry, idle}
+use Rattle.tx_engine.specs.Exits.{VersionsTell}
+use Rattle.tx_engine.specs.Standing.{Standing}
+use Rattle.tx_engine.specs.Step.{Steps, StepGives, CutLeaves, IsAtLast, doubted, settled, settled_entry, settled_mark}
+use Rattle.tx_engine.specs.declared.mark.Mark.{Mark}
+use Rattle.tx_engine.specs.declared.mark.Mark.TheVariants.{Plain, Doubt, Whole}
+use Rattle.tx_engine.specs.declared.step.Progress.{Progress}
+use Rattle.tx_engine.specs.declared.step.Progress.TheVariants as progress
+use Rattle.tx_engine.specs.declared.step.StepError.{StepError}
+use Rattle.tx_engine.specs.declared.step.StepError.TheVariants as failed
+use Rattle.tx_engine.proofs.Unbroken.{tagged, again}
+use Rattle.host_protocol.specs.declared.command.Command.TheVariants as command
+use Rattle.host_protocol.specs.declared.reply.Reply.{Reply}
+use Rattle.host_protocol.specs.declared.reply.Reply.TheVariants as reply
+use Rattle.cut_replay.specs.Run.{Finishes, step_reply, is_break}
+use Rattle.cut_replay.specs.FlashRun.{Point, Tells, is_fault}
+use Rattle.cut_replay.specs.Mounted.{point_at, ServesHere}
+use Rattle.cut_replay.proofs.Single.{step_tells}
+
+-- How many pages a transaction has still to write.
+abbrev pub left_of : Option Entry → ℕ
+left_of None = 0
+left_of (Some e) = length e.writes - e.done
+
+abbrev pub pages_left : ℕ → ArrayState → ℕ
+pages_left tag s = left_of (entry_of tag s.entries)
+
+-- A step that wrote a page
+pub record Writes (there : Bool) (old new : ArrayState) (tag : ℕ) (e : Entry) : Type 0 where
+  pub found : entry_of tag old.entries ≡ Some e
+  pub plain : settled_mark there e.mark ≡ Plain
+  pub more : e.done + 1 < length e.writes
+  pub new_is : new ≡ record (settled there old) { entries = with_entry tag (record (settled_entry there e) { done = e.done + 1 }) (settled there old).entries }
+
+found_writes : (o : Option Entry) (there : Bool) (old new : ArrayState) (tag done all : ℕ) (result : Result Progress StepError) → entry_of tag old.entries ≡ o → result ≡ Ok (progress.Wrote done all) →
+    MatchOption o ((result ≡ Err failed.Unknown) × (new ≡ old)) (λ e. StepGives old (settled there old) tag (settled_entry there e) result new) → (e : Entry) × Writes there old new tag e
+found_writes None there old new tag done all result found is h = cc
+found_writes (Some e) there old new tag done all result found is h =
+    let goes = subst (λ (x : Result Progress StepError). StepGives old (settled there old) tag (settled_entry there e) x new) is h in
+    (e, record { found = found; plain = goes.0; more = goes.1; new_is = goes.4 })
+
+-- the step of a reply
+told_wrote : (own tag done all : ℕ) (result : Result Progress StepError) → reply.Wrote own done all ≡ step_reply tag result → result ≡ Ok (progress.Wrote done all)
+told_wrote own tag done all (Ok (progress.Wrote d a)) h = cc
+told_wrote own tag done all (Ok progress.Done) h = cc
+told_wrote own tag done all (Err failed.Unknown) h = cc
+told_wrote own tag done all (Err failed.Fault) h = cc
+
+pub step_writes : (old new : ArrayState) (own tag done all : ℕ) (result : Result Progress StepError) → Steps old new tag result → reply.Wrote own done all ≡ step_reply tag result →
+    (there : Bool) × (e : Entry) × Writes there old new tag e
+step_writes old new own tag done all result steps told =
+    let w = found_writes (entry_of tag old.entries) steps.0 old new tag done all result refl (told_wrote own tag done all result told) steps.1 in
+    (steps.0, w.0, w.1)
+
+-- the transaction in the settled state
+settled_step : (there : Bool) (tag : ℕ) (x e : Entry) (es : List Entry) (b : Bool) → has_tag tag x ≡ b →
+    (entry_of tag es ≡ Some e → entry_of tag (map (settled_entry there) es) ≡ Some (settled_entry there e)) → cond b (Some x) (entry_of tag es) ≡ Some e →
+    cond b (Some (settled_entry there x)) (entry_of tag (map (settled_entry there) es)) ≡ Some (settled_entry there e)
+settled_step there tag x e es true is rest h = let same : x ≡ e = cc in ap (λ y. Some (settled_entry there y)) same
+settled_step there tag x e es false is rest h = rest h
+
+settled_found : (there : Bool) (tag : ℕ) (e : Entry) (es : List Entry) → entry_of tag es ≡ Some e → entry_of tag (map (settled_entry there) es) ≡ Some (settled_entry there e)
+settled_found there tag e [] h = cc
+settled_found there tag e (x ∷ es) h = settled_step there tag x e es (has_tag tag x) refl (settled_found there tag e es) h
+
+-- it has a page less to write
+pub fewer_left : (old new : ArrayState) (there : Bool) (tag : ℕ) (e : Entry) → Writes there old new tag e → pages_left tag new < pages_left tag old
+fewer_left old new there tag e w =
+    let next : Entry = record (settled_entry there e) { done = e.done + 1 } in
+    let t : has_tag tag next ≡ true = tagged tag old.entries e w.found in
+    let at : entry_of tag (with_entry tag next (map (settled_entry there) old.entries)) ≡ Some next =
+    again tag next (settled_entry there e) (map (settled_entry there) old.entries) t (settled_found there tag e old.entries w.found) in
+    let now : pages_left tag new ≡ length e.writes - (e.done + 1) = ap (λ (s : ArrayState). pages_left tag s) w.new_is ∙ ap left_of at in
+    let before : pages_left tag old ≡ length e.writes - e.done = ap left_of w.found in
+    let more = w.more in omega (arith, now, before, more)
+
+-- nothing is in doubt
+sure_mark : (there : Bool) (m : Mark) → is_doubted (settled_mark there m) ≡ false
+sure_mark there Plain = refl
+sure_mark true Doubt = refl
+sure_mark false Doubt = refl
+sure_mark there Whole = refl
+
+sure_settled : (there : Bool) (es : List Entry) → doubted (map (settled_entry there) es) ≡ []
+sure_settled there [] = refl
+sure_settled there (e ∷ es) = rw (sure_mark there e.mark) (sure_settled there es)
+
+sure_with : (there : Bool) (tag : ℕ) (new : Entry) (es : List Entry) → is_doubted new.mark ≡ false → doubted (with_entry tag new (map (settled_entry there) es)) ≡ []
+sure_with there tag new [] is = refl
+sure_with there tag new (e ∷ es) is = elim (has_tag tag e) as (λ b. doubted (cond b (new ∷ map (settled_entry there) es) (settled_entry there e ∷ with_entry tag new (map (settled_entry there) es))) ≡ []) [
+  | true ↦ rw is (sure_settled there es)
+  | false ↦ rw (sure_mark there e.mark) (sure_with there tag new es is)
+]
+
+settled_sure : (there : Bool) (s : ArrayState) → doubted s.entries ≡ [] → (settled there s).pages ≡ s.pages
+settled_sure true s is = ap (put s.pages) is
+settled_sure false s is = refl
+
+-- each of its transactions is one of before, with its tag and its pages
+abbrev IsFrom : List Entry → Entry → Type 0
+IsFrom es e = (old : Entry) × IsIn es old × (old.tag ≡ e.tag) × (old.writes ≡ e.writes)
+
+from_more : (x : Entry) (es : List Entry) (e : Entry) → IsFrom es e → IsFrom (x ∷ es) e
+from_more x es e h = (h.0, inr h.1, h.2, h.3)
+
+settled_from : (there : Bool) (es : List Entry) (e : Entry) → IsIn (map (settled_entry there) es) e → IsFrom es e
+settled_from there [] e i = absurd i
+settled_from there (x ∷ es) e (inl same) = (x, inl refl, ap (λ (y : Entry). y.tag) same, ap (λ (y : Entry). y.writes) same)
+settled_from there (x ∷ es) e (inr i) = from_more x es e (settled_from there es e i)
+
+with_step : (there : Bool) (tag : ℕ) (new x e : Entry) (es : List Entry) (b : Bool) → (IsIn (with_entry tag new (map (settled_entry there) es)) e → (new ≡ e) ⊎ IsFrom es e) →
+    IsIn (cond b (new ∷ map (settled_entry there) es) (settled_entry there x ∷ with_entry tag new (map (settled_entry there) es))) e → (new ≡ e) ⊎ IsFrom (x ∷ es) e
+with_step there tag new x e es true rest (inl same) = inl same
+with_step there tag new x e es true rest (inr i) = inr (from_more x es e (settled_from there es e i))
+with_step there tag new x e es false rest (inl same) = inr (x, inl refl, ap (λ (y : Entry). y.tag) same, ap (λ (y : Entry). y.writes) same)
+with_step there tag new x e es false rest (inr i) = elim (rest i) [ inl same ↦ inl same | inr from ↦ inr (from_more x es e from) ]
+
+with_from : (there : Bool) (tag : ℕ) (new e : Entry) (es : List Entry) → IsIn (with_entry tag new (map (settled_entry there) es)) e → (new ≡ e) ⊎ IsFrom es e
+with_from there tag new e [] i = absurd i
+with_from there tag new e (x ∷ es) i =
+    with_step there tag new x e es (has_tag tag x) (λ j. with_from there tag new e es j) i
+
+found_in_step : (tag : ℕ) (x e : Entry) (es : List Entry) (b : Bool) → (entry_of tag es ≡ Some e → IsIn es e) → cond b (Some x) (entry_of tag es) ≡ Some e → IsIn (x ∷ es) e
+found_in_step tag x e es true rest h = inl cc
+found_in_step tag x e es false rest h = inr (rest h)
+
+found_is_in : (tag : ℕ) (es : List Entry) (e : Entry) → entry_of tag es ≡ Some e → IsIn es e
+found_is_in tag [] e h = cc
+found_is_in tag (x ∷ es) e h = found_in_step tag x e es (has_tag tag x) (found_is_in tag es e) h
+
+from_mid : (there : Bool) (old mid : ArrayState) (tag : ℕ) (e other : Entry) → Writes there old mid tag e → IsIn mid.entries other → IsFrom old.entries other
+from_mid there old mid tag e other w i =
+    let next : Entry = record (settled_entry there e) { done = e.done + 1 } in
+    elim (with_from there tag next other old.entries (subst (λ (s : ArrayState). IsIn s.entries other) w.new_is i)) [
+      | inl same ↦ (e, found_is_in tag old.entries e w.found, ap (λ (y : Entry). y.tag) same, ap (λ (y : Entry). y.writes) same)
+      | inr from ↦ from
+    ]
+
+-- So what a power cut leaves of the state after the step it may leave of the one before.
+abbrev IsOf : ℕ → Entry → Type 0
+IsOf tag e = e.tag ≡ tag
+
+cut_before : (there : Bool) (old mid new : ArrayState) (tag : ℕ) (e : Entry) → Writes there old mid tag e → CutLeaves (IsOf tag) mid new → CutLeaves (IsOf tag) old new
+cut_before there old mid new tag e w h =
+    let sure : doubted mid.entries ≡ [] = ap (λ (s : ArrayState). doubted s.entries) w.new_is
+    ∙ sure_with there tag (record (settled_entry there e) { done = e.done + 1 }) old.entries (sure_mark there e.mark) in
+    let pages : (settled h.0 mid).pages ≡ (settled there old).pages = settled_sure h.0 mid sure ∙ ap (λ (s : ArrayState). s.pages) w.new_is in (
+      there,
+      elim h.1 [
+        | inl same ↦ inl (same ∙ pages)
+        | inr took ↦ (
+            let other = took.0 in
+            let from = from_mid there old mid tag e other w (in_from mid.entries other took.1.0) in
+            inr (from.0, (contains_from old.entries from.0 from.1, from.2 ∙ took.1.1), took.2 ∙ ap₂ put pages (sym from.3)))
+      ],
+      h.2,
+    )
+
+-- The last of the steps
+at_last : (tag : ℕ) (old new : ArrayState) → CutLeaves (λ e. (e.tag ≡ tag) × IsAtLast e) old new → CutLeaves (IsOf tag) old new
+at_last tag old new h = (h.0, elim h.1 [ inl same ↦ inl same | inr took ↦ inr (took.0, (took.1.0, took.1.1.0), took.2) ], h.2)
+
+ends : (old new : ArrayState) (tag : ℕ) (r : Reply) (result : Result Progress StepError) → ((own done all : ℕ) → r ≢ reply.Wrote own done all) → r ≡ step_reply tag result → Steps old new tag result →
+    Finishes old [] new tag result
+ends old new tag r (Ok (progress.Wrote done all)) last told steps = absurd (last tag done all told)
+ends old new tag r (Ok progress.Done) last told steps = steps
+ends old new tag r (Err e) last told steps = steps
+
+pub last_serves : {F : Type 0} (state : F → FlashState) (old new : Standing F) (tag : ℕ) (r : Reply) → ((own done all : ℕ) → r ≢ reply.Wrote own done all) →
+    ServesHere state (command.Step tag) old new r → ServesHere state (command.Finish tag) old new r
+last_serves state old new tag r last h = record {
+  config = h.config;
+  does = ([], h.does.0, ends old.machine new.machine tag r h.does.0 last h.does.2 h.does.1, h.does.2);
+  moves = record { moves = h.moves.moves; still = λ still. cc };
+  carries = h.carries;
+  tells = h.tells;
+  sure = h.sure;
+  seen = h.seen;
+  versions = h.versions;
+  cut = λ fault. record { may = tt; leaves = at_last tag old.machine (idle (array_in new.config.protocol new.config.logical (state new.flash).image)) (h.cut fault).leaves };
+  whole = h.whole;
+}
+
+-- One step more before
+versions_then : {F : Type 0} (old mid new : Standing F) → mid.config ≡ old.config → VersionsTell old mid → VersionsTell mid new → VersionsTell old new
+versions_then old mid new same first second page lt = elim (first page lt) [
+  | inl rose ↦ elim (second page (subst (λ (c : Config). page < c.logical) (sym same) lt)) [
+    | inl more ↦ inl (omega arith)
+    | inr stays ↦ (let still = stays.0 in inl (omega arith))
+  ]
+  | inr stays ↦ elim (second page (subst (λ (c : Config). page < c.logical) (sym same) lt)) [
+    | inl more ↦ (let still = stays.0 in inl (omega arith))
+    | inr again ↦ inr (again.0 ∙ stays.0, again.1 ∙ stays.1)
+  ]
+]
+
+finish_tells : (its : Config) (faulted : Bool) (old new : Point) (tag : ℕ) (r : Reply) (result : Result Progress StepError) → r ≡ step_reply tag result → Tells its faulted old r new
+finish_tells its faulted old new tag r result told = subst (λ (q : Reply). Tells its faulted old q new) (sym told) (step_tells its faulted old new tag result)
+
+pub wrote_serves : {F : Type 0} (state : F → FlashState) (old mid new : Standing F) (own tag done all : ℕ) (r : Reply) →
+    ServesHere state (command.Step tag) old mid (reply.Wrote own done all) → ServesHere state (command.Finish tag) mid new r → ServesHere state (command.Finish tag) old new r
+wrote_serves state old mid new own tag done all r first rest =
+    let told = told_wrote own tag done all first.does.0 first.does.2 in
+    let w = step_writes old.machine mid.machine own tag done all first.does.0 first.does.1 first.does.2 in
+    record {
+      config = rest.config ∙ first.config;
+      does = (mid.machine ∷ rest.does.0, rest.does.1, (done, all, subst (λ (x : Result Progress StepError). Steps old.machine mid.machine tag x) told first.does.1, rest.does.2), rest.does.3);
+      moves = record {
+        moves = Moves-then (shape_of old.config) (moment_of (state old.flash)) (moment_of (state mid.flash)) (moment_of (state new.flash)) (is_break r) first.moves.moves
+            (subst (λ (c : Config). Moves (shape_of c) (moment_of (state mid.flash)) (is_break r) (moment_of (state new.flash))) first.config rest.moves.moves);
+        still = λ still. cc;
+      };
+      carries = Carries-then (state old.flash) (state mid.flash) (state new.flash) (is_fault r) first.carries rest.carries;
+      tells = λ faulted h. finish_tells old.config faulted (point_at state old) (point_at state new) tag r rest.does.1 rest.does.3;
+      sure = λ sure whole. rest.sure (first.sure sure refl) whole;
+      seen = λ seen h. rest.seen seen (first.seen seen h);
+      versions = versions_then old mid new first.config first.versions rest.versions;
+      cut = λ fault. record {
+        may = tt;
+        leaves = cut_before w.0 old.machine mid.machine (idle (array_in new.config.protocol new.config.logical (state new.flash).image)) tag w.1 w.2 (rest.cut fault).leaves;
+      };
+      whole = rest.whole;
+    }
+
+-- and a step of it has a page less to write
+pub step_fewer : {F : Type 0} (state : F → FlashState) (old new : Standing F) (own tag done all : ℕ) → ServesHere state (command.Step tag) old new (reply.Wrote own done all) →
+    pages_left tag new.machine < pages_left tag old.machine
+step_fewer state old new own tag done all h =
+    let w = step_writes old.machine new.machine own tag done all h.does.0 h.does.1 h.does.2 in fewer_left old.machine new.machine w.0 tag w.1 w.2

@@ -1,0 +1,296 @@
+-- What a command comes to that was done on a mounted device.
+use Rattle.std.proofs.Common.{◌≡◌, ◌⊎◌, ℕ, ◌<◌, ◌≤◌, Bool, true, false, ◌||◌, List, [], Option, Result, Ok, Err, refl, sym, ap, ◌∙◌, subst, inl, inr, arith}
+use Rattle.std.specs.Prelude.{nat_le, ◌^◌, MatchBool, IfOk, IfErr}
+use Rattle.std.proofs.lemmas.Bool.{cases_Bool}
+use Rattle.std.proofs.lemmas.Bool.Decides.{nat_tests}
+use Rattle.tx_types.specs.declared.config.Config.{Config}
+use Rattle.tx_types.specs.declared.config.Protocol.{Protocol}
+use Rattle.tx_types.specs.declared.config.Shape.{Shape}
+use Rattle.tx_types.specs.Config.{checked, shape_of}
+use Rattle.flash_model.specs.Flash.{FlashState, Told}
+use Rattle.flash_model.specs.Calls.{BothTell, NoMore, Spends, Carries}
+use Rattle.flash_model.specs.Moves.{Moves}
+use Rattle.flash_model.specs.Operations.{Moment, moment_of}
+use Rattle.record_list.specs.Records.{mention}
+use Rattle.version_index.specs.Images.{IsSoundImage, array_in, records_in}
+use Rattle.version_index.specs.Noted.{mention_of}
+use Rattle.page_cache.specs.CachedPages.{CachedPages, CachedPage}
+use Rattle.tx_engine.specs.ArrayState.{ArrayState, idle}
+use Rattle.tx_engine.specs.Naming.{is_spent}
+use Rattle.tx_engine.specs.Standing.{Standing}
+use Rattle.tx_engine.specs.Step.{CutLeaves}
+use Rattle.host_protocol.specs.declared.command.Command.{Command}
+use Rattle.host_protocol.specs.declared.reply.Reply.{Reply}
+use Rattle.host_protocol.specs.declared.reply.Reply.TheVariants as reply
+use Rattle.cut_replay.specs.Run.{IsCut, MayComplete, MayBeSpent, NotDone, is_arm, seen_after}
+use Rattle.cut_replay.specs.FlashRun.{Point, IsPoint, IsDone, MovesBy, ServesFlash, is_fault}
+use Rattle.cut_replay.specs.Bounds.{is_cut}
+use Rattle.cut_replay.specs.Mounted.{point_at, IsSeen, IsCached, IsBacked, ServesHere}
+use Rattle.cut_replay.specs.Sessions.{flash_in, point_of, IsSoundFlash, Fits, FitsMounted, StandsMounted, IsSpentBy, ServesIn, Serves, StaysRefused, Ends, Mounted, Unmounted, MountsAgain, Follows}
+use Rattle.cut_replay.specs.declared.serving.ServeError.{ServeError}
+use Rattle.cut_replay.specs.declared.serving.ServeError.TheVariants as failed
+use Rattle.cut_replay.specs.declared.session.Session.{Session}
+use Rattle.cut_replay.specs.declared.session.Session.TheVariants as session
+use Rattle.cut_replay.specs.declared.session.Ended.{Ended}
+use Rattle.cut_replay.proofs.Mountings.{Leaves, mounted_leaves, mounted_machine, mounted_moment, mounted_still, mounted_point, mounted_stands, sound_unbroken}
+use Rattle.cut_replay.proofs.Spending.{is_its_fault, spends_none, spends_fault, spends_cut, spends_before, sets_none}
+
+-- a command that is no arm
+pub served_no_arm : (its : Config) (spent : ℕ → Bool) (faulted : Bool) (c : Command) (old : Point) (r : Reply) (new : Point) → is_arm c ≡ false →
+    (NotDone old.state r new.state × (new.moment ≡ old.moment)) ⊎ (IsDone its spent faulted c old r new ⊎ (IsCut c old.state r new.state × MovesBy its c r old.moment new.moment)) →
+    ServesFlash its spent faulted c old r new
+served_no_arm its spent faulted c old r new no_arm h =
+    subst (λ b. MatchBool b ((r ≡ reply.Armed) × (new ≡ old))
+    ((NotDone old.state r new.state × (new.moment ≡ old.moment)) ⊎ (IsDone its spent faulted c old r new ⊎ (IsCut c old.state r new.state × MovesBy its c r old.moment new.moment)))) (sym no_arm) h
+
+-- a page is spent only where it may have been mentioned at the last version
+last_version : (n m : ℕ) → nat_le (2 ^ 62) n ≡ true → n ≤ m → 2 ^ 62 ≤ m
+last_version n m is le = grind (arith, nat_tests)
+
+pub may_be_spent : {F : Type 0} (seen : ℕ → ℕ) (s : Standing F) → IsSeen seen s → MayBeSpent seen (is_spent s.noted.mentions)
+may_be_spent seen s h page is = last_version (mention_of s.noted page) (seen page) is (h.mentions page)
+
+pub or_left : (a b : Bool) → (a || b) ≡ false → a ≡ false
+or_left true b h = cc
+or_left false b h = refl
+
+or_right : (a b : Bool) → (a || b) ≡ false → b ≡ false
+or_right true b h = cc
+or_right false b h = h
+
+-- the point of a device
+pub backed_point : {F : Type 0} (state : F → FlashState) (kept : Protocol) (s : Standing F) → IsBacked state kept s → IsPoint s.config (point_at state s)
+backed_point state kept s h = record { sound = h.sound; array = h.array }
+
+-- Power was not cut
+pub done_in : {F R : Type 0} (state : F → FlashState) (kept : Protocol) (c : Command) (s t : Standing F) (r : Reply) (seen : ℕ → ℕ) (faulted : Bool) → is_arm c ≡ false →
+    ServesHere state c s t r → IsBacked state kept t → StandsMounted seen faulted s →
+    ServesIn {R = R} state s.config seen faulted c (session.Mounted s) r (session.Mounted t)
+done_in state kept c s t r seen faulted no_arm h backed stands = record {
+  spent = is_spent s.noted.mentions;
+  may = may_be_spent seen s stands.mentions;
+  serves = served_no_arm s.config (is_spent s.noted.mentions) faulted c (point_at state s) r (point_at state t) no_arm
+      (inr (inl (record { does = h.does; up = refl; moves = h.moves; tells = h.tells faulted stands.sure })));
+  point = subst (λ (x : Config). IsPoint x (point_at state t)) h.config (backed_point state kept t backed);
+  stands = record {
+    sure = λ whole. h.sure (stands.sure (or_left faulted (is_fault r) whole)) (or_right faulted (is_fault r) whole);
+    mentions = h.seen seen stands.mentions;
+  };
+}
+
+-- Power was cut
+fault_reply : (c : Command) (seen : ℕ → ℕ) (r : Reply) (page : ℕ) → r ≡ reply.Fault → seen_after seen c r page ≡ seen page
+fault_reply c seen r page is = ap (λ q. seen_after seen c q page) is
+
+cut_seen : {F : Type 0} (state : F → FlashState) (kept : Protocol) (seen : ℕ → ℕ) (t : Standing F) (page : ℕ) → IsBacked state kept t → IsSeen seen t → page < t.config.logical →
+    mention (records_in t.config.protocol (state t.flash).image) page ≤ seen page
+cut_seen state kept seen t page backed h lt =
+    let its = backed.its in
+    let most = backed.mentions page (subst (λ (x : Config). page < x.logical) (sym its) lt) in
+    subst (λ (x : Config). mention (records_in x.protocol (state t.flash).image) page ≤ seen page) its (elim most [
+      | inl noted ↦ (let least = h.mentions page in omega (arith, noted, least))
+      | inr named ↦ (let least = h.names page named.0 named.1 in let of = named.2 in omega (arith, of, least))
+    ])
+
+-- what comes after a command that met a fault, as far as its moves go
+cut_moves : (its : Config) (c : Command) (old mid new : Moment) → MovesBy its c reply.Fault old mid → new ≡ mid → MovesBy its c reply.Cut old new
+cut_moves its c old mid new h same = record {
+  moves = subst (λ (m : Moment). Moves (shape_of its) old true m) (sym same) h.moves;
+  still = λ still. same ∙ h.still still;
+}
+
+pub cut_in : {F R : Type 0} (state : F → FlashState) (kept : Protocol) (c : Command) (s t : Standing F) (after : Session F R) (seen : ℕ → ℕ) (faulted : Bool) → is_arm c ≡ false →
+    ServesHere state c s t reply.Fault → IsBacked state kept t → StandsMounted seen faulted s → Leaves state s.config t.flash after →
+    ServesIn {R = R} state s.config seen faulted c (session.Mounted s) reply.Cut after
+cut_in state kept c s t after seen faulted no_arm h backed stands leaves =
+    let its = s.config in
+    let sound : IsSoundFlash its (state t.flash) = subst (λ (x : Config). IsSoundImage x.protocol x.logical (shape_of x) (state t.flash).image) h.config backed.sound in
+    let most : (page : ℕ) → page < its.logical → mention (records_in its.protocol (state t.flash).image) page ≤ seen page = λ page lt.
+    subst (λ (x : Config). mention (records_in x.protocol (state t.flash).image) page ≤ seen page) h.config
+    (cut_seen state kept seen t page backed (h.seen seen stands.mentions) (subst (λ (x : Config). page < x.logical) (sym h.config) lt)) in
+    let cut = h.cut refl in
+    let left : CutLeaves (MayComplete c) s.machine (point_of state its after).state.machine =
+    subst (λ (m : ArrayState). CutLeaves (MayComplete c) s.machine m) (sym (mounted_machine state its t.flash after leaves))
+    (subst (λ (x : Config). CutLeaves (MayComplete c) s.machine (idle (array_in x.protocol x.logical (state t.flash).image))) h.config cut.leaves) in
+    record {
+      spent = is_spent s.noted.mentions;
+      may = may_be_spent seen s stands.mentions;
+      serves = served_no_arm its (is_spent s.noted.mentions) faulted c (point_at state s) reply.Cut (point_of state its after) no_arm
+          (inr (inr ((refl, cut.may, left), cut_moves its c (moment_of (state s.flash)) (moment_of (state t.flash)) (point_of state its after).moment h.moves (mounted_moment state its t.flash after leaves))));
+      point = mounted_point state its t.flash after leaves sound;
+      stands = mounted_stands state its t.flash seen (faulted || false) after leaves sound most;
+    }
+
+-- whether power is on after a call that was on a live flash
+not_broken : (old new : FlashState) (r : Reply) → old.live ≡ true → new.live ≡ false → Carries old new (is_fault r) → is_fault r ≡ true
+not_broken old new r on off carries = elim (cases_Bool (is_fault r)) [
+  | inl broken ↦ broken
+  | inr whole ↦ (let lives : new.live ≡ old.live = (subst (λ (b : Bool). Carries old new b) whole carries).lives in cc)
+]
+
+live_spends : (c : Command) (r : Reply) (old new : FlashState) → is_cut r ≡ false → old.live ≡ true → new.live ≡ true → Carries old new (is_fault r) → BothTell (IsSpentBy c r) old.told new.told
+live_spends c r old new whole on still carries = elim (cases_Bool (is_fault r)) [
+  | inl broken ↦ (
+      let met : Carries old new true = subst (λ (b : Bool). Carries old new b) broken carries in
+      let spent : BothTell (Spends true) old.told new.told = subst (λ (b : Bool). BothTell (Spends b) old.told new.told) still (met.spends on) in
+      subst (λ q. BothTell (IsSpentBy c q) old.told new.told) (sym (is_its_fault r broken)) (spends_fault c old.told new.told met.no_more spent))
+  | inr none ↦ spends_none c r old.told new.told whole none carries.no_more
+]
+
+cut_spends : (c : Command) (old new : FlashState) (after : Option Told) → old.live ≡ true → new.live ≡ false → Carries old new true → BothTell NoMore new.told after → BothTell (IsSpentBy c reply.Cut) old.told after
+cut_spends c old new after on off carries more =
+    let spent : BothTell (Spends false) old.told new.told = subst (λ (b : Bool). BothTell (Spends b) old.told new.told) off (carries.spends on) in
+    spends_before c reply.Cut old.told new.told after (spends_cut c old.told new.told carries.no_more spent) more
+
+-- The whole of it
+abbrev Sessions : (F R : Type 0) → Type 0
+Sessions F R = Result (Session F R × Reply) (Ended F)
+
+abbrev FitsAfter : (F R : Type 0) → (F → FlashState) → Config → List CachedPage → Sessions F R → Type 0
+FitsAfter F R state its entries result = IfOk result (λ done. Fits state its entries done.0)
+
+abbrev ServesAfter : (F R : Type 0) → (F → FlashState) → Config → Command → Standing F → Sessions F R → Type 0
+ServesAfter F R state its c s result = IfOk result (λ done. Serves state its c (session.Mounted s) done.1 done.0)
+
+abbrev EndsAfter : (F R : Type 0) → (F → FlashState) → Config → Command → Standing F → Sessions F R → Type 0
+EndsAfter F R state its c s result = IfErr result (λ e. Ends {R = R} state its c (session.Mounted s) e.flash e.why)
+
+-- what is known of a command that was done
+pub record WasDone {F : Type 0} (state : F → FlashState) (its : Config) (c : Command) (s t : Standing F) (r : Reply) (entries : List CachedPage) : Type 0 where
+  pub config : s.config ≡ its
+  pub no_arm : is_arm c ≡ false
+  pub on : (state s.flash).live ≡ true
+  pub here : ServesHere state c s t r
+  pub cached : IsCached t entries
+  pub backed : IsBacked state its.protocol t
+
+mounted_fits : {F R : Type 0} (state : F → FlashState) (its : Config) (flash : F) (after : Session F R) → checked its ≡ Ok (state flash).shape → Mounted state its flash after → Fits state its [] after
+mounted_fits state its flash (session.Mounted t) check h = record {
+  config = h.config;
+  check = check ∙ ap (λ (x : Shape). Ok x) (sym h.still.shape);
+  live = h.live;
+  cached = λ k d lt. (let none : k < 0 = lt in absurd (omega arith));
+  backed = h.backed;
+}
+mounted_fits state its flash (session.Unmounted new) check h = check ∙ ap (λ (x : Shape). Ok x) (sym h.still.shape)
+
+pub after_check : {F : Type 0} (state : F → FlashState) (its : Config) (c : Command) (s t : Standing F) (r : Reply) (entries : List CachedPage) → WasDone state its c s t r entries → checked its ≡ Ok (state t.flash).shape
+after_check state its c s t r entries w = ap checked (sym (w.here.config ∙ w.config)) ∙ w.backed.check
+
+again_fits : {F R : Type 0} (state : F → FlashState) (its : Config) (flash : F) (result : Sessions F R) → checked its ≡ Ok (state flash).shape →
+    (t : Standing F) → t.flash ≡ flash → MountsAgain state its t result → FitsAfter F R state its [] result
+again_fits state its flash (Ok done) check t same h = mounted_fits state its flash done.0 check (subst (λ x. Mounted state its x done.0) same h.0)
+again_fits state its flash (Err e) check t same h = tt
+
+pub fits_after : {F R : Type 0} (state : F → FlashState) (its : Config) (c : Command) (s t : Standing F) (r : Reply) (result : Sessions F R) (before after : CachedPages) →
+    WasDone state its c s t r before.entries → Follows state its t r result before after → FitsAfter F R state its after.entries result
+fits_after {F = F} {R = R} state its c s t r result before after w follows = elim (cases_Bool (state t.flash).live) [
+  | inl on ↦ (
+      let went = follows.went_on on in
+      subst (λ (x : Sessions F R). FitsAfter F R state its after.entries x) (sym went.0) (record {
+        config = w.here.config ∙ w.config;
+        check = after_check state its c s t r before.entries w;
+        live = on;
+        cached = subst (λ (x : CachedPages). IsCached t x.entries) (sym went.1) w.cached;
+        backed = w.backed;
+      }))
+  | inr off ↦ (
+      let cut = follows.was_cut off in
+      subst (λ (x : CachedPages). FitsAfter F R state its x.entries result) (sym cut.1) (again_fits state its t.flash result (after_check state its c s t r before.entries w) t refl cut.0))
+]
+
+-- the whole of what a command comes to that was done
+went_serves : {F R : Type 0} (state : F → FlashState) (c : Command) (s t : Standing F) (r : Reply) (entries : List CachedPage) → WasDone state s.config c s t r entries → (state t.flash).live ≡ true →
+    Serves {R = R} state s.config c (session.Mounted s) r (session.Mounted t)
+went_serves state c s t r entries w on = record {
+  in_run = λ seen faulted stands. done_in state s.config.protocol c s t r seen faulted w.no_arm w.here w.backed stands;
+  refused = tt;
+  spends = live_spends c r (state s.flash) (state t.flash) w.here.whole w.on on w.here.carries;
+  set = sets_none c w.no_arm (state t.flash).told;
+}
+
+-- the command met a fault, where power is off
+faulted_here : {F : Type 0} (state : F → FlashState) (its : Config) (c : Command) (s t : Standing F) (r : Reply) (entries : List CachedPage) → WasDone state its c s t r entries → (state t.flash).live ≡ false →
+    ServesHere state c s t reply.Fault
+faulted_here state its c s t r entries w off =
+    subst (λ (q : Reply). ServesHere state c s t q) (is_its_fault r (not_broken (state s.flash) (state t.flash) r w.on off w.here.carries)) w.here
+
+sound_here : {F : Type 0} (state : F → FlashState) (c : Command) (s t : Standing F) (r : Reply) (entries : List CachedPage) → WasDone state s.config c s t r entries → IsSoundFlash s.config (state t.flash)
+sound_here state c s t r entries w =
+    subst (λ (x : Config). IsSoundImage x.protocol x.logical (shape_of x) (state t.flash).image) w.here.config w.backed.sound
+
+cut_refused : {F R : Type 0} (state : F → FlashState) (its : Config) (s : Standing F) (flash : F) (after : Session F R) → IsSoundFlash its (state flash) → Leaves state its flash after →
+    StaysRefused state its (session.Mounted s) after
+cut_refused state its s flash (session.Mounted t) sound leaves = tt
+cut_refused state its s flash (session.Unmounted new) sound leaves = subst (λ (m : Moment). IsSoundImage its.protocol its.logical (shape_of its) m.image) (sym leaves.moment) sound
+
+cut_serves : {F R : Type 0} (state : F → FlashState) (c : Command) (s t : Standing F) (r : Reply) (entries : List CachedPage) (after : Session F R) → WasDone state s.config c s t r entries →
+    (state t.flash).live ≡ false → Leaves state s.config t.flash after → Serves state s.config c (session.Mounted s) reply.Cut after
+cut_serves state c s t r entries after w off leaves =
+    let here = faulted_here state s.config c s t r entries w off in
+    record {
+      in_run = λ seen faulted stands. cut_in state s.config.protocol c s t after seen faulted w.no_arm here w.backed stands leaves;
+      refused = cut_refused state s.config s t.flash after (sound_here state c s t r entries w) leaves;
+      spends = cut_spends c (state s.flash) (state t.flash) (state (flash_in after)).told w.on off here.carries (mounted_still state s.config t.flash after leaves).told;
+      set = sets_none c w.no_arm (state (flash_in after)).told;
+    }
+
+again_serves : {F R : Type 0} (state : F → FlashState) (c : Command) (s t : Standing F) (r : Reply) (entries : List CachedPage) (result : Sessions F R) → WasDone state s.config c s t r entries →
+    (state t.flash).live ≡ false → MountsAgain state s.config t result → ServesAfter F R state s.config c s result
+again_serves {F = F} {R = R} state c s t r entries (Ok done) w off h =
+    subst (λ (q : Reply). Serves {R = R} state s.config c (session.Mounted s) q done.0) (sym h.1)
+    (cut_serves state c s t r entries done.0 w off (mounted_leaves state s.config t.flash done.0 h.0))
+again_serves state c s t r entries (Err e) w off h = tt
+
+again_ends : {F : Type 0} (R : Type 0) (state : F → FlashState) (c : Command) (s t : Standing F) (r : Reply) (entries : List CachedPage) (flash : F) (why : ServeError) → WasDone state s.config c s t r entries →
+    (state t.flash).live ≡ false → Unmounted state s.config t.flash flash why → Ends {R = R} state s.config c (session.Mounted s) flash why
+again_ends R state c s t r entries flash (failed.Unsound law slot) w off h =
+    absurd (sound_unbroken s.config (state t.flash).image (record { law = law; slot = slot }) (sound_here state c s t r entries w) h.1)
+again_ends {F = F} R state c s t r entries flash failed.Memory w off h =
+    let after : Session F R = session.Unmounted flash in
+    let serves = cut_serves {R = R} state c s t r entries after w off h in
+    inr (serves.in_run, serves.spends)
+
+again_ends_all : {F R : Type 0} (state : F → FlashState) (c : Command) (s t : Standing F) (r : Reply) (entries : List CachedPage) (result : Sessions F R) → WasDone state s.config c s t r entries →
+    (state t.flash).live ≡ false → MountsAgain state s.config t result → EndsAfter F R state s.config c s result
+again_ends_all state c s t r entries (Ok done) w off h = tt
+again_ends_all {R = R} state c s t r entries (Err e) w off h = again_ends R state c s t r entries e.flash e.why w off h
+
+-- at the configuration of the device, and so at that of the session
+serves_at : {F R : Type 0} (state : F → FlashState) (c : Command) (s t : Standing F) (r : Reply) (result : Sessions F R) (before after : CachedPages) →
+    WasDone state s.config c s t r before.entries → Follows state s.config t r result before after → ServesAfter F R state s.config c s result × EndsAfter F R state s.config c s result
+serves_at {F = F} {R = R} state c s t r result before after w follows = elim (cases_Bool (state t.flash).live) [
+  | inl on ↦ (let went = follows.went_on on in
+      let done : Sessions F R = Ok (session.Mounted t, r) in (
+        subst (λ (x : Sessions F R). ServesAfter F R state s.config c s x) (sym went.0) (went_serves {R = R} state c s t r before.entries w on),
+        subst (λ (x : Sessions F R). EndsAfter F R state s.config c s x) (sym went.0) tt,
+      ))
+  | inr off ↦ (let cut = follows.was_cut off in
+      (again_serves state c s t r before.entries result w off cut.0, again_ends_all state c s t r before.entries result w off cut.0))
+]
+
+pub serves_after : {F R : Type 0} (state : F → FlashState) (its : Config) (c : Command) (s t : Standing F) (r : Reply) (result : Sessions F R) (before after : CachedPages) →
+    WasDone state its c s t r before.entries → Follows state its t r result before after → ServesAfter F R state its c s result × EndsAfter F R state its c s result
+serves_after {F = F} {R = R} state its c s t r result before after w follows =
+    subst (λ (x : Config). ServesAfter F R state x c s result × EndsAfter F R state x c s result) w.config
+    (serves_at state c s t r result before after (subst (λ (x : Config). WasDone state x c s t r before.entries) (sym w.config) w)
+    (subst (λ (x : Config). Follows state x t r result before after) (sym w.config) follows))
+
+-- the cache keeps the size of its pages
+pub follows_size : {F R : Type 0} (state : F → FlashState) (its : Config) (t : Standing F) (r : Reply) (result : Sessions F R) (before after : CachedPages) → Follows state its t r result before after →
+    after.page_bytes ≡ before.page_bytes
+follows_size state its t r result before after follows = elim (cases_Bool (state t.flash).live) [
+  | inl on ↦ ap (λ (x : CachedPages). x.page_bytes) (follows.went_on on).1
+  | inr off ↦ ap (λ (x : CachedPages). x.page_bytes) (follows.was_cut off).1
+]
+
+pub was_done : {F : Type 0} (state : F → FlashState) (its : Config) (kept : Protocol) (c : Command) (s t : Standing F) (r : Reply) (before entries : List CachedPage) → its.protocol ≡ kept →
+    FitsMounted state its before s → is_arm c ≡ false → ServesHere state c s t r → IsCached t entries → IsBacked state kept t → WasDone state its c s t r entries
+was_done state its kept c s t r before entries rule fits no_arm here cached backed = record {
+  config = fits.config;
+  no_arm = no_arm;
+  on = fits.live;
+  here = here;
+  cached = cached;
+  backed = subst (λ (p : Protocol). IsBacked state p t) (sym rule) backed;
+}

@@ -1,0 +1,17 @@
+pub mod Unbroken
+pub mod Backs
+pub mod Devices
+pub mod Single
+pub mod Telling
+pub mod Caching
+pub mod Finishes
+pub mod Spending
+pub mod Mountings
+pub mod Followed
+pub mod Powering
+pub mod Lifted
+pub mod Arming
+pub mod Runs
+pub mod Progress
+pub mod Begun
+pub mod Quiet

@@ -1,0 +1,176 @@
+-- A command that mounts the device first.
+use Rattle.std.proofs.Common.{◌≡◌, ◌⊎◌, ℕ, ◌≤◌, Bool, true, false, Result, Ok, Err, refl, sym, ap, ◌∙◌, subst, inl, inr}
+use Rattle.std.specs.Prelude.{MatchBool, IfOk, IfErr}
+use Rattle.tx_types.specs.declared.config.Config.{Config}
+use Rattle.tx_types.specs.declared.config.Shape.{Shape}
+use Rattle.tx_types.specs.Config.{checked, shape_of}
+use Rattle.flash_model.specs.Flash.{FlashState}
+use Rattle.flash_model.specs.Calls.{BothTell, Spends}
+use Rattle.flash_model.specs.Operations.{Moment, moment_of}
+use Rattle.record_list.specs.Records.{mention}
+use Rattle.version_index.specs.Images.{IsSoundImage, records_in}
+use Rattle.tx_engine.specs.ArrayState.{ArrayState}
+use Rattle.tx_engine.specs.Standing.{Standing, limits_of}
+use Rattle.tx_engine.specs.Step.{CutLeaves}
+use Rattle.host_protocol.specs.declared.command.Command.{Command}
+use Rattle.host_protocol.specs.declared.reply.Reply.{Reply}
+use Rattle.host_protocol.specs.declared.reply.Reply.TheVariants as reply
+use Rattle.cut_replay.specs.Run.{Does, IsCut, MayBeCut, MayComplete, NotDone, is_arm, seen_after}
+use Rattle.cut_replay.specs.FlashRun.{Point, IsDone, MovesBy, ServesFlash, Tells, HasErased, opening_point}
+use Rattle.cut_replay.specs.Mounted.{point_at, IsStill}
+use Rattle.cut_replay.specs.Sessions.{flash_in, point_of, StandsMounted, StandsUnmounted, IsSpentBy, ServesIn, Serves, StaysRefused, Ends, MountsIn, MeetsFault, Mounted, Unmounted}
+use Rattle.cut_replay.specs.declared.serving.ServeError.{ServeError}
+use Rattle.cut_replay.specs.declared.serving.ServeError.TheVariants as failed
+use Rattle.cut_replay.specs.declared.session.Ended.{Ended}
+use Rattle.cut_replay.specs.declared.session.Session.{Session}
+use Rattle.cut_replay.specs.declared.session.Session.TheVariants as session
+use Rattle.cut_replay.proofs.Mountings.{mounted_stands, mounted_point}
+use Rattle.cut_replay.proofs.Spending.{no_more_then, spends_fault, spends_cut, spends_after, sets_none}
+use Rattle.cut_replay.proofs.Followed.{served_no_arm}
+
+-- From another point with the same machine and the same moment
+tells_from : (its : Config) (faulted : Bool) (a b : Point) (r : Reply) (new : Point) → b.moment ≡ a.moment → Tells its faulted a r new → Tells its faulted b r new
+tells_from its faulted a b reply.Collected new same h = subst (λ (m : Moment). HasErased its m new.moment) (sym same) h
+tells_from its faulted a b _ new same h = h
+
+moves_from : (its : Config) (c : Command) (r : Reply) (a b new : Moment) → b ≡ a → MovesBy its c r a new → MovesBy its c r b new
+moves_from its c r a b new same h = subst (λ (m : Moment). MovesBy its c r m new) (sym same) h
+
+done_from : (its : Config) (spent : ℕ → Bool) (faulted : Bool) (c : Command) (a b : Point) (r : Reply) (new : Point) → b.state.machine ≡ a.state.machine → b.moment ≡ a.moment →
+    IsDone its spent faulted c a r new → IsDone its spent faulted c b r new
+done_from its spent faulted c a b r new machine moment h = record {
+  does = subst (λ (m : ArrayState). Does (limits_of its) spent c m r new.state.machine) (sym machine) h.does;
+  up = h.up;
+  moves = moves_from its c r a.moment b.moment new.moment moment h.moves;
+  tells = tells_from its faulted a b r new moment h.tells;
+}
+
+abbrev pub Cases : Config → (ℕ → Bool) → Bool → Command → Point → Reply → Point → Type 0
+Cases its spent faulted c old r new =
+    (NotDone old.state r new.state × (new.moment ≡ old.moment))
+    ⊎ (IsDone its spent faulted c old r new ⊎ (IsCut c old.state r new.state × MovesBy its c r old.moment new.moment))
+
+cases_of : (its : Config) (spent : ℕ → Bool) (faulted : Bool) (c : Command) (old : Point) (r : Reply) (new : Point) → is_arm c ≡ false → ServesFlash its spent faulted c old r new → Cases its spent faulted c old r new
+cases_of its spent faulted c old r new no_arm h = subst (λ b. MatchBool b ((r ≡ reply.Armed) × (new ≡ old)) (Cases its spent faulted c old r new)) no_arm h
+
+-- where the first one is up the command was done
+cases_from : (its : Config) (spent : ℕ → Bool) (faulted : Bool) (c : Command) (a b : Point) (r : Reply) (new : Point) → a.state.up ≡ true → b.state.machine ≡ a.state.machine → b.moment ≡ a.moment →
+    Cases its spent faulted c a r new → Cases its spent faulted c b r new
+cases_from its spent faulted c a b r new up machine moment (inl not) = (let down = not.0.0 in absurd cc)
+cases_from its spent faulted c a b r new up machine moment (inr (inl done)) = inr (inl (done_from its spent faulted c a b r new machine moment done))
+cases_from its spent faulted c a b r new up machine moment (inr (inr cut)) =
+    inr (inr (
+      (cut.0.0, subst (λ (m : ArrayState). MayBeCut m.pages c) (sym machine) cut.0.1, subst (λ (m : ArrayState). CutLeaves (MayComplete c) m new.state.machine) (sym machine) cut.0.2),
+      moves_from its c r a.moment b.moment new.moment moment cut.1,
+    ))
+
+lifted_run : {F R : Type 0} (state : F → FlashState) (its : Config) (flash : F) (t : Standing F) (c : Command) (r : Reply) (new : Session F R) → is_arm c ≡ false → MountsIn state its flash t →
+    ((seen : ℕ → ℕ) → (faulted : Bool) → StandsMounted seen faulted t → ServesIn {R = R} state its seen faulted c (session.Mounted t) r new) →
+    (seen : ℕ → ℕ) → (faulted : Bool) → StandsUnmounted its seen (state flash) → ServesIn {R = R} state its seen faulted c (session.Unmounted flash) r new
+lifted_run {F = F} {R = R} state its flash t c r new no_arm mounts h seen faulted stands =
+    let up : Session F R = session.Mounted t in
+    let served = h seen faulted (mounted_stands {R = R} state its flash seen faulted up mounts stands.sound stands.mentions) in
+    let b : Point = opening_point its false (moment_of (state flash)) in
+    record {
+      spent = served.spent;
+      may = served.may;
+      serves = served_no_arm its served.spent faulted c b r (point_of state its new) no_arm
+          (cases_from its served.spent faulted c (point_at state t) b r (point_of state its new) refl (sym mounts.machine) (sym mounts.still.moment)
+          (cases_of its served.spent faulted c (point_at state t) r (point_of state its new) no_arm served.serves));
+      point = served.point;
+      stands = served.stands;
+    }
+
+lifted_refused : {F R : Type 0} (state : F → FlashState) (its : Config) (flash : F) (t : Standing F) (new : Session F R) → StaysRefused {R = R} state its (session.Mounted t) new → StaysRefused {R = R} state its (session.Unmounted flash) new
+lifted_refused state its flash t (session.Mounted s) h = tt
+lifted_refused state its flash t (session.Unmounted after) h = inl h
+
+pub lifted_serves : {F R : Type 0} (state : F → FlashState) (its : Config) (flash : F) (t : Standing F) (c : Command) (r : Reply) (new : Session F R) → is_arm c ≡ false → MountsIn state its flash t →
+    Serves {R = R} state its c (session.Mounted t) r new → Serves {R = R} state its c (session.Unmounted flash) r new
+lifted_serves state its flash t c r new no_arm mounts h = record {
+  in_run = lifted_run state its flash t c r new no_arm mounts h.in_run;
+  refused = lifted_refused state its flash t new h.refused;
+  spends = spends_after c r (state flash).told (state t.flash).told (state (flash_in new)).told mounts.still.told h.spends;
+  set = h.set;
+}
+
+still_then : (a b d : FlashState) → IsStill a b → IsStill b d → IsStill a d
+still_then a b d ab bd = record { moment = bd.moment ∙ ab.moment; shape = bd.shape ∙ ab.shape; told = no_more_then a.told b.told d.told ab.told bd.told }
+
+pub lifted_ends : {F : Type 0} (R : Type 0) (state : F → FlashState) (its : Config) (flash : F) (t : Standing F) (c : Command) (new : F) (why : ServeError) → is_arm c ≡ false → MountsIn state its flash t →
+    Ends {R = R} state its c (session.Mounted t) new why → Ends {R = R} state its c (session.Unmounted flash) new why
+lifted_ends R state its flash t c new (failed.Unsound law slot) no_arm mounts h = absurd h
+lifted_ends R state its flash t c new failed.Memory no_arm mounts (inl still) = inl (still_then (state flash) (state t.flash) (state new) mounts.still still)
+lifted_ends {F = F} R state its flash t c new failed.Memory no_arm mounts (inr cut) =
+    let after : Session F R = session.Unmounted new in
+    inr (lifted_run {R = R} state its flash t c reply.Cut after no_arm mounts cut.0, spends_after c reply.Cut (state flash).told (state t.flash).told (state new).told mounts.still.told cut.1)
+
+-- The device was not mounted
+pub unmounted_ends : {F : Type 0} (R : Type 0) (state : F → FlashState) (its : Config) (c : Command) (flash new : F) (why : ServeError) → Unmounted state its flash new why →
+    Ends {R = R} state its c (session.Unmounted flash) new why
+unmounted_ends R state its c flash new (failed.Unsound law slot) h = (ap (λ (m : Moment). m.image) h.0.moment, h.1)
+unmounted_ends R state its c flash new failed.Memory h = inl h
+
+abbrev IsFaultOrCut : FlashState → Reply → Type 0
+IsFaultOrCut s r = ((r ≡ reply.Fault) × (s.live ≡ true)) ⊎ ((r ≡ reply.Cut) × (s.live ≡ false))
+
+not_done_reply : (s : FlashState) (r : Reply) → IsFaultOrCut s r → (r ≡ reply.Fault) ⊎ (r ≡ reply.Cut)
+not_done_reply s r (inl h) = inl h.0
+not_done_reply s r (inr h) = inr h.0
+
+not_done_spends : (c : Command) (old new : FlashState) (r : Reply) → IsFaultOrCut new r → MeetsFault old new → BothTell (IsSpentBy c r) old.told new.told
+not_done_spends c old new r (inl is) h =
+    subst (λ q. BothTell (IsSpentBy c q) old.told new.told) (sym is.0) (spends_fault c old.told new.told h.still.told (subst (λ (b : Bool). BothTell (Spends b) old.told new.told) is.1 h.spends))
+not_done_spends c old new r (inr is) h =
+    subst (λ q. BothTell (IsSpentBy c q) old.told new.told) (sym is.0) (spends_cut c old.told new.told h.still.told (subst (λ (b : Bool). BothTell (Spends b) old.told new.told) is.1 h.spends))
+
+not_opened : (s : FlashState) (c : Command) (seen : ℕ → ℕ) (r : Reply) (page : ℕ) → IsFaultOrCut s r → seen_after seen c r page ≡ seen page
+not_opened s c seen r page (inl is) = ap (λ q. seen_after seen c q page) is.0
+not_opened s c seen r page (inr is) = ap (λ q. seen_after seen c q page) is.0
+
+pub not_done_serves : {F : Type 0} (R : Type 0) (state : F → FlashState) (its : Config) (c : Command) (flash new : F) (r : Reply) → is_arm c ≡ false → MeetsFault (state flash) (state new) → IsFaultOrCut (state new) r →
+    Serves {R = R} state its c (session.Unmounted flash) r (session.Unmounted new)
+not_done_serves {F = F} R state its c flash new r no_arm h is =
+    let after : Session F R = session.Unmounted new in
+    let same : opening_point its false (moment_of (state new)) ≡ opening_point its false (moment_of (state flash)) = ap (λ (m : Moment). opening_point its false m) h.still.moment in
+    record {
+      in_run = λ seen faulted stands. record {
+        spent = λ page. false;
+        may = λ page spent. (let not : false ≡ true = spent in absurd cc);
+        serves = served_no_arm its (λ page. false) faulted c (opening_point its false (moment_of (state flash))) r (opening_point its false (moment_of (state new))) no_arm
+            (inl ((refl, not_done_reply (state new) r is, ap (λ (p : Point). p.state) same), h.still.moment));
+        point = mounted_point {R = R} state its flash after h.still stands.sound;
+        stands = record {
+          sound = subst (λ (m : Moment). IsSoundImage its.protocol its.logical (shape_of its) m.image) (sym h.still.moment) stands.sound;
+          mentions = λ page lt. subst (λ n. mention (records_in its.protocol (state new).image) page ≤ n) (sym (not_opened (state new) c seen r page is))
+              (subst (λ (m : Moment). mention (records_in its.protocol m.image) page ≤ seen page) (sym h.still.moment) (stands.mentions page lt));
+        };
+      };
+      refused = inr (ap (λ (m : Moment). m.image) h.still.moment);
+      spends = not_done_spends c (state flash) (state new) r is h;
+      set = sets_none c no_arm (state new).told;
+    }
+
+pub unmounted_check : (its : Config) (old new : FlashState) → checked its ≡ Ok old.shape → IsStill old new → checked its ≡ Ok new.shape
+unmounted_check its old new check still = check ∙ ap (λ (x : Shape). Ok x) (sym still.shape)
+
+-- What was mounted
+pub is_mounted : {F R : Type 0} (state : F → FlashState) (its : Config) (flash : F) (s : Session F R) (t : Standing F) → Mounted state its flash s → s ≡ session.Mounted t → MountsIn state its flash t
+is_mounted state its flash s t h is = subst (λ x. Mounted state its flash x) is h
+
+pub is_unmounted : {F R : Type 0} (state : F → FlashState) (its : Config) (flash : F) (s : Session F R) (new : F) → Mounted state its flash s → s ≡ session.Unmounted new → MeetsFault (state flash) (state new)
+is_unmounted state its flash s new h is = subst (λ x. Mounted state its flash x) is h
+
+-- the same of each result
+abbrev Results : (F R : Type 0) → Type 0
+Results F R = Result (Session F R × Reply) (Ended F)
+
+pub lifted_result : {F R : Type 0} (state : F → FlashState) (its : Config) (flash : F) (t : Standing F) (c : Command) (result : Results F R) → is_arm c ≡ false → MountsIn state its flash t →
+    IfOk result (λ done. Serves {R = R} state its c (session.Mounted t) done.1 done.0) → IfOk result (λ done. Serves {R = R} state its c (session.Unmounted flash) done.1 done.0)
+lifted_result {R = R} state its flash t c (Ok done) no_arm mounts h = lifted_serves {R = R} state its flash t c done.1 done.0 no_arm mounts h
+lifted_result state its flash t c (Err e) no_arm mounts h = tt
+
+pub lifted_error : {F R : Type 0} (state : F → FlashState) (its : Config) (flash : F) (t : Standing F) (c : Command) (result : Results F R) → is_arm c ≡ false → MountsIn state its flash t →
+    IfErr result (λ e. Ends {R = R} state its c (session.Mounted t) e.flash e.why) → IfErr result (λ e. Ends {R = R} state its c (session.Unmounted flash) e.flash e.why)
+lifted_error state its flash t c (Ok done) no_arm mounts h = tt
+lifted_error {R = R} state its flash t c (Err e) no_arm mounts h = lifted_ends R state its flash t c e.flash e.why no_arm mounts h

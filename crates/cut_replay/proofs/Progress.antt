@@ -1,0 +1,235 @@
+-- A session that has served the first commands of a list.
+use Rattle.std.proofs.Common.{◌≡◌, ℕ, ◌+◌, ◌<◌, ◌≤◌, Bool, true, false, List, [], ◌∷◌, ◌++◌, length, take, Option, Some, None, Result, Ok, Err, refl, sym, ap, ◌∙◌, subst, inl, inr, arith, get_or}
+use Rattle.std.specs.Prelude.{IfSome, OnOk, OnErr}
+use Rattle.std.specs.Result.{is_err}
+use Rattle.std.proofs.lemmas.List.{take_more, take_all, length-take-le}
+use Rattle.tx_types.specs.declared.config.Config.{Config}
+use Rattle.tx_types.specs.declared.memory.Memory.{Memory}
+use Rattle.tx_types.specs.Config.{shape_of}
+use Rattle.flash_model.specs.Flash.{FlashState, Told as TellsBreaks}
+use Rattle.flash_model.specs.Calls.{BothTell, NoMore}
+use Rattle.flash_model.specs.Operations.{Moment, moment_of}
+use Rattle.version_index.specs.Images.{IsSoundImage, IsLeastImageBreach}
+use Rattle.host_protocol.specs.declared.command.Command.{Command}
+use Rattle.host_protocol.specs.declared.reply.Reply.{Reply}
+use Rattle.host_protocol.specs.declared.reply.Reply.TheVariants as reply
+use Rattle.host_protocol.specs.Replies.{text_of}
+use Rattle.cut_replay.specs.Run.{seen_after}
+use Rattle.cut_replay.specs.FlashRun.{Point, FlashRun, ServesFlash, opening_point, mentions_in, last_moment}
+use Rattle.cut_replay.specs.Watching.{Told, Grew, text_of_all, told_of}
+use Rattle.cut_replay.specs.Bounds.{SpendsTold, LastIsSet}
+use Rattle.cut_replay.specs.Served.{Watched, ServesRun, ServesSound, RefusesUnsound}
+use Rattle.cut_replay.specs.Sessions.{flash_in, point_of, StandsAt, ServesIn, Serves, Ends, EndsForMemory, Refuses, IsSpentBy, StaysRefused}
+use Rattle.cut_replay.specs.Beginning.{Begins, IsKept}
+use Rattle.cut_replay.specs.declared.serving.ServeError.{ServeError}
+use Rattle.cut_replay.specs.declared.serving.ServeError.TheVariants as failed
+use Rattle.cut_replay.specs.declared.session.Session.{Session}
+use Rattle.cut_replay.specs.declared.session.Session.TheVariants as session
+use Rattle.cut_replay.proofs.Mountings.{sound_unbroken}
+use Rattle.cut_replay.proofs.Runs.{last_point, seen_through, faulted_through, run_more, last_more, seen_more, faulted_more, last_moment_is, run_lengths, take_whole, take_front, grew_none, grew_more, text_more, told_more, spends_nothing, spends_more, spends_later, last_sets, none_sets}
+
+-- the moment of a session is that of its flash
+pub point_moment : {F R : Type 0} (state : F → FlashState) (its : Config) (s : Session F R) → (point_of state its s).moment ≡ moment_of (state (flash_in s))
+point_moment state its (session.Mounted s) = refl
+point_moment state its (session.Unmounted flash) = refl
+
+-- a run over commands that leads to this session
+pub record Runs {F R : Type 0} (state : F → FlashState) (its : Config) (init : FlashState) (cs : List Command) (rs : List Reply) (ps : List Point) (s : Session F R) : Type 0 where
+  pub up : Bool
+  pub run : FlashRun its (mentions_in its (moment_of init)) false (opening_point its up (moment_of init)) cs rs ps
+  pub last : point_of state its s ≡ last_point (opening_point its up (moment_of init)) ps
+  pub stands : StandsAt state its (seen_through (mentions_in its (moment_of init)) cs rs) (faulted_through false rs) s
+  pub spends : SpendsTold cs rs init.told (state (flash_in s)).told
+
+-- and its replies were told
+pub record HasServed {F R : Type 0} (state : F → FlashState) (its : Config) (init : FlashState) (cs : List Command) (s : Session F R) (before after : Watched) : Type 0 where
+  pub replies : List Reply
+  pub points : List Point
+  pub runs : Runs state its init cs replies points s
+  pub text : Grew before.text after.text (text_of_all replies)
+  pub kept : Grew before.kept after.kept (told_of replies points)
+  pub set : IfSome (state (flash_in s)).told (LastIsSet cs)
+
+-- at the beginning
+pub served_none : {F R : Type 0} (state : F → FlashState) (its : Config) (init : FlashState) (s : Session F R) (w : Watched) → Begins state its init s → HasServed state its init [] s w w
+served_none state its init s w h = record {
+  replies = [];
+  points = [];
+  runs = record { up = h.up; run = tt; last = h.point; stands = h.stands; spends = spends_nothing init.told (state (flash_in s)).told h.told };
+  text = grew_none w.text;
+  kept = grew_none w.kept;
+  set = none_sets (state (flash_in s)).told;
+}
+
+-- one command more
+pub runs_more : {F R : Type 0} (state : F → FlashState) (its : Config) (init : FlashState) (cs : List Command) (rs : List Reply) (ps : List Point) (c : Command) (r : Reply) (s t : Session F R) →
+    Runs state its init cs rs ps s →
+    ((seen : ℕ → ℕ) → (faulted : Bool) → StandsAt state its seen faulted s → ServesIn state its seen faulted c s r t) → BothTell (IsSpentBy c r) (state (flash_in s)).told (state (flash_in t)).told →
+    Runs state its init (cs ++ c ∷ []) (rs ++ r ∷ []) (ps ++ point_of state its t ∷ []) t
+runs_more state its init cs rs ps c r s t h served spends =
+    let seen = mentions_in its (moment_of init) in
+    let old = opening_point its h.up (moment_of init) in
+    let p = point_of state its t in
+    let one = served (seen_through seen cs rs) (faulted_through false rs) h.stands in
+    let same = run_lengths its seen false old cs rs ps h.run in
+    record {
+      up = h.up;
+      run = run_more its seen false old cs rs ps c r p h.run
+          ((one.spent, one.may, subst (λ (q : Point). ServesFlash its one.spent (faulted_through false rs) c q r p) h.last one.serves), one.point);
+      last = sym (last_more old ps p);
+      stands = subst (λ (f : ℕ → ℕ). StandsAt state its f (faulted_through false (rs ++ r ∷ [])) t) (sym (seen_more seen cs rs c r same.0))
+          (subst (λ (b : Bool). StandsAt state its (seen_after (seen_through seen cs rs) c r) b t) (sym (faulted_more false rs r)) one.stands);
+      spends = spends_more cs rs c r init.told (state (flash_in s)).told (state (flash_in t)).told same.0 h.spends spends;
+    }
+
+-- which was told
+pub served_more : {F R : Type 0} (state : F → FlashState) (its : Config) (init : FlashState) (cs : List Command) (c : Command) (r : Reply) (s t : Session F R) (a b d : Watched) →
+    HasServed state its init cs s a b → Serves state its c s r t → Grew b.text d.text (text_of r) → Grew b.kept d.kept (record { text = text_of r; moment = moment_of (state (flash_in t)) } ∷ []) →
+    HasServed state its init (cs ++ c ∷ []) t a d
+served_more state its init cs c r s t a b d h serves text kept =
+    let p = point_of state its t in
+    let same = run_lengths its (mentions_in its (moment_of init)) false (opening_point its h.runs.up (moment_of init)) cs h.replies h.points h.runs.run in
+    record {
+      replies = h.replies ++ r ∷ [];
+      points = h.points ++ p ∷ [];
+      runs = runs_more state its init cs h.replies h.points c r s t h.runs serves.in_run serves.spends;
+      text = subst (λ (x : List ℕ). Grew a.text d.text x) (sym (text_more h.replies r)) (grew_more a.text b.text d.text (text_of_all h.replies) (text_of r) h.text text);
+      kept = subst (λ (x : List Told). Grew a.kept d.kept x) (sym (told_more h.replies h.points r p (same.0 ∙ sym same.1)))
+          (grew_more a.kept b.kept d.kept (told_of h.replies h.points) (record { text = text_of r; moment = p.moment } ∷ []) h.kept
+          (subst (λ (m : Moment). Grew b.kept d.kept (record { text = text_of r; moment = m } ∷ [])) (sym (point_moment state its t)) kept));
+      set = last_sets cs c (state (flash_in t)).told serves.set;
+    }
+
+-- What has been served is what serving comes to
+run_parts : {F R : Type 0} (state : F → FlashState) (its : Config) (init : FlashState) (cs : List Command) (rs : List Reply) (ps : List Point) (s : Session F R) (final : FlashState) →
+    Runs state its init cs rs ps s → moment_of final ≡ moment_of (state (flash_in s)) → moment_of final ≡ last_moment (moment_of init) ps
+run_parts state its init cs rs ps s final h same =
+    same ∙ sym (point_moment state its s) ∙ ap (λ (p : Point). p.moment) h.last ∙ last_moment_is (opening_point its h.up (moment_of init)) ps
+
+pub all_served : {F R : Type 0} (state : F → FlashState) (its : Config) (init : FlashState) (cs : List Command) (s : Session F R) (final : FlashState) (a b : Watched) → HasServed state its init cs s a b →
+    moment_of final ≡ moment_of (state (flash_in s)) → BothTell NoMore (state (flash_in s)).told final.told → ServesRun its cs (length cs) init final a b
+all_served state its init cs s final a b h same no_more =
+    let lengths = run_lengths its (mentions_in its (moment_of init)) false (opening_point its h.runs.up (moment_of init)) cs h.replies h.points h.runs.run in
+    let replies = take_whole (length cs) h.replies lengths.0 in
+    let points = take_whole (length cs) h.points lengths.1 in
+    record {
+      replies = h.replies;
+      points = h.points;
+      run = record { up = h.runs.up; runs = h.runs.run };
+      last = run_parts state its init cs h.replies h.points s final h.runs same;
+      text = subst (λ (x : List Reply). Grew a.text b.text (text_of_all x)) (sym replies) h.text;
+      kept = subst (λ (x : List Reply). Grew a.kept b.kept (told_of x (take (length cs) h.points))) (sym replies)
+          (subst (λ (x : List Point). Grew a.kept b.kept (told_of h.replies x)) (sym points) h.kept);
+      spends = spends_later cs h.replies init.told (state (flash_in s)).told final.told h.runs.spends no_more;
+    }
+
+-- where one command more was served whose reply was not told
+pub one_untold : {F R : Type 0} (state : F → FlashState) (its : Config) (init : FlashState) (cs : List Command) (c : Command) (r : Reply) (s t : Session F R) (a b d : Watched) → HasServed state its init cs s a b →
+    ((seen : ℕ → ℕ) → (faulted : Bool) → StandsAt state its seen faulted s → ServesIn state its seen faulted c s r t) → BothTell (IsSpentBy c r) (state (flash_in s)).told (state (flash_in t)).told →
+    d.text ≡ b.text → d.kept ≡ b.kept → ServesRun its (cs ++ c ∷ []) (length cs) init (state (flash_in t)) a d
+one_untold state its init cs c r s t a b d h served spends text kept =
+    let lengths = run_lengths its (mentions_in its (moment_of init)) false (opening_point its h.runs.up (moment_of init)) cs h.replies h.points h.runs.run in
+    let p = point_of state its t in
+    let runs = runs_more state its init cs h.replies h.points c r s t h.runs served spends in
+    let replies = take_front (length cs) h.replies r lengths.0 in
+    let points = take_front (length cs) h.points p lengths.1 in
+    record {
+      replies = h.replies ++ r ∷ [];
+      points = h.points ++ p ∷ [];
+      run = record { up = runs.up; runs = runs.run };
+      last = run_parts state its init (cs ++ c ∷ []) (h.replies ++ r ∷ []) (h.points ++ p ∷ []) t (state (flash_in t)) runs refl;
+      text = subst (λ (x : List Reply). Grew a.text d.text (text_of_all x)) (sym replies) (subst (λ (o : Option (List ℕ)). Grew a.text o (text_of_all h.replies)) (sym text) h.text);
+      kept = subst (λ (x : List Reply). Grew a.kept d.kept (told_of x (take (length cs) (h.points ++ p ∷ [])))) (sym replies)
+          (subst (λ (x : List Point). Grew a.kept d.kept (told_of h.replies x)) (sym points) (subst (λ (o : Option (List Told)). Grew a.kept o (told_of h.replies h.points)) (sym kept) h.kept));
+      spends = runs.spends;
+    }
+
+-- The next command of a list
+pub next_of : (list : List Command) (at : ℕ) (c : Command) → at < length list → c ≡ get_or list at c → take (at + 1) list ≡ take at list ++ c ∷ []
+next_of list at c lt read = take_more list at c lt ∙ ap (λ x. take at list ++ x ∷ []) (sym read)
+
+taken_length : {X : Type 0} (list : List X) (at : ℕ) → at ≤ length list → length (take at list) ≡ at
+taken_length list at le = length-take-le at list le
+
+-- Serving ended before that command did anything, or in it
+pub ended_for_memory : {F R : Type 0} (state : F → FlashState) (its : Config) (init : FlashState) (list : List Command) (at : ℕ) (c : Command) (s : Session F R) (flash : F) (a b : Watched) → at < length list → c ≡ get_or list at c →
+    HasServed state its init (take at list) s a b → EndsForMemory state its c s flash → ServesSound its list init (state flash) a b (Err failed.Memory)
+ended_for_memory state its init list at c s flash a b lt read h (inl still) =
+    let count : length (take at list) ≡ at = taken_length list at (omega arith) in (
+      at,
+      omega arith,
+      inl (subst (λ n. ServesRun its (take at list) n init (state flash) a b) count
+          (all_served state its init (take at list) s (state flash) a b h still.moment still.told)),
+    )
+ended_for_memory {F = F} {R = R} state its init list at c s flash a b lt read h (inr cut) =
+    let after : Session F R = session.Unmounted flash in
+    let count : length (take at list) ≡ at = taken_length list at (omega arith) in (
+      at,
+      omega arith,
+      inr (subst (λ n. ServesRun its (take (at + 1) list) n init (state flash) a b) count
+          (subst (λ (cs : List Command). ServesRun its cs (length (take at list)) init (state flash) a b) (sym (next_of list at c lt read))
+          (one_untold {R = R} state its init (take at list) c reply.Cut s after a b b h cut.0 cut.1 refl refl))),
+    )
+
+-- a session that stands has no image that is refused
+unrefused : {F R : Type 0} (state : F → FlashState) (its : Config) (seen : ℕ → ℕ) (faulted : Bool) (s : Session F R) (flash : F) (law slot : ℕ) → StandsAt state its seen faulted s → Refuses state its s flash law slot → ⊥
+unrefused state its seen faulted (session.Mounted s) flash law slot stands h = h
+unrefused state its seen faulted (session.Unmounted old) flash law slot stands h = sound_unbroken its (state old).image (record { law = law; slot = record { 0 = slot } }) stands.sound h.1
+
+pub ended_in : {F R : Type 0} (state : F → FlashState) (its : Config) (init : FlashState) (list : List Command) (at : ℕ) (c : Command) (s : Session F R) (flash : F) (why : ServeError) (a b : Watched) → at < length list →
+    c ≡ get_or list at c → HasServed state its init (take at list) s a b → Ends state its c s flash why → ServesSound its list init (state flash) a b (Err why)
+ended_in state its init list at c s flash (failed.Unsound law slot) a b lt read h ends =
+    absurd (unrefused state its (seen_through (mentions_in its (moment_of init)) (take at list) h.replies) (faulted_through false h.replies) s flash law slot.0 h.runs.stands ends)
+ended_in state its init list at c s flash failed.Memory a b lt read h ends = ended_for_memory state its init list at c s flash a b lt read h ends
+
+-- the reply of it could not be told
+pub untold_in : {F R : Type 0} (state : F → FlashState) (its : Config) (init : FlashState) (list : List Command) (at : ℕ) (c : Command) (r : Reply) (s t : Session F R) (flash : F) (a b d : Watched) → at < length list →
+    c ≡ get_or list at c → HasServed state its init (take at list) s a b → Serves state its c s r t → flash ≡ flash_in t → d.text ≡ b.text → d.kept ≡ b.kept → ServesSound its list init (state flash) a d (Err failed.Memory)
+untold_in state its init list at c r s t flash a b d lt read h serves is text kept =
+    let count : length (take at list) ≡ at = taken_length list at (omega arith) in (
+      at,
+      omega arith,
+      inr (subst (λ n. ServesRun its (take (at + 1) list) n init (state flash) a d) count
+          (subst (λ (cs : List Command). ServesRun its cs (length (take at list)) init (state flash) a d) (sym (next_of list at c lt read))
+          (subst (λ x. ServesRun its (take at list ++ c ∷ []) (length (take at list)) init (state x) a d) (sym is)
+          (one_untold state its init (take at list) c r s t a b d h serves.in_run serves.spends text kept)))),
+    )
+
+-- all was served
+no_more_same : (o : Option TellsBreaks) → BothTell NoMore o o
+no_more_same None = tt
+no_more_same (Some told) = (omega arith, omega arith)
+
+pub served_to_the_end : {F R : Type 0} (state : F → FlashState) (its : Config) (init : FlashState) (list : List Command) (at : ℕ) (s : Session F R) (flash : F) (a b : Watched) → length list ≤ at → HasServed state its init (take at list) s a b →
+    flash ≡ flash_in s → ServesSound its list init (state flash) a b (Ok tt)
+served_to_the_end state its init list at s flash a b ge h is =
+    let whole : take at list ≡ list = take_all at list ge in
+    let end = subst (λ (cs : List Command). HasServed state its init cs s a b) whole h in
+    subst (λ x. ServesSound its list init (state x) a b (Ok tt)) (sym is)
+    (all_served state its init list s (state (flash_in s)) a b end refl (no_more_same (state (flash_in s)).told), end.set)
+
+-- Of the flash that was handed in
+pub kept_more : {F R : Type 0} (state : F → FlashState) (its : Config) (init : FlashState) (s t : Session F R) → IsKept state its init s → StaysRefused state its s t → IsKept state its init t
+kept_more state its init s (session.Mounted t) h stays = tt
+kept_more state its init (session.Mounted s) (session.Unmounted new) h stays = inl stays
+kept_more state its init (session.Unmounted old) (session.Unmounted new) h (inl sound) = inl sound
+kept_more state its init (session.Unmounted old) (session.Unmounted new) (inl sound) (inr same) = inl (subst (λ i. IsSoundImage its.protocol its.logical (shape_of its) i) (sym same) sound)
+kept_more state its init (session.Unmounted old) (session.Unmounted new) (inr was) (inr same) = inr (same ∙ was)
+
+pub refused_in : {F R : Type 0} (state : F → FlashState) (its : Config) (init : FlashState) (c : Command) (s : Session F R) (flash : F) (why : ServeError) → IsKept state its init s → Ends state its c s flash why →
+    RefusesUnsound its init (state flash) (Err why)
+refused_in state its init c s flash failed.Memory kept ends = tt
+refused_in state its init c (session.Mounted s) flash (failed.Unsound law slot) kept ends = absurd ends
+refused_in state its init c (session.Unmounted old) flash (failed.Unsound law slot) (inl sound) ends =
+    absurd (sound_unbroken its (state old).image (record { law = law; slot = slot }) sound ends.1)
+refused_in state its init c (session.Unmounted old) flash (failed.Unsound law slot) (inr same) ends =
+    (ends.0 ∙ same, subst (λ i. IsLeastImageBreach its.protocol its.logical (shape_of its) i (record { law = law; slot = slot })) same ends.1)
+
+-- what holds of an answer that was given, and of none
+pub on_ok : (P : Type 0) (r : Result (Unit {0}) Memory) → is_err r ≡ false → OnOk r P → P
+on_ok P (Ok u) whole h = h
+on_ok P (Err e) whole h = cc
+
+pub on_err : (P : Type 0) (r : Result (Unit {0}) Memory) → is_err r ≡ true → OnErr r P → P
+on_err P (Ok u) failed h = cc
+on_err P (Err e) failed h = h

@@ -1,0 +1,106 @@
+-- Runs on a flash as runs of the array machine, and runs in which no break was to come.
+use Rattle.std.proofs.Common.{◌≡◌, ◌⊎◌, ℕ, ◌+◌, ◌≤◌, Bool, true, false, cond, ◌||◌, List, [], ◌∷◌, length, take, get_or, Option, Some, None, refl, ap, inl, inr, arith}
+use Rattle.std.specs.Prelude.{All, MatchBool, count_by, IsSome}
+use Rattle.std.proofs.lemmas.List.{take_all}
+use Rattle.std.proofs.lemmas.List.Elements.{All-nil, All-cons, All-head, All-tail, All-take}
+use Rattle.std.proofs.lemmas.List.Sums.{sum_by-cons}
+use Rattle.tx_types.specs.declared.config.Config.{Config}
+use Rattle.tx_engine.specs.ArrayState.{ArrayState, Entry, entry_of}
+use Rattle.tx_engine.specs.Standing.{limits_of}
+use Rattle.tx_engine.specs.Submit.{Limits}
+use Rattle.tx_engine.specs.Unbroken.{finish_answer}
+use Rattle.host_protocol.specs.declared.command.Command.{Command}
+use Rattle.host_protocol.specs.declared.command.Command.TheVariants as command
+use Rattle.host_protocol.specs.declared.reply.Reply.{Reply}
+use Rattle.host_protocol.specs.declared.reply.Reply.TheVariants as reply
+use Rattle.cut_replay.specs.Run.{Run, Serves, Does, NotDone, IsCut, is_arm, is_break, seen_after, step_reply}
+use Rattle.cut_replay.specs.FlashRun.{Point, FlashRun, ServesFlash, IsDone, MovesBy, is_fault, last_state}
+use Rattle.cut_replay.specs.Bounds.{AreFew, is_cut, arms_cut, arms_fault}
+use Rattle.cut_replay.specs.Unbroken.{UnbrokenRun, FinishesAreDone, state_after, unspent}
+
+-- a command on a flash is one on the array machine
+match_weaker : (b : Bool) (P P' Q Q' : Type 0) → (P → P') → (Q → Q') → MatchBool b P Q → MatchBool b P' Q'
+match_weaker true P P' Q Q' p q h = p h
+match_weaker false P P' Q Q' p q h = q h
+
+serves_machine : (its : Config) (spent : ℕ → Bool) (faulted : Bool) (c : Command) (old : Point) (r : Reply) (new : Point) →
+    ((NotDone old.state r new.state × (new.moment ≡ old.moment))
+    ⊎ (IsDone its spent faulted c old r new ⊎ (IsCut c old.state r new.state × MovesBy its c r old.moment new.moment))) →
+    NotDone old.state r new.state ⊎ ((Does (limits_of its) spent c old.state.machine r new.state.machine × (new.state.up ≡ true)) ⊎ IsCut c old.state r new.state)
+serves_machine its spent faulted c old r new (inl h) = inl h.0
+serves_machine its spent faulted c old r new (inr (inl h)) = inr (inl (h.does, h.up))
+serves_machine its spent faulted c old r new (inr (inr h)) = inr (inr h.0)
+
+pub serves_run : (its : Config) (spent : ℕ → Bool) (faulted : Bool) (c : Command) (old : Point) (r : Reply) (new : Point) → ServesFlash its spent faulted c old r new → Serves (limits_of its) spent c old.state r new.state
+serves_run its spent faulted c old r new h =
+    match_weaker (is_arm c) _ _ _ _ (λ (armed : (r ≡ reply.Armed) × (new ≡ old)). (armed.0, ap (λ (p : Point). p.state) armed.1)) (serves_machine its spent faulted c old r new) h
+
+pub flash_run_is_run : (its : Config) (seen : ℕ → ℕ) (faulted : Bool) (old : Point) (cs : List Command) (rs : List Reply) (ps : List Point) → FlashRun its seen faulted old cs rs ps →
+    Run (limits_of its) seen old.state cs rs (last_state old.state ps)
+flash_run_is_run its seen faulted old [] [] [] run = refl
+flash_run_is_run its seen faulted old [] [] (q ∷ ps) run = absurd run
+flash_run_is_run its seen faulted old [] (s ∷ rs) ps run = absurd run
+flash_run_is_run its seen faulted old (d ∷ cs) [] ps run = absurd run
+flash_run_is_run its seen faulted old (d ∷ cs) (s ∷ rs) [] run = absurd run
+flash_run_is_run its seen faulted old (d ∷ cs) (s ∷ rs) (q ∷ ps) run =
+    (q.state, run.0.0, run.0.1, serves_run its run.0.0 faulted d old s q run.0.2, flash_run_is_run its (seen_after seen d s) (faulted || is_fault s) q cs rs ps run.2)
+
+-- Nothing is counted where nothing passes, and back
+none_counted : {X : Type 0} (test : X → Bool) (xs : List X) → All (λ x. test x ≡ false) xs → count_by test xs ≡ 0
+none_counted test [] h = refl
+none_counted test (x ∷ xs) h =
+    let split : count_by test (x ∷ xs) ≡ cond (test x) 1 0 + count_by test xs = sum_by-cons (λ y. cond (test y) 1 0) x xs in
+    let here : ◌≡◌ {A = ℕ} (cond {A = ℕ} (test x) 1 0) 0 = ap (λ (b : Bool). cond {A = ℕ} b 1 0) (All-head (λ x. test x ≡ false) x xs h) in
+    let rest = none_counted test xs (All-tail (λ x. test x ≡ false) x xs h) in omega (arith, split, here, rest)
+
+none_passes : (b : Bool) (n : ℕ) → cond b 1 0 + n ≤ 0 → (b ≡ false) × (n ≤ 0)
+none_passes true n h = absurd (omega arith)
+none_passes false n h = (refl, omega arith)
+
+all_uncounted : {X : Type 0} (test : X → Bool) (xs : List X) → count_by test xs ≤ 0 → All (λ x. test x ≡ false) xs
+all_uncounted test [] h = All-nil (λ x. test x ≡ false)
+all_uncounted test (x ∷ xs) h =
+    let split : count_by test (x ∷ xs) ≡ cond (test x) 1 0 + count_by test xs = sum_by-cons (λ y. cond (test y) 1 0) x xs in
+    let both = none_passes (test x) (count_by test xs) (omega (arith, split, h)) in
+    All-cons (λ x. test x ≡ false) x xs both.0 (all_uncounted test xs both.1)
+
+no_arm_cut : (c : Command) → is_arm c ≡ false → arms_cut c ≡ false
+no_arm_cut (command.Cut count what) h = cc
+no_arm_cut _ h = refl
+
+no_arm_fault : (c : Command) → is_arm c ≡ false → arms_fault c ≡ false
+no_arm_fault (command.Fault count what) h = cc
+no_arm_fault (command.BadRead count) h = cc
+no_arm_fault _ h = refl
+
+no_break : (r : Reply) → is_cut r ≡ false → is_fault r ≡ false → is_break r ≡ false
+no_break reply.Cut cut fault = cc
+no_break reply.Fault cut fault = cc
+no_break _ cut fault = refl
+
+no_breaks : (rs : List Reply) → All (λ r. is_cut r ≡ false) rs → All (λ r. is_fault r ≡ false) rs → All (λ r. is_break r ≡ false) rs
+no_breaks rs cut fault k d lt = no_break (get_or rs k d) (cut k d lt) (fault k d lt)
+
+pub none_broken : (cs : List Command) (rs : List Reply) → All (λ c. is_arm c ≡ false) cs → AreFew 0 0 cs rs → All (λ r. is_break r ≡ false) rs
+none_broken cs rs none few =
+    let n = length rs in
+    let whole : take n rs ≡ rs = take_all n rs (omega arith) in
+    let front = All-take (λ c. is_arm c ≡ false) n cs none in
+    let cuts : count_by arms_cut (take n cs) ≡ 0 = none_counted arms_cut (take n cs) (λ k d lt. no_arm_cut (get_or (take n cs) k d) (front k d lt)) in
+    let faults : count_by arms_fault (take n cs) ≡ 0 = none_counted arms_fault (take n cs) (λ k d lt. no_arm_fault (get_or (take n cs) k d) (front k d lt)) in
+    let most = few n in
+    let no_cut : count_by is_cut (take n rs) ≤ 0 = omega (arith, most.0, cuts) in
+    let no_fault : count_by is_fault (take n rs) ≤ 0 = omega (arith, most.1, faults) in
+    no_breaks rs (all_uncounted is_cut rs (rw whole at no_cut)) (all_uncounted is_fault rs (rw whole at no_fault))
+
+-- Each finish is done
+finish_done : (tag : ℕ) (o : Option Entry) (r : Reply) → r ≡ step_reply tag (finish_answer o) → IsSome o → r ≡ reply.Done tag
+finish_done tag None r h some = cc
+finish_done tag (Some e) r h some = h
+
+pub finishes_done : (limits : Limits) (old : ArrayState) (cs : List Command) (rs : List Reply) (new : ArrayState) → UnbrokenRun limits old cs rs new → FinishesAreDone limits old cs rs
+finishes_done limits old [] rs new run = tt
+finishes_done limits old (c ∷ cs) [] new run = tt
+finishes_done limits old (command.Finish tag ∷ cs) (r ∷ rs) new run =
+    (finish_done tag (entry_of tag old.entries) r run.0, finishes_done limits (state_after limits unspent (command.Finish tag) old) cs rs new run.1)
+finishes_done limits old (c ∷ cs) (r ∷ rs) new run = (tt, finishes_done limits (state_after limits unspent c old) cs rs new run.1)

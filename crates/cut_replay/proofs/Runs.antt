@@ -1,0 +1,183 @@
+-- A run on a flash goes on by one command.
+use Rattle.std.proofs.Common.{◌≡◌, ℕ, zero, suc, ◌+◌, ◌≤◌, Bool, ◌||◌, List, [], ◌∷◌, ◌++◌, length, take, Option, Some, None, refl, sym, ap, ◌∙◌, subst, inl, inr, arith, append-nil, append_assoc, length-append}
+use Rattle.std.specs.Prelude.{count_by, IfSome, if◌then◌else◌}
+use Rattle.std.specs.List.{flat_map}
+use Rattle.std.proofs.lemmas.Grind.{flat_map-append}
+use Rattle.std.proofs.lemmas.Bool.{cases_lt}
+use Rattle.std.proofs.lemmas.List.{take_all, take-append-le}
+use Rattle.std.proofs.lemmas.List.Sums.{sum_by_push}
+use Rattle.tx_types.specs.declared.config.Config.{Config}
+use Rattle.flash_model.specs.Flash.{Told as TellsBreaks}
+use Rattle.flash_model.specs.Calls.{BothTell, NoMore}
+use Rattle.host_protocol.specs.declared.command.Command.{Command}
+use Rattle.host_protocol.specs.declared.reply.Reply.{Reply}
+use Rattle.host_protocol.specs.Replies.{text_of}
+use Rattle.cut_replay.specs.Run.{MayBeSpent, seen_after}
+use Rattle.cut_replay.specs.FlashRun.{Point, IsPoint, FlashRun, ServesFlash, is_fault, last_moment}
+use Rattle.cut_replay.specs.Watching.{Grew, text_of_all, told_of}
+use Rattle.cut_replay.specs.Bounds.{AreSpent, SpendsTold, is_cut, arms_cut, arms_fault, IsSet, LastIsSet}
+use Rattle.cut_replay.specs.Sessions.{IsSpentBy}
+use Rattle.cut_replay.proofs.Spending.{both_tell}
+use Rattle.cut_replay.proofs.Arming.{weaker_told}
+
+-- where a run stands after these commands
+abbrev pub last_point : Point → List Point → Point
+last_point old [] = old
+last_point old (p ∷ ps) = last_point p ps
+
+abbrev pub seen_through : (ℕ → ℕ) → List Command → List Reply → ℕ → ℕ
+seen_through seen (c ∷ cs) (r ∷ rs) = seen_through (seen_after seen c r) cs rs
+seen_through seen _ _ = seen
+
+abbrev pub faulted_through : Bool → List Reply → Bool
+faulted_through faulted [] = faulted
+faulted_through faulted (r ∷ rs) = faulted_through (faulted || is_fault r) rs
+
+-- one command more
+abbrev pub GoesOn : Config → (ℕ → ℕ) → Bool → Command → Point → Reply → Point → Type 0
+GoesOn its seen faulted c old r new = ((spent : ℕ → Bool) × MayBeSpent seen spent × ServesFlash its spent faulted c old r new) × IsPoint its new
+
+pub run_more : (its : Config) (seen : ℕ → ℕ) (faulted : Bool) (old : Point) (cs : List Command) (rs : List Reply) (ps : List Point) (c : Command) (r : Reply) (p : Point) → FlashRun its seen faulted old cs rs ps →
+    GoesOn its (seen_through seen cs rs) (faulted_through faulted rs) c (last_point old ps) r p → FlashRun its seen faulted old (cs ++ c ∷ []) (rs ++ r ∷ []) (ps ++ p ∷ [])
+run_more its seen faulted old [] [] [] c r p run h = (h.0, h.1, tt)
+run_more its seen faulted old [] [] (q ∷ ps) c r p run h = absurd run
+run_more its seen faulted old [] (s ∷ rs) ps c r p run h = absurd run
+run_more its seen faulted old (d ∷ cs) [] ps c r p run h = absurd run
+run_more its seen faulted old (d ∷ cs) (s ∷ rs) [] c r p run h = absurd run
+run_more its seen faulted old (d ∷ cs) (s ∷ rs) (q ∷ ps) c r p run h =
+    (run.0, run.1, run_more its (seen_after seen d s) (faulted || is_fault s) q cs rs ps c r p run.2 h)
+
+pub last_more : (old : Point) (ps : List Point) (p : Point) → last_point old (ps ++ p ∷ []) ≡ p
+last_more old [] p = refl
+last_more old (q ∷ ps) p = last_more q ps p
+
+pub seen_more : (seen : ℕ → ℕ) (cs : List Command) (rs : List Reply) (c : Command) (r : Reply) → length rs ≡ length cs → seen_through seen (cs ++ c ∷ []) (rs ++ r ∷ []) ≡ seen_after (seen_through seen cs rs) c r
+seen_more seen [] [] c r same = refl
+seen_more seen [] (s ∷ rs) c r same = absurd (omega arith)
+seen_more seen (d ∷ cs) [] c r same = absurd (omega arith)
+seen_more seen (d ∷ cs) (s ∷ rs) c r same = seen_more (seen_after seen d s) cs rs c r (omega arith)
+
+pub faulted_more : (faulted : Bool) (rs : List Reply) (r : Reply) → faulted_through faulted (rs ++ r ∷ []) ≡ (faulted_through faulted rs || is_fault r)
+faulted_more faulted [] r = refl
+faulted_more faulted (s ∷ rs) r = faulted_more (faulted || is_fault s) rs r
+
+pub last_moment_is : (old : Point) (ps : List Point) → (last_point old ps).moment ≡ last_moment old.moment ps
+last_moment_is old [] = refl
+last_moment_is old (p ∷ ps) = last_moment_is p ps
+
+-- how many replies and points there are
+pub run_lengths : (its : Config) (seen : ℕ → ℕ) (faulted : Bool) (old : Point) (cs : List Command) (rs : List Reply) (ps : List Point) → FlashRun its seen faulted old cs rs ps →
+    (length rs ≡ length cs) × (length ps ≡ length cs)
+run_lengths its seen faulted old [] [] [] run = (refl, refl)
+run_lengths its seen faulted old [] [] (q ∷ ps) run = absurd run
+run_lengths its seen faulted old [] (s ∷ rs) ps run = absurd run
+run_lengths its seen faulted old (d ∷ cs) [] ps run = absurd run
+run_lengths its seen faulted old (d ∷ cs) (s ∷ rs) [] run = absurd run
+run_lengths its seen faulted old (d ∷ cs) (s ∷ rs) (q ∷ ps) run =
+    let rest = run_lengths its (seen_after seen d s) (faulted || is_fault s) q cs rs ps run.2 in (ap suc rest.0, ap suc rest.1)
+
+-- The first so many of a list with one more
+pub take_whole : {X : Type 0} (n : ℕ) (xs : List X) → length xs ≡ n → take n xs ≡ xs
+take_whole n xs same = take_all n xs (omega arith)
+
+pub take_front : {X : Type 0} (n : ℕ) (xs : List X) (x : X) → length xs ≡ n → take n (xs ++ x ∷ []) ≡ xs
+take_front n xs x same = take-append-le n xs (x ∷ []) (omega arith) ∙ take_whole n xs same
+
+-- What was told
+pub grew_none : {X : Type 0} (o : Option (List X)) → Grew o o []
+grew_none None = refl
+grew_none (Some xs) = ap (λ ys. Some ys) (sym (append-nil xs))
+
+pub grew_more : {X : Type 0} (a b d : Option (List X)) (xs ys : List X) → Grew a b xs → Grew b d ys → Grew a d (xs ++ ys)
+grew_more None b d xs ys ab bd = let none = ab in subst (λ o. Grew o d ys) none bd
+grew_more (Some a) b d xs ys ab bd = subst (λ o. Grew o d ys) ab bd ∙ ap (λ l. Some l) (append_assoc a xs ys)
+
+pub text_more : (rs : List Reply) (r : Reply) → text_of_all (rs ++ r ∷ []) ≡ text_of_all rs ++ text_of r
+text_more rs r = flat_map-append text_of rs (r ∷ []) ∙ ap (λ t. flat_map text_of rs ++ t) (append-nil (text_of r))
+
+pub told_more : (rs : List Reply) (ps : List Point) (r : Reply) (p : Point) → length rs ≡ length ps → told_of (rs ++ r ∷ []) (ps ++ p ∷ []) ≡ told_of rs ps ++ record { text = text_of r; moment = p.moment } ∷ []
+told_more [] [] r p same = refl
+told_more [] (q ∷ ps) r p same = absurd (omega arith)
+told_more (s ∷ rs) [] r p same = absurd (omega arith)
+told_more (s ∷ rs) (q ∷ ps) r p same = ap (λ xs. record { text = text_of s; moment = q.moment } ∷ xs) (told_more rs ps r p (omega arith))
+
+-- How many cuts and faults there were
+abbrev ones : {X : Type 0} → (X → Bool) → X → ℕ
+ones test x = if test x then 1 else 0
+
+count_push : {X : Type 0} (test : X → Bool) (xs : List X) (x : X) → count_by test (xs ++ x ∷ []) ≡ count_by test xs + ones test x
+count_push test xs x = sum_by_push (ones test) xs x
+
+few_front : {X Y : Type 0} (this : X → Bool) (that : Y → Bool) (xs : List X) (ys : List Y) (x : X) (y : Y) (most j : ℕ) → length xs ≡ length ys → j ≤ length xs →
+    count_by this (take j xs) ≤ most + count_by that (take j ys) → count_by this (take j (xs ++ x ∷ [])) ≤ most + count_by that (take j (ys ++ y ∷ []))
+few_front this that xs ys x y most j same le h =
+    let front : take j (xs ++ x ∷ []) ≡ take j xs = take-append-le j xs (x ∷ []) le in
+    let other : take j (ys ++ y ∷ []) ≡ take j ys = take-append-le j ys (y ∷ []) (omega arith) in
+    rw (front, other) h
+
+few_whole : {X Y : Type 0} (this : X → Bool) (that : Y → Bool) (xs : List X) (ys : List Y) (most j : ℕ) → length xs ≤ j → length ys ≤ j →
+    count_by this xs ≤ most + count_by that ys → count_by this (take j xs) ≤ most + count_by that (take j ys)
+few_whole this that xs ys most j first second h =
+    let one : take j xs ≡ xs = take_all j xs first in
+    let two : take j ys ≡ ys = take_all j ys second in
+    rw (one, two) h
+
+few_more : {X Y : Type 0} (this : X → Bool) (that : Y → Bool) (xs : List X) (ys : List Y) (x : X) (y : Y) (most j : ℕ) → length xs ≡ length ys →
+    count_by this (take j xs) ≤ most + count_by that (take j ys) → count_by this (xs ++ x ∷ []) ≤ most + count_by that (ys ++ y ∷ []) →
+    count_by this (take j (xs ++ x ∷ [])) ≤ most + count_by that (take j (ys ++ y ∷ []))
+few_more this that xs ys x y most j same front whole = elim (cases_lt (length xs) j) [
+  | inl lt ↦ few_whole this that (xs ++ x ∷ []) (ys ++ y ∷ []) most j (omega (arith, length-append xs (x ∷ []))) (omega (arith, length-append ys (y ∷ []))) whole
+  | inr le ↦ few_front this that xs ys x y most j same le front
+]
+
+none_taken : {X : Type 0} (test : X → Bool) (j : ℕ) → count_by test (take j []) ≡ 0
+none_taken test zero = refl
+none_taken test (suc j) = refl
+
+spent_nothing : (old new : TellsBreaks) → NoMore old new → AreSpent [] [] old new
+spent_nothing old new h = record {
+  few = λ j. (omega (arith, none_taken is_cut j), omega (arith, none_taken is_fault j));
+  cuts = omega (arith, h.0);
+  breaks = omega (arith, h.1);
+}
+
+spent_more : (cs : List Command) (rs : List Reply) (c : Command) (r : Reply) → length rs ≡ length cs → (x y z : TellsBreaks) → AreSpent cs rs x y → IsSpentBy c r y z → AreSpent (cs ++ c ∷ []) (rs ++ r ∷ []) x z
+spent_more cs rs c r same x y z h k =
+    let cut_count = count_push is_cut rs r in
+    let fault_count = count_push is_fault rs r in
+    let cut_arms = count_push arms_cut cs c in
+    let fault_arms = count_push arms_fault cs c in
+    let cuts : count_by is_cut (rs ++ r ∷ []) + z.cuts ≤ x.cuts + count_by arms_cut (cs ++ c ∷ []) = omega (arith, cut_count, cut_arms, h.cuts, k.cuts) in
+    let breaks : count_by is_fault (rs ++ r ∷ []) + z.breaks ≤ x.breaks + count_by arms_fault (cs ++ c ∷ []) = omega (arith, fault_count, fault_arms, h.breaks, k.breaks) in
+    record {
+      few = λ j. (few_more is_cut arms_cut rs cs r c x.cuts j same (h.few j).0 (omega (arith, cuts)), few_more is_fault arms_fault rs cs r c x.breaks j same (h.few j).1 (omega (arith, breaks)));
+      cuts = cuts;
+      breaks = breaks;
+    }
+
+spent_later : (cs : List Command) (rs : List Reply) (x y z : TellsBreaks) → AreSpent cs rs x y → NoMore y z → AreSpent cs rs x z
+spent_later cs rs x y z h k = record { few = h.few; cuts = omega (arith, h.cuts, k.0); breaks = omega (arith, h.breaks, k.1) }
+
+pub spends_nothing : (a b : Option TellsBreaks) → BothTell NoMore a b → SpendsTold [] [] a b
+spends_nothing a b = weaker_told NoMore (AreSpent [] []) spent_nothing a b
+
+pub spends_more : (cs : List Command) (rs : List Reply) (c : Command) (r : Reply) (a b d : Option TellsBreaks) → length rs ≡ length cs → SpendsTold cs rs a b → BothTell (IsSpentBy c r) b d →
+    SpendsTold (cs ++ c ∷ []) (rs ++ r ∷ []) a d
+spends_more cs rs c r a b d same = both_tell (AreSpent cs rs) (IsSpentBy c r) (AreSpent (cs ++ c ∷ []) (rs ++ r ∷ [])) (spent_more cs rs c r same) a b d
+
+pub spends_later : (cs : List Command) (rs : List Reply) (a b d : Option TellsBreaks) → SpendsTold cs rs a b → BothTell NoMore b d → SpendsTold cs rs a d
+spends_later cs rs a b d = both_tell (AreSpent cs rs) NoMore (AreSpent cs rs) (spent_later cs rs) a b d
+
+-- The last arm
+pub last_set : (cs : List Command) (c : Command) (told : TellsBreaks) → IsSet c told → LastIsSet (cs ++ c ∷ []) told
+last_set [] c told h = h
+last_set (d ∷ []) c told h = h
+last_set (d ∷ e ∷ cs) c told h = last_set (e ∷ cs) c told h
+
+pub last_sets : (cs : List Command) (c : Command) (o : Option TellsBreaks) → IfSome o (IsSet c) → IfSome o (LastIsSet (cs ++ c ∷ []))
+last_sets cs c None h = tt
+last_sets cs c (Some told) h = last_set cs c told h
+
+pub none_sets : (o : Option TellsBreaks) → IfSome o (LastIsSet [])
+none_sets None = tt
+none_sets (Some told) = tt

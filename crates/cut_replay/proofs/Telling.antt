@@ -1,0 +1,247 @@
+-- Commands that ask for no program and no erase.
+use Rattle.std.proofs.Common.{◌≡◌, ℕ, ◌+◌, ◌≤◌, Bool, true, false, cond, List, [], ◌∷◌, length, map, Option, Some, None, Result, Ok, Err, refl, sym, ap, ◌∙◌, subst, inl, inr, arith, eq-eqb}
+use Rattle.std.specs.Prelude.{Any, count_by, IsSome, IfOk}
+use Rattle.std.proofs.lemmas.List.Sums.{sum_by-cons}
+use Rattle.tx_types.specs.Batch.{PageWrite, Writes}
+use Rattle.tx_types.specs.declared.config.Config.{Config}
+use Rattle.tx_types.specs.declared.config.Protocol.{Protocol}
+use Rattle.tx_types.specs.declared.record.Link.{Link}
+use Rattle.tx_types.specs.declared.stats.Stats.{Stats}
+use Rattle.tx_types.specs.declared.memory.Memory.{Memory}
+use Rattle.tx_types.specs.Config.{shape_of}
+use Rattle.flash_model.specs.Flash.{FlashState}
+use Rattle.flash_model.specs.Calls.{Carries}
+use Rattle.flash_model.specs.Operations.{moment_of}
+use Rattle.flash_model.specs.Moves.{Moves}
+use Rattle.flash_model.proofs.CallLemmas.{Carries-nothing}
+use Rattle.flash_model.proofs.MoveLemmas.{Moves-nothing}
+use Rattle.record_list.specs.declared.found.Found.{Found}
+use Rattle.record_list.proofs.Names.{IsIn}
+use Rattle.version_index.specs.Images.{records_in}
+use Rattle.version_index.specs.Notes.{found_in}
+use Rattle.version_index.specs.Noted.{Noted, current_of, mention_of}
+use Rattle.verdict_report.specs.Report.{report}
+use Rattle.collector.specs.declared.unsure.Unsure.TheVariants as unsure
+use Rattle.tx_engine.specs.ArrayState.{ArrayState, Pages, page_at}
+use Rattle.tx_engine.specs.Collect.{TellsStats}
+use Rattle.tx_engine.specs.Exits.{IsNamedAt}
+use Rattle.tx_engine.specs.Naming.{is_spent, named_after, KeepsTables}
+use Rattle.tx_engine.specs.OpenTable.{next_name}
+use Rattle.tx_engine.specs.Read.{ReadsPage, is_read_fault}
+use Rattle.tx_engine.specs.Standing.{Standing, Naming, limits_of}
+use Rattle.tx_engine.specs.Submit.{Submits, is_of, opened, refusal}
+use Rattle.tx_engine.specs.declared.read.ReadAnswer.{ReadAnswer}
+use Rattle.tx_engine.specs.declared.read.ReadAnswer.TheVariants as read
+use Rattle.tx_engine.specs.declared.read.ReadError.{ReadError}
+use Rattle.tx_engine.specs.declared.read.ReadError.TheVariants as unread
+use Rattle.tx_engine.specs.declared.submit.SubmitError.{SubmitError}
+use Rattle.tx_engine.specs.declared.submit.SubmitError.TheVariants as refused
+use Rattle.host_protocol.specs.declared.command.Command.{Command}
+use Rattle.host_protocol.specs.declared.command.Command.TheVariants as command
+use Rattle.host_protocol.specs.declared.reply.Reply.{Reply}
+use Rattle.host_protocol.specs.declared.reply.Reply.TheVariants as reply
+use Rattle.cut_replay.specs.Run.{Does, read_reply, submit_reply, is_break, seen_after}
+use Rattle.cut_replay.specs.FlashRun.{Point, Tells, MovesBy, is_fault}
+use Rattle.cut_replay.specs.Bounds.{is_cut}
+use Rattle.cut_replay.specs.Mounted.{point_at, IsSeen, IsBacked, ServesHere}
+use Rattle.cut_replay.proofs.Devices.{in_any, any_in, in_append, seen_at, seen_later}
+
+-- the moment stays
+stays_moved : (its : Config) (c : Command) (r : Reply) (old new : FlashState) → moment_of new ≡ moment_of old → MovesBy its c r (moment_of old) (moment_of new)
+stays_moved its c r old new same = record {
+  moves = subst (λ m. Moves (shape_of its) (moment_of old) (is_break r) m) (sym same) (Moves-nothing (shape_of its) (moment_of old) (is_break r));
+  still = λ h. same;
+}
+
+-- nothing at all changed
+pub same_serves : {F : Type 0} (state : F → FlashState) (c : Command) (s : Standing F) (r : Reply) → is_break r ≡ false → is_fault r ≡ false → is_cut r ≡ false →
+    Does (limits_of s.config) (is_spent s.noted.mentions) c s.machine r s.machine →
+    ((faulted : Bool) → (faulted ≡ false → s.unsure ≡ unsure.Nothing) → Tells s.config faulted (point_at state s) r (point_at state s)) → ServesHere state c s s r
+same_serves state c s r unbroken whole uncut does tells = record {
+  config = refl;
+  does = does;
+  moves = stays_moved s.config c r (state s.flash) (state s.flash) refl;
+  carries = subst (λ (b : Bool). Carries (state s.flash) (state s.flash) b) (sym whole) (Carries-nothing (state s.flash));
+  tells = tells;
+  sure = λ sure h. sure;
+  seen = λ seen h. seen_later seen c r s h;
+  versions = λ page lt. inr (refl, refl);
+  cut = λ fault. cc;
+  whole = uncut;
+}
+
+pub stats_serves : {F : Type 0} (state : F → FlashState) (s : Standing F) (told : Stats) → TellsStats s.machine told → told.programs ≡ (state s.flash).programs → told.erases ≡ (state s.flash).erases →
+    ServesHere state command.Stats s s (reply.Stats told)
+stats_serves state s told machine programs erases =
+    same_serves state command.Stats s (reply.Stats told) refl refl refl (told, machine, refl, refl) (λ faulted h. (programs, erases))
+
+pub report_serves : {F : Type 0} (state : F → FlashState) (kept : Protocol) (s : Standing F) (list : List Found) (text : List ℕ) → IsBacked state kept s → list ≡ found_in s.noted.notes →
+    text ≡ report kept list s.config.logical → ServesHere state command.Explain s s (reply.Report text)
+report_serves state kept s list text is found told =
+    same_serves state command.Explain s (reply.Report text) refl refl refl ((text, refl), refl)
+    (λ faulted h whole.
+    let from : records_in s.config.protocol (state s.flash).image ≡ list = is.records (h whole) ∙ sym found in
+    let rule : kept ≡ s.config.protocol = sym is.rule in
+    told ∙ ap (λ p. report p list s.config.logical) rule ∙ ap (λ l. report s.config.protocol l s.config.logical) (sym from))
+
+-- A read
+read_breaks : (page : ℕ) (bytes : List ℕ) (result : Result ReadAnswer ReadError) →
+    (is_break (read_reply page bytes result) ≡ is_read_fault result) × (is_fault (read_reply page bytes result) ≡ is_read_fault result) × (is_cut (read_reply page bytes result) ≡ false)
+read_breaks page bytes (Ok read.Blank) = (refl, refl, refl)
+read_breaks page bytes (Ok read.Page) = (refl, refl, refl)
+read_breaks page bytes (Err unread.Range) = (refl, refl, refl)
+read_breaks page bytes (Err unread.Fault) = (refl, refl, refl)
+
+read_tells : (its : Config) (faulted : Bool) (old new : Point) (page : ℕ) (bytes : List ℕ) (result : Result ReadAnswer ReadError) → Tells its faulted old (read_reply page bytes result) new
+read_tells its faulted old new page bytes (Ok read.Blank) = tt
+read_tells its faulted old new page bytes (Ok read.Page) = tt
+read_tells its faulted old new page bytes (Err unread.Range) = tt
+read_tells its faulted old new page bytes (Err unread.Fault) = tt
+
+read_may : (logical : ℕ) (pages : Pages) (page : ℕ) (bytes : List ℕ) (result : Result ReadAnswer ReadError) → ReadsPage logical pages page bytes result → is_fault (read_reply page bytes result) ≡ true →
+    IsSome (page_at pages page)
+read_may logical pages page bytes (Ok read.Blank) reads fault = cc
+read_may logical pages page bytes (Ok read.Page) reads fault = cc
+read_may logical pages page bytes (Err unread.Range) reads fault = cc
+read_may logical pages page bytes (Err unread.Fault) reads fault = reads.1
+
+-- only the flash changed, and its moment stays
+pub flash_serves : {F : Type 0} (state : F → FlashState) (kept : Protocol) (old : Standing F) (flash : F) (page : ℕ) (bytes : List ℕ) (result : Result ReadAnswer ReadError) →
+    (let new : Standing F = record old { flash = flash } in
+    IsBacked state kept new → ReadsPage old.config.logical old.machine.pages page bytes result → moment_of (state flash) ≡ moment_of (state old.flash) →
+    Carries (state old.flash) (state flash) (is_read_fault result) → ServesHere state (command.Read page) old new (read_reply page bytes result))
+flash_serves state kept old flash page bytes result is reads still carries =
+    let breaks = read_breaks page bytes result in
+    record {
+      config = refl;
+      does = (bytes, result, reads, refl, refl);
+      moves = stays_moved old.config (command.Read page) (read_reply page bytes result) (state old.flash) (state flash) still;
+      carries = subst (λ (b : Bool). Carries (state old.flash) (state flash) b) (sym breaks.1) carries;
+      tells = λ faulted h. read_tells old.config faulted (point_at state old) (point_at state (record old { flash = flash })) page bytes result;
+      sure = λ sure h. sure;
+      seen = λ seen h. record { mentions = (seen_later seen (command.Read page) (read_reply page bytes result) old h).mentions; names = (seen_later seen (command.Read page) (read_reply page bytes result) old h).names };
+      versions = λ p lt. inr (refl, refl);
+      cut = λ fault. record { may = read_may old.config.logical old.machine.pages page bytes result reads fault; leaves = is.same_cut };
+      whole = breaks.2;
+    }
+
+pub read_serves : {F : Type 0} (state : F → FlashState) (kept : Protocol) (old new : Standing F) (page : ℕ) (bytes : List ℕ) (result : Result ReadAnswer ReadError) (r : Reply) →
+    IsBacked state kept new → ReadsPage old.config.logical old.machine.pages page bytes result → moment_of (state new.flash) ≡ moment_of (state old.flash) →
+    Carries (state old.flash) (state new.flash) (is_read_fault result) → new ≡ record old { flash = new.flash } → r ≡ read_reply page bytes result → ServesHere state (command.Read page) old new r
+read_serves {F = F} state kept old new page bytes result r is reads still carries stays told =
+    subst (λ (q : Reply). ServesHere state (command.Read page) old new q) (sym told)
+    (subst (λ (s : Standing F). ServesHere state (command.Read page) old s (read_reply page bytes result)) (sym stays)
+    (flash_serves state kept old new.flash page bytes result (subst (λ (s : Standing F). IsBacked state kept s) stays is) reads still carries))
+
+-- A write
+write_unbroken : (tag pages : ℕ) (result : Result (Unit {0}) SubmitError) →
+    (is_break (submit_reply tag pages result) ≡ false) × (is_fault (submit_reply tag pages result) ≡ false) × (is_cut (submit_reply tag pages result) ≡ false)
+write_unbroken tag pages (Ok u) = (refl, refl, refl)
+write_unbroken tag pages (Err refused.Empty) = (refl, refl, refl)
+write_unbroken tag pages (Err (refused.Range page)) = (refl, refl, refl)
+write_unbroken tag pages (Err (refused.Repeated page)) = (refl, refl, refl)
+write_unbroken tag pages (Err refused.Tag) = (refl, refl, refl)
+write_unbroken tag pages (Err (refused.Overlap page owner)) = (refl, refl, refl)
+write_unbroken tag pages (Err (refused.Full free)) = (refl, refl, refl)
+write_unbroken tag pages (Err (refused.Spent page)) = (refl, refl, refl)
+
+write_tells : (its : Config) (faulted : Bool) (old new : Point) (tag pages : ℕ) (result : Result (Unit {0}) SubmitError) → Tells its faulted old (submit_reply tag pages result) new
+write_tells its faulted old new tag pages (Ok u) = tt
+write_tells its faulted old new tag pages (Err refused.Empty) = tt
+write_tells its faulted old new tag pages (Err (refused.Range page)) = tt
+write_tells its faulted old new tag pages (Err (refused.Repeated page)) = tt
+write_tells its faulted old new tag pages (Err refused.Tag) = tt
+write_tells its faulted old new tag pages (Err (refused.Overlap page owner)) = tt
+write_tells its faulted old new tag pages (Err (refused.Full free)) = tt
+write_tells its faulted old new tag pages (Err (refused.Spent page)) = tt
+
+opened_pages : (o : Option SubmitError) (tag : ℕ) (ws : List PageWrite) (s : ArrayState) → (opened o tag ws s).pages ≡ s.pages
+opened_pages None tag ws s = refl
+opened_pages (Some e) tag ws s = refl
+
+pins_current : (n : Noted) (pins : List ℕ) (page : ℕ) → current_of (record n { pins = pins }) page ≡ current_of n page
+unfolding current_of
+pins_current n pins page = refl
+
+-- a name that is written now is one above the mention of its page, and the page stands in the batch
+counts_step : (b : Bool) (n : ℕ) → n ≤ cond b 1 0 + n
+counts_step true n = omega arith
+counts_step false n = omega arith
+
+named_in : (n : Noted) (ws : List PageWrite) (page version : ℕ) (name : Link) → IsIn (map (next_name n) ws) name → name.page ≡ page → name.version ≡ version →
+    (version ≡ mention_of n page + 1) × (1 ≤ count_by (is_of page) ws)
+named_in n [] page version name i same at = absurd i
+named_in n (w ∷ ws) page version name (inl e) same at =
+    let here : w.page ≡ page = ap (λ (x : Link). x.page) e ∙ same in
+    let is : is_of page w ≡ true = eq-eqb w.page page here in
+    let split : count_by (is_of page) (w ∷ ws) ≡ cond (is_of page w) 1 0 + count_by (is_of page) ws = sum_by-cons (λ (w : PageWrite). cond (is_of page w) 1 0) w ws in
+    let one : ◌≡◌ {A = ℕ} (cond {A = ℕ} (is_of page w) 1 0) 1 = ap (λ (b : Bool). cond {A = ℕ} b 1 0) is in
+    (sym at ∙ ap (λ (x : Link). x.version) (sym e) ∙ ap (λ p. mention_of n p + 1) here, omega (arith, split, one))
+named_in n (w ∷ ws) page version name (inr i) same at =
+    let rest = named_in n ws page version name i same at in
+    let split : count_by (is_of page) (w ∷ ws) ≡ cond (is_of page w) 1 0 + count_by (is_of page) ws = sum_by-cons (λ (w : PageWrite). cond (is_of page w) 1 0) w ws in
+    let more = counts_step (is_of page w) (count_by (is_of page) ws) in
+    (rest.0, omega (arith, split, more, rest.1))
+
+-- the names once a batch was opened: those of before, and those of its pages
+named_after_seen : {F : Type 0} (old new : Standing F) (seen : ℕ → ℕ) (tag : ℕ) (batch : Writes) (result : Result (Unit {0}) SubmitError) → IsSeen seen old →
+    new.namings ≡ named_after old.noted batch.entries result old.namings → (page version : ℕ) → IsNamedAt new.namings page version →
+    version ≤ seen_after seen (command.Write tag batch) (submit_reply tag (length batch.entries) result) page
+named_after_seen old new seen tag batch (Err e) h names page version named =
+    let before : IsNamedAt old.namings page version = subst (λ (x : List Naming). IsNamedAt x page version) names named in
+    let most = h.names page version before in
+    let least = seen_at seen (command.Write tag batch) (submit_reply tag (length batch.entries) (Err e)) page in omega arith
+named_after_seen old new seen tag batch (Ok u) h names page version named =
+    let at = in_any (λ x. Any (λ name. (name.page ≡ page) × (name.version ≡ version)) x.names) new.namings named in
+    let mine : Naming = record { names = map (next_name old.noted) batch.entries; there = 0 } in
+    let where_from = in_append old.namings mine at.0 (subst (λ (x : List Naming). IsIn x at.0) names at.1) in
+    elim where_from [
+      | inl before ↦ (let most = h.names page version (any_in (λ x. Any (λ name. (name.page ≡ page) × (name.version ≡ version)) x.names) old.namings at.0 before at.2) in omega arith)
+      | inr same ↦ (
+          let name = in_any (λ (name : Link). (name.page ≡ page) × (name.version ≡ version)) (map (next_name old.noted) batch.entries)
+          (subst (λ (x : Naming). Any (λ name. (name.page ≡ page) × (name.version ≡ version)) x.names) (sym same) at.2) in
+          let both = named_in old.noted batch.entries page version name.0 name.1 name.2.0 name.2.1 in
+          let most = h.mentions page in omega (arith, both.0, both.1, most))
+    ]
+
+pub write_serves : {F : Type 0} (state : F → FlashState) (old new : Standing F) (tag : ℕ) (batch : Writes) (result : Result (Unit {0}) SubmitError) (r : Reply) →
+    Submits (limits_of old.config) (is_spent old.noted.mentions) old.machine new.machine tag batch.entries result → new.namings ≡ named_after old.noted batch.entries result old.namings →
+    KeepsTables old new → r ≡ submit_reply tag (length batch.entries) result → ServesHere state (command.Write tag batch) old new r
+write_serves {F = F} state old new tag batch result r submits names keeps told =
+    let reply = submit_reply tag (length batch.entries) result in
+    let breaks = write_unbroken tag (length batch.entries) result in
+    let flash : state new.flash ≡ state old.flash = ap state keeps.flash in
+    subst (λ (q : Reply). ServesHere state (command.Write tag batch) old new q) (sym told) (record {
+      config = keeps.config;
+      does = (result, submits, refl);
+      moves = stays_moved old.config (command.Write tag batch) reply (state old.flash) (state new.flash) (ap moment_of flash);
+      carries = subst (λ (b : Bool). Carries (state old.flash) (state new.flash) b) (sym breaks.1) (subst (λ (s : FlashState). Carries (state old.flash) s false) (sym flash) (Carries-nothing (state old.flash)));
+      tells = λ faulted h. write_tells old.config faulted (point_at state old) (point_at state new) tag (length batch.entries) result;
+      sure = λ sure h. keeps.unsure ∙ sure;
+      seen = λ seen h. record {
+        mentions = λ page. (let same : mention_of new.noted page ≡ mention_of old.noted page = ap (λ (n : Noted). mention_of n page) keeps.noted in
+            let least = seen_at seen (command.Write tag batch) reply page in let most = h.mentions page in omega arith);
+        names = named_after_seen old new seen tag batch result h names;
+      };
+      versions = λ page lt. inr (
+        ap (λ (n : Noted). current_of n page) keeps.noted ∙ pins_current old.noted new.noted.pins page,
+        ap (λ (m : ArrayState). page_at m.pages page) submits.opens ∙ ap (λ (x : Pages). page_at x page) (opened_pages (refusal (limits_of old.config) (is_spent old.noted.mentions) old.machine.entries tag batch.entries) tag batch.entries old.machine),
+      );
+      cut = λ fault. (let not = breaks.1 in cc);
+      whole = breaks.2;
+    })
+
+-- the reply of a write whose answer is known
+pub told_opened : (tag pages count : ℕ) (u : Unit {0}) (result : Result (Unit {0}) SubmitError) → count ≡ pages → result ≡ Ok u → reply.Opened tag count ≡ submit_reply tag pages result
+told_opened tag pages count u result same is = ap (λ n. reply.Opened tag n) same ∙ ap (submit_reply tag pages) (sym is)
+
+pub told_refused : (tag pages : ℕ) (e : SubmitError) (result : Result (Unit {0}) SubmitError) (r : Reply) → r ≡ submit_reply tag pages (Err e) → result ≡ Err e → r ≡ submit_reply tag pages result
+told_refused tag pages e result r told is = told ∙ ap (submit_reply tag pages) (sym is)
+
+-- a read whose reply there was memory for
+pub reads_serve : {F : Type 0} (state : F → FlashState) (kept : Protocol) (old new : Standing F) (page : ℕ) (bytes : List ℕ) (result : Result ReadAnswer ReadError) (r : Result Reply Memory) →
+    IsBacked state kept new → ReadsPage old.config.logical old.machine.pages page bytes result → moment_of (state new.flash) ≡ moment_of (state old.flash) →
+    Carries (state old.flash) (state new.flash) (is_read_fault result) → new ≡ record old { flash = new.flash } → IfOk r (λ r. r ≡ read_reply page bytes result) →
+    IfOk r (λ r. ServesHere state (command.Read page) old new r)
+reads_serve state kept old new page bytes result (Ok r) is reads still carries stays told = read_serves state kept old new page bytes result r is reads still carries stays told
+reads_serve state kept old new page bytes result (Err e) is reads still carries stays told = tt

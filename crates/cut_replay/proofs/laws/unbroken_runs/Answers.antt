@@ -1,0 +1,8 @@
+use Rattle.cut_replay.proofs.Unbroken.{command_fine, run_fine}
+use Rattle.cut_replay.proofs.laws.unbroken_runs.Goals as goal
+
+pub returns-clause-command : goal.returns-clause-command
+returns-clause-command c = command_fine
+
+pub returns-clause-run : goal.returns-clause-run
+returns-clause-run c = run_fine

@@ -1,0 +1,22 @@
+use Rattle.cut_replay.proofs.Begun.{rooms_ended, begin_ended, same_shape}
+use Rattle.cut_replay.proofs.serving.serve.Goals as goal
+
+pub returns-in_default-clause-serves : goal.returns-in_default-clause-serves
+returns-in_default-clause-serves g c = λ sound.
+    rooms_ended g.row.R.Denot g.F.Flash.state c.args.config c.args.list.now c.args.flash (record { text = g.W.Watch.text c.args.out.now; kept = g.W.Watch.kept c.args.out.now }) sound
+
+pub returns-in-Ok-begin-clause-serves : goal.returns-in-Ok-begin-clause-serves
+returns-in-Ok-begin-clause-serves g c = λ sound. c.serve_all.ensures.serves (g.F.Flash.state c.args.flash) (c.in-Ok-begin.ensures.begins sound)
+
+pub returns-in-Ok-begin-clause-refuses : goal.returns-in-Ok-begin-clause-refuses
+returns-in-Ok-begin-clause-refuses g c = c.serve_all.ensures.refuses (g.F.Flash.state c.args.flash) c.in-Ok-begin.ensures.kept
+
+pub returns-clause-serves : goal.returns-clause-serves
+returns-clause-serves g c = λ sound.
+    begin_ended g.row.R.Denot g.F.Flash.state c.args.config c.args.list.now c.args.flash c.in-Err.ended.flash c.in-Err.ended.why
+    (record { text = g.W.Watch.text c.args.out.now; kept = g.W.Watch.kept c.args.out.now }) sound c.in-Err.ensures.failed
+
+pub returns-in-Ok-begin-clause-shape : goal.returns-in-Ok-begin-clause-shape
+returns-in-Ok-begin-clause-shape g c =
+    same_shape c.args.config (g.F.Flash.state c.args.flash).shape (g.F.Flash.state c.serve_all.result.0).shape c.serve_all.result.1
+    c.requires.check c.serve_all.ensures.shape

@@ -1,0 +1,75 @@
+use Rattle.std.proofs.Common.{◌≡◌, Ok, sym, subst, ◌∙◌, List, [], ◌∷◌, take}
+use Rattle.tx_types.specs.Config.{checked}
+use Rattle.host_protocol.specs.Replies.{text_of}
+use Rattle.host_protocol.specs.declared.command.Command.{Command}
+use Rattle.flash_model.specs.Operations.{moment_of}
+use Rattle.cut_replay.specs.Served.{Watched}
+use Rattle.cut_replay.specs.Watching.{Grew}
+use Rattle.cut_replay.proofs.Progress.{HasServed, served_none, served_more, next_of, ended_in, untold_in, served_to_the_end, kept_more, refused_in, on_ok, on_err}
+use Rattle.cut_replay.proofs.Begun.{fits_shape}
+use Rattle.cut_replay.proofs.serving.serve_all.Goals as goal
+
+pub loop-command-init : goal.loop-command-init
+loop-command-init g c = record {
+  fits = c.requires.fits;
+  size = c.requires.size;
+  room = c.requires.room;
+  served = λ init begins. served_none g.F.Flash.state c.args.config init c.args.session (record { text = g.W.Watch.text c.args.out.now; kept = g.W.Watch.kept c.args.out.now }) begins;
+  kept = λ init kept. kept;
+}
+
+pub returns-then-is_err-clause-serves : goal.returns-then-is_err-clause-serves
+returns-then-is_err-clause-serves g c = λ init begins.
+    let none = on_err _ c.tell.result (sym c.is_err.ensures.value ∙ c.if-is_err.true) c.tell.ensures.err in
+    untold_in g.F.Flash.state c.args.config init c.args.list.now c.loop-command.command-index c.command-item.result c.in-Ok.reply c.loop-command.session c.in-Ok.next c.close.result
+    (record { text = g.W.Watch.text c.args.out.now; kept = g.W.Watch.kept c.args.out.now })
+    (record { text = g.W.Watch.text c.loop-command.out; kept = g.W.Watch.kept c.loop-command.out })
+    (record { text = g.W.Watch.text c.tell.new.self; kept = g.W.Watch.kept c.tell.new.self })
+    c.loop-command-test.true c.command-item.is (c.loop-command.invariant.served init begins) c.in-Ok.ensures.serves c.close.ensures none.0 none.1
+
+pub returns-in-Err-clause-serves : goal.returns-in-Err-clause-serves
+returns-in-Err-clause-serves g c = λ init begins.
+    ended_in g.F.Flash.state c.args.config init c.args.list.now c.loop-command.command-index c.command-item.result c.loop-command.session c.in-Err.ended.flash c.in-Err.ended.why
+    (record { text = g.W.Watch.text c.args.out.now; kept = g.W.Watch.kept c.args.out.now })
+    (record { text = g.W.Watch.text c.loop-command.out; kept = g.W.Watch.kept c.loop-command.out })
+    c.loop-command-test.true c.command-item.is (c.loop-command.invariant.served init begins) c.in-Err.ensures.ends
+
+pub returns-in-Err-clause-refuses : goal.returns-in-Err-clause-refuses
+returns-in-Err-clause-refuses g c = λ init kept.
+    refused_in g.F.Flash.state c.args.config init c.command-item.result c.loop-command.session c.in-Err.ended.flash c.in-Err.ended.why (c.loop-command.invariant.kept init kept) c.in-Err.ensures.ends
+
+pub loop-command-preserved : goal.loop-command-preserved
+loop-command-preserved g c =
+    let state = g.F.Flash.state in
+    let its = c.args.config in
+    let list = c.args.list.now in
+    let at = c.loop-command.command-index in
+    let command = c.command-item.result in
+    let before : Watched = record { text = g.W.Watch.text c.args.out.now; kept = g.W.Watch.kept c.args.out.now } in
+    let between : Watched = record { text = g.W.Watch.text c.loop-command.out; kept = g.W.Watch.kept c.loop-command.out } in
+    let after : Watched = record { text = g.W.Watch.text c.tell.new.self; kept = g.W.Watch.kept c.tell.new.self } in
+    let told = sym c.is_err.ensures.value ∙ c.if-is_err.false in
+    record {
+      fits = c.in-Ok.ensures.fits;
+      size = c.serve_one.ensures.size ∙ c.loop-command.invariant.size;
+      room = c.serve_one.auto.room ∙ c.loop-command.invariant.room;
+      served = λ init begins.
+          let text = on_ok _ c.tell.result told c.tell.ensures.text in
+          let kept = on_ok _ c.tell.result told c.tell.ensures.kept in
+          subst (λ (cs : List Command). HasServed state its init cs c.in-Ok.next before after) (sym (next_of list at command c.loop-command-test.true c.command-item.is))
+          (served_more state its init (take at list) command c.in-Ok.reply c.loop-command.session c.in-Ok.next before between after (c.loop-command.invariant.served init begins) c.in-Ok.ensures.serves text
+          (subst (λ flash. Grew between.kept after.kept (record { text = text_of c.in-Ok.reply; moment = moment_of (state flash) } ∷ [])) c.flash.ensures kept));
+      kept = λ init kept. kept_more state its init c.loop-command.session c.in-Ok.next (c.loop-command.invariant.kept init kept) c.in-Ok.ensures.serves.refused;
+    }
+
+pub returns-clause-serves : goal.returns-clause-serves
+returns-clause-serves g c = λ init begins.
+    served_to_the_end g.F.Flash.state c.args.config init c.args.list.now c.loop-command.command-index c.loop-command.session c.close-2.result
+    (record { text = g.W.Watch.text c.args.out.now; kept = g.W.Watch.kept c.args.out.now })
+    (record { text = g.W.Watch.text c.loop-command.out; kept = g.W.Watch.kept c.loop-command.out })
+    c.loop-command-test.false (c.loop-command.invariant.served init begins) c.close-2.ensures
+
+pub returns-clause-shape : goal.returns-clause-shape
+returns-clause-shape g c =
+    subst (λ flash. checked c.args.config ≡ Ok (g.F.Flash.state flash).shape) (sym c.close-2.ensures)
+    (fits_shape g.F.Flash.state c.args.config c.loop-command.cache.entries c.loop-command.session c.loop-command.invariant.fits)

@@ -1,0 +1,17 @@
+use Rattle.std.proofs.Common.{◌≡◌, take, length}
+use Rattle.flash_model.specs.Flash.{FlashState}
+use Rattle.cut_replay.specs.Sessions.{Fits}
+use Rattle.cut_replay.specs.Beginning.{Begins, IsKept}
+use Rattle.cut_replay.proofs.Progress.{HasServed}
+use Rattle.cut_replay.proofs.serving.serve_all.Given as goal
+
+abbrev pub invariant-loop-command : goal.invariant-loop-command
+invariant-loop-command g l = record {
+  fits : Fits {R = g.row.R.Denot} g.F.Flash.state l.config l.cache.entries l.session;
+  size : l.cache.page_bytes ≡ l.config.page_bytes;
+  room : length l.room ≡ l.config.page_bytes;
+  served : (init : FlashState) → Begins g.F.Flash.state l.config init l.initial.session →
+      HasServed g.F.Flash.state l.config init (take l.command-index l.list) l.session
+      (record { text = g.W.Watch.text l.initial.out; kept = g.W.Watch.kept l.initial.out }) (record { text = g.W.Watch.text l.out; kept = g.W.Watch.kept l.out });
+  kept : (init : FlashState) → IsKept g.F.Flash.state l.config init l.initial.session → IsKept g.F.Flash.state l.config init l.session;
+}

@@ -1,0 +1,52 @@
+-- How many cuts and faults a run has: no more than were to come and were armed.
+use Rattle.std.specs.Prelude.{◌≡◌, ℕ, ◌+◌, ◌≤◌, Bool, true, false, List, [], ◌∷◌, take, count_by, Option, Some}
+use Rattle.flash_model.specs.Flash.{Told}
+use Rattle.flash_model.specs.Calls.{BothTell}
+use Rattle.host_protocol.specs.declared.command.Command.{Command}
+use Rattle.host_protocol.specs.declared.command.Command.TheVariants as command
+use Rattle.host_protocol.specs.declared.reply.Reply.{Reply}
+use Rattle.host_protocol.specs.declared.reply.Reply.TheVariants as reply
+use Rattle.cut_replay.specs.FlashRun.{is_fault}
+
+abbrev pub is_cut : Reply → Bool
+is_cut reply.Cut = true
+is_cut _ = false
+
+abbrev pub arms_cut : Command → Bool
+arms_cut (command.Cut count what) = true
+arms_cut _ = false
+
+abbrev pub arms_fault : Command → Bool
+arms_fault (command.Fault count what) = true
+arms_fault (command.BadRead count) = true
+arms_fault _ = false
+
+-- among the replies to the first so many commands there are at most as many cuts and faults as were to come and were armed
+-- among these
+abbrev pub AreFew : ℕ → ℕ → List Command → List Reply → Type 0
+AreFew cuts breaks cs rs =
+    (j : ℕ) →
+    (count_by is_cut (take j rs) ≤ cuts + count_by arms_cut (take j cs))
+    × (count_by is_fault (take j rs) ≤ breaks + count_by arms_fault (take j cs))
+
+-- and with what is to come still, of all commands
+pub record AreSpent (cs : List Command) (rs : List Reply) (old new : Told) : Type 0 where
+  pub few : AreFew old.cuts old.breaks cs rs
+  pub cuts : count_by is_cut rs + new.cuts ≤ old.cuts + count_by arms_cut cs
+  pub breaks : count_by is_fault rs + new.breaks ≤ old.breaks + count_by arms_fault cs
+
+-- where a flash tells what is to come, so many cuts and faults were met
+abbrev pub SpendsTold : List Command → List Reply → Option Told → Option Told → Type 0
+SpendsTold cs rs old new = BothTell (AreSpent cs rs) old new
+
+-- where the last command is an arm, a flash that tells its arms has it set
+abbrev pub IsSet : Command → Told → Type 0
+IsSet (command.Cut count what) told = told.cut ≡ Some (record { count = count; outcome = what })
+IsSet (command.Fault count what) told = told.fault ≡ Some (record { count = count; outcome = what })
+IsSet (command.BadRead count) told = told.bad_read ≡ Some count
+IsSet _ told = Unit {0}
+
+abbrev pub LastIsSet : List Command → Told → Type 0
+LastIsSet [] told = Unit {0}
+LastIsSet (c ∷ []) told = IsSet c told
+LastIsSet (c ∷ cs) told = LastIsSet cs told

@@ -1,0 +1,125 @@
+-- A run on a flash: a run of the array machine in which each state has a moment, which is what the flash was when the reply was
+-- given.
+use Rattle.std.specs.Prelude.{◌≡◌, ◌⊎◌, ℕ, ◌||◌, Bool, true, false, List, [], ◌∷◌, Any, MatchBool}
+use Rattle.tx_types.specs.declared.config.Config.{Config}
+use Rattle.tx_types.specs.Config.{shape_of}
+use Rattle.flash_model.specs.Operations.{Operation, program, erase, Moment}
+use Rattle.flash_model.specs.Moves.{Does as DoesAll, Moves}
+use Rattle.record_list.specs.Records.{mention}
+use Rattle.version_index.specs.Images.{records_in, array_in, IsSoundImage}
+use Rattle.verdict_report.specs.Report.{report}
+use Rattle.host_protocol.specs.declared.command.Command.{Command}
+use Rattle.host_protocol.specs.declared.command.Command.TheVariants as command
+use Rattle.host_protocol.specs.declared.reply.Reply.{Reply}
+use Rattle.host_protocol.specs.declared.reply.Reply.TheVariants as reply
+use Rattle.tx_engine.specs.ArrayState.{idle}
+use Rattle.tx_engine.specs.Collections.{HasNothingToCollect}
+use Rattle.tx_engine.specs.Exits.{StandsFor}
+use Rattle.tx_engine.specs.Standing.{limits_of}
+use Rattle.cut_replay.specs.Run.{RunState, Does, NotDone, IsCut, MayBeSpent, is_arm, is_break, seen_after}
+
+-- where a run stands: its state, and what the flash holds and has counted
+pub record Point : Type 0 where
+  pub state : RunState
+  pub moment : Moment
+
+-- the image of a point is sound, and its array is that of the machine, or that with the pages of the transaction in doubt
+pub record IsPoint (its : Config) (p : Point) : Type 0 where
+  pub sound : IsSoundImage its.protocol its.logical (shape_of its) p.moment.image
+  pub array : StandsFor p.state.machine (array_in its.protocol its.logical p.moment.image)
+
+-- a command that asks for no program and no erase
+abbrev pub is_still : Command → Bool
+is_still (command.Read page) = true
+is_still (command.Write tag batch) = true
+is_still (command.Step tag) = false
+is_still (command.Finish tag) = false
+is_still (command.Abort tag) = true
+is_still command.Collect = false
+is_still command.Stats = true
+is_still command.Explain = true
+is_still (command.Cut count what) = true
+is_still (command.Fault count what) = true
+is_still (command.BadRead count) = true
+
+-- the moment comes from the one before by operations, of which the last may be broken where power is cut or a fault is met; by
+-- none where the command asks for none
+pub record MovesBy (its : Config) (c : Command) (r : Reply) (old new : Moment) : Type 0 where
+  pub moves : Moves (shape_of its) old (is_break r) new
+  pub still : is_still c ≡ true → new ≡ old
+
+abbrev pub IsErase : Operation → Type 0
+IsErase (program at bytes spare) = ⊥
+IsErase (erase block) = Unit {0}
+
+-- the operations between were done, and a block was erased
+abbrev pub HasErased : Config → Moment → Moment → Type 0
+HasErased its old new = (done : List Operation) × DoesAll (shape_of its) old done new × Any IsErase done
+
+-- What a reply tells of the flash: the counts; the report on the records, where no fault was met before; that a block was
+-- erased; that there is nothing to collect.
+abbrev pub Tells : Config → Bool → Point → Reply → Point → Type 0
+Tells its faulted old (reply.Stats told) new = (told.programs ≡ new.moment.programs) × (told.erases ≡ new.moment.erases)
+Tells its faulted old (reply.Report text) new =
+    faulted ≡ false → text ≡ report its.protocol (records_in its.protocol new.moment.image) its.logical
+Tells its faulted old reply.Collected new = HasErased its old.moment new.moment
+Tells its faulted old reply.Nothing new =
+    HasNothingToCollect its.protocol its.logical new.moment.image new.state.machine.entries
+Tells its faulted old _ new = Unit {0}
+
+-- the command was done, and power was not cut
+pub record IsDone (its : Config) (spent : ℕ → Bool) (faulted : Bool) (c : Command) (old : Point) (r : Reply) (new : Point) : Type 0 where
+  pub does : Does (limits_of its) spent c old.state.machine r new.state.machine
+  pub up : new.state.up ≡ true
+  pub moves : MovesBy its c r old.moment new.moment
+  pub tells : Tells its faulted old r new
+
+-- a command on a flash, its reply, and where that leaves the run
+abbrev pub ServesFlash : Config → (ℕ → Bool) → Bool → Command → Point → Reply → Point → Type 0
+ServesFlash its spent faulted c old r new =
+    MatchBool (is_arm c) ((r ≡ reply.Armed) × (new ≡ old))
+    ((NotDone old.state r new.state × (new.moment ≡ old.moment))
+    ⊎ (IsDone its spent faulted c old r new ⊎ (IsCut c old.state r new.state × MovesBy its c r old.moment new.moment)))
+
+abbrev pub is_fault : Reply → Bool
+is_fault reply.Fault = true
+is_fault _ = false
+
+-- A run over a list of commands: one reply and one point for each. `seen` is at least the greatest mention of each page on the
+-- flash, and `faulted` says whether a fault was met before.
+abbrev pub FlashRun : Config → (ℕ → ℕ) → Bool → Point → List Command → List Reply → List Point → Type 0
+FlashRun its seen faulted old [] [] [] = Unit {0}
+FlashRun its seen faulted old (c ∷ cs) (r ∷ rs) (p ∷ ps) =
+    ((spent : ℕ → Bool) × MayBeSpent seen spent × ServesFlash its spent faulted c old r p)
+    × IsPoint its p
+    × FlashRun its (seen_after seen c r) (faulted || is_fault r) p cs rs ps
+FlashRun its seen faulted old _ _ _ = ⊥
+
+-- the point at which a run begins: the array of the image, with nothing open
+abbrev pub opening_point : Config → Bool → Moment → Point
+opening_point its its_up its_moment = record {
+  state = record { machine = idle (array_in its.protocol its.logical its_moment.image); up = its_up };
+  moment = its_moment;
+}
+
+-- the greatest mention of each page in an image
+abbrev pub mentions_in : Config → Moment → ℕ → ℕ
+mentions_in its m page = mention (records_in its.protocol m.image) page
+
+-- a run on a flash from this moment on, and the moment where it ends
+pub record IsFlashRun (its : Config) (from : Moment) (cs : List Command) (rs : List Reply) (ps : List Point) : Type 0 where
+  pub up : Bool
+  pub runs : FlashRun its (mentions_in its from) false (opening_point its up from) cs rs ps
+
+abbrev pub last_moment : Moment → List Point → Moment
+last_moment from [] = from
+last_moment from (p ∷ ps) = last_moment p.moment ps
+
+-- and the state where it ends
+abbrev pub last_state : RunState → List Point → RunState
+last_state from [] = from
+last_state from (p ∷ ps) = last_state p.state ps
+
+-- the state at which it begins
+abbrev pub opening_state : Config → Bool → Moment → RunState
+opening_state its its_up from = (opening_point its its_up from).state

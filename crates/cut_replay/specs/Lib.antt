@@ -1,0 +1,10 @@
+pub mod Run
+pub mod Unbroken
+pub mod FlashRun
+pub mod Watching
+pub mod Bounds
+pub mod Mounted
+pub mod Sessions
+pub mod Beginning
+pub mod Served
+pub mod LinesText

@@ -1,0 +1,96 @@
+-- What a command does on a mounted device, before it is asked whether power was cut in it.
+use Rattle.std.specs.Prelude.{◌≡◌, ◌<◌, ◌≤◌, ℕ, Bool, true, false, ◌&&◌, nat_lt, List, All, Result, Ok, Err, Some, is_some, MatchBool}
+use Rattle.tx_types.specs.declared.config.Protocol.{Protocol}
+use Rattle.tx_types.specs.Config.{checked, shape_of}
+use Rattle.flash_model.specs.Flash.{FlashState}
+use Rattle.flash_model.specs.Calls.{Carries, BothTell, NoMore}
+use Rattle.flash_model.specs.Operations.{moment_of}
+use Rattle.version_index.specs.Images.{IsSoundImage, array_in, records_in}
+use Rattle.version_index.specs.Notes.{found_in}
+use Rattle.version_index.specs.Noted.{current_of, mention_of}
+use Rattle.collector.specs.declared.unsure.Unsure.TheVariants as unsure
+use Rattle.page_cache.specs.CachedPages.{CachedPage, entry_of}
+use Rattle.tx_engine.specs.ArrayState.{ArrayState, page_at, idle}
+use Rattle.tx_engine.specs.Exits.{StandsFor, MentionsAtMost, VersionsTell, IsNamedAt}
+use Rattle.tx_engine.specs.Naming.{is_spent}
+use Rattle.tx_engine.specs.Read.{ReadsFlash}
+use Rattle.tx_engine.specs.Standing.{Standing, limits_of}
+use Rattle.tx_engine.specs.Step.{StepsAs, CutLeaves, IsAtLast, settled}
+use Rattle.tx_engine.specs.declared.read.ReadAnswer.{ReadAnswer}
+use Rattle.tx_engine.specs.declared.read.ReadError.{ReadError}
+use Rattle.tx_engine.specs.declared.step.StepError.TheVariants as failed
+use Rattle.host_protocol.specs.declared.command.Command.{Command}
+use Rattle.host_protocol.specs.declared.reply.Reply.{Reply}
+use Rattle.cut_replay.specs.Run.{Does, MayBeCut, MayComplete, seen_after}
+use Rattle.cut_replay.specs.FlashRun.{Point, MovesBy, Tells, is_fault}
+use Rattle.cut_replay.specs.Bounds.{is_cut}
+
+-- the point of a run at which a device is mounted
+abbrev pub point_at : {F : Type 0} → (F → FlashState) → Standing F → Point
+point_at state s = record { state = record { machine = s.machine; up = true }; moment = moment_of (state s.flash) }
+
+-- each page is mentioned so often at most, and named so high by an open transaction
+pub record IsSeen {F : Type 0} (seen : ℕ → ℕ) (s : Standing F) : Type 0 where
+  pub mentions : (page : ℕ) → mention_of s.noted page ≤ seen page
+  pub names : (page version : ℕ) → IsNamedAt s.namings page version → version ≤ seen page
+
+-- a cached page is at its current version at most, and where it is at that, its bytes are those of the array
+pub record IsCachedAs {F : Type 0} (s : Standing F) (e : CachedPage) : Type 0 where
+  pub exists : e.page < s.config.logical
+  pub least : e.version ≤ current_of s.noted e.page
+  pub current : e.version ≡ current_of s.noted e.page → page_at s.machine.pages e.page ≡ Some e.bytes
+
+abbrev pub IsCached : {F : Type 0} → Standing F → List CachedPage → Type 0
+IsCached s entries = All (IsCachedAs s) entries
+
+-- What holds of a device at every moment: of its flash, and of what a power cut leaves that was met in a call which led here.
+pub record IsBacked {F : Type 0} (state : F → FlashState) (protocol : Protocol) (s : Standing F) : Type 0 where
+  pub rule : s.config.protocol ≡ protocol
+  pub check : checked s.config ≡ Ok (state s.flash).shape
+  pub shape : (state s.flash).shape ≡ shape_of s.config
+  pub few : s.config.pending ≤ 256
+  pub sound : IsSoundImage s.config.protocol s.config.logical (shape_of s.config) (state s.flash).image
+  pub array : StandsFor s.machine (array_in s.config.protocol s.config.logical (state s.flash).image)
+  pub records : s.unsure ≡ unsure.Nothing → records_in s.config.protocol (state s.flash).image ≡ found_in s.noted.notes
+  pub its : s.noted.config ≡ s.config
+  pub mentions : MentionsAtMost s.noted s.namings (state s.flash).image
+  pub beyond : (page : ℕ) → s.config.logical ≤ page → mention_of s.noted page ≡ 0
+  pub step_cut : (old : ArrayState) (there : Bool) (tag : ℕ) → StepsAs there old s.machine tag (Err failed.Fault) →
+      CutLeaves (λ e. (e.tag ≡ tag) × IsAtLast e) old (idle (array_in s.config.protocol s.config.logical (state s.flash).image))
+  pub same_cut : CutLeaves (λ e. ⊥) s.machine (idle (array_in s.config.protocol s.config.logical (state s.flash).image))
+  pub settled_cut : (old : ArrayState) (there : Bool) → s.machine ≡ settled there old →
+      CutLeaves (λ e. ⊥) old (idle (array_in s.config.protocol s.config.logical (state s.flash).image))
+
+-- what a power cut leaves, if the call met one
+pub record MayHaveCut {F : Type 0} (state : F → FlashState) (c : Command) (old new : Standing F) : Type 0 where
+  pub may : MayBeCut old.machine.pages c
+  pub leaves : CutLeaves (MayComplete c) old.machine (idle (array_in new.config.protocol new.config.logical (state new.flash).image))
+
+-- A command was done on a device, with this reply unless power was cut.
+pub record ServesHere {F : Type 0} (state : F → FlashState) (c : Command) (old new : Standing F) (r : Reply) : Type 0 where
+  pub config : new.config ≡ old.config
+  pub does : Does (limits_of old.config) (is_spent old.noted.mentions) c old.machine r new.machine
+  pub moves : MovesBy old.config c r (moment_of (state old.flash)) (moment_of (state new.flash))
+  pub carries : Carries (state old.flash) (state new.flash) (is_fault r)
+  pub tells : (faulted : Bool) → (faulted ≡ false → old.unsure ≡ unsure.Nothing) →
+      Tells old.config faulted (point_at state old) r (point_at state new)
+  pub sure : old.unsure ≡ unsure.Nothing → is_fault r ≡ false → new.unsure ≡ unsure.Nothing
+  pub seen : (seen : ℕ → ℕ) → IsSeen seen old → IsSeen (seen_after seen c r) new
+  pub versions : VersionsTell old new
+  pub cut : is_fault r ≡ true → MayHaveCut state c old new
+  pub whole : is_cut r ≡ false
+
+-- the moment stays, and what is to come
+pub record IsStill (old new : FlashState) : Type 0 where
+  pub moment : moment_of new ≡ moment_of old
+  pub shape : new.shape ≡ old.shape
+  pub told : BothTell NoMore old.told new.told
+
+-- whether a page is held in the cache at its current version
+abbrev pub is_held : {F : Type 0} → Standing F → List CachedPage → ℕ → Bool
+is_held s entries page = nat_lt page s.config.logical && is_some (entry_of page (current_of s.noted page) entries)
+
+-- A read of a page that is held leaves the device and its flash; any other one is a read of the device.
+abbrev pub ReadsThrough : {F : Type 0} → (F → FlashState) → Standing F → Standing F → List CachedPage → ℕ → List ℕ → List ℕ → Result ReadAnswer ReadError → Type 0
+ReadsThrough state old new entries page before after result =
+    MatchBool (is_held old entries page) (new ≡ old) (ReadsFlash state old.flash new.flash before after result)

@@ -1,0 +1,178 @@
+-- What a list of commands does on the array machine, and the replies that it may give.
+use Rattle.std.specs.Prelude.{◌≡◌, ◌⊎◌, ℕ, ◌+◌, ◌^◌, ◌≤◌, Bool, true, false, List, [], ◌∷◌, length, count_by, IsSome, Result, Ok, Err, MatchBool, if◌then◌else◌}
+use Rattle.tx_types.specs.Batch.{PageWrite}
+use Rattle.tx_types.specs.declared.stats.Stats.{Stats}
+use Rattle.tx_engine.specs.ArrayState.{ArrayState, Entry, Pages, page_at}
+use Rattle.tx_engine.specs.Collect.{Collects, TellsStats}
+use Rattle.tx_engine.specs.Read.{ReadsPage}
+use Rattle.tx_engine.specs.Submit.{Limits, Submits, is_of}
+use Rattle.tx_engine.specs.Step.{Steps, Aborts, IsAtLast, CutLeaves}
+use Rattle.tx_engine.specs.declared.read.ReadAnswer.{ReadAnswer}
+use Rattle.tx_engine.specs.declared.read.ReadAnswer.TheVariants as answer
+use Rattle.tx_engine.specs.declared.read.ReadError.{ReadError}
+use Rattle.tx_engine.specs.declared.read.ReadError.TheVariants as unread
+use Rattle.tx_engine.specs.declared.submit.SubmitError.{SubmitError}
+use Rattle.tx_engine.specs.declared.submit.SubmitError.TheVariants as refused
+use Rattle.tx_engine.specs.declared.step.Progress.{Progress}
+use Rattle.tx_engine.specs.declared.step.Progress.TheVariants as progress
+use Rattle.tx_engine.specs.declared.step.StepError.{StepError}
+use Rattle.tx_engine.specs.declared.step.StepError.TheVariants as failed
+use Rattle.tx_engine.specs.declared.abort.Aborted.{Aborted}
+use Rattle.tx_engine.specs.declared.abort.Aborted.TheVariants as aborted
+use Rattle.tx_engine.specs.declared.collect.Collected.{Collected}
+use Rattle.tx_engine.specs.declared.collect.Collected.TheVariants as collected
+use Rattle.tx_engine.specs.declared.collect.Fault.{Fault}
+use Rattle.host_protocol.specs.declared.command.Command.{Command}
+use Rattle.host_protocol.specs.declared.command.Command.TheVariants as command
+use Rattle.host_protocol.specs.declared.reply.Reply.{Reply}
+use Rattle.host_protocol.specs.declared.reply.Reply.TheVariants as reply
+
+-- the reply of a read
+abbrev pub read_reply : ℕ → List ℕ → Result ReadAnswer ReadError → Reply
+read_reply page bytes (Ok answer.Blank) = reply.Blank page
+read_reply page bytes (Ok answer.Page) = reply.Page page bytes
+read_reply page bytes (Err unread.Range) = reply.RefusedRange page
+read_reply page bytes (Err unread.Fault) = reply.Fault
+
+-- the reply of a write of so many pages
+abbrev pub submit_reply : ℕ → ℕ → Result (Unit {0}) SubmitError → Reply
+submit_reply tag pages (Ok u) = reply.Opened tag pages
+submit_reply tag pages (Err refused.Empty) = reply.RefusedEmpty
+submit_reply tag pages (Err (refused.Range page)) = reply.RefusedRange page
+submit_reply tag pages (Err (refused.Repeated page)) = reply.RefusedRepeated page
+submit_reply tag pages (Err refused.Tag) = reply.RefusedTag tag
+submit_reply tag pages (Err (refused.Overlap page owner)) = reply.RefusedOverlap page owner
+submit_reply tag pages (Err (refused.Full free)) = reply.RefusedFull free
+submit_reply tag pages (Err (refused.Spent page)) = reply.RefusedSpent page
+
+-- the reply of a step
+abbrev pub step_reply : ℕ → Result Progress StepError → Reply
+step_reply tag (Ok (progress.Wrote done all)) = reply.Wrote tag done all
+step_reply tag (Ok progress.Done) = reply.Done tag
+step_reply tag (Err failed.Unknown) = reply.Unknown tag
+step_reply tag (Err failed.Fault) = reply.Fault
+
+-- the reply of an abort
+abbrev pub abort_reply : ℕ → Result Aborted StepError → Reply
+abort_reply tag (Ok aborted.Gone) = reply.Aborted tag
+abort_reply tag (Ok aborted.Late) = reply.Late tag
+abort_reply tag (Err failed.Unknown) = reply.Unknown tag
+abort_reply tag (Err failed.Fault) = reply.Fault
+
+-- Steps of one transaction through these states, up to the first answer that is no `Wrote`.
+abbrev pub Finishes : ArrayState → List ArrayState → ArrayState → ℕ → Result Progress StepError → Type 0
+Finishes old [] new tag (Ok (progress.Wrote done all)) = ⊥
+Finishes old [] new tag (Ok progress.Done) = Steps old new tag (Ok progress.Done)
+Finishes old [] new tag (Err e) = Steps old new tag (Err e)
+Finishes old (mid ∷ mids) new tag result =
+    (done : ℕ) × (all : ℕ) × Steps old mid tag (Ok (progress.Wrote done all)) × Finishes mid mids new tag result
+
+-- a page has no version left only where it may have been mentioned at the last one
+abbrev pub MayBeSpent : (ℕ → ℕ) → (ℕ → Bool) → Type 0
+MayBeSpent seen spent = (page : ℕ) → spent page ≡ true → 2 ^ 62 ≤ seen page
+
+-- the reply of a collection
+abbrev pub collect_reply : Result Collected Fault → Reply
+collect_reply (Ok collected.One) = reply.Collected
+collect_reply (Ok collected.Nothing) = reply.Nothing
+collect_reply (Err fault) = reply.Fault
+
+abbrev pub TellsReport : Reply → Type 0
+TellsReport r = (text : List ℕ) × (r ≡ reply.Report text)
+
+-- A command is done on a mounted device, whose power is not cut: its reply, and the state that it leaves.
+abbrev pub Does : Limits → (ℕ → Bool) → Command → ArrayState → Reply → ArrayState → Type 0
+Does limits spent (command.Read page) old r new =
+    (bytes : List ℕ) × (result : Result ReadAnswer ReadError)
+    × ReadsPage limits.logical old.pages page bytes result × (r ≡ read_reply page bytes result) × (new ≡ old)
+Does limits spent (command.Write tag batch) old r new =
+    (result : Result (Unit {0}) SubmitError)
+    × Submits limits spent old new tag batch.entries result × (r ≡ submit_reply tag (length batch.entries) result)
+Does limits spent (command.Step tag) old r new =
+    (result : Result Progress StepError) × Steps old new tag result × (r ≡ step_reply tag result)
+Does limits spent (command.Finish tag) old r new =
+    (mids : List ArrayState) × (result : Result Progress StepError) × Finishes old mids new tag result × (r ≡ step_reply tag result)
+Does limits spent (command.Abort tag) old r new =
+    (result : Result Aborted StepError) × Aborts old new tag result × (r ≡ abort_reply tag result)
+Does limits spent command.Collect old r new =
+    (result : Result Collected Fault) × Collects old new result × (r ≡ collect_reply result)
+Does limits spent command.Stats old r new =
+    (told : Stats) × TellsStats old told × (r ≡ reply.Stats told) × (new ≡ old)
+Does limits spent command.Explain old r new = TellsReport r × (new ≡ old)
+Does limits spent (command.Cut count what) old r new = ⊥
+Does limits spent (command.Fault count what) old r new = ⊥
+Does limits spent (command.BadRead count) old r new = ⊥
+
+-- power may be cut while the command is done
+abbrev pub MayBeCut : Pages → Command → Type 0
+MayBeCut pages (command.Read page) = IsSome (page_at pages page)
+MayBeCut pages (command.Write tag batch) = ⊥
+MayBeCut pages (command.Step tag) = Unit {0}
+MayBeCut pages (command.Finish tag) = Unit {0}
+MayBeCut pages (command.Abort tag) = Unit {0}
+MayBeCut pages command.Collect = Unit {0}
+MayBeCut pages command.Stats = ⊥
+MayBeCut pages command.Explain = ⊥
+MayBeCut pages (command.Cut count what) = ⊥
+MayBeCut pages (command.Fault count what) = ⊥
+MayBeCut pages (command.BadRead count) = ⊥
+
+-- the command may write the last page of this transaction
+abbrev pub MayComplete : Command → Entry → Type 0
+MayComplete (command.Step tag) e = (e.tag ≡ tag) × IsAtLast e
+MayComplete (command.Finish tag) e = e.tag ≡ tag
+MayComplete _ e = ⊥
+
+-- an arm is set for a break to come
+abbrev pub is_arm : Command → Bool
+is_arm (command.Cut count what) = true
+is_arm (command.Fault count what) = true
+is_arm (command.BadRead count) = true
+is_arm _ = false
+
+-- the state of a run: that of the array machine, and whether the device is mounted
+pub record RunState : Type 0 where
+  pub machine : ArrayState
+  pub up : Bool
+
+-- the device could not be mounted, and the command was not done
+abbrev pub NotDone : RunState → Reply → RunState → Type 0
+NotDone old r new = (old.up ≡ false) × ((r ≡ reply.Fault) ⊎ (r ≡ reply.Cut)) × (new ≡ old)
+
+-- power was cut while the command was done
+abbrev pub IsCut : Command → RunState → Reply → RunState → Type 0
+IsCut c old r new = (r ≡ reply.Cut) × MayBeCut old.machine.pages c × CutLeaves (MayComplete c) old.machine new.machine
+
+-- a command, its reply, and the state that it leaves
+abbrev pub Serves : Limits → (ℕ → Bool) → Command → RunState → Reply → RunState → Type 0
+Serves limits spent c old r new =
+    MatchBool (is_arm c) ((r ≡ reply.Armed) × (new ≡ old))
+    (NotDone old r new ⊎ ((Does limits spent c old.machine r new.machine × (new.up ≡ true)) ⊎ IsCut c old r new))
+
+abbrev pub is_opened : Reply → Bool
+is_opened (reply.Opened tag pages) = true
+is_opened _ = false
+
+abbrev pub writes_in : Command → List PageWrite
+writes_in (command.Write tag batch) = batch.entries
+writes_in _ = []
+
+-- the pages of a write that was opened may be mentioned once more
+abbrev pub seen_after : (ℕ → ℕ) → Command → Reply → ℕ → ℕ
+seen_after seen c r page = if is_opened r then seen page + count_by (is_of page) (writes_in c) else seen page
+
+-- A run over a list of commands: one reply for each, from this state to that. `seen` is at least the greatest
+-- mention of each page on the flash.
+abbrev pub Run : Limits → (ℕ → ℕ) → RunState → List Command → List Reply → RunState → Type 0
+Run limits seen old [] [] new = new ≡ old
+Run limits seen old (c ∷ cs) (r ∷ rs) new =
+    (mid : RunState) × (spent : ℕ → Bool) × MayBeSpent seen spent × Serves limits spent c old r mid
+    × Run limits (seen_after seen c r) mid cs rs new
+Run limits seen old [] (r ∷ rs) new = ⊥
+Run limits seen old (c ∷ cs) [] new = ⊥
+
+-- power was cut, or the flash met a fault
+abbrev pub is_break : Reply → Bool
+is_break reply.Cut = true
+is_break reply.Fault = true
+is_break _ = false

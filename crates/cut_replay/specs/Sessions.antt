@@ -1,0 +1,164 @@
+-- A flash on which commands are served, with its device while that is mounted.
+use Rattle.std.specs.Prelude.{◌≡◌, ◌⊎◌, ◌<◌, ◌≤◌, ◌+◌, ℕ, Bool, true, false, ◌||◌, List, [], IfSome, Result, Ok, Err, if◌then◌else◌}
+use Rattle.tx_types.specs.declared.config.Config.{Config}
+use Rattle.tx_types.specs.declared.config.Protocol.{Protocol}
+use Rattle.tx_types.specs.Config.{checked, shape_of}
+use Rattle.flash_model.specs.Flash.{FlashState, Told}
+use Rattle.flash_model.specs.Calls.{BothTell, Spends}
+use Rattle.flash_model.specs.Arms.{ChangesTold}
+use Rattle.flash_model.specs.Operations.{moment_of}
+use Rattle.record_list.specs.Records.{mention}
+use Rattle.version_index.specs.Images.{IsSoundImage, IsLeastImageBreach, array_in, records_in}
+use Rattle.scan_recovery.specs.Opening.{IsOpened}
+use Rattle.collector.specs.declared.unsure.Unsure.TheVariants as unsure
+use Rattle.page_cache.specs.CachedPages.{CachedPages, CachedPage}
+use Rattle.tx_engine.specs.ArrayState.{idle}
+use Rattle.tx_engine.specs.Standing.{Standing}
+use Rattle.host_protocol.specs.declared.command.Command.{Command}
+use Rattle.host_protocol.specs.declared.reply.Reply.{Reply}
+use Rattle.host_protocol.specs.declared.reply.Reply.TheVariants as reply
+use Rattle.cut_replay.specs.Run.{MayBeSpent, seen_after}
+use Rattle.cut_replay.specs.FlashRun.{Point, IsPoint, ServesFlash, is_fault, opening_point}
+use Rattle.cut_replay.specs.Bounds.{is_cut, arms_cut, arms_fault, IsSet}
+use Rattle.cut_replay.specs.Mounted.{point_at, IsSeen, IsCached, IsStill, IsBacked}
+use Rattle.cut_replay.specs.declared.session.Session.{Session}
+use Rattle.cut_replay.specs.declared.session.Session.TheVariants as session
+use Rattle.cut_replay.specs.declared.session.Ended.{Ended}
+use Rattle.cut_replay.specs.declared.serving.ServeError.{ServeError}
+use Rattle.cut_replay.specs.declared.serving.ServeError.TheVariants as failed
+
+-- the flash of a session
+abbrev pub flash_in : {F R : Type 0} → Session F R → F
+flash_in (session.Mounted s) = s.flash
+flash_in (session.Unmounted flash) = flash
+
+-- the point of a run that a session is at
+abbrev pub point_of : {F R : Type 0} → (F → FlashState) → Config → Session F R → Point
+point_of state its (session.Mounted s) = point_at state s
+point_of state its (session.Unmounted flash) = opening_point its false (moment_of (state flash))
+
+-- the configuration passes the check with this shape, and the image is sound
+abbrev pub IsSoundFlash : Config → FlashState → Type 0
+IsSoundFlash its s = IsSoundImage its.protocol its.logical (shape_of its) s.image
+
+-- a mounted device is live, with what holds of it at every moment, and the cache holds nothing that is out of date
+pub record FitsMounted {F : Type 0} (state : F → FlashState) (its : Config) (cache : List CachedPage) (s : Standing F) : Type 0 where
+  pub config : s.config ≡ its
+  pub check : checked its ≡ Ok (state s.flash).shape
+  pub live : (state s.flash).live ≡ true
+  pub cached : IsCached s cache
+  pub backed : IsBacked state its.protocol s
+
+-- the session is one on a flash of this configuration
+abbrev pub Fits : {F R : Type 0} → (F → FlashState) → Config → List CachedPage → Session F R → Type 0
+Fits state its cache (session.Mounted s) = FitsMounted state its cache s
+Fits state its cache (session.Unmounted flash) = checked its ≡ Ok (state flash).shape
+
+-- `seen` is at least each mention, and nothing is unsure where no fault was met
+pub record StandsMounted {F : Type 0} (seen : ℕ → ℕ) (faulted : Bool) (s : Standing F) : Type 0 where
+  pub sure : faulted ≡ false → s.unsure ≡ unsure.Nothing
+  pub mentions : IsSeen seen s
+
+pub record StandsUnmounted (its : Config) (seen : ℕ → ℕ) (flash : FlashState) : Type 0 where
+  pub sound : IsSoundFlash its flash
+  pub mentions : (page : ℕ) → page < its.logical → mention (records_in its.protocol flash.image) page ≤ seen page
+
+abbrev pub StandsAt : {F R : Type 0} → (F → FlashState) → Config → (ℕ → ℕ) → Bool → Session F R → Type 0
+StandsAt state its seen faulted (session.Mounted s) = StandsMounted seen faulted s
+StandsAt state its seen faulted (session.Unmounted flash) = StandsUnmounted its seen (state flash)
+
+-- the command and its reply use up a cut or a fault, or an arm brings one
+pub record IsSpentBy (c : Command) (r : Reply) (old new : Told) : Type 0 where
+  pub cuts : (if is_cut r then 1 else 0) + new.cuts ≤ old.cuts + (if arms_cut c then 1 else 0)
+  pub breaks : (if is_fault r then 1 else 0) + new.breaks ≤ old.breaks + (if arms_fault c then 1 else 0)
+
+-- A command was served in a session, with this reply.
+pub record ServesIn {F R : Type 0} (state : F → FlashState) (its : Config) (seen : ℕ → ℕ) (faulted : Bool) (c : Command) (old : Session F R) (r : Reply) (new : Session F R) : Type 0 where
+  pub spent : ℕ → Bool
+  pub may : MayBeSpent seen spent
+  pub serves : ServesFlash its spent faulted c (point_of state its old) r (point_of state its new)
+  pub point : IsPoint its (point_of state its new)
+  pub stands : StandsAt state its (seen_after seen c r) (faulted || is_fault r) new
+
+-- the image is sound, or the flash was not mounted before either and its image is the same
+abbrev pub IsSameOrSound : {F R : Type 0} → (F → FlashState) → Config → Session F R → F → Type 0
+IsSameOrSound state its (session.Mounted s) flash = IsSoundFlash its (state flash)
+IsSameOrSound state its (session.Unmounted old) flash = IsSoundFlash its (state flash) ⊎ ((state flash).image ≡ (state old).image)
+
+abbrev pub StaysRefused : {F R : Type 0} → (F → FlashState) → Config → Session F R → Session F R → Type 0
+StaysRefused state its old (session.Mounted s) = Unit {0}
+StaysRefused state its old (session.Unmounted flash) = IsSameOrSound state its old flash
+
+-- What serving a command comes to, whatever the image is.
+pub record Serves {F R : Type 0} (state : F → FlashState) (its : Config) (c : Command) (old : Session F R) (r : Reply) (new : Session F R) : Type 0 where
+  pub in_run : (seen : ℕ → ℕ) → (faulted : Bool) → StandsAt state its seen faulted old → ServesIn state its seen faulted c old r new
+  pub refused : StaysRefused state its old new
+  pub spends : BothTell (IsSpentBy c r) (state (flash_in old)).told (state (flash_in new)).told
+  pub set : IfSome (state (flash_in new)).told (IsSet c)
+
+-- The flash was refused: it was never mounted, and its image is not sound.
+abbrev pub Refuses : {F R : Type 0} → (F → FlashState) → Config → Session F R → F → ℕ → ℕ → Type 0
+Refuses state its (session.Mounted s) flash law slot = ⊥
+Refuses state its (session.Unmounted old) flash law slot =
+    ((state flash).image ≡ (state old).image)
+    × IsLeastImageBreach its.protocol its.logical (shape_of its) (state old).image (record { law = law; slot = record { 0 = slot } })
+
+-- there was no memory before the command did anything, or after power was cut in it
+abbrev pub EndsForMemory : {F R : Type 0} → (F → FlashState) → Config → Command → Session F R → F → Type 0
+EndsForMemory state its c old flash =
+    IsStill (state (flash_in old)) (state flash)
+    ⊎ (((seen : ℕ → ℕ) → (faulted : Bool) → StandsAt state its seen faulted old →
+    ServesIn state its seen faulted c old reply.Cut (session.Unmounted flash))
+    × BothTell (IsSpentBy c reply.Cut) (state (flash_in old)).told (state flash).told)
+
+-- Why no more commands are served.
+abbrev pub Ends : {F R : Type 0} → (F → FlashState) → Config → Command → Session F R → F → ServeError → Type 0
+Ends state its c old flash (failed.Unsound law slot) = Refuses state its old flash law slot.0
+Ends state its c old flash failed.Memory = EndsForMemory state its c old flash
+
+-- What mounting a flash comes to: its device, with nothing open; or a read met a fault.
+pub record MountsIn {F : Type 0} (state : F → FlashState) (its : Config) (flash : F) (s : Standing F) : Type 0 where
+  pub config : s.config ≡ its
+  pub live : (state s.flash).live ≡ true
+  pub machine : s.machine ≡ idle (array_in its.protocol its.logical (state flash).image)
+  pub namings : s.namings ≡ []
+  pub unsure : s.unsure ≡ unsure.Nothing
+  pub tables : IsOpened its (state flash).image s.noted s.table
+  pub still : IsStill (state flash) (state s.flash)
+  pub backed : IsBacked state its.protocol s
+
+pub record MeetsFault (old new : FlashState) : Type 0 where
+  pub still : IsStill old new
+  pub spends : BothTell (Spends new.live) old.told new.told
+
+abbrev pub Mounted : {F R : Type 0} → (F → FlashState) → Config → F → Session F R → Type 0
+Mounted state its flash (session.Mounted s) = MountsIn state its flash s
+Mounted state its flash (session.Unmounted new) = MeetsFault (state flash) (state new)
+
+-- and why no device was mounted
+abbrev pub Unmounted : {F : Type 0} → (F → FlashState) → Config → F → F → ServeError → Type 0
+Unmounted state its flash new (failed.Unsound law slot) =
+    IsStill (state flash) (state new)
+    × IsLeastImageBreach its.protocol its.logical (shape_of its) (state flash).image (record { law = law; slot = slot })
+Unmounted state its flash new failed.Memory = IsStill (state flash) (state new)
+
+-- an arm of the flash is set, and all else of the session stays
+pub record SetsArmHere {F : Type 0} (state : F → FlashState) (kept : Protocol) (sets : Told → Told → Type 0) (old new : Standing F) : Type 0 where
+  pub stays : new ≡ record old { flash = new.flash }
+  pub changes : ChangesTold sets (state old.flash) (state new.flash)
+  pub backed : IsBacked state kept new
+
+abbrev pub SetsArm : {F R : Type 0} → (F → FlashState) → Protocol → (Told → Told → Type 0) → Session F R → Session F R → Type 0
+SetsArm state kept sets (session.Mounted old) (session.Mounted new) = SetsArmHere state kept sets old new
+SetsArm state kept sets (session.Unmounted old) (session.Unmounted new) = ChangesTold sets (state old) (state new)
+SetsArm state kept sets (session.Mounted old) (session.Unmounted new) = ⊥
+SetsArm state kept sets (session.Unmounted old) (session.Mounted new) = ⊥
+
+-- What comes of a call of a device: nothing more where it is live still, and else a mount of its flash.
+abbrev pub MountsAgain : {F R : Type 0} → (F → FlashState) → Config → Standing F → Result (Session F R × Reply) (Ended F) → Type 0
+MountsAgain state its s (Ok done) = Mounted state its s.flash done.0 × (done.1 ≡ reply.Cut)
+MountsAgain state its s (Err ended) = Unmounted state its s.flash ended.flash ended.why
+
+pub record Follows {F R : Type 0} (state : F → FlashState) (its : Config) (s : Standing F) (r : Reply) (result : Result (Session F R × Reply) (Ended F)) (before after : CachedPages) : Type 0 where
+  pub went_on : (state s.flash).live ≡ true → (result ≡ Ok (session.Mounted s, r)) × (after ≡ before)
+  pub was_cut : (state s.flash).live ≡ false → MountsAgain state its s result × (after ≡ record before { entries = [] })

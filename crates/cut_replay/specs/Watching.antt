@@ -1,0 +1,25 @@
+-- What is told of a run while it goes on.
+use Rattle.std.specs.Prelude.{◌≡◌, ℕ, List, ◌++◌, flat_map, map, Option, None, Some}
+use Rattle.std.specs.List.{zip}
+use Rattle.flash_model.specs.Operations.{Moment}
+use Rattle.host_protocol.specs.Replies.{text_of}
+use Rattle.host_protocol.specs.declared.reply.Reply.{Reply}
+use Rattle.cut_replay.specs.FlashRun.{Point}
+
+-- the text of a reply, and what the flash was when it was given
+pub record Told : Type 0 where
+  pub text : List ℕ
+  pub moment : Moment
+
+-- where a list is told, it grew by this; where it is not, it is told afterwards neither
+abbrev pub Grew : {A : Type 0} → Option (List A) → Option (List A) → List A → Type 0
+Grew None new more = new ≡ None
+Grew (Some old) new more = new ≡ Some (old ++ more)
+
+-- the texts of replies, one after another
+abbrev pub text_of_all : List Reply → List ℕ
+text_of_all replies = flat_map text_of replies
+
+-- what is told of replies and the points that they were given at
+abbrev pub told_of : List Reply → List Point → List Told
+told_of replies points = map (λ (r, p). record { text = text_of r; moment = p.moment }) (zip replies points)

@@ -1,0 +1,133 @@
+ghost use Rattle.std.specs.Prelude.{◌≡◌, ℕ, Err, IfOk};
+ghost use Rattle.cut_replay.specs.Mounted.{IsBacked, ServesHere};
+ghost use Rattle.cut_replay.specs.Run.{submit_reply, step_reply, abort_reply, collect_reply};
+
+use crate::backing::backing;
+use flash_model::Flash;
+use host_protocol::{Command, Reply};
+use record_list::CommitRule;
+use std::alloc::Global;
+use tx_engine::{Aborted, Collected, Device, Fault, Progress, StepError, SubmitError};
+use tx_types::{Batch, Bytes, Memory};
+use verdict_report::explain;
+
+/// Opens a transaction.
+pub fn write<F: Flash, R: CommitRule>(device: &mut Device<F, R>, tag: u32, batch: &Batch) -> Reply
+    requires page { batch.now.page_bytes ≡ device.old.config.page_bytes }
+    requires backed { IsBacked F.state R.kept device.old }
+    ensures serves { ServesHere F.state (Command.Write tag batch.now) device.old device.new result }
+    ensures backed { IsBacked F.state R.kept device.new }
+{
+    let answer = device.submit(tag, batch);
+    backing(device);
+    match answer {
+        Ok(()) => Reply::Opened(tag, batch.len() as u32),
+        Err(refusal) => refused(tag, refusal),
+    }
+}
+
+/// The reply of a refusal.
+fn refused(tag: u32, refusal: SubmitError) -> Reply
+    ensures { (pages : ℕ) → result ≡ submit_reply tag pages (Err refusal) }
+{
+    match refusal {
+        SubmitError::Empty => Reply::RefusedEmpty,
+        SubmitError::Range(page) => Reply::RefusedRange(page),
+        SubmitError::Repeated(page) => Reply::RefusedRepeated(page),
+        SubmitError::Tag => Reply::RefusedTag(tag),
+        SubmitError::Overlap { page, tag } => Reply::RefusedOverlap(page, tag),
+        SubmitError::Full { free } => Reply::RefusedFull(free),
+        SubmitError::Spent(page) => Reply::RefusedSpent(page),
+    }
+}
+
+/// Goes on with a transaction by a page.
+pub fn step<F: Flash, R: CommitRule>(device: &mut Device<F, R>, tag: u32) -> Reply
+    requires { IsBacked F.state R.kept device.old }
+    ensures serves { ServesHere F.state (Command.Step tag) device.old device.new result }
+    ensures backed { IsBacked F.state R.kept device.new }
+{
+    let answer = device.step(tag);
+    backing(device);
+    stepped(tag, answer)
+}
+
+/// The reply of a step.
+pub fn stepped(tag: u32, answer: Result<Progress, StepError>) -> Reply
+    ensures { result ≡ step_reply tag answer }
+{
+    match answer {
+        Ok(Progress::Wrote { done, all }) => Reply::Wrote(tag, done, all),
+        Ok(Progress::Done) => Reply::Done(tag),
+        Err(StepError::Unknown) => Reply::Unknown(tag),
+        Err(StepError::Fault) => Reply::Fault,
+    }
+}
+
+/// Gives a transaction up.
+pub fn abort<F: Flash, R: CommitRule>(device: &mut Device<F, R>, tag: u32) -> Reply
+    requires { IsBacked F.state R.kept device.old }
+    ensures serves { ServesHere F.state (Command.Abort tag) device.old device.new result }
+    ensures backed { IsBacked F.state R.kept device.new }
+{
+    let answer = device.abort(tag);
+    backing(device);
+    given_up(tag, answer)
+}
+
+/// The reply of an abort.
+fn given_up(tag: u32, answer: Result<Aborted, StepError>) -> Reply
+    ensures { result ≡ abort_reply tag answer }
+{
+    match answer {
+        Ok(Aborted::Gone) => Reply::Aborted(tag),
+        Ok(Aborted::Late) => Reply::Late(tag),
+        Err(StepError::Unknown) => Reply::Unknown(tag),
+        Err(StepError::Fault) => Reply::Fault,
+    }
+}
+
+/// Wins a block back.
+pub fn collect<F: Flash, R: CommitRule>(device: &mut Device<F, R>) -> Reply
+    requires { IsBacked F.state R.kept device.old }
+    ensures serves { ServesHere F.state Command.Collect device.old device.new result }
+    ensures backed { IsBacked F.state R.kept device.new }
+{
+    let answer = device.collect();
+    backing(device);
+    won_back(answer)
+}
+
+/// The reply of a collection.
+fn won_back(answer: Result<Collected, Fault>) -> Reply
+    ensures { result ≡ collect_reply answer }
+{
+    match answer {
+        Ok(Collected::One) => Reply::Collected,
+        Ok(Collected::Nothing) => Reply::Nothing,
+        Err(Fault) => Reply::Fault,
+    }
+}
+
+/// Tells the numbers of a device.
+pub fn stats<F: Flash, R: CommitRule>(device: &Device<F, R>) -> Reply
+    ensures { ServesHere F.state Command.Stats device.now device.now result }
+{
+    Reply::Stats(device.stats())
+}
+
+/// Tells the verdict on each page.
+pub fn report<F: Flash, R: CommitRule>(
+    alloc: Global,
+    device: &Device<F, R>,
+) -> Result<Reply, Memory>
+    ensures { IfOk result (λ r. ServesHere F.state Command.Explain device.now device.now r) }
+{
+    let logical = backing(device).logical;
+    let found = device.found(alloc)?;
+    let mut text = Vec::new(alloc);
+    explain::<R>(alloc, &found, logical, &mut text)?;
+    let mut bytes = Bytes::new(alloc);
+    bytes.extend(&text)?;
+    Ok(Reply::Report(bytes))
+}

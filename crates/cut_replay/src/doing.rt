@@ -1,0 +1,49 @@
+ghost use Rattle.std.specs.Prelude.{◌≡◌, false, length, IfOk, OnErr};
+ghost use Rattle.host_protocol.specs.Commands.{Suits};
+ghost use Rattle.cut_replay.specs.Mounted.{IsBacked, IsCached, IsStill, ServesHere};
+ghost use Rattle.cut_replay.specs.Run.{is_arm};
+
+use crate::calls::{abort, collect, report, stats, step, write};
+use crate::finishing::finish;
+use crate::reading::read;
+use flash_model::Flash;
+use host_protocol::{Command, Reply};
+use page_cache::PageCache;
+use record_list::CommitRule;
+use std::alloc::Global;
+use tx_engine::Device;
+use tx_types::Memory;
+
+/// Does a command that is no arm on a device. Where power was cut the reply is to be `Cut` in place
+/// of this one.
+pub fn done<F: Flash, R: CommitRule>(
+    alloc: Global,
+    device: &mut Device<F, R>,
+    cache: &mut PageCache,
+    room: &mut [u8],
+    command: &Command,
+) -> Result<Reply, Memory>
+    requires no_arm { is_arm command.now ≡ false }
+    requires suits { Suits device.old.config.page_bytes command.now }
+    requires room { length room.old ≡ device.old.config.page_bytes }
+    requires size { cache.old.page_bytes ≡ device.old.config.page_bytes }
+    requires cached { IsCached device.old cache.old.entries }
+    requires backed { IsBacked F.state R.kept device.old }
+    ensures ok { IfOk result (λ r. ServesHere F.state command.now device.old device.new r) }
+    ensures err { OnErr result (IsStill (F.state device.old.flash) (F.state device.new.flash)) }
+    ensures size { cache.new.page_bytes ≡ cache.old.page_bytes }
+    ensures cached { IsCached device.new cache.new.entries }
+    ensures backed { IsBacked F.state R.kept device.new }
+{
+    match command {
+        Command::Read { page } => read(alloc, device, cache, room, *page),
+        Command::Write { tag, batch } => Ok(write(device, *tag, batch)),
+        Command::Step { tag } => Ok(step(device, *tag)),
+        Command::Finish { tag } => Ok(finish(device, *tag)),
+        Command::Abort { tag } => Ok(abort(device, *tag)),
+        Command::Collect => Ok(collect(device)),
+        Command::Stats => Ok(stats(device)),
+        Command::Explain => report(alloc, device),
+        Command::Cut { .. } | Command::Fault { .. } | Command::BadRead { .. } => unreachable!(),
+    }
+}

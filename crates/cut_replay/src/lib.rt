@@ -1,0 +1,21 @@
+//! Serving a list of commands on a flash, over power cuts and faults: the replies are those of a plain array of pages in
+//! which a transaction changes all its pages at once.
+#![tactic(auto)]
+
+mod backing;
+mod calls;
+mod doing;
+mod finishing;
+pub mod laws;
+mod lines;
+mod mounting;
+mod reading;
+mod serving;
+mod session;
+#[cfg(test)]
+mod tests;
+mod watch;
+
+pub use lines::Lines;
+pub use serving::{ServeError, serve};
+pub use watch::Watch;

@@ -1,0 +1,229 @@
+ghost use Rattle.std.specs.Prelude.{◌≡◌, Ok, false, length, OnOk, IfOk, IfErr, All};
+ghost use Rattle.tx_types.specs.Config.{checked, shape_of};
+ghost use Rattle.flash_model.specs.Flash.{FlashState, IsSteady};
+ghost use Rattle.host_protocol.specs.Commands.{Suits};
+ghost use Rattle.version_index.specs.Images.{IsSoundImage};
+ghost use Rattle.cut_replay.specs.Run.{is_arm};
+ghost use Rattle.cut_replay.specs.Mounted.{IsCached};
+ghost use Rattle.cut_replay.specs.Sessions.{Fits, Serves, Ends, IsSoundFlash, Unmounted};
+ghost use Rattle.cut_replay.specs.Beginning.{Begins, IsKept};
+ghost use Rattle.cut_replay.specs.Served.{ServesSound, RefusesUnsound};
+
+use crate::Watch;
+use crate::doing::done;
+use crate::mounting::{followed, mount};
+use crate::session::{Ended, Session};
+use flash_model::{Arms, Power};
+use host_protocol::{Command, Reply};
+use page_cache::PageCache;
+use record_list::CommitRule;
+use std::alloc::Global;
+use tx_engine::Device;
+use tx_types::{Config, Memory, Slot};
+
+/// Why the commands were not all served.
+#[derive(Clone, Copy, Debug, PartialEq, Eq)]
+pub enum ServeError {
+    /// The image that was handed in is not sound: the first law that it breaks, and the slot that the law names.
+    Unsound { law: u8, slot: Slot },
+    /// There was no memory.
+    Memory,
+}
+
+/// Serves a command that is no arm on a mounted device.
+fn serve_mounted<F: Power, R: CommitRule>(
+    alloc: Global,
+    config: Config,
+    mut device: Device<F, R>,
+    cache: &mut PageCache,
+    room: &mut [u8],
+    command: &Command,
+) -> Result<(Session<F, R>, Reply), Ended<F>>
+    requires rule { config.protocol ≡ R.kept }
+    requires fits { Fits {R = R} F.state config cache.old.entries (Session.Mounted device) }
+    requires no_arm { is_arm command.now ≡ false }
+    requires suits { Suits config.page_bytes command.now }
+    requires room { length room.old ≡ config.page_bytes }
+    requires size { cache.old.page_bytes ≡ config.page_bytes }
+    ensures fits { IfOk result (λ done. Fits {R = R} F.state config cache.new.entries done.0) }
+    ensures serves { IfOk result (λ done.
+        Serves F.state config command.now (Session.Mounted device) done.1 done.0) }
+    ensures ends { IfErr result (λ e.
+        Ends {R = R} F.state config command.now (Session.Mounted device) e.flash e.why) }
+    ensures size { cache.new.page_bytes ≡ cache.old.page_bytes }
+{
+    match done(alloc, &mut device, cache, room, command) {
+        Ok(reply) => followed(alloc, config, device, cache, reply),
+        Err(_) => Err(Ended {
+            flash: device.close(),
+            why: ServeError::Memory,
+        }),
+    }
+}
+
+/// Serves a command that is no arm where the device is to be mounted first.
+fn serve_unmounted<F: Power, R: CommitRule>(
+    alloc: Global,
+    config: Config,
+    flash: F,
+    cache: &mut PageCache,
+    room: &mut [u8],
+    command: &Command,
+) -> Result<(Session<F, R>, Reply), Ended<F>>
+    requires rule { config.protocol ≡ R.kept }
+    requires check { checked config ≡ Ok (F.state flash).shape }
+    requires no_arm { is_arm command.now ≡ false }
+    requires suits { Suits config.page_bytes command.now }
+    requires room { length room.old ≡ config.page_bytes }
+    requires size { cache.old.page_bytes ≡ config.page_bytes }
+    ensures fits { IfOk result (λ done. Fits {R = R} F.state config cache.new.entries done.0) }
+    ensures serves { IfOk result (λ done.
+        Serves F.state config command.now (Session.Unmounted flash) done.1 done.0) }
+    ensures ends { IfErr result (λ e.
+        Ends {R = R} F.state config command.now (Session.Unmounted flash) e.flash e.why) }
+    ensures size { cache.new.page_bytes ≡ cache.old.page_bytes }
+{
+    match mount(alloc, flash, config, cache)? {
+        Session::Mounted(device) => serve_mounted(alloc, config, device, cache, room, command),
+        Session::Unmounted(flash) if flash.live() => Ok((Session::Unmounted(flash), Reply::Fault)),
+        Session::Unmounted(flash) => Ok((Session::Unmounted(flash), Reply::Cut)),
+    }
+}
+
+/// Serves a command.
+fn serve_one<F: Power + Arms, R: CommitRule>(
+    alloc: Global,
+    config: Config,
+    session: Session<F, R>,
+    cache: &mut PageCache,
+    room: &mut [u8],
+    command: &Command,
+) -> Result<(Session<F, R>, Reply), Ended<F>>
+    requires rule { config.protocol ≡ R.kept }
+    requires fits { Fits {R = R} F.state config cache.old.entries session }
+    requires suits { Suits config.page_bytes command.now }
+    requires room { length room.old ≡ config.page_bytes }
+    requires size { cache.old.page_bytes ≡ config.page_bytes }
+    ensures fits { IfOk result (λ done. Fits {R = R} F.state config cache.new.entries done.0) }
+    ensures serves { IfOk result (λ done.
+        Serves F.state config command.now session done.1 done.0) }
+    ensures ends { IfErr result (λ e.
+        Ends {R = R} F.state config command.now session e.flash e.why) }
+    ensures size { cache.new.page_bytes ≡ cache.old.page_bytes }
+{
+    match command {
+        Command::Cut { count, outcome } => Ok((session.with_cut(*count, *outcome), Reply::Armed)),
+        Command::Fault { count, outcome } => Ok((
+            session.with_fault(*count, *outcome),
+            Reply::Armed,
+        )),
+        Command::BadRead { count } => Ok((session.with_bad_read(*count), Reply::Armed)),
+        _ => match session {
+            Session::Mounted(device) => serve_mounted(alloc, config, device, cache, room, command),
+            Session::Unmounted(flash) => serve_unmounted(
+                alloc, config, flash, cache, room, command,
+            ),
+        },
+    }
+}
+
+/// Serves the commands in order, and tells each reply at the end of its command.
+fn serve_all<F: Power + Arms, R: CommitRule, W: Watch<F>>(
+    alloc: Global,
+    config: Config,
+    mut session: Session<F, R>,
+    cache: &mut PageCache,
+    room: &mut [u8],
+    list: &[Command],
+    out: &mut W,
+) -> (F, Result<(), ServeError>)
+    requires rule { config.protocol ≡ R.kept }
+    requires fits { Fits {R = R} F.state config cache.old.entries session }
+    requires suits { All (Suits config.page_bytes) list.now }
+    requires room { length room.old ≡ config.page_bytes }
+    requires size { cache.old.page_bytes ≡ config.page_bytes }
+    ensures serves { (init : FlashState) → Begins F.state config init session →
+        ServesSound config list.now init (F.state result.0)
+        (record { text = W.text out.old; kept = W.kept out.old })
+        (record { text = W.text out.new; kept = W.kept out.new }) result.1 }
+    ensures refuses { (init : FlashState) → IsKept F.state config init session →
+        RefusesUnsound config init (F.state result.0) result.1 }
+    ensures shape { OnOk result.1 (checked config ≡ Ok (F.state result.0).shape) }
+{
+    for command in list {
+        match serve_one(alloc, config, session, cache, room, command) {
+            Ok((next, reply)) => {
+                session = next;
+                if out.tell(session.flash(), &reply).is_err() {
+                    return (session.close(), Err(ServeError::Memory));
+                }
+            }
+            Err(ended) => return (ended.flash, Err(ended.why)),
+        }
+    }
+    (session.close(), Ok(()))
+}
+
+/// A cache and room for a page.
+fn rooms(alloc: Global, page_bytes: u32) -> Result<(PageCache, Vec<u8>), Memory>
+    ensures size { IfOk result (λ rooms. rooms.0.page_bytes ≡ page_bytes) }
+    ensures room { IfOk result (λ rooms. length rooms.1.items ≡ page_bytes) }
+{
+    let cache = PageCache::new(alloc, page_bytes)?;
+    let room = vec![in alloc; 0; page_bytes as usize]?;
+    Ok((cache, room))
+}
+
+/// The session that serving begins with: a flash without power is mounted later.
+fn begin<F: Power, R: CommitRule>(
+    alloc: Global,
+    flash: F,
+    config: Config,
+    cache: &mut PageCache,
+) -> Result<Session<F, R>, Ended<F>>
+    requires check { checked config ≡ Ok (F.state flash).shape }
+    requires rule { config.protocol ≡ R.kept }
+    ensures steady { IsSteady (F.state flash) → OnOk result (IsSoundFlash config (F.state flash)) }
+    ensures fits { IfOk result (λ s. Fits F.state config cache.new.entries s) }
+    ensures begins { IsSoundFlash config (F.state flash) →
+        IfOk result (Begins F.state config (F.state flash)) }
+    ensures kept { IfOk result (IsKept F.state config (F.state flash)) }
+    ensures failed { IfErr result (λ e. Unmounted F.state config flash e.flash e.why) }
+    ensures size { cache.new.page_bytes ≡ cache.old.page_bytes }
+{
+    if flash.live() {
+        mount(alloc, flash, config, cache)
+    } else {
+        Ok(Session::Unmounted(flash))
+    }
+}
+
+/// Serves the commands in order on the device of a flash, and tells each reply at the end of its command.
+pub fn serve<F: Power + Arms, R: CommitRule, W: Watch<F>>(
+    alloc: Global,
+    flash: F,
+    config: Config,
+    list: &[Command],
+    out: &mut W,
+) -> (F, Result<(), ServeError>)
+    requires check { checked config ≡ Ok (F.state flash).shape }
+    requires rule { config.protocol ≡ R.kept }
+    requires suits { All (Suits config.page_bytes) list.now }
+    ensures steady { IsSteady (F.state flash) → OnOk result.1 (
+        IsSoundImage config.protocol config.logical (shape_of config) (F.state flash).image) }
+    ensures serves { IsSoundImage config.protocol config.logical (shape_of config) (F.state flash).image →
+        ServesSound config list.now (F.state flash) (F.state result.0)
+        (record { text = W.text out.old; kept = W.kept out.old }) (record { text = W.text out.new; kept = W.kept out.new }) result.1 }
+    ensures refuses { RefusesUnsound config (F.state flash) (F.state result.0) result.1 }
+    ensures shape { OnOk result.1 ((F.state result.0).shape ≡ (F.state flash).shape) }
+{
+    let Ok((mut cache, mut room)) = rooms(alloc, config.page_bytes) else {
+        return (flash, Err(ServeError::Memory));
+    };
+    match begin(alloc, flash, config, &mut cache) {
+        Ok(session) => serve_all::<F, R, W>(
+            alloc, config, session, &mut cache, &mut room, list, out,
+        ),
+        Err(ended) => (ended.flash, Err(ended.why)),
+    }
+}

@@ -1,0 +1,107 @@
+ghost use Rattle.std.specs.Prelude.{◌≡◌, ◌≤◌};
+ghost use Rattle.flash_model.specs.Arms.{SetsCut, SetsFault, SetsBadRead};
+ghost use Rattle.cut_replay.specs.Sessions.{flash_in, SetsArm};
+
+use crate::ServeError;
+use crate::backing::backing;
+use flash_model::{Arms, Flash, Outcome};
+use record_list::CommitRule;
+use tx_engine::Device;
+
+/// A flash on which commands are served.
+#[derive(Drop)]
+pub enum Session<F: Flash, R: CommitRule> {
+    /// With its device.
+    Mounted(Device<F, R>),
+    /// Alone: its device could not be mounted.
+    Unmounted(F),
+}
+
+/// Why no more commands are served, with the flash.
+#[derive(Drop)]
+pub struct Ended<F> {
+    pub flash: F,
+    pub why: ServeError,
+}
+
+impl<F: Flash, R: CommitRule> Session<F, R> {
+    /// The flash, as it stands.
+    pub fn flash(&self) -> &F
+        ensures { result.now ≡ flash_in self.now }
+    {
+        match self {
+            Session::Mounted(device) => device.flash(),
+            Session::Unmounted(flash) => flash,
+        }
+    }
+
+    /// The flash, as it stands.
+    pub fn close(self) -> F
+        ensures { result ≡ flash_in self }
+    {
+        match self {
+            Session::Mounted(device) => device.close(),
+            Session::Unmounted(flash) => flash,
+        }
+    }
+}
+
+impl<F: Arms, R: CommitRule> Session<F, R> {
+    /// A program or an erase from now on, the one of this number from 1, will be cut with this
+    /// outcome.
+    pub fn with_cut(self, count: u32, outcome: Outcome) -> Session<F, R>
+        requires { 1 ≤ count }
+        ensures { SetsArm F.state R.kept (SetsCut (record { count = count; outcome = outcome }))
+            self result }
+    {
+        match self {
+            Session::Mounted(mut device) => {
+                device.arm_cut(count, outcome);
+                backing(&device);
+                Session::Mounted(device)
+            }
+            Session::Unmounted(mut flash) => {
+                flash.arm_cut(count, outcome);
+                Session::Unmounted(flash)
+            }
+        }
+    }
+
+    /// A program or an erase from now on, the one of this number from 1, will meet a fault with this
+    /// outcome.
+    pub fn with_fault(self, count: u32, outcome: Outcome) -> Session<F, R>
+        requires { 1 ≤ count }
+        ensures { SetsArm F.state R.kept (SetsFault (record { count = count; outcome = outcome }))
+            self result }
+    {
+        match self {
+            Session::Mounted(mut device) => {
+                device.arm_fault(count, outcome);
+                backing(&device);
+                Session::Mounted(device)
+            }
+            Session::Unmounted(mut flash) => {
+                flash.arm_fault(count, outcome);
+                Session::Unmounted(flash)
+            }
+        }
+    }
+
+    /// A read from now on, the one of this number from 1, will meet a fault.
+    pub fn with_bad_read(self, count: u32) -> Session<F, R>
+        requires { 1 ≤ count }
+        ensures { SetsArm F.state R.kept (SetsBadRead count) self result }
+    {
+        match self {
+            Session::Mounted(mut device) => {
+                device.arm_bad_read(count);
+                backing(&device);
+                Session::Mounted(device)
+            }
+            Session::Unmounted(mut flash) => {
+                flash.arm_bad_read(count);
+                Session::Unmounted(flash)
+            }
+        }
+    }
+}

@@ -1,0 +1,113 @@
+-- At which versions the records of a device's flash mention its pages.
+use Rattle.std.proofs.Common.{◌≡◌, ◌≢◌, ◌⊎◌, ℕ, ◌<◌, ◌≤◌, ◌==◌, ◌^◌, max, List, length, get_or, Any, refl, sym, ap, ◌∙◌, subst, inl, inr, arith, eqb-true}
+use Rattle.std.specs.List.{zip}
+use Rattle.std.proofs.lemmas.Bool.{cases_lt}
+use Rattle.tx_types.specs.declared.config.Protocol.{Protocol}
+use Rattle.tx_types.specs.declared.config.Slot.{Slot}
+use Rattle.tx_types.specs.declared.record.Link.{Link}
+use Rattle.tx_types.specs.declared.record.Rec.{Rec}
+use Rattle.flash_model.specs.Flash.{FlashState, Contents, blank, damaged, complete, slot_at}
+use Rattle.record_list.specs.Records.{mention, version_of, linked_at, name_of}
+use Rattle.record_list.specs.Transaction.{rounded, back_version}
+use Rattle.record_list.proofs.Names.{IsIn, in_from, all_at, contains_from, if_positive}
+use Rattle.record_list.proofs.Rounds.{follows_of, follows_in}
+use Rattle.version_index.specs.Images.{records_in}
+use Rattle.version_index.specs.Notes.{found_in}
+use Rattle.version_index.specs.Noted.{Noted, IsNoted, IsNextRecord, programmed, mention_of}
+use Rattle.version_index.proofs.Mentions.{raised_at}
+use Rattle.die_alloc.specs.BlockTable.{BlockTable}
+use Rattle.collector.specs.declared.unsure.Unsure.{Unsure}
+use Rattle.collector.specs.declared.unsure.Unsure.TheVariants as unsure
+use Rattle.collector.specs.declared.unsure.Settled.TheVariants as settled
+use Rattle.collector.specs.Matches.{Matches, CanTake, CanTakeOwn}
+use Rattle.collector.specs.Settling.{settlement, own_settled, Settlement}
+use Rattle.tx_engine.specs.ArrayState.{Entry}
+use Rattle.tx_engine.specs.Exits.{MentionsAtMost, IsNamedAt}
+use Rattle.tx_engine.specs.Standing.{Standing, Naming, Stands, DoubtsAs, IsOwn}
+use Rattle.tx_engine.proofs.OpenOnes.{any_got, can_take}
+use Rattle.tx_engine.proofs.DevicesStand.{no_record, spare_other}
+use Rattle.tx_engine.proofs.Tools.{Settles}
+
+any_in : {X : Type 0} (P : X → Type 0) (xs : List X) (x : X) → IsIn xs x → P x → Any P xs
+any_in P xs x i h = let c = contains_from xs x i in (c.0, x, c.1, c.2, h)
+
+-- the record that a transaction writes next links to one of its names
+next_named : (n : Noted) (rec : Rec) (next : IsNextRecord n rec) → IsIn next.names (name_of rec) × IsIn next.names rec.next
+next_named n rec next =
+    let i = in_from next.names (name_of rec) next.named in
+    let follows = follows_of next.names (name_of rec) i in
+    let asked = all_at (λ (name, after). name_of rec ≡ name → (rec.next ≡ after) × (rec.back ≡ back_version n.config.protocol (found_in n.notes) n.config.logical name.page))
+    (zip next.names (rounded next.names)) (name_of rec, follows.0) next.asked follows.1 refl in
+    (i, subst (IsIn next.names) (sym asked.0) (follows_in next.names (name_of rec) follows.0 follows.1).1)
+
+module _ (image : List Contents) (n : Noted) (entries : List Entry) (namings : List Naming) (at : Slot) (rec : Rec) (own : IsOwn image n entries namings at rec) where
+  named_at : (name : Link) → IsIn own.next.names name → IsNamedAt namings name.page name.version
+  named_at name i =
+      any_got (λ (x : Naming). Any (λ a. (a.page ≡ name.page) × (a.version ≡ name.version)) x.names) namings own.place own.naming own.is_naming
+      (any_in (λ (a : Link). (a.page ≡ name.page) × (a.version ≡ name.version)) own.naming.names name (subst (λ ns. IsIn ns name) own.its i) (refl, refl))
+
+  -- once it is noted, a page is mentioned as before, or as a transaction names it
+  raised_named : (p : Protocol) → IsNoted p n → (page : ℕ) → page < n.config.logical →
+      (mention_of (programmed n at.0 rec) page ≤ mention_of n page)
+      ⊎ ((version : ℕ) × IsNamedAt namings page version × (mention_of (programmed n at.0 rec) page ≤ version))
+  raised_named p noted page within =
+      let names = next_named n rec own.next in
+      let range = λ (a : Link) (i : IsIn own.next.names a). (all_at (λ a. (a.page < n.config.logical) × (1 ≤ a.version) × (a.version ≤ 2 ^ 62)) own.next.names a own.next.in_progress.begun.transaction.in_range i).0 in
+      let own_within : rec.page < length n.mentions = omega (arith, range (name_of rec) names.0, noted.mentions) in
+      let next_within : rec.next.page < length n.mentions = omega (arith, range rec.next names.1, noted.mentions) in
+      let is = raised_at rec n.mentions page own_within next_within in
+      let V = version_of page rec in
+      let L = linked_at page rec in
+      elim (cases_lt (get_or n.mentions page 0) (max V L)) [
+        | inr low ↦ inl (omega (arith, is, low))
+        | inl high ↦ elim (cases_lt V L) [
+          | inl later ↦ (
+              let parts = if_positive (rec.next.page == page) rec.next.version (omega arith) in
+              let same = eqb-true rec.next.page page parts.0 in
+              inr (rec.next.version, subst (λ q. IsNamedAt namings q rec.next.version) same (named_at rec.next names.1), omega (arith, is, parts.1)))
+          | inr first ↦ (
+              let parts = if_positive (rec.page == page) rec.version (omega arith) in
+              let same = eqb-true rec.page page parts.0 in
+              inr (rec.version, subst (λ q. IsNamedAt namings q rec.version) same (named_at (name_of rec) names.0), omega (arith, is, parts.1)))
+        ]
+      ]
+
+module _ (p : Protocol) (laws : Settles p) (s : FlashState) (n : Noted) (t : BlockTable) (rule : n.config.protocol ≡ p)
+    (entries : List Entry) (namings : List Naming) where
+  at_most : (u : Unsure) → Matches s n t u → CanTake n t u → (settlement n t s.image u).noted.config ≡ n.config → (page : ℕ) → page < n.config.logical →
+      mention (records_in n.config.protocol s.image) page ≤ mention_of (settlement n t s.image u).noted page
+  at_most u m take same page within =
+      let after = laws.matches s n t u m take rule in
+      let bound = after.noted.mentioned page (subst (λ (c : _). page < c.logical) (sym same) within) in
+      subst (λ l. mention l page ≤ mention_of (settlement n t s.image u).noted page)
+      (sym (ap (λ q. records_in q s.image) rule ∙ laws.records s n t u m take rule)) bound
+
+  left_alone : (u : Unsure) → Matches s n t u → CanTake n t u → (settlement n t s.image u).answer ≢ settled.Present → MentionsAtMost n namings s.image
+  left_alone u m take other page within =
+      let keeps = (laws.preserves s n t u m take rule other).0 in
+      inl (subst (λ (ms : List ℕ). mention (records_in n.config.protocol s.image) page ≤ get_or ms page 0) keeps.mentions (at_most u m take keeps.config page within))
+
+  own_mentions : (at : Slot) (rec : Rec) → Matches s n t (unsure.Own at rec) → CanTakeOwn n t rec → IsOwn s.image n entries namings at rec →
+      (c : Contents) → slot_at s.image at.0 ≡ c → MentionsAtMost n namings s.image
+  own_mentions at rec m take own blank is = left_alone (unsure.Own at rec) m take (no_record n t s.image at rec blank is refl)
+  own_mentions at rec m take own damaged is = left_alone (unsure.Own at rec) m take (no_record n t s.image at rec damaged is refl)
+  own_mentions at rec m take own (complete bytes spare) is = λ page within.
+      let there : settlement n t s.image (unsure.Own at rec) ≡ own_settled n t at.0 (λ m. programmed m at.0 rec) (complete bytes spare) = ap (own_settled n t at.0 (λ m. programmed m at.0 rec)) is in
+      let bound = at_most (unsure.Own at rec) m take (ap (λ (f : Settlement). f.noted.config) there) page within in
+      let low = subst (λ (f : Settlement). mention (records_in n.config.protocol s.image) page ≤ mention_of f.noted page) there bound in
+      elim (raised_named s.image n entries namings at rec own n.config.protocol m.noted page within) [
+        | inl before ↦ inl (omega (arith, low, before))
+        | inr named ↦ inr (named.0, named.1, omega (arith, low, named.2))
+      ]
+
+  pub mentions_at_most : (u : Unsure) → Matches s n t u → CanTake n t u → DoubtsAs s.image n entries namings u → MentionsAtMost n namings s.image
+  mentions_at_most unsure.Nothing m take doubt = left_alone unsure.Nothing m take (λ e. cc)
+  mentions_at_most (unsure.Own at rec) m take doubt = own_mentions at rec m take doubt (slot_at s.image at.0) refl
+  mentions_at_most (unsure.Copy from to) m take doubt = left_alone (unsure.Copy from to) m take (λ e. cc)
+  mentions_at_most unsure.SpareErase m take doubt = left_alone unsure.SpareErase m take (spare_other _ n t _ refl)
+  mentions_at_most (unsure.VictimErase block) m take doubt = left_alone (unsure.VictimErase block) m take (spare_other _ n t _ refl)
+
+pub device_mentions : {F : Type 0} (state : F → FlashState) (p : Protocol) (laws : Settles p) (s : Standing F) → Stands state s → s.config.protocol ≡ p →
+    MentionsAtMost s.noted s.namings (state s.flash).image
+device_mentions state p laws s h rule =
+    mentions_at_most p laws (state s.flash) s.noted s.table (ap (λ (c : _). c.protocol) (sym h.config) ∙ rule) s.machine.entries s.namings s.unsure h.matches (can_take state s h) h.doubt

@@ -1,0 +1,50 @@
+-- What making room leaves of a device, by what each such call of its store keeps.
+use Rattle.std.proofs.Common.{◌≡◌, ℕ, ◌<◌, Bool, false, List, Option, refl, sym, ap, ◌∙◌, subst, inl, inr}
+use Rattle.std.specs.Prelude.{slice_index}
+use Rattle.tx_types.specs.declared.config.Protocol.{Protocol}
+use Rattle.flash_model.specs.Flash.{FlashState}
+use Rattle.collector.specs.declared.unsure.Unsure.TheVariants as unsure
+use Rattle.collector.specs.Known.{array_known}
+use Rattle.tx_engine.specs.ArrayState.{page_at}
+use Rattle.tx_engine.specs.Standing.{Standing, Stands}
+use Rattle.tx_engine.specs.OpenTable.{OpenTable, entries_of, namings_of}
+use Rattle.tx_engine.specs.Settling.{IsLeft}
+use Rattle.tx_engine.specs.Stored.{Stored, IsStored, Keeps}
+use Rattle.tx_engine.specs.Tables.{standing_in}
+use Rattle.tx_engine.proofs.Kept.{IsKept, IsNoOwn, from_stands, to_stands, kept_still, nothing_no_own}
+use Rattle.tx_engine.proofs.ExitsThen.{before_itself, exits_then}
+use Rattle.tx_engine.proofs.TableLaws.{IsStayLaw}
+
+module _ {F : Type 0} (state : F → FlashState) (S S' : Stored F) (O : OpenTable) (broken : Bool) (law : IsStayLaw S.noted.config.protocol) (h : Stands state (standing_in state S O))
+    (p : Protocol) (stored : IsStored state p S') (keep : Keeps state S S' broken) (sure : S.unsure ≡ unsure.Nothing) (others : IsNoOwn S'.unsure) where
+  kept : IsKept (state S.flash) S.noted S.table S.unsure O
+  kept = from_stands state S O h
+
+  same_known : array_known S'.noted (state S'.flash).image ≡ array_known S.noted (state S.flash).image
+  same_known = law.array (state S.flash) (state S'.flash) S.noted S'.noted S.table S'.table S.unsure S'.unsure kept.matches stored.matches refl keep.preserves keep.array
+
+  pub left_of : IsLeft state (standing_in state S O) (standing_in state S' O) broken
+  left_of = record {
+    stands = to_stands state S' O (kept_still (state S.flash) (state S'.flash) S.noted S'.noted S.table S'.table S.unsure S'.unsure O law kept
+        (subst IsNoOwn (sym sure) nothing_no_own) others stored.matches keep.preserves keep.array);
+    machine = ap (λ pages. record { pages = pages; entries = entries_of O }) same_known;
+    exits = record {
+      config = keep.preserves.config;
+      moves = keep.moves;
+      carries = keep.carries;
+      versions = λ page low. inr (keep.preserves.current page low, ap (λ (pages : List (Option (List ℕ))). page_at pages page) same_known);
+      mentions = λ page low. inl (ap (λ (ms : List ℕ). slice_index ms page) keep.preserves.mentions);
+      names = before_itself (namings_of O);
+    };
+    versions = keep.preserves.current;
+  }
+
+-- one after another
+pub left_then : {F : Type 0} (state : F → FlashState) (a b c : Standing F) (broken : Bool) → a.config ≡ a.noted.config → b.config ≡ b.noted.config →
+    IsLeft state a b false → IsLeft state b c broken → IsLeft state a c broken
+left_then state a b c broken config config' first second = record {
+  stands = second.stands;
+  machine = second.machine ∙ first.machine;
+  exits = exits_then state a b c broken config config' first.exits second.exits;
+  versions = λ page low. second.versions page (subst (λ (k : _). page < k.logical) (sym first.exits.config) low) ∙ first.versions page low;
+}

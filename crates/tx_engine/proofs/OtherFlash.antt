@@ -1,0 +1,124 @@
+-- A device stands as before where its flash has the shape and the image that it had.
+use Rattle.std.proofs.Common.{◌≡◌, ℕ, ◌<◌, Bool, true, false, List, None, IsSome, Result, Ok, Err, refl, sym, ap, ◌∙◌, subst, subst₂, arith}
+use Rattle.std.specs.List.{AllZip}
+use Rattle.tx_types.specs.declared.config.Protocol.{Protocol}
+use Rattle.tx_types.specs.Config.{slots_of}
+use Rattle.flash_model.specs.declared.flash.Broken.{Broken}
+use Rattle.flash_model.specs.declared.flash.Seen.{Seen}
+use Rattle.flash_model.specs.Calls.{Reads}
+use Rattle.flash_model.specs.Flash.{FlashState, Contents, IsImage}
+use Rattle.version_index.specs.Images.{IsSoundImage}
+use Rattle.version_index.specs.Noted.{Noted}
+use Rattle.die_alloc.specs.BlockTable.{BlockTable}
+use Rattle.collector.specs.declared.unsure.Unsure.{Unsure}
+use Rattle.collector.specs.Known.{is_unsure, page_known, array_known}
+use Rattle.collector.specs.Matches.{Matches, IsNotedAt, IsPlace}
+use Rattle.tx_engine.specs.ArrayState.{page_at}
+use Rattle.tx_engine.specs.Read.{ReadsKnown, ReadsPage, ReadsFlash}
+use Rattle.tx_engine.specs.declared.read.ReadAnswer.{ReadAnswer}
+use Rattle.tx_engine.specs.declared.read.ReadAnswer.TheVariants as answer
+use Rattle.tx_engine.specs.declared.read.ReadError.{ReadError}
+use Rattle.tx_engine.specs.declared.read.ReadError.TheVariants as failed
+use Rattle.tx_engine.specs.Standing.{IsOpenAs, DoubtsAs}
+use Rattle.tx_engine.specs.Stored.{Stored}
+use Rattle.tx_engine.specs.StoreTables.{IsStoreKept}
+use Rattle.tx_engine.specs.declared.store.Store.TheInside.{Inside as StoreInside}
+use Rattle.tx_engine.specs.Tables.{IsStanding, standing_of}
+use Rattle.tx_engine.specs.declared.device.Device.TheInside.{Inside}
+use Rattle.tx_engine.proofs.Arrays.{at_page}
+
+-- the tables match it
+pub matches_same : (s s' : FlashState) (n : Noted) (t : BlockTable) (u : Unsure) → s'.shape ≡ s.shape → s'.image ≡ s.image → Matches s n t u → Matches s' n t u
+matches_same s s' n t u shape image m = record {
+  shape = shape ∙ m.shape;
+  flash = subst₂ IsImage (sym shape) (sym image) m.flash;
+  sound = subst₂ (IsSoundImage n.config.protocol n.config.logical) (sym shape) (sym image) m.sound;
+  noted = m.noted;
+  table = m.table;
+  blocks = m.blocks ∙ sym shape;
+  spare = m.spare;
+  sure = λ slot within certain.
+      subst (λ im. IsNotedAt im n slot) (sym image)
+      (m.sure slot (omega (arith, within, ap slots_of shape)) (sym (ap (λ sh. is_unsure sh t.spare u slot) shape) ∙ certain));
+  place = subst (λ im. IsPlace im n t u) (sym image) m.place;
+  spared = m.spared;
+  victim = m.victim;
+  free = m.free;
+}
+
+-- so a store whose flash was armed is kept
+pub armed_kept : {F R : Type 0} (state : F → FlashState) (protocol : Protocol) (s : StoreInside F R) (flash : F) → IsStoreKept state protocol s →
+    state flash ≡ record (state s.flash) { told = (state flash).told } → IsStoreKept state protocol (record s { flash = flash })
+armed_kept state protocol s flash k stays = record {
+  stored = record {
+    matches = matches_same (state s.flash) (state flash) s.index s.blocks s.unsure
+        (ap (λ f. f.shape) stays) (ap (λ f. f.image) stays) k.stored.matches;
+    rule = k.stored.rule;
+  };
+  room = k.room;
+}
+
+-- and one of whose flash a slot was read
+pub read_kept : {F R : Type 0} (state : F → FlashState) (protocol : Protocol) (s : StoreInside F R) (flash : F) (at : ℕ) (bytes spare : List ℕ) (result : Result Seen Broken) →
+    IsStoreKept state protocol s → Reads (state s.flash) (state flash) at bytes spare result → IsStoreKept state protocol (record s { flash = flash })
+read_kept state protocol s flash at bytes spare result k r = record {
+  stored = record {
+    matches = matches_same (state s.flash) (state flash) s.index s.blocks s.unsure r.carries.shape r.image k.stored.matches;
+    rule = k.stored.rule;
+  };
+  room = k.room;
+}
+
+-- the device stands
+pub standing_same : {F R : Type 0} (state : F → FlashState) (protocol : Protocol) (d : Inside F R) (x : Stored F) → IsStanding state protocol d →
+    x ≡ record d.store { flash = x.flash } → (state x.flash).shape ≡ (state d.store.flash).shape → (state x.flash).image ≡ (state d.store.flash).image →
+    IsStanding state protocol (record d { store = x })
+standing_same {F} {R} state protocol d x h same shape image =
+    let is : IsStanding state protocol (record d { store = record d.store { flash = x.flash } }) = record {
+      stands = record {
+        matches = matches_same (state d.store.flash) (state x.flash) d.store.noted d.store.table d.store.unsure shape image h.stands.matches;
+        config = refl;
+        array = refl;
+        each = subst (λ im. AllZip (IsOpenAs im d.store.noted) (standing_of state d).machine.entries (standing_of state d).namings) (sym image) h.stands.each;
+        doubt = subst (λ im. DoubtsAs im d.store.noted (standing_of state d).machine.entries (standing_of state d).namings d.store.unsure) (sym image) h.stands.doubt;
+        tags = h.stands.tags;
+        apart = h.stands.apart;
+        few = h.stands.few;
+        pinned = h.stands.pinned;
+      };
+      rule = h.rule;
+      page_bytes = h.page_bytes;
+      pending = h.pending;
+    } in
+    let P : Stored F → Type 0 = λ y. IsStanding state protocol (record d { store = y }) in
+    subst P (sym same) is
+
+-- the flash after a read is such a one
+pub read_same : {F : Type 0} (state : F → FlashState) (old new : Stored F) (page : ℕ) (before after : List ℕ) (r : Result Bool Broken) → ReadsKnown state old new page before after r →
+    ((state new.flash).shape ≡ (state old.flash).shape) × ((state new.flash).image ≡ (state old.flash).image)
+read_same state old new page before after (Ok false) h = (ap (λ f. (state f).shape) h.1, ap (λ f. (state f).image) h.1)
+read_same state old new page before after (Ok true) h = (h.1.3.carries.shape, h.1.3.image)
+read_same state old new page before after (Err broken) h = (h.1.2.carries.shape, h.1.2.image)
+
+-- the array has at a page what is known of it
+pub known_at : (n : Noted) (image : List Contents) (page : ℕ) → page < n.config.logical → page_at (array_known n image) page ≡ page_known n image page
+unfolding array_known
+known_at n image page within = at_page (page_known n image) n.config.logical page None within
+
+-- how a read of a record is answered
+abbrev pub answer_to : Result Bool Broken → Result ReadAnswer ReadError
+answer_to (Ok true) = Ok answer.Page
+answer_to (Ok false) = Ok answer.Blank
+answer_to (Err broken) = Err failed.Fault
+
+pub reads_page : {F : Type 0} (state : F → FlashState) (old new : Stored F) (page : ℕ) (before after : List ℕ) (r : Result Bool Broken) → page < old.noted.config.logical →
+    ReadsKnown state old new page before after r → ReadsPage old.noted.config.logical (array_known old.noted (state old.flash).image) page after (answer_to r)
+reads_page state old new page before after (Ok true) within h = (within, known_at old.noted (state old.flash).image page within ∙ h.0)
+reads_page state old new page before after (Ok false) within h = (within, known_at old.noted (state old.flash).image page within ∙ h.0)
+reads_page state old new page before after (Err broken) within h = (within, subst IsSome (sym (known_at old.noted (state old.flash).image page within)) h.0)
+
+pub reads_flash : {F : Type 0} (state : F → FlashState) (old new : Stored F) (page : ℕ) (before after : List ℕ) (r : Result Bool Broken) →
+    ReadsKnown state old new page before after r → ReadsFlash state old.flash new.flash before after (answer_to r)
+reads_flash state old new page before after (Ok true) h = h.1
+reads_flash state old new page before after (Ok false) h = (h.1, h.2)
+reads_flash state old new page before after (Err broken) h = (h.1.0, h.1.1, broken, h.1.2)

@@ -1,0 +1,44 @@
+-- What the laws of the tables say, by names: each is handed to a lemma as a fact.
+use Rattle.std.proofs.Common.{◌≡◌, ◌≢◌, ◌<◌, ◌⊎◌, ℕ, List, Any, All, Contains, length, true, false}
+use Rattle.std.specs.Prelude.{◌↔◌}
+use Rattle.tx_types.specs.Config.{shape_of, slots_of}
+use Rattle.tx_types.specs.declared.config.Protocol.{Protocol}
+use Rattle.tx_types.specs.declared.record.Link.{Link}
+use Rattle.tx_types.specs.declared.record.Rec.{Rec}
+use Rattle.flash_model.specs.Flash.{FlashState}
+use Rattle.record_list.specs.Records.{is_present, name_of}
+use Rattle.record_list.specs.Changes.{PartialWriteKeeps, CompletingWriteKeeps}
+use Rattle.record_list.specs.Written.{bytes_at}
+use Rattle.version_index.specs.declared.note.Note.TheVariants as note
+use Rattle.version_index.specs.Images.{array_in, current_in, records_in, written_in}
+use Rattle.version_index.specs.Notes.{note_at, found_in}
+use Rattle.version_index.specs.Noted.{Noted, IsNoted, IsNextRecord, current_of, pinned_names, programmed}
+use Rattle.die_alloc.specs.BlockTable.{BlockTable}
+use Rattle.collector.specs.declared.unsure.Unsure.{Unsure}
+use Rattle.collector.specs.declared.unsure.Unsure.TheVariants as unsure
+use Rattle.collector.specs.declared.unsure.Settled.TheVariants as settled
+use Rattle.collector.specs.Known.{array_known}
+use Rattle.collector.specs.Matches.{Matches, CanTake}
+use Rattle.collector.specs.Preserves.{Preserves, KeepsArray, IsThere}
+use Rattle.collector.specs.Settling.{settlement}
+use Rattle.collector.specs.Going.{IsNextName}
+
+-- what is kept is known too
+pub record IsStayLaw (p : Protocol) : Type 0 where
+  pub array : (s s' : FlashState) (n n' : Noted) (t t' : BlockTable) (u u' : Unsure) →
+      Matches s n t u → Matches s' n' t' u' → n.config.protocol ≡ p →
+      Preserves n n' → KeepsArray p n.config.logical s.image s'.image →
+      array_known n' s'.image ≡ array_known n s.image
+  pub bytes : (s s' : FlashState) (n n' : Noted) (t t' : BlockTable) (u u' : Unsure) (name : Link) →
+      Matches s n t u → Matches s' n' t' u' → n.config.protocol ≡ p →
+      Preserves n n' → KeepsArray p n.config.logical s.image s'.image →
+      Contains (pinned_names n.pins) name → IsThere n name →
+      bytes_at (written_in p s'.image) name ≡ bytes_at (written_in p s.image) name
+  pub next : (n n' : Noted) (names : List Link) (name : Link) →
+      length n.pins ≡ n.config.logical → Preserves n n' → IsNextName n names name → IsNextName n' names name
+
+-- the image has the current versions that are known once the place is settled whose contents are not known
+abbrev pub CurrentLaw : Protocol → Type 0
+CurrentLaw p = (s : FlashState) (n : Noted) (t : BlockTable) (u : Unsure) (page : ℕ) →
+    Matches s n t u → CanTake n t u → n.config.protocol ≡ p →
+    current_in p n.config.logical s.image page ≡ current_of (settlement n t s.image u).noted page

@@ -1,0 +1,14 @@
+use Rattle.tx_engine.proofs.DevicesStand.{device_array}
+use Rattle.tx_engine.proofs.DeviceMentions.{device_mentions}
+use Rattle.tx_engine.proofs.laws.devices_stand.Goals as goal
+
+pub returns-clause-array : goal.returns-clause-array
+returns-clause-array g c =
+    device_array g.F.Flash.state g.R.CommitRule.kept
+    (record { matches = c.images_stand.ensures.matches; records = c.images_stand.ensures.records; array = c.images_stand.ensures.array; preserves = c.images_stand.ensures.preserves })
+    (record { names = c.noted_writes.ensures.names; partial = c.noted_writes.ensures.partial; completing = c.noted_writes.ensures.completing })
+
+pub returns-clause-mentions : goal.returns-clause-mentions
+returns-clause-mentions g c =
+    device_mentions g.F.Flash.state g.R.CommitRule.kept
+    (record { matches = c.images_stand.ensures.matches; records = c.images_stand.ensures.records; array = c.images_stand.ensures.array; preserves = c.images_stand.ensures.preserves })

@@ -1,0 +1,6 @@
+use Rattle.std.proofs.Common.{◌≡◌, [], take, drop}
+use Rattle.tx_engine.specs.Submit.{repeated}
+use Rattle.tx_engine.proofs.refusals.first_repeated.Given as goal
+
+abbrev pub invariant-loop-i : goal.invariant-loop-i
+invariant-loop-i l = repeated (take l.i l.batch.entries) (drop l.i l.batch.entries) ≡ repeated [] l.batch.entries

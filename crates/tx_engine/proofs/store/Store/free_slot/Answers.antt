@@ -1,0 +1,23 @@
+use Rattle.std.proofs.Common.{ap, ◌∙◌, sym, refl}
+use Rattle.tx_types.specs.declared.config.Config.{Config}
+use Rattle.tx_engine.proofs.StoreCalls.{as_long}
+use Rattle.tx_engine.proofs.store.Store.free_slot.Goals as goal
+
+pub invariant_of-self : goal.invariant_of-self
+invariant_of-self g c =
+    let k = c.self.invariant in
+    let same = c.free_slot.ensures.preserves.config in
+    record {
+      stored = record {
+        matches = c.free_slot.ensures.matches;
+        rule = ap (λ (x : Config). x.protocol) same ∙ k.stored.rule;
+      };
+      room = as_long c.self.inside.room c.free_slot.new.room _ (k.room ∙ ap (λ (x : Config). x.page_bytes) (sym same));
+    }
+
+pub returns-clause-direct : goal.returns-clause-direct
+returns-clause-direct g c =
+    rw (← c.self.view_is) (λ room. let d = c.free_slot.ensures.direct room in (d.0, d.2, rw (d.3, d.4, d.1, d.5) refl))
+
+pub returns-clause-still_clear : goal.returns-clause-still_clear
+returns-clause-still_clear g c = rw (← c.self.view_is) c.free_slot.ensures.still_clear

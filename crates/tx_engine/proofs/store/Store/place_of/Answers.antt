@@ -1,0 +1,26 @@
+use Rattle.std.proofs.Common.{subst}
+use Rattle.collector.specs.Matches.{Matches}
+use Rattle.tx_engine.proofs.Locating.{located, located_off, not_victim}
+use Rattle.tx_engine.proofs.store.Store.place_of.Goals as goal
+
+pub returns-in-VictimErase-clause-none : goal.returns-in-VictimErase-clause-none
+returns-in-VictimErase-clause-none g c =
+    let s = g.F.Flash.state c.self.inside.flash in
+    let m = subst (Matches s c.self.inside.index c.self.inside.blocks) c.in-VictimErase.is c.self.invariant.stored.matches in
+    let off = located_off s c.self.inside.index c.self.inside.blocks c.in-VictimErase.block m c.args.page c.locate_off.result c.locate_off.ensures.lowest c.locate_off.ensures.holds in
+    rw (← c.self.view_is) off.0
+
+pub returns-in-VictimErase-clause-place : goal.returns-in-VictimErase-clause-place
+returns-in-VictimErase-clause-place g c =
+    let s = g.F.Flash.state c.self.inside.flash in
+    let m = subst (Matches s c.self.inside.index c.self.inside.blocks) c.in-VictimErase.is c.self.invariant.stored.matches in
+    let off = located_off s c.self.inside.index c.self.inside.blocks c.in-VictimErase.block m c.args.page c.locate_off.result c.locate_off.ensures.lowest c.locate_off.ensures.holds in
+    rw (← c.self.view_is) off.1
+
+pub returns-in-Nothing : goal.returns-in-Nothing
+returns-in-Nothing g c =
+    let s = g.F.Flash.state c.self.inside.flash in
+    let m = c.self.invariant.stored.matches in
+    let home = located s c.self.inside.index c.self.inside.blocks c.self.inside.unsure m c.args.page c.locate.result (not_victim c.self.inside.unsure c.in-Nothing.is)
+    c.locate.ensures.home c.locate.ensures.none c.locate.ensures.holds in
+    rw (← c.self.view_is) (record { none = home.0; place = home.1 })

@@ -1,0 +1,63 @@
+-- What is kept of the open transactions, in the order of their opening.
+use Rattle.std.specs.Prelude.{◌≡◌, ℕ, ◌+◌, ◌≤◌, ◌==◌, Bool, List, [], ◌∷◌, length, map, slice_index_or, slice_set, All}
+use Rattle.tx_types.specs.Batch.{PageWrite}
+use Rattle.tx_types.specs.declared.record.Link.{Link}
+use Rattle.version_index.specs.Noted.{Noted, mention_of}
+use Rattle.tx_engine.specs.ArrayState.{Entry, opening, pages_in}
+use Rattle.tx_engine.specs.declared.mark.Mark.{Mark}
+use Rattle.tx_engine.specs.Standing.{Naming}
+
+-- an open transaction, with the names that it writes
+pub record Opening : Type 0 where
+  pub entry : Entry
+  pub naming : Naming
+
+-- how many bytes a page has, how many pages may be pending, and the open transactions
+pub record OpenTable : Type 0 where
+  pub page_bytes : ℕ
+  pub pending : ℕ
+  pub all : List Opening
+
+-- what stands for an open transaction where there is none
+abbrev pub no_opening : Opening
+no_opening = record { entry = opening 0 []; naming = record { names = []; there = 0 } }
+
+-- the open transaction at an index
+abbrev pub opening_at : OpenTable → ℕ → Opening
+opening_at t i = slice_index_or t.all i no_opening
+
+abbrev pub entries_of : OpenTable → List Entry
+entries_of t = map (λ o. o.entry) t.all
+
+abbrev pub namings_of : OpenTable → List Naming
+namings_of t = map (λ o. o.naming) t.all
+
+-- each transaction has a name for each page that it writes, each page is whole, and no more pages are pending than may be
+pub record IsOpenTable (t : OpenTable) : Type 0 where
+  pub named : All (λ o. map (λ name. name.page) o.naming.names ≡ map (λ w. w.page) o.entry.writes) t.all
+  pub whole : All (λ o. All (λ w. length w.bytes ≡ t.page_bytes) o.entry.writes) t.all
+  pub few : pages_in (entries_of t) ≤ t.pending
+
+-- the name that a transaction which is opened now writes for a page: one version above its mention
+abbrev pub next_name : Noted → PageWrite → Link
+next_name n w = record { page = w.page; version = mention_of n w.page + 1 }
+
+-- a transaction that is opened
+abbrev pub begun : Noted → ℕ → List PageWrite → Opening
+begun n tag writes = record {
+  entry = opening tag writes;
+  naming = record { names = map (next_name n) writes; there = 0 };
+}
+
+-- the table with another open transaction at an index
+abbrev pub with_opening : OpenTable → ℕ → Opening → OpenTable
+with_opening t i o = record t { all = slice_set t.all i o }
+
+abbrev pub with_done : Opening → ℕ → Opening
+with_done o count = record o { entry = record o.entry { done = count } }
+
+abbrev pub with_mark : Opening → Mark → Opening
+with_mark o its = record o { entry = record o.entry { mark = its } }
+
+abbrev pub with_there : Opening → ℕ → Opening
+with_there o count = record o { naming = record o.naming { there = count } }

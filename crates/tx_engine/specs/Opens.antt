@@ -1,0 +1,42 @@
+-- A device that was just mounted, and why one was not.
+use Rattle.std.specs.Prelude.{◌≡◌, true, false, []}
+use Rattle.tx_types.specs.Config.{shape_of}
+use Rattle.tx_types.specs.declared.config.Config.{Config}
+use Rattle.flash_model.specs.Flash.{FlashState}
+use Rattle.flash_model.specs.Calls.{Carries}
+use Rattle.flash_model.specs.Operations.{moment_of}
+use Rattle.version_index.specs.Images.{array_in, IsLeastImageBreach}
+use Rattle.scan_recovery.specs.Opening.{IsOpened}
+use Rattle.collector.specs.declared.unsure.Unsure.TheVariants as unsure
+use Rattle.tx_engine.specs.ArrayState.{idle}
+use Rattle.tx_engine.specs.Standing.{Standing}
+use Rattle.tx_engine.specs.Stored.{Stored}
+use Rattle.tx_engine.specs.declared.mount.MountError.{MountError}
+use Rattle.tx_engine.specs.declared.mount.MountError.TheVariants as mount
+
+-- The device stands for the array of the image, with nothing open. Its tables are those of the image.
+pub record Mounts {F : Type 0} (state : F → FlashState) (flash : F) (its : Config) (s : Standing F) : Type 0 where
+  pub config : s.config ≡ its
+  pub machine : s.machine ≡ idle (array_in its.protocol its.logical (state flash).image)
+  pub namings : s.namings ≡ []
+  pub unsure : s.unsure ≡ unsure.Nothing
+  pub tables : IsOpened its (state flash).image s.noted s.table
+  pub moment : moment_of (state s.flash) ≡ moment_of (state flash)
+  pub carries : Carries (state flash) (state s.flash) false
+
+-- A flash that was not mounted comes back as it was: a read was broken, or its image is not sound, or memory ran out.
+abbrev pub FailsToMount : {F : Type 0} → (F → FlashState) → F → Config → F → MountError → Type 0
+FailsToMount state flash its new mount.Fault =
+    (moment_of (state new) ≡ moment_of (state flash)) × Carries (state flash) (state new) true
+FailsToMount state flash its new (mount.Unsound law slot) =
+    (moment_of (state new) ≡ moment_of (state flash)) × Carries (state flash) (state new) false
+    × IsLeastImageBreach its.protocol its.logical (shape_of its) (state flash).image (record { law = law; slot = slot })
+FailsToMount state flash its new mount.Memory =
+    (moment_of (state new) ≡ moment_of (state flash)) × Carries (state flash) (state new) false
+
+-- The tables are those of the image, which stays.
+pub record StoresOpened {F : Type 0} (state : F → FlashState) (flash : F) (its : Config) (s : Stored F) : Type 0 where
+  pub tables : IsOpened its (state flash).image s.noted s.table
+  pub unsure : s.unsure ≡ unsure.Nothing
+  pub moment : moment_of (state s.flash) ≡ moment_of (state flash)
+  pub carries : Carries (state flash) (state s.flash) false

@@ -1,0 +1,93 @@
+-- Settling a device, and noting the next record of an open transaction.
+use Rattle.std.specs.Prelude.{◌≡◌, ◌⊎◌, ℕ, ◌+◌, ◌<◌, ◌==◌, ◌&&◌, not, Bool, true, false, List, [], length, Some, Result, Ok, Err, if◌then◌else◌}
+use Rattle.tx_types.specs.Batch.{PageWrite}
+use Rattle.flash_model.specs.Flash.{FlashState}
+use Rattle.flash_model.specs.declared.flash.Broken.{Broken}
+use Rattle.collector.specs.declared.unsure.Unsure.TheVariants as unsure
+use Rattle.tx_engine.specs.ArrayState.{ArrayState, Entry, put, with_entry, without}
+use Rattle.tx_engine.specs.declared.mark.Mark.TheVariants.{Plain, Doubt, Whole}
+use Rattle.tx_engine.specs.declared.mark.Mark.{Mark}
+use Rattle.tx_engine.specs.declared.step.Progress.{Progress}
+use Rattle.tx_engine.specs.declared.step.Progress.TheVariants as progress
+use Rattle.tx_engine.specs.OpenTable.{OpenTable, Opening, opening_at, with_opening, with_mark, with_there}
+use Rattle.version_index.specs.Noted.{current_of}
+use Rattle.tx_engine.specs.Exits.{Exits, VersionsRise, settled_writes, done_writes}
+use Rattle.tx_engine.specs.Standing.{Standing, Stands, name_at}
+use Rattle.tx_engine.specs.Step.{settled, IsAtLast, GoesOn}
+
+-- one record more of a transaction is noted: with its last one it is whole
+abbrev pub with_next : Opening → Opening
+with_next o =
+    if o.naming.there + 1 == length o.entry.writes
+    then with_mark (with_there o (o.naming.there + 1)) Whole
+    else with_there o (o.naming.there + 1)
+
+-- whether the transaction writes this page next
+abbrev pub is_writing : ℕ → Opening → Bool
+is_writing page o = (name_at o.naming o.entry.done).page == page
+
+-- A device that settled: the array machine did, the versions rose that it takes in, and nothing is unsure.
+pub record IsSettled {F : Type 0} (there : Bool) (old new : Standing F) : Type 0 where
+  pub machine : new.machine ≡ settled there old.machine
+  pub rises : VersionsRise old new (settled_writes there old.machine)
+  pub sure : new.unsure ≡ unsure.Nothing
+
+-- What making room leaves: the device stands for the same array, and no version changed.
+pub record IsLeft {F : Type 0} (state : F → FlashState) (old new : Standing F) (broken : Bool) : Type 0 where
+  pub stands : Stands state new
+  pub machine : new.machine ≡ old.machine
+  pub exits : Exits state old new broken
+  pub versions : (page : ℕ) → page < old.config.logical → current_of new.noted page ≡ current_of old.noted page
+
+-- whether the transaction writes its last page next
+abbrev pub is_at_last : Entry → Bool
+is_at_last e = e.done + 1 == length e.writes
+
+-- the place of the name that a transaction links its next record to: the next name, or the first one
+abbrev pub link_place : Entry → ℕ
+link_place e = if is_at_last e then 0 else e.done + 1
+
+-- what the array takes with the next page of a transaction: all its pages with the last one
+abbrev pub next_writes : Entry → List PageWrite
+next_writes e = if is_at_last e then e.writes else []
+
+-- The next page of a transaction was written: the array has all its pages with the last one.
+pub record WritesNext {F : Type 0} (old new : Standing F) (e : Entry) : Type 0 where
+  pub pages : new.machine.pages ≡ put old.machine.pages (next_writes e)
+  pub rises : VersionsRise old new (next_writes e)
+
+-- It was not: the array is as it was, and the transaction may be in doubt where its last page was being written.
+pub record WriteFails {F : Type 0} (old new : Standing F) (before after : OpenTable) (at : ℕ) : Type 0 where
+  pub pages : new.machine.pages ≡ old.machine.pages
+  pub rises : VersionsRise old new []
+  pub opens : (after ≡ before)
+      ⊎ (IsAtLast (opening_at before at).entry × (after ≡ with_opening before at (with_mark (opening_at before at) Doubt)))
+
+-- How an open transaction of a settled device goes on: it writes a page or is done, or a fault leaves it plain, or in doubt.
+abbrev pub Advances : ArrayState → ℕ → Entry → Result Progress Broken → ArrayState → Type 0
+Advances s tag e (Ok progress) new = GoesOn s tag e progress new
+Advances s tag e (Err broken) new =
+    (e.mark ≡ Plain) × ((new ≡ s) ⊎ (IsAtLast e × (new ≡ record s { entries = with_entry tag (record e { mark = Doubt }) s.entries })))
+
+-- which versions rise where it does: those of its pages where it is done and was not whole before
+abbrev pub AdvanceRises : {F : Type 0} → Standing F → Standing F → Entry → Result Progress Broken → Type 0
+AdvanceRises old new e (Ok progress) = VersionsRise old new (done_writes (Some e) (Ok progress))
+AdvanceRises old new e (Err broken) = VersionsRise old new []
+
+abbrev pub is_whole : Mark → Bool
+is_whole Plain = false
+is_whole Doubt = false
+is_whole Whole = true
+
+-- whether the next page of a transaction is to be written: it is not whole, and no record more is noted than pages were written
+abbrev pub is_due : Opening → Bool
+is_due o = not (is_whole o.entry.mark) && (o.naming.there == o.entry.done)
+
+-- a transaction goes on without the flash: it is whole, or its next page is noted
+abbrev pub IsReady : Opening → Type 0
+IsReady o = (o.entry.mark ≡ Whole) ⊎ ((o.entry.mark ≡ Plain) × (o.entry.done < o.naming.there))
+
+-- It goes on so: a page more is written, or it was whole and is done.
+abbrev pub Counts : ArrayState → ℕ → Entry → Progress → ArrayState → Type 0
+Counts s tag e (progress.Wrote done all) new = GoesOn s tag e (progress.Wrote done all) new
+Counts s tag e progress.Done new = (e.mark ≡ Whole) × (new ≡ record s { entries = without tag s.entries })

@@ -1,0 +1,44 @@
+ghost use Rattle.std.specs.Prelude.{◌≡◌, OnOk, Err};
+ghost use Rattle.flash_model.specs.Operations.{moment_of};
+ghost use Rattle.tx_engine.specs.Step.{AbortsAs};
+ghost use Rattle.tx_engine.specs.Exits.{Exits, AbortRises, is_there, is_abort_fault};
+ghost use Rattle.collector.specs.declared.unsure.Unsure.TheVariants as unsure;
+
+use crate::closing::close;
+use crate::settling::settle;
+use crate::{Device, Mark, StepError};
+use flash_model::Flash;
+use record_list::CommitRule;
+
+/// How a transaction was given up.
+#[derive(Clone, Copy, Debug, PartialEq, Eq)]
+pub enum Aborted {
+    /// None of its pages is in the array.
+    Gone,
+    /// It was too late: the array has taken all its pages.
+    Late,
+}
+
+impl<F: Flash, R: CommitRule> Device<F, R> {
+    /// Gives up the transaction with this tag, if there is one. First it becomes known what a broken operation left: it is
+    /// too late where the transaction turns out to be whole. The flash is only read. After a fault all is as before.
+    pub fn abort(&mut self, tag: u32) -> Result<Aborted, StepError>
+        ensures aborts { AbortsAs (is_there F.state self.old) self.old.machine self.new.machine tag result }
+        ensures exits { Exits F.state self.old self.new (is_abort_fault result) }
+        ensures moment { moment_of (F.state self.new.flash) ≡ moment_of (F.state self.old.flash) }
+        ensures rises { AbortRises (is_there F.state self.old) self.old self.new result }
+        ensures sure { OnOk result (self.new.unsure ≡ unsure.Nothing) }
+        ensures unknown { result ≡ Err StepError.Unknown → self.new ≡ self.old }
+    {
+        let Some(at) = self.openings.position(tag) else {
+            return Err(StepError::Unknown);
+        };
+        settle(&mut self.store, &mut self.openings)?;
+        let aborted = match self.openings.mark(at) {
+            Mark::Whole => Aborted::Late,
+            Mark::Plain | Mark::Doubt => Aborted::Gone,
+        };
+        close(&mut self.store, &mut self.openings, at);
+        Ok(aborted)
+    }
+}

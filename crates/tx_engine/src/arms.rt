@@ -1,0 +1,65 @@
+ghost use Rattle.std.specs.Prelude.{◌≡◌, ◌≤◌};
+ghost use Rattle.flash_model.specs.Arms.{ArmsCut, ArmsFault, ArmsBadRead};
+
+use crate::Device;
+use crate::store::Store;
+use flash_model::{Arms, Outcome};
+use record_list::CommitRule;
+
+impl<F: Arms, R: CommitRule> Store<F, R> {
+    /// The same call of the flash.
+    fn arm_cut(&mut self, count: u32, outcome: Outcome)
+        requires { 1 ≤ count }
+        ensures arms { ArmsCut (F.state self.old.flash) (F.state self.new.flash) count outcome }
+        ensures stays { self.new ≡ record self.old { flash = self.new.flash } }
+    {
+        self.flash.arm_cut(count, outcome);
+    }
+
+    /// The same call of the flash.
+    fn arm_fault(&mut self, count: u32, outcome: Outcome)
+        requires { 1 ≤ count }
+        ensures arms { ArmsFault (F.state self.old.flash) (F.state self.new.flash) count outcome }
+        ensures stays { self.new ≡ record self.old { flash = self.new.flash } }
+    {
+        self.flash.arm_fault(count, outcome);
+    }
+
+    /// The same call of the flash.
+    fn arm_bad_read(&mut self, count: u32)
+        requires { 1 ≤ count }
+        ensures arms { ArmsBadRead (F.state self.old.flash) (F.state self.new.flash) count }
+        ensures stays { self.new ≡ record self.old { flash = self.new.flash } }
+    {
+        self.flash.arm_bad_read(count);
+    }
+}
+
+impl<F: Arms, R: CommitRule> Device<F, R> {
+    /// A program or an erase from now on, the one of this number from 1, will be cut with this outcome.
+    pub fn arm_cut(&mut self, count: u32, outcome: Outcome)
+        requires { 1 ≤ count }
+        ensures arms { ArmsCut (F.state self.old.flash) (F.state self.new.flash) count outcome }
+        ensures stays { self.new ≡ record self.old { flash = self.new.flash } }
+    {
+        self.store.arm_cut(count, outcome);
+    }
+
+    /// A program or an erase from now on, the one of this number from 1, will meet a fault with this outcome.
+    pub fn arm_fault(&mut self, count: u32, outcome: Outcome)
+        requires { 1 ≤ count }
+        ensures arms { ArmsFault (F.state self.old.flash) (F.state self.new.flash) count outcome }
+        ensures stays { self.new ≡ record self.old { flash = self.new.flash } }
+    {
+        self.store.arm_fault(count, outcome);
+    }
+
+    /// A read from now on, the one of this number from 1, will meet a fault.
+    pub fn arm_bad_read(&mut self, count: u32)
+        requires { 1 ≤ count }
+        ensures arms { ArmsBadRead (F.state self.old.flash) (F.state self.new.flash) count }
+        ensures stays { self.new ≡ record self.old { flash = self.new.flash } }
+    {
+        self.store.arm_bad_read(count);
+    }
+}

@@ -1,0 +1,218 @@
+ghost use Rattle.std.specs.Prelude.{◌≡◌, ◌+◌, ◌^◌, ◌<◌, ◌≤◌, ◌∷◌, ◌++◌, [], length, remove, position, All, IfOk};
+ghost use Rattle.tx_types.specs.Config.{IsConfig};
+ghost use Rattle.version_index.specs.Noted.{mention_of};
+ghost use Rattle.tx_engine.specs.ArrayState.{pages_in, has_tag, is_doubted};
+ghost use Rattle.tx_engine.specs.OpenTable.{IsOpenTable, opening_at, entries_of, begun, with_opening, with_done, with_mark, with_there};
+ghost use Rattle.tx_engine.specs.Standing.{name_at, write_at};
+ghost use Rattle.tx_engine.specs.Submit.{first_refusals};
+
+use crate::pending::{
+    Opened, PendingPage, free_pages, hold_pages, pages_before, place_of_doubt, place_of_tag, rooms,
+};
+use crate::refusals::{batch_refusal, first_overlap, is_tag_used, too_many};
+use crate::{Mark, SubmitError};
+use record_list::CommitRule;
+use std::alloc::Global;
+use std::marker::Model;
+use tx_types::{Batch, Config, Link, Memory};
+use version_index::Index;
+
+/// What a device keeps of its open transactions, in the order of their opening. All its memory is taken when it is made.
+#[derive(Drop)]
+pub struct Openings {
+    page_bytes: u32,
+    pending: u32,
+    opened: Vec<Opened>,
+    /// The pages of all open transactions, those of each behind one another.
+    pages: Vec<PendingPage>,
+    /// Room for the pages that may be pending beside them.
+    rooms: Vec<Vec<u8>>,
+}
+
+impl Model for Openings {
+    ghost use Rattle.tx_engine.specs.OpenTable.{OpenTable};
+
+    ghost Value = { OpenTable };
+
+    ghost use Rattle.tx_engine.specs.OpenTables.{table_of, IsKept};
+
+    ghost view = { table_of };
+
+    ghost invariant = { IsKept };
+}
+
+impl Openings {
+    /// With no transaction open.
+    pub fn new(alloc: Global, config: Config) -> Result<Openings, Memory>
+        requires { IsConfig config }
+        ensures { IfOk result (λ o. o ≡ record { page_bytes = config.page_bytes; pending = config.pending; all = [] }) }
+    {
+        let most = config.pending as usize;
+        Ok(Openings {
+            page_bytes: config.page_bytes,
+            pending: config.pending,
+            opened: Vec::with_capacity(alloc, most)?,
+            pages: Vec::with_capacity(alloc, most)?,
+            rooms: rooms(alloc, config)?,
+        })
+    }
+
+    /// The number of open transactions, and what holds of all that is kept.
+    pub fn count(&self) -> u32
+        ensures count { result ≡ length self.now.all }
+        ensures kept { IsOpenTable self.now }
+    {
+        self.opened.len() as u32
+    }
+
+    /// The number of the pages of all open transactions.
+    pub fn pending(&self) -> u32
+        ensures { result ≡ pages_in (entries_of self.now) }
+    {
+        self.pages.len() as u32
+    }
+
+    /// The first refusal of a batch for which what is kept of open transactions and the number of logical pages are enough:
+    /// any but that of a page which has no version left, which is tried last.
+    pub fn refusal(&self, logical: u32, tag: u32, batch: &Batch) -> Option<SubmitError>
+        ensures { result ≡ first_refusals (record { logical = logical; pending = self.now.pending })
+            (entries_of self.now) tag batch.now.entries }
+    {
+        if let Some(refusal) = batch_refusal(batch, logical) {
+            return Some(refusal);
+        }
+        if is_tag_used(&self.opened, tag) {
+            return Some(SubmitError::Tag);
+        }
+        if let Some(refusal) = first_overlap(batch, &self.opened, &self.pages) {
+            return Some(refusal);
+        }
+        too_many(batch, self.pending - self.pages.len() as u32)
+    }
+
+    /// Opens a transaction, with no page written. Each page is named one version above its greatest mention.
+    pub fn open<R: CommitRule>(&mut self, tag: u32, batch: &Batch, index: &Index<R>)
+        requires pages { batch.now.page_bytes ≡ self.old.page_bytes }
+        requires some { 0 < length batch.now.entries }
+        requires room { pages_in (entries_of self.old) + length batch.now.entries ≤ self.old.pending }
+        requires each { All (λ o. 0 < length o.entry.writes) self.old.all }
+        requires range { All (λ w. w.page < index.now.config.logical) batch.now.entries }
+        requires unspent { All (λ w. mention_of index.now w.page < 2 ^ 62) batch.now.entries }
+        ensures { self.new ≡ record self.old {
+          all = self.old.all ++ begun index.now tag batch.now.entries ∷ [];
+        } }
+    {
+        let pages = batch.len();
+        hold_pages(&mut self.pages, &mut self.rooms, batch, index);
+        self.opened
+            .push(Opened {
+                tag,
+                pages: pages as u32,
+                done: 0,
+                there: 0,
+                mark: Mark::Plain,
+            })
+            .unwrap();
+    }
+
+    /// Where the open transaction with this tag stands.
+    pub fn position(&self, tag: u32) -> Option<usize>
+        ensures { result ≡ position (λ o. has_tag tag o.entry) self.now.all }
+    {
+        place_of_tag(&self.opened, tag)
+    }
+
+    /// Where the transaction in doubt stands.
+    pub fn doubtful(&self) -> Option<usize>
+        ensures { result ≡ position (λ o. is_doubted o.entry.mark) self.now.all }
+    {
+        place_of_doubt(&self.opened)
+    }
+
+    /// How many pages the transaction at an index writes.
+    pub fn pages(&self, at: usize) -> u32
+        requires { at < length self.now.all }
+        ensures { result ≡ length (opening_at self.now at).entry.writes }
+    {
+        self.opened[at].pages
+    }
+
+    /// How many of them are written.
+    pub fn done(&self, at: usize) -> u32
+        requires { at < length self.now.all }
+        ensures { result ≡ (opening_at self.now at).entry.done }
+    {
+        self.opened[at].done
+    }
+
+    /// How many of its records are noted.
+    pub fn there(&self, at: usize) -> u32
+        requires { at < length self.now.all }
+        ensures { result ≡ (opening_at self.now at).naming.there }
+    {
+        self.opened[at].there
+    }
+
+    /// What is known of its last page.
+    pub fn mark(&self, at: usize) -> Mark
+        requires { at < length self.now.all }
+        ensures { result ≡ (opening_at self.now at).entry.mark }
+    {
+        self.opened[at].mark
+    }
+
+    /// The name that it writes at this place, from 0.
+    pub fn name(&self, at: usize, place: u32) -> Link
+        requires at { at < length self.now.all }
+        requires place { place < length (opening_at self.now at).entry.writes }
+        ensures { result ≡ name_at (opening_at self.now at).naming place }
+    {
+        let first = pages_before(&self.opened, at);
+        self.pages[first + place as usize].name
+    }
+
+    /// The bytes that it writes there.
+    pub fn bytes(&self, at: usize, place: u32) -> &[u8]
+        requires at { at < length self.now.all }
+        requires place { place < length (opening_at self.now at).entry.writes }
+        ensures bytes { result.now ≡ (write_at (opening_at self.now at).entry place).bytes }
+        ensures whole { length result.now ≡ self.now.page_bytes }
+    {
+        let first = pages_before(&self.opened, at);
+        &self.pages[first + place as usize].bytes
+    }
+
+    /// So many of its pages are written.
+    pub fn set_done(&mut self, at: usize, done: u32)
+        requires { at < length self.old.all }
+        ensures { self.new ≡ with_opening self.old at (with_done (opening_at self.old at) done) }
+    {
+        self.opened[at].done = done;
+    }
+
+    /// So many of its records are noted.
+    pub fn set_there(&mut self, at: usize, there: u32)
+        requires { at < length self.old.all }
+        ensures { self.new ≡ with_opening self.old at (with_there (opening_at self.old at) there) }
+    {
+        self.opened[at].there = there;
+    }
+
+    /// This is known of its last page.
+    pub fn set_mark(&mut self, at: usize, mark: Mark)
+        requires { at < length self.old.all }
+        ensures { self.new ≡ with_opening self.old at (with_mark (opening_at self.old at) mark) }
+    {
+        self.opened[at].mark = mark;
+    }
+
+    /// Takes a transaction away.
+    pub fn remove(&mut self, at: usize)
+        requires { at < length self.old.all }
+        ensures { self.new ≡ record self.old { all = remove self.old.all at } }
+    {
+        let first = pages_before(&self.opened, at);
+        let Opened { pages, .. } = self.opened.remove(at);
+        free_pages(&mut self.pages, &mut self.rooms, first, pages as usize);
+    }
+}

@@ -1,0 +1,366 @@
+ghost use Rattle.std.specs.Prelude.{◌≡◌, ◌<◌, ◌≤◌, ◌+◌, ◌==◌, ℕ, List, true, false, Ok, Err, Some, None, length, IfOk, IfErr, IfSome, IfNone, OnOk, OnErr, sum_by};
+ghost use Rattle.std.specs.Result.{is_err};
+ghost use Rattle.std.specs.List.{range_with_len};
+ghost use Rattle.tx_types.specs.Config.{checked, shape_of, blocks_of};
+ghost use Rattle.tx_types.specs.declared.record.Link.{Link};
+ghost use Rattle.flash_model.specs.Calls.{Carries};
+ghost use Rattle.flash_model.specs.Moves.{FlashMoves};
+ghost use Rattle.flash_model.specs.Operations.{moment_of};
+ghost use Rattle.page_record.specs.Spelling.{CanBeSpelled};
+ghost use Rattle.record_list.specs.Records.{is_present};
+ghost use Rattle.version_index.specs.Notes.{found_in};
+ghost use Rattle.version_index.specs.Noted.{block_to_go, current_of, pinned, unpinned};
+ghost use Rattle.die_alloc.specs.BlockTable.{IsFull, IsFirstFree};
+ghost use Rattle.die_alloc.specs.NextSlot.{next_slot, after_next_slot};
+ghost use Rattle.collector.specs.declared.unsure.Unsure.{Unsure};
+ghost use Rattle.collector.specs.declared.unsure.Unsure.TheVariants as unsure;
+ghost use Rattle.collector.specs.declared.unsure.Settled.TheVariants as settled;
+ghost use Rattle.collector.specs.Matches.{CanTake, CanTakeOwn};
+ghost use Rattle.collector.specs.Settling.{settlement};
+ghost use Rattle.collector.specs.Going.{IsNextName, CostsAtMost, blocks_to_go};
+ghost use Rattle.collector.specs.Known.{page_known};
+ghost use Rattle.collector.specs.Victim.{garbage_in};
+ghost use Rattle.tx_engine.specs.Collections.{CollectsTables};
+ghost use Rattle.tx_engine.specs.Opens.{StoresOpened, FailsToMount};
+ghost use Rattle.tx_engine.specs.Read.{ReadsKnown, ShowsKnown};
+ghost use Rattle.tx_engine.specs.Stored.{IsStored, Keeps, Writes, WriteBreaks};
+
+use crate::{Collected, MountError};
+use collector::{Settled, Unsure, clean_spare, victim};
+use die_alloc::Blocks;
+use flash_model::{Broken, Flash};
+use page_record::write_spare;
+use record_list::{CommitRule, Found};
+use scan_recovery::{RecoverError, recover};
+use std::alloc::Global;
+use std::marker::Model;
+use tx_types::{Block, BlockState, Config, Memory, Rec, Shape, Slot};
+use version_index::Index;
+
+/// A flash with the tables that match it. Whatever breaks, they match.
+#[derive(Drop)]
+pub struct Store<F: Flash, R: CommitRule> {
+    pub(crate) flash: F,
+    pub(crate) index: Index<R>,
+    pub(crate) blocks: Blocks,
+    pub(crate) unsure: Unsure,
+    /// Room for one page.
+    pub(crate) room: Vec<u8>,
+}
+
+impl<F: Flash, R: CommitRule> Model for Store<F, R> {
+    ghost use Rattle.tx_engine.specs.Stored.{Stored};
+
+    ghost Value = { Stored F };
+
+    ghost use Rattle.tx_engine.specs.StoreTables.{stored_of, IsStoreKept};
+
+    ghost view = { stored_of };
+
+    ghost invariant = { IsStoreKept F.state R.kept };
+}
+
+impl<F: Flash, R: CommitRule> Store<F, R> {
+    /// Opens a flash: the tables of its image. The flash comes back where it can't be opened.
+    pub fn open(alloc: Global, mut flash: F, config: Config) -> Result<Store<F, R>, (F, MountError)>
+        requires check { checked config ≡ Ok (F.state flash).shape }
+        requires rule { config.protocol ≡ R.kept }
+        ensures opened { IfOk result (λ s. StoresOpened F.state flash config s) }
+        ensures stored { IfOk result (IsStored F.state R.kept) }
+        ensures failed { IfErr result (λ e. FailsToMount F.state flash config e.0 e.1) }
+    {
+        let Ok(room) = page_room(alloc, flash.shape()) else {
+            return Err((flash, MountError::Memory));
+        };
+        match recover(alloc, &mut flash, config) {
+            Ok((index, blocks)) => Ok(Store {
+                flash,
+                index,
+                blocks,
+                unsure: Unsure::Nothing,
+                room,
+            }),
+            Err(RecoverError::Fault) => Err((flash, MountError::Fault)),
+            Err(RecoverError::Unsound { law, slot }) => {
+                Err((flash, MountError::Unsound { law, slot }))
+            }
+            Err(RecoverError::Memory) => Err((flash, MountError::Memory)),
+        }
+    }
+
+    /// The configuration, and what holds of all that is kept.
+    pub fn config(&self) -> Config
+        ensures config { result ≡ self.now.noted.config }
+        ensures stored { IsStored F.state R.kept self.now }
+    {
+        self.index.config()
+    }
+
+    /// The current version of a page, 0 for none.
+    pub fn version(&self, page: u32) -> u64
+        requires { page < self.now.noted.config.logical }
+        ensures { result ≡ current_of self.now.noted page }
+    {
+        self.index.current(page)
+    }
+
+    /// The tables.
+    pub fn index(&self) -> &Index<R>
+        ensures { result.now ≡ self.now.noted }
+    {
+        &self.index
+    }
+
+    /// The flash, as it stands.
+    pub fn flash(&self) -> &F
+        ensures { result.now ≡ self.now.flash }
+    {
+        &self.flash
+    }
+
+    /// The place whose contents are not known.
+    pub fn unsure(&self) -> Unsure
+        ensures { result ≡ self.now.unsure }
+    {
+        self.unsure
+    }
+
+    /// The number of garbage slots outside the spare.
+    pub fn garbage(&self) -> u32
+        ensures { result ≡ sum_by (garbage_in self.now.noted self.now.table)
+            (range_with_len 0 (blocks_of (shape_of self.now.noted.config))) }
+    {
+        let mut count = 0;
+        for block in 0..self.flash.shape().blocks() {
+            count += self.garbage_in(Block(block));
+        }
+        count
+    }
+
+    /// The number of garbage slots of a block, none in the spare.
+    fn garbage_in(&self, block: Block) -> u32
+        requires { block.0 < blocks_of (shape_of self.now.noted.config) }
+        ensures garbage { result ≡ garbage_in self.now.noted self.now.table block.0 }
+        ensures few { result ≤ self.now.noted.config.pages_per_block }
+    {
+        let shut = self.blocks.state(block) == BlockState::Shut;
+        self.index.garbage(block, shut)
+    }
+
+    /// The noted records, in the order of their slots.
+    pub fn found(&self, alloc: Global) -> Result<Vec<Found>, Memory>
+        ensures { IfOk result (λ list. list.items ≡ found_in self.now.noted.notes) }
+    {
+        let slots = self.flash.shape().slots();
+        let mut list = Vec::with_capacity(alloc, slots as usize)?;
+        for at in 0..slots {
+            let at = Slot(at);
+            if let Some(rec) = self.index.rec(at) {
+                list.push(Found { slot: at, rec })?;
+            }
+        }
+        Ok(list)
+    }
+
+    /// Reads the current record of a page into room for a page of bytes: whether it has one. A page
+    /// without one is answered without the flash. While the erase of a collected block is unsure, a
+    /// page whose record stands there is read from its copy.
+    pub fn read(&mut self, page: u32, into: &mut [u8]) -> Result<bool, Broken>
+        requires page { page < self.old.noted.config.logical }
+        requires room { length into.old ≡ self.old.noted.config.page_bytes }
+        ensures reads { ReadsKnown F.state self.old self.new page into.old into.new result }
+        ensures stays { self.new ≡ record self.old { flash = self.new.flash } }
+    {
+        let Some(at) = self.place_of(page) else {
+            return Ok(false);
+        };
+        let mut spare = [0; 64];
+        self.flash.read(at, into, &mut spare)?;
+        Ok(true)
+    }
+
+    /// The slot from which the current record of a page is read, if the page has one. While the
+    /// erase of a collected block is unsure it lies outside that block.
+    fn place_of(&self, page: u32) -> Option<Slot>
+        requires { page < self.now.noted.config.logical }
+        ensures none { let image = (F.state self.now.flash).image in
+            IfNone result (page_known self.now.noted image page ≡ None) }
+        ensures place { IfSome result (λ at.
+            ShowsKnown (F.state self.now.flash) self.now.noted page at.0) }
+    {
+        match self.unsure {
+            Unsure::VictimErase { block } => self.index.locate_off(page, block),
+            Unsure::Nothing | Unsure::Own { .. } | Unsure::Copy { .. } | Unsure::SpareErase => {
+                self.index.locate(page)
+            }
+        }
+    }
+
+    /// Finds out what a broken operation left, if there was one. The image stays. After a failed
+    /// read all is as before.
+    pub fn settle(&mut self) -> Result<Settled, Broken>
+        requires own { CanTake self.old.noted self.old.table self.old.unsure }
+        ensures settled { IfOk result (λ answer.
+            let image = (F.state self.old.flash).image in
+            let found = settlement self.old.noted self.old.table image self.old.unsure in
+            (self.new.noted ≡ found.noted) × (self.new.table ≡ found.table)
+            × (answer ≡ found.answer) × (self.new.unsure ≡ unsure.Nothing)) }
+        ensures failed { OnErr result (self.new ≡ record self.old { flash = self.new.flash }) }
+        ensures moment { moment_of (F.state self.new.flash) ≡ moment_of (F.state self.old.flash) }
+        ensures carries { Carries (F.state self.old.flash) (F.state self.new.flash) (is_err result) }
+        ensures idle { self.old.unsure ≡ unsure.Nothing →
+            (result ≡ Ok Settled.Other) × (self.new ≡ self.old) }
+    {
+        if self.unsure == Unsure::Nothing {
+            return Ok(Settled::Other);
+        }
+        collector::settle(
+            &mut self.flash,
+            &mut self.index,
+            &mut self.blocks,
+            &mut self.unsure,
+            &mut self.room,
+        )
+    }
+
+    /// Makes the spare blank and collects the block with the most garbage, if there is any.
+    pub fn collect(&mut self) -> Result<Collected, Broken>
+        requires { self.old.unsure ≡ unsure.Nothing }
+        ensures keeps { Keeps F.state self.old self.new (is_err result) }
+        ensures collects { IfOk result (CollectsTables
+            (F.state self.old.flash) (F.state self.new.flash)
+            self.old.noted self.new.noted self.old.table self.new.table) }
+        ensures sure { OnOk result (self.new.unsure ≡ unsure.Nothing) }
+        ensures others { (at : Slot) (rec : Rec) → self.new.unsure ≡ unsure.Own at rec → ⊥ }
+    {
+        clean_spare(
+            &mut self.flash,
+            &mut self.index,
+            &mut self.blocks,
+            &mut self.unsure,
+        )?;
+        let Some(block) = victim(&self.index, &self.blocks) else {
+            return Ok(Collected::Nothing);
+        };
+        collector::collect(
+            &mut self.flash,
+            &mut self.index,
+            &mut self.blocks,
+            &mut self.unsure,
+            &mut self.room,
+            block,
+        )?;
+        Ok(Collected::One)
+    }
+
+    /// Treats each block that holds a record which must go before the version `below` of a page is
+    /// programmed.
+    pub fn clear(&mut self, page: u32, below: u64) -> Result<(), Broken>
+        requires nothing { self.old.unsure ≡ unsure.Nothing }
+        requires next { (names : List Link)
+            × IsNextName self.old.noted names (record { page = page; version = below }) }
+        ensures keeps { Keeps F.state self.old self.new (is_err result) }
+        ensures cleared { OnOk result (block_to_go self.new.noted page below ≡ None) }
+        ensures sure { OnOk result (self.new.unsure ≡ unsure.Nothing) }
+        ensures others { (at : Slot) (rec : Rec) → self.new.unsure ≡ unsure.Own at rec → ⊥ }
+        ensures idle { block_to_go self.old.noted page below ≡ None →
+            (result ≡ Ok tt) × (self.new ≡ self.old) }
+        ensures costs { let blocks = blocks_to_go self.old.noted page below in
+            CostsAtMost self.old.noted.config.pages_per_block blocks
+            (F.state self.old.flash) (F.state self.new.flash) }
+    {
+        collector::clear(
+            &mut self.flash,
+            &mut self.index,
+            &mut self.blocks,
+            &mut self.unsure,
+            &mut self.room,
+            page,
+            below,
+        )
+    }
+
+    /// The slot that is programmed next. Where no block has room one is collected first.
+    pub fn free_slot(&mut self) -> Result<Slot, Broken>
+        requires nothing { self.old.unsure ≡ unsure.Nothing }
+        requires next { (names : List Link) × (name : Link)
+            × IsNextName self.old.noted names name }
+        ensures keeps { Keeps F.state self.old self.new (is_err result) }
+        ensures free { IfOk result (λ at. IsFirstFree self.new.table at.0) }
+        ensures sure { OnOk result (self.new.unsure ≡ unsure.Nothing) }
+        ensures others { (at : Slot) (rec : Rec) → self.new.unsure ≡ unsure.Own at rec → ⊥ }
+        ensures direct { (IsFull self.old.table → ⊥) →
+            IfOk result (λ at. Some at ≡ next_slot self.old.table) × (is_err result ≡ false)
+            × (self.new ≡ record self.old { table = after_next_slot self.old.table }) }
+        ensures costs { CostsAtMost self.old.noted.config.pages_per_block 1
+            (F.state self.old.flash) (F.state self.new.flash) }
+        ensures still_clear { (page below : ℕ) → block_to_go self.old.noted page below ≡ None →
+            block_to_go self.new.noted page below ≡ None }
+    {
+        collector::free_slot(
+            &mut self.flash,
+            &mut self.index,
+            &mut self.blocks,
+            &mut self.unsure,
+            &mut self.room,
+        )
+    }
+
+    /// Programs a record with its page's bytes in the first free slot of a block, and notes it.
+    /// After a broken program it is not known what the slot holds.
+    pub fn write(&mut self, at: Slot, rec: Rec, bytes: &[u8]) -> Result<(), Broken>
+        requires nothing { self.old.unsure ≡ unsure.Nothing }
+        requires free { IsFirstFree self.old.table at.0 }
+        requires own { CanTakeOwn self.old.noted self.old.table rec }
+        requires spelled { CanBeSpelled self.old.noted.config.protocol rec }
+        requires page { length bytes.now ≡ self.old.noted.config.page_bytes }
+        ensures written { OnOk result (Writes F.state self.old self.new at.0 rec bytes.now) }
+        ensures broken { OnErr result (WriteBreaks F.state self.old self.new at rec bytes.now) }
+        ensures moves { FlashMoves (F.state self.old.flash) (F.state self.new.flash) (is_err result) }
+        ensures carries { Carries (F.state self.old.flash) (F.state self.new.flash) (is_err result) }
+        ensures costs { ((F.state self.new.flash).programs ≤ (F.state self.old.flash).programs + 1)
+            × ((F.state self.new.flash).erases ≡ (F.state self.old.flash).erases) }
+    {
+        let mut spare = [0; 64];
+        write_spare(rec, self.index.config().protocol, &mut spare);
+        if let Err(broken) = self.flash.program(at, bytes, &spare) {
+            self.unsure = Unsure::Own { at, rec };
+            return Err(broken);
+        }
+        self.index.note_program(at, rec);
+        self.blocks.note_used(at);
+        Ok(())
+    }
+
+    /// Pins a page, which no open transaction has, at a version that is absent.
+    pub fn pin(&mut self, page: u32, version: u64)
+        requires page { page < self.old.noted.config.logical }
+        requires absent { is_present (found_in self.old.noted.notes)
+            (record { page = page; version = version }) ≡ false }
+        ensures { self.new ≡ record self.old { noted = pinned self.old.noted page version } }
+    {
+        self.index.pin(page, version);
+    }
+
+    /// Takes the pin of a page away.
+    pub fn unpin(&mut self, page: u32)
+        requires { page < self.old.noted.config.logical }
+        ensures { self.new ≡ record self.old { noted = unpinned self.old.noted page } }
+    {
+        self.index.unpin(page);
+    }
+
+    /// The flash, as it stands.
+    pub fn close(self) -> F
+        ensures { result ≡ self.flash }
+    {
+        self.flash
+    }
+}
+
+/// Room for one page.
+fn page_room(alloc: Global, shape: Shape) -> Result<Vec<u8>, Memory>
+    ensures { IfOk result (λ room. length room.items ≡ shape.page_bytes) }
+{
+    Ok(vec![in alloc; 0; shape.page_bytes as usize]?)
+}

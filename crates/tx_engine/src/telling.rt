@@ -1,0 +1,68 @@
+ghost use Rattle.std.specs.Prelude.{◌≡◌, ◌<◌, ◌*◌, IfOk, count_by, is_some, sum_by};
+ghost use Rattle.std.specs.List.{range_with_len};
+ghost use Rattle.tx_types.specs.Config.{shape_of, blocks_of};
+ghost use Rattle.version_index.specs.Noted.{current_of};
+ghost use Rattle.version_index.specs.Notes.{found_in};
+ghost use Rattle.collector.specs.Known.{array_known};
+ghost use Rattle.collector.specs.Victim.{garbage_in};
+ghost use Rattle.tx_engine.specs.Collect.{TellsStats};
+
+use crate::Device;
+use crate::store::Store;
+use flash_model::Flash;
+use record_list::{CommitRule, Found};
+use std::alloc::Global;
+use tx_types::{Memory, Stats};
+
+impl<F: Flash, R: CommitRule> Store<F, R> {
+    /// The number of pages that are not blank.
+    fn written(&self) -> u32
+        ensures { result
+            ≡ count_by is_some (array_known self.now.noted (F.state self.now.flash).image) }
+    {
+        collector::laws::known_images_stand::<R>();
+        let logical = self.config().logical;
+        let mut count = 0;
+        for page in 0..logical {
+            if self.version(page) != 0 {
+                count += 1;
+            }
+        }
+        count
+    }
+}
+
+impl<F: Flash, R: CommitRule> Device<F, R> {
+    /// The current version of a page, 0 for none. It rises whenever the array takes the page.
+    pub fn version(&self, page: u32) -> u64
+        requires { page < self.now.config.logical }
+        ensures { result ≡ current_of self.now.noted page }
+    {
+        self.store.version(page)
+    }
+
+    /// The numbers of the device.
+    pub fn stats(&self) -> Stats
+        ensures machine { TellsStats self.now.machine result }
+        ensures programs { result.programs ≡ (F.state self.now.flash).programs }
+        ensures erases { result.erases ≡ (F.state self.now.flash).erases }
+        ensures garbage { result.garbage ≡ sum_by (garbage_in self.now.noted self.now.table)
+            (range_with_len 0 (blocks_of (shape_of self.now.config))) }
+    {
+        Stats {
+            written: self.store.written(),
+            tags: self.openings.count(),
+            pending: self.openings.pending(),
+            programs: self.store.flash.programs(),
+            erases: self.store.flash.erases(),
+            garbage: self.store.garbage(),
+        }
+    }
+
+    /// The records that are noted, in the order of their slots.
+    pub fn found(&self, alloc: Global) -> Result<Vec<Found>, Memory>
+        ensures { IfOk result (λ list. list.items ≡ found_in self.now.noted.notes) }
+    {
+        self.store.found(alloc)
+    }
+}

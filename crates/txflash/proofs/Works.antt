@@ -1,0 +1,74 @@
+-- How the work of a task ends, from its parts.
+use Rattle.std.proofs.Common.{◌≡◌, inl, inr, ℕ, suc, ◌<◌, ◌≤◌, List, Option, None, Some, Result, Ok, Err, ap, ◌∙◌, arith}
+use Rattle.std.specs.Prelude.{IfSome}
+use Rattle.std.specs.Option.{option_map}
+use Rattle.std.specs.Result.{IsErrAnd}
+use Rattle.desk_io.specs.Desk as found
+use Rattle.desk_io.specs.Desk.{Contents, DeskState, Found, Finds, IsShort, after_answer, as_before, called, file_at, found_of}
+use Rattle.txflash.specs.Fate.{Fate, Missing, TooLong}
+use Rattle.txflash.specs.Steps.{IsFate}
+use Rattle.txflash.specs.Stops.{Fetches, StopsBy, Works, WorksTo, refused}
+use Rattle.txflash.specs.Top.{after_loads}
+use Rattle.txflash.specs.Words.{Asked, files_of}
+use Rattle.txflash.specs.declared.outcome.Outcome.{Outcome}
+use Rattle.txflash.specs.declared.outcome.Stop.{Stop}
+use Rattle.txflash.specs.declared.outcome.Stop.TheVariants as stop
+
+-- a step that is refused in one way is refused in another
+pub stops_by : (P Q : Fate → Type 0) → ((fate : Fate) → P fate → Q fate) → (stopped : Stop) → StopsBy P stopped → StopsBy Q stopped
+stops_by P Q leads (stop.Refused refusal) h = leads (refused refusal) h
+stops_by P Q leads stop.Fault h = h
+stops_by P Q leads stop.Memory h = h
+
+-- the work stops where a step does
+pub stopped : (P Q : Fate → Type 0) (result : Result Outcome Stop) (e : Stop) → IsErrAnd result (λ x. x ≡ e) →
+    ((fate : Fate) → P fate → Q fate) → StopsBy P e → WorksTo Q result
+stopped P Q (Ok outcome) e same leads h = absurd same
+stopped P Q (Err x) e same leads h = stops_by P Q leads x (rw same h)
+
+-- after its loads, the work of a task comes to what its last part comes to
+pub works : (task : Option Asked) (old new : DeskState) (n : ℕ) (comes : Fate → Type 0) (result : Result Outcome Stop) →
+    new ≡ after_loads n old → n ≤ files_of task → ((fate : Fate) → comes fate → IsFate task old fate n) →
+    WorksTo comes result → Works task old new result
+works task old new n comes (Ok outcome) loaded most leads h = (h.0, (n, leads h.0 h.1, loaded), h.2, h.3)
+works task old new n comes (Err (stop.Refused refusal)) loaded most leads h = (n, leads (refused refusal) h, loaded)
+works task old new n comes (Err stop.Fault) loaded most leads h = absurd h
+works task old new n comes (Err stop.Memory) loaded most leads h = (n, most, loaded)
+
+-- the work of a task ends where a load gives no bytes
+unfetched_by : (task : Option Asked) (old mid new : DeskState) (n : ℕ) (name : List ℕ) (stopped : Stop) →
+    mid ≡ after_loads n old → n < files_of task →
+    (Finds mid name found.Missing → IsFate task old (Missing name) (suc n)) →
+    (Finds mid name found.TooLong → IsFate task old (TooLong name) (suc n)) →
+    Fetches mid new name (Err stopped) → Works task old new (Err stopped)
+unfetched_by task old mid new n name (stop.Refused refusal) loaded most missing long h =
+    let after : new ≡ after_loads (suc n) old = h.0 ∙ ap (after_answer as_before) loaded in
+    elim h.1 [
+      | inl none ↦ (suc n, rw none.1 (missing none.0), after)
+      | inr much ↦ (suc n, rw much.1 (long much.0), after)
+    ]
+unfetched_by task old mid new n name stop.Fault loaded most missing long h = (n, most, rw (← loaded) h)
+unfetched_by task old mid new n name stop.Memory loaded most missing long h = (n, omega arith, h ∙ loaded)
+
+pub unfetched : (task : Option Asked) (old mid new : DeskState) (n : ℕ) (name : List ℕ) (stopped : Stop) (result : Result Outcome Stop) →
+    IsErrAnd result (λ x. x ≡ stopped) → mid ≡ after_loads n old → n < files_of task →
+    (Finds mid name found.Missing → IsFate task old (Missing name) (suc n)) →
+    (Finds mid name found.TooLong → IsFate task old (TooLong name) (suc n)) →
+    Fetches mid new name (Err stopped) → Works task old new result
+unfetched task old mid new n name stopped (Ok outcome) same loaded most missing long h = absurd same
+unfetched task old mid new n name stopped (Err x) same loaded most missing long h =
+    rw same (unfetched_by task old mid new n name stopped loaded most missing long h)
+
+-- a load changes no file
+found_before : (told : Option Contents) (name : List ℕ) (found : Found) →
+    IfSome (option_map (called as_before) told) (λ c. found_of (file_at c.files name) ≡ found) →
+    IfSome told (λ c. found_of (file_at c.files name) ≡ found)
+found_before None name found h = h
+found_before (Some c) name found h = h
+
+-- what is found after a load was there before it
+pub finds_before : (old mid : DeskState) (name : List ℕ) (found : Found) → mid ≡ after_answer as_before old →
+    Finds mid name found → Finds old name found
+finds_before old mid name found e h =
+    let now : Finds (after_answer as_before old) name found = rw e at h in
+    (now.0, found_before old.told name found now.1)

@@ -1,8 +1,0 @@
-use Rattle.txflash.proofs.Unbroken.{command_fine, run_fine}
-use Rattle.txflash.proofs.laws.unbroken_runs.Goals as goal
-
-pub returns-clause-command : goal.returns-clause-command
-returns-clause-command c = command_fine
-
-pub returns-clause-run : goal.returns-clause-run
-returns-clause-run c = run_fine

@@ -1,0 +1,75 @@
+-- What the work gives: the bytes of a file that is saved, if one is, and what is said then.
+use Rattle.std.specs.Prelude.{◌≡◌, ℕ, List, ◌++◌, length, codes, Option, None, Some}
+use Rattle.std.specs.Fmt.{decimal}
+use Rattle.tx_types.specs.declared.config.Config.{Config}
+use Rattle.tx_types.specs.declared.config.Protocol.{Protocol}
+use Rattle.tx_types.specs.declared.config.Protocol.TheVariants.{Scc}
+use Rattle.tx_types.specs.Config.{shape_of, slots_of}
+use Rattle.flash_model.specs.Flash.{Contents}
+use Rattle.version_index.specs.Images.{IsSoundImage, records_in}
+use Rattle.verdict_report.specs.Report.{report}
+use Rattle.host_protocol.specs.declared.command.Command.{Command}
+use Rattle.image_file.specs.Spelling.{Spells}
+use Rattle.drive_gen.specs.Work.{generated}
+use Rattle.drive_gen.specs.Summary.{summary_line}
+use Rattle.txflash.specs.Fate.{Fate, Tried, Formatted, Ran, Explained, Driven, line, refusal_line}
+use Rattle.txflash.specs.Runs.{IsRun, default_config, blank_image}
+
+-- a file's name and its bytes
+pub record SavedFile : Type 0 where
+  pub name : List ℕ
+  pub bytes : List ℕ
+
+pub record Product : Type 0 where
+  pub saved : Option SavedFile
+  pub text : List ℕ
+
+-- the replies of a run on a fresh default device
+pub record IsTried (commands : List Command) (p : Product) : Type 0 where
+  pub saves_nothing : p.saved ≡ None
+  pub left : List Contents
+  pub run : IsRun (default_config Scc) (blank_image (default_config Scc)) commands left p.text
+
+-- the file of a blank image, and a line with the number of its slots
+pub record IsFormatted (name : List ℕ) (its : Config) (p : Product) : Type 0 where
+  pub bytes : List ℕ
+  pub saves : p.saved ≡ Some (record { name = name; bytes = bytes })
+  pub spelled : Spells bytes its (blank_image its)
+  pub said : p.text ≡ line (codes "formatted " ++ name ++ codes " " ++ decimal (slots_of (shape_of its)))
+
+-- the replies of a run from this image on, and the file of the image with which the run ends, under the same
+-- configuration
+pub record IsRan (name : List ℕ) (its : Config) (image : List Contents) (commands : List Command) (p : Product) : Type 0 where
+  pub bytes : List ℕ
+  pub saves : p.saved ≡ Some (record { name = name; bytes = bytes })
+  pub left : List Contents
+  pub run : IsRun its image commands left p.text
+  pub spelled : Spells bytes its left
+
+-- the report on the records of this image, which is sound
+pub record IsExplained (its : Config) (image : List Contents) (p : Product) : Type 0 where
+  pub saves_nothing : p.saved ≡ None
+  pub sound : IsSoundImage its.protocol its.logical (shape_of its) image
+  pub said : p.text ≡ report its.protocol (records_in its.protocol image) its.logical
+
+-- the summary of the replies of a run over the commands that are drawn, on a fresh default device of this protocol
+pub record IsDriven (start count : ℕ) (its : Protocol) (p : Product) : Type 0 where
+  pub saves_nothing : p.saved ≡ None
+  pub left : List Contents
+  pub replies : List ℕ
+  pub run : IsRun (default_config its) (blank_image (default_config its)) (generated start count (default_config its)) left replies
+  pub said : p.text ≡ summary_line start count its (length (generated start count (default_config its))) replies
+
+-- a line, and no file
+pub record IsRefused (text : List ℕ) (p : Product) : Type 0 where
+  pub saves_nothing : p.saved ≡ None
+  pub said : p.text ≡ text
+
+-- what a fate gives
+abbrev pub Gives : Fate → Product → Type 0
+Gives (Tried commands) p = IsTried commands p
+Gives (Formatted name its) p = IsFormatted name its p
+Gives (Ran name its image commands) p = IsRan name its image commands p
+Gives (Explained its image) p = IsExplained its image p
+Gives (Driven start count its) p = IsDriven start count its p
+Gives refused p = IsRefused (refusal_line refused) p

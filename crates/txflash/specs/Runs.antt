@@ -1,0 +1,51 @@
+-- Serving commands on a device from an image on, on a flash that breaks only where the commands arm it.
+use Rattle.std.specs.Prelude.{◌≡◌, ℕ, List, [], ◌∷◌, replicate}
+use Rattle.tx_types.specs.declared.config.Config.{Config}
+use Rattle.tx_types.specs.declared.config.Protocol.{Protocol}
+use Rattle.tx_types.specs.Config.{shape_of, slots_of}
+use Rattle.flash_model.specs.Flash.{Contents, blank}
+use Rattle.flash_model.specs.Operations.{Moment}
+use Rattle.version_index.specs.Images.{IsSoundImage}
+use Rattle.host_protocol.specs.declared.command.Command.{Command}
+use Rattle.host_protocol.specs.declared.reply.Reply.{Reply}
+use Rattle.cut_replay.specs.Run.{RunState}
+use Rattle.cut_replay.specs.FlashRun.{Point, IsFlashRun, last_moment}
+use Rattle.cut_replay.specs.Watching.{text_of_all}
+use Rattle.cut_replay.specs.Bounds.{AreFew}
+
+-- the device of `try` and `drive`
+abbrev pub default_config : Protocol → Config
+default_config protocol = record {
+  protocol = protocol;
+  page_bytes = 16;
+  pages_per_block = 4;
+  blocks_per_die = 4;
+  dies = 2;
+  logical = 20;
+  pending = 7;
+}
+
+-- the image of a device on which nothing was programmed
+abbrev pub blank_image : Config → List Contents
+blank_image its = replicate (slots_of (shape_of its)) blank
+
+-- the image of a device when it is served, with nothing counted
+abbrev pub first_moment : List Contents → Moment
+first_moment its_image = record { image = its_image; programs = 0; erases = 0 }
+
+-- the state of the array machine where a run ends
+abbrev pub last_state : RunState → List Point → RunState
+last_state from [] = from
+last_state from (p ∷ ps) = last_state p.state ps
+
+-- The image is sound, and there is a run on a flash over these commands, from it on, with nothing counted. The run ends
+-- with that image, and the text is that of its replies. Among the replies to the first so many commands there are at
+-- most as many cuts and faults as were armed among these.
+pub record IsRun (its : Config) (image : List Contents) (commands : List Command) (left : List Contents) (text : List ℕ) : Type 0 where
+  pub sound : IsSoundImage its.protocol its.logical (shape_of its) image
+  pub replies : List Reply
+  pub points : List Point
+  pub run : IsFlashRun its (first_moment image) commands replies points
+  pub last : left ≡ (last_moment (first_moment image) points).image
+  pub said : text ≡ text_of_all replies
+  pub few : AreFew 0 0 commands replies

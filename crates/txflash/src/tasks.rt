@@ -1,0 +1,171 @@
+ghost use Rattle.std.specs.Prelude.{◌≡◌, ◌≤◌, ◌++◌, Some, IfOk, codes, length};
+ghost use Rattle.std.specs.Fmt.{decimal};
+ghost use Rattle.desk_io.specs.Desk.{DeskState, max_file_bytes};
+ghost use Rattle.txflash.specs.Fate.{Driven, line};
+ghost use Rattle.txflash.specs.Steps.{Explaining, Running, Trying, formatting};
+ghost use Rattle.txflash.specs.Stops.{Fetches, Works, WorksTo};
+ghost use Rattle.txflash.specs.Words.{Drive, Explain, Format, Run, Try};
+ghost use Rattle.tx_types.specs.Config.{checked};
+
+use crate::devices::{
+    Session, blank_flash, default_config, explained, read_commands, read_device, served,
+};
+use crate::outcome::{File, Outcome, Stop, Text};
+use crate::refusal::Refusal;
+use desk_io::{Desk, LoadError};
+use drive_gen::{commands, summary};
+use image_file::write_image;
+use std::alloc::{AllocError, Global};
+use tx_types::{Config, Protocol};
+
+/// Serves the commands of a file on a fresh device.
+pub fn to_try<'a, D: Desk>(
+    alloc: Global,
+    name: &'a str,
+    desk: &mut D,
+) -> Result<Outcome<'a>, Stop<'a>>
+    ensures { Works (Some (Try name.now)) (D.state desk.old) (D.state desk.new) result }
+{
+    let lines = fetch(name, desk)?;
+    tried(alloc, &lines)
+}
+
+/// Serves the commands of a file on the device of an image file, which is then saved.
+pub fn to_run<'a, D: Desk>(
+    alloc: Global,
+    image: &'a str,
+    script: &'a str,
+    desk: &mut D,
+) -> Result<Outcome<'a>, Stop<'a>>
+    ensures { Works (Some (Run image.now script.now)) (D.state desk.old) (D.state desk.new) result }
+{
+    let bytes = fetch(image, desk)?;
+    let lines = fetch(script, desk)?;
+    ran(alloc, image, &bytes, &lines)
+}
+
+/// Reports on the records of an image file.
+pub fn to_explain<'a, D: Desk>(
+    alloc: Global,
+    image: &'a str,
+    desk: &mut D,
+) -> Result<Outcome<'a>, Stop<'a>>
+    ensures { Works (Some (Explain image.now)) (D.state desk.old) (D.state desk.new) result }
+{
+    let bytes = fetch(image, desk)?;
+    reported(alloc, &bytes)
+}
+
+/// The bytes of a file.
+fn fetch<'a, D: Desk>(name: &'a str, desk: &mut D) -> Result<Vec<u8>, Stop<'a>>
+    ensures { Fetches (D.state desk.old) (D.state desk.new) name.now result }
+{
+    desk.load(name).map_err(|error| match error {
+        LoadError::Missing => Stop::Refused(Refusal::Missing(name)),
+        LoadError::TooLong => Stop::Refused(Refusal::TooLong(name)),
+        LoadError::Failed => Stop::Fault,
+        LoadError::Memory => Stop::Memory,
+    })
+}
+
+/// What a try gives, from the bytes of its commands on.
+fn tried<'a>(alloc: Global, lines: &[u8]) -> Result<Outcome<'a>, Stop<'a>>
+    requires { length lines.now ≤ max_file_bytes }
+    ensures { WorksTo (Trying lines.now) result }
+{
+    let config = default_config(Protocol::Scc);
+    let list = read_commands(alloc, lines, config.page_bytes)?;
+    let flash = blank_flash(alloc, config)?;
+    let Session { replies, .. } = served(alloc, flash, config, &list)?;
+    Ok(Outcome {
+        saved: None,
+        text: Text::Replies(replies),
+    })
+}
+
+/// What a run gives, from the bytes of its files on.
+fn ran<'a>(
+    alloc: Global,
+    name: &'a str,
+    bytes: &[u8],
+    lines: &[u8],
+) -> Result<Outcome<'a>, Stop<'a>>
+    requires { length lines.now ≤ max_file_bytes }
+    ensures { WorksTo (Running name.now bytes.now lines.now) result }
+{
+    let (config, flash) = read_device(alloc, bytes)?;
+    let list = read_commands(alloc, lines, config.page_bytes)?;
+    let Session { flash, replies } = served(alloc, flash, config, &list)?;
+    let saved = write_image(alloc, &config, &flash)?;
+    Ok(Outcome {
+        saved: Some(File { name, bytes: saved }),
+        text: Text::Replies(replies),
+    })
+}
+
+/// What an explanation gives, from the bytes of its image on.
+fn reported<'a>(alloc: Global, bytes: &[u8]) -> Result<Outcome<'a>, Stop<'a>>
+    ensures { WorksTo (Explaining bytes.now) result }
+{
+    let (config, flash) = read_device(alloc, bytes)?;
+    let report = explained(alloc, flash, config)?;
+    Ok(Outcome {
+        saved: None,
+        text: Text::Line(report),
+    })
+}
+
+/// The image of a blank device, and a line that says so.
+pub fn formatted<'a>(alloc: Global, name: &'a str, config: Config) -> Result<Outcome<'a>, Stop<'a>>
+    ensures { WorksTo (λ fate. fate ≡ formatting name.now config (checked config)) result }
+{
+    let shape = match config.check() {
+        Ok(shape) => shape,
+        Err(rule) => return Err(Stop::Refused(Refusal::BadConfiguration(rule))),
+    };
+    let flash = blank_flash(alloc, config)?;
+    let bytes = write_image(alloc, &config, &flash)?;
+    let line = formatted_line(alloc, name, shape.slots())?;
+    Ok(Outcome {
+        saved: Some(File { name, bytes }),
+        text: Text::Line(line),
+    })
+}
+
+/// The line that says that a file has the image of a blank device of so many slots.
+fn formatted_line(alloc: Global, name: &str, slots: u32) -> Result<Vec<u8>, AllocError>
+    ensures { IfOk result (λ words. words.items ≡
+        line (codes "formatted " ++ name.now ++ codes " " ++ decimal slots)) }
+{
+    let line = format!(in alloc; "formatted {name} {slots}\n")?;
+    Ok(line.into_bytes())
+}
+
+/// The summary of the replies to commands that are drawn.
+pub fn driven<'a>(
+    alloc: Global,
+    start: u64,
+    count: u32,
+    protocol: Protocol,
+) -> Result<Outcome<'a>, Stop<'a>>
+    ensures { WorksTo (λ fate. fate ≡ Driven start count protocol) result }
+{
+    let config = default_config(protocol);
+    let list = commands(alloc, start, count, config)?;
+    let flash = blank_flash(alloc, config)?;
+    let Session { replies, .. } = served(alloc, flash, config, &list)?;
+    let mut line = Vec::new(alloc);
+    summary(
+        alloc,
+        start,
+        count,
+        protocol,
+        &list,
+        replies.as_slice(),
+        &mut line,
+    )?;
+    Ok(Outcome {
+        saved: None,
+        text: Text::Line(line),
+    })
+}

@@ -1,0 +1,366 @@
+//! The statuses: which words, files and failing calls of the desk they come from.
+use super::images::default_image;
+use super::{FORMAT, RUN, call, desk, lines};
+use desk_io::MemDesk;
+use std::test::Fail;
+
+/// Words, what is said, and the status, on a desk with an image `d.img` of a default device, a cut off image
+/// `short.img`, commands `c.txt`, and a file `bad.txt` whose fourth line is no command.
+type Call = (&'static [&'static str], &'static str, u8);
+
+const CALLS: [Call; 48] = [
+    // Words that are not in the table.
+    (&[], "bad words", 1),
+    (&["--help"], "bad words", 1),
+    (&["try"], "bad words", 1),
+    (&["try", ""], "bad words", 1),
+    (&["try", "c.txt", "c.txt"], "bad words", 1),
+    (&["Try", "c.txt"], "bad words", 1),
+    (&["run", "a"], "bad words", 1),
+    (&["run", "d.img", ""], "bad words", 1),
+    (&["run", "", "c.txt"], "bad words", 1),
+    (&["run", "d.img", "c.txt", "c.txt"], "bad words", 1),
+    (&["explain"], "bad words", 1),
+    (&["explain", ""], "bad words", 1),
+    (&["explain", "d.img", "d.img"], "bad words", 1),
+    (
+        &["format", "n.img", "scc", "16", "4", "4", "2", "20"],
+        "bad words",
+        1,
+    ),
+    (
+        &[
+            "format", "n.img", "scc", "16", "4", "4", "2", "20", "7", "7",
+        ],
+        "bad words",
+        1,
+    ),
+    (
+        &["format", "", "scc", "16", "4", "4", "2", "20", "7"],
+        "bad words",
+        1,
+    ),
+    (
+        &["format", "n.img", "SCC", "16", "4", "4", "2", "20", "7"],
+        "bad words",
+        1,
+    ),
+    (
+        &["format", "n.img", "scc", "+16", "4", "4", "2", "20", "7"],
+        "bad words",
+        1,
+    ),
+    (
+        &["format", "n.img", "scc", "16", "4", "4", "2", "20", ""],
+        "bad words",
+        1,
+    ),
+    (
+        &[
+            "format",
+            "n.img",
+            "scc",
+            "16",
+            "4",
+            "4",
+            "2",
+            "20",
+            "4294967296",
+        ],
+        "bad words",
+        1,
+    ),
+    (
+        &[
+            "format",
+            "n.img",
+            "scc",
+            "00000000016",
+            "4",
+            "4",
+            "2",
+            "20",
+            "7",
+        ],
+        "bad words",
+        1,
+    ),
+    (&["drive", "1", "0"], "bad words", 1),
+    (&["drive", "1", "0", "scc", "scc"], "bad words", 1),
+    (&["drive", "1", "0", "both"], "bad words", 1),
+    (&["drive", "1", "100001", "scc"], "bad words", 1),
+    (
+        &["drive", "18446744073709551616", "0", "scc"],
+        "bad words",
+        1,
+    ),
+    (
+        &["drive", "000000000000000000001", "0", "scc"],
+        "bad words",
+        1,
+    ),
+    (&["drive", "-1", "0", "scc"], "bad words", 1),
+    // The first step that fails decides.
+    (&["run", "no.img", "no.txt"], "no file no.img", 2),
+    (&["run", "short.img", "no.txt"], "no file no.txt", 2),
+    (&["run", "short.img", "bad.txt"], "bad image: length", 3),
+    (&["run", "c.txt", "bad.txt"], "bad image: short", 3),
+    (&["run", "d.img", "bad.txt"], "bad line 4", 4),
+    (&["try", "no.txt"], "no file no.txt", 2),
+    (&["try", "bad.txt"], "bad line 4", 4),
+    (&["try", "long.txt"], "file too long long.txt", 9),
+    (&["run", "long.txt", "no.txt"], "file too long long.txt", 9),
+    (&["explain", "no.img"], "no file no.img", 2),
+    (&["explain", "short.img"], "bad image: length", 3),
+    (&["explain", "long.txt"], "file too long long.txt", 9),
+    // Numbers of no device.
+    (
+        &["format", "n.img", "scc", "16", "4", "4", "2", "21", "7"],
+        "bad configuration: space",
+        8,
+    ),
+    (
+        &[
+            "format", "n.img", "scc", "2048", "256", "256", "1", "60000", "256",
+        ],
+        "bad configuration: slots",
+        8,
+    ),
+    (
+        &["format", "n.img", "scc", "24", "4", "4", "2", "20", "7"],
+        "bad configuration: page",
+        8,
+    ),
+    (
+        &["format", "n.img", "bpcc", "16", "1", "4", "2", "20", "7"],
+        "bad configuration: pages",
+        8,
+    ),
+    (
+        &["format", "n.img", "bpcc", "16", "4", "0", "2", "20", "7"],
+        "bad configuration: blocks",
+        8,
+    ),
+    (
+        &["format", "n.img", "bpcc", "16", "4", "4", "17", "20", "7"],
+        "bad configuration: dies",
+        8,
+    ),
+    (
+        &["format", "n.img", "bpcc", "16", "4", "4", "2", "0", "7"],
+        "bad configuration: logical",
+        8,
+    ),
+    (
+        &[
+            "format",
+            "n.img",
+            "bpcc",
+            "16",
+            "4",
+            "4",
+            "2",
+            "20",
+            "4294967295",
+        ],
+        "bad configuration: pending",
+        8,
+    ),
+];
+
+#[test]
+fn words_and_files_decide(rt: HostRuntime) -> Result<(), Fail> {
+    let alloc = rt.alloc();
+    let image = default_image(alloc, 1)?;
+    let short = image.get(..2655).unwrap_or(&image).to_vec(alloc)?;
+    let long = vec![in alloc; b'#'; 134217729]?;
+    let bad = lines(alloc, "read 1; # none; finish 1; raed 1; read 2")?;
+    let mut desk = desk(alloc);
+    desk.put_file("d.img", &image)?;
+    desk.put_file("short.img", &short)?;
+    desk.put_file("c.txt", b"read 1\n")?;
+    desk.put_file("bad.txt", &bad)?;
+    desk.put_file("long.txt", &long)?;
+    for (words, said, status) in CALLS {
+        let before = desk.said().len();
+        assert_eq!(rt; call(alloc, words, &mut desk)?, status, "after {said}");
+        assert_eq!(rt;
+            desk.said().get(before..),
+            Some(lines(alloc, said)?.as_slice())
+        );
+        assert_eq!(rt; desk.file("d.img"), Some(image.as_slice()));
+        assert_eq!(rt; desk.file("n.img"), None);
+    }
+    Ok(())
+}
+
+const DONE: [Call; 3] = [
+    (&["explain", "d.img"], "explained 0", 0),
+    // The summary of generated commands, with leading zeros in the words.
+    (
+        &["drive", "00000000000000000001", "0000000000", "scc"],
+        "drive scc start 1 count 0 commands 61 done 20 aborted 0 cut 0 refused 0 unknown 0 programs 20 erases 0 sum 210",
+        0,
+    ),
+    (
+        &["drive", "1", "0", "bpcc"],
+        "drive bpcc start 1 count 0 commands 61 done 20 aborted 0 cut 0 refused 0 unknown 0 programs 20 erases 0 sum 210",
+        0,
+    ),
+];
+
+#[test]
+fn explains_and_drives(rt: HostRuntime) -> Result<(), Fail> {
+    let alloc = rt.alloc();
+    for (words, said, status) in DONE {
+        let mut desk = desk(alloc);
+        desk.put_file("d.img", &default_image(alloc, 2)?)?;
+        assert_eq!(rt; call(alloc, words, &mut desk)?, status, "after {said}");
+        assert_eq!(rt; desk.said(), lines(alloc, said)?.as_slice());
+    }
+    Ok(())
+}
+
+#[test]
+fn drives_alike_at_each_run(rt: HostRuntime) -> Result<(), Fail> {
+    let alloc = rt.alloc();
+    let mut said = Vec::new(alloc);
+    for _ in 0..2 {
+        let mut desk = desk(alloc);
+        assert_eq!(rt; call(alloc, &["drive", "1", "200", "bpcc"], &mut desk)?, 0);
+        said.push(desk.said().to_vec(alloc)?)?;
+    }
+    assert_eq!(rt; said.first(), said.last());
+    Ok(())
+}
+
+#[test]
+fn formats_devices(rt: HostRuntime) -> Result<(), Fail> {
+    let alloc = rt.alloc();
+    let mut desk = desk(alloc);
+    desk.put_file("d.img", b"another file")?;
+    assert_eq!(rt; call(alloc, &FORMAT, &mut desk)?, 0);
+    assert_eq!(rt;
+        desk.file("d.img"),
+        Some(default_image(alloc, 1)?.as_slice())
+    );
+    let ordinary = [
+        "format", "r.img", "bpcc", "512", "64", "0064", "4", "8000", "64",
+    ];
+    assert_eq!(rt; call(alloc, &ordinary, &mut desk)?, 0);
+    assert_eq!(rt; desk.file("r.img").map(|bytes| bytes.len()), Some(9453632));
+    let said = lines(alloc, "formatted d.img 32; formatted r.img 16384")?;
+    assert_eq!(rt; desk.said(), said.as_slice());
+    Ok(())
+}
+
+/// Words, the numbers of the calls of the desk that fail, what is said, and what of the new image is in the file
+/// afterwards: nothing of it, its first half, or all.
+type Failing = (&'static [&'static str], &'static [u32], &'static str, Kept);
+
+#[derive(Clone, Copy)]
+enum Kept {
+    Old,
+    Half,
+    New,
+}
+
+/// A failed call says the first half of its bytes.
+const FAILING: [Failing; 13] = [
+    (&RUN, &[1], "desk fault;", Kept::Old),
+    (&RUN, &[2], "desk fault;", Kept::Old),
+    (&RUN, &[3], "desk fault;", Kept::Half),
+    (
+        &RUN,
+        &[4],
+        "open 1 1; done 1; page 0 41000desk fault;",
+        Kept::New,
+    ),
+    (
+        &RUN,
+        &[4, 5],
+        "open 1 1; done 1; page 0 41000desk ",
+        Kept::New,
+    ),
+    (&RUN, &[1, 2], "desk ", Kept::Old),
+    (&RUN, &[3, 4], "desk ", Kept::Half),
+    (&["try", "c.txt"], &[1], "desk fault;", Kept::Old),
+    (
+        &["try", "c.txt"],
+        &[2],
+        "open 1 1; done 1; page 0 41000desk fault;",
+        Kept::Old,
+    ),
+    (&["explain", "d.img"], &[1], "desk fault;", Kept::Old),
+    (&["explain", "d.img"], &[2], "explaidesk fault;", Kept::Old),
+    (
+        &["drive", "1", "0", "both"],
+        &[1],
+        "bad wdesk fault;",
+        Kept::Old,
+    ),
+    (&["try", "no.txt"], &[2], "no filedesk fault;", Kept::Old),
+];
+
+/// The bytes of a text that has a semicolon at the end of each line.
+fn cut_lines(alloc: std::alloc::Global, text: &str) -> Result<Vec<u8>, Fail> {
+    let mut all = Vec::new(alloc);
+    let mut begins = false;
+    for byte in text.as_bytes() {
+        match byte {
+            b';' => {
+                all.push(b'\n')?;
+                begins = true;
+            }
+            b' ' if begins => begins = false,
+            _ => {
+                all.push(*byte)?;
+                begins = false;
+            }
+        }
+    }
+    Ok(all)
+}
+
+#[test]
+fn each_call_of_the_desk_may_fail(rt: HostRuntime) -> Result<(), Fail> {
+    let alloc = rt.alloc();
+    let image = default_image(alloc, 1)?;
+    let commands = b"write 1 0=41\nfinish 1\nread 0\n";
+    let mut served = desk(alloc);
+    served.put_file("d.img", &image)?;
+    served.put_file("c.txt", commands)?;
+    assert_eq!(rt; call(alloc, &RUN, &mut served)?, 0);
+    let new = served.file("d.img").unwrap_or(b"").to_vec(alloc)?;
+    assert!(rt; new != image);
+    for (words, fails, said, kept) in FAILING {
+        let mut desk = MemDesk::new(alloc, fails.to_vec(alloc)?);
+        desk.put_file("d.img", &image)?;
+        desk.put_file("c.txt", commands)?;
+        assert_eq!(rt; call(alloc, words, &mut desk)?, 5, "after {said}");
+        assert_eq!(rt; desk.said(), cut_lines(alloc, said)?.as_slice());
+        let left = match kept {
+            Kept::Old => Some(image.as_slice()),
+            Kept::Half => new.get(..1328),
+            Kept::New => Some(new.as_slice()),
+        };
+        assert_eq!(rt; desk.file("d.img"), left, "after {said}");
+    }
+    Ok(())
+}
+
+#[test]
+fn a_format_may_fail(rt: HostRuntime) -> Result<(), Fail> {
+    let alloc = rt.alloc();
+    let image = default_image(alloc, 1)?;
+    let mut desk = MemDesk::new(alloc, vec![in alloc; 1, 4]?);
+    assert_eq!(rt; call(alloc, &FORMAT, &mut desk)?, 5);
+    assert_eq!(rt; desk.file("d.img"), image.get(..1328));
+    assert_eq!(rt; call(alloc, &FORMAT, &mut desk)?, 5);
+    assert_eq!(rt; desk.file("d.img"), Some(image.as_slice()));
+    assert_eq!(rt;
+        desk.said(),
+        b"desk fault\nformatteddesk fault\n".as_slice()
+    );
+    Ok(())
+}

@@ -1,0 +1,247 @@
+//! Images that are not sound, images that are cut off, and commands on images that nearly are not sound.
+use super::images::{Record, cell, default_image, image_with, put, put_complete};
+use super::{RUN, call, desk, lines};
+use desk_io::MemDesk;
+use std::alloc::Global;
+use std::test::Fail;
+
+/// The protocol of an image, its records, what a run without commands says, and what an explanation says.
+type Broken = (u8, &'static [Record], &'static str);
+
+const BROKEN: [Broken; 9] = [
+    (1, &[(0, 20, 1, (0, 1), 0)], "unsound law 1 slot 0"),
+    (
+        1,
+        &[(0, 0, 1, (0, 1), 0), (1, 0, 1, (1, 1), 0)],
+        "unsound law 2 slot 1",
+    ),
+    (
+        1,
+        &[(0, 0, 1, (1, 2), 0), (1, 1, 3, (2, 1), 0)],
+        "unsound law 5 slot 0",
+    ),
+    (2, &[(0, 0, 5, (1, 7), 3)], "unsound law 4 slot 0"),
+    (
+        2,
+        &[
+            (0, 0, 1, (1, 1), 0),
+            (1, 0, 2, (2, 9), 1),
+            (2, 1, 2, (1, 2), 0),
+        ],
+        "unsound law 5 slot 0",
+    ),
+    (
+        2,
+        &[
+            (0, 0, 1, (0, 1), 0),
+            (1, 0, 3, (1, 5), 2),
+            (2, 0, 4, (2, 5), 1),
+        ],
+        "unsound law 6 slot 1",
+    ),
+    (
+        2,
+        &[
+            (0, 0, 1, (0, 1), 0),
+            (1, 0, 2, (0, 2), 1),
+            (2, 0, 3, (1, 9), 1),
+        ],
+        "unsound law 7 slot 1",
+    ),
+    (
+        1,
+        &[
+            (0, 0, 1, (0, 1), 0),
+            (4, 1, 1, (1, 1), 0),
+            (8, 2, 1, (2, 1), 0),
+            (12, 3, 1, (3, 1), 0),
+            (16, 4, 1, (4, 1), 0),
+            (20, 5, 1, (5, 1), 0),
+            (24, 6, 1, (6, 1), 0),
+            (28, 7, 1, (7, 1), 0),
+        ],
+        "unsound law 8 slot 0",
+    ),
+    // A link has a version of at least 1.
+    (1, &[(3, 0, 1, (0, 0), 0)], "unsound law 1 slot 3"),
+];
+
+/// A desk with an image and commands.
+fn desk_with(alloc: Global, image: &[u8], commands: &str) -> Result<MemDesk, Fail> {
+    let mut desk = desk(alloc);
+    desk.put_file("d.img", image)?;
+    desk.put_file("c.txt", &lines(alloc, commands)?)?;
+    Ok(desk)
+}
+
+#[test]
+fn images_that_are_not_sound_are_refused(rt: HostRuntime) -> Result<(), Fail> {
+    let alloc = rt.alloc();
+    let mut images = Vec::new(alloc);
+    for (protocol, records, line) in BROKEN {
+        images.push((image_with(alloc, protocol, 0, records)?, line))?;
+    }
+    let mut zeros = default_image(alloc, 1)?;
+    put_complete(&mut zeros, 3, &[0; 16], &[0; 64]);
+    images.push((zeros, "unsound law 1 slot 3"))?;
+    let copies = [(0, 0, 1, (0, 1), 0), (5, 0, 1, (0, 1), 0)];
+    let mut differ = image_with(alloc, 1, 0, &copies)?;
+    put(&mut differ, cell(5), &[1]);
+    images.push((differ, "unsound law 2 slot 5"))?;
+    for (image, line) in &images {
+        for words in [RUN.as_slice(), ["explain", "d.img"].as_slice()] {
+            let mut desk = desk_with(alloc, image, "")?;
+            assert_eq!(rt; call(alloc, words, &mut desk)?, 7, "after {line}");
+            assert_eq!(rt; desk.said(), lines(alloc, line)?.as_slice());
+            assert_eq!(rt; desk.file("d.img"), Some(image.as_slice()));
+        }
+        // A line that is no command comes before the laws.
+        let mut desk = desk_with(alloc, image, "read 1; reed 1")?;
+        assert_eq!(rt; call(alloc, &RUN, &mut desk)?, 4);
+        assert_eq!(rt; desk.said(), b"bad line 2\n".as_slice());
+    }
+    Ok(())
+}
+
+/// The records of an image whose pages have this byte, commands, and the replies to them.
+type Served = (u8, &'static [Record], &'static str, &'static str);
+
+const SERVED: [Served; 2] = [
+    // Each block but one has a current record.
+    (
+        0,
+        &[
+            (0, 0, 1, (0, 1), 0),
+            (4, 1, 1, (1, 1), 0),
+            (8, 2, 1, (2, 1), 0),
+            (12, 3, 1, (3, 1), 0),
+            (16, 4, 1, (4, 1), 0),
+            (20, 5, 1, (5, 1), 0),
+            (24, 6, 1, (6, 1), 0),
+        ],
+        "stats; write 1 0=99; finish 1; stats",
+        "stats written 7 open 0 pending 0 programs 0 erases 0 garbage 21; open 1 1; done 1; \
+         stats written 7 open 0 pending 0 programs 2 erases 1 garbage 19",
+    ),
+    // A page that has no version left.
+    (
+        0x55,
+        &[(0, 0, 4611686018427387904, (0, 4611686018427387904), 0)],
+        "read 0; write 1 0=01; write 1 1=01",
+        "page 0 55555555555555555555555555555555; refused spent 0; open 1 1",
+    ),
+];
+
+#[test]
+fn images_at_the_edge_are_served(rt: HostRuntime) -> Result<(), Fail> {
+    let alloc = rt.alloc();
+    for (byte, records, commands, replies) in SERVED {
+        let image = image_with(alloc, 1, byte, records)?;
+        let mut desk = desk_with(alloc, &image, commands)?;
+        assert_eq!(rt; call(alloc, &RUN, &mut desk)?, 0);
+        assert_eq!(rt; desk.said(), lines(alloc, replies)?.as_slice());
+    }
+    Ok(())
+}
+
+#[test]
+fn an_image_is_refused_at_every_shorter_length(rt: HostRuntime) -> Result<(), Fail> {
+    let alloc = rt.alloc();
+    let image = default_image(alloc, 1)?;
+    for length in 0..2656 {
+        let front = image.get(..length).unwrap_or(&image);
+        let mut desk = desk_with(alloc, front, "")?;
+        let line = if length < 64 {
+            "bad image: short"
+        } else {
+            "bad image: length"
+        };
+        assert_eq!(rt; call(alloc, &RUN, &mut desk)?, 3, "{length} bytes");
+        assert_eq!(rt;
+            desk.said(),
+            lines(alloc, line)?.as_slice(),
+            "{length} bytes"
+        );
+        assert_eq!(rt; desk.file("d.img"), Some(front));
+    }
+    Ok(())
+}
+
+/// A place in the bytes of a default image, a byte for it, and the word for the rule that is broken then.
+const REFUSED: [(usize, u8, &str); 9] = [
+    (0, 0, "bad image: magic"),
+    (8, 3, "bad image: protocol"),
+    (36, 1, "bad image: reserved"),
+    (12, 24, "bad image: config"),
+    (28, 21, "bad image: config"),
+    (20, 5, "bad image: length"),
+    (73, 3, "bad image: state 9"),
+    (176, 0, "bad image: bytes 1"),
+    (66, 2, "bad image: bytes 2"),
+];
+
+#[test]
+fn an_image_of_other_bytes_is_refused(rt: HostRuntime) -> Result<(), Fail> {
+    let alloc = rt.alloc();
+    for (place, byte, line) in REFUSED {
+        let mut image = default_image(alloc, 1)?;
+        put(&mut image, place, &[byte]);
+        let mut desk = desk_with(alloc, &image, "read 1; reed 1")?;
+        assert_eq!(rt; call(alloc, &RUN, &mut desk)?, 3, "after {line}");
+        assert_eq!(rt; desk.said(), lines(alloc, line)?.as_slice());
+    }
+    Ok(())
+}
+
+/// The commands that fill a device of three small blocks.
+const FILL: &str =
+    "write 1 0=01; finish 1; write 2 1=02; finish 2; write 3 0=03; finish 3; write 4 0=04; finish 4";
+
+/// The words that format it.
+const SMALL: [&str; 9] = ["format", "d.img", "scc", "16", "2", "3", "1", "2", "1"];
+
+/// Whether a text ends in one of these.
+fn ends_in(text: &[u8], ends: &[Vec<u8>]) -> bool {
+    ends.iter().any(|end| text.ends_with(end))
+}
+
+#[test]
+fn power_is_cut_at_every_place_of_a_collection(rt: HostRuntime) -> Result<(), Fail> {
+    let alloc = rt.alloc();
+    for what in ["none", "all", "bad"] {
+        let mut due = Vec::new(alloc);
+        for count in 1..9 {
+            let mut commands = lines(alloc, FILL)?;
+            let more = format!(in alloc; "write 5 1=05\ncut {count} {what}\nfinish 5\n")?;
+            commands.extend_from_slice(more.as_bytes())?;
+            let mut desk = desk(alloc);
+            desk.put_file("c.txt", &commands)?;
+            desk.put_file(
+                "e.txt",
+                &lines(alloc, "read 0; read 1; write 5 1=05; finish 5; read 1")?,
+            )?;
+            assert_eq!(rt; call(alloc, &SMALL, &mut desk)?, 0);
+            assert_eq!(rt; call(alloc, &RUN, &mut desk)?, 0);
+            if desk.said().ends_with(b"armed\ncut\n") {
+                due.push(count)?;
+            } else {
+                assert!(rt; desk.said().ends_with(b"armed\ndone 5\n"));
+            }
+            assert_eq!(rt; call(alloc, &["run", "d.img", "e.txt"], &mut desk)?, 0);
+            let ends = vec![in alloc;
+                lines(
+                    alloc,
+                    "page 0 04..; page 1 02..; open 5 1; done 5; page 1 05.."
+                )?,
+                lines(
+                    alloc,
+                    "page 0 04..; page 1 05..; open 5 1; done 5; page 1 05.."
+                )?,
+            ]?;
+            assert!(rt; ends_in(desk.said(), &ends), "cut {count} {what}");
+        }
+        // The write takes three operations: a copy, an erase and its own program.
+        assert_eq!(rt; due.as_slice(), [1, 2, 3].as_slice(), "{what}");
+    }
+    Ok(())
+}
