@@ -141,8 +141,8 @@ const BEFORE: [Call; 6] = [
     Step(3),
 ];
 
-/// A fault at the copy or at the erase, with pages that are read while it is not known what it left,
-/// and the answer to the collection after it.
+/// A fault at the copy or at the erase, with pages that are read while it is not known what it
+/// left, and the answer to the collection after it.
 const UNSURE: [(u32, Outcome, &str); 6] = [
     (1, Nothing, "fault; 3; 2; collected; 3; 2"),
     (1, All, "fault; 3; 2; collected; 3; 2"),

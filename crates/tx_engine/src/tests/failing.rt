@@ -17,8 +17,8 @@ use std::process::Abort;
 use std::test::Fail;
 use tx_types::{Block, Config, Shape, Slot};
 
-/// A flash of which one call fails, whether it reads, programs or erases. It does not tell what is to
-/// come.
+/// A flash of which one call fails, whether it reads, programs or erases. It does not tell what is
+/// to come.
 #[derive(Debug, Drop)]
 struct Failing {
     flash: MemFlash,

@@ -119,8 +119,8 @@ const REWRITTEN: [Row; 3] = [
     ),
 ];
 
-/// Power cuts: at the last program of a transaction and before it, and in a collection at a copy, at
-/// a copy after the spare was erased, and at the erase of the block.
+/// Power cuts: at the last program of a transaction and before it, and in a collection at a copy,
+/// at a copy after the spare was erased, and at the erase of the block.
 const CUTS: [Row; 5] = [
     (
         SIMPLE,
