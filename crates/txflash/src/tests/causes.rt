@@ -2,171 +2,62 @@
 use super::images::default_image;
 use super::{FORMAT, RUN, call, desk, lines};
 use desk_io::MemDesk;
+use std::alloc::Global;
 use std::test::Fail;
 
-/// Words, what is said, and the status, on a desk with an image `d.img` of a default device, a cut off image
-/// `short.img`, commands `c.txt`, and a file `bad.txt` whose fourth line is no command.
-type Call = (&'static [&'static str], &'static str, u8);
-
-const CALLS: [Call; 48] = [
-    // Words that are not in the table.
-    (&[], "bad words", 1),
-    (&["--help"], "bad words", 1),
-    (&["try"], "bad words", 1),
-    (&["try", ""], "bad words", 1),
-    (&["try", "c.txt", "c.txt"], "bad words", 1),
-    (&["Try", "c.txt"], "bad words", 1),
-    (&["run", "a"], "bad words", 1),
-    (&["run", "d.img", ""], "bad words", 1),
-    (&["run", "", "c.txt"], "bad words", 1),
-    (&["run", "d.img", "c.txt", "c.txt"], "bad words", 1),
-    (&["explain"], "bad words", 1),
-    (&["explain", ""], "bad words", 1),
-    (&["explain", "d.img", "d.img"], "bad words", 1),
-    (
-        &["format", "n.img", "scc", "16", "4", "4", "2", "20"],
-        "bad words",
-        1,
-    ),
-    (
-        &[
-            "format", "n.img", "scc", "16", "4", "4", "2", "20", "7", "7",
-        ],
-        "bad words",
-        1,
-    ),
-    (
-        &["format", "", "scc", "16", "4", "4", "2", "20", "7"],
-        "bad words",
-        1,
-    ),
-    (
-        &["format", "n.img", "SCC", "16", "4", "4", "2", "20", "7"],
-        "bad words",
-        1,
-    ),
-    (
-        &["format", "n.img", "scc", "+16", "4", "4", "2", "20", "7"],
-        "bad words",
-        1,
-    ),
-    (
-        &["format", "n.img", "scc", "16", "4", "4", "2", "20", ""],
-        "bad words",
-        1,
-    ),
-    (
-        &[
-            "format",
-            "n.img",
-            "scc",
-            "16",
-            "4",
-            "4",
-            "2",
-            "20",
-            "4294967296",
-        ],
-        "bad words",
-        1,
-    ),
-    (
-        &[
-            "format",
-            "n.img",
-            "scc",
-            "00000000016",
-            "4",
-            "4",
-            "2",
-            "20",
-            "7",
-        ],
-        "bad words",
-        1,
-    ),
-    (&["drive", "1", "0"], "bad words", 1),
-    (&["drive", "1", "0", "scc", "scc"], "bad words", 1),
-    (&["drive", "1", "0", "both"], "bad words", 1),
-    (&["drive", "1", "100001", "scc"], "bad words", 1),
-    (
-        &["drive", "18446744073709551616", "0", "scc"],
-        "bad words",
-        1,
-    ),
-    (
-        &["drive", "000000000000000000001", "0", "scc"],
-        "bad words",
-        1,
-    ),
-    (&["drive", "-1", "0", "scc"], "bad words", 1),
-    // The first step that fails decides.
-    (&["run", "no.img", "no.txt"], "no file no.img", 2),
-    (&["run", "short.img", "no.txt"], "no file no.txt", 2),
-    (&["run", "short.img", "bad.txt"], "bad image: length", 3),
-    (&["run", "c.txt", "bad.txt"], "bad image: short", 3),
-    (&["run", "d.img", "bad.txt"], "bad line 4", 4),
-    (&["try", "no.txt"], "no file no.txt", 2),
-    (&["try", "bad.txt"], "bad line 4", 4),
-    (&["try", "long.txt"], "file too long long.txt", 9),
-    (&["run", "long.txt", "no.txt"], "file too long long.txt", 9),
-    (&["explain", "no.img"], "no file no.img", 2),
-    (&["explain", "short.img"], "bad image: length", 3),
-    (&["explain", "long.txt"], "file too long long.txt", 9),
-    // Numbers of no device.
-    (
-        &["format", "n.img", "scc", "16", "4", "4", "2", "21", "7"],
-        "bad configuration: space",
-        8,
-    ),
-    (
-        &[
-            "format", "n.img", "scc", "2048", "256", "256", "1", "60000", "256",
-        ],
-        "bad configuration: slots",
-        8,
-    ),
-    (
-        &["format", "n.img", "scc", "24", "4", "4", "2", "20", "7"],
-        "bad configuration: page",
-        8,
-    ),
-    (
-        &["format", "n.img", "bpcc", "16", "1", "4", "2", "20", "7"],
-        "bad configuration: pages",
-        8,
-    ),
-    (
-        &["format", "n.img", "bpcc", "16", "4", "0", "2", "20", "7"],
-        "bad configuration: blocks",
-        8,
-    ),
-    (
-        &["format", "n.img", "bpcc", "16", "4", "4", "17", "20", "7"],
-        "bad configuration: dies",
-        8,
-    ),
-    (
-        &["format", "n.img", "bpcc", "16", "4", "4", "2", "0", "7"],
-        "bad configuration: logical",
-        8,
-    ),
-    (
-        &[
-            "format",
-            "n.img",
-            "bpcc",
-            "16",
-            "4",
-            "4",
-            "2",
-            "20",
-            "4294967295",
-        ],
-        "bad configuration: pending",
-        8,
-    ),
-];
+/// A line for each call: the status, what is said, and the words, on a desk with an image `d.img` of a default device,
+/// a cut off image `short.img`, commands `c.txt`, and a file `bad.txt` whose fourth line is no command. `''` is the
+/// word without a byte. First words that are not in the table, then calls that the first failing step decides, and
+/// numbers of no device.
+const CALLS: &str = "\
+    1;bad words;\n\
+    1;bad words;--help\n\
+    1;bad words;try\n\
+    1;bad words;try ''\n\
+    1;bad words;try c.txt c.txt\n\
+    1;bad words;Try c.txt\n\
+    1;bad words;run a\n\
+    1;bad words;run d.img ''\n\
+    1;bad words;run '' c.txt\n\
+    1;bad words;run d.img c.txt c.txt\n\
+    1;bad words;explain\n\
+    1;bad words;explain ''\n\
+    1;bad words;explain d.img d.img\n\
+    1;bad words;format n.img scc 16 4 4 2 20\n\
+    1;bad words;format n.img scc 16 4 4 2 20 7 7\n\
+    1;bad words;format '' scc 16 4 4 2 20 7\n\
+    1;bad words;format n.img SCC 16 4 4 2 20 7\n\
+    1;bad words;format n.img scc +16 4 4 2 20 7\n\
+    1;bad words;format n.img scc 16 4 4 2 20 ''\n\
+    1;bad words;format n.img scc 16 4 4 2 20 4294967296\n\
+    1;bad words;format n.img scc 00000000016 4 4 2 20 7\n\
+    1;bad words;drive 1 0\n\
+    1;bad words;drive 1 0 scc scc\n\
+    1;bad words;drive 1 0 both\n\
+    1;bad words;drive 1 100001 scc\n\
+    1;bad words;drive 18446744073709551616 0 scc\n\
+    1;bad words;drive 000000000000000000001 0 scc\n\
+    1;bad words;drive -1 0 scc\n\
+    2;no file no.img;run no.img no.txt\n\
+    2;no file no.txt;run short.img no.txt\n\
+    3;bad image: length;run short.img bad.txt\n\
+    3;bad image: short;run c.txt bad.txt\n\
+    4;bad line 4;run d.img bad.txt\n\
+    2;no file no.txt;try no.txt\n\
+    4;bad line 4;try bad.txt\n\
+    9;file too long long.txt;try long.txt\n\
+    9;file too long long.txt;run long.txt no.txt\n\
+    2;no file no.img;explain no.img\n\
+    3;bad image: length;explain short.img\n\
+    9;file too long long.txt;explain long.txt\n\
+    8;bad configuration: space;format n.img scc 16 4 4 2 21 7\n\
+    8;bad configuration: slots;format n.img scc 2048 256 256 1 60000 256\n\
+    8;bad configuration: page;format n.img scc 24 4 4 2 20 7\n\
+    8;bad configuration: pages;format n.img bpcc 16 1 4 2 20 7\n\
+    8;bad configuration: blocks;format n.img bpcc 16 4 0 2 20 7\n\
+    8;bad configuration: dies;format n.img bpcc 16 4 4 17 20 7\n\
+    8;bad configuration: logical;format n.img bpcc 16 4 4 2 0 7\n\
+    8;bad configuration: pending;format n.img bpcc 16 4 4 2 20 4294967295";
 
 #[test]
 fn words_and_files_decide(rt: HostRuntime) -> Result<(), Fail> {
@@ -181,9 +72,18 @@ fn words_and_files_decide(rt: HostRuntime) -> Result<(), Fail> {
     desk.put_file("c.txt", b"read 1\n")?;
     desk.put_file("bad.txt", &bad)?;
     desk.put_file("long.txt", &long)?;
-    for (words, said, status) in CALLS {
+    for line in CALLS.split('\n') {
+        let mut parts = line.split(';');
+        let status = parts.next().unwrap_or("");
+        let said = parts.next().unwrap_or("");
+        let words = words(alloc, parts.next().unwrap_or(""))?;
         let before = desk.said().len();
-        assert_eq!(rt; call(alloc, words, &mut desk)?, status, "after {said}");
+        let got = call(alloc, &words, &mut desk)?;
+        assert_eq!(rt;
+            format!(in alloc; "{got}")?.as_str(),
+            status,
+            "after {line}"
+        );
         assert_eq!(rt;
             desk.said().get(before..),
             Some(lines(alloc, said)?.as_slice())
@@ -193,6 +93,22 @@ fn words_and_files_decide(rt: HostRuntime) -> Result<(), Fail> {
     }
     Ok(())
 }
+
+/// The words of a text. `''` is the word without a byte.
+fn words(alloc: Global, text: &str) -> Result<Vec<&str>, Fail> {
+    let mut words = Vec::new(alloc);
+    for word in text.split(' ') {
+        match word {
+            "" => {}
+            "''" => words.push("")?,
+            _ => words.push(word)?,
+        }
+    }
+    Ok(words)
+}
+
+/// Words, what is said, and the status.
+type Call = (&'static [&'static str], &'static str, u8);
 
 const DONE: [Call; 3] = [
     (&["explain", "d.img"], "explained 0", 0),
@@ -303,7 +219,7 @@ const FAILING: [Failing; 13] = [
 ];
 
 /// The bytes of a text that has a semicolon at the end of each line.
-fn cut_lines(alloc: std::alloc::Global, text: &str) -> Result<Vec<u8>, Fail> {
+fn cut_lines(alloc: Global, text: &str) -> Result<Vec<u8>, Fail> {
     let mut all = Vec::new(alloc);
     let mut begins = false;
     for byte in text.as_bytes() {
