@@ -107,11 +107,24 @@ impl Known {
         Ok(())
     }
 
-    /// Only arrays stay of which this holds.
-    fn keep(&mut self, holds: impl Fn(Array) -> Result<bool, Fail>) -> Result<(), Fail> {
+    /// Only the arrays stay in which a page reads so.
+    fn keep_read(&mut self, page: u8, reply: &str) -> Result<(), Fail> {
         let mut arrays = Vec::new(self.alloc);
         for array in &self.arrays {
-            if holds(*array)? {
+            let byte = array.get(usize::from(page)).copied().unwrap_or(0);
+            if read_reply(self.alloc, page, byte)?.as_str() == reply {
+                arrays.push(*array)?;
+            }
+        }
+        self.arrays = arrays;
+        Ok(())
+    }
+
+    /// Only the arrays stay in which the pages of a transaction are there, or are not.
+    fn keep_pages(&mut self, pages: &[(u8, u8)], there: bool) -> Result<(), Fail> {
+        let mut arrays = Vec::new(self.alloc);
+        for array in &self.arrays {
+            if (with(*array, pages) == *array) == there {
                 arrays.push(*array)?;
             }
         }
@@ -168,19 +181,13 @@ impl Known {
             (Move::Step(tag), "wrote") => return Ok(self.pages(tag).is_some()),
             (Move::Abort(tag), "aborted" | "late") => match self.pages(tag) {
                 Some(pages) => {
-                    self.keep(|array| Ok((with(array, pages) == array) == (word == "late")))?;
+                    self.keep_pages(pages, word == "late")?;
                     self.close(tag)?;
                 }
                 None => return Ok(false),
             },
             (Move::Write(tag, pages), "open") => self.open.push((tag, pages))?,
-            (Move::Read(page), "blank" | "page") => {
-                let alloc = self.alloc;
-                self.keep(|array| {
-                    let byte = array.get(usize::from(page)).copied().unwrap_or(0);
-                    Ok(read_reply(alloc, page, byte)?.as_str() == reply)
-                })?;
-            }
+            (Move::Read(page), "blank" | "page") => self.keep_read(page, reply)?,
             (Move::Write(..), "refused")
             | (Move::Collect, "collected" | "nothing")
             | (Move::Stats, "stats")

@@ -42,7 +42,7 @@ pub fn cell(slot: u8) -> usize {
 pub fn put_complete(image: &mut [u8], slot: u8, contents: &[u8], spare: &[u8]) {
     put(image, HEADER + usize::from(slot), &[1]);
     put(image, cell(slot), contents);
-    put(image, cell(slot) + 16, spare);
+    put(image, HEADER + SLOTS + usize::from(slot) * CELL + 16, spare);
 }
 
 /// The spare area of a record.
