@@ -49,6 +49,7 @@ carried s count = record {
   shape = refl;
   later = omega arith;
   cause = tt;
+  quiet = refl;
   lives = refl;
   dead = λ off. never off _;
   no_more = tt;

@@ -9,7 +9,7 @@ pub counted_by-twice : (more most n : ℕ) → counted_by most (counted_by more 
 counted_by-twice more most n = omega arith
 
 -- what a flash tells stays told, and no more is to come
-no_more_then : (a b c : Option Told) → BothTell NoMore a b → BothTell NoMore b c → BothTell NoMore a c
+pub no_more_then : (a b c : Option Told) → BothTell NoMore a b → BothTell NoMore b c → BothTell NoMore a c
 no_more_then None None None ab bc = tt
 no_more_then None None (Some z) ab bc = absurd bc
 no_more_then None (Some y) c ab bc = absurd ab
@@ -17,7 +17,8 @@ no_more_then (Some x) None c ab bc = absurd ab
 no_more_then (Some x) (Some y) None ab bc = absurd bc
 no_more_then (Some x) (Some y) (Some z) ab bc = (omega (arith, ab.0, bc.0), omega (arith, ab.1, bc.1))
 
-no_more_same : (a : Option Told) → BothTell NoMore a a
+-- where it tells the same, none more is to come
+pub no_more_same : (a : Option Told) → BothTell NoMore a a
 no_more_same None = tt
 no_more_same (Some x) = (omega arith, omega arith)
 
@@ -36,6 +37,7 @@ Carries-nothing s = record {
   shape = refl;
   later = omega arith;
   cause = tt;
+  quiet = refl;
   lives = refl;
   dead = λ off. refl;
   no_more = no_more_same s.told;
@@ -52,6 +54,7 @@ Carries-then a b c true ab bc = record {
   shape = bc.shape ∙ ab.shape;
   later = omega (arith, ab.later, bc.later);
   cause = omega (arith, ab.later, bc.cause);
+  quiet = tt;
   lives = tt;
   dead = dead_then a b c ab bc;
   no_more = no_more_then a.told b.told c.told ab.no_more bc.no_more;
@@ -61,6 +64,7 @@ Carries-then a b c false ab bc = record {
   shape = bc.shape ∙ ab.shape;
   later = omega (arith, ab.later, bc.later);
   cause = tt;
+  quiet = bc.quiet ∙ ab.quiet;
   lives = bc.lives ∙ ab.lives;
   dead = λ off.
       bc.dead (ab.lives ∙ off) ∙ ap (λ (s : FlashState). record s { faults = c.faults }) (ab.dead off);

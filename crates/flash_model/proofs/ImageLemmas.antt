@@ -117,6 +117,12 @@ pub slot_at-after : (shape : Shape) (image : List Contents) (o : Operation) (k :
     → CanDo shape image o → block_of shape o ≢ k / shape.pages_per_block → slot_at (image_after shape image o) k ≡ slot_at image k
 slot_at-after shape image o k h can other = slot_at-left shape image o outcome.All k h can other
 
+-- and so does one that is broken
+pub slot_at-torn : (shape : Shape) (a b : Moment) (o : Operation) (k : ℕ) → IsImage shape a.image → CanDo shape a.image o
+    → Torn shape a o b → block_of shape o ≢ k / shape.pages_per_block → slot_at b.image k ≡ slot_at a.image k
+slot_at-torn shape a b o k h can torn other =
+    ap (λ (image : List Contents). slot_at image k) torn.image ∙ slot_at-left shape a.image o torn.outcome k h can other
+
 -- operations that stay off a block leave its slots
 pub slot_at-does : (shape : Shape) (a b : Moment) (list : List Operation) (k : ℕ) → IsImage shape a.image → Does shape a list b
     → StayOff shape (k / shape.pages_per_block) list → slot_at b.image k ≡ slot_at a.image k

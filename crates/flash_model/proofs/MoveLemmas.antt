@@ -61,10 +61,6 @@ pub Moves-then : (shape : Shape) (a b c : Moment) (broken : Bool) → Moves shap
 Moves-then shape a b c broken first second =
     Moves-after shape a b c first.done broken (subst (λ (m : Moment). Does shape a first.done m) (sym first.ends) first.does) second
 
--- what was done without a break may come before one
-pub Moves-broken : (shape : Shape) (a b : Moment) → Moves shape a false b → Moves shape a true b
-Moves-broken shape a b moves = Moves-then shape a b b true moves (Moves-nothing shape b true)
-
 -- the same from one state of a flash to another
 pub FlashMoves-nothing : (old new : FlashState) (broken : Bool) → moment_of new ≡ moment_of old → FlashMoves old new broken
 FlashMoves-nothing old new broken same =

@@ -29,12 +29,14 @@ Spends true old new = new.breaks < old.breaks
 Spends false old new = new.cuts < old.cuts
 
 -- What each call of a flash keeps, and each call of what stands on one, which was broken or not: the shape, the count
--- of faults, which does not fall, and what is to come. A call is broken only where the count of faults rises, and only
--- such a call may end being live. On a flash without power nothing but that count changes.
+-- of faults, which does not fall, and what is to come. The count of faults rises where a call is broken, and no other
+-- call changes it. Only a broken call may end being live. On a flash without power nothing but that count changes.
 pub record Carries (old new : FlashState) (broken : Bool) : Type 0 where
   pub shape : new.shape ≡ old.shape
   pub later : old.faults ≤ new.faults
   pub cause : OnTrue broken (Rose old.faults new.faults)
+  -- a call that was answered counts no fault
+  pub quiet : OnFalse broken (new.faults ≡ old.faults)
   pub lives : OnFalse broken (new.live ≡ old.live)
   pub dead : old.live ≡ false → new ≡ record old { faults = new.faults }
   pub no_more : BothTell NoMore old.told new.told

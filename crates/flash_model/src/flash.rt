@@ -25,8 +25,8 @@ pub enum Seen {
 pub struct Broken;
 
 /// A flash. A slot is programmed only while it and all later slots of its block are blank, and a block
-/// is erased whole. A call is broken only where the count of faults rises, and only a broken call may
-/// turn power off. On a flash without power each call is broken and leaves all slots.
+/// is erased whole. The count of faults rises where a call is broken, and no other call changes it. Only
+/// a broken call may turn power off. On a flash without power each call is broken and leaves all slots.
 pub trait Flash {
     /// What the flash is: its shape, its slots, whether it is live, and its counts.
     ghost state: { Self → FlashState };

@@ -1,11 +1,11 @@
 //! What holds of the calls of each flash. The functions do nothing: each is there for what it ensures.
-ghost use Rattle.std.specs.Prelude.{◌≡◌, Bool, false, Result};
+ghost use Rattle.std.specs.Prelude.{◌≡◌, ◌≢◌, ◌/◌, ℕ, Bool, false, List, Result};
 ghost use Rattle.std.specs.Result.{is_err};
 ghost use Rattle.tx_types.specs.declared.config.Shape.{Shape};
 ghost use Rattle.flash_model.specs.declared.flash.Broken.{Broken};
-ghost use Rattle.flash_model.specs.Flash.{FlashState, IsImage, IsSteady};
-ghost use Rattle.flash_model.specs.Operations.{Operation, Moment, CanDo};
-ghost use Rattle.flash_model.specs.Moves.{Moves, FlashMoves};
+ghost use Rattle.flash_model.specs.Flash.{FlashState, slot_at, IsImage, IsSteady};
+ghost use Rattle.flash_model.specs.Operations.{Operation, Moment, CanDo, block_of, Torn};
+ghost use Rattle.flash_model.specs.Moves.{Does, Moves, FlashMoves, StayOff};
 ghost use Rattle.flash_model.specs.Calls.{Carries, Operates};
 
 /// A call that was not broken, and then another, keep together what each keeps, and move the flash together.
@@ -23,10 +23,19 @@ pub fn operations_move()
         FlashMoves old new (is_err result) }
 {}
 
-/// An image stays one, whatever is done and however it is broken.
+/// An image stays one, whatever is done and however it is broken, and operations that stay off a block leave
+/// its slots.
 pub fn images_stay()
-    ensures { (shape : Shape) (old new : Moment) (broken : Bool) →
+    ensures whole { (shape : Shape) (old new : Moment) (broken : Bool) →
         IsImage shape old.image → Moves shape old broken new → IsImage shape new.image }
+    ensures elsewhere { (shape : Shape) (old new : Moment) (list : List Operation) (slot : ℕ) →
+        IsImage shape old.image → Does shape old list new →
+        StayOff shape (slot / shape.pages_per_block) list →
+        slot_at new.image slot ≡ slot_at old.image slot }
+    ensures torn_elsewhere { (shape : Shape) (old new : Moment) (o : Operation) (slot : ℕ) →
+        IsImage shape old.image → CanDo shape old.image o → Torn shape old o new →
+        block_of shape o ≢ slot / shape.pages_per_block →
+        slot_at new.image slot ≡ slot_at old.image slot }
 {}
 
 /// No call is broken on a steady flash, which stays steady.

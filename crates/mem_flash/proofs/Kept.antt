@@ -1,14 +1,13 @@
 -- What the slots are after the calls, by what these write.
-use Rattle.std.proofs.Common.{◌≡◌, ◌≢◌, ℕ, add-one, ◌+◌, ◌*◌, ◌<◌, ◌≤◌, ◌^◌, List, [], ◌++◌, length, get_or, set, take, drop, replicate, refl, ap, sym, ◌∙◌, arith}
+use Rattle.std.proofs.Common.{◌≡◌, ◌≢◌, ℕ, add-one, ◌+◌, ◌*◌, ◌<◌, ◌≤◌, List, [], ◌++◌, length, get_or, set, take, drop, replicate, refl, ap, sym, ◌∙◌, arith}
 use Rattle.std.specs.Fork.{slice_chunk}
-use Rattle.std.proofs.lemmas.List.{length-set, length-replicate, get_or_read, set_split, append_assoc}
+use Rattle.std.proofs.lemmas.List.{length-set, get_or_read, set_split}
 use Rattle.std.proofs.Math.Nat.{mul-le-mul_right}
-use Rattle.tx_types.specs.Config.{IsShape, slots_of}
+use Rattle.tx_types.specs.Config.{slots_of}
 use Rattle.tx_types.specs.declared.config.Shape.{Shape}
 use Rattle.flash_model.specs.declared.flash.Seen.{Seen}
 use Rattle.flash_model.specs.declared.flash.Seen.TheVariants.{Blank, Complete}
 use Rattle.flash_model.specs.Flash.{Contents, blank, complete, slot_at, IsImage}
-use Rattle.flash_model.specs.Operations.{with_block}
 use Rattle.flash_model.specs.Calls.{seen_of, page_of, spare_of}
 use Rattle.mem_flash.specs.Slots.{overwritten, cell_bytes, cell_of, contents_of, filler, image_of, IsFilled, AreFilled}
 use Rattle.mem_flash.specs.SlotsInside.{AreStored}
@@ -17,10 +16,6 @@ use Rattle.mem_flash.proofs.Chunks.{chunk_end}
 use Rattle.mem_flash.proofs.Images.{length-image_of, All-image_of, AreFilled-blank, image_of-blank, get_or-image_of, seen_of-contents_of, cell_of-contents_of, page_of-contents_of, spare_of-contents_of}
 use Rattle.mem_flash.proofs.Programmed.{image_of-programmed, AreFilled-programmed, length-programmed}
 use Rattle.mem_flash.proofs.Filled.{image_of-filled, AreFilled-filled, length-filled_states, length-filled_cells}
-
--- the bytes of all slots are few
-pub all_bytes_fit : (shape : Shape) → IsShape shape → slots_of shape * cell_bytes shape.page_bytes < 2 ^ 32
-all_bytes_fit shape checked = omega arith
 
 -- new slots, all of them blank
 pub AreFilled-new : (shape : Shape) (states : List Seen) (cells : List ℕ) → states ≡ replicate (slots_of shape) Blank
@@ -57,11 +52,6 @@ module _ (f : Inside) (stored : AreStored f) where
   cells_within i m within =
       let ends : (i + m) * size ≤ slots_of f.shape * size = mul-le-mul_right size within in
       rw stored.bytes (omega arith)
-
-  pub place_fits : (at : ℕ) → at < slots_of f.shape → at * size < 2 ^ 32
-  place_fits at below =
-      let ends : at * size + size ≤ slots_of f.shape * size = chunk_end size at (slots_of f.shape) below in
-      omega (arith, all_bytes_fit f.shape stored.shape)
 
   pub IsImage-stored : IsImage f.shape (image_of page states cells)
   IsImage-stored = record {
@@ -138,14 +128,7 @@ module _ (f : Inside) (stored : AreStored f) where
       filled = rw (states_are, cells_are, same) (AreFilled-filled page states cells bytes_long i m all_inside how bare stored.filled);
     }
 
--- one slot written over, and the slots of a block
+-- one slot written over
 pub overwritten-one : (image : List Contents) (at : ℕ) (contents : Contents) → at < length image
     → overwritten image at (replicate 1 contents) ≡ set image at contents
 overwritten-one image at contents below = rw (set_split image at contents below, add-one) refl
-
-pub overwritten-with_block : (shape : Shape) (image : List Contents) (block : ℕ) (contents : Contents)
-    → overwritten image (block * shape.pages_per_block) (replicate shape.pages_per_block contents) ≡ with_block shape image block contents
-overwritten-with_block shape image block contents =
-    let end : block * shape.pages_per_block + shape.pages_per_block ≡ (block + 1) * shape.pages_per_block = omega arith in
-    rw (length-replicate, end)
-    (sym (append_assoc (take (block * shape.pages_per_block) image) (replicate shape.pages_per_block contents) (drop ((block + 1) * shape.pages_per_block) image)))

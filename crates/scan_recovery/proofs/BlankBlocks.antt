@@ -20,11 +20,8 @@ use Rattle.record_list.proofs.Names.{IsIn, all_from, in_filter, present_in}
 use Rattle.version_index.specs.Notes.{complete_at, complete_slots}
 use Rattle.version_index.proofs.Given.{given_from}
 use Rattle.version_index.proofs.Blocks.{in_it, inside_block}
+use Rattle.version_index.proofs.Scans.{numbered_complete}
 use Rattle.scan_recovery.specs.Opening.{reads_blank, slots_in, IsBlankBlock, HasNoBlankBlock, IsHighest, FindsHighest, IsChosenFrom, FindsSpare}
-
--- a numbered slot, where it reads complete
-abbrev pub numbered : ℕ × Seen → Option ℕ
-numbered (slot, how) = complete_at slot how
 
 -- a slot that reads complete
 record ReadsComplete (slots : List Seen) (slot : ℕ) : Type 0 where
@@ -38,7 +35,7 @@ complete_is slot Complete s e = (sym (same_Some slot s e), refl)
 
 complete_reads : (slots : List Seen) (s : ℕ) → IsIn (complete_slots slots) s → ReadsComplete slots s
 complete_reads slots s i =
-    let h = given_from numbered 0 slots s i in
+    let h = given_from numbered_complete 0 slots s i in
     let parts = complete_is (0 + h.at) (get_or slots h.at Blank) s (h.from Blank) in
     let same : s ≡ h.at = parts.0 ∙ (omega arith) in
     let within = h.within in

@@ -16,7 +16,7 @@ use Rattle.record_list.specs.Written.{Written, found_of, records_of, KeepsWritte
 use Rattle.record_list.proofs.Names.{IsIn, all_from, all_at, contains_from, in_order, pairs_head, pairs_tail, has_name_true, has_own_name}
 use Rattle.record_list.proofs.WrittenLists.{in_records, ascending_written}
 use Rattle.record_list.proofs.Breaches.{earlier_index}
-use Rattle.version_index.specs.Images.{written_in, records_in, SlotReads, IsLeastImageBreach}
+use Rattle.version_index.specs.Images.{written_in, records_in, HasPages, SlotReads, IsLeastImageBreach}
 use Rattle.version_index.proofs.Places.{in_at}
 use Rattle.version_index.proofs.ImageScans.{is_read, records_scanned}
 use Rattle.scan_recovery.specs.Twins.{bytes_shown, AgreesWithLowest}
@@ -129,7 +129,7 @@ module _ (p : Protocol) (logical n : ℕ) (image : List Contents) where
   pages_hold reads = all_from (KeepsWritten p ws logical Pages) ws (λ w j.
       let r = is_read p image w j in
       let here : SlotReads p logical (slot_at image w.slot.0) = reads w.slot.0 _ r.within in
-      subst (λ o. IsSomeAnd o (λ rec. (rec.page < logical) × (rec.next.page < logical))) r.reads.spells (subst (SlotReads p logical) r.reads.is here))
+      subst (λ o. IsSomeAnd o (HasPages logical)) r.reads.spells (subst (SlotReads p logical) r.reads.is here))
 
   laws_before : All (SlotReads p logical) image → (l : Law) → number l < 2 → All (KeepsWritten p ws logical l) ws
   laws_before reads Pages h = pages_hold reads

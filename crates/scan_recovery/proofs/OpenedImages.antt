@@ -25,12 +25,13 @@ use Rattle.record_list.proofs.Names.{IsIn, all_from, all_at}
 use Rattle.record_list.proofs.WrittenLists.{in_records}
 use Rattle.die_alloc.specs.BlockTable.{BlockTable}
 use Rattle.version_index.specs.declared.note.Note.{Note}
-use Rattle.version_index.specs.Images.{written_in, records_in, SlotReads, IsSoundImage, IsLeastImageBreach}
+use Rattle.version_index.specs.Images.{written_in, records_in, HasPages, SlotReads, IsSoundImage, IsLeastImageBreach}
 use Rattle.version_index.specs.Notes.{complete_slots, notes_of}
 use Rattle.version_index.specs.Noted.{Noted, with_spare}
 use Rattle.version_index.proofs.Given.{given}
 use Rattle.version_index.proofs.ImageScans.{read_at, written_in_is, written, records_scanned}
 use Rattle.version_index.proofs.NotedImages.{scanned_notes}
+use Rattle.version_index.proofs.Scans.{numbered_complete}
 use Rattle.scan_recovery.specs.declared.error.RecoverError.{RecoverError}
 use Rattle.scan_recovery.specs.declared.error.RecoverError.TheVariants as error
 use Rattle.scan_recovery.specs.Reading.{ReadsAll}
@@ -39,7 +40,6 @@ use Rattle.scan_recovery.specs.Opening.{IsOpenedFrom, IsBroken, IsOpened, IsChos
 use Rattle.scan_recovery.specs.Twins.{compared}
 use Rattle.scan_recovery.specs.Recovered.{IfUnsound, is_fault, reads_again, ReadsFor}
 use Rattle.scan_recovery.proofs.ReadingSteps.{reads_some_all}
-use Rattle.scan_recovery.proofs.BlankBlocks.{numbered}
 use Rattle.scan_recovery.proofs.LawTwo.{no_written, pages_hold}
 
 abbrev slots_of_records : List Written → List ℕ
@@ -47,7 +47,7 @@ slots_of_records l = map (λ f. f.slot.0) (records_of l)
 
 -- the slots of the records are the complete ones, where each slot keeps law 1
 complete_given : (p : Protocol) (logical k : ℕ) (image : List Contents) → All (SlotReads p logical) image →
-    slots_of_records (given (read_at p) k image) ≡ given numbered k (map seen_of image)
+    slots_of_records (given (read_at p) k image) ≡ given numbered_complete k (map seen_of image)
 complete_given p logical k [] reads = refl
 complete_given p logical k (blank ∷ rest) reads = complete_given p logical (k + 1) rest (All-tail (SlotReads p logical) blank rest reads)
 complete_given p logical k (damaged ∷ rest) reads = complete_given p logical (k + 1) rest (All-tail (SlotReads p logical) damaged rest reads)
@@ -55,7 +55,7 @@ complete_given p logical k (complete bytes spare ∷ rest) reads =
     of_record (record_of p spare) (All-head (SlotReads p logical) (complete bytes spare) rest reads) (given (read_at p) (k + 1) rest)
     ∙ ap (λ l. k ∷ l) (complete_given p logical (k + 1) rest (All-tail (SlotReads p logical) (complete bytes spare) rest reads))
   where
-    of_record : (o : Option Rec) → IsSomeAnd o (λ rec. (rec.page < logical) × (rec.next.page < logical)) → (more : List Written) →
+    of_record : (o : Option Rec) → IsSomeAnd o (HasPages logical) → (more : List Written) →
         slots_of_records (cons_option (option_map (λ rec. written k rec bytes) o) more) ≡ k ∷ slots_of_records more
     of_record None h more = absurd h
     of_record (Some rec) h more = refl
@@ -64,7 +64,7 @@ module _ (p : Protocol) (logical : ℕ) (image : List Contents) (slots : List Se
   pub scan_complete : map (λ f. f.slot.0) list ≡ complete_slots slots
   scan_complete =
       ap (map (λ (f : Found). f.slot.0)) (scan.records ∙ ap records_of (written_in_is p image))
-      ∙ complete_given p logical 0 image scan.reads ∙ ap (given numbered 0) (sym scan.seen)
+      ∙ complete_given p logical 0 image scan.reads ∙ ap (given numbered_complete 0) (sym scan.seen)
 
   pub scan_scanned : IsScanned list
   scan_scanned = subst (λ l. IsScanned l) (sym scan.records) (records_scanned p image)

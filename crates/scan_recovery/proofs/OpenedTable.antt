@@ -14,7 +14,7 @@ use Rattle.die_alloc.specs.declared.block_use.BlockUse.{BlockUse}
 use Rattle.die_alloc.specs.BlockTable.{BlockTable, IsBlockTable, no_block, use_of, with_use}
 use Rattle.die_alloc.proofs.Changes.{use_of-with_use_same, use_of-with_use_other}
 use Rattle.scan_recovery.specs.Opening.{slots_in, is_blank_block, used_in, use_in, opening_table, with_slots}
-use Rattle.scan_recovery.proofs.Used.{blank_used, used_some}
+use Rattle.scan_recovery.proofs.Used.{used_blank, used_some}
 
 -- what is kept of a block, by its parts
 abbrev kept : BlockState → ℕ → BlockUse
@@ -66,7 +66,7 @@ module _ (shape : Shape) (slots : List Seen) (spare : ℕ) where
     where
       not_blank : eqb (used_in (slots_in shape slots at)) 0 ≡ false → is_blank_block shape slots at ≡ false
       not_blank used = elim (cases_Bool (is_blank_block shape slots at)) [
-        | inl blank ↦ absurd (false≢true (sym used ∙ ap (λ n. eqb n 0) (blank_used (slots_in shape slots at) blank)))
+        | inl blank ↦ absurd (false≢true (sym used ∙ ap (λ n. eqb n 0) (used_blank (slots_in shape slots at) blank)))
         | inr some ↦ some
       ]
 

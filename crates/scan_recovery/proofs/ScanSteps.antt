@@ -1,28 +1,24 @@
 -- A scan of an image, one slot after another.
-use Rattle.std.proofs.Common.{◌≡◌, ℕ, ◌+◌, ◌<◌, List, [], ◌∷◌, ◌++◌, map, length, take, All, Option, Some, None, IsSomeAnd, unwrap_or, refl, sym, ap, ap₂, ◌∙◌, subst, inl, inr, arith}
+use Rattle.std.proofs.Common.{◌≡◌, ℕ, ◌+◌, ◌<◌, List, [], ◌∷◌, ◌++◌, map, length, take, All, Option, Some, None, unwrap_or, sym, ap, ap₂, ◌∙◌, subst, inl, inr, arith}
 use Rattle.std.specs.Prelude.{MatchOption}
 use Rattle.std.specs.List.{cons_option}
-use Rattle.std.specs.Option.{option_map_or}
 use Rattle.std.proofs.lemmas.List.{length-map, get_or-map, take-map, map-append, take_more, get_or-take, length-take-le}
 use Rattle.std.proofs.lemmas.List.Elements.{All-append}
 use Rattle.tx_types.specs.declared.config.Protocol.{Protocol}
 use Rattle.tx_types.specs.declared.config.Slot.{Slot}
-use Rattle.tx_types.specs.declared.record.Rec.{Rec}
 use Rattle.flash_model.specs.declared.flash.Seen.{Seen}
-use Rattle.flash_model.specs.declared.flash.Seen.TheVariants as seen
-use Rattle.flash_model.specs.Flash.{Contents, blank, damaged, complete, slot_at}
+use Rattle.flash_model.specs.Flash.{Contents, blank, slot_at}
 use Rattle.flash_model.specs.Calls.{seen_of}
-use Rattle.page_record.specs.Rules.{record_of}
 use Rattle.record_list.specs.declared.found.Found.{Found}
 use Rattle.record_list.specs.Written.{records_of}
 use Rattle.record_list.proofs.Names.{all_from}
 use Rattle.version_index.specs.declared.note.Note.{Note}
-use Rattle.version_index.specs.declared.note.Note.TheVariants.{Blank, Damaged, Holds}
+use Rattle.version_index.specs.declared.note.Note.TheVariants.{Blank}
 use Rattle.version_index.specs.Images.{SlotReads, records_in}
 use Rattle.version_index.specs.Notes.{seen_as, found_at, found_in, note_of, notes_of}
 use Rattle.version_index.proofs.FoundIn.{found_in_more}
 use Rattle.version_index.proofs.ImageScans.{written_in_is}
-use Rattle.version_index.proofs.NotedImages.{found_in_notes}
+use Rattle.version_index.proofs.NotedImages.{found_in_notes, note_reads}
 use Rattle.scan_recovery.specs.Scans.{IsScanOf, IsNote}
 
 -- the slots below this one keep law 1, and are noted
@@ -43,16 +39,6 @@ scan_first p logical image slots list no_slots no_records = record {
   seen = no_slots;
   records = no_records ∙ sym (ap records_of (written_in_is p []));
 }
-
--- a slot that keeps law 1 reads as it is noted
-note_reads : (p : Protocol) (logical : ℕ) (contents : Contents) → SlotReads p logical contents → seen_as (note_of p contents) ≡ seen_of contents
-note_reads p logical blank reads = refl
-note_reads p logical damaged reads = refl
-note_reads p logical (complete bytes spare) reads = of_record (record_of p spare) reads
-  where
-    of_record : (o : Option Rec) → IsSomeAnd o (λ rec. (rec.page < logical) × (rec.next.page < logical)) → seen_as (option_map_or Holds o Damaged) ≡ seen.Complete
-    of_record None h = absurd h
-    of_record (Some rec) h = refl
 
 -- the records of one slot more
 records_more : (p : Protocol) (image : List Contents) (at : ℕ) → at < length image →

@@ -4,7 +4,7 @@ use Rattle.std.specs.List.{list_all}
 use Rattle.std.proofs.lemmas.Bool.{false≢true}
 use Rattle.std.proofs.lemmas.List.Folds.{list_all_at}
 use Rattle.flash_model.specs.declared.flash.Seen.{Seen}
-use Rattle.flash_model.specs.declared.flash.Seen.TheVariants.{Blank, Complete, Damaged}
+use Rattle.flash_model.specs.declared.flash.Seen.TheVariants.{Blank}
 use Rattle.scan_recovery.specs.Opening.{reads_blank, used_in}
 
 -- each slot is blank
@@ -15,7 +15,8 @@ all_blank (x ∷ xs) h =
     let rest : list_all reads_blank xs ≡ true = all_blank xs (λ k within. h (suc k) (omega arith)) in
     cc
 
-used_blank : (slots : List Seen) → list_all reads_blank slots ≡ true → used_in slots ≡ 0
+-- where all slots are blank, none is used
+pub used_blank : (slots : List Seen) → list_all reads_blank slots ≡ true → used_in slots ≡ 0
 unfolding used_in
 used_blank [] h = refl
 used_blank (x ∷ xs) h = ap (λ b. cond b 0 (suc (used_in xs))) h
@@ -42,16 +43,7 @@ used_in_is (x ∷ xs) (suc (suc m)) within behind (inr last) =
     ∙ ap (λ n. suc n) (used_in_is xs (suc m) (omega arith) (λ k low inside. behind (suc k) (omega arith) (omega arith))
     (inr (subst (λ k. reads_blank (get_or xs k Blank) ≡ false) under here)))
 
--- a block is all blank exactly where no slot of it is used
-pub blank_used : (slots : List Seen) → list_all reads_blank slots ≡ true → used_in slots ≡ 0
-blank_used slots h = used_blank slots h
-
+-- where a slot is not blank, some are used
 pub used_some : (slots : List Seen) → list_all reads_blank slots ≡ false → 1 ≤ used_in slots
 used_some [] h = absurd (false≢true (sym h))
 used_some (x ∷ xs) h = omega (arith, used_more x xs h)
-
--- a slot that is not blank does not read so
-pub blank_not : (how : Seen) → (how ≡ Blank → ⊥) → reads_blank how ≡ false
-blank_not Blank h = absurd (h refl)
-blank_not Complete h = refl
-blank_not Damaged h = refl

@@ -102,7 +102,8 @@ FindsSpare protocol logical shape slots list (Some spare) =
 -- the same of an image
 abbrev pub IsChosenSpare : Config → List Contents → ℕ → Type 0
 IsChosenSpare config image spare =
-    IsChosenFrom config.protocol config.logical (shape_of config) (seen_in image) (records_in config.protocol image) spare
+    IsChosenFrom config.protocol config.logical (shape_of config) (seen_in image)
+    (records_in config.protocol image) spare
 
 -- what is noted of an image when its device is opened with this spare
 abbrev pub opening_noted : Config → List Contents → ℕ → Noted
@@ -115,7 +116,8 @@ opening_noted config image spare = record {
 }
 
 -- what is noted of slots that read so and hold these records, and their block table
-pub record IsOpenedFrom (config : Config) (slots : List Seen) (list : List Found) (noted : Noted) (table : BlockTable) : Type 0 where
+pub record IsOpenedFrom
+    (config : Config) (slots : List Seen) (list : List Found) (noted : Noted) (table : BlockTable) : Type 0 where
   pub spare : ℕ
   pub chosen : IsChosenFrom config.protocol config.logical (shape_of config) slots list spare
   pub scan : Noted
@@ -127,7 +129,8 @@ pub record IsOpenedFrom (config : Config) (slots : List Seen) (list : List Found
 abbrev pub IsBroken : Protocol → List Found → ℕ → Shape → Breach → Type 0
 IsBroken protocol list logical shape b =
     IsLeastBreach protocol list logical b
-    ⊎ (IsSoundList protocol list logical × (b.law ≡ 8) × (b.slot.0 ≡ 0) × (HasRemovable protocol list logical shape → ⊥))
+    ⊎ (IsSoundList protocol list logical × (b.law ≡ 8) × (b.slot.0 ≡ 0)
+    × (HasRemovable protocol list logical shape → ⊥))
 
 -- the tables of a device that was opened from this image
 pub record IsOpened (config : Config) (image : List Contents) (noted : Noted) (table : BlockTable) : Type 0 where

@@ -1,5 +1,5 @@
 -- What a scan of a flash finds.
-use Rattle.std.specs.Prelude.{◌≡◌, ℕ, ◌<◌, List, map, All, Option, None, Some, IsSomeAnd}
+use Rattle.std.specs.Prelude.{◌≡◌, ℕ, List, map, All, Option, None, Some, IsSomeAnd}
 use Rattle.tx_types.specs.declared.config.Protocol.{Protocol}
 use Rattle.tx_types.specs.declared.record.Rec.{Rec}
 use Rattle.flash_model.specs.declared.flash.Seen.{Seen}
@@ -8,12 +8,8 @@ use Rattle.flash_model.specs.Calls.{seen_of}
 use Rattle.page_record.specs.Rules.{record_of}
 use Rattle.record_list.specs.declared.found.Found.{Found}
 use Rattle.version_index.specs.declared.note.Note.{Note}
-use Rattle.version_index.specs.Images.{SlotReads, records_in}
+use Rattle.version_index.specs.Images.{HasPages, SlotReads, records_in}
 use Rattle.version_index.specs.Notes.{note_of}
-
--- the page and the link's page of a record exist
-abbrev pub HasPages : ℕ → Rec → Type 0
-HasPages logical rec = (rec.page < logical) × (rec.next.page < logical)
 
 -- the record of a spare area whose pages exist; nothing where there is none
 abbrev pub IsKeptRecord : Protocol → ℕ → List ℕ → Option Rec → Type 0
@@ -23,10 +19,12 @@ IsKeptRecord protocol logical spare (Some rec) = (record_of protocol spare ≡ S
 -- what is noted of a slot that keeps law 1; nothing where it breaks it
 abbrev pub IsNote : Protocol → ℕ → Contents → Option Note → Type 0
 IsNote protocol logical contents None = SlotReads protocol logical contents → ⊥
-IsNote protocol logical contents (Some note) = SlotReads protocol logical contents × (note ≡ note_of protocol contents)
+IsNote protocol logical contents (Some note) =
+    SlotReads protocol logical contents × (note ≡ note_of protocol contents)
 
 -- each slot of an image keeps law 1; these are how its slots read, and its records
-pub record IsScanOf (protocol : Protocol) (logical : ℕ) (image : List Contents) (slots : List Seen) (list : List Found) : Type 0 where
+pub record IsScanOf
+    (protocol : Protocol) (logical : ℕ) (image : List Contents) (slots : List Seen) (list : List Found) : Type 0 where
   pub reads : All (SlotReads protocol logical) image
   pub seen : slots ≡ map seen_of image
   pub records : list ≡ records_in protocol image

@@ -21,12 +21,14 @@ bytes_shown page_bytes image f = page_of page_bytes (slot_at image f.slot.0)
 -- a record is equal to the lowest one of its name, and so are the bytes of the two slots
 abbrev pub AgreesWithLowest : ℕ → List Contents → List Found → Found → Type 0
 AgreesWithLowest page_bytes image list f =
-    IfSome (lowest_of list f.rec) (λ g. (g.rec ≡ f.rec) × (bytes_shown page_bytes image g ≡ bytes_shown page_bytes image f))
+    IfSome (lowest_of list f.rec) (λ g.
+    (g.rec ≡ f.rec) × (bytes_shown page_bytes image g ≡ bytes_shown page_bytes image f))
 
 -- whether the bytes of a record's slot have to be compared: another slot is the lowest that holds its name, and the two
 -- records are equal
 abbrev pub is_compared : List Found → Found → Bool
-is_compared list f = option_map_or (λ g. is_equal g.rec f.rec && not (g.slot.0 == f.slot.0)) (lowest_of list f.rec) false
+is_compared list f =
+    option_map_or (λ g. is_equal g.rec f.rec && not (g.slot.0 == f.slot.0)) (lowest_of list f.rec) false
 
 -- how many slots are compared with another one
 unfoldable pub compared : List Found → ℕ

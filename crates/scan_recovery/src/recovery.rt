@@ -48,6 +48,9 @@ pub fn recover<F: Flash, R: CommitRule>(
     ensures unsound { let old = F.state flash.old in
         IfErr result (λ e. IfUnsound e
         (IsLeastImageBreach R.kept config.logical old.shape old.image)) }
+    // So it is only where no read failed.
+    ensures faultless { let faults = (F.state flash.old).faults in
+        IfErr result (λ e. IfUnsound e (λ _. (F.state flash.new).faults ≡ faults)) }
 
     // Nothing changes, and so many slots are read.
     ensures moment { moment_of (F.state flash.new) ≡ moment_of (F.state flash.old) }

@@ -42,6 +42,21 @@ fn config(protocol: Protocol) -> Config
     }
 }
 
+/// Whether a page exists.
+fn has_page<R: CommitRule>(index: &Index<R>, page: u32) -> bool
+    ensures { IsTrue result → page < index.now.config.logical }
+{
+    page < index.config().logical
+}
+
+/// Whether a block exists.
+fn has_block<R: CommitRule>(index: &Index<R>, block: Block) -> bool
+    ensures { IsTrue result → block.0 < blocks_of (shape_of index.now.config) }
+{
+    let config = index.config();
+    block.0 < config.blocks_per_die * config.dies
+}
+
 /// Whether a slot exists.
 fn has_slot<R: CommitRule>(index: &Index<R>, at: Slot) -> bool
     ensures { IsTrue result → at.0 < slots_of (shape_of index.now.config) }
@@ -135,7 +150,7 @@ use Protocol::{Bpcc as B, Scc as S};
 
 /// A flash, the law that it breaks and the slot that is named, if it breaks one, and how many slots
 /// are read.
-const FLASHES: [(Protocol, &[Item], Option<(u8, u32)>, u64); 13] = [
+const FLASHES: [(Protocol, &[Item], Option<(u8, u32)>, u64); 14] = [
     (S, &[], None, 32),
     // two records with one link
     (
@@ -165,6 +180,18 @@ const FLASHES: [(Protocol, &[Item], Option<(u8, u32)>, u64); 13] = [
         &[(0, (0, 1), (0, 1), 0, 0), (5, (0, 1), (1, 1), 0, 1)],
         Some((2, 5)),
         32,
+    ),
+    // two such slots and, in lower slots, two names with one link
+    (
+        S,
+        &[
+            (0, (0, 1), (0, 1), 0, 0),
+            (1, (1, 1), (3, 1), 0, 0),
+            (2, (2, 1), (3, 1), 0, 0),
+            (5, (0, 1), (0, 1), 0, 1),
+        ],
+        Some((2, 5)),
+        34,
     ),
     // no record has the version that is current
     (B, &[(0, (0, 5), (1, 7), 3, 0)], Some((4, 0)), 32),
@@ -330,13 +357,56 @@ const BLOCKS: [(BlockState, u32); 8] = [
     (BlockState::Shut, 1),
 ];
 
-/// Of some slots how they read.
-const SLOTS: [(u32, Seen); 4] = [
-    (0, Seen::Complete),
-    (2, Seen::Blank),
-    (11, Seen::Damaged),
-    (28, Seen::Complete),
+/// Of some slots how they read, the record that they hold, which is its name, its link and its back
+/// version, and whether they are needed: no slot is that holds a stale or a loose record, or one that
+/// stands in a lower slot too.
+const SLOTS: [(u32, Seen, Option<((u32, u64), (u32, u64), u64)>, bool); 8] = [
+    (0, Seen::Complete, Some(((0, 1), (0, 1), 0)), false),
+    (1, Seen::Complete, Some(((0, 2), (0, 2), 1)), true),
+    (2, Seen::Blank, None, false),
+    (4, Seen::Complete, Some(((1, 1), (1, 1), 0)), true),
+    (9, Seen::Complete, Some(((1, 1), (1, 1), 0)), false),
+    (10, Seen::Complete, Some(((0, 3), (2, 1), 2)), false),
+    (11, Seen::Damaged, None, false),
+    (28, Seen::Complete, Some(((3, 1), (3, 1), 0)), true),
 ];
+
+/// Of a page and a block the lowest slot outside the block that holds the current record of the page.
+const OUTSIDE: [(u32, u32, Option<Slot>); 6] = [
+    (0, 0, None),
+    (0, 1, Some(Slot(1))),
+    (1, 1, Some(Slot(9))),
+    (1, 2, Some(Slot(4))),
+    (2, 0, None),
+    (3, 7, None),
+];
+
+fn expect_index(rt: &impl Abort, index: &Index<Bpcc>) {
+    for (page, current, mention, home) in PAGES {
+        assert!(rt; has_page(index, page));
+        assert_eq!(rt; index.current(page), current, "page {page}");
+        assert_eq!(rt; index.mention(page), mention, "page {page}");
+        assert_eq!(rt; index.locate(page), home, "page {page}");
+    }
+    for (slot, how, held, needed) in SLOTS {
+        assert!(rt; has_slot(index, Slot(slot)));
+        assert_eq!(rt; index.seen(Slot(slot)), how, "slot {slot}");
+        let want = held.map(|(name, next, back)| rec(name, next, back));
+        assert_eq!(rt; index.rec(Slot(slot)), want, "slot {slot}");
+        assert_eq!(rt; index.needed(Slot(slot)), needed, "slot {slot}");
+    }
+    for (page, block, slot) in OUTSIDE {
+        assert!(rt; has_page(index, page) && has_block(index, Block(block)));
+        assert_eq!(rt;
+            index.locate_off(page, Block(block)),
+            slot,
+            "page {page} off {block}"
+        );
+    }
+    // under Back Pointer Cyclic Commit nothing must go
+    assert!(rt; has_page(index, 2));
+    assert_eq!(rt; index.must_go(2, 9), None);
+}
 
 fn expect_blocks(rt: &impl Abort, blocks: &Blocks)
     requires { blocks.now.shape ≡ SHAPE }
@@ -360,21 +430,7 @@ fn a_sound_flash_gives_its_tables(rt: HostRuntime) -> Result<(), Fail> {
         (flash.reads(), flash.programs(), flash.erases()),
         (34, 6, 0)
     );
-    for (page, current, mention, home) in PAGES {
-        assert!(rt; page < index.config().logical);
-        assert_eq!(rt; index.current(page), current, "page {page}");
-        assert_eq!(rt; index.mention(page), mention, "page {page}");
-        assert_eq!(rt; index.locate(page), home, "page {page}");
-    }
-    for (slot, how) in SLOTS {
-        assert!(rt; has_slot(&index, Slot(slot)));
-        assert_eq!(rt; index.seen(Slot(slot)), how, "slot {slot}");
-        assert_eq!(rt;
-            index.rec(Slot(slot)).is_some(),
-            how == Seen::Complete,
-            "slot {slot}"
-        );
-    }
+    expect_index(&rt, &index);
     expect_blocks(&rt, &blocks);
     assert_eq!(rt; blocks.spare(), Block(6));
     assert_eq!(rt; blocks.next_slot(), Some(Slot(12)));
@@ -382,5 +438,42 @@ fn a_sound_flash_gives_its_tables(rt: HostRuntime) -> Result<(), Fail> {
     // the spare is known to the tables: it has no garbage
     assert_eq!(rt; index.garbage(Block(6), true), 0);
     assert_eq!(rt; index.garbage(Block(5), true), 4);
+    Ok(())
+}
+
+/// A page at version 1; its version 2 in two slots, and a page at version 1, whose transactions did not
+/// go on, so that both are loose.
+const LOOSE: [Item; 4] = [
+    (0, (0, 1), (0, 1), 0, 1),
+    (4, (0, 2), (1, 1), 0, 2),
+    (8, (3, 1), (2, 1), 0, 3),
+    (12, (0, 2), (1, 1), 0, 2),
+];
+
+/// Of a page and a version the lowest block with a loose record that mentions the page below it.
+const GOING: [(u32, u64, Option<Block>); 7] = [
+    (0, 2, None),
+    (0, 3, Some(Block(1))),
+    (1, 1, None),
+    (1, 2, Some(Block(1))),
+    (2, 2, Some(Block(2))),
+    (3, 2, Some(Block(2))),
+    (4, 9, None),
+];
+
+#[test]
+fn loose_records_must_go(rt: HostRuntime) -> Result<(), Fail> {
+    let mut flash = written(&rt, rt.alloc(), S, &LOOSE)?;
+    let Ok((index, _blocks)) = recover::<MemFlash, Scc>(rt.alloc(), &mut flash, config(S)) else {
+        return Err(Fail::new("refused"));
+    };
+    for (page, below, block) in GOING {
+        assert!(rt; has_page(&index, page));
+        assert_eq!(rt;
+            index.must_go(page, below),
+            block,
+            "page {page} below {below}"
+        );
+    }
     Ok(())
 }

@@ -1,5 +1,5 @@
 -- The notes of an image: their records are those of the image, and a scan of the image gives them.
-use Rattle.std.proofs.Common.{◌≡◌, ℕ, ◌+◌, ◌<◌, Bool, true, false, List, [], ◌∷◌, suc, length, get_or, drop, map, All, Option, Some, None, IsSomeAnd, refl, sym, ap, ap₂, ◌∙◌, arith}
+use Rattle.std.proofs.Common.{◌≡◌, ℕ, ◌+◌, Bool, true, false, List, [], ◌∷◌, suc, length, get_or, drop, map, All, Option, Some, None, IsSomeAnd, refl, sym, ap, ap₂, ◌∙◌, arith}
 use Rattle.std.specs.Option.{option_map_or}
 use Rattle.std.proofs.lemmas.Bool.{false≢true}
 use Rattle.std.proofs.lemmas.List.{length-map, get_or-map}
@@ -14,7 +14,7 @@ use Rattle.page_record.specs.Rules.{record_of}
 use Rattle.record_list.specs.Records.{nothing}
 use Rattle.version_index.specs.declared.note.Note.{Note}
 use Rattle.version_index.specs.declared.note.Note.TheVariants.{Blank, Damaged, Holds}
-use Rattle.version_index.specs.Images.{records_in, SlotReads}
+use Rattle.version_index.specs.Images.{records_in, HasPages, SlotReads}
 use Rattle.version_index.specs.Notes.{seen_as, found_in, note_of, notes_of}
 use Rattle.version_index.proofs.Given.{given}
 use Rattle.version_index.proofs.Mirror.{mirrored}
@@ -26,12 +26,12 @@ found_in_notes protocol image =
     mirrored protocol image (notes_of protocol image) (length-map image (note_of protocol)) (λ slot within. get_or-map (note_of protocol) image slot blank Blank within)
 
 -- the note of a slot that keeps law 1 reads as the slot
-note_reads : (protocol : Protocol) (logical : ℕ) (contents : Contents) → SlotReads protocol logical contents → seen_as (note_of protocol contents) ≡ seen_of contents
+pub note_reads : (protocol : Protocol) (logical : ℕ) (contents : Contents) → SlotReads protocol logical contents → seen_as (note_of protocol contents) ≡ seen_of contents
 note_reads protocol logical blank reads = refl
 note_reads protocol logical damaged reads = refl
 note_reads protocol logical (complete bytes spare) reads = of_record (record_of protocol spare) reads
   where
-    of_record : (o : Option Rec) → IsSomeAnd o (λ rec. (rec.page < logical) × (rec.next.page < logical)) → seen_as (option_map_or Holds o Damaged) ≡ seen.Complete
+    of_record : (o : Option Rec) → IsSomeAnd o (HasPages logical) → seen_as (option_map_or Holds o Damaged) ≡ seen.Complete
     of_record None h = absurd h
     of_record (Some rec) h = refl
 

@@ -3,6 +3,7 @@ use Rattle.std.specs.Prelude.{◌≡◌, ℕ, ◌<◌, ◌⊎◌, List, All, Opt
 use Rattle.std.specs.List.{enumerate_from}
 use Rattle.tx_types.specs.declared.config.Protocol.{Protocol}
 use Rattle.tx_types.specs.declared.config.Shape.{Shape}
+use Rattle.tx_types.specs.declared.record.Rec.{Rec}
 use Rattle.flash_model.specs.Flash.{Contents, blank, damaged, complete, slot_at}
 use Rattle.page_record.specs.Rules.{record_of}
 use Rattle.record_list.specs.declared.found.Found.{Found}
@@ -38,13 +39,16 @@ current_in protocol logical image page = cur protocol (records_in protocol image
 unfoldable pub array_in : Protocol → ℕ → List Contents → List (Option (List ℕ))
 array_in protocol logical image = array_of protocol (written_in protocol image) logical
 
+-- the page and the link's page of a record exist
+abbrev pub HasPages : ℕ → Rec → Type 0
+HasPages logical rec = (rec.page < logical) × (rec.next.page < logical)
+
 -- law 1 at a slot: where it is complete, its spare area reads for the protocol, and page and link page
 -- exist
 abbrev pub SlotReads : Protocol → ℕ → Contents → Type 0
 SlotReads protocol logical blank = Unit {0}
 SlotReads protocol logical damaged = Unit {0}
-SlotReads protocol logical (complete bytes spare) =
-    IsSomeAnd (record_of protocol spare) (λ rec. (rec.page < logical) × (rec.next.page < logical))
+SlotReads protocol logical (complete bytes spare) = IsSomeAnd (record_of protocol spare) (HasPages logical)
 
 -- a sound image: law 1 holds at each slot, and the eight laws of its records
 pub record IsSoundImage (protocol : Protocol) (logical : ℕ) (shape : Shape) (image : List Contents) : Type 0 where

@@ -1,5 +1,11 @@
-use Rattle.flash_model.proofs.ImageLemmas.{IsImage-moves}
+use Rattle.flash_model.proofs.ImageLemmas.{IsImage-moves, slot_at-does, slot_at-torn}
 use Rattle.flash_model.proofs.laws.images_stay.Goals as goal
 
-pub returns : goal.returns
-returns c = IsImage-moves
+pub returns-clause-whole : goal.returns-clause-whole
+returns-clause-whole c = IsImage-moves
+
+pub returns-clause-elsewhere : goal.returns-clause-elsewhere
+returns-clause-elsewhere c = slot_at-does
+
+pub returns-clause-torn_elsewhere : goal.returns-clause-torn_elsewhere
+returns-clause-torn_elsewhere c = slot_at-torn
