@@ -1,4 +1,5 @@
 pub mod Desk
 pub mod InMemory
 pub mod Kept
+pub mod Saving
 pub mod System

@@ -1,9 +1,11 @@
-ghost use Rattle.std.specs.Prelude.{◌≡◌, IfOk};
+ghost use Rattle.std.specs.Prelude.{◌≡◌, IfOk, OnOk};
+ghost use Rattle.std.specs.Io.KnownBytes.{Appends};
+ghost use Rattle.desk_io.specs.Saving.{Chooses};
 ghost use Rattle.desk_io.specs.System.{FindsSame, closed_desk, load_answer, load_faults, sink_answer, sink_faults};
 
 use crate::{Desk, LoadError, MAX_FILE_BYTES, SinkError};
 use std::alloc::Global;
-use std::fs::{File, OpenFile, Permissions};
+use std::fs::{File, Metadata, OpenFile, Permissions};
 use std::io::{ErrorKind, Read, Write};
 use std::marker::Model;
 use std::rt::Files;
@@ -82,16 +84,35 @@ fn first_bytes<F: Read + Drop>(alloc: Global, file: F, expected: u64) -> io::Res
     Ok(bytes)
 }
 
-/// Writes a file, so that a file that may be written stays as it was until the new one is whole.
-/// What is no such file, as a link, a device or a folder, is left to the system.
-fn write_file<R: Files>(rt: &R, name: &str, beside: &str, bytes: &[u8]) -> io::Result<()> {
-    match fs::symlink_metadata(rt, name) {
+/// How the bytes of a save come to the name.
+#[derive(Drop)]
+enum Way {
+    /// By a new file beside it, with these permissions, which is put in its place.
+    Beside(Option<Permissions>),
+    /// By the system, which may refuse them: to a link, a device, a folder or a file that is not to
+    /// be written.
+    Through,
+}
+
+/// How the bytes of a save come to a name, by what the system finds there.
+fn way_of(found: io::Result<Metadata>) -> io::Result<Way>
+    ensures { Chooses found result }
+{
+    match found {
         Ok(old) if old.is_file() && !old.permissions().readonly() => {
-            replace(rt, name, beside, Some(old.permissions()), bytes)
+            Ok(Way::Beside(Some(old.permissions())))
         }
-        Ok(_) => fs::write(rt, name, bytes),
-        Err(error) if error.kind() == ErrorKind::NotFound => replace(rt, name, beside, None, bytes),
+        Ok(_) => Ok(Way::Through),
+        Err(error) if error.kind() == ErrorKind::NotFound => Ok(Way::Beside(None)),
         Err(error) => Err(error),
+    }
+}
+
+/// Writes a file, so that a file that may be written stays as it was until the new one is whole.
+fn write_file<R: Files>(rt: &R, name: &str, beside: &str, bytes: &[u8]) -> io::Result<()> {
+    match way_of(fs::symlink_metadata(rt, name))? {
+        Way::Beside(permissions) => replace(rt, name, beside, permissions, bytes),
+        Way::Through => fs::write(rt, name, bytes),
     }
 }
 
@@ -104,11 +125,10 @@ fn replace<R: Files>(
     permissions: Option<Permissions>,
     bytes: &[u8],
 ) -> io::Result<()> {
-    let file = File::create_new(rt, beside)?;
-    let mut done = write_new(file, permissions, bytes);
-    if done.is_ok() {
-        done = fs::rename(rt, beside, name);
-    }
+    let mut file = File::create_new(rt, beside)?;
+    let whole = write_new(&mut file, permissions, bytes);
+    drop(file);
+    let done = whole.and_then(|()| fs::rename(rt, beside, name));
     if done.is_err() {
         let _ = fs::remove_file(rt, beside);
     }
@@ -116,11 +136,13 @@ fn replace<R: Files>(
 }
 
 /// Writes the bytes of a new file, up to the system's store.
-fn write_new<F: Write + OpenFile + Drop>(
-    mut file: F,
+fn write_new<F: Write + OpenFile>(
+    file: &mut F,
     permissions: Option<Permissions>,
     bytes: &[u8],
-) -> io::Result<()> {
+) -> io::Result<()>
+    ensures { OnOk result (Appends (F.contents file.old) (F.contents file.new) bytes.now) }
+{
     if let Some(permissions) = permissions {
         file.set_permissions(permissions)?;
     }

@@ -70,10 +70,3 @@ shut_where_full t h full block within apart = by_state (state_of t block) refl
     by_state Spare e = absurd (apart ((h.one_spare block within).0 e))
     by_state Clean e = absurd (full block within (inl e))
     by_state Part e = absurd (full block within (inr e))
-
--- where each block but the spare is shut, none has room
-pub full_where_shut : (t : BlockTable) → IsBlockTable t
-    → ((block : ℕ) → block < blocks_of t.shape → block ≢ t.spare → state_of t block ≡ Shut) → IsFull t
-full_where_shut t h shut block within room =
-    let is = shut block within (has_room_not_spare t h block within room) in
-    elim room [ inl clean ↦ cc | inr part ↦ cc ]

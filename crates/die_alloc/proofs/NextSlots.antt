@@ -1,14 +1,13 @@
 -- What is known of the slot that is programmed next.
 use Rattle.std.proofs.Common.{◌≡◌, ℕ, ◌-◌, ◌/◌, ◌<◌, ◌↔◌, inl, inr, Option, Some, None, refl, sym, ◌∙◌, arith}
 use Rattle.std.specs.List.{range_with_len}
-use Rattle.std.specs.Option.{IsSome, IsNone, option_or, option_map}
-use Rattle.tx_types.specs.declared.config.Slot.{Slot}
+use Rattle.std.specs.Option.{IsNone, option_or}
 use Rattle.std.proofs.Math.Nat.{mul_comm}
 use Rattle.std.proofs.lemmas.Bool.{cases_lt}
 use Rattle.std.proofs.lemmas.Nat.{div_below, div-add-mod', mod_below, mul-add-lt, div-mul-add, mod-mul-add}
 use Rattle.tx_types.specs.Config.{blocks_of}
 use Rattle.die_alloc.specs.BlockTable.{BlockTable, IsBlockTable, used_of, HasRoom, IsFull, IsFirstFree, block_of}
-use Rattle.die_alloc.specs.NextSlot.{first_answer, open_block, next_block, next_slot, first_unused}
+use Rattle.die_alloc.specs.NextSlot.{first_answer, open_block, next_block, first_unused}
 use Rattle.die_alloc.proofs.FirstAnswers.{first_answer-append, answer_of_one, no_answer, option_or_some, option_or_none}
 use Rattle.die_alloc.proofs.OpenBlocks.{die_lies, open_block_has_room, no_open_block}
 
@@ -95,35 +94,6 @@ no_block_where_full t h = by_block (next_block t) refl
     by_block (Some block) e =
         let found = next_block_has_room t h block e in
         (λ no. cc, λ full. absurd (full block found.0 found.1))
-
--- and no slot is
-pub none_where_full : (t : BlockTable) → IsBlockTable t → IsNone (next_slot t) ↔ IsFull t
-unfolding next_slot
-none_where_full t h = by_block (next_block t) (no_block_where_full t h)
-  where
-    by_block : (o : Option ℕ) → IsNone o ↔ IsFull t → IsNone (option_map (first_unused t) o) ↔ IsFull t
-    by_block None e = e
-    by_block (Some block) e = e
-
--- the slot that is programmed next is the first free slot of its block
-pub next_slot_is_free : (t : BlockTable) → IsBlockTable t → (at : Slot) → next_slot t ≡ Some at → IsFirstFree t at.0
-unfolding next_slot
-next_slot_is_free t h at e = by_block (next_block t) refl e
-  where
-    by_block : (o : Option ℕ) → next_block t ≡ o → option_map (first_unused t) o ≡ Some at → IsFirstFree t at.0
-    by_block None b g = cc
-    by_block (Some block) b g =
-        let found = next_block_has_room t h block b in
-        let is : first_unused t block ≡ at = cc in
-        rw (← is) (first_unused_is_free t h block found.0 found.1)
-
--- where a block has room, there is a next slot
-pub next_slot_where_room : (t : BlockTable) → IsBlockTable t → (block : ℕ) → block < blocks_of t.shape → HasRoom t block → IsSome (next_slot t)
-next_slot_where_room t h block within room = by_answer (next_slot t) refl
-  where
-    by_answer : (o : Option Slot) → next_slot t ≡ o → IsSome o
-    by_answer (Some at) e = refl
-    by_answer None e = absurd ((none_where_full t h).0 (rw e refl) block within room)
 
 -- the cursor plays no part in what is free
 pub is_first_free_moved : (t : BlockTable) (at die : ℕ) → IsFirstFree t at → IsFirstFree (record t { cursor = die }) at

@@ -12,10 +12,10 @@ use Rattle.host_protocol.specs.Commands.{IsCommand}
 use Rattle.host_protocol.specs.Files.{AreCommands, AreGood, IsFile, IsFirstBad, entries_in, is_command_line}
 use Rattle.host_protocol.specs.Lines.{lines_of}
 use Rattle.host_protocol.specs.Reading.{AddsCommand, AddsNone, EndsAt, text_error}
-use Rattle.host_protocol.specs.declared.fault.LineError.{LineError}
-use Rattle.host_protocol.specs.declared.fault.LineError.TheVariants.{Bad, Memory}
-use Rattle.host_protocol.specs.declared.fault.TextError.{TextError}
-use Rattle.host_protocol.specs.declared.fault.TextError.TheVariants as text
+use Rattle.host_protocol.specs.declared.error.LineError.{LineError}
+use Rattle.host_protocol.specs.declared.error.LineError.TheVariants.{Bad, Memory}
+use Rattle.host_protocol.specs.declared.error.TextError.{TextError}
+use Rattle.host_protocol.specs.declared.error.TextError.TheVariants as text
 use Rattle.host_protocol.specs.declared.command.Command.{Command}
 use Rattle.host_protocol.specs.declared.file.TheConstants.{MAX_COMMANDS, MAX_ENTRIES}
 use Rattle.host_protocol.proofs.CommandLemmas.{one_command}
@@ -81,9 +81,6 @@ zip_same R one (x ∷ xs) (y ∷ ys) (z ∷ zs) a b =
     cc
 
 -- ---- the lines so far
-
-pub none_yet : (size : ℕ) → AreCommands size [] []
-none_yet size = record { each = tt; most_commands = omega arith; most_entries = omega arith }
 
 filter_idle : (lines : List (List ℕ)) (line : List ℕ) → is_command_line line ≡ false → filter is_command_line (lines ++ line ∷ []) ≡ filter is_command_line lines
 filter_idle lines line h = filter-append is_command_line lines (line ∷ []) ∙ rw h (append-nil (filter is_command_line lines))

@@ -1,6 +1,7 @@
 pub mod CommandLemmas
 pub mod EntryLemmas
 pub mod FileLemmas
+pub mod LengthLemmas
 pub mod LineLemmas
 pub mod PartLemmas
 pub mod ReadingLemmas

@@ -1,8 +1,8 @@
 -- What reading the words of a line gives.
 use Rattle.std.proofs.Common.{◌≡◌, List, [], ◌∷◌, ◌++◌, map, Option, Some, None}
 use Rattle.host_protocol.specs.Reading.{Fails}
-use Rattle.host_protocol.specs.declared.fault.LineError.{LineError}
-use Rattle.host_protocol.specs.declared.fault.LineError.TheVariants.{Bad, Memory}
+use Rattle.host_protocol.specs.declared.error.LineError.{LineError}
+use Rattle.host_protocol.specs.declared.error.LineError.TheVariants.{Bad, Memory}
 
 -- where one thing is not read, not all are
 pub none_among : {X : Type 0} (xs ys : List X) (rest : List (Option X)) → map Some ys ≡ map Some xs ++ None ∷ rest → ⊥

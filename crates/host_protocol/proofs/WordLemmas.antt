@@ -3,6 +3,7 @@ use Rattle.std.proofs.Common.{◌≡◌, ℕ, suc, ◌<◌, Bool, true, false, n
 use Rattle.std.specs.Prelude.{position}
 use Rattle.std.specs.List.{position_or_len}
 use Rattle.std.proofs.Math.ListN.{drop_of_length-le}
+use Rattle.std.proofs.lemmas.Bool.{not-true}
 use Rattle.std.proofs.lemmas.List.{length-take}
 use Rattle.std.proofs.lemmas.List.Sums.{passes_at_first}
 use Rattle.host_protocol.specs.Lines.{words_of, is_blank, has_bytes}
@@ -39,10 +40,6 @@ word_take line filled first =
 long_start : (b : ℕ) (bs : List ℕ) → is_blank b ≡ false → 0 < position_or_len is_blank (b ∷ bs)
 long_start b bs e = rw (e, one_more) (omega arith)
 
-not_true : (b : Bool) → not b ≡ true → b ≡ false
-not_true true h = sym h
-not_true false h = refl
-
 -- a word begins at a byte that is no blank
 word_at : (line : List ℕ) (i : ℕ) → i < length line → is_blank (get_or line i 0) ≡ false
     → words_of (drop i line) ≡ take (position_or_len is_blank (drop i line)) (drop i line) ∷ words_of (drop (position_or_len is_blank (drop i line)) (drop i line))
@@ -59,7 +56,7 @@ word_first line start end h e' =
     let e : end ≡ unwrap_or (position is_blank (drop start line)) (length (drop start line)) = rw whole at e' in
     let at = position_some (λ b. not (is_blank b)) line start h in
     let here : start_of line < length line = omega (arith, at.0, at.1) in
-    let filled = not_true (is_blank (get_or line (start_of line) 0)) (passes_at_first (λ b. not (is_blank b)) line 0 here) in
+    let filled = not-true (is_blank (get_or line (start_of line) 0)) (passes_at_first (λ b. not (is_blank b)) line 0 here) in
     let skipped : words_of (drop start line) ≡ words_of line = rw at.0 at (words_skip line) in
     let ended : end ≡ position_or_len is_blank (drop start line) = e ∙ position_end is_blank (drop start line) in
     let taken = word_at line start at.1 (rw at.0 at filled) in

@@ -2,6 +2,7 @@
 use Rattle.std.specs.Prelude.{ℕ, ◌+◌, ◌-◌, ◌*◌, nat_le, Bool, ◌&&◌, List, length, fold, Option, Some, None, if◌then◌else◌}
 use Rattle.std.specs.List.{list_all}
 use Rattle.std.specs.Option.{option_and_then}
+use Rattle.tx_types.specs.Limits.{max_u32}
 
 abbrev pub is_digit : ℕ → Bool
 is_digit b = nat_le 48 b && nat_le b 57
@@ -12,7 +13,8 @@ value_of digits = fold (λ n digit. n * 10 + (digit - 48)) 0 digits
 
 -- one to ten decimal digits, for a number of 32 bits
 abbrev pub is_number : List ℕ → Bool
-is_number word = nat_le 1 (length word) && nat_le (length word) 10 && list_all is_digit word && nat_le (value_of word) 4294967295
+is_number word =
+    nat_le 1 (length word) && nat_le (length word) 10 && list_all is_digit word && nat_le (value_of word) max_u32
 
 -- the number that a word is, a page or a tag
 unfoldable pub number_of : List ℕ → Option ℕ

@@ -1,17 +1,18 @@
 -- What reading a part of a line gave.
-use Rattle.std.specs.Prelude.{◌≡◌, ◌<◌, ◌≤◌, true, ℕ, List, Option, Some, None, Result, Ok, Err}
+use Rattle.std.specs.Prelude.{◌≡◌, ◌<◌, ◌≤◌, true, ℕ, List, length, map, Option, Some, None, Result, Ok, Err}
 use Rattle.hex.specs.declared.error.FromHexError.{FromHexError}
 use Rattle.hex.specs.declared.error.FromHexError.TheVariants.{OutOfMemory}
-use Rattle.host_protocol.specs.Commands.{verb_of, AreOperands, IsCommand}
+use Rattle.tx_types.specs.Batch.{PageWrite, Writes}
+use Rattle.host_protocol.specs.Commands.{entry_of, verb_of, AreOperands, IsCommand, IsWrite}
 use Rattle.host_protocol.specs.Files.{entries_in, is_command_line, IsFirstBad}
 use Rattle.host_protocol.specs.declared.file.TheConstants.{MAX_COMMANDS}
-use Rattle.host_protocol.specs.declared.fault.TextError.{TextError}
-use Rattle.host_protocol.specs.declared.fault.TextError.TheVariants as text
+use Rattle.host_protocol.specs.declared.error.TextError.{TextError}
+use Rattle.host_protocol.specs.declared.error.TextError.TheVariants as text
 use Rattle.host_protocol.specs.declared.command.Command.{Command}
 use Rattle.host_protocol.specs.declared.command.Command.TheVariants as command
 use Rattle.host_protocol.specs.declared.verb.Verb.{Verb}
-use Rattle.host_protocol.specs.declared.fault.LineError.{LineError}
-use Rattle.host_protocol.specs.declared.fault.LineError.TheVariants.{Bad, Memory}
+use Rattle.host_protocol.specs.declared.error.LineError.{LineError}
+use Rattle.host_protocol.specs.declared.error.LineError.TheVariants.{Bad, Memory}
 
 -- a text that is no digits makes a bad line
 abbrev pub error_of : FromHexError → LineError
@@ -35,8 +36,39 @@ IsPlain what = Unit {0}
 
 -- the words behind the command word make this plain command, or none
 abbrev pub MakesPlain : Verb → List (List ℕ) → Option Command → Type 0
-MakesPlain verb words (Some what) = IsPlain what × (verb ≡ verb_of what) × ((size : ℕ) → AreOperands size words what)
-MakesPlain verb words None = (size : ℕ) (what : Command) → IsPlain what → verb ≡ verb_of what → ¬ AreOperands size words what
+MakesPlain verb words (Some what) =
+    IsPlain what × (verb ≡ verb_of what) × ((size : ℕ) → AreOperands size words what)
+MakesPlain verb words None =
+    (size : ℕ) (what : Command) → IsPlain what → verb ≡ verb_of what → ¬ AreOperands size words what
+
+-- the words behind the command word make this command, which has room
+abbrev pub MakesCommand : ℕ → Verb → List (List ℕ) → ℕ → Command → Type 0
+MakesCommand size verb words room what =
+    (verb ≡ verb_of what) × AreOperands size words what × (entries_in what ≤ room)
+
+-- each command that they make has no room
+abbrev pub MakesNone : ℕ → Verb → List (List ℕ) → ℕ → Type 0
+MakesNone size verb words room =
+    (what : Command) → verb ≡ verb_of what → AreOperands size words what → room < entries_in what
+
+-- the words are a tag and entries, which have room
+abbrev pub IsRoomyWrite : ℕ → List (List ℕ) → ℕ → ℕ → Writes → Type 0
+IsRoomyWrite size words room tag batch = IsWrite size words tag batch × (length batch.entries ≤ room)
+
+-- where they are a tag and entries, those have no room
+abbrev pub IsNoRoomyWrite : ℕ → List (List ℕ) → ℕ → Type 0
+IsNoRoomyWrite size words room =
+    (tag : ℕ) (batch : Writes) → IsWrite size words tag batch → room < length batch.entries
+
+-- the words are these entries, which have room
+abbrev pub HasEntries : ℕ → List (List ℕ) → ℕ → Writes → Type 0
+HasEntries size words room batch =
+    (batch.page_bytes ≡ size) × (map (entry_of size) words ≡ map Some batch.entries) × (length batch.entries ≤ room)
+
+-- where they are entries, those have no room
+abbrev pub HasNoEntries : ℕ → List (List ℕ) → ℕ → Type 0
+HasNoEntries size words room =
+    (writes : List PageWrite) → map (entry_of size) words ≡ map Some writes → room < length writes
 
 -- the line is neither blank nor a comment, and is this command, which has room in the file
 pub record AddsCommand (size : ℕ) (line : List ℕ) (before room : ℕ) (what : Command) : Type 0 where
@@ -48,7 +80,8 @@ pub record AddsCommand (size : ℕ) (line : List ℕ) (before room : ℕ) (what 
 -- the line is neither blank nor a comment, and each command that it is has no room in the file
 pub record AddsNone (size : ℕ) (line : List ℕ) (before room : ℕ) : Type 0 where
   pub asks : is_command_line line ≡ true
-  pub past : (what : Command) → IsCommand size line what → before < MAX_COMMANDS → room < entries_in what
+  pub past : (what : Command) → IsCommand size line what → before < MAX_COMMANDS →
+      room < entries_in what
 
 -- where a file's reading ended
 abbrev pub EndsAt : ℕ → List ℕ → TextError → Type 0

@@ -1,7 +1,8 @@
 -- The text of a reply.
-use Rattle.std.specs.Prelude.{ℕ, ◌^◌, ◌<◌, List, [], ◌∷◌, ◌++◌, codes}
+use Rattle.std.specs.Prelude.{ℕ, ◌^◌, ◌<◌, ◌≤◌, List, [], ◌∷◌, ◌++◌, length, codes}
 use Rattle.std.specs.Fmt.{decimal}
 use Rattle.hex.specs.Hex.{encode_lower, IsBytes}
+use Rattle.tx_types.specs.Limits.{max_page_bytes}
 use Rattle.tx_types.specs.declared.stats.Stats.{Stats}
 use Rattle.host_protocol.specs.declared.reply.Reply.{Reply}
 use Rattle.host_protocol.specs.declared.reply.Reply.TheVariants as reply
@@ -18,13 +19,15 @@ page_words page bytes = codes "page" ∷ decimal page ∷ encode_lower bytes ∷
 
 -- the words of the numbers of a device that tell of its flash
 abbrev pub flash_stats : Stats → List (List ℕ)
-flash_stats s = codes "programs" ∷ decimal s.programs ∷ codes "erases" ∷ decimal s.erases ∷ codes "garbage" ∷ decimal s.garbage ∷ []
+flash_stats s =
+    codes "programs" ∷ decimal s.programs ∷ codes "erases" ∷ decimal s.erases
+    ∷ codes "garbage" ∷ decimal s.garbage ∷ []
 
 -- the words of the numbers of a device
 abbrev pub stats_words : Stats → List (List ℕ)
 stats_words s =
-    codes "stats" ∷ codes "written" ∷ decimal s.written ∷ codes "open" ∷ decimal s.tags ∷ codes "pending" ∷ decimal s.pending
-    ∷ flash_stats s
+    codes "stats" ∷ codes "written" ∷ decimal s.written ∷ codes "open" ∷ decimal s.tags
+    ∷ codes "pending" ∷ decimal s.pending ∷ flash_stats s
 
 -- the words of a reply that is one line
 abbrev pub reply_words : Reply → List (List ℕ)
@@ -60,7 +63,8 @@ text_of what = line_of (reply_words what)
 abbrev pub IsLine : Reply → Type 0
 IsLine (reply.Page page bytes) = (page < 2 ^ 32) × IsBytes bytes
 IsLine (reply.Stats s) =
-    (s.written < 2 ^ 32) × (s.tags < 2 ^ 32) × (s.pending < 2 ^ 32) × (s.programs < 2 ^ 64) × (s.erases < 2 ^ 64) × (s.garbage < 2 ^ 32)
+    (s.written < 2 ^ 32) × (s.tags < 2 ^ 32) × (s.pending < 2 ^ 32)
+    × (s.programs < 2 ^ 64) × (s.erases < 2 ^ 64) × (s.garbage < 2 ^ 32)
 IsLine (reply.Blank page) = page < 2 ^ 32
 IsLine (reply.Opened tag pages) = (tag < 2 ^ 32) × (pages < 2 ^ 32)
 IsLine (reply.Wrote tag done all) = (tag < 2 ^ 32) × (done < 2 ^ 32) × (all < 2 ^ 32)
@@ -76,3 +80,12 @@ IsLine (reply.RefusedFull free) = free < 2 ^ 32
 IsLine (reply.RefusedSpent page) = page < 2 ^ 32
 IsLine (reply.Report text) = ⊥
 IsLine what = Unit {0}
+
+-- the contents of a page are no longer than those of a device
+abbrev pub HasPage : Reply → Type 0
+HasPage (reply.Page page bytes) = length bytes ≤ max_page_bytes
+HasPage what = Unit {0}
+
+-- the most bytes of a line with its line feed: that of a page with 4096 bytes and a number of ten digits
+abbrev pub max_line_bytes : ℕ
+max_line_bytes = 8209

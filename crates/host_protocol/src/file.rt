@@ -6,7 +6,7 @@ ghost use Rattle.host_protocol.specs.Reading.{EndsAt};
 ghost use Rattle.host_protocol.specs.declared.command.Command.{Command};
 
 use crate::command::Command;
-use crate::fault::TextError;
+use crate::error::TextError;
 use crate::line::line_command;
 use crate::lines::first_line;
 use std::alloc::Global;
@@ -30,7 +30,8 @@ pub fn parse(alloc: Global, bytes: &[u8], page_bytes: u32) -> Result<Vec<Command
     ensures suits { IfOk result (λ list. All (Suits page_bytes) list.items) }
     ensures line { IfErr result (EndsAt page_bytes bytes.now) }
 
-    // What is in the grammar is read, and the first line that is not is named, unless memory runs out.
+    // What is in the grammar is read, and the first line that is not is named, unless memory runs
+    // out.
     ensures only { (commands : List Command) → IsFile page_bytes bytes.now commands
         → MatchResult result (λ list. list.items ≡ commands) (λ e. e ≡ TextError.Memory) }
     ensures first { (n : ℕ) → IsFirstBad page_bytes bytes.now n
@@ -54,8 +55,10 @@ pub fn parse(alloc: Global, bytes: &[u8], page_bytes: u32) -> Result<Vec<Command
 /// Keeps the command of a line, if it has one, and takes its entries from the room.
 fn keep(commands: &mut Vec<Command>, room: &mut usize, found: Option<Command>) -> Result<(), Memory>
     requires { sum_by entries_in (option_to_list found) ≤ room.old }
-    ensures commands { OnOk result (commands.new.items ≡ commands.old.items ++ option_to_list found) }
-    ensures room { OnOk result (room.new + sum_by entries_in (option_to_list found) ≡ room.old) }
+    ensures commands { OnOk result
+        (commands.new.items ≡ commands.old.items ++ option_to_list found) }
+    ensures room { OnOk result
+        (room.new + sum_by entries_in (option_to_list found) ≡ room.old) }
 {
     if let Some(command) = found {
         *room -= entry_count(&command);

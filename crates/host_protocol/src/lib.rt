@@ -3,8 +3,9 @@
 
 mod command;
 mod entry;
-mod fault;
+mod error;
 mod file;
+mod laws;
 mod line;
 mod lines;
 mod numbers;
@@ -14,12 +15,13 @@ mod verb;
 mod words;
 
 pub use command::Command;
-pub use fault::{LineError, TextError};
+pub use error::TextError;
 pub use file::{MAX_COMMANDS, MAX_ENTRIES, MAX_FILE_BYTES, parse};
-pub use line::line_command;
+pub use laws::{files_tell_commands, lines_are_short, lines_tell_replies};
 pub use lines::first_line;
 pub use numbers::number;
 pub use reply::{Reply, reply_text};
+pub use words::first_word;
 
 #[cfg(test)]
 mod tests;

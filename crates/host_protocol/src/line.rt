@@ -1,14 +1,21 @@
-ghost use Rattle.std.specs.Prelude.{◌≡◌, ◌<◌, ◌≤◌, ℕ, false, length, map, List, IfOk, IfNone, IfSome, IsErrOf};
-ghost use Rattle.tx_types.specs.Batch.{PageWrite, Writes};
-ghost use Rattle.host_protocol.specs.Commands.{AreOperands, IsWrite, entry_of, verb_of};
-ghost use Rattle.host_protocol.specs.Files.{entries_in, is_command_line};
+ghost use Rattle.std.specs.Prelude.{◌≡◌, ◌≢◌, [], false, IfOk, IfNone, IfSome, IsErrOf};
+ghost use Rattle.host_protocol.specs.Files.{is_command_line};
 ghost use Rattle.host_protocol.specs.Lines.{words_of};
-ghost use Rattle.host_protocol.specs.Reading.{AddsCommand, AddsNone, MakesPlain};
-ghost use Rattle.host_protocol.specs.declared.command.Command.{Command};
+ghost use Rattle.host_protocol.specs.Reading.{
+  AddsCommand,
+  AddsNone,
+  HasEntries,
+  HasNoEntries,
+  IsNoRoomyWrite,
+  IsRoomyWrite,
+  MakesCommand,
+  MakesNone,
+  MakesPlain,
+};
 
 use crate::command::Command;
 use crate::entry::entry;
-use crate::fault::LineError;
+use crate::error::LineError;
 use crate::file::MAX_COMMANDS;
 use crate::numbers::number;
 use crate::operands::{arm, lone_count, lone_number, no_word};
@@ -17,9 +24,9 @@ use crate::words::first_word;
 use std::alloc::Global;
 use tx_types::Batch;
 
-/// The command of a line, none for a blank line or a comment. There are `before` commands before it, and a
-/// write may have at most `room` entries.
-pub fn line_command(
+/// The command of a line, none for a blank line or a comment. There are `before` commands before
+/// it, and a write may have at most `room` entries.
+pub(crate) fn line_command(
     alloc: Global,
     line: &[u8],
     page_bytes: u32,
@@ -51,8 +58,8 @@ fn command(
     page_bytes: u32,
     room: usize,
 ) -> Result<Command, LineError>
-    ensures ok { IfOk result (λ what. (verb ≡ verb_of what) × AreOperands page_bytes (words_of words.now) what × (entries_in what ≤ room)) }
-    ensures bad { IsErrOf result LineError.Bad → (what : Command) → verb ≡ verb_of what → AreOperands page_bytes (words_of words.now) what → room < entries_in what }
+    ensures ok { IfOk result (MakesCommand page_bytes verb (words_of words.now) room) }
+    ensures bad { IsErrOf result LineError.Bad → MakesNone page_bytes verb (words_of words.now) room }
 {
     match verb {
         Verb::Write => {
@@ -81,18 +88,9 @@ fn plain(verb: Verb, words: &[u8]) -> Option<Command>
         Verb::Abort => Command::Abort {
             tag: lone_number(words)?,
         },
-        Verb::Collect => {
-            no_word(words)?;
-            Command::Collect
-        },
-        Verb::Stats => {
-            no_word(words)?;
-            Command::Stats
-        },
-        Verb::Explain => {
-            no_word(words)?;
-            Command::Explain
-        },
+        Verb::Collect => bare(words, Command::Collect)?,
+        Verb::Stats => bare(words, Command::Stats)?,
+        Verb::Explain => bare(words, Command::Explain)?,
         Verb::Cut => {
             let (count, outcome) = arm(words)?;
             Command::Cut { count, outcome }
@@ -107,6 +105,15 @@ fn plain(verb: Verb, words: &[u8]) -> Option<Command>
     })
 }
 
+/// The command, where no word is behind its verb.
+fn bare(words: &[u8], command: Command) -> Option<Command>
+    ensures some { IfSome result (λ c. (c ≡ command) × (words_of words.now ≡ [])) }
+    ensures none { IfNone result (words_of words.now ≢ []) }
+{
+    no_word(words)?;
+    Some(command)
+}
+
 /// The tag and the pages of a write, which may have at most `room` entries.
 fn write(
     alloc: Global,
@@ -114,8 +121,8 @@ fn write(
     page_bytes: u32,
     room: usize,
 ) -> Result<(u32, Batch), LineError>
-    ensures ok { IfOk result (λ w. IsWrite page_bytes (words_of words.now) w.0 w.1 × (length w.1.entries ≤ room)) }
-    ensures bad { IsErrOf result LineError.Bad → (tag : ℕ) (batch : Writes) → IsWrite page_bytes (words_of words.now) tag batch → room < length batch.entries }
+    ensures ok { IfOk result (λ w. IsRoomyWrite page_bytes (words_of words.now) room w.0 w.1) }
+    ensures bad { IsErrOf result LineError.Bad → IsNoRoomyWrite page_bytes (words_of words.now) room }
 {
     let (first, behind) = first_word(words).ok_or(LineError::Bad)?;
     let tag = number(first).ok_or(LineError::Bad)?;
@@ -125,8 +132,8 @@ fn write(
 
 /// The pages of a write, by its entries, of which there may be at most `room`.
 fn entries(alloc: Global, words: &[u8], page_bytes: u32, room: usize) -> Result<Batch, LineError>
-    ensures ok { IfOk result (λ b. (b.page_bytes ≡ page_bytes) × (map (entry_of page_bytes) (words_of words.now) ≡ map Some b.entries) × (length b.entries ≤ room)) }
-    ensures bad { IsErrOf result LineError.Bad → (writes : List PageWrite) → map (entry_of page_bytes) (words_of words.now) ≡ map Some writes → room < length writes }
+    ensures ok { IfOk result (HasEntries page_bytes (words_of words.now) room) }
+    ensures bad { IsErrOf result LineError.Bad → HasNoEntries page_bytes (words_of words.now) room }
 {
     let mut batch = Batch::new(alloc, page_bytes);
     let mut rest = words;

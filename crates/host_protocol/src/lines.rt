@@ -4,7 +4,8 @@ ghost use Rattle.host_protocol.specs.Lines.{lines_of, is_line_feed};
 
 /// The first line of a file, and what is behind it.
 pub fn first_line(bytes: &[u8]) -> Option<(&[u8], &[u8])>
-    ensures line { IfSome result (λ found. lines_of bytes.now ≡ found.0.now ∷ lines_of found.1.now) }
+    ensures line { let lines = lines_of bytes.now in
+        IfSome result (λ found. lines ≡ found.0.now ∷ lines_of found.1.now) }
     ensures shorter { IfSome result (λ found. length found.1.now < length bytes.now) }
     ensures none { IfNone result (lines_of bytes.now ≡ []) }
 {

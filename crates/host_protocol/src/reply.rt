@@ -1,8 +1,6 @@
-ghost use Rattle.std.specs.Prelude.{◌≡◌, ◌++◌, List, IfOk, IsOkAnd, OnOk, OnErr, flat_map};
-ghost use Rattle.std.specs.List.{AllByRecursion};
+ghost use Rattle.std.specs.Prelude.{◌≡◌, ◌++◌, IfOk, IsOkAnd, OnOk, OnErr};
 ghost use Rattle.std.specs.String.{string_bytes};
-ghost use Rattle.host_protocol.specs.declared.reply.Reply.{Reply};
-ghost use Rattle.host_protocol.specs.Replies.{text_of, IsLine, line_of, page_words, stats_words, flash_stats};
+ghost use Rattle.host_protocol.specs.Replies.{text_of, line_of, page_words, stats_words, flash_stats};
 
 use std::alloc::{AllocError, Global};
 use tx_types::{Bytes, Memory, Stats};
@@ -140,10 +138,3 @@ fn flash_part(alloc: Global, stats: &Stats) -> Result<String, AllocError>
     } = stats;
     format!(in alloc; "programs {programs} erases {erases} garbage {garbage}\n")
 }
-
-/// The law that a reader of replies rests on: bytes are the lines of one list of replies at most, where none
-/// is a report. A report's text is free, and may be that of other replies.
-pub fn lines_tell_replies()
-    ensures { (xs ys : List Reply) → AllByRecursion IsLine xs → AllByRecursion IsLine ys
-        → flat_map text_of xs ≡ flat_map text_of ys → xs ≡ ys }
-{}

@@ -3,7 +3,8 @@ ghost use Rattle.host_protocol.specs.Lines.{words_of, is_blank};
 
 /// The first word of a line, and what is behind it.
 pub fn first_word(line: &[u8]) -> Option<(&[u8], &[u8])>
-    ensures word { IfSome result (λ found. words_of line.now ≡ found.0.now ∷ words_of found.1.now) }
+    ensures word { let words = words_of line.now in
+        IfSome result (λ found. words ≡ found.0.now ∷ words_of found.1.now) }
     ensures shorter { IfSome result (λ found. length found.1.now < length line.now) }
     ensures none { IfNone result (words_of line.now ≡ []) }
 {

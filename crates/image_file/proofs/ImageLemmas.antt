@@ -1,9 +1,9 @@
 -- States and bytes on one side, and what the slots hold on the other.
-use Rattle.std.proofs.Common.{◌≡◌, ℕ, zero, suc, ◌+◌, ◌*◌, Bool, true, false, ◌&&◌, not, eqb, List, [], ◌∷◌, ◌++◌, map, length, take, drop, replicate, Some, None, refl, ap, ◌∙◌, inl, inr, arith}
+use Rattle.std.proofs.Common.{◌≡◌, ℕ, zero, suc, ◌+◌, ◌*◌, true, false, not, eqb, List, [], ◌∷◌, ◌++◌, map, length, take, drop, replicate, Some, None, refl, ap, ◌∙◌, inl, inr, arith}
 use Rattle.std.specs.Prelude.{is_none, unwrap_or}
 use Rattle.std.specs.List.{All, flat_map, zip}
 use Rattle.std.specs.Simd.{first_chunks}
-use Rattle.std.proofs.lemmas.Bool.{cases_eq, eq-eqb, eqb-true, ne_eqb, not-false}
+use Rattle.std.proofs.lemmas.Bool.{and_parts, cases_eq, eq-eqb, eqb-true, ne_eqb, not-false}
 use Rattle.std.proofs.lemmas.List.{replicate-append-replicate, length-append, length-replicate, length-take, length-drop, take-append-drop, take_at, drop_at}
 use Rattle.flash_model.specs.declared.flash.Seen.{Seen}
 use Rattle.flash_model.specs.declared.flash.Seen.TheVariants.{Blank, Complete, Damaged}
@@ -18,14 +18,10 @@ use Rattle.image_file.proofs.Firsts.{position-pass, position-rest}
 
 -- ---- bytes that are all one
 
-both : (a b : Bool) → (a && b) ≡ true → (a ≡ true) × (b ≡ true)
-both true b h = (refl, h)
-both false b h = absurd cc
-
 pub all_equal-is : (bytes : List ℕ) (x : ℕ) → all_equal bytes x ≡ true → bytes ≡ replicate (length bytes) x
 all_equal-is [] x h = refl
 all_equal-is (b ∷ bytes) x h =
-    let parts = both (eqb b x) (all_equal bytes x) h in
+    let parts = and_parts (eqb b x) (all_equal bytes x) h in
     let first : b ≡ x = eqb-true b x parts.0 in
     let rest : bytes ≡ replicate (length bytes) x = all_equal-is bytes x parts.1 in
     cc

@@ -1,7 +1,7 @@
 -- What the code found, as the first rule that is broken.
-use Rattle.std.proofs.Common.{◌≡◌, ◌≢◌, ℕ, List, length, Option, Some, None, Ok, Err, refl, ap, ◌∙◌}
-use Rattle.std.specs.Option.{option_map, option_or, option_map_or}
-use Rattle.std.proofs.lemmas.Bool.{ne_eqb, eq-eqb}
+use Rattle.std.proofs.Common.{◌≡◌, ℕ, List, length, Option, Some, None, Ok, Err, refl, ap, ◌∙◌}
+use Rattle.std.specs.Option.{option_or, option_map_or}
+use Rattle.std.proofs.lemmas.Bool.{eq-eqb}
 use Rattle.tx_types.specs.Config.{image_bytes}
 use Rattle.tx_types.specs.declared.config.Config.{Config}
 use Rattle.flash_model.specs.Flash.{Contents}
@@ -47,20 +47,10 @@ refused_slots bytes e none h = refusal-behind (broken_header bytes) (broken_slot
 
 -- ---- behind the header
 
-pub broken-length : (bytes : List ℕ) → length bytes ≢ image_bytes (shape_in bytes) → broken_slots bytes ≡ Some error.Length
-broken-length bytes wrong = rw (ne_eqb (length bytes) (image_bytes (shape_in bytes)) wrong) refl
-
 module _ (bytes : List ℕ) (long : length bytes ≡ image_bytes (shape_in bytes)) where
-  pub refused_state : (e : ImageError) → IsRefusal (option_map (λ at. error.SlotState (record { 0 = at })) (wrong_state (states_in bytes))) e
-      → IsRefusal (broken_slots bytes) e
-  refused_state e h = rw (eq-eqb (length bytes) (image_bytes (shape_in bytes)) long) (refusal-before _ _ e h)
-
   module _ (states : wrong_state (states_in bytes) ≡ None) where
     abbrev wrong : Option ℕ
     wrong = wrong_bytes (cell_bytes (number_at 12 bytes)) (all_seen (states_in bytes)) (cells_in bytes)
-
-    pub broken-bytes : (at : ℕ) → wrong ≡ Some at → broken_slots bytes ≡ Some (error.SlotBytes (record { 0 = at }))
-    broken-bytes at h = rw (eq-eqb (length bytes) (image_bytes (shape_in bytes)) long, states, h) refl
 
     pub broken-nothing : wrong ≡ None → broken_slots bytes ≡ None
     broken-nothing h = rw (eq-eqb (length bytes) (image_bytes (shape_in bytes)) long, states, h) refl

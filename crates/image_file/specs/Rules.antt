@@ -6,6 +6,7 @@ use Rattle.std.specs.List.{starts_with, zip}
 use Rattle.std.specs.Int.{w32, from_le_bytes}
 use Rattle.std.specs.Simd.{first_chunks}
 use Rattle.tx_types.specs.Config.{checked, shape_of, slots_of, image_bytes}
+use Rattle.tx_types.specs.Limits.{header_bytes}
 use Rattle.tx_types.specs.declared.config.Config.{Config}
 use Rattle.tx_types.specs.declared.config.Shape.{Shape}
 use Rattle.tx_types.specs.declared.config.Protocol.{Protocol}
@@ -51,7 +52,7 @@ seen_from state =
 
 -- the bytes of the states
 abbrev pub states_in : List ℕ → List ℕ
-states_in bytes = slice_range bytes 64 (64 + slots_of (shape_in bytes))
+states_in bytes = slice_range bytes header_bytes (header_bytes + slots_of (shape_in bytes))
 
 -- how the slots read for which these bytes stand
 abbrev pub all_seen : List ℕ → List Seen
@@ -59,7 +60,7 @@ all_seen states = map (λ state. unwrap_or (seen_from state) Blank) states
 
 -- the bytes of the slots, one slot after another
 abbrev pub cells_in : List ℕ → List ℕ
-cells_in bytes = drop (64 + slots_of (shape_in bytes)) bytes
+cells_in bytes = drop (header_bytes + slots_of (shape_in bytes)) bytes
 
 -- what the slots hold
 abbrev pub image_in : List ℕ → List Contents
@@ -67,9 +68,13 @@ image_in bytes = image_of (number_at 12 bytes) (all_seen (states_in bytes)) (cel
 
 -- ---- the rules
 
--- a blank slot has only bytes ff, a damaged one only bytes 00, and a complete one any bytes
+-- each byte of a blank slot
+abbrev pub blank_byte : ℕ
+blank_byte = 255
+
+-- a blank slot has only such bytes, a damaged one only bytes 0, and a complete one any bytes
 abbrev pub is_filled : Seen → List ℕ → Bool
-is_filled Blank cell = all_equal cell 255
+is_filled Blank cell = all_equal cell blank_byte
 is_filled Damaged cell = all_equal cell 0
 is_filled Complete cell = true
 
@@ -88,10 +93,10 @@ unless holds refusal rest = if holds then rest else Some refusal
 -- the first rule of the header that is broken
 abbrev pub broken_header : List ℕ → Option ImageError
 broken_header bytes =
-    unless (nat_le 64 (length bytes)) error.Short
+    unless (nat_le header_bytes (length bytes)) error.Short
     (unless (starts_with nat_eq bytes magic) error.Magic
     (unless (is_some (protocol_of (number_at 8 bytes))) error.Protocol
-    (unless (all_equal (slice_range bytes 36 64) 0) error.Reserved
+    (unless (all_equal (slice_range bytes 36 header_bytes) 0) error.Reserved
     (option_map error.Config (result_err (checked (config_in bytes)))))))
 
 -- the refusal of the first state that stands for nothing

@@ -6,12 +6,8 @@ use Rattle.std.specs.Option.{is_some, option_map, option_map_or}
 use Rattle.std.proofs.lemmas.Bool.Decides.{nat_tests}
 use Rattle.std.proofs.lemmas.List.{length-take}
 use Rattle.std.proofs.lemmas.List.Elements.{All-cons, All-head, All-tail, All-take}
+use Rattle.std.proofs.lemmas.Bool.{and_parts}
 use Rattle.page_cache.specs.CachedPages.{CachedPage, has_key, is_whole, entry_of, without, promoted, kept}
-
--- both tests pass
-pub both : (a b : Bool) → (a && b) ≡ true → (a ≡ true) × (b ≡ true)
-both true b h = (refl, h)
-both false b h = cc
 
 turned : (a b c : Bool) → (a && (b && c)) ≡ (b && (a && c))
 turned true true c = refl
@@ -22,7 +18,7 @@ turned false false c = refl
 list_all-take : {A : Type 0} (p : A → Bool) (n : ℕ) (xs : List A) → list_all p xs ≡ true → list_all p (take n xs) ≡ true
 list_all-take p zero xs h = refl
 list_all-take p (suc n) [] h = refl
-list_all-take p (suc n) (x ∷ xs) h = let parts = both (p x) (list_all p xs) h in rw (parts.0) (list_all-take p n xs parts.1)
+list_all-take p (suc n) (x ∷ xs) h = let parts = and_parts (p x) (list_all p xs) h in rw (parts.0) (list_all-take p n xs parts.1)
 
 take_most : {A : Type 0} (n : ℕ) (xs : List A) → length (take n xs) ≤ n
 take_most n xs = omega (arith, length-take n xs)
@@ -81,7 +77,7 @@ module _ (page version : ℕ) where
     all_without : (es : List CachedPage) → list_all p es ≡ true → list_all p (without page version es) ≡ true
     unfolding without
     all_without [] h = refl
-    all_without (x ∷ es) h = let parts = both (p x) (list_all p es) h in elim (has_key page version x) as (λ b. list_all p (cond b es (x ∷ without page version es)) ≡ true) [
+    all_without (x ∷ es) h = let parts = and_parts (p x) (list_all p es) h in elim (has_key page version x) as (λ b. list_all p (cond b es (x ∷ without page version es)) ≡ true) [
       | true ↦ parts.1
       | false ↦ rw parts.0 (all_without es parts.1)
     ]
@@ -134,7 +130,7 @@ module _ (page version : ℕ) where
   unfolding entry_of
   size_found [] size bytes is h = cc
   size_found (x ∷ es) size bytes is h =
-      let parts = both (is_whole size x) (list_all (is_whole size) es) h in
+      let parts = and_parts (is_whole size x) (list_all (is_whole size) es) h in
       (elim (has_key page version x) as (λ b. has_key page version x ≡ b → length bytes ≡ size) [
         | true ↦ λ t. let same : Some bytes ≡ Some x.bytes = rw t at is in let own = parts.0 in grind (arith, nat_tests)
         | false ↦ λ t. size_found es size bytes (rw t at is) parts.1

@@ -1,7 +1,7 @@
 -- Bytes as parts one after the other.
-use Rattle.std.proofs.Common.{◌≡◌, ℕ, zero, suc, ◌+◌, ◌-◌, ◌^◌, ◌<◌, ◌≤◌, ◌&&◌, Bool, true, false, eqb, ltb, List, [], ◌∷◌, ◌++◌, length, get_or, take, drop, replicate, refl, sym, ap, ◌∙◌, arith, inl, inr, slice_range}
+use Rattle.std.proofs.Common.{◌≡◌, ℕ, zero, suc, ◌+◌, ◌-◌, ◌^◌, ◌<◌, ◌≤◌, true, eqb, ltb, List, [], ◌∷◌, ◌++◌, length, get_or, take, drop, replicate, refl, sym, ap, ◌∙◌, arith, inl, inr, slice_range}
 use Rattle.std.specs.Int.{w32, w64, to_le_bytes}
-use Rattle.std.proofs.lemmas.Bool.{cases_lt, eqb-true, ltb-true, lt-ltb}
+use Rattle.std.proofs.lemmas.Bool.{and_parts, cases_lt, eqb-true, ltb-true, lt-ltb}
 use Rattle.std.proofs.lemmas.List.{take-append-drop, drop-drop, length-take, length-drop, get_or-drop, get_or-take, get_or_past}
 use Rattle.std.proofs.Math.Seq.{drop-cons}
 use Rattle.std.proofs.lemmas.Nat.{le_bytes_4, le_bytes_8}
@@ -30,15 +30,11 @@ split_at m n bytes le =
     let whole : m + (n - m) ≡ n = omega arith in
     sym (take-append-drop (n - m) (drop m bytes)) ∙ ap (λ rest. slice_range bytes m n ++ rest) (drop-drop (n - m) m bytes ∙ ap (λ k. drop k bytes) whole)
 
-pub both : (a b : Bool) → (a && b) ≡ true → (a ≡ true) × (b ≡ true)
-both true b h = (refl, h)
-both false b h = absurd cc
-
 -- bytes that are all 0
 pub zeros : (bytes : List ℕ) → are_zeros bytes ≡ true → bytes ≡ replicate (length bytes) 0
 zeros [] h = refl
 zeros (b ∷ bytes) h =
-    let parts = both (eqb b 0) (are_zeros bytes) h in
+    let parts = and_parts (eqb b 0) (are_zeros bytes) h in
     let first : b ≡ 0 = eqb-true b 0 parts.0 in
     let rest : bytes ≡ replicate (length bytes) 0 = zeros bytes parts.1 in
     cc
@@ -76,7 +72,7 @@ next_two m bytes lt = drop-cons bytes m 0 (omega arith) ∙ ap (λ rest. get_or 
 pub tested : (bytes : List ℕ) → list_all (λ b. ltb b 256) bytes ≡ true → IsBytes bytes
 tested [] h = record { at = λ i. omega arith }
 tested (b ∷ bytes) h =
-    let parts = both (ltb b 256) (list_all (λ x. ltb x 256) bytes) h in
+    let parts = and_parts (ltb b 256) (list_all (λ x. ltb x 256) bytes) h in
     let rest = tested bytes parts.1 in
     record { at = λ i. elim i as (λ k. get_or (b ∷ bytes) k 0 < 256) [ zero ↦ ltb-true b 256 parts.0 | suc k ↦ rest.at k ] }
 

@@ -3,7 +3,7 @@ use Rattle.std.proofs.Common.{◌≡◌, ◌↔◌, ℕ, ◌^◌, ◌<◌, ◌�
 use Rattle.std.specs.Int.{w32, w64}
 use Rattle.std.specs.List.{list_all}
 use Rattle.std.specs.Option.{is_some, is_none}
-use Rattle.std.proofs.lemmas.Bool.{eqb-true, ltb-true, leb-true, le-leb, lt-ltb}
+use Rattle.std.proofs.lemmas.Bool.{and_parts, eqb-true, ltb-true, leb-true, le-leb, lt-ltb}
 use Rattle.std.proofs.lemmas.List.{length-drop, nil_from_length}
 use Rattle.std.proofs.lemmas.Option.{cond_some}
 use Rattle.std.proofs.Math.Bool.{and-false}
@@ -16,7 +16,7 @@ use Rattle.page_record.specs.declared.error.SpareError.{SpareError}
 use Rattle.page_record.specs.declared.error.SpareError.TheVariants as rule
 use Rattle.page_record.specs.Spelling.{mark, code_of, spelling, IsBack, CanBeSpelled}
 use Rattle.page_record.specs.Rules.{number_at, fields_of, are_zeros, is_version, is_back, is_area, holds, rules, first_broken, IsFirstBroken, record_of}
-use Rattle.page_record.proofs.Parts.{IsBytes, both, zeros, joined, next_two, length-range, tested, tests, number_at-w32, number_at-w64, number_at-below}
+use Rattle.page_record.proofs.Parts.{IsBytes, zeros, joined, next_two, length-range, tested, tests, number_at-w32, number_at-w64, number_at-below}
 
 -- the rule of each name holds
 pub record BreaksNone (protocol : Protocol) (bytes : List ℕ) : Type 0 where
@@ -132,11 +132,11 @@ is_back_is Scc version back h = eqb-true back 0 h
 is_back_is Bpcc version back h = ltb-true back version h
 
 version_is : (n : ℕ) → is_version n ≡ true → (1 ≤ n) × (n ≤ 2 ^ 62)
-version_is n h = let parts = both (leb 1 n) (leb n (2 ^ 62)) h in (leb-true 1 n parts.0, leb-true n (2 ^ 62) parts.1)
+version_is n h = let parts = and_parts (leb 1 n) (leb n (2 ^ 62)) h in (leb-true 1 n parts.0, leb-true n (2 ^ 62) parts.1)
 
 pub can_be_spelled : (p : Protocol) (bytes : List ℕ) → IsBytes bytes → BreaksNone p bytes → CanBeSpelled p (fields_of bytes)
 can_be_spelled p bytes fits h =
-    let versions = both (is_version (number_at w64 16 bytes)) (is_version (number_at w64 24 bytes)) h.versions_hold in
+    let versions = and_parts (is_version (number_at w64 16 bytes)) (is_version (number_at w64 24 bytes)) h.versions_hold in
     let version = version_is (number_at w64 16 bytes) versions.0 in
     let next_version = version_is (number_at w64 24 bytes) versions.1 in
     record {
@@ -212,8 +212,8 @@ pub record_of-some : (p : Protocol) (bytes : List ℕ) (r : Rec) → record_of p
 unfolding record_of
 record_of-some p bytes r h =
     let parts = cond_some (is_area bytes && is_none (first_broken p bytes)) (fields_of bytes) r h in
-    let tests = both (is_area bytes) (is_none (first_broken p bytes)) parts.0 in
-    let area = both (eqb (length bytes) 64) (list_all (λ b. ltb b 256) bytes) tests.0 in
+    let tests = and_parts (is_area bytes) (is_none (first_broken p bytes)) parts.0 in
+    let area = and_parts (eqb (length bytes) 64) (list_all (λ b. ltb b 256) bytes) tests.0 in
     let fits = tested bytes area.1 in
     let none = breaks_none p bytes (none_is (first_broken p bytes) tests.1) in
     subst (λ (x : Rec). CanBeSpelled p x × (bytes ≡ spelling p x)) parts.1 (can_be_spelled p bytes fits none, is_spelled p bytes (eqb-true (length bytes) 64 area.0) fits none)

@@ -1,7 +1,8 @@
 -- The rules that the bytes of a spare area have to meet, and the record that such bytes spell.
-use Rattle.std.specs.Prelude.{◌≡◌, ℕ, ◌+◌, ◌^◌, ◌==◌, Bool, true, false, ◌&&◌, not, nat_eq, nat_lt, nat_le, List, [], ◌∷◌, ◌++◌, length, slice_index, slice_range, find, Option, Some, None, is_none, if◌then◌else◌}
+use Rattle.std.specs.Prelude.{◌≡◌, ℕ, ◌+◌, ◌==◌, Bool, true, false, ◌&&◌, not, nat_eq, nat_lt, nat_le, List, [], ◌∷◌, ◌++◌, length, slice_index, slice_range, find, Option, Some, None, is_none, if◌then◌else◌}
 use Rattle.std.specs.List.{list_all, starts_with}
 use Rattle.std.specs.Int.{Width, w32, w64, byte_len, from_le_bytes}
+use Rattle.tx_types.specs.Limits.{max_version, spare_bytes}
 use Rattle.tx_types.specs.declared.config.Protocol.{Protocol}
 use Rattle.tx_types.specs.declared.config.Protocol.TheVariants.{Scc, Bpcc}
 use Rattle.tx_types.specs.declared.record.Rec.{Rec}
@@ -26,7 +27,7 @@ abbrev pub are_zeros : List ℕ → Bool
 are_zeros bytes = list_all (λ b. b == 0) bytes
 
 abbrev pub is_version : ℕ → Bool
-is_version n = nat_le 1 n && nat_le n (2 ^ 62)
+is_version n = nat_le 1 n && nat_le n max_version
 
 -- whether a record of this version may have this back version
 abbrev pub is_back : Protocol → ℕ → ℕ → Bool
@@ -41,7 +42,7 @@ holds protocol bytes rule.Protocol = slice_index bytes 5 == code_of protocol
 holds protocol bytes rule.Flags = are_zeros (slice_range bytes 6 8)
 holds protocol bytes rule.Version = is_version (number_at w64 16 bytes) && is_version (number_at w64 24 bytes)
 holds protocol bytes rule.Back = is_back protocol (number_at w64 16 bytes) (number_at w64 32 bytes)
-holds protocol bytes rule.Rest = are_zeros (slice_range bytes 40 64)
+holds protocol bytes rule.Rest = are_zeros (slice_range bytes 40 spare_bytes)
 
 -- the rules, in the order in which they are tried
 abbrev pub rules : List SpareError
@@ -61,7 +62,7 @@ pub record IsFirstBroken (protocol : Protocol) (bytes : List ℕ) (first : Spare
 
 -- as many bytes as a spare area has
 abbrev pub is_area : List ℕ → Bool
-is_area bytes = (length bytes == 64) && list_all (λ b. nat_lt b 256) bytes
+is_area bytes = (length bytes == spare_bytes) && list_all (λ b. nat_lt b 256) bytes
 
 -- the record of a spare area that breaks no rule
 unfoldable pub record_of : Protocol → List ℕ → Option Rec

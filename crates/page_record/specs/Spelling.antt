@@ -1,6 +1,7 @@
--- The one spelling of a record in the 64 bytes of a spare area. Numbers are unsigned and little endian.
+-- The one spelling of a record in the bytes of a spare area. Numbers are unsigned and little endian.
 use Rattle.std.specs.Prelude.{◌≡◌, ℕ, ◌<◌, ◌≤◌, ◌^◌, List, [], ◌∷◌, ◌++◌, replicate, codes}
 use Rattle.std.specs.Int.{w32, w64, to_le_bytes}
+use Rattle.tx_types.specs.Limits.{max_version}
 use Rattle.tx_types.specs.declared.config.Protocol.{Protocol}
 use Rattle.tx_types.specs.declared.config.Protocol.TheVariants.{Scc, Bpcc}
 use Rattle.tx_types.specs.declared.record.Rec.{Rec}
@@ -32,7 +33,7 @@ pub record CanBeSpelled (protocol : Protocol) (rec : Rec) : Type 0 where
   pub page : rec.page < 2 ^ 32
   pub next_page : rec.next.page < 2 ^ 32
   pub version_least : 1 ≤ rec.version
-  pub version_most : rec.version ≤ 2 ^ 62
+  pub version_most : rec.version ≤ max_version
   pub next_version_least : 1 ≤ rec.next.version
-  pub next_version_most : rec.next.version ≤ 2 ^ 62
+  pub next_version_most : rec.next.version ≤ max_version
   pub back : IsBack protocol rec.version rec.back

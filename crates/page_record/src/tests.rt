@@ -100,16 +100,98 @@ fn writes_over_what_stood_there(rt: HostRuntime) {
     assert!(rt; area == WIDE);
 }
 
-/// A spare area, what is changed in it, the protocol that it is read for, and the answer.
-type Case = (
+/// A spare area, what is changed in it, the protocol that it is read for, and the rule that is broken.
+type Broken = (
     &'static [u8; 64],
     &'static [(usize, u8)],
     Protocol,
-    Result<Rec, SpareError>,
+    SpareError,
 );
 
+const BROKEN: [Broken; 26] = [
+    // Every rule is broken, and then one rule fewer at each line.
+    (
+        &SCC,
+        &[(3, 0), (4, 0), (5, 3), (7, 1), (31, 0x80), (32, 1), (63, 1)],
+        Scc,
+        SpareError::Mark,
+    ),
+    (
+        &SCC,
+        &[(4, 0), (5, 3), (7, 1), (31, 0x80), (32, 1), (63, 1)],
+        Scc,
+        SpareError::Format,
+    ),
+    (
+        &SCC,
+        &[(5, 3), (7, 1), (31, 0x80), (32, 1), (63, 1)],
+        Scc,
+        SpareError::Protocol,
+    ),
+    (
+        &SCC,
+        &[(7, 1), (31, 0x80), (32, 1), (63, 1)],
+        Scc,
+        SpareError::Flags,
+    ),
+    (
+        &SCC,
+        &[(31, 0x80), (32, 1), (63, 1)],
+        Scc,
+        SpareError::Version,
+    ),
+    (&SCC, &[(32, 1), (63, 1)], Scc, SpareError::Back),
+    (&SCC, &[(63, 1)], Scc, SpareError::Rest),
+    // The mark in lower case, another format, flags.
+    (&SCC, &[(0, 0x74)], Scc, SpareError::Mark),
+    (&SCC, &[(4, 2)], Scc, SpareError::Format),
+    (&SCC, &[(6, 1)], Scc, SpareError::Flags),
+    // The other protocol, and none.
+    (&SCC, &[], Bpcc, SpareError::Protocol),
+    (&BPCC, &[], Scc, SpareError::Protocol),
+    (&SCC, &[(5, 0)], Scc, SpareError::Protocol),
+    // Versions 0, and one above the greatest.
+    (&SCC, &[(16, 0)], Scc, SpareError::Version),
+    (&SCC, &[(23, 0x40)], Scc, SpareError::Version),
+    (&SCC, &[(24, 0)], Scc, SpareError::Version),
+    (&SCC, &[(31, 0x40)], Scc, SpareError::Version),
+    // Back versions.
+    (&SCC, &[(32, 1)], Scc, SpareError::Back),
+    (&SCC, &[(39, 1)], Scc, SpareError::Back),
+    (&SCC, &[(5, 2), (32, 1)], Bpcc, SpareError::Back),
+    (&BPCC, &[(32, 3)], Bpcc, SpareError::Back),
+    (&BPCC, &[(39, 1)], Bpcc, SpareError::Back),
+    // Each end of the rest.
+    (&SCC, &[(40, 1)], Scc, SpareError::Rest),
+    (&BPCC, &[(63, 0x80)], Bpcc, SpareError::Rest),
+    // Nothing was programmed, or all bits were.
+    (
+        &SCC,
+        &[(0, 0xff), (1, 0xff), (2, 0xff), (3, 0xff)],
+        Scc,
+        SpareError::Mark,
+    ),
+    (
+        &SCC,
+        &[(0, 0), (1, 0), (2, 0), (3, 0)],
+        Scc,
+        SpareError::Mark,
+    ),
+];
+
 #[test]
-fn reads_the_record_or_the_first_broken_rule(rt: HostRuntime) {
+fn names_the_first_broken_rule(rt: HostRuntime) {
+    for (spare, changes, protocol, want) in BROKEN {
+        let found = read_spare(&changed(spare, changes), protocol);
+        assert_eq!(rt; found, Err(want), "after {changes:?}");
+    }
+}
+
+/// A spare area, what is changed in it, the protocol that it is read for, and its record.
+type Read = (&'static [u8; 64], &'static [(usize, u8)], Protocol, Rec);
+
+#[test]
+fn reads_the_record(rt: HostRuntime) {
     const MOST: u64 = 1 << 62;
     let wide = rec(
         0x01020304,
@@ -118,95 +200,25 @@ fn reads_the_record_or_the_first_broken_rule(rt: HostRuntime) {
         0x2122232425262728,
         0x1032333435363738,
     );
-    let cases: [Case; 33] = [
-        (&SCC, &[], Scc, Ok(rec(0, 1, 1, 1, 0))),
-        (&BPCC, &[], Bpcc, Ok(rec(1, 3, 1, 3, 2))),
-        (&WIDE, &[], Bpcc, Ok(wide)),
-        // Every rule is broken, and then one rule fewer at each line.
-        (
-            &SCC,
-            &[(3, 0), (4, 0), (5, 3), (7, 1), (31, 0x80), (32, 1), (63, 1)],
-            Scc,
-            Err(SpareError::Mark),
-        ),
-        (
-            &SCC,
-            &[(4, 0), (5, 3), (7, 1), (31, 0x80), (32, 1), (63, 1)],
-            Scc,
-            Err(SpareError::Format),
-        ),
-        (
-            &SCC,
-            &[(5, 3), (7, 1), (31, 0x80), (32, 1), (63, 1)],
-            Scc,
-            Err(SpareError::Protocol),
-        ),
-        (
-            &SCC,
-            &[(7, 1), (31, 0x80), (32, 1), (63, 1)],
-            Scc,
-            Err(SpareError::Flags),
-        ),
-        (
-            &SCC,
-            &[(31, 0x80), (32, 1), (63, 1)],
-            Scc,
-            Err(SpareError::Version),
-        ),
-        (&SCC, &[(32, 1), (63, 1)], Scc, Err(SpareError::Back)),
-        (&SCC, &[(63, 1)], Scc, Err(SpareError::Rest)),
-        // The mark in lower case, another format, flags.
-        (&SCC, &[(0, 0x74)], Scc, Err(SpareError::Mark)),
-        (&SCC, &[(4, 2)], Scc, Err(SpareError::Format)),
-        (&SCC, &[(6, 1)], Scc, Err(SpareError::Flags)),
-        // The other protocol, and none.
-        (&SCC, &[], Bpcc, Err(SpareError::Protocol)),
-        (&BPCC, &[], Scc, Err(SpareError::Protocol)),
-        (&SCC, &[(5, 0)], Scc, Err(SpareError::Protocol)),
-        // Versions 0, 1, the greatest, and the one above it.
-        (&SCC, &[(16, 0)], Scc, Err(SpareError::Version)),
-        (&SCC, &[(16, 0), (23, 0x40)], Scc, Ok(rec(0, MOST, 1, 1, 0))),
-        (&SCC, &[(23, 0x40)], Scc, Err(SpareError::Version)),
-        (&SCC, &[(24, 0)], Scc, Err(SpareError::Version)),
-        (&SCC, &[(24, 0), (31, 0x40)], Scc, Ok(rec(0, 1, 1, MOST, 0))),
-        (&SCC, &[(31, 0x40)], Scc, Err(SpareError::Version)),
-        // Back versions.
-        (&SCC, &[(32, 1)], Scc, Err(SpareError::Back)),
-        (&SCC, &[(39, 1)], Scc, Err(SpareError::Back)),
-        (&SCC, &[(5, 2), (32, 1)], Bpcc, Err(SpareError::Back)),
-        (&BPCC, &[(32, 0)], Bpcc, Ok(rec(1, 3, 1, 3, 0))),
-        (&BPCC, &[(32, 3)], Bpcc, Err(SpareError::Back)),
-        (&BPCC, &[(39, 1)], Bpcc, Err(SpareError::Back)),
-        // Each end of the rest.
-        (&SCC, &[(40, 1)], Scc, Err(SpareError::Rest)),
-        (&BPCC, &[(63, 0x80)], Bpcc, Err(SpareError::Rest)),
-        // Nothing was programmed, or all bits were.
-        (
-            &SCC,
-            &[(0, 0xff), (1, 0xff), (2, 0xff), (3, 0xff)],
-            Scc,
-            Err(SpareError::Mark),
-        ),
-        (
-            &SCC,
-            &[(0, 0), (1, 0), (2, 0), (3, 0)],
-            Scc,
-            Err(SpareError::Mark),
-        ),
-        // Any page and link page.
+    let cases: [Read; 7] = [
+        (&SCC, &[], Scc, rec(0, 1, 1, 1, 0)),
+        (&BPCC, &[], Bpcc, rec(1, 3, 1, 3, 2)),
+        (&WIDE, &[], Bpcc, wide),
+        // The greatest versions.
+        (&SCC, &[(16, 0), (23, 0x40)], Scc, rec(0, MOST, 1, 1, 0)),
+        (&SCC, &[(24, 0), (31, 0x40)], Scc, rec(0, 1, 1, MOST, 0)),
+        // No back version, and any page and link page.
+        (&BPCC, &[(32, 0)], Bpcc, rec(1, 3, 1, 3, 0)),
         (
             &SCC,
             &[(8, 0xff), (11, 0xff), (12, 0xff), (15, 0xff)],
             Scc,
-            Ok(rec(0xff0000ff, 1, 0xff0000ff, 1, 0)),
+            rec(0xff0000ff, 1, 0xff0000ff, 1, 0),
         ),
     ];
     for (spare, changes, protocol, want) in cases {
-        assert_eq!(rt;
-            read_spare(&changed(spare, changes), protocol),
-            want,
-            "after {changes:?}"
-        );
+        let found = read_spare(&changed(spare, changes), protocol);
+        assert_eq!(rt; found, Ok(want), "after {changes:?}");
     }
 }
 

@@ -28,5 +28,4 @@ pub mod Arrays
 pub mod Examples
 pub mod SccCurrent
 pub mod Asking
-pub mod Mentions
 pub mod Wanted

@@ -1,5 +1,5 @@
 -- Current and held names are present, so that what each current and each held record keeps may be said of names.
-use Rattle.std.proofs.Common.{◌≡◌, ℕ, ◌<◌, ◌≤◌, ◌⊎◌, ◌==◌, leb, ltb, Bool, true, false, cond, ◌&&◌, List, All, sym, refl, ◌∙◌, subst, inl, inr, ⊎_elim, arith}
+use Rattle.std.proofs.Common.{◌≡◌, ℕ, ◌<◌, ◌≤◌, ◌⊎◌, ◌==◌, leb, ltb, Bool, true, false, ◌&&◌, List, All, sym, refl, ◌∙◌, subst, inl, inr, ⊎_elim, arith}
 use Rattle.std.proofs.lemmas.Bool.{cases_lt, and_parts, both_ways, eqb-true, ltb-true, leb-true}
 use Rattle.tx_types.specs.declared.record.Link.{Link}
 use Rattle.tx_types.specs.declared.record.Rec.{Rec}
@@ -15,12 +15,6 @@ use Rattle.record_list.proofs.Held.{IsAnswer, answer_of, any_of}
 use Rattle.record_list.proofs.SoundNames.{IsSoundMap}
 use Rattle.record_list.proofs.Facts.{cur_present}
 use Rattle.record_list.proofs.Names.{IsIn, all_from, all_at, named, same_name, greatest_attained, found_named, present_as, if_positive}
-
--- a stricter test chooses no greater number
-pub picked_mono : (a b : Bool) (v : ℕ) → (a ≡ true → b ≡ true) → cond a v 0 ≤ cond b v 0
-picked_mono true true v h = omega arith
-picked_mono true false v h = absurd (both_ways false refl (h refl))
-picked_mono false b v h = omega arith
 
 -- the record that is responsible for loose records with this link
 pub record IsResponsible (p : Protocol) (l : List Found) (n : ℕ) (name : Link) : Type 0 where

@@ -26,7 +26,7 @@ OldLinks p l l' logical names r = (page : ℕ) → IsUntouched l names r page �
     × (is_clear p l' (top_link l page) ≡ true → Goes p l (Counts p l logical) (top_link l page))
 
 -- two tests with one meaning are one
-one_test : (a b : Bool) → (a ≡ true → b ≡ true) → (b ≡ true → a ≡ true) → a ≡ b
+pub one_test : (a b : Bool) → (a ≡ true → b ≡ true) → (b ≡ true → a ≡ true) → a ≡ b
 one_test true b f g = sym (f refl)
 one_test false true f g = g refl
 one_test false false f g = refl

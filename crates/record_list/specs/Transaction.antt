@@ -1,6 +1,7 @@
 -- A transaction, and when it is in progress among the records of a list.
-use Rattle.std.specs.Prelude.{◌≡◌, ◌≢◌, ℕ, ◌^◌, ◌<◌, ◌≤◌, false, List, [], ◌∷◌, ◌++◌, All, Any, AllPairs, Contains}
+use Rattle.std.specs.Prelude.{◌≡◌, ◌≢◌, ℕ, ◌<◌, ◌≤◌, false, List, [], ◌∷◌, ◌++◌, All, Any, AllPairs, Contains}
 use Rattle.std.specs.List.{zip}
+use Rattle.tx_types.specs.Limits.{max_version}
 use Rattle.tx_types.specs.declared.record.Link.{Link}
 use Rattle.tx_types.specs.declared.record.Rec.{Rec}
 use Rattle.tx_types.specs.declared.config.Protocol.{Protocol}
@@ -12,7 +13,7 @@ use Rattle.record_list.specs.Current.{cur}
 -- the names that a transaction writes: distinct pages, each at a version
 pub record IsTransaction (logical : ℕ) (names : List Link) : Type 0 where
   pub distinct : AllPairs (λ a b. a.page ≢ b.page) names
-  pub in_range : All (λ a. (a.page < logical) × (1 ≤ a.version) × (a.version ≤ 2 ^ 62)) names
+  pub in_range : All (λ a. (a.page < logical) × (1 ≤ a.version) × (a.version ≤ max_version)) names
 
 -- the names from the second on, and then the first: `zip names (rounded names)` has each name with the one that follows it
 abbrev pub rounded : List Link → List Link

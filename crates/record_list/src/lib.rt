@@ -17,4 +17,4 @@ pub use laws::{
 pub use plain::{mention, newest, next_older, present};
 pub use rule::CommitRule;
 pub use theorems::{array_changes, current_is_present, walk_ends, worked_examples};
-pub use walks::{back_of, current_version, link_of, reason, straddling};
+pub use walks::{current_version, link_of, reason, straddling};

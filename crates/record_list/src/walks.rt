@@ -20,7 +20,7 @@ pub fn link_of(list: &[Found], name: Link) -> Link
 }
 
 /// The back version of the record with this name in the lowest slot, 0 where no record has it.
-pub fn back_of(list: &[Found], name: Link) -> u64
+fn back_of(list: &[Found], name: Link) -> u64
     ensures { result ≡ back_of list.now name }
 {
     for found in list {

@@ -6,7 +6,5 @@ mod audit;
 mod scc;
 #[cfg(test)]
 mod tests;
-#[cfg(test)]
-mod uses;
 
 pub use scc::Scc;

@@ -1,5 +1,5 @@
 -- Responsible records, and which records are held.
-use Rattle.std.proofs.Common.{◌≡◌, ℕ, ◌<◌, ◌≤◌, Bool, true, false, ◌&&◌, eqb, ltb, List, Contains, refl, sym, ap, ◌∙◌, subst, inl, inr, arith, eqb-true, eq-eqb, ltb-true, lt-ltb}
+use Rattle.std.proofs.Common.{◌≡◌, ℕ, ◌<◌, ◌≤◌, Bool, true, ◌&&◌, eqb, ltb, List, Contains, sym, ap, ◌∙◌, subst, inl, inr, arith, eqb-true, eq-eqb, ltb-true, lt-ltb}
 use Rattle.std.specs.List.{list_any}
 use Rattle.std.specs.Option.{is_some}
 use Rattle.std.proofs.lemmas.Bool.{and_parts, and_from}
@@ -11,6 +11,7 @@ use Rattle.record_list.specs.Records.{name_of, IsScanned}
 use Rattle.record_list.specs.Verdict.{link_of, back_of, straddles}
 use Rattle.record_list.specs.Current.{cur, is_loose, straddling_upto, responsible, answers_for, is_held}
 use Rattle.record_list.specs.SoundList.{IsSoundList}
+use Rattle.record_list.proofs.Untouched.{one_test}
 use Rattle.record_list.proofs.Names.{IsIn, same_name, same_record, greatest_least, greatest_attained, in_from}
 use Rattle.record_list.proofs.Held.{answer_of, answers, any_of, any_from, any_same}
 use Rattle.record_list.proofs.SoundNames.{IsSoundMap, sound_map}
@@ -70,12 +71,6 @@ module _ (l : List Found) (logical : ℕ) where
       let top = cur Bpcc l logical q.page in
       greatest_least (straddling_upto top q) l top (λ f i. upto_le top q f.rec)
 
--- two tests that imply each other are one
-same_test : (a b : Bool) → (a ≡ true → b ≡ true) → (b ≡ true → a ≡ true) → a ≡ b
-same_test true b f g = sym (f refl)
-same_test false true f g = g refl
-same_test false false f g = refl
-
 -- there is a responsible record exactly where the record is loose and some version is responsible
 pub has_home : (l : List Found) (logical : ℕ) (r : Rec) →
     is_some (responsible_index l logical r) ≡ (is_loose Bpcc l logical r && ltb 0 (responsible Bpcc l logical r.next))
@@ -83,7 +78,7 @@ has_home l logical r =
     let test : Found → Bool = λ f. is_responsible l logical f.rec r in
     let a = is_loose Bpcc l logical r in
     let b = ltb 0 (responsible Bpcc l logical r.next) in
-    some_passes test l ∙ same_test (list_any test l) (a && b)
+    some_passes test l ∙ one_test (list_any test l) (a && b)
     (λ any.
     let f = any_of test l any in
     let parts = parts_of l logical f.0.rec r f.2 in
@@ -98,7 +93,7 @@ has_home l logical r =
 module _ (l : List Found) (logical : ℕ) (m : IsSoundMap Bpcc l logical) (s : Found) (i : IsIn l s) where
   -- on a sound list the record of a name is responsible where the name is
   answers_same : (r : Rec) → answers_for Bpcc l logical (name_of s.rec) r ≡ is_responsible l logical s.rec r
-  answers_same r = same_test (answers_for Bpcc l logical (name_of s.rec) r) (is_responsible l logical s.rec r)
+  answers_same r = one_test (answers_for Bpcc l logical (name_of s.rec) r) (is_responsible l logical s.rec r)
       (λ test.
       let a = answer_of l logical (name_of s.rec) r test in
       let some = a.some in

@@ -17,7 +17,7 @@ pub fn straddles(rec: Rec, version: u64) -> bool
 
 /// The greatest version, up to `top`, of a record that straddles this name, 0 for none.
 #[tactic(auto, using(record_list::proofs::Greatest::greatest_step))]
-pub fn straddling_up_to(list: &[Found], name: Link, top: u64) -> u64
+pub(crate) fn straddling_up_to(list: &[Found], name: Link, top: u64) -> u64
     ensures { result ≡ greatest (straddling_upto top name) list.now }
 {
     let mut best = 0;

@@ -1,4 +1,5 @@
-use crate::{answers_for, responsible, responsible_version, straddles, straddling_up_to};
+use crate::straddling::straddling_up_to;
+use crate::{answers_for, responsible, responsible_version, straddles};
 use record_list::{Found, straddling};
 use std::process::Abort;
 use tx_types::{Link, Rec, Slot};

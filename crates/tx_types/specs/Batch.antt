@@ -1,5 +1,5 @@
 -- What a transaction writes.
-use Rattle.std.specs.Prelude.{ℕ, ◌-◌, List, [], ◌++◌, length, replicate, slice_index_or}
+use Rattle.std.specs.Prelude.{ℕ, ◌-◌, List, [], ◌∷◌, ◌++◌, length, replicate, slice_index_or}
 
 -- a page and what it is to hold
 pub record PageWrite : Type 0 where
@@ -14,6 +14,11 @@ pub record Writes : Type 0 where
 -- the bytes with zeros after them, up to a length
 abbrev pub padded : ℕ → List ℕ → List ℕ
 padded size bytes = bytes ++ replicate (size - length bytes) 0
+
+-- the writes and one more at the end
+abbrev pub with_entry : Writes → ℕ → List ℕ → Writes
+with_entry w page bytes =
+    record w { entries = w.entries ++ record { page = page; bytes = padded w.page_bytes bytes } ∷ [] }
 
 -- what stands for the write at an index where there is none
 abbrev pub no_write : PageWrite

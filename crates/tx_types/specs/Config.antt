@@ -1,5 +1,6 @@
 -- The rules of a configuration, and the numbers that follow from it.
 use Rattle.std.specs.Prelude.{ℕ, ◌+◌, ◌-◌, ◌*◌, ◌%◌, ◌≤◌, ◌==◌, Bool, ◌&&◌, nat_le, Result, Ok, Err, if◌then◌else◌}
+use Rattle.tx_types.specs.Limits.{header_bytes, state_bytes, spare_bytes, page_unit, max_page_bytes, min_pages_per_block, max_pages_per_block, max_blocks_per_die, max_dies, max_slots, max_image_bytes, max_pending}
 use Rattle.tx_types.specs.declared.config.Config.{Config}
 use Rattle.tx_types.specs.declared.config.Shape.{Shape}
 use Rattle.tx_types.specs.declared.config.ConfigError.{ConfigError}
@@ -17,20 +18,20 @@ slots_of s = s.pages_per_block * blocks_of s
 
 -- the bytes of an image file: a header, and for each slot its state, its contents and its spare area
 abbrev pub image_bytes : Shape → ℕ
-image_bytes s = 64 + slots_of s * (65 + s.page_bytes)
+image_bytes s = header_bytes + slots_of s * (state_bytes + spare_bytes + s.page_bytes)
 
 abbrev pub is_within : ℕ → ℕ → ℕ → Bool
 is_within low high n = nat_le low n && nat_le n high
 
 -- the rule of this name holds
 abbrev pub holds : Config → ConfigError → Bool
-holds c rule.Page = is_within 16 4096 c.page_bytes && (c.page_bytes % 16 == 0)
-holds c rule.Pages = is_within 2 256 c.pages_per_block
-holds c rule.Blocks = is_within 1 32768 c.blocks_per_die
-holds c rule.Dies = is_within 1 16 c.dies
-holds c rule.Slots = nat_le (slots_of (shape_of c)) 65536 && nat_le (image_bytes (shape_of c)) 134217728
+holds c rule.Page = is_within page_unit max_page_bytes c.page_bytes && (c.page_bytes % page_unit == 0)
+holds c rule.Pages = is_within min_pages_per_block max_pages_per_block c.pages_per_block
+holds c rule.Blocks = is_within 1 max_blocks_per_die c.blocks_per_die
+holds c rule.Dies = is_within 1 max_dies c.dies
+holds c rule.Slots = nat_le (slots_of (shape_of c)) max_slots && nat_le (image_bytes (shape_of c)) max_image_bytes
 holds c rule.Logical = nat_le 1 c.logical
-holds c rule.Pending = is_within 1 256 c.pending
+holds c rule.Pending = is_within 1 max_pending c.pending
 holds c rule.Space = nat_le (c.logical + c.pending + 1) ((blocks_of (shape_of c) - 1) * c.pages_per_block)
 
 -- the shape where this rule holds and those after it give it
@@ -46,21 +47,21 @@ checked c =
 
 -- the bounds of a shape that passed the check
 pub record IsShape (s : Shape) : Type 0 where
-  pub page_least : 16 ≤ s.page_bytes
-  pub page_most : s.page_bytes ≤ 4096
-  pub pages_least : 2 ≤ s.pages_per_block
-  pub pages_most : s.pages_per_block ≤ 256
+  pub page_least : page_unit ≤ s.page_bytes
+  pub page_most : s.page_bytes ≤ max_page_bytes
+  pub pages_least : min_pages_per_block ≤ s.pages_per_block
+  pub pages_most : s.pages_per_block ≤ max_pages_per_block
   pub blocks_least : 1 ≤ s.blocks_per_die
-  pub blocks_most : s.blocks_per_die ≤ 32768
+  pub blocks_most : s.blocks_per_die ≤ max_blocks_per_die
   pub dies_least : 1 ≤ s.dies
-  pub dies_most : s.dies ≤ 16
-  pub slots_most : slots_of s ≤ 65536
-  pub image_most : image_bytes s ≤ 134217728
+  pub dies_most : s.dies ≤ max_dies
+  pub slots_most : slots_of s ≤ max_slots
+  pub image_most : image_bytes s ≤ max_image_bytes
 
 -- the bounds of a configuration that passed the check
 pub record IsConfig (c : Config) : Type 0 where
   pub shape : IsShape (shape_of c)
   pub logical : 1 ≤ c.logical
   pub pending_least : 1 ≤ c.pending
-  pub pending_most : c.pending ≤ 256
+  pub pending_most : c.pending ≤ max_pending
   pub space : c.logical + c.pending + 1 ≤ (blocks_of (shape_of c) - 1) * c.pages_per_block

@@ -1,3 +1,4 @@
 pub mod Batch
 pub mod Config
 pub mod Entries
+pub mod Limits

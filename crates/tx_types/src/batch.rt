@@ -1,5 +1,5 @@
-ghost use Rattle.std.specs.Prelude.{◌≡◌, ◌<◌, ◌≤◌, ◌↔◌, [], ◌∷◌, ◌++◌, length, IsTrue, IfOk, OnOk, OnErr};
-ghost use Rattle.tx_types.specs.Batch.{padded, entry_at};
+ghost use Rattle.std.specs.Prelude.{◌≡◌, ◌<◌, ◌≤◌, ◌↔◌, [], ◌++◌, length, IsTrue, IfOk, OnOk, OnErr};
+ghost use Rattle.tx_types.specs.Batch.{padded, with_entry, entry_at};
 
 use crate::Memory;
 use std::alloc::Global;
@@ -21,14 +21,13 @@ pub struct Batch {
 }
 
 impl Model for Batch {
-    ghost use Rattle.std.specs.Prelude.{map};
     ghost use Rattle.tx_types.specs.Batch.{Writes};
 
     ghost Value = { Writes };
 
-    ghost use Rattle.tx_types.specs.Entries.{write_of, AreWhole};
+    ghost use Rattle.tx_types.specs.Entries.{writes_of, AreWhole};
 
-    ghost view = { λ b. record { page_bytes = b.page_bytes; entries = map write_of b.entries.items } };
+    ghost view = { λ b. writes_of b.page_bytes b.entries.items };
 
     ghost invariant = { λ b. AreWhole b.page_bytes b.entries.items };
 }
@@ -49,9 +48,7 @@ impl Batch {
     /// memory the batch stays as it was.
     pub fn add(&mut self, page: u32, bytes: &[u8]) -> Result<(), Memory>
         requires { length bytes.now ≤ self.old.page_bytes }
-        ensures ok { OnOk result (self.new ≡ record self.old {
-          entries = self.old.entries ++ record { page = page; bytes = padded self.old.page_bytes bytes.now } ∷ [];
-        }) }
+        ensures ok { OnOk result (self.new ≡ with_entry self.old page bytes.now) }
         ensures err { OnErr result (self.new ≡ self.old) }
     {
         let bytes = filled(self.alloc, bytes, self.page_bytes)?;

@@ -2,7 +2,7 @@ use Rattle.std.proofs.Common.{◌≡◌, sym, ◌∙◌, map}
 use Rattle.std.proofs.lemmas.Result.{err_from_is_err_and}
 use Rattle.host_protocol.specs.Commands.{entry_of}
 use Rattle.host_protocol.specs.Lines.{words_of}
-use Rattle.host_protocol.specs.declared.fault.LineError.TheVariants.{Bad}
+use Rattle.host_protocol.specs.declared.error.LineError.TheVariants.{Bad}
 use Rattle.host_protocol.proofs.ReadingLemmas.{none_among, none_where_bad}
 use Rattle.host_protocol.proofs.line.entries.Goals as goal
 

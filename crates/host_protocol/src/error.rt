@@ -1,13 +1,13 @@
 ghost use Rattle.std.specs.Prelude.{◌≡◌};
 ghost use Rattle.host_protocol.specs.Reading.{error_of, text_error};
-ghost use Rattle.host_protocol.specs.declared.fault.LineError.TheVariants.{Memory};
-ghost use Rattle.host_protocol.specs.declared.fault.TextError.TheVariants as text;
+ghost use Rattle.host_protocol.specs.declared.error.LineError.TheVariants.{Memory};
+ghost use Rattle.host_protocol.specs.declared.error.TextError.TheVariants as text;
 
 use hex::FromHexError;
 
 /// Why a line gave no command.
 #[derive(Clone, Copy, Debug)]
-pub enum LineError {
+pub(crate) enum LineError {
     /// The line is not in the grammar, or brings the file past a limit.
     Bad,
     /// There was no memory for the command.

@@ -1,5 +1,5 @@
 use Rattle.host_protocol.proofs.ReplyLemmas.{texts_tell}
-use Rattle.host_protocol.proofs.reply.lines_tell_replies.Goals as goal
+use Rattle.host_protocol.proofs.laws.lines_tell_replies.Goals as goal
 
 pub returns : goal.returns
 returns c = texts_tell

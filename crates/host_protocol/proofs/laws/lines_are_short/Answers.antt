@@ -1,0 +1,5 @@
+use Rattle.host_protocol.proofs.LengthLemmas.{short_text}
+use Rattle.host_protocol.proofs.laws.lines_are_short.Goals as goal
+
+pub returns : goal.returns
+returns c = short_text
