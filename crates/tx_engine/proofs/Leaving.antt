@@ -37,6 +37,7 @@ module _ {F : Type 0} (state : F → FlashState) (S S' : Stored F) (O : OpenTabl
       names = before_itself (namings_of O);
     };
     versions = keep.preserves.current;
+    fewer = keep.preserves.fewer;
   }
 
 -- one after another
@@ -47,4 +48,5 @@ left_then state a b c broken config config' first second = record {
   machine = second.machine ∙ first.machine;
   exits = exits_then state a b c broken config config' first.exits second.exits;
   versions = λ page low. second.versions page (subst (λ (k : _). page < k.logical) (sym first.exits.config) low) ∙ first.versions page low;
+  fewer = λ name here. first.fewer name (second.fewer name here);
 }

@@ -47,6 +47,7 @@ pub fails_after : {F : Type 0} (state : F → FlashState) (a b c : Standing F) (
 fails_after state a b c o o' i left w = record {
   pages = w.pages ∙ ap (λ m. m.pages) left.machine;
   rises = rises_after a b c [] left.exits.config (All-nil (λ (w : PageWrite). w.page < a.config.logical)) left.versions w.rises;
+  fewer = λ name here. left.fewer name (w.fewer name here);
   opens = w.opens;
 }
 
@@ -55,5 +56,6 @@ pub fails_room : {F : Type 0} (state : F → FlashState) (a b : Standing F) (o :
 fails_room state a b o i broken left = record {
   pages = ap (λ m. m.pages) left.machine;
   rises = record { rises = All-nil (λ (w : PageWrite). current_of a.noted w.page < current_of b.noted w.page); stays = λ page within others. left.versions page within };
+  fewer = left.fewer;
   opens = inl refl;
 }

@@ -1,4 +1,4 @@
-ghost use Rattle.std.specs.Prelude.{◌≡◌, OnOk, IfOk, Ok};
+ghost use Rattle.std.specs.Prelude.{◌≡◌, OnOk, OnErr, IfOk, Ok};
 ghost use Rattle.std.specs.Result.{is_err};
 ghost use Rattle.collector.specs.Settling.{settlement};
 ghost use Rattle.collector.specs.declared.unsure.Unsure.TheVariants as unsure;
@@ -6,7 +6,7 @@ ghost use Rattle.tx_engine.specs.Collect.{CollectsAs};
 ghost use Rattle.tx_engine.specs.Collections.{CollectsTables, HasNothingToCollect};
 ghost use Rattle.tx_engine.specs.Exits.{Exits, CollectRises, is_there};
 ghost use Rattle.tx_engine.specs.OpenTable.{entries_of};
-ghost use Rattle.tx_engine.specs.Settling.{IsLeft};
+ghost use Rattle.tx_engine.specs.Settling.{IsLeft, CollectFails};
 ghost use Rattle.tx_engine.specs.Standing.{Stands};
 ghost use Rattle.tx_engine.specs.Tables.{standing_in};
 
@@ -49,6 +49,7 @@ impl<F: Flash, R: CommitRule> Device<F, R> {
         ensures tables { IfOk result (λ answer.
             let found = settlement self.old.noted self.old.table (F.state self.old.flash).image self.old.unsure in
             CollectsTables (F.state self.old.flash) (F.state self.new.flash) found.noted self.new.noted found.table self.new.table answer) }
+        ensures failed { OnErr result (CollectFails F.state self.old self.new) }
         ensures nothing { result ≡ Ok Collected.Nothing → HasNothingToCollect self.old.config.protocol
             self.old.config.logical (F.state self.new.flash).image self.new.machine.entries }
     {
@@ -69,6 +70,7 @@ fn collect_settled<F: Flash, R: CommitRule>(
         (standing_in F.state store.new openings.now) (is_err result) }
     ensures tables { IfOk result (CollectsTables (F.state store.old.flash) (F.state store.new.flash)
         store.old.noted store.new.noted store.old.table store.new.table) }
+    ensures stays { OnErr result (store.new.table ≡ store.old.table) }
     ensures sure { OnOk result (store.new.unsure ≡ unsure.Nothing) }
     ensures nothing { result ≡ Ok Collected.Nothing →
         HasNothingToCollect store.new.noted.config.protocol store.new.noted.config.logical

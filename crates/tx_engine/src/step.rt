@@ -1,14 +1,18 @@
-ghost use Rattle.std.specs.Prelude.{◌≡◌, ◌<◌, ℕ, OnOk, IfSome, Err, length, false};
+ghost use Rattle.std.specs.Prelude.{◌≡◌, ◌<◌, ℕ, OnOk, OnErr, IfSome, Err, length, false};
 ghost use Rattle.std.specs.Result.{is_err};
+ghost use Rattle.flash_model.specs.Operations.{moment_of};
 ghost use Rattle.version_index.specs.Noted.{current_of};
+ghost use Rattle.collector.specs.Preserves.{IsThere};
 ghost use Rattle.tx_engine.specs.ArrayState.{entry_of};
 ghost use Rattle.tx_engine.specs.Step.{StepsAs};
 ghost use Rattle.tx_engine.specs.Exits.{Exits, StepRises, is_there, is_step_fault};
 ghost use Rattle.tx_engine.specs.Costs.{CostsStep, StepCosts};
 ghost use Rattle.tx_engine.specs.OpenTable.{opening_at};
-ghost use Rattle.tx_engine.specs.Settling.{Advances, AdvanceRises, Counts, IsReady, is_due};
-ghost use Rattle.tx_engine.specs.Standing.{Stands, name_at};
+ghost use Rattle.tx_engine.specs.Settling.{Advances, AdvanceRises, Counts, IsReady, is_due, link_place};
+ghost use Rattle.tx_engine.specs.Settling.{AddsNoName, AddsOnly, settlement_of};
+ghost use Rattle.tx_engine.specs.Standing.{Stands, name_at, write_at};
 ghost use Rattle.tx_engine.specs.Tables.{standing_in};
+ghost use Rattle.tx_engine.specs.Writing.{BringsPage, StepNotes, WritesRecord, next_of, open_of};
 ghost use Rattle.collector.specs.declared.unsure.Unsure.TheVariants as unsure;
 
 use crate::closing::close;
@@ -60,6 +64,15 @@ impl<F: Flash, R: CommitRule> Device<F, R> {
         ensures sure { OnOk result (self.new.unsure ≡ unsure.Nothing) }
         ensures unknown { result ≡ Err StepError.Unknown → self.new ≡ self.old }
         ensures costs { CostsStep F.state self.old self.new tag }
+
+        // What it did with the next page, by the tables that are known once the place is settled: where the record is
+        // there nothing, and else it is written. No other record is new.
+        ensures found { IfSome (next_of self.old tag) (λ name.
+            IsThere (settlement_of F.state self.old).noted name →
+            moment_of (F.state self.new.flash) ≡ moment_of (F.state self.old.flash)) }
+        ensures brings { OnOk result (IfSome (open_of self.old tag) (λ (e, x).
+            BringsPage F.state self.old self.new e x)) }
+        ensures fresh { StepNotes F.state self.old self.new tag result }
     {
         let Some(at) = self.openings.position(tag) else {
             return Err(StepError::Unknown);
@@ -95,6 +108,17 @@ fn advance<F: Flash, R: CommitRule>(
     ensures costs { StepCosts F.state (standing_in F.state store.old openings.old)
         (standing_in F.state store.new openings.new)
         (name_at (opening_at openings.old at).naming (opening_at openings.old at).entry.done) }
+    ensures found { let its = opening_at openings.old at in
+        IsThere store.old.noted (name_at its.naming its.entry.done) → store.new
+        ≡ record store.old { noted = record store.old.noted { pins = store.new.noted.pins } } }
+    ensures writes { let its = opening_at openings.old at in OnOk result (
+        (IsThere store.old.noted (name_at its.naming its.entry.done) → ⊥) →
+        WritesRecord F.state store.old.noted store.old.table
+        (standing_in F.state store.new openings.new) (name_at its.naming its.entry.done)
+        (name_at its.naming (link_place its.entry)) (write_at its.entry its.entry.done).bytes) }
+    ensures fresh { let its = opening_at openings.old at in OnOk result (
+        AddsOnly (name_at its.naming its.entry.done) store.old.noted store.new.noted) }
+    ensures fewer { OnErr result (AddsNoName store.old.noted store.new.noted) }
 {
     if !is_due(openings, at) {
         return Ok(count_next(store, openings, at));
@@ -132,7 +156,8 @@ fn count_next<F: Flash, R: CommitRule>(
         (standing_in F.state store.new openings.new) false }
     ensures versions { (page : ℕ) →
         current_of store.new.noted page ≡ current_of store.old.noted page }
-    ensures flash { store.new.flash ≡ store.old.flash }
+    ensures stays { store.new
+        ≡ record store.old { noted = record store.old.noted { pins = store.new.noted.pins } } }
     ensures sure { store.new.unsure ≡ unsure.Nothing }
     ensures limits { (openings.new.page_bytes ≡ openings.old.page_bytes)
         × (openings.new.pending ≡ openings.old.pending) }

@@ -15,8 +15,10 @@ ghost use Rattle.die_alloc.specs.NextSlot.{next_slot, after_next_slot};
 ghost use Rattle.collector.specs.declared.unsure.Unsure.{Unsure};
 ghost use Rattle.collector.specs.declared.unsure.Unsure.TheVariants as unsure;
 ghost use Rattle.collector.specs.declared.unsure.Settled.TheVariants as settled;
+ghost use Rattle.collector.specs.Collecting.{CollectsForRoom};
+ghost use Rattle.collector.specs.Looking.{ReadsAtMost, reads_after};
 ghost use Rattle.collector.specs.Matches.{CanTake, CanTakeOwn};
-ghost use Rattle.collector.specs.Settling.{settlement};
+ghost use Rattle.collector.specs.Settling.{settlement, slots_read};
 ghost use Rattle.collector.specs.Going.{IsNextName, CostsAtMost, blocks_to_go};
 ghost use Rattle.collector.specs.Known.{page_known};
 ghost use Rattle.collector.specs.Victim.{garbage_in};
@@ -208,6 +210,10 @@ impl<F: Flash, R: CommitRule> Store<F, R> {
         ensures failed { OnErr result (self.new ≡ record self.old { flash = self.new.flash }) }
         ensures moment { moment_of (F.state self.new.flash) ≡ moment_of (F.state self.old.flash) }
         ensures carries { Carries (F.state self.old.flash) (F.state self.new.flash) (is_err result) }
+        ensures reads { OnOk result ((F.state self.new.flash).reads ≡ reads_after
+            (slots_read self.old.noted self.old.unsure) (F.state self.old.flash).reads) }
+        ensures first_failed { OnErr result (ReadsAtMost (slots_read self.old.noted self.old.unsure)
+            (F.state self.old.flash).reads (F.state self.new.flash).reads) }
         ensures idle { self.old.unsure ≡ unsure.Nothing →
             (result ≡ Ok Settled.Other) × (self.new ≡ self.old) }
     {
@@ -230,6 +236,7 @@ impl<F: Flash, R: CommitRule> Store<F, R> {
         ensures collects { IfOk result (CollectsTables
             (F.state self.old.flash) (F.state self.new.flash)
             self.old.noted self.new.noted self.old.table self.new.table) }
+        ensures stays { OnErr result (self.new.table ≡ self.old.table) }
         ensures sure { OnOk result (self.new.unsure ≡ unsure.Nothing) }
         ensures others { (at : Slot) (rec : Rec) → self.new.unsure ≡ unsure.Own at rec → ⊥ }
     {
@@ -292,6 +299,8 @@ impl<F: Flash, R: CommitRule> Store<F, R> {
         ensures direct { (IsFull self.old.table → ⊥) →
             IfOk result (λ at. Some at ≡ next_slot self.old.table) × (is_err result ≡ false)
             × (self.new ≡ record self.old { table = after_next_slot self.old.table }) }
+        ensures collects { IsFull self.old.table → IfOk result (λ at. CollectsForRoom
+            self.old.noted self.old.table self.new.noted self.new.table at) }
         ensures costs { CostsAtMost self.old.noted.config.pages_per_block 1
             (F.state self.old.flash) (F.state self.new.flash) }
         ensures still_clear { (page below : ℕ) → block_to_go self.old.noted page below ≡ None →

@@ -7,12 +7,14 @@ use Rattle.version_index.specs.Noted.{block_to_go}
 use Rattle.collector.specs.Going.{IsNextName, CostsAtMost, blocks_to_go}
 use Rattle.tx_engine.specs.Exits.{Exits}
 use Rattle.tx_engine.specs.OpenTable.{opening_at}
-use Rattle.tx_engine.specs.Standing.{name_at, no_name}
+use Rattle.tx_engine.specs.Settling.{link_place}
+use Rattle.tx_engine.specs.Standing.{name_at, no_name, write_at}
 use Rattle.tx_engine.specs.Tables.{standing_in}
 use Rattle.tx_engine.proofs.CostFacts.{costs_clear, costs_slot, costs_all}
 use Rattle.tx_engine.proofs.ExitsThen.{exits_then}
 use Rattle.tx_engine.proofs.Leaving.{left_then}
 use Rattle.tx_engine.proofs.NextRecord.{due_named, due_inside, next_name, next_record, next_take, next_can_be_spelled}
+use Rattle.tx_engine.proofs.RecordWrites.{writes_record, adds_own, free_within}
 use Rattle.tx_engine.proofs.Tools.{Settles, NotesWrites}
 use Rattle.tx_engine.proofs.WriteAfter.{settled_kept, next_low, written_after, fails_after}
 use Rattle.tx_engine.proofs.WriteExits.{written_stands, written_next, written_exits, broken_stands, broken_fails, broken_exits}
@@ -128,3 +130,22 @@ pub returns-clause-costs : goal.returns-clause-costs
 returns-clause-costs g c = let state = g.F.Flash.state in
     costs_all state c.args.store.now c.clear.new.store c.find_slot.new.store c.program.new.store c.args.openings.now c.note_next.new.openings (name_at (opening_at c.args.openings.now c.args.at).naming (opening_at c.args.openings.now c.args.at).entry.done) c.requires.stands.matches.noted (subst (λ (a : Link). CostsAtMost c.args.store.now.noted.config.pages_per_block (blocks_to_go c.args.store.now.noted a.page a.version) (state c.args.store.now.flash) (state c.clear.new.store.flash)) (c.name-name.ensures ∙ ap (name_at (opening_at c.args.openings.now c.args.at).naming) c.done.ensures) c.clear.ensures.costs) c.find_slot.ensures.costs c.in_ok-clear.ensures.left.exits.config
     (λ none. (c.clear.ensures.idle (subst (λ (a : Link). block_to_go c.args.store.now.noted a.page a.version ≡ None) (sym (c.name-name.ensures ∙ ap (name_at (opening_at c.args.openings.now c.args.at).naming) c.done.ensures)) none)).1) (is_err c.find_slot.result) c.find_slot.ensures.direct c.program.ensures.costs.0 c.program.ensures.costs.1
+
+pub returns-clause-writes : goal.returns-clause-writes
+returns-clause-writes g c = let state = g.F.Flash.state in
+    let its = opening_at c.args.openings.now c.args.at in
+    let is = c.name-name.ensures ∙ ap (name_at (opening_at c.args.openings.now c.args.at).naming) c.done.ensures in
+    writes_record state c.args.store.now c.clear.new.store c.find_slot.new.store c.program.new.store c.note_next.new.openings (name_at its.naming its.entry.done) (name_at its.naming (link_place its.entry)) c.in_ok-slot.slot c.next_record-rec.result (write_at its.entry its.entry.done).bytes
+    c.requires.stands.matches.noted (λ none. (c.clear.ensures.idle (subst (λ (a : Link). block_to_go c.args.store.now.noted a.page a.version ≡ None) (sym is) none)).1)
+    (subst (λ (a : Link). block_to_go c.clear.new.store.noted a.page a.version ≡ None) is c.in_ok-clear.ensures.cleared) c.in_ok-slot.ensures.slot
+    c.next_record-rec.ensures.named c.next_record-rec.ensures.next c.next_record-rec.ensures.back
+    (free_within (state c.find_slot.new.store.flash) c.find_slot.new.store.noted c.find_slot.new.store.table c.find_slot.new.store.unsure c.in_ok-slot.ensures.left.stands.matches c.in_ok-slot.slot.0 c.in_ok-slot.ensures.free)
+    c.in_default.ensures.written
+
+pub returns-clause-fresh : goal.returns-clause-fresh
+returns-clause-fresh g c = let state = g.F.Flash.state in
+    let its = opening_at c.args.openings.now c.args.at in
+    adds_own state c.args.store.now c.clear.new.store c.find_slot.new.store c.program.new.store c.note_next.new.openings (name_at its.naming its.entry.done) (name_at its.naming (link_place its.entry)) c.in_ok-slot.slot c.next_record-rec.result (write_at its.entry its.entry.done).bytes
+    (subst NotesWrites (sym (ap (λ (k : Config). k.protocol) (c.in_ok-slot.ensures.left.exits.config ∙ c.in_ok-clear.ensures.left.exits.config) ∙ c.requires.rule)) (record { names = c.noted_writes.ensures.names; partial = c.noted_writes.ensures.partial; completing = c.noted_writes.ensures.completing }))
+    c.in_ok-slot.ensures.left.stands.matches.noted c.find_slot.new.store.unsure c.in_ok-slot.ensures.left.stands.matches c.in_ok-slot.ensures.free c.in_ok-clear.ensures.left.fewer c.in_ok-slot.ensures.left.fewer
+    c.next_record-rec.ensures.named c.in_default.ensures.written
