@@ -1,6 +1,7 @@
 ghost use Rattle.std.specs.Prelude.{◌≡◌, ◌<◌, ◌≤◌, ◌+◌, ◌==◌, ℕ, List, true, false, Ok, Err, Some, None, length, IfOk, IfErr, IfSome, IfNone, OnOk, OnErr, sum_by};
 ghost use Rattle.std.specs.Result.{is_err};
 ghost use Rattle.std.specs.List.{range_with_len};
+ghost use Rattle.std.specs.Option.{option_map};
 ghost use Rattle.tx_types.specs.Config.{checked, shape_of, blocks_of};
 ghost use Rattle.tx_types.specs.declared.record.Link.{Link};
 ghost use Rattle.flash_model.specs.Calls.{Carries};
@@ -24,7 +25,7 @@ ghost use Rattle.collector.specs.Known.{page_known};
 ghost use Rattle.collector.specs.Victim.{garbage_in};
 ghost use Rattle.tx_engine.specs.Collections.{CollectsTables};
 ghost use Rattle.tx_engine.specs.Opens.{StoresOpened, FailsToMount};
-ghost use Rattle.tx_engine.specs.Read.{ReadsKnown, ShowsKnown};
+ghost use Rattle.tx_engine.specs.Read.{ReadsKnown, ShowsKnown, read_place};
 ghost use Rattle.tx_engine.specs.Stored.{IsStored, Keeps, Writes, WriteBreaks};
 
 use crate::{Collected, MountError};
@@ -189,6 +190,8 @@ impl<F: Flash, R: CommitRule> Store<F, R> {
             IfNone result (page_known self.now.noted image page ≡ None) }
         ensures place { IfSome result (λ at.
             ShowsKnown (F.state self.now.flash) self.now.noted page at.0) }
+        ensures slot { option_map (λ at. at.0) result
+            ≡ read_place self.now.noted self.now.unsure page }
     {
         match self.unsure {
             Unsure::VictimErase { block } => self.index.locate_off(page, block),
