@@ -24,7 +24,7 @@ ghost use Rattle.collector.specs.Going.{IsNextName, CostsAtMost, blocks_to_go};
 ghost use Rattle.collector.specs.Known.{page_known};
 ghost use Rattle.collector.specs.Victim.{garbage_in};
 ghost use Rattle.tx_engine.specs.Collections.{CollectsTables};
-ghost use Rattle.tx_engine.specs.Opens.{StoresOpened, FailsToMount};
+ghost use Rattle.tx_engine.specs.Opens.{StoresOpened, FailsToMount, ReadsUnmounted};
 ghost use Rattle.tx_engine.specs.Read.{ReadsKnown, ShowsKnown, read_place};
 ghost use Rattle.tx_engine.specs.Stored.{IsStored, Keeps, Writes, WriteBreaks};
 
@@ -71,6 +71,7 @@ impl<F: Flash, R: CommitRule> Store<F, R> {
         ensures opened { IfOk result (λ s. StoresOpened F.state flash config s) }
         ensures stored { IfOk result (IsStored F.state R.kept) }
         ensures failed { IfErr result (λ e. FailsToMount F.state flash config e.0 e.1) }
+        ensures reads { IfErr result (λ e. ReadsUnmounted F.state flash config e.0 e.1) }
     {
         let Ok(room) = page_room(alloc, flash.shape()) else {
             return Err((flash, MountError::Memory));
