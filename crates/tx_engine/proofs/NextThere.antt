@@ -12,7 +12,7 @@ use Rattle.collector.specs.Preserves.{IsThere}
 use Rattle.tx_engine.specs.ArrayState.{Entry}
 use Rattle.tx_engine.specs.declared.mark.Mark.TheVariants.{Plain, Doubt, Whole}
 use Rattle.tx_engine.specs.OpenTable.{OpenTable, no_opening, opening_at}
-use Rattle.tx_engine.specs.Settling.{AddsNoName, AddsOnly, IsReady, is_due}
+use Rattle.tx_engine.specs.Settling.{AddsOnly, IsReady, is_due}
 use Rattle.tx_engine.specs.Standing.{Naming, Stands, IsAsMarked, IsUnderWay, name_at, no_name}
 use Rattle.tx_engine.specs.Stored.{Stored}
 use Rattle.tx_engine.specs.Tables.{standing_in}
@@ -66,8 +66,5 @@ module _ {F : Type 0} (state : F → FlashState) (S : Stored F) (O : OpenTable) 
       both_ways (is_present (found_in S.noted.notes) name) (due_absent (state S.flash) S.noted S.table O i kept within its.0 its.1) here
 
 -- pins alone add no name
-pub pinned_none : (n n' : Noted) → n' ≡ record n { pins = n'.pins } → AddsNoName n n'
-pinned_none n n' same name here = subst (λ (m : Noted). IsThere m name) same here
-
-pub adds_then : (own : Link) (a b c : Noted) → AddsOnly own a b → AddsNoName b c → AddsOnly own a c
-adds_then own a b c first second name here = first name (second name here)
+pub adds_pinned : (own : Link) (a b c : Noted) → AddsOnly own a b → c ≡ record b { pins = c.pins } → AddsOnly own a c
+adds_pinned own a b c first same name here = first name (subst (λ (m : Noted). IsThere m name) same here)

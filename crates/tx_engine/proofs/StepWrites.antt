@@ -5,14 +5,13 @@ use Rattle.tx_types.specs.declared.record.Link.{Link}
 use Rattle.flash_model.specs.Flash.{FlashState}
 use Rattle.flash_model.specs.Operations.{moment_of}
 use Rattle.version_index.specs.Noted.{Noted}
-use Rattle.die_alloc.specs.BlockTable.{BlockTable}
 use Rattle.collector.specs.Looking.{reads_after}
 use Rattle.collector.specs.Preserves.{IsThere}
 use Rattle.collector.specs.Settling.{Settlement, slots_read}
 use Rattle.tx_engine.specs.ArrayState.{Entry}
 use Rattle.tx_engine.specs.Costs.{StepCosts}
 use Rattle.tx_engine.specs.OpenTable.{OpenTable, opening_at}
-use Rattle.tx_engine.specs.Settling.{AddsNoName, AddsOnly, HasTables, link_place, settlement_of, with_settlement}
+use Rattle.tx_engine.specs.Settling.{AddsOnly, HasTables, link_place, settlement_of, with_settlement}
 use Rattle.tx_engine.specs.Standing.{Standing, Naming, name_at, no_name, write_at}
 use Rattle.tx_engine.specs.Step.{settled_entry}
 use Rattle.tx_engine.specs.Stored.{Stored}
@@ -20,6 +19,7 @@ use Rattle.tx_engine.specs.Tables.{standing_in}
 use Rattle.tx_engine.specs.Writing.{BringsPage, WritesRecord}
 use Rattle.tx_engine.proofs.CostFacts.{costs_from}
 use Rattle.tx_engine.proofs.OpenNames.{all_names, names_at}
+use Rattle.tx_engine.proofs.RecordWrites.{writes_from}
 
 -- only the pins of a store changed
 abbrev pub KeepsButPins : {F : Type 0} → Stored F → Stored F → Type 0
@@ -80,28 +80,24 @@ module _ {F : Type 0} (state : F → FlashState) (S T : Stored F) (O P : OpenTab
   pub found_then : (U : Stored F) → (IsThere T.noted (name_at y f.done) → KeepsButPins T U) → IsThere found.noted (name_at x e.done) → moment_of (state U.flash) ≡ moment_of (state S.flash)
   found_then U stays here = ap (λ (s : Stored F). moment_of (state s.flash)) (stays (here_then here)) ∙ moment
 
-  pub brings_then : (U : Stored F) (Q : OpenTable) → (IsThere T.noted (name_at y f.done) → KeepsButPins T U) →
+  pub brings_then : (U : Stored F) (Q : OpenTable) → (state T.flash).shape ≡ (state S.flash).shape → (IsThere T.noted (name_at y f.done) → KeepsButPins T U) →
       (state T.flash).reads ≡ reads_after (slots_read S.noted S.unsure) (state S.flash).reads →
       ((IsThere T.noted (name_at y f.done) → ⊥) →
-      WritesRecord state T.noted T.table (standing_in state U Q) (name_at y f.done) (name_at y (link_place f)) (write_at f f.done).bytes) →
+      WritesRecord state (standing_in state T P) (standing_in state U Q) (name_at y f.done) (name_at y (link_place f)) (write_at f f.done).bytes) →
       BringsPage state (standing_in state S O) (standing_in state U Q) e x
-  brings_then U Q stays reads writes = record {
+  brings_then U Q shape stays reads writes = record {
     there = λ here. record {
       tables = has_tables state found T U Q is_noted is_table (stays (here_then here));
       reads = ap (λ (s : Stored F). (state s.flash).reads) (stays (here_then here)) ∙ reads;
     };
     absent = λ none.
         let w = writes (λ here. none (here_before here)) in
-        subst (λ (n : Noted). WritesRecord state n found.table (standing_in state U Q) (name_at x e.done) (name_at x (link_place e)) (write_at e e.done).bytes) is_noted
-        (subst (λ (t : BlockTable). WritesRecord state T.noted t (standing_in state U Q) (name_at x e.done) (name_at x (link_place e)) (write_at e e.done).bytes) is_table
-        (subst (λ (a : Link). WritesRecord state T.noted T.table (standing_in state U Q) a (name_at x (link_place e)) (write_at e e.done).bytes) name_is
-        (subst (λ (a : Link). WritesRecord state T.noted T.table (standing_in state U Q) (name_at y f.done) a (write_at e e.done).bytes) link_is
-        (subst (λ (b : List ℕ). WritesRecord state T.noted T.table (standing_in state U Q) (name_at y f.done) (name_at y (link_place f)) b) bytes_is w))));
+        writes_from state (with_settlement state (standing_in state S O)) (standing_in state T P) (standing_in state U Q) (name_at x e.done) (name_at x (link_place e)) (write_at e e.done).bytes
+        moment shape is_noted is_table
+        (subst (λ (a : Link). WritesRecord state (standing_in state T P) (standing_in state U Q) a (name_at x (link_place e)) (write_at e e.done).bytes) name_is
+        (subst (λ (a : Link). WritesRecord state (standing_in state T P) (standing_in state U Q) (name_at y f.done) a (write_at e e.done).bytes) link_is
+        (subst (λ (b : List ℕ). WritesRecord state (standing_in state T P) (standing_in state U Q) (name_at y f.done) (name_at y (link_place f)) b) bytes_is w)));
   }
 
   pub notes_then : (n' : Noted) → AddsOnly (name_at y f.done) T.noted n' → AddsOnly (name_at x e.done) found.noted n'
   notes_then n' adds = subst (λ (a : Link). AddsOnly a found.noted n') name_is (subst (λ (n : Noted). AddsOnly (name_at y f.done) n n') is_noted adds)
-
--- no name is new
-pub fewer_then : (n m n' : Noted) → m ≡ n → AddsNoName m n' → AddsNoName n n'
-fewer_then n m n' same adds = subst (λ (k : Noted). AddsNoName k n') same adds

@@ -5,7 +5,7 @@ use Rattle.tx_types.specs.declared.record.Link.{Link}
 use Rattle.flash_model.specs.Flash.{FlashState}
 use Rattle.flash_model.specs.Operations.{moment_of}
 use Rattle.flash_model.specs.declared.flash.Broken.{Broken}
-use Rattle.collector.specs.Preserves.{IsThere}
+use Rattle.collector.specs.Preserves.{IsThere, Preserves}
 use Rattle.collector.specs.Settling.{Settlement, settlement}
 use Rattle.collector.specs.declared.unsure.Unsure.TheVariants as unsure
 use Rattle.tx_engine.specs.ArrayState.{ArrayState, Entry, put, with_entry, without}
@@ -37,11 +37,7 @@ pub record StaysUnread {F : Type 0} (state : F → FlashState) (old new : Standi
   pub stays : new ≡ record old { flash = new.flash }
   pub moment : moment_of (state new.flash) ≡ moment_of (state old.flash)
 
--- no record is noted of a name that had none
-abbrev pub AddsNoName : Noted → Noted → Type 0
-AddsNoName old new = (name : Link) → IsThere new name → IsThere old name
-
--- none but of this name
+-- no record is noted of a name that had none, but for this name
 abbrev pub AddsOnly : Link → Noted → Noted → Type 0
 AddsOnly own old new = (name : Link) → IsThere new name → IsThere old name ⊎ (name ≡ own)
 
@@ -62,13 +58,13 @@ pub record IsSettled {F : Type 0} (there : Bool) (old new : Standing F) : Type 0
   pub rises : VersionsRise old new (settled_writes there old.machine)
   pub sure : new.unsure ≡ unsure.Nothing
 
--- What making room leaves: the device stands for the same array, no version changed, and no record is new.
+-- What making room leaves: the device stands for the same array, no version changed, and what is noted is kept.
 pub record IsLeft {F : Type 0} (state : F → FlashState) (old new : Standing F) (broken : Bool) : Type 0 where
   pub stands : Stands state new
   pub machine : new.machine ≡ old.machine
   pub exits : Exits state old new broken
   pub versions : (page : ℕ) → page < old.config.logical → current_of new.noted page ≡ current_of old.noted page
-  pub fewer : AddsNoName old.noted new.noted
+  pub kept : Preserves old.noted new.noted
 
 -- whether the transaction writes its last page next
 abbrev pub is_at_last : Entry → Bool
@@ -91,7 +87,7 @@ pub record WritesNext {F : Type 0} (old new : Standing F) (e : Entry) : Type 0 w
 pub record WriteFails {F : Type 0} (old new : Standing F) (before after : OpenTable) (at : ℕ) : Type 0 where
   pub pages : new.machine.pages ≡ old.machine.pages
   pub rises : VersionsRise old new []
-  pub fewer : AddsNoName old.noted new.noted
+  pub kept : Preserves old.noted new.noted
   pub opens : (after ≡ before)
       ⊎ (IsAtLast (opening_at before at).entry × (after ≡ with_opening before at (with_mark (opening_at before at) Doubt)))
 
@@ -124,8 +120,9 @@ abbrev pub Counts : ArrayState → ℕ → Entry → Progress → ArrayState →
 Counts s tag e (progress.Wrote done all) new = GoesOn s tag e (progress.Wrote done all) new
 Counts s tag e progress.Done new = (e.mark ≡ Whole) × (new ≡ record s { entries = without tag s.entries })
 
--- A collection that failed: the place could not be read; or the blocks are kept as they were then, and no record is new.
+-- A collection that failed: the place could not be read; or the blocks are as they were known then, and what was noted then
+-- is kept.
 abbrev pub CollectFails : {F : Type 0} → (F → FlashState) → Standing F → Standing F → Type 0
 CollectFails state old new =
     StaysUnread state old new
-    ⊎ ((new.table ≡ (settlement_of state old).table) × AddsNoName (settlement_of state old).noted new.noted)
+    ⊎ ((new.table ≡ (settlement_of state old).table) × Preserves (settlement_of state old).noted new.noted)

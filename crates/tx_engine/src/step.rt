@@ -2,14 +2,14 @@ ghost use Rattle.std.specs.Prelude.{◌≡◌, ◌<◌, ℕ, OnOk, OnErr, IfSome
 ghost use Rattle.std.specs.Result.{is_err};
 ghost use Rattle.flash_model.specs.Operations.{moment_of};
 ghost use Rattle.version_index.specs.Noted.{current_of};
-ghost use Rattle.collector.specs.Preserves.{IsThere};
+ghost use Rattle.collector.specs.Preserves.{IsThere, Preserves};
 ghost use Rattle.tx_engine.specs.ArrayState.{entry_of};
 ghost use Rattle.tx_engine.specs.Step.{StepsAs};
 ghost use Rattle.tx_engine.specs.Exits.{Exits, StepRises, is_there, is_step_fault};
 ghost use Rattle.tx_engine.specs.Costs.{CostsStep, StepCosts};
 ghost use Rattle.tx_engine.specs.OpenTable.{opening_at};
 ghost use Rattle.tx_engine.specs.Settling.{Advances, AdvanceRises, Counts, IsReady, is_due, link_place};
-ghost use Rattle.tx_engine.specs.Settling.{AddsNoName, AddsOnly, settlement_of};
+ghost use Rattle.tx_engine.specs.Settling.{AddsOnly, settlement_of};
 ghost use Rattle.tx_engine.specs.Standing.{Stands, name_at, write_at};
 ghost use Rattle.tx_engine.specs.Tables.{standing_in};
 ghost use Rattle.tx_engine.specs.Writing.{BringsPage, StepNotes, WritesRecord, next_of, open_of};
@@ -113,12 +113,12 @@ fn advance<F: Flash, R: CommitRule>(
         ≡ record store.old { noted = record store.old.noted { pins = store.new.noted.pins } } }
     ensures writes { let its = opening_at openings.old at in OnOk result (
         (IsThere store.old.noted (name_at its.naming its.entry.done) → ⊥) →
-        WritesRecord F.state store.old.noted store.old.table
+        WritesRecord F.state (standing_in F.state store.old openings.old)
         (standing_in F.state store.new openings.new) (name_at its.naming its.entry.done)
         (name_at its.naming (link_place its.entry)) (write_at its.entry its.entry.done).bytes) }
     ensures fresh { let its = opening_at openings.old at in OnOk result (
         AddsOnly (name_at its.naming its.entry.done) store.old.noted store.new.noted) }
-    ensures fewer { OnErr result (AddsNoName store.old.noted store.new.noted) }
+    ensures kept { OnErr result (Preserves store.old.noted store.new.noted) }
 {
     if !is_due(openings, at) {
         return Ok(count_next(store, openings, at));

@@ -61,7 +61,7 @@ pub(crate) fn write_next<F: Flash, R: CommitRule>(
         (standing_in F.state store.new openings.new)
         (name_at (opening_at openings.old at).naming (opening_at openings.old at).entry.done) }
     ensures writes { let its = opening_at openings.old at in OnOk result (
-        WritesRecord F.state store.old.noted store.old.table
+        WritesRecord F.state (standing_in F.state store.old openings.old)
         (standing_in F.state store.new openings.new) (name_at its.naming its.entry.done)
         (name_at its.naming (link_place its.entry)) (write_at its.entry its.entry.done).bytes) }
     ensures fresh { let its = opening_at openings.old at in OnOk result (

@@ -13,7 +13,7 @@ use Rattle.tx_engine.proofs.Kept.{from_stands}
 use Rattle.tx_engine.proofs.NextNoted.{next_parts}
 use Rattle.tx_engine.proofs.NextSet.{opening_set}
 use Rattle.tx_engine.proofs.OpenList.{first_of_own}
-use Rattle.tx_engine.proofs.NextThere.{adds_then, due_not_there, not_due_there, pinned_none}
+use Rattle.tx_engine.proofs.NextThere.{adds_pinned, due_not_there, not_due_there}
 use Rattle.tx_engine.proofs.RecordWrites.{writes_pinned}
 use Rattle.tx_engine.proofs.step.advance.Goals as goal
 
@@ -77,15 +77,15 @@ pub returns-clause-writes : goal.returns-clause-writes
 returns-clause-writes g c = λ absent. let state = g.F.Flash.state in
     let its = opening_at c.args.openings.now c.args.at in
     let stays = c.count_next-2.ensures.stays in
-    writes_pinned state c.args.store.now.noted c.args.store.now.table (standing_in state c.write_next.new.store c.write_next.new.openings) (standing_in state c.count_next-2.new.store c.count_next-2.new.openings)
+    writes_pinned state (standing_in state c.args.store.now c.args.openings.now) (standing_in state c.write_next.new.store c.write_next.new.openings) (standing_in state c.count_next-2.new.store c.count_next-2.new.openings)
     (name_at its.naming its.entry.done) (name_at its.naming (link_place its.entry)) (write_at its.entry its.entry.done).bytes
     (ap (λ (s : Stored _). s.flash) stays) (ap (λ (s : Stored _). s.table) stays) (ap (λ (s : Stored _). s.noted) stays) c.in_ok-write_next.ensures.writes
 
 pub returns-clause-fresh : goal.returns-clause-fresh
 returns-clause-fresh g c =
     let its = opening_at c.args.openings.now c.args.at in
-    adds_then (name_at its.naming its.entry.done) c.args.store.now.noted c.write_next.new.store.noted c.count_next-2.new.store.noted c.in_ok-write_next.ensures.fresh
-    (pinned_none c.write_next.new.store.noted c.count_next-2.new.store.noted (ap (λ (s : Stored _). s.noted) c.count_next-2.ensures.stays))
+    adds_pinned (name_at its.naming its.entry.done) c.args.store.now.noted c.write_next.new.store.noted c.count_next-2.new.store.noted c.in_ok-write_next.ensures.fresh
+    (ap (λ (s : Stored _). s.noted) c.count_next-2.ensures.stays)
 
 pub returns-then-not-is_due-clause-writes : goal.returns-then-not-is_due-clause-writes
 returns-then-not-is_due-clause-writes g c = λ absent.

@@ -3,7 +3,8 @@ use Rattle.std.specs.Prelude.{IfSome, false, true}
 use Rattle.std.specs.Result.{is_err}
 use Rattle.tx_types.specs.declared.config.Config.{Config}
 use Rattle.flash_model.specs.Operations.{moment_of}
-use Rattle.collector.specs.Preserves.{IsThere}
+use Rattle.version_index.specs.Noted.{Noted}
+use Rattle.collector.specs.Preserves.{IsThere, Preserves}
 use Rattle.flash_model.proofs.CallLemmas.{Carries-nothing}
 use Rattle.flash_model.proofs.MoveLemmas.{FlashMoves-nothing}
 use Rattle.tx_engine.specs.ArrayState.{ArrayState, Entry, entry_of}
@@ -24,7 +25,7 @@ use Rattle.tx_engine.proofs.OpenList.{first_position, first_of_own, entry_first}
 use Rattle.tx_engine.proofs.SettleExits.{failed_machine, failed_stays}
 use Rattle.tx_engine.proofs.CostFacts.{costs_still}
 use Rattle.tx_engine.proofs.StepExits.{step_missing, step_unsettled, step_settled, done_low, fault_rises, for_next, for_open, of_each, ok_as}
-use Rattle.tx_engine.proofs.StepWrites.{costs_then, found_then, brings_then, notes_then, fewer_then}
+use Rattle.tx_engine.proofs.StepWrites.{costs_then, found_then, brings_then, notes_then}
 use Rattle.tx_engine.proofs.device.Device.step.Goals as goal
 
 pub returns-in_default-clause-steps : goal.returns-in_default-clause-steps
@@ -237,7 +238,7 @@ returns-in_err-advance-clause-fresh g c =
     let new = standing_in state c.advance.new.store c.advance.new.openings in
     subst (StepNotes state c.args.self.now new c.args.tag) (sym (fault_is c.from_residual-in_err-advance.result c.from_residual-in_err-advance.ensures.1))
     (subst (λ (s : Standing _). StepNotes state s new c.args.tag (Err failed.Fault)) c.self.view_is
-    (inr (fewer_then (settlement_of state old).noted c.settle.new.store.noted c.advance.new.store.noted c.in_ok-settle.ensures.tables.0 c.in_err-advance.ensures.fewer)))
+    (inr (subst (λ (n : Noted). Preserves n c.advance.new.store.noted) c.in_ok-settle.ensures.tables.0 c.in_err-advance.ensures.kept)))
 
 pub returns-clause-fresh : goal.returns-clause-fresh
 returns-clause-fresh g c =
@@ -259,4 +260,4 @@ returns-clause-brings g c =
     let at = entry_settled (is_there state old) c.self.inside.openings c.settle.new.openings c.in-Some.at (ap (λ (m : ArrayState). m.entries) c.in_ok-settle.ensures.settles.machine) first.within in
     subst (λ (s : Standing _). IfSome (open_of s c.args.tag) (λ (e, x). BringsPage state s new e x)) c.self.view_is
     (for_open state c.self.inside.store c.self.inside.openings c.args.tag c.in-Some.at (BringsPage state old new) first
-    (brings_then state c.self.inside.store c.settle.new.store c.self.inside.openings c.settle.new.openings c.in-Some.at (is_there state old) c.in_ok-settle.ensures.tables.0 c.in_ok-settle.ensures.tables.1 c.settle.ensures.moment c.settle.ensures.names first.within at.1 c.advance.new.store c.advance.new.openings c.in_ok-advance.ensures.found c.in_ok-settle.ensures.reads c.in_ok-advance.ensures.writes))
+    (brings_then state c.self.inside.store c.settle.new.store c.self.inside.openings c.settle.new.openings c.in-Some.at (is_there state old) c.in_ok-settle.ensures.tables.0 c.in_ok-settle.ensures.tables.1 c.settle.ensures.moment c.settle.ensures.names first.within at.1 c.advance.new.store c.advance.new.openings c.settle.ensures.exits.carries.shape c.in_ok-advance.ensures.found c.in_ok-settle.ensures.reads c.in_ok-advance.ensures.writes))
