@@ -23,11 +23,12 @@ pub enum Aborted {
 }
 
 impl<F: Flash, R: CommitRule> Device<F, R> {
-    /// Gives up the transaction with this tag, if there is one. First it becomes known what a broken operation left: it is
-    /// too late where the transaction turns out to be whole. The flash is only read: each slot once whose
-    /// contents were not known. After a fault all is as before.
+    /// Gives up the transaction with this tag, if there is one. First it becomes known what a broken
+    /// operation left: it is too late where the transaction turns out to be whole. The flash is only
+    /// read: each slot once whose contents were not known. After a fault all is as before.
     pub fn abort(&mut self, tag: u32) -> Result<Aborted, StepError>
-        ensures aborts { AbortsAs (is_there F.state self.old) self.old.machine self.new.machine tag result }
+        ensures aborts { AbortsAs (is_there F.state self.old)
+            self.old.machine self.new.machine tag result }
         ensures exits { Exits F.state self.old self.new (is_abort_fault result) }
         ensures moment { moment_of (F.state self.new.flash) ≡ moment_of (F.state self.old.flash) }
         ensures rises { AbortRises (is_there F.state self.old) self.old self.new result }

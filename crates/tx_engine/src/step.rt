@@ -53,20 +53,21 @@ impl From<Broken> for StepError {
 }
 
 impl<F: Flash, R: CommitRule> Device<F, R> {
-    /// Writes the next page of the transaction with this tag, if there is one. First it becomes known what a broken
-    /// operation left. A page that turns out to be written takes no flash operation more. Before a page is written, records
-    /// that must go are cleared away, and where no block has room one is collected. After a fault the transaction has as
-    /// many pages written as before.
+    /// Writes the next page of the transaction with this tag, if there is one. First it becomes known
+    /// what a broken operation left. A page that turns out to be written takes no flash operation more.
+    /// Before a page is written, records that must go are cleared away, and where no block has room one
+    /// is collected. After a fault the transaction has as many pages written as before.
     pub fn step(&mut self, tag: u32) -> Result<Progress, StepError>
-        ensures steps { StepsAs (is_there F.state self.old) self.old.machine self.new.machine tag result }
+        ensures steps { StepsAs (is_there F.state self.old)
+            self.old.machine self.new.machine tag result }
         ensures exits { Exits F.state self.old self.new (is_step_fault result) }
         ensures rises { StepRises (is_there F.state self.old) self.old self.new tag result }
         ensures sure { OnOk result (self.new.unsure ≡ unsure.Nothing) }
         ensures unknown { result ≡ Err StepError.Unknown → self.new ≡ self.old }
         ensures costs { CostsStep F.state self.old self.new tag }
 
-        // What it did with the next page, by the tables that are known once the place is settled: where the record is
-        // there nothing, and else it is written. No other record is new.
+        // What it did with the next page, by the tables that are known once the place was read whose
+        // contents were not known: nothing where its record is there, and else the record is written.
         ensures found { IfSome (next_of self.old tag) (λ name.
             IsThere (settlement_of F.state self.old).noted name →
             moment_of (F.state self.new.flash) ≡ moment_of (F.state self.old.flash)) }

@@ -213,7 +213,8 @@ impl<F: Flash, R: CommitRule> Store<F, R> {
             × (answer ≡ found.answer) × (self.new.unsure ≡ unsure.Nothing)) }
         ensures failed { OnErr result (self.new ≡ record self.old { flash = self.new.flash }) }
         ensures moment { moment_of (F.state self.new.flash) ≡ moment_of (F.state self.old.flash) }
-        ensures carries { Carries (F.state self.old.flash) (F.state self.new.flash) (is_err result) }
+        ensures carries { Carries (F.state self.old.flash) (F.state self.new.flash)
+            (is_err result) }
         ensures reads { OnOk result ((F.state self.new.flash).reads ≡ reads_after
             (slots_read self.old.noted self.old.unsure) (F.state self.old.flash).reads) }
         ensures first_failed { OnErr result (ReadsAtMost (slots_read self.old.noted self.old.unsure)
@@ -329,8 +330,10 @@ impl<F: Flash, R: CommitRule> Store<F, R> {
         requires page { length bytes.now ≡ self.old.noted.config.page_bytes }
         ensures written { OnOk result (Writes F.state self.old self.new at.0 rec bytes.now) }
         ensures broken { OnErr result (WriteBreaks F.state self.old self.new at rec bytes.now) }
-        ensures moves { FlashMoves (F.state self.old.flash) (F.state self.new.flash) (is_err result) }
-        ensures carries { Carries (F.state self.old.flash) (F.state self.new.flash) (is_err result) }
+        ensures moves { FlashMoves (F.state self.old.flash) (F.state self.new.flash)
+            (is_err result) }
+        ensures carries { Carries (F.state self.old.flash) (F.state self.new.flash)
+            (is_err result) }
         ensures costs { ((F.state self.new.flash).programs ≤ (F.state self.old.flash).programs + 1)
             × ((F.state self.new.flash).erases ≡ (F.state self.old.flash).erases) }
     {

@@ -103,7 +103,8 @@ fn clear<F: Flash, R: CommitRule>(
 {
     laws::arrays_stay::<R>();
     let cleared = store.clear(name.page, name.version);
-    store.config();
+    // What holds of the store.
+    let _kept = store.config();
     cleared
 }
 
@@ -132,7 +133,8 @@ fn find_slot<F: Flash, R: CommitRule>(
 {
     laws::arrays_stay::<R>();
     let slot = store.free_slot();
-    store.config();
+    // What holds of the store.
+    let _kept = store.config();
     slot
 }
 
@@ -203,7 +205,8 @@ fn program<F: Flash, R: CommitRule>(
         × ((F.state store.new.flash).erases ≡ (F.state store.old.flash).erases) }
 {
     let programmed = store.write(slot, rec, openings.bytes(at, openings.done(at)));
-    store.config();
+    // What holds of the store.
+    let _kept = store.config();
     programmed
 }
 
