@@ -1,5 +1,5 @@
 -- Whether the record of the next page of an open transaction is there, on a settled device.
-use Rattle.std.proofs.Common.{◌≡◌, ℕ, ◌<◌, ◌≤◌, true, false, length, refl, sym, ap, ◌∙◌, subst, inl, inr, arith}
+use Rattle.std.proofs.Common.{◌≡◌, ℕ, ◌<◌, ◌≤◌, true, false, length, ◌∙◌, subst, inl, inr, arith}
 use Rattle.std.proofs.lemmas.Bool.{both_ways, lt-ltb}
 use Rattle.tx_types.specs.declared.record.Link.{Link}
 use Rattle.flash_model.specs.Flash.{FlashState}
@@ -10,7 +10,7 @@ use Rattle.version_index.proofs.NotedFacts.{noted_present}
 use Rattle.collector.specs.declared.unsure.Unsure.TheVariants as unsure
 use Rattle.collector.specs.Preserves.{IsThere}
 use Rattle.tx_engine.specs.ArrayState.{Entry}
-use Rattle.tx_engine.specs.declared.mark.Mark.TheVariants.{Plain, Doubt, Whole}
+use Rattle.tx_engine.specs.declared.mark.Mark.TheVariants.{Whole}
 use Rattle.tx_engine.specs.OpenTable.{OpenTable, no_opening, opening_at}
 use Rattle.tx_engine.specs.Settling.{AddsOnly, IsReady, is_due}
 use Rattle.tx_engine.specs.Standing.{Naming, Stands, IsAsMarked, IsUnderWay, name_at, no_name}

@@ -1,5 +1,5 @@
 -- The names of the open transactions, as settling leaves them.
-use Rattle.std.proofs.Common.{◌≡◌, ℕ, ◌<◌, List, [], length, map, get_or, refl, sym, ap, ◌∙◌, subst, arith}
+use Rattle.std.proofs.Common.{◌≡◌, ℕ, ◌<◌, List, [], length, map, get_or, refl, sym, ap, ◌∙◌, arith}
 use Rattle.std.proofs.lemmas.List.{length-map}
 use Rattle.tx_types.specs.declared.record.Link.{Link}
 use Rattle.tx_engine.specs.declared.mark.Mark.{Mark}

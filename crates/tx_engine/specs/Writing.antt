@@ -19,7 +19,7 @@ use Rattle.collector.specs.Collecting.{CollectsForRoom}
 use Rattle.collector.specs.Going.{blocks_to_go}
 use Rattle.collector.specs.Looking.{reads_after}
 use Rattle.collector.specs.Preserves.{IsThere, Preserves}
-use Rattle.collector.specs.Settling.{Settlement, slots_read}
+use Rattle.collector.specs.Settling.{slots_read}
 use Rattle.tx_engine.specs.ArrayState.{Entry, has_tag}
 use Rattle.tx_engine.specs.Settling.{AddsOnly, HasTables, StaysUnread, link_place, settlement_of, with_settlement}
 use Rattle.tx_engine.specs.Standing.{Standing, Naming, name_at, write_at}
