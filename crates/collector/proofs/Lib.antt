@@ -1,4 +1,5 @@
 pub mod NotesLeft
+pub mod NothingGoes
 pub mod Calm
 pub mod Losing
 pub mod EraseExits

@@ -21,9 +21,10 @@ ghost use Rattle.collector.specs.Preserves.{Preserves, KeepsArray, IsThere};
 ghost use Rattle.collector.specs.Settling.{settlement};
 ghost use Rattle.collector.specs.Victim.{HasNoGarbage};
 ghost use Rattle.collector.specs.Tidy.{IsTidy};
-ghost use Rattle.collector.specs.Going.{IsNextName};
+ghost use Rattle.collector.specs.Going.{IsNextName, blocks_to_go};
 
 use record_list::CommitRule;
+use tx_types::Protocol;
 
 /// The known image is sound, its notes are those of the tables, and it stands for the array that is known.
 pub fn known_images_stand<R: CommitRule>()
@@ -97,4 +98,10 @@ pub fn tidy_images()
     ensures { (s : FlashState) (n : Noted) (t : BlockTable) →
         Matches s n t unsure.Nothing → AllOfBlock n t.spare (λ slot. note_at n.notes slot ≡ note.Blank) → HasNoGarbage n t →
         IsTidy n.config.protocol n.config.logical s.image (pinned_names n.pins) }
+{}
+
+/// Under Back Pointer Cyclic Commit nothing ever must go.
+pub fn nothing_goes()
+    ensures { (n : Noted) (page below : ℕ) → n.config.protocol ≡ Protocol.Bpcc →
+        blocks_to_go n page below ≡ 0 }
 {}

@@ -13,7 +13,7 @@ use Rattle.page_cache.specs.CachedPages.{CachedPage, entry_of}
 use Rattle.tx_engine.specs.ArrayState.{ArrayState, page_at, idle}
 use Rattle.tx_engine.specs.Exits.{StandsFor, MentionsAtMost, VersionsTell, IsNamedAt}
 use Rattle.tx_engine.specs.Naming.{is_spent}
-use Rattle.tx_engine.specs.Read.{ReadsFlash}
+use Rattle.tx_engine.specs.Read.{ReadsFlash, read_place}
 use Rattle.tx_engine.specs.Standing.{Standing, limits_of}
 use Rattle.tx_engine.specs.Step.{StepsAs, CutLeaves, IsAtLast, settled}
 use Rattle.tx_engine.specs.declared.read.ReadAnswer.{ReadAnswer}
@@ -93,4 +93,5 @@ is_held s entries page = nat_lt page s.config.logical && is_some (entry_of page 
 -- A read of a page that is held leaves the device and its flash; any other one is a read of the device.
 abbrev pub ReadsThrough : {F : Type 0} → (F → FlashState) → Standing F → Standing F → List CachedPage → ℕ → List ℕ → List ℕ → Result ReadAnswer ReadError → Type 0
 ReadsThrough state old new entries page before after result =
-    MatchBool (is_held old entries page) (new ≡ old) (ReadsFlash state old.flash new.flash before after result)
+    MatchBool (is_held old entries page) (new ≡ old)
+    (ReadsFlash state (read_place old.noted old.unsure page) old.flash new.flash before after result)

@@ -1,5 +1,5 @@
 -- How many programs and erases the write of a page takes, by those of its parts.
-use Rattle.std.proofs.Common.{◌≡◌, ℕ, ◌+◌, ◌-◌, ◌*◌, ◌/◌, ◌<◌, ◌≤◌, ◌==◌, Bool, true, false, cond, ◌&&◌, length, get_or, Option, Some, None, refl, ap, ◌∙◌, subst, arith, eq-eqb}
+use Rattle.std.proofs.Common.{◌≡◌, ℕ, ◌+◌, ◌-◌, ◌*◌, ◌/◌, ◌<◌, ◌≤◌, ◌==◌, Bool, true, false, cond, ◌&&◌, length, get_or, Option, Some, None, refl, sym, ap, ◌∙◌, subst, arith, eq-eqb}
 use Rattle.std.specs.List.{range_with_len}
 use Rattle.std.specs.Option.{option_map}
 use Rattle.std.proofs.lemmas.Bool.{cond-true, and_from, both_ways}
@@ -7,8 +7,10 @@ use Rattle.std.proofs.lemmas.List.Sums.{get_or-le-sum_by}
 use Rattle.std.proofs.lemmas.List.FromFn.{length-range_with_len, get_or-range_with_len}
 use Rattle.std.proofs.lemmas.Nat.{div_below}
 use Rattle.tx_types.specs.Config.{shape_of, blocks_of}
+use Rattle.tx_types.specs.declared.config.Config.{Config}
 use Rattle.tx_types.specs.declared.record.Link.{Link}
 use Rattle.flash_model.specs.Flash.{FlashState}
+use Rattle.flash_model.specs.Operations.{Moment, moment_of}
 use Rattle.record_list.specs.declared.found.Found.{Found}
 use Rattle.record_list.specs.Current.{must_go}
 use Rattle.record_list.specs.Written.{first_slot}
@@ -125,14 +127,30 @@ costs_flash state a b c name same h =
       direct = λ none room. let d = h.direct none room in (let f = d.0 in omega (arith, p), e ∙ d.1);
     }
 
--- where nothing was done
-pub costs_nothing : {F : Type 0} (state : F → FlashState) (a c : Standing F) (name : Link) → c.flash ≡ a.flash → StepCosts state a c name
-costs_nothing state a c name same =
-    let flash : state c.flash ≡ state a.flash = ap state same in
-    let p = ap (λ (s : FlashState). s.programs) flash in
-    let e = ap (λ (s : FlashState). s.erases) flash in
+-- where nothing was programmed or erased
+pub costs_still : {F : Type 0} (state : F → FlashState) (a c : Standing F) (name : Link) → moment_of (state c.flash) ≡ moment_of (state a.flash) → StepCosts state a c name
+costs_still state a c name same =
+    let p = ap (λ (m : Moment). m.programs) same in
+    let e = ap (λ (m : Moment). m.erases) same in
     record {
       programs = omega (arith, p);
       erases = omega (arith, e);
       direct = λ none room. (omega (arith, p), e);
+    }
+
+-- from a device with the same tables and the same moment
+pub costs_from : {F : Type 0} (state : F → FlashState) (a b c : Standing F) (name : Link) → moment_of (state b.flash) ≡ moment_of (state a.flash) → b.config ≡ a.config →
+    b.noted ≡ a.noted → b.table ≡ a.table → StepCosts state b c name → StepCosts state a c name
+costs_from state a b c name moment config noted table h =
+    let p = ap (λ (m : Moment). m.programs) moment in
+    let e = ap (λ (m : Moment). m.erases) moment in
+    record {
+      programs = subst (λ (n : Noted). (state c.flash).programs ≤ (state a.flash).programs + (blocks_to_go n name.page name.version + 1) * (a.config.pages_per_block - 1) + 1) noted
+          (subst (λ (k : Config). (state c.flash).programs ≤ (state a.flash).programs + (blocks_to_go b.noted name.page name.version + 1) * (k.pages_per_block - 1) + 1) config
+          (subst (λ (q : ℕ). (state c.flash).programs ≤ q + (blocks_to_go b.noted name.page name.version + 1) * (b.config.pages_per_block - 1) + 1) p h.programs));
+      erases = subst (λ (n : Noted). (state c.flash).erases ≤ (state a.flash).erases + 2 * (blocks_to_go n name.page name.version + 1)) noted
+          (subst (λ (q : ℕ). (state c.flash).erases ≤ q + 2 * (blocks_to_go b.noted name.page name.version + 1)) e h.erases);
+      direct = λ none room.
+          let d = h.direct (subst (λ (n : Noted). blocks_to_go n name.page name.version ≡ 0) (sym noted) none) (λ full. room (subst IsFull table full)) in
+          (subst (λ (q : ℕ). (state c.flash).programs ≤ q + 1) p d.0, d.1 ∙ e);
     }

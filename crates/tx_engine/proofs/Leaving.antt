@@ -13,6 +13,7 @@ use Rattle.tx_engine.specs.Stored.{Stored, IsStored, Keeps}
 use Rattle.tx_engine.specs.Tables.{standing_in}
 use Rattle.tx_engine.proofs.Kept.{IsKept, IsNoOwn, from_stands, to_stands, kept_still, nothing_no_own}
 use Rattle.tx_engine.proofs.ExitsThen.{before_itself, exits_then}
+use Rattle.tx_engine.proofs.KeptTwice.{Preserves-then}
 use Rattle.tx_engine.proofs.TableLaws.{IsStayLaw}
 
 module _ {F : Type 0} (state : F → FlashState) (S S' : Stored F) (O : OpenTable) (broken : Bool) (law : IsStayLaw S.noted.config.protocol) (h : Stands state (standing_in state S O))
@@ -37,6 +38,7 @@ module _ {F : Type 0} (state : F → FlashState) (S S' : Stored F) (O : OpenTabl
       names = before_itself (namings_of O);
     };
     versions = keep.preserves.current;
+    kept = keep.preserves;
   }
 
 -- one after another
@@ -47,4 +49,5 @@ left_then state a b c broken config config' first second = record {
   machine = second.machine ∙ first.machine;
   exits = exits_then state a b c broken config config' first.exits second.exits;
   versions = λ page low. second.versions page (subst (λ (k : _). page < k.logical) (sym first.exits.config) low) ∙ first.versions page low;
+  kept = Preserves-then a.noted b.noted c.noted first.kept second.kept;
 }

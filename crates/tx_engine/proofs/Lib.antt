@@ -27,6 +27,7 @@ pub mod CollectCalls
 pub mod OpenedTables
 pub mod TableLaws
 pub mod OpenList
+pub mod OpenNames
 pub mod Kept
 pub mod ImageMoves
 pub mod Noting
@@ -52,5 +53,8 @@ pub mod RefusalSteps
 pub mod CostFacts
 pub mod WriteAfter
 pub mod CountExits
+pub mod RecordWrites
 pub mod AdvanceExits
+pub mod NextThere
 pub mod StepExits
+pub mod StepWrites

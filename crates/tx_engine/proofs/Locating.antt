@@ -35,7 +35,7 @@ use Rattle.collector.specs.declared.unsure.Unsure.{Unsure}
 use Rattle.collector.specs.declared.unsure.Unsure.TheVariants as unsure
 use Rattle.collector.specs.Known.{is_unsure, page_known}
 use Rattle.collector.specs.Matches.{Matches, CanSpare}
-use Rattle.tx_engine.specs.Read.{ShowsKnown}
+use Rattle.tx_engine.specs.Read.{ShowsKnown, read_place}
 
 -- contents of which a record is noted have its bytes
 record HasRecord (p : Protocol) (contents : Contents) (rec : Rec) : Type 0 where
@@ -226,3 +226,11 @@ not_victim (unsure.VictimErase b) (inl e) block is = cc
 not_victim (unsure.VictimErase b) (inr (inl (at, rec, e))) block is = cc
 not_victim (unsure.VictimErase b) (inr (inr (inl (from, to, e)))) block is = cc
 not_victim (unsure.VictimErase b) (inr (inr (inr e))) block is = cc
+
+-- where none of them is, a page is read from its home
+pub home_place : (n : Noted) (u : Unsure) (page : ℕ) → ((block : Block) → u ≡ unsure.VictimErase block → ⊥) → home_of n (current_name_of n page) ≡ read_place n u page
+home_place n unsure.Nothing page other = refl
+home_place n (unsure.Own at rec) page other = refl
+home_place n (unsure.Copy from to) page other = refl
+home_place n unsure.SpareErase page other = refl
+home_place n (unsure.VictimErase block) page other = absurd (other block refl)

@@ -70,5 +70,6 @@ module _ {F : Type 0} (state : F → FlashState) (p : Protocol) (flash : F) (its
     unsure = opened.unsure;
     tables = opened.tables;
     moment = opened.moment;
+    reads = opened.reads;
     carries = opened.carries;
   }

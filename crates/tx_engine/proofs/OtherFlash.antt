@@ -14,7 +14,7 @@ use Rattle.collector.specs.declared.unsure.Unsure.{Unsure}
 use Rattle.collector.specs.Known.{is_unsure, page_known, array_known}
 use Rattle.collector.specs.Matches.{Matches, IsNotedAt, IsPlace}
 use Rattle.tx_engine.specs.ArrayState.{page_at}
-use Rattle.tx_engine.specs.Read.{ReadsKnown, ReadsPage, ReadsFlash}
+use Rattle.tx_engine.specs.Read.{ReadsKnown, ReadsPage, ReadsFlash, read_place}
 use Rattle.tx_engine.specs.declared.read.ReadAnswer.{ReadAnswer}
 use Rattle.tx_engine.specs.declared.read.ReadAnswer.TheVariants as answer
 use Rattle.tx_engine.specs.declared.read.ReadError.{ReadError}
@@ -97,8 +97,8 @@ standing_same {F} {R} state protocol d x h same shape image =
 pub read_same : {F : Type 0} (state : F → FlashState) (old new : Stored F) (page : ℕ) (before after : List ℕ) (r : Result Bool Broken) → ReadsKnown state old new page before after r →
     ((state new.flash).shape ≡ (state old.flash).shape) × ((state new.flash).image ≡ (state old.flash).image)
 read_same state old new page before after (Ok false) h = (ap (λ f. (state f).shape) h.1, ap (λ f. (state f).image) h.1)
-read_same state old new page before after (Ok true) h = (h.1.3.carries.shape, h.1.3.image)
-read_same state old new page before after (Err broken) h = (h.1.2.carries.shape, h.1.2.image)
+read_same state old new page before after (Ok true) h = (h.1.4.carries.shape, h.1.4.image)
+read_same state old new page before after (Err broken) h = (h.1.3.carries.shape, h.1.3.image)
 
 -- the array has at a page what is known of it
 pub known_at : (n : Noted) (image : List Contents) (page : ℕ) → page < n.config.logical → page_at (array_known n image) page ≡ page_known n image page
@@ -118,7 +118,7 @@ reads_page state old new page before after (Ok false) within h = (within, known_
 reads_page state old new page before after (Err broken) within h = (within, subst IsSome (sym (known_at old.noted (state old.flash).image page within)) h.0)
 
 pub reads_flash : {F : Type 0} (state : F → FlashState) (old new : Stored F) (page : ℕ) (before after : List ℕ) (r : Result Bool Broken) →
-    ReadsKnown state old new page before after r → ReadsFlash state old.flash new.flash before after (answer_to r)
+    ReadsKnown state old new page before after r → ReadsFlash state (read_place old.noted old.unsure page) old.flash new.flash before after (answer_to r)
 reads_flash state old new page before after (Ok true) h = h.1
 reads_flash state old new page before after (Ok false) h = (h.1, h.2)
-reads_flash state old new page before after (Err broken) h = (h.1.0, h.1.1, broken, h.1.2)
+reads_flash state old new page before after (Err broken) h = (h.1.0, h.1.1, h.1.2, broken, h.1.3)

@@ -1,5 +1,5 @@
 -- The program of a record as a call: what it leaves where it is done, and where it is broken.
-use Rattle.std.proofs.Common.{◌≡◌, ℕ, eqb-true, List, length, Ok, Err, Result, sym, ap, ◌∙◌, subst, arith}
+use Rattle.std.proofs.Common.{◌≡◌, ℕ, eqb-true, List, [], ◌∷◌, length, Ok, Err, Result, sym, ap, ◌∙◌, subst, arith}
 use Rattle.std.specs.Result.{is_err}
 use Rattle.std.proofs.lemmas.List.{get_or-set_same}
 use Rattle.tx_types.specs.Config.{slots_of}
@@ -11,10 +11,10 @@ use Rattle.flash_model.specs.declared.flash.Broken.{Broken}
 use Rattle.flash_model.specs.declared.outcome.Outcome.TheVariants as outcome
 use Rattle.flash_model.specs.Flash.{FlashState, IsImage, blank, complete, slot_at}
 use Rattle.flash_model.specs.Calls.{Programs}
-use Rattle.flash_model.specs.Moves.{FlashMoves}
-use Rattle.flash_model.specs.Operations.{CanDo, program, image_left}
+use Rattle.flash_model.specs.Moves.{Does, FlashMoves}
+use Rattle.flash_model.specs.Operations.{CanDo, after, moment_of, program, image_left}
 use Rattle.flash_model.proofs.ImageLemmas.{IsImage-left}
-use Rattle.flash_model.proofs.MoveLemmas.{FlashMoves-operates}
+use Rattle.flash_model.proofs.MoveLemmas.{FlashMoves-operates, same_moments}
 use Rattle.page_record.specs.Spelling.{CanBeSpelled, spelling}
 use Rattle.page_record.proofs.Spellings.{length-spelling}
 use Rattle.record_list.specs.Changes.{PartialWriteLaw, CompletingWriteLaw}
@@ -84,6 +84,11 @@ module _ (q : Protocol) (partial : PartialWriteLaw q) (completing : CompletingWr
 
     pub done_image : s'.image ≡ image_with n.config.protocol s.image at.0 bytes rec
     done_image = done.done.image ∙ ap (λ sp. image_left s.shape s.image (program at.0 bytes sp) outcome.All) spells
+
+    pub done_does : Does s.shape (moment_of s) (program at.0 bytes (spelling n.config.protocol rec) ∷ []) (moment_of s')
+    done_does =
+        subst (λ sp. Does s.shape (moment_of s) (program at.0 bytes sp ∷ []) (moment_of s')) spells
+        (can, same_moments (moment_of s') (after s.shape (moment_of s) (program at.0 bytes spare)) done.done.image done.done.programs done.done.erases)
 
     pub done_stay : BytesStay n.config.protocol s.image s'.image
     done_stay = subst (BytesStay n.config.protocol s.image) (sym done_image) written_now.stay

@@ -59,12 +59,17 @@ module _ {F : Type 0} (state : F → FlashState) (S S' : Stored F) (O O' : OpenT
       (subst (λ (o : OpenTable). Stands state (standing_in state (record S { flash = S'.flash }) o)) (sym opens)
       (to_stands state (record S { flash = S'.flash }) O k))
 
+  pub failed_stays : S' ≡ record S { flash = S'.flash } → O' ≡ O → moment_of (state S'.flash) ≡ moment_of (state S.flash) →
+      standing_in state S' O' ≡ record (standing_in state S O) { flash = S'.flash }
+  failed_stays same opens moment =
+      ap₂ (λ (T : Stored F) (o : OpenTable). standing_in state T o) same opens
+      ∙ ap (λ image. record (standing_in state (record S { flash = S'.flash }) O) { machine = record { pages = array_known S.noted image; entries = entries_of O } }) (ap (λ (m : Moment). m.image) moment)
+
   pub failed_exits : S' ≡ record S { flash = S'.flash } → O' ≡ O → moment_of (state S'.flash) ≡ moment_of (state S.flash) →
       (broken : Bool) → Carries (state S.flash) (state S'.flash) broken → Exits state (standing_in state S O) (standing_in state S' O') broken
   failed_exits same opens moment broken carries =
       exits_still state (standing_in state S O) S'.flash broken (standing_in state S' O')
-      (ap₂ (λ (T : Stored F) (o : OpenTable). standing_in state T o) same opens
-      ∙ ap (λ image. record (standing_in state (record S { flash = S'.flash }) O) { machine = record { pages = array_known S.noted image; entries = entries_of O } }) (ap (λ (m : Moment). m.image) moment))
+      (failed_stays same opens moment)
       (FlashMoves-nothing (state S.flash) (state S'.flash) broken moment) carries
 
   module _ (r : IsSettledAs (state S.flash) S.noted S'.noted S'.table O O') (sure : S'.unsure ≡ unsure.Nothing) (moment : moment_of (state S'.flash) ≡ moment_of (state S.flash))

@@ -1,15 +1,15 @@
 -- A step: the device settles, and the transaction goes on.
-use Rattle.std.proofs.Common.{◌≡◌, ◌≢◌, ℕ, zero, suc, ◌<◌, Bool, true, false, List, [], ◌∷◌, map, get_or, All, Option, Some, None, Result, Ok, Err, refl, sym, ap, ◌∙◌, subst, inl, inr, arith}
+use Rattle.std.proofs.Common.{◌≡◌, ◌≢◌, ℕ, zero, suc, ◌<◌, Bool, true, List, [], ◌∷◌, map, get_or, All, Option, Some, None, Result, Ok, Err, refl, sym, ap, ◌∙◌, subst, inl, inr, arith}
 use Rattle.std.specs.Prelude.{MatchOption, IfSome, find, option_map}
 use Rattle.std.specs.List.{zip}
 use Rattle.std.specs.Result.{is_err}
 use Rattle.std.proofs.lemmas.Bool.{cond-true, cond-false, cond_both}
-use Rattle.std.proofs.lemmas.List.Elements.{All-nil, All-head, All-tail}
+use Rattle.std.proofs.lemmas.List.Elements.{All-nil}
 use Rattle.tx_types.specs.Batch.{PageWrite}
+use Rattle.tx_types.specs.declared.record.Link.{Link}
 use Rattle.flash_model.specs.Flash.{FlashState}
 use Rattle.flash_model.specs.declared.flash.Broken.{Broken}
 use Rattle.tx_engine.specs.ArrayState.{ArrayState, Entry, entry_of, has_tag}
-use Rattle.tx_engine.specs.Costs.{StepCosts, next_of}
 use Rattle.tx_engine.specs.declared.step.Progress.{Progress}
 use Rattle.tx_engine.specs.declared.step.Progress.TheVariants as progress
 use Rattle.tx_engine.specs.declared.step.StepError.{StepError}
@@ -17,10 +17,11 @@ use Rattle.tx_engine.specs.declared.step.StepError.TheVariants as failed
 use Rattle.tx_engine.specs.Exits.{VersionsRise, StepRises, settled_writes, done_writes, is_plain}
 use Rattle.tx_engine.specs.OpenTable.{OpenTable, Opening, no_opening, opening_at}
 use Rattle.tx_engine.specs.Settling.{Advances, AdvanceRises}
-use Rattle.tx_engine.specs.Standing.{Standing, name_at}
+use Rattle.tx_engine.specs.Standing.{Standing, Naming, name_at}
 use Rattle.tx_engine.specs.Step.{settled, settled_entry, StepGives, StepsAs}
 use Rattle.tx_engine.specs.Stored.{Stored}
 use Rattle.tx_engine.specs.Tables.{standing_in}
+use Rattle.tx_engine.specs.Writing.{next_of, open_of}
 use Rattle.tx_engine.proofs.Collecting.{rises_stay}
 use Rattle.tx_engine.proofs.OpenList.{IsFirstTagged}
 
@@ -69,42 +70,30 @@ fault_rises there a b c tag own f (Err x) s is fault config low machine first h 
       rises_stay a b c (settled_writes there a.machine) config low first (λ page inside. second.stays page inside (All-nil (λ (w : PageWrite). w.page ≢ page))),
     ))
 
--- Costs: the name that is written next
-pub next_found : (tag : ℕ) (all : List Opening) (i : ℕ) → IsFirstTagged tag all i →
-    option_map (λ (e, x). name_at x e.done) (find (λ (e, x). has_tag tag e) (zip (map (λ o. o.entry) all) (map (λ o. o.naming) all)))
-    ≡ Some (name_at (get_or all i no_opening).naming (get_or all i no_opening).entry.done)
-next_found tag [] i h = absurd (let w = h.within in omega arith)
-next_found tag (o ∷ all) zero h =
-    ap (option_map (λ (e, x). name_at x e.done))
-    (cond-true (has_tag tag o.entry) (Some (o.entry, o.naming)) (find (λ (e, x). has_tag tag e) (zip (map (λ o. o.entry) all) (map (λ o. o.naming) all))) h.tagged)
-next_found tag (o ∷ all) (suc i) h =
-    ap (option_map (λ (e, x). name_at x e.done))
-    (cond-false (has_tag tag o.entry) (Some (o.entry, o.naming)) (find (λ (e, x). has_tag tag e) (zip (map (λ o. o.entry) all) (map (λ o. o.naming) all))) (h.before 0 (omega arith)))
-    ∙ next_found tag all i (record { within = (let w = h.within in omega arith); tagged = h.tagged; before = λ k less. h.before (suc k) (omega arith) })
+-- The open transaction with a tag
+pub open_found : (tag : ℕ) (all : List Opening) (i : ℕ) → IsFirstTagged tag all i →
+    find (λ (e, x). has_tag tag e) (zip (map (λ o. o.entry) all) (map (λ o. o.naming) all)) ≡ Some ((get_or all i no_opening).entry, (get_or all i no_opening).naming)
+open_found tag [] i h = absurd (let w = h.within in omega arith)
+open_found tag (o ∷ all) zero h =
+    cond-true (has_tag tag o.entry) (Some (o.entry, o.naming)) (find (λ (e, x). has_tag tag e) (zip (map (λ o. o.entry) all) (map (λ o. o.naming) all))) h.tagged
+open_found tag (o ∷ all) (suc i) h =
+    cond-false (has_tag tag o.entry) (Some (o.entry, o.naming)) (find (λ (e, x). has_tag tag e) (zip (map (λ o. o.entry) all) (map (λ o. o.naming) all))) (h.before 0 (omega arith))
+    ∙ open_found tag all i (record { within = (let w = h.within in omega arith); tagged = h.tagged; before = λ k less. h.before (suc k) (omega arith) })
 
-pub next_missing : (tag : ℕ) (all : List Opening) → All (λ o. has_tag tag o.entry ≡ false) all →
-    option_map (λ (e, x). name_at x e.done) (find (λ (e, x). has_tag tag e) (zip (map (λ o. o.entry) all) (map (λ o. o.naming) all))) ≡ None
-next_missing tag [] h = refl
-next_missing tag (o ∷ all) h =
-    ap (option_map (λ (e, x). name_at x e.done))
-    (cond-false (has_tag tag o.entry) (Some (o.entry, o.naming)) (find (λ (e, x). has_tag tag e) (zip (map (λ o. o.entry) all) (map (λ o. o.naming) all))) (All-head (λ o. has_tag tag o.entry ≡ false) o all h))
-    ∙ next_missing tag all (All-tail (λ o. has_tag tag o.entry ≡ false) o all h)
+-- what holds of it, and of the name that it writes next
+pub for_open : {F : Type 0} (state : F → FlashState) (S : Stored F) (O : OpenTable) (tag i : ℕ) (P : Entry → Naming → Type 0) → IsFirstTagged tag O.all i →
+    P (opening_at O i).entry (opening_at O i).naming → IfSome (open_of (standing_in state S O) tag) (λ (e, x). P e x)
+for_open state S O tag i P first h = subst (λ o. IfSome o (λ (e, x). P e x)) (sym (open_found tag O.all i first)) h
 
-pub costs_found : {F : Type 0} (state : F → FlashState) (S : Stored F) (O : OpenTable) (new : Standing F) (tag i : ℕ) → IsFirstTagged tag O.all i →
-    StepCosts state (standing_in state S O) new (name_at (opening_at O i).naming (opening_at O i).entry.done) → IfSome (next_of (standing_in state S O) tag) (StepCosts state (standing_in state S O) new)
-costs_found state S O new tag i first h = subst (λ o. IfSome o (StepCosts state (standing_in state S O) new)) (sym (next_found tag O.all i first)) h
+pub for_next : {F : Type 0} (state : F → FlashState) (S : Stored F) (O : OpenTable) (tag i : ℕ) (P : Link → Type 0) → IsFirstTagged tag O.all i →
+    P (name_at (opening_at O i).naming (opening_at O i).entry.done) → IfSome (next_of (standing_in state S O) tag) P
+for_next state S O tag i P first h =
+    subst (λ o. IfSome o P) (sym (ap (option_map (λ (e, x). name_at x e.done)) (open_found tag O.all i first))) h
 
-pub costs_missing : {F : Type 0} (state : F → FlashState) (S : Stored F) (O : OpenTable) (new : Standing F) (tag : ℕ) → All (λ o. has_tag tag o.entry ≡ false) O.all →
-    IfSome (next_of (standing_in state S O) tag) (StepCosts state (standing_in state S O) new)
-costs_missing state S O new tag none = subst (λ o. IfSome o (StepCosts state (standing_in state S O) new)) (sym (next_missing tag O.all none)) tt
-
--- the costs where settling did nothing
-pub costs_settled : {F : Type 0} (state : F → FlashState) (S T : Stored F) (O P : OpenTable) (new : Standing F) (i : ℕ) → T ≡ S → P ≡ O →
-    StepCosts state (standing_in state T P) new (name_at (opening_at P i).naming (opening_at P i).entry.done) →
-    StepCosts state (standing_in state S O) new (name_at (opening_at O i).naming (opening_at O i).entry.done)
-costs_settled state S T O P new i store opens h =
-    subst (λ s. StepCosts state (standing_in state s O) new (name_at (opening_at O i).naming (opening_at O i).entry.done)) store
-    (subst (λ o. StepCosts state (standing_in state T o) new (name_at (opening_at o i).naming (opening_at o i).entry.done)) opens h)
+-- what holds of each name holds of it
+pub of_each : (o : Option Link) (P : Link → Type 0) → ((name : Link) → P name) → IfSome o P
+of_each None P h = tt
+of_each (Some name) P h = h name
 
 -- an answer that is handed on
 abbrev pub handed_on : Progress → Result Progress StepError

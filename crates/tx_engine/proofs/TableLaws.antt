@@ -1,22 +1,13 @@
 -- What the laws of the tables say, by names: each is handed to a lemma as a fact.
-use Rattle.std.proofs.Common.{◌≡◌, ◌≢◌, ◌<◌, ◌⊎◌, ℕ, List, Any, All, Contains, length, true, false}
-use Rattle.std.specs.Prelude.{◌↔◌}
-use Rattle.tx_types.specs.Config.{shape_of, slots_of}
+use Rattle.std.proofs.Common.{◌≡◌, ℕ, List, Contains, length}
 use Rattle.tx_types.specs.declared.config.Protocol.{Protocol}
 use Rattle.tx_types.specs.declared.record.Link.{Link}
-use Rattle.tx_types.specs.declared.record.Rec.{Rec}
 use Rattle.flash_model.specs.Flash.{FlashState}
-use Rattle.record_list.specs.Records.{is_present, name_of}
-use Rattle.record_list.specs.Changes.{PartialWriteKeeps, CompletingWriteKeeps}
 use Rattle.record_list.specs.Written.{bytes_at}
-use Rattle.version_index.specs.declared.note.Note.TheVariants as note
-use Rattle.version_index.specs.Images.{array_in, current_in, records_in, written_in}
-use Rattle.version_index.specs.Notes.{note_at, found_in}
-use Rattle.version_index.specs.Noted.{Noted, IsNoted, IsNextRecord, current_of, pinned_names, programmed}
+use Rattle.version_index.specs.Images.{current_in, written_in}
+use Rattle.version_index.specs.Noted.{Noted, current_of, pinned_names}
 use Rattle.die_alloc.specs.BlockTable.{BlockTable}
 use Rattle.collector.specs.declared.unsure.Unsure.{Unsure}
-use Rattle.collector.specs.declared.unsure.Unsure.TheVariants as unsure
-use Rattle.collector.specs.declared.unsure.Settled.TheVariants as settled
 use Rattle.collector.specs.Known.{array_known}
 use Rattle.collector.specs.Matches.{Matches, CanTake}
 use Rattle.collector.specs.Preserves.{Preserves, KeepsArray, IsThere}

@@ -20,6 +20,8 @@ use Rattle.collector.specs.declared.unsure.Unsure.{Unsure}
 use Rattle.collector.specs.declared.unsure.Unsure.TheVariants as unsure
 use Rattle.collector.specs.Known.{array_known}
 use Rattle.collector.specs.Matches.{Matches}
+use Rattle.collector.specs.Preserves.{Preserves}
+use Rattle.collector.proofs.Keeping.{preserves_same}
 use Rattle.tx_engine.specs.ArrayState.{Entry, Pages, is_doubted, page_at, put}
 use Rattle.tx_engine.specs.declared.mark.Mark.TheVariants.{Plain, Doubt, Whole}
 use Rattle.tx_engine.specs.Exits.{Exits, VersionsRise}
@@ -262,6 +264,7 @@ module _ {F : Type 0} (state : F → FlashState) (S S' : Stored F) (O : OpenTabl
           rises = All-nil (λ (v : PageWrite). current_of n v.page < current_of S'.noted v.page);
           stays = λ page low others. ap (λ m. current_of m page) w.noted;
         };
+        kept = subst (Preserves n) (sym w.noted) (preserves_same n);
         opens = elim (cases_eq (o.entry.done + 1) (length o.entry.writes)) [
           | inl last ↦ inr (last, opens_last last)
           | inr more ↦ inl (opens_more more)

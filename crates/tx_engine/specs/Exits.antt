@@ -1,19 +1,18 @@
 -- What each call of a device says of its flash, its versions and its mentions.
-use Rattle.std.specs.Prelude.{◌≡◌, ◌≢◌, ◌⊎◌, ℕ, ◌+◌, ◌<◌, ◌≤◌, ◌==◌, Bool, true, false, not, ◌&&◌, List, [], ◌∷◌, ◌++◌, length, map, max, All, Any, Contains, Option, None, Some, Result, Ok, Err, if◌then◌else◌}
+use Rattle.std.specs.Prelude.{◌≡◌, ◌≢◌, ◌⊎◌, ℕ, ◌<◌, ◌≤◌, ◌==◌, Bool, true, false, not, ◌&&◌, List, [], ◌∷◌, ◌++◌, All, Any, Contains, Option, Some, Result, Ok, Err, if◌then◌else◌}
 use Rattle.std.specs.List.{list_any, zip}
 use Rattle.tx_types.specs.Batch.{PageWrite}
-use Rattle.tx_types.specs.declared.config.Protocol.{Protocol}
 use Rattle.tx_types.specs.declared.record.Link.{Link}
 use Rattle.flash_model.specs.Flash.{FlashState, Contents}
 use Rattle.flash_model.specs.Calls.{Carries}
 use Rattle.flash_model.specs.Moves.{FlashMoves}
 use Rattle.record_list.specs.Records.{mention}
-use Rattle.version_index.specs.Images.{records_in, current_in, array_in}
+use Rattle.version_index.specs.Images.{records_in, current_in}
 use Rattle.version_index.specs.Noted.{Noted, current_of, mention_of}
 use Rattle.tx_engine.specs.ArrayState.{ArrayState, Entry, Pages, is_doubted, put, page_at, entry_of}
 use Rattle.tx_engine.specs.declared.mark.Mark.{Mark}
 use Rattle.tx_engine.specs.declared.mark.Mark.TheVariants.{Plain, Doubt, Whole}
-use Rattle.tx_engine.specs.Step.{settled, settled_entry, doubted}
+use Rattle.tx_engine.specs.Step.{settled, doubted}
 use Rattle.tx_engine.specs.Standing.{Standing, Naming}
 use Rattle.tx_engine.specs.declared.step.Progress.{Progress}
 use Rattle.tx_engine.specs.declared.step.Progress.TheVariants as progress

@@ -18,3 +18,4 @@ pub mod StoreTables
 pub mod Submit
 pub mod Tables
 pub mod Unbroken
+pub mod Writing

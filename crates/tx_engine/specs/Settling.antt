@@ -1,8 +1,12 @@
 -- Settling a device, and noting the next record of an open transaction.
 use Rattle.std.specs.Prelude.{◌≡◌, ◌⊎◌, ℕ, ◌+◌, ◌<◌, ◌==◌, ◌&&◌, not, Bool, true, false, List, [], length, Some, Result, Ok, Err, if◌then◌else◌}
 use Rattle.tx_types.specs.Batch.{PageWrite}
+use Rattle.tx_types.specs.declared.record.Link.{Link}
 use Rattle.flash_model.specs.Flash.{FlashState}
+use Rattle.flash_model.specs.Operations.{moment_of}
 use Rattle.flash_model.specs.declared.flash.Broken.{Broken}
+use Rattle.collector.specs.Preserves.{IsThere, Preserves}
+use Rattle.collector.specs.Settling.{Settlement, settlement}
 use Rattle.collector.specs.declared.unsure.Unsure.TheVariants as unsure
 use Rattle.tx_engine.specs.ArrayState.{ArrayState, Entry, put, with_entry, without}
 use Rattle.tx_engine.specs.declared.mark.Mark.TheVariants.{Plain, Doubt, Whole}
@@ -10,10 +14,32 @@ use Rattle.tx_engine.specs.declared.mark.Mark.{Mark}
 use Rattle.tx_engine.specs.declared.step.Progress.{Progress}
 use Rattle.tx_engine.specs.declared.step.Progress.TheVariants as progress
 use Rattle.tx_engine.specs.OpenTable.{OpenTable, Opening, opening_at, with_opening, with_mark, with_there}
-use Rattle.version_index.specs.Noted.{current_of}
+use Rattle.version_index.specs.Noted.{Noted, current_of}
 use Rattle.tx_engine.specs.Exits.{Exits, VersionsRise, settled_writes, done_writes}
 use Rattle.tx_engine.specs.Standing.{Standing, Stands, name_at}
 use Rattle.tx_engine.specs.Step.{settled, IsAtLast, GoesOn}
+
+-- what is known of a device once the place was read whose contents are not known
+abbrev pub settlement_of : {F : Type 0} → (F → FlashState) → Standing F → Settlement
+settlement_of state s = settlement s.noted s.table (state s.flash).image s.unsure
+
+-- a device with the tables that are known then
+abbrev pub with_settlement : {F : Type 0} → (F → FlashState) → Standing F → Standing F
+with_settlement state s = record s { noted = (settlement_of state s).noted; table = (settlement_of state s).table }
+
+-- A device has the tables that are known then, save for what is pinned.
+pub record HasTables {F : Type 0} (found : Settlement) (s : Standing F) : Type 0 where
+  pub noted : s.noted ≡ record found.noted { pins = s.noted.pins }
+  pub table : s.table ≡ found.table
+
+-- The place could not be read: all is as before but the flash, and nothing was programmed or erased.
+pub record StaysUnread {F : Type 0} (state : F → FlashState) (old new : Standing F) : Type 0 where
+  pub stays : new ≡ record old { flash = new.flash }
+  pub moment : moment_of (state new.flash) ≡ moment_of (state old.flash)
+
+-- no record is noted of a name that had none, but for this name
+abbrev pub AddsOnly : Link → Noted → Noted → Type 0
+AddsOnly own old new = (name : Link) → IsThere new name → IsThere old name ⊎ (name ≡ own)
 
 -- one record more of a transaction is noted: with its last one it is whole
 abbrev pub with_next : Opening → Opening
@@ -32,12 +58,13 @@ pub record IsSettled {F : Type 0} (there : Bool) (old new : Standing F) : Type 0
   pub rises : VersionsRise old new (settled_writes there old.machine)
   pub sure : new.unsure ≡ unsure.Nothing
 
--- What making room leaves: the device stands for the same array, and no version changed.
+-- What making room leaves: the device stands for the same array, no version changed, and what is noted is kept.
 pub record IsLeft {F : Type 0} (state : F → FlashState) (old new : Standing F) (broken : Bool) : Type 0 where
   pub stands : Stands state new
   pub machine : new.machine ≡ old.machine
   pub exits : Exits state old new broken
   pub versions : (page : ℕ) → page < old.config.logical → current_of new.noted page ≡ current_of old.noted page
+  pub kept : Preserves old.noted new.noted
 
 -- whether the transaction writes its last page next
 abbrev pub is_at_last : Entry → Bool
@@ -60,6 +87,7 @@ pub record WritesNext {F : Type 0} (old new : Standing F) (e : Entry) : Type 0 w
 pub record WriteFails {F : Type 0} (old new : Standing F) (before after : OpenTable) (at : ℕ) : Type 0 where
   pub pages : new.machine.pages ≡ old.machine.pages
   pub rises : VersionsRise old new []
+  pub kept : Preserves old.noted new.noted
   pub opens : (after ≡ before)
       ⊎ (IsAtLast (opening_at before at).entry × (after ≡ with_opening before at (with_mark (opening_at before at) Doubt)))
 
@@ -91,3 +119,10 @@ IsReady o = (o.entry.mark ≡ Whole) ⊎ ((o.entry.mark ≡ Plain) × (o.entry.d
 abbrev pub Counts : ArrayState → ℕ → Entry → Progress → ArrayState → Type 0
 Counts s tag e (progress.Wrote done all) new = GoesOn s tag e (progress.Wrote done all) new
 Counts s tag e progress.Done new = (e.mark ≡ Whole) × (new ≡ record s { entries = without tag s.entries })
+
+-- A collection that failed: the place could not be read; or the blocks are as they were known then, and what was noted then
+-- is kept.
+abbrev pub CollectFails : {F : Type 0} → (F → FlashState) → Standing F → Standing F → Type 0
+CollectFails state old new =
+    StaysUnread state old new
+    ⊎ ((new.table ≡ (settlement_of state old).table) × Preserves (settlement_of state old).noted new.noted)

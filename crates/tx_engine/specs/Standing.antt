@@ -1,5 +1,5 @@
 -- A device as its callers see it, and when it stands for an array.
-use Rattle.std.specs.Prelude.{◌≡◌, ◌≢◌, ◌↔◌, ◌⊎◌, ℕ, ◌+◌, ◌<◌, ◌≤◌, ◌==◌, nat_lt, Bool, true, false, not, ◌&&◌, List, [], ◌∷◌, length, map, slice_index_or, slice_get, All, Any, AllPairs, Contains, Some}
+use Rattle.std.specs.Prelude.{◌≡◌, ◌≢◌, ◌↔◌, ℕ, ◌+◌, ◌<◌, ◌≤◌, ◌==◌, nat_lt, false, List, length, map, slice_index_or, slice_get, All, Any, AllPairs, Contains, Some}
 use Rattle.std.specs.List.{AllZip}
 use Rattle.tx_types.specs.Batch.{PageWrite, no_write}
 use Rattle.tx_types.specs.declared.config.Config.{Config}
@@ -10,7 +10,7 @@ use Rattle.flash_model.specs.Flash.{FlashState, Contents, complete, slot_at}
 use Rattle.record_list.specs.Records.{is_present, name_of}
 use Rattle.record_list.specs.Transaction.{IsTransaction, InProgress, ShareNoPage}
 use Rattle.record_list.specs.Written.{bytes_at}
-use Rattle.version_index.specs.Images.{written_in, current_in}
+use Rattle.version_index.specs.Images.{written_in}
 use Rattle.version_index.specs.Notes.{found_in}
 use Rattle.version_index.specs.Noted.{Noted, IsNextRecord, current_of, pinned_names}
 use Rattle.die_alloc.specs.BlockTable.{BlockTable}

@@ -1,11 +1,12 @@
 -- A flash with the tables that match it, and what its calls keep.
-use Rattle.std.specs.Prelude.{◌≡◌, ℕ, Bool, List, slice_set}
+use Rattle.std.specs.Prelude.{◌≡◌, ℕ, Bool, List, [], ◌∷◌, slice_set}
 use Rattle.tx_types.specs.declared.config.Protocol.{Protocol}
 use Rattle.tx_types.specs.declared.config.Slot.{Slot}
 use Rattle.tx_types.specs.declared.record.Rec.{Rec}
 use Rattle.flash_model.specs.Flash.{FlashState, complete, slot_at}
 use Rattle.flash_model.specs.Calls.{Carries}
-use Rattle.flash_model.specs.Moves.{FlashMoves}
+use Rattle.flash_model.specs.Moves.{Does, FlashMoves}
+use Rattle.flash_model.specs.Operations.{moment_of, program}
 use Rattle.page_record.specs.Spelling.{spelling}
 use Rattle.version_index.specs.ImageChanges.{BytesStay, BytesCome}
 use Rattle.version_index.specs.Noted.{Noted, programmed}
@@ -40,6 +41,8 @@ pub record Writes {F : Type 0} (state : F → FlashState) (old new : Stored F) (
   pub table : new.table ≡ with_slot old.table at
   pub unsure : new.unsure ≡ unsure.Nothing
   pub image : (state new.flash).image ≡ slice_set (state old.flash).image at (complete bytes (spelling old.noted.config.protocol rec))
+  pub does : Does (state old.flash).shape (moment_of (state old.flash))
+      (program at bytes (spelling old.noted.config.protocol rec) ∷ []) (moment_of (state new.flash))
   pub stay : BytesStay old.noted.config.protocol (state old.flash).image (state new.flash).image
   pub come : BytesCome old.noted.config.protocol (state new.flash).image rec bytes
 

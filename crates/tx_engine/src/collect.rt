@@ -1,12 +1,11 @@
-ghost use Rattle.std.specs.Prelude.{◌≡◌, OnOk, IfOk, Ok};
+ghost use Rattle.std.specs.Prelude.{◌≡◌, OnOk, OnErr, IfOk, Ok};
 ghost use Rattle.std.specs.Result.{is_err};
-ghost use Rattle.collector.specs.Settling.{settlement};
 ghost use Rattle.collector.specs.declared.unsure.Unsure.TheVariants as unsure;
 ghost use Rattle.tx_engine.specs.Collect.{CollectsAs};
 ghost use Rattle.tx_engine.specs.Collections.{CollectsTables, HasNothingToCollect};
 ghost use Rattle.tx_engine.specs.Exits.{Exits, CollectRises, is_there};
 ghost use Rattle.tx_engine.specs.OpenTable.{entries_of};
-ghost use Rattle.tx_engine.specs.Settling.{IsLeft};
+ghost use Rattle.tx_engine.specs.Settling.{IsLeft, CollectFails, settlement_of};
 ghost use Rattle.tx_engine.specs.Standing.{Stands};
 ghost use Rattle.tx_engine.specs.Tables.{standing_in};
 
@@ -38,19 +37,24 @@ impl From<Broken> for Fault {
 }
 
 impl<F: Flash, R: CommitRule> Device<F, R> {
-    /// Collects the block with the most garbage, if there is any. First it becomes known what a broken operation left, and
-    /// the spare is made blank.
+    /// Collects the block with the most garbage, if there is any. First it becomes known what a broken
+    /// operation left, and the spare is made blank. After a fault it is not known what a broken
+    /// operation left, as before, or that is known and the blocks are kept as they were then.
     pub fn collect(&mut self) -> Result<Collected, Fault>
-        ensures collects { CollectsAs (is_there F.state self.old) self.old.machine self.new.machine result }
+        ensures collects { CollectsAs (is_there F.state self.old)
+            self.old.machine self.new.machine result }
         ensures exits { Exits F.state self.old self.new (is_err result) }
         ensures rises { CollectRises (is_there F.state self.old) self.old self.new result }
         ensures sure { OnOk result (self.new.unsure ≡ unsure.Nothing) }
         // What it did to the tables that are known once the place is settled, and so to the flash.
         ensures tables { IfOk result (λ answer.
-            let found = settlement self.old.noted self.old.table (F.state self.old.flash).image self.old.unsure in
-            CollectsTables (F.state self.old.flash) (F.state self.new.flash) found.noted self.new.noted found.table self.new.table answer) }
-        ensures nothing { result ≡ Ok Collected.Nothing → HasNothingToCollect self.old.config.protocol
-            self.old.config.logical (F.state self.new.flash).image self.new.machine.entries }
+            let found = settlement_of F.state self.old in
+            CollectsTables (F.state self.old.flash) (F.state self.new.flash)
+            found.noted self.new.noted found.table self.new.table answer) }
+        ensures failed { OnErr result (CollectFails F.state self.old self.new) }
+        ensures nothing { result ≡ Ok Collected.Nothing →
+            HasNothingToCollect self.old.config.protocol self.old.config.logical
+            (F.state self.new.flash).image self.new.machine.entries }
     {
         settle(&mut self.store, &mut self.openings)?;
         Ok(collect_settled(&mut self.store, &self.openings)?)
@@ -69,6 +73,7 @@ fn collect_settled<F: Flash, R: CommitRule>(
         (standing_in F.state store.new openings.now) (is_err result) }
     ensures tables { IfOk result (CollectsTables (F.state store.old.flash) (F.state store.new.flash)
         store.old.noted store.new.noted store.old.table store.new.table) }
+    ensures stays { OnErr result (store.new.table ≡ store.old.table) }
     ensures sure { OnOk result (store.new.unsure ≡ unsure.Nothing) }
     ensures nothing { result ≡ Ok Collected.Nothing →
         HasNothingToCollect store.new.noted.config.protocol store.new.noted.config.logical
@@ -78,6 +83,7 @@ fn collect_settled<F: Flash, R: CommitRule>(
     laws::images_stand::<R>();
     laws::tidy_images();
     let collected = store.collect();
-    store.config();
+    // What holds of the store.
+    let _kept = store.config();
     collected
 }

@@ -1,6 +1,6 @@
 ghost use Rattle.std.specs.Prelude.{◌≡◌, Ok, IfOk, IfErr};
 ghost use Rattle.tx_types.specs.Config.{checked};
-ghost use Rattle.tx_engine.specs.Opens.{Mounts, FailsToMount};
+ghost use Rattle.tx_engine.specs.Opens.{Mounts, FailsToMount, ReadsUnmounted};
 
 use crate::Device;
 use crate::openings::Openings;
@@ -29,6 +29,7 @@ impl<F: Flash, R: CommitRule> Device<F, R> {
         requires rule { config.protocol ≡ R.kept }
         ensures mounted { IfOk result (Mounts F.state flash config) }
         ensures failed { IfErr result (λ e. FailsToMount F.state flash config e.0 e.1) }
+        ensures reads { IfErr result (λ e. ReadsUnmounted F.state flash config e.0 e.1) }
     {
         collector::laws::images_stand::<R>();
         let store = Store::<F, R>::open(alloc, flash, config)?;

@@ -1,7 +1,7 @@
 ghost use Rattle.std.specs.Prelude.{◌≡◌, length};
 ghost use Rattle.flash_model.specs.Operations.{moment_of};
 ghost use Rattle.flash_model.specs.Calls.{Carries};
-ghost use Rattle.tx_engine.specs.Read.{ReadsPage, ReadsFlash, is_read_fault};
+ghost use Rattle.tx_engine.specs.Read.{ReadsPage, ReadsFlash, is_read_fault, read_place};
 
 use crate::Device;
 use flash_model::Flash;
@@ -26,14 +26,19 @@ pub enum ReadError {
 }
 
 impl<F: Flash, R: CommitRule> Device<F, R> {
-    /// Reads a logical page into room for a page of bytes, as the array has it. A page that is blank is answered without
-    /// the flash, and leaves the room as it was; any other one takes one read. After a fault the room holds any bytes.
+    /// Reads a logical page into room for a page of bytes, as the array has it. A page that is blank is
+    /// answered without the flash, and leaves the room as it was. Any other one takes one read, of the
+    /// home of its current record; while it is not known whether a collected block was erased, of the
+    /// lowest slot outside that block. After a fault the room holds any bytes.
     pub fn read(&mut self, page: u32, into: &mut [u8]) -> Result<ReadAnswer, ReadError>
         requires { length into.old ≡ self.old.config.page_bytes }
-        ensures reads { ReadsPage self.old.config.logical self.old.machine.pages page into.new result }
-        ensures flash { ReadsFlash F.state self.old.flash self.new.flash into.old into.new result }
+        ensures reads { ReadsPage self.old.config.logical self.old.machine.pages page
+            into.new result }
+        ensures flash { ReadsFlash F.state (read_place self.old.noted self.old.unsure page)
+            self.old.flash self.new.flash into.old into.new result }
         ensures moment { moment_of (F.state self.new.flash) ≡ moment_of (F.state self.old.flash) }
-        ensures carries { Carries (F.state self.old.flash) (F.state self.new.flash) (is_read_fault result) }
+        ensures carries { Carries (F.state self.old.flash) (F.state self.new.flash)
+            (is_read_fault result) }
         ensures stays { self.new ≡ record self.old { flash = self.new.flash } }
     {
         if page >= self.store.config().logical {

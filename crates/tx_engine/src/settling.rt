@@ -1,7 +1,8 @@
-ghost use Rattle.std.specs.Prelude.{◌≡◌, false, ◌<◌, ◌+◌, ℕ, All, OnOk, OnErr, length, position};
+ghost use Rattle.std.specs.Prelude.{◌≡◌, false, ◌<◌, ◌+◌, ℕ, All, OnOk, OnErr, length, map, position};
 ghost use Rattle.std.specs.Result.{is_err};
 ghost use Rattle.flash_model.specs.Operations.{moment_of};
-ghost use Rattle.collector.specs.Settling.{settlement};
+ghost use Rattle.collector.specs.Looking.{ReadsAtMost, reads_after};
+ghost use Rattle.collector.specs.Settling.{settlement, slots_read};
 ghost use Rattle.collector.specs.declared.unsure.Unsure.TheVariants as unsure;
 ghost use Rattle.tx_engine.specs.OpenTable.{opening_at, with_opening};
 ghost use Rattle.tx_engine.specs.Settling.{with_next, is_writing, IsSettled};
@@ -41,6 +42,12 @@ pub(crate) fn settle<F: Flash, R: CommitRule>(
     ensures exits { Exits F.state (standing_in F.state store.old openings.old)
         (standing_in F.state store.new openings.new) (is_err result) }
     ensures moment { moment_of (F.state store.new.flash) ≡ moment_of (F.state store.old.flash) }
+    ensures reads { OnOk result ((F.state store.new.flash).reads ≡ reads_after
+        (slots_read store.old.noted store.old.unsure) (F.state store.old.flash).reads) }
+    ensures first_failed { OnErr result (ReadsAtMost (slots_read store.old.noted store.old.unsure)
+        (F.state store.old.flash).reads (F.state store.new.flash).reads) }
+    ensures names { map (λ o. o.naming.names) openings.new.all
+        ≡ map (λ o. o.naming.names) openings.old.all }
 {
     laws::images_stand::<R>();
     laws::noted_writes::<R>();

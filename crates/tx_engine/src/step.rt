@@ -1,14 +1,18 @@
-ghost use Rattle.std.specs.Prelude.{◌≡◌, ◌<◌, ℕ, OnOk, IfSome, Err, length, false};
+ghost use Rattle.std.specs.Prelude.{◌≡◌, ◌<◌, ℕ, OnOk, OnErr, IfSome, Err, length, false};
 ghost use Rattle.std.specs.Result.{is_err};
+ghost use Rattle.flash_model.specs.Operations.{moment_of};
 ghost use Rattle.version_index.specs.Noted.{current_of};
+ghost use Rattle.collector.specs.Preserves.{IsThere, Preserves};
 ghost use Rattle.tx_engine.specs.ArrayState.{entry_of};
 ghost use Rattle.tx_engine.specs.Step.{StepsAs};
 ghost use Rattle.tx_engine.specs.Exits.{Exits, StepRises, is_there, is_step_fault};
 ghost use Rattle.tx_engine.specs.Costs.{CostsStep, StepCosts};
 ghost use Rattle.tx_engine.specs.OpenTable.{opening_at};
-ghost use Rattle.tx_engine.specs.Settling.{Advances, AdvanceRises, Counts, IsReady, is_due};
-ghost use Rattle.tx_engine.specs.Standing.{Stands, name_at};
+ghost use Rattle.tx_engine.specs.Settling.{Advances, AdvanceRises, Counts, IsReady, is_due, link_place};
+ghost use Rattle.tx_engine.specs.Settling.{AddsOnly, settlement_of};
+ghost use Rattle.tx_engine.specs.Standing.{Stands, name_at, write_at};
 ghost use Rattle.tx_engine.specs.Tables.{standing_in};
+ghost use Rattle.tx_engine.specs.Writing.{BringsPage, StepNotes, WritesRecord, next_of, open_of};
 ghost use Rattle.collector.specs.declared.unsure.Unsure.TheVariants as unsure;
 
 use crate::closing::close;
@@ -49,17 +53,27 @@ impl From<Broken> for StepError {
 }
 
 impl<F: Flash, R: CommitRule> Device<F, R> {
-    /// Writes the next page of the transaction with this tag, if there is one. First it becomes known what a broken
-    /// operation left. A page that turns out to be written takes no flash operation more. Before a page is written, records
-    /// that must go are cleared away, and where no block has room one is collected. After a fault the transaction has as
-    /// many pages written as before.
+    /// Writes the next page of the transaction with this tag, if there is one. First it becomes known
+    /// what a broken operation left. A page that turns out to be written takes no flash operation more.
+    /// Before a page is written, records that must go are cleared away, and where no block has room one
+    /// is collected. After a fault the transaction has as many pages written as before.
     pub fn step(&mut self, tag: u32) -> Result<Progress, StepError>
-        ensures steps { StepsAs (is_there F.state self.old) self.old.machine self.new.machine tag result }
+        ensures steps { StepsAs (is_there F.state self.old)
+            self.old.machine self.new.machine tag result }
         ensures exits { Exits F.state self.old self.new (is_step_fault result) }
         ensures rises { StepRises (is_there F.state self.old) self.old self.new tag result }
         ensures sure { OnOk result (self.new.unsure ≡ unsure.Nothing) }
         ensures unknown { result ≡ Err StepError.Unknown → self.new ≡ self.old }
         ensures costs { CostsStep F.state self.old self.new tag }
+
+        // What it did with the next page, by the tables that are known once the place was read whose
+        // contents were not known: nothing where its record is there, and else the record is written.
+        ensures found { IfSome (next_of self.old tag) (λ name.
+            IsThere (settlement_of F.state self.old).noted name →
+            moment_of (F.state self.new.flash) ≡ moment_of (F.state self.old.flash)) }
+        ensures brings { OnOk result (IfSome (open_of self.old tag) (λ (e, x).
+            BringsPage F.state self.old self.new e x)) }
+        ensures fresh { StepNotes F.state self.old self.new tag result }
     {
         let Some(at) = self.openings.position(tag) else {
             return Err(StepError::Unknown);
@@ -95,6 +109,17 @@ fn advance<F: Flash, R: CommitRule>(
     ensures costs { StepCosts F.state (standing_in F.state store.old openings.old)
         (standing_in F.state store.new openings.new)
         (name_at (opening_at openings.old at).naming (opening_at openings.old at).entry.done) }
+    ensures found { let its = opening_at openings.old at in
+        IsThere store.old.noted (name_at its.naming its.entry.done) → store.new
+        ≡ record store.old { noted = record store.old.noted { pins = store.new.noted.pins } } }
+    ensures writes { let its = opening_at openings.old at in OnOk result (
+        (IsThere store.old.noted (name_at its.naming its.entry.done) → ⊥) →
+        WritesRecord F.state (standing_in F.state store.old openings.old)
+        (standing_in F.state store.new openings.new) (name_at its.naming its.entry.done)
+        (name_at its.naming (link_place its.entry)) (write_at its.entry its.entry.done).bytes) }
+    ensures fresh { let its = opening_at openings.old at in OnOk result (
+        AddsOnly (name_at its.naming its.entry.done) store.old.noted store.new.noted) }
+    ensures kept { OnErr result (Preserves store.old.noted store.new.noted) }
 {
     if !is_due(openings, at) {
         return Ok(count_next(store, openings, at));
@@ -132,7 +157,8 @@ fn count_next<F: Flash, R: CommitRule>(
         (standing_in F.state store.new openings.new) false }
     ensures versions { (page : ℕ) →
         current_of store.new.noted page ≡ current_of store.old.noted page }
-    ensures flash { store.new.flash ≡ store.old.flash }
+    ensures stays { store.new
+        ≡ record store.old { noted = record store.old.noted { pins = store.new.noted.pins } } }
     ensures sure { store.new.unsure ≡ unsure.Nothing }
     ensures limits { (openings.new.page_bytes ≡ openings.old.page_bytes)
         × (openings.new.pending ≡ openings.old.pending) }

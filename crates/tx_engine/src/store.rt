@@ -1,6 +1,7 @@
 ghost use Rattle.std.specs.Prelude.{◌≡◌, ◌<◌, ◌≤◌, ◌+◌, ◌==◌, ℕ, List, true, false, Ok, Err, Some, None, length, IfOk, IfErr, IfSome, IfNone, OnOk, OnErr, sum_by};
 ghost use Rattle.std.specs.Result.{is_err};
 ghost use Rattle.std.specs.List.{range_with_len};
+ghost use Rattle.std.specs.Option.{option_map};
 ghost use Rattle.tx_types.specs.Config.{checked, shape_of, blocks_of};
 ghost use Rattle.tx_types.specs.declared.record.Link.{Link};
 ghost use Rattle.flash_model.specs.Calls.{Carries};
@@ -15,14 +16,16 @@ ghost use Rattle.die_alloc.specs.NextSlot.{next_slot, after_next_slot};
 ghost use Rattle.collector.specs.declared.unsure.Unsure.{Unsure};
 ghost use Rattle.collector.specs.declared.unsure.Unsure.TheVariants as unsure;
 ghost use Rattle.collector.specs.declared.unsure.Settled.TheVariants as settled;
+ghost use Rattle.collector.specs.Collecting.{CollectsForRoom};
+ghost use Rattle.collector.specs.Looking.{ReadsAtMost, reads_after};
 ghost use Rattle.collector.specs.Matches.{CanTake, CanTakeOwn};
-ghost use Rattle.collector.specs.Settling.{settlement};
+ghost use Rattle.collector.specs.Settling.{settlement, slots_read};
 ghost use Rattle.collector.specs.Going.{IsNextName, CostsAtMost, blocks_to_go};
 ghost use Rattle.collector.specs.Known.{page_known};
 ghost use Rattle.collector.specs.Victim.{garbage_in};
 ghost use Rattle.tx_engine.specs.Collections.{CollectsTables};
-ghost use Rattle.tx_engine.specs.Opens.{StoresOpened, FailsToMount};
-ghost use Rattle.tx_engine.specs.Read.{ReadsKnown, ShowsKnown};
+ghost use Rattle.tx_engine.specs.Opens.{StoresOpened, FailsToMount, ReadsUnmounted};
+ghost use Rattle.tx_engine.specs.Read.{ReadsKnown, ShowsKnown, read_place};
 ghost use Rattle.tx_engine.specs.Stored.{IsStored, Keeps, Writes, WriteBreaks};
 
 use crate::{Collected, MountError};
@@ -68,6 +71,7 @@ impl<F: Flash, R: CommitRule> Store<F, R> {
         ensures opened { IfOk result (λ s. StoresOpened F.state flash config s) }
         ensures stored { IfOk result (IsStored F.state R.kept) }
         ensures failed { IfErr result (λ e. FailsToMount F.state flash config e.0 e.1) }
+        ensures reads { IfErr result (λ e. ReadsUnmounted F.state flash config e.0 e.1) }
     {
         let Ok(room) = page_room(alloc, flash.shape()) else {
             return Err((flash, MountError::Memory));
@@ -187,6 +191,8 @@ impl<F: Flash, R: CommitRule> Store<F, R> {
             IfNone result (page_known self.now.noted image page ≡ None) }
         ensures place { IfSome result (λ at.
             ShowsKnown (F.state self.now.flash) self.now.noted page at.0) }
+        ensures slot { option_map (λ at. at.0) result
+            ≡ read_place self.now.noted self.now.unsure page }
     {
         match self.unsure {
             Unsure::VictimErase { block } => self.index.locate_off(page, block),
@@ -207,7 +213,12 @@ impl<F: Flash, R: CommitRule> Store<F, R> {
             × (answer ≡ found.answer) × (self.new.unsure ≡ unsure.Nothing)) }
         ensures failed { OnErr result (self.new ≡ record self.old { flash = self.new.flash }) }
         ensures moment { moment_of (F.state self.new.flash) ≡ moment_of (F.state self.old.flash) }
-        ensures carries { Carries (F.state self.old.flash) (F.state self.new.flash) (is_err result) }
+        ensures carries { Carries (F.state self.old.flash) (F.state self.new.flash)
+            (is_err result) }
+        ensures reads { OnOk result ((F.state self.new.flash).reads ≡ reads_after
+            (slots_read self.old.noted self.old.unsure) (F.state self.old.flash).reads) }
+        ensures first_failed { OnErr result (ReadsAtMost (slots_read self.old.noted self.old.unsure)
+            (F.state self.old.flash).reads (F.state self.new.flash).reads) }
         ensures idle { self.old.unsure ≡ unsure.Nothing →
             (result ≡ Ok Settled.Other) × (self.new ≡ self.old) }
     {
@@ -230,6 +241,7 @@ impl<F: Flash, R: CommitRule> Store<F, R> {
         ensures collects { IfOk result (CollectsTables
             (F.state self.old.flash) (F.state self.new.flash)
             self.old.noted self.new.noted self.old.table self.new.table) }
+        ensures stays { OnErr result (self.new.table ≡ self.old.table) }
         ensures sure { OnOk result (self.new.unsure ≡ unsure.Nothing) }
         ensures others { (at : Slot) (rec : Rec) → self.new.unsure ≡ unsure.Own at rec → ⊥ }
     {
@@ -292,6 +304,8 @@ impl<F: Flash, R: CommitRule> Store<F, R> {
         ensures direct { (IsFull self.old.table → ⊥) →
             IfOk result (λ at. Some at ≡ next_slot self.old.table) × (is_err result ≡ false)
             × (self.new ≡ record self.old { table = after_next_slot self.old.table }) }
+        ensures collects { IsFull self.old.table → IfOk result (λ at. CollectsForRoom
+            self.old.noted self.old.table self.new.noted self.new.table at) }
         ensures costs { CostsAtMost self.old.noted.config.pages_per_block 1
             (F.state self.old.flash) (F.state self.new.flash) }
         ensures still_clear { (page below : ℕ) → block_to_go self.old.noted page below ≡ None →
@@ -316,8 +330,10 @@ impl<F: Flash, R: CommitRule> Store<F, R> {
         requires page { length bytes.now ≡ self.old.noted.config.page_bytes }
         ensures written { OnOk result (Writes F.state self.old self.new at.0 rec bytes.now) }
         ensures broken { OnErr result (WriteBreaks F.state self.old self.new at rec bytes.now) }
-        ensures moves { FlashMoves (F.state self.old.flash) (F.state self.new.flash) (is_err result) }
-        ensures carries { Carries (F.state self.old.flash) (F.state self.new.flash) (is_err result) }
+        ensures moves { FlashMoves (F.state self.old.flash) (F.state self.new.flash)
+            (is_err result) }
+        ensures carries { Carries (F.state self.old.flash) (F.state self.new.flash)
+            (is_err result) }
         ensures costs { ((F.state self.new.flash).programs ≤ (F.state self.old.flash).programs + 1)
             × ((F.state self.new.flash).erases ≡ (F.state self.old.flash).erases) }
     {

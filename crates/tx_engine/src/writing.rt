@@ -15,10 +15,11 @@ ghost use Rattle.collector.specs.declared.unsure.Unsure.TheVariants as unsure;
 ghost use Rattle.tx_engine.specs.Costs.{StepCosts};
 ghost use Rattle.tx_engine.specs.Exits.{Exits};
 ghost use Rattle.tx_engine.specs.OpenTable.{opening_at, with_opening, with_mark};
-ghost use Rattle.tx_engine.specs.Settling.{IsLeft, WritesNext, WriteFails, is_at_last, link_place, with_next};
+ghost use Rattle.tx_engine.specs.Settling.{AddsOnly, IsLeft, WritesNext, WriteFails, is_at_last, link_place, with_next};
 ghost use Rattle.tx_engine.specs.Standing.{Stands, name_at, write_at};
 ghost use Rattle.tx_engine.specs.Stored.{IsStored, Writes, WriteBreaks};
 ghost use Rattle.tx_engine.specs.Tables.{standing_in};
+ghost use Rattle.tx_engine.specs.Writing.{FindsSlot, WritesRecord};
 
 use crate::Mark;
 use crate::openings::Openings;
@@ -59,6 +60,12 @@ pub(crate) fn write_next<F: Flash, R: CommitRule>(
     ensures costs { StepCosts F.state (standing_in F.state store.old openings.old)
         (standing_in F.state store.new openings.new)
         (name_at (opening_at openings.old at).naming (opening_at openings.old at).entry.done) }
+    ensures writes { let its = opening_at openings.old at in OnOk result (
+        WritesRecord F.state (standing_in F.state store.old openings.old)
+        (standing_in F.state store.new openings.new) (name_at its.naming its.entry.done)
+        (name_at its.naming (link_place its.entry)) (write_at its.entry its.entry.done).bytes) }
+    ensures fresh { let its = opening_at openings.old at in OnOk result (
+        AddsOnly (name_at its.naming its.entry.done) store.old.noted store.new.noted) }
 {
     laws::images_stand::<R>();
     laws::noted_writes::<R>();
@@ -96,7 +103,8 @@ fn clear<F: Flash, R: CommitRule>(
 {
     laws::arrays_stay::<R>();
     let cleared = store.clear(name.page, name.version);
-    store.config();
+    // What holds of the store.
+    let _kept = store.config();
     cleared
 }
 
@@ -118,12 +126,15 @@ fn find_slot<F: Flash, R: CommitRule>(
     ensures clear { block_to_go store.new.noted name.page name.version ≡ None }
     ensures direct { (IsFull store.old.table → ⊥) →
         (is_err result ≡ false) × (store.new.flash ≡ store.old.flash) }
+    ensures slot { IfOk result (
+        FindsSlot store.old.noted store.old.table store.new.noted store.new.table) }
     ensures costs { CostsAtMost store.old.noted.config.pages_per_block 1
         (F.state store.old.flash) (F.state store.new.flash) }
 {
     laws::arrays_stay::<R>();
     let slot = store.free_slot();
-    store.config();
+    // What holds of the store.
+    let _kept = store.config();
     slot
 }
 
@@ -194,7 +205,8 @@ fn program<F: Flash, R: CommitRule>(
         × ((F.state store.new.flash).erases ≡ (F.state store.old.flash).erases) }
 {
     let programmed = store.write(slot, rec, openings.bytes(at, openings.done(at)));
-    store.config();
+    // What holds of the store.
+    let _kept = store.config();
     programmed
 }
 

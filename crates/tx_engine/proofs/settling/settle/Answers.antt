@@ -2,11 +2,15 @@ use Rattle.std.proofs.Common.{sym, ap, subst, refl, ◌∙◌}
 use Rattle.std.specs.Result.{is_err}
 use Rattle.flash_model.specs.Calls.{Carries}
 use Rattle.tx_engine.proofs.Kept.{from_stands}
+use Rattle.tx_engine.proofs.OpenNames.{marked_names, noted_names}
 use Rattle.tx_engine.proofs.OpenOnes.{can_take}
 use Rattle.tx_engine.proofs.SettleExits.{failed_stands, failed_exits, settled_stands, settled_done, settled_exits, own_settled, own_within, own_short, own_none, doubt_gone, none_gone, none_doubted, not_present}
 use Rattle.tx_engine.proofs.TableLaws.{IsStayLaw, CurrentLaw}
 use Rattle.tx_engine.proofs.Tools.{Settles, NotesWrites}
-use Rattle.tx_engine.specs.OpenTable.{OpenTable}
+use Rattle.std.proofs.lemmas.List.Quantifiers.{position-Some}
+use Rattle.tx_engine.specs.ArrayState.{is_doubted}
+use Rattle.tx_engine.specs.declared.mark.Mark.TheVariants.{Plain}
+use Rattle.tx_engine.specs.OpenTable.{OpenTable, Opening, no_opening}
 use Rattle.tx_engine.specs.Tables.{standing_in}
 use Rattle.tx_engine.proofs.settling.settle.Goals as goal
 
@@ -102,6 +106,17 @@ returns-in-Some-clause-exits g c =
     c.in-Some.at c.in-Some.is c.note_next.new.openings c.note_next.ensures)
     c.in_ok-found.ensures.settled.3 c.settle.ensures.moment c.in_ok-found.ensures.carries
 
+pub returns-in-Some-clause-names : goal.returns-in-Some-clause-names
+returns-in-Some-clause-names g c =
+    noted_names c.args.openings.now c.note_next.new.openings c.in-Some.at
+    (own_within g.F.Flash.state c.args.store.now c.args.openings.now c.requires.stands
+    (subst Settles (sym c.requires.rule) (record { matches = c.images_stand.ensures.matches; records = c.images_stand.ensures.records; array = c.images_stand.ensures.array; preserves = c.images_stand.ensures.preserves }))
+    (subst CurrentLaw (sym c.requires.rule) c.images_stand.ensures.current)
+    c.settle.new.self.noted c.settle.new.self.table c.in_ok-found.found c.in_ok-found.ensures.settled.0 c.in_ok-found.ensures.settled.1 c.in_ok-found.ensures.settled.2
+    (subst NotesWrites (sym c.requires.rule) (record { names = c.noted_writes.ensures.names; partial = c.noted_writes.ensures.partial; completing = c.noted_writes.ensures.completing }))
+    c.writer-writer.result c.writer-writer.ensures c.in-Present.is
+    c.in-Some.at c.in-Some.is) c.note_next.ensures
+
 pub returns-in_default-clause-exits : goal.returns-in_default-clause-exits
 returns-in_default-clause-exits g c = absurd (own_none g.F.Flash.state c.args.store.now c.args.openings.now c.requires.stands
     (subst Settles (sym c.requires.rule) (record { matches = c.images_stand.ensures.matches; records = c.images_stand.ensures.records; array = c.images_stand.ensures.array; preserves = c.images_stand.ensures.preserves }))
@@ -131,6 +146,10 @@ returns-in-Some-doubtful g c =
       exits = settled_exits g.F.Flash.state c.args.store.now c.settle.new.self c.args.openings.now c.set_mark.new.self
           r c.in_ok-found.ensures.settled.3 c.settle.ensures.moment c.in_ok-found.ensures.carries;
       moment = c.settle.ensures.moment;
+      reads = c.in_ok-found.ensures.reads;
+      first_failed = tt;
+      names = marked_names c.args.openings.now c.set_mark.new.self c.in-Some-doubtful.at Plain
+          (position-Some (λ (o : Opening). is_doubted o.entry.mark) c.args.openings.now.all c.in-Some-doubtful.at no_opening (sym c.doubtful.ensures ∙ c.in-Some-doubtful.is)).0 c.set_mark.ensures;
     }
 
 pub returns-in_default-doubtful : goal.returns-in_default-doubtful
@@ -153,4 +172,7 @@ returns-in_default-doubtful g c =
       exits = settled_exits g.F.Flash.state c.args.store.now c.settle.new.self c.args.openings.now c.args.openings.now
           r c.in_ok-found.ensures.settled.3 c.settle.ensures.moment c.in_ok-found.ensures.carries;
       moment = c.settle.ensures.moment;
+      reads = c.in_ok-found.ensures.reads;
+      first_failed = tt;
+      names = refl;
     }

@@ -2,8 +2,9 @@ use Rattle.std.proofs.Common.{◌≡◌, sym, ap, ◌∙◌, subst, refl, eq-eqb
 use Rattle.std.specs.Prelude.{false}
 use Rattle.tx_engine.specs.ArrayState.{with_entry}
 use Rattle.tx_engine.specs.OpenTable.{OpenTable, Opening, opening_at, entries_of}
-use Rattle.tx_engine.specs.Settling.{with_next, IsReady, Counts}
-use Rattle.tx_engine.specs.Standing.{name_at}
+use Rattle.tx_engine.specs.Settling.{with_next, IsReady, Counts, link_place}
+use Rattle.tx_engine.specs.Standing.{name_at, write_at}
+use Rattle.tx_engine.specs.Stored.{Stored}
 use Rattle.tx_engine.specs.Tables.{standing_in}
 use Rattle.tx_engine.proofs.AdvanceExits.{not_due_ready, due_plain, next_ready, written_advances, written_rises, entries_with, entries_same, next_entry, failed_advances, err_advances}
 use Rattle.tx_engine.proofs.CostFacts.{costs_flash}
@@ -12,6 +13,8 @@ use Rattle.tx_engine.proofs.Kept.{from_stands}
 use Rattle.tx_engine.proofs.NextNoted.{next_parts}
 use Rattle.tx_engine.proofs.NextSet.{opening_set}
 use Rattle.tx_engine.proofs.OpenList.{first_of_own}
+use Rattle.tx_engine.proofs.NextThere.{adds_pinned, due_not_there, not_due_there}
+use Rattle.tx_engine.proofs.RecordWrites.{writes_pinned}
 use Rattle.tx_engine.proofs.step.advance.Goals as goal
 
 pub count_next-requires-clause-ready : goal.count_next-requires-clause-ready
@@ -60,4 +63,30 @@ returns-clause-exits g c = let state = g.F.Flash.state in
 
 pub returns-clause-costs : goal.returns-clause-costs
 returns-clause-costs g c = let state = g.F.Flash.state in
-    costs_flash state (standing_in state c.args.store.now c.args.openings.now) (standing_in state c.write_next.new.store c.write_next.new.openings) (standing_in state c.count_next-2.new.store c.count_next-2.new.openings) (name_at (opening_at c.args.openings.now c.args.at).naming (opening_at c.args.openings.now c.args.at).entry.done) c.count_next-2.ensures.flash c.write_next.ensures.costs
+    costs_flash state (standing_in state c.args.store.now c.args.openings.now) (standing_in state c.write_next.new.store c.write_next.new.openings) (standing_in state c.count_next-2.new.store c.count_next-2.new.openings) (name_at (opening_at c.args.openings.now c.args.at).naming (opening_at c.args.openings.now c.args.at).entry.done) (ap (λ (s : Stored _). s.flash) c.count_next-2.ensures.stays) c.write_next.ensures.costs
+
+pub returns-in_err-write_next-clause-found : goal.returns-in_err-write_next-clause-found
+returns-in_err-write_next-clause-found g c = λ here. let state = g.F.Flash.state in
+    absurd (due_not_there state c.args.store.now c.args.openings.now c.args.at c.requires.stands c.requires.sure c.requires.at (sym c.is_due.ensures ∙ c.if-not-is_due.false) here)
+
+pub returns-clause-found : goal.returns-clause-found
+returns-clause-found g c = λ here. let state = g.F.Flash.state in
+    absurd (due_not_there state c.args.store.now c.args.openings.now c.args.at c.requires.stands c.requires.sure c.requires.at (sym c.is_due.ensures ∙ c.if-not-is_due.false) here)
+
+pub returns-clause-writes : goal.returns-clause-writes
+returns-clause-writes g c = λ absent. let state = g.F.Flash.state in
+    let its = opening_at c.args.openings.now c.args.at in
+    let stays = c.count_next-2.ensures.stays in
+    writes_pinned state (standing_in state c.args.store.now c.args.openings.now) (standing_in state c.write_next.new.store c.write_next.new.openings) (standing_in state c.count_next-2.new.store c.count_next-2.new.openings)
+    (name_at its.naming its.entry.done) (name_at its.naming (link_place its.entry)) (write_at its.entry its.entry.done).bytes
+    (ap (λ (s : Stored _). s.flash) stays) (ap (λ (s : Stored _). s.table) stays) (ap (λ (s : Stored _). s.noted) stays) c.in_ok-write_next.ensures.writes
+
+pub returns-clause-fresh : goal.returns-clause-fresh
+returns-clause-fresh g c =
+    let its = opening_at c.args.openings.now c.args.at in
+    adds_pinned (name_at its.naming its.entry.done) c.args.store.now.noted c.write_next.new.store.noted c.count_next-2.new.store.noted c.in_ok-write_next.ensures.fresh
+    (ap (λ (s : Stored _). s.noted) c.count_next-2.ensures.stays)
+
+pub returns-then-not-is_due-clause-writes : goal.returns-then-not-is_due-clause-writes
+returns-then-not-is_due-clause-writes g c = λ absent.
+    absurd (absent (not_due_there g.F.Flash.state c.args.store.now c.args.openings.now c.args.at c.requires.stands c.requires.sure c.requires.at (sym c.is_due.ensures ∙ c.if-not-is_due.true)))

@@ -37,7 +37,7 @@ returns-in-Plain g c =
       counts = counted_machine state c.args.store.now O c.set_done.new.self c.args.at c.requires.stands c.requires.sure c.requires.at ready.0 ready.1 opens _ _ (ap (λ k. k + 1) c.done-done.ensures) c.pages-all.ensures;
       exits = counted_exits state c.args.store.now O c.set_done.new.self c.args.at c.requires.stands c.requires.sure c.requires.at ready.0 ready.1 opens;
       versions = λ page. refl;
-      flash = refl;
+      stays = refl;
       sure = c.requires.sure;
       limits = (ap (λ (o : OpenTable). o.page_bytes) opens, ap (λ (o : OpenTable). o.pending) opens);
     }

@@ -7,14 +7,16 @@ use Rattle.version_index.specs.Noted.{block_to_go}
 use Rattle.collector.specs.Going.{IsNextName, CostsAtMost, blocks_to_go}
 use Rattle.tx_engine.specs.Exits.{Exits}
 use Rattle.tx_engine.specs.OpenTable.{opening_at}
-use Rattle.tx_engine.specs.Standing.{name_at, no_name}
+use Rattle.tx_engine.specs.Settling.{WriteFails, link_place}
+use Rattle.tx_engine.specs.Standing.{name_at, no_name, write_at}
 use Rattle.tx_engine.specs.Tables.{standing_in}
 use Rattle.tx_engine.proofs.CostFacts.{costs_clear, costs_slot, costs_all}
 use Rattle.tx_engine.proofs.ExitsThen.{exits_then}
 use Rattle.tx_engine.proofs.Leaving.{left_then}
 use Rattle.tx_engine.proofs.NextRecord.{due_named, due_inside, next_name, next_record, next_take, next_can_be_spelled}
+use Rattle.tx_engine.proofs.RecordWrites.{writes_record, adds_own, free_within}
 use Rattle.tx_engine.proofs.Tools.{Settles, NotesWrites}
-use Rattle.tx_engine.proofs.WriteAfter.{settled_kept, next_low, written_after, fails_after}
+use Rattle.tx_engine.proofs.WriteAfter.{settled_kept, next_low, written_after, fails_after, fails_room, where_failed}
 use Rattle.tx_engine.proofs.WriteExits.{written_stands, written_next, written_exits, broken_stands, broken_fails, broken_exits}
 use Rattle.tx_engine.proofs.writing.write_next.Goals as goal
 
@@ -31,6 +33,14 @@ returns-in_err-clear-clause-costs g c = let state = g.F.Flash.state in
 
 pub find_slot-requires-clause-next : goal.find_slot-requires-clause-next
 find_slot-requires-clause-next g c = let state = g.F.Flash.state in ((opening_at c.args.openings.now c.args.at).naming.names, subst (IsNextName c.clear.new.store.noted (opening_at c.args.openings.now c.args.at).naming.names) (sym (c.name-name.ensures ∙ ap (name_at (opening_at c.args.openings.now c.args.at).naming) c.done.ensures)) (next_name (state c.clear.new.store.flash) c.clear.new.store.noted c.clear.new.store.table c.args.openings.now c.args.at (settled_kept state c.clear.new.store c.args.openings.now c.in_ok-clear.ensures.left.stands c.in_ok-clear.ensures.sure) c.requires.at c.requires.plain c.requires.due))
+
+pub returns-in_err-slot-clause-failed : goal.returns-in_err-slot-clause-failed
+returns-in_err-slot-clause-failed g c = let state = g.F.Flash.state in
+    let first = standing_in state c.args.store.now c.args.openings.now in
+    let then = standing_in state c.clear.new.store c.args.openings.now in
+    let last = standing_in state c.find_slot.new.store c.args.openings.now in
+    where_failed c.from_residual-in_err-slot.result (WriteFails first last c.args.openings.now c.args.openings.now c.args.at)
+    (fails_after state first then last c.args.openings.now c.args.openings.now c.args.at c.in_ok-clear.ensures.left (fails_room state then last c.args.openings.now c.args.at true c.in_err-slot.ensures.left))
 
 pub returns-in_err-slot-clause-exits : goal.returns-in_err-slot-clause-exits
 returns-in_err-slot-clause-exits g c = let state = g.F.Flash.state in
@@ -128,3 +138,23 @@ pub returns-clause-costs : goal.returns-clause-costs
 returns-clause-costs g c = let state = g.F.Flash.state in
     costs_all state c.args.store.now c.clear.new.store c.find_slot.new.store c.program.new.store c.args.openings.now c.note_next.new.openings (name_at (opening_at c.args.openings.now c.args.at).naming (opening_at c.args.openings.now c.args.at).entry.done) c.requires.stands.matches.noted (subst (λ (a : Link). CostsAtMost c.args.store.now.noted.config.pages_per_block (blocks_to_go c.args.store.now.noted a.page a.version) (state c.args.store.now.flash) (state c.clear.new.store.flash)) (c.name-name.ensures ∙ ap (name_at (opening_at c.args.openings.now c.args.at).naming) c.done.ensures) c.clear.ensures.costs) c.find_slot.ensures.costs c.in_ok-clear.ensures.left.exits.config
     (λ none. (c.clear.ensures.idle (subst (λ (a : Link). block_to_go c.args.store.now.noted a.page a.version ≡ None) (sym (c.name-name.ensures ∙ ap (name_at (opening_at c.args.openings.now c.args.at).naming) c.done.ensures)) none)).1) (is_err c.find_slot.result) c.find_slot.ensures.direct c.program.ensures.costs.0 c.program.ensures.costs.1
+
+pub returns-clause-writes : goal.returns-clause-writes
+returns-clause-writes g c = let state = g.F.Flash.state in
+    let its = opening_at c.args.openings.now c.args.at in
+    let is = c.name-name.ensures ∙ ap (name_at (opening_at c.args.openings.now c.args.at).naming) c.done.ensures in
+    writes_record state c.args.store.now c.clear.new.store c.find_slot.new.store c.program.new.store c.args.openings.now c.note_next.new.openings (name_at its.naming its.entry.done) (name_at its.naming (link_place its.entry)) c.in_ok-slot.slot c.next_record-rec.result (write_at its.entry its.entry.done).bytes
+    c.requires.stands.matches.noted c.in_ok-clear.ensures.left.kept (λ none. (c.clear.ensures.idle (subst (λ (a : Link). block_to_go c.args.store.now.noted a.page a.version ≡ None) (sym is) none)).1)
+    (is_err c.find_slot.result) c.find_slot.ensures.direct (c.in_ok-slot.ensures.left.exits.carries.shape ∙ c.in_ok-clear.ensures.left.exits.carries.shape)
+    (subst (λ (a : Link). block_to_go c.clear.new.store.noted a.page a.version ≡ None) is c.in_ok-clear.ensures.cleared) c.in_ok-slot.ensures.slot
+    c.next_record-rec.ensures.named c.next_record-rec.ensures.next c.next_record-rec.ensures.back
+    (free_within (state c.find_slot.new.store.flash) c.find_slot.new.store.noted c.find_slot.new.store.table c.find_slot.new.store.unsure c.in_ok-slot.ensures.left.stands.matches c.in_ok-slot.slot.0 c.in_ok-slot.ensures.free)
+    c.in_default.ensures.written
+
+pub returns-clause-fresh : goal.returns-clause-fresh
+returns-clause-fresh g c = let state = g.F.Flash.state in
+    let its = opening_at c.args.openings.now c.args.at in
+    adds_own state c.args.store.now c.clear.new.store c.find_slot.new.store c.program.new.store c.args.openings.now c.note_next.new.openings (name_at its.naming its.entry.done) (name_at its.naming (link_place its.entry)) c.in_ok-slot.slot c.next_record-rec.result (write_at its.entry its.entry.done).bytes
+    (subst NotesWrites (sym (ap (λ (k : Config). k.protocol) (c.in_ok-slot.ensures.left.exits.config ∙ c.in_ok-clear.ensures.left.exits.config) ∙ c.requires.rule)) (record { names = c.noted_writes.ensures.names; partial = c.noted_writes.ensures.partial; completing = c.noted_writes.ensures.completing }))
+    c.in_ok-slot.ensures.left.stands.matches.noted c.find_slot.new.store.unsure c.in_ok-slot.ensures.left.stands.matches c.in_ok-slot.ensures.free c.in_ok-clear.ensures.left.kept c.in_ok-slot.ensures.left.kept
+    c.next_record-rec.ensures.named c.in_default.ensures.written

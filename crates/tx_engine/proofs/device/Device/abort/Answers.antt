@@ -1,17 +1,22 @@
-use Rattle.std.proofs.Common.{ap, sym, ◌∙◌, subst, refl, inl, inr, Ok, Err}
+use Rattle.std.proofs.Common.{◌≡◌, ap, sym, ◌∙◌, subst, refl, inl, inr, Ok, Err}
+use Rattle.std.specs.Prelude.{OnErr}
 use Rattle.flash_model.proofs.CallLemmas.{Carries-nothing}
 use Rattle.flash_model.proofs.MoveLemmas.{FlashMoves-nothing}
+use Rattle.collector.specs.Looking.{ReadsAtMost, reads_after}
+use Rattle.collector.specs.Settling.{slots_read}
 use Rattle.tx_engine.specs.ArrayState.{ArrayState}
 use Rattle.tx_engine.specs.declared.step.StepError.TheVariants as failed
 use Rattle.tx_engine.specs.Exits.{Exits, VersionsRise, is_there, settled_writes}
 use Rattle.tx_engine.specs.OpenTable.{OpenTable, opening_at}
+use Rattle.tx_engine.specs.Settling.{HasTables, settlement_of}
 use Rattle.tx_engine.specs.Standing.{Standing}
 use Rattle.tx_engine.specs.Step.{AbortsAs}
 use Rattle.tx_engine.specs.Stored.{Stored}
 use Rattle.tx_engine.specs.Tables.{standing_in}
 use Rattle.tx_engine.proofs.ExitsThen.{exits_still, exits_then}
 use Rattle.tx_engine.proofs.Aborting.{entry_found, entry_missing, entry_settled, closed_machine, closed_exits, closed_current, rises_on, abort_missing, abort_failed, abort_done, not_whole, fault_is}
-use Rattle.tx_engine.proofs.SettleExits.{failed_machine}
+use Rattle.tx_engine.proofs.SettleExits.{failed_machine, failed_stays}
+use Rattle.tx_engine.proofs.StepWrites.{has_tables}
 use Rattle.tx_engine.proofs.device.Device.abort.Goals as goal
 use Rattle.tx_engine.proofs.device.Device.abort.Goals.{in-Whole, in-Plain}
 
@@ -92,3 +97,33 @@ returns-in_err-settle-clause-aborts g c =
     (abort_failed (is_there state old) old.machine new c.args.tag (opening_at c.self.inside.openings c.in-Some.at).entry found.1
     (failed_machine state c.self.inside.store c.settle.new.store c.self.inside.openings c.settle.new.openings
     c.in_err-settle.ensures.failed.0 c.in_err-settle.ensures.failed.1 c.settle.ensures.moment)))
+
+pub returns-clause-tables : goal.returns-clause-tables
+returns-clause-tables g c =
+    let state = g.F.Flash.state in
+    subst (λ (s : Standing _). HasTables (settlement_of state s) (standing_in state c.close.new.store c.close.new.openings)) c.self.view_is
+    (has_tables state (settlement_of state (standing_in state c.self.inside.store c.self.inside.openings)) c.settle.new.store c.close.new.store c.close.new.openings
+    c.in_ok-settle.ensures.tables.0 c.in_ok-settle.ensures.tables.1 c.close.ensures.pins)
+
+pub returns-clause-reads : goal.returns-clause-reads
+returns-clause-reads g c =
+    let state = g.F.Flash.state in
+    subst (λ (s : Standing _). (state c.close.new.store.flash).reads ≡ reads_after (slots_read s.noted s.unsure) (state s.flash).reads) c.self.view_is
+    (ap (λ (s : Stored _). (state s.flash).reads) c.close.ensures.pins ∙ c.in_ok-settle.ensures.reads)
+
+pub returns-in_err-settle-clause-failed : goal.returns-in_err-settle-clause-failed
+returns-in_err-settle-clause-failed g c =
+    let state = g.F.Flash.state in
+    let new = standing_in state c.settle.new.store c.settle.new.openings in
+    subst (λ r. OnErr r (new ≡ record c.args.self.now { flash = new.flash })) (sym (fault_is c.from_residual.result c.from_residual.ensures.1))
+    (subst (λ (s : Standing _). new ≡ record s { flash = new.flash }) c.self.view_is
+    (failed_stays state c.self.inside.store c.settle.new.store c.self.inside.openings c.settle.new.openings
+    c.in_err-settle.ensures.failed.0 c.in_err-settle.ensures.failed.1 c.settle.ensures.moment))
+
+pub returns-in_err-settle-clause-first_failed : goal.returns-in_err-settle-clause-first_failed
+returns-in_err-settle-clause-first_failed g c =
+    let state = g.F.Flash.state in
+    let old = c.args.self.now in
+    subst (λ r. OnErr r (ReadsAtMost (slots_read old.noted old.unsure) (state old.flash).reads (state c.settle.new.store.flash).reads)) (sym (fault_is c.from_residual.result c.from_residual.ensures.1))
+    (subst (λ (s : Standing _). ReadsAtMost (slots_read s.noted s.unsure) (state s.flash).reads (state c.settle.new.store.flash).reads) c.self.view_is
+    c.in_err-settle.ensures.first_failed)

@@ -1,6 +1,6 @@
 use Rattle.tx_types.specs.declared.config.Config.{Config}
 use Rattle.std.proofs.Common.{◌≡◌, ◌<◌, Ok, sym, ap, ◌∙◌, subst}
-use Rattle.tx_engine.specs.Read.{ReadsPage, ReadsFlash}
+use Rattle.tx_engine.specs.Read.{ReadsPage, ReadsFlash, read_place}
 use Rattle.tx_engine.specs.Standing.{Standing}
 use Rattle.tx_engine.proofs.OtherFlash.{standing_same, read_same, answer_to, reads_page, reads_flash}
 use Rattle.tx_engine.proofs.device.Device.read.Goals as goal
@@ -30,6 +30,6 @@ returns-clause-flash g c =
       | in-Ok-false w ↦ w.result-is ∙ sym (ap answer_to (w.in-Ok-false.is ∙ ap (λ b. Ok b) w.in-Ok-false.field-0-test))
       | in-Err w ↦ w.result-is ∙ sym (ap answer_to w.in-Err.is)
     ] in
-    subst (ReadsFlash g.F.Flash.state c.args.self.now.flash c.read.new.self.flash c.args.into.now c.read.new.into) (sym is)
-    (subst (λ (s : Standing g.row.F.Denot). ReadsFlash g.F.Flash.state s.flash c.read.new.self.flash c.args.into.now c.read.new.into (answer_to c.read.result)) c.self.view_is
+    subst (ReadsFlash g.F.Flash.state (read_place c.args.self.now.noted c.args.self.now.unsure c.args.page) c.args.self.now.flash c.read.new.self.flash c.args.into.now c.read.new.into) (sym is)
+    (subst (λ (s : Standing g.row.F.Denot). ReadsFlash g.F.Flash.state (read_place s.noted s.unsure c.args.page) s.flash c.read.new.self.flash c.args.into.now c.read.new.into (answer_to c.read.result)) c.self.view_is
     (reads_flash g.F.Flash.state c.self.inside.store c.read.new.self c.args.page c.args.into.now c.read.new.into c.read.result c.read.ensures.reads))

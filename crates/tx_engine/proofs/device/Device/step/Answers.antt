@@ -1,24 +1,31 @@
-use Rattle.std.proofs.Common.{◌≡◌, ◌<◌, ◌++◌, All, ap, sym, ◌∙◌, subst, refl, Ok, Err, Some}
-use Rattle.std.specs.Prelude.{false, true}
+use Rattle.std.proofs.Common.{◌≡◌, ◌<◌, ◌++◌, All, ap, sym, ◌∙◌, subst, refl, inl, inr, Ok, Err, Some}
+use Rattle.std.specs.Prelude.{IfSome, false, true}
 use Rattle.std.specs.Result.{is_err}
 use Rattle.tx_types.specs.declared.config.Config.{Config}
+use Rattle.flash_model.specs.Operations.{moment_of}
+use Rattle.version_index.specs.Noted.{Noted}
+use Rattle.collector.specs.Preserves.{IsThere, Preserves}
 use Rattle.flash_model.proofs.CallLemmas.{Carries-nothing}
 use Rattle.flash_model.proofs.MoveLemmas.{FlashMoves-nothing}
 use Rattle.tx_engine.specs.ArrayState.{ArrayState, Entry, entry_of}
-use Rattle.tx_engine.specs.Costs.{CostsStep}
+use Rattle.tx_engine.specs.Costs.{CostsStep, StepCosts}
 use Rattle.tx_engine.specs.declared.step.StepError.TheVariants as failed
 use Rattle.tx_engine.specs.Exits.{Exits, VersionsRise, StepRises, is_there, is_step_fault, settled_writes, done_writes}
 use Rattle.tx_engine.specs.OpenTable.{opening_at, entries_of}
 use Rattle.tx_engine.specs.Standing.{Standing}
+use Rattle.tx_engine.specs.Settling.{AddsOnly, settlement_of, with_settlement}
 use Rattle.tx_engine.specs.Step.{StepsAs, settled}
 use Rattle.tx_engine.specs.Tables.{standing_in}
+use Rattle.tx_engine.specs.Writing.{BringsPage, StepNotes, next_of, open_of}
 use Rattle.tx_engine.proofs.Aborting.{entry_found, entry_missing, entry_settled, fault_is}
 use Rattle.tx_engine.proofs.Collecting.{settled_low, own_writes_low}
 use Rattle.tx_engine.proofs.ExitsThen.{exits_still, exits_then, rises_then}
 use Rattle.tx_engine.proofs.Kept.{from_stands}
 use Rattle.tx_engine.proofs.OpenList.{first_position, first_of_own, entry_first}
-use Rattle.tx_engine.proofs.SettleExits.{failed_machine}
-use Rattle.tx_engine.proofs.StepExits.{step_missing, step_unsettled, step_settled, done_low, fault_rises, costs_found, costs_settled, ok_as}
+use Rattle.tx_engine.proofs.SettleExits.{failed_machine, failed_stays}
+use Rattle.tx_engine.proofs.CostFacts.{costs_still}
+use Rattle.tx_engine.proofs.StepExits.{step_missing, step_unsettled, step_settled, done_low, fault_rises, for_next, for_open, of_each, ok_as}
+use Rattle.tx_engine.proofs.StepWrites.{costs_then, found_then, brings_then, notes_then}
 use Rattle.tx_engine.proofs.device.Device.step.Goals as goal
 
 pub returns-in_default-clause-steps : goal.returns-in_default-clause-steps
@@ -141,15 +148,116 @@ returns-clause-rises g c =
 pub returns-in_err-advance-clause-costs : goal.returns-in_err-advance-clause-costs
 returns-in_err-advance-clause-costs g c =
     let state = g.F.Flash.state in
+    let old = standing_in state c.self.inside.store c.self.inside.openings in
     let new = (standing_in state c.advance.new.store c.advance.new.openings) in
+    let first = first_position c.args.tag c.self.inside.openings.all c.in-Some.at (sym c.position.ensures ∙ c.in-Some.is) in
+    let at = entry_settled (is_there state old) c.self.inside.openings c.settle.new.openings c.in-Some.at (ap (λ (m : ArrayState). m.entries) c.in_ok-settle.ensures.settles.machine) first.within in
     subst (λ (s : Standing _). CostsStep state s new c.args.tag) c.self.view_is
-    (λ sure. costs_found state c.self.inside.store c.self.inside.openings new c.args.tag c.in-Some.at (first_position c.args.tag c.self.inside.openings.all c.in-Some.at (sym c.position.ensures ∙ c.in-Some.is))
-    (costs_settled state c.self.inside.store c.settle.new.store c.self.inside.openings c.settle.new.openings new c.in-Some.at (c.settle.ensures.idle sure).1 (c.settle.ensures.idle sure).2 c.advance.ensures.costs))
+    (for_next state c.self.inside.store c.self.inside.openings c.args.tag c.in-Some.at (StepCosts state (with_settlement state old) new) first
+    (costs_then state c.self.inside.store c.settle.new.store c.self.inside.openings c.settle.new.openings c.in-Some.at (is_there state old) c.in_ok-settle.ensures.tables.0 c.in_ok-settle.ensures.tables.1 c.settle.ensures.moment c.settle.ensures.names first.within at.1 new c.in_ok-settle.ensures.exits.config c.advance.ensures.costs))
+
+pub returns-in_err-advance-clause-found : goal.returns-in_err-advance-clause-found
+returns-in_err-advance-clause-found g c =
+    let state = g.F.Flash.state in
+    let old = standing_in state c.self.inside.store c.self.inside.openings in
+    let new = (standing_in state c.advance.new.store c.advance.new.openings) in
+    let first = first_position c.args.tag c.self.inside.openings.all c.in-Some.at (sym c.position.ensures ∙ c.in-Some.is) in
+    let at = entry_settled (is_there state old) c.self.inside.openings c.settle.new.openings c.in-Some.at (ap (λ (m : ArrayState). m.entries) c.in_ok-settle.ensures.settles.machine) first.within in
+    subst (λ (s : Standing _). IfSome (next_of s c.args.tag) (λ name. IsThere (settlement_of state s).noted name → moment_of (state new.flash) ≡ moment_of (state s.flash))) c.self.view_is
+    (for_next state c.self.inside.store c.self.inside.openings c.args.tag c.in-Some.at (λ name. IsThere (settlement_of state old).noted name → moment_of (state new.flash) ≡ moment_of (state old.flash)) first
+    (found_then state c.self.inside.store c.settle.new.store c.self.inside.openings c.settle.new.openings c.in-Some.at (is_there state old) c.in_ok-settle.ensures.tables.0 c.in_ok-settle.ensures.tables.1 c.settle.ensures.moment c.settle.ensures.names first.within at.1 c.advance.new.store c.advance.ensures.found))
 
 pub returns-clause-costs : goal.returns-clause-costs
 returns-clause-costs g c =
     let state = g.F.Flash.state in
+    let old = standing_in state c.self.inside.store c.self.inside.openings in
     let new = (standing_in state c.advance.new.store c.advance.new.openings) in
+    let first = first_position c.args.tag c.self.inside.openings.all c.in-Some.at (sym c.position.ensures ∙ c.in-Some.is) in
+    let at = entry_settled (is_there state old) c.self.inside.openings c.settle.new.openings c.in-Some.at (ap (λ (m : ArrayState). m.entries) c.in_ok-settle.ensures.settles.machine) first.within in
     subst (λ (s : Standing _). CostsStep state s new c.args.tag) c.self.view_is
-    (λ sure. costs_found state c.self.inside.store c.self.inside.openings new c.args.tag c.in-Some.at (first_position c.args.tag c.self.inside.openings.all c.in-Some.at (sym c.position.ensures ∙ c.in-Some.is))
-    (costs_settled state c.self.inside.store c.settle.new.store c.self.inside.openings c.settle.new.openings new c.in-Some.at (c.settle.ensures.idle sure).1 (c.settle.ensures.idle sure).2 c.advance.ensures.costs))
+    (for_next state c.self.inside.store c.self.inside.openings c.args.tag c.in-Some.at (StepCosts state (with_settlement state old) new) first
+    (costs_then state c.self.inside.store c.settle.new.store c.self.inside.openings c.settle.new.openings c.in-Some.at (is_there state old) c.in_ok-settle.ensures.tables.0 c.in_ok-settle.ensures.tables.1 c.settle.ensures.moment c.settle.ensures.names first.within at.1 new c.in_ok-settle.ensures.exits.config c.advance.ensures.costs))
+
+pub returns-clause-found : goal.returns-clause-found
+returns-clause-found g c =
+    let state = g.F.Flash.state in
+    let old = standing_in state c.self.inside.store c.self.inside.openings in
+    let new = (standing_in state c.advance.new.store c.advance.new.openings) in
+    let first = first_position c.args.tag c.self.inside.openings.all c.in-Some.at (sym c.position.ensures ∙ c.in-Some.is) in
+    let at = entry_settled (is_there state old) c.self.inside.openings c.settle.new.openings c.in-Some.at (ap (λ (m : ArrayState). m.entries) c.in_ok-settle.ensures.settles.machine) first.within in
+    subst (λ (s : Standing _). IfSome (next_of s c.args.tag) (λ name. IsThere (settlement_of state s).noted name → moment_of (state new.flash) ≡ moment_of (state s.flash))) c.self.view_is
+    (for_next state c.self.inside.store c.self.inside.openings c.args.tag c.in-Some.at (λ name. IsThere (settlement_of state old).noted name → moment_of (state new.flash) ≡ moment_of (state old.flash)) first
+    (found_then state c.self.inside.store c.settle.new.store c.self.inside.openings c.settle.new.openings c.in-Some.at (is_there state old) c.in_ok-settle.ensures.tables.0 c.in_ok-settle.ensures.tables.1 c.settle.ensures.moment c.settle.ensures.names first.within at.1 c.advance.new.store c.advance.ensures.found))
+
+pub returns-in_err-settle-clause-costs : goal.returns-in_err-settle-clause-costs
+returns-in_err-settle-clause-costs g c =
+    let state = g.F.Flash.state in
+    let new = standing_in state c.settle.new.store c.settle.new.openings in
+    subst (λ (s : Standing _). CostsStep state s new c.args.tag) c.self.view_is
+    (let old = standing_in state c.self.inside.store c.self.inside.openings in
+    of_each (next_of old c.args.tag) (StepCosts state (with_settlement state old) new) (λ name. costs_still state (with_settlement state old) new name c.settle.ensures.moment))
+
+pub returns-in_err-settle-clause-found : goal.returns-in_err-settle-clause-found
+returns-in_err-settle-clause-found g c =
+    let state = g.F.Flash.state in
+    let new = standing_in state c.settle.new.store c.settle.new.openings in
+    subst (λ (s : Standing _). IfSome (next_of s c.args.tag) (λ name. IsThere (settlement_of state s).noted name → moment_of (state new.flash) ≡ moment_of (state s.flash))) c.self.view_is
+    (let old = standing_in state c.self.inside.store c.self.inside.openings in
+    of_each (next_of old c.args.tag) (λ name. IsThere (settlement_of state old).noted name → moment_of (state new.flash) ≡ moment_of (state old.flash)) (λ name here. c.settle.ensures.moment))
+
+pub returns-in_default-clause-costs : goal.returns-in_default-clause-costs
+returns-in_default-clause-costs g c =
+    let s = c.args.self.now in
+    let state = g.F.Flash.state in
+    of_each (next_of s c.args.tag) (StepCosts state (with_settlement state s) s) (λ name. costs_still state (with_settlement state s) s name refl)
+
+pub returns-in_default-clause-found : goal.returns-in_default-clause-found
+returns-in_default-clause-found g c =
+    let s = c.args.self.now in
+    let state = g.F.Flash.state in
+    of_each (next_of s c.args.tag) (λ name. IsThere (settlement_of state s).noted name → moment_of (state s.flash) ≡ moment_of (state s.flash)) (λ name here. refl)
+
+pub returns-in_default-clause-fresh : goal.returns-in_default-clause-fresh
+returns-in_default-clause-fresh g c = inl (record { stays = refl; moment = refl })
+
+pub returns-in_err-settle-clause-fresh : goal.returns-in_err-settle-clause-fresh
+returns-in_err-settle-clause-fresh g c =
+    let state = g.F.Flash.state in
+    let new = standing_in state c.settle.new.store c.settle.new.openings in
+    subst (StepNotes state c.args.self.now new c.args.tag) (sym (fault_is c.from_residual.result c.from_residual.ensures.1))
+    (subst (λ (s : Standing _). StepNotes state s new c.args.tag (Err failed.Fault)) c.self.view_is
+    (inl (record {
+      stays = failed_stays state c.self.inside.store c.settle.new.store c.self.inside.openings c.settle.new.openings c.in_err-settle.ensures.failed.0 c.in_err-settle.ensures.failed.1 c.settle.ensures.moment;
+      moment = c.settle.ensures.moment;
+    })))
+
+pub returns-in_err-advance-clause-fresh : goal.returns-in_err-advance-clause-fresh
+returns-in_err-advance-clause-fresh g c =
+    let state = g.F.Flash.state in
+    let old = standing_in state c.self.inside.store c.self.inside.openings in
+    let new = standing_in state c.advance.new.store c.advance.new.openings in
+    subst (StepNotes state c.args.self.now new c.args.tag) (sym (fault_is c.from_residual-in_err-advance.result c.from_residual-in_err-advance.ensures.1))
+    (subst (λ (s : Standing _). StepNotes state s new c.args.tag (Err failed.Fault)) c.self.view_is
+    (inr (subst (λ (n : Noted). Preserves n c.advance.new.store.noted) c.in_ok-settle.ensures.tables.0 c.in_err-advance.ensures.kept)))
+
+pub returns-clause-fresh : goal.returns-clause-fresh
+returns-clause-fresh g c =
+    let state = g.F.Flash.state in
+    let old = standing_in state c.self.inside.store c.self.inside.openings in
+    let new = (standing_in state c.advance.new.store c.advance.new.openings) in
+    let first = first_position c.args.tag c.self.inside.openings.all c.in-Some.at (sym c.position.ensures ∙ c.in-Some.is) in
+    let at = entry_settled (is_there state old) c.self.inside.openings c.settle.new.openings c.in-Some.at (ap (λ (m : ArrayState). m.entries) c.in_ok-settle.ensures.settles.machine) first.within in
+    subst (λ (s : Standing _). StepNotes state s new c.args.tag (Ok c.in_ok-advance.field-0)) c.self.view_is
+    (for_next state c.self.inside.store c.self.inside.openings c.args.tag c.in-Some.at (λ name. AddsOnly name (settlement_of state old).noted new.noted) first
+    (notes_then state c.self.inside.store c.settle.new.store c.self.inside.openings c.settle.new.openings c.in-Some.at (is_there state old) c.in_ok-settle.ensures.tables.0 c.in_ok-settle.ensures.tables.1 c.settle.ensures.moment c.settle.ensures.names first.within at.1 c.advance.new.store.noted c.in_ok-advance.ensures.fresh))
+
+pub returns-clause-brings : goal.returns-clause-brings
+returns-clause-brings g c =
+    let state = g.F.Flash.state in
+    let old = standing_in state c.self.inside.store c.self.inside.openings in
+    let new = (standing_in state c.advance.new.store c.advance.new.openings) in
+    let first = first_position c.args.tag c.self.inside.openings.all c.in-Some.at (sym c.position.ensures ∙ c.in-Some.is) in
+    let at = entry_settled (is_there state old) c.self.inside.openings c.settle.new.openings c.in-Some.at (ap (λ (m : ArrayState). m.entries) c.in_ok-settle.ensures.settles.machine) first.within in
+    subst (λ (s : Standing _). IfSome (open_of s c.args.tag) (λ (e, x). BringsPage state s new e x)) c.self.view_is
+    (for_open state c.self.inside.store c.self.inside.openings c.args.tag c.in-Some.at (BringsPage state old new) first
+    (brings_then state c.self.inside.store c.settle.new.store c.self.inside.openings c.settle.new.openings c.in-Some.at (is_there state old) c.in_ok-settle.ensures.tables.0 c.in_ok-settle.ensures.tables.1 c.settle.ensures.moment c.settle.ensures.names first.within at.1 c.advance.new.store c.advance.new.openings c.settle.ensures.exits.carries.shape c.in_ok-advance.ensures.found c.in_ok-settle.ensures.reads c.in_ok-advance.ensures.writes))

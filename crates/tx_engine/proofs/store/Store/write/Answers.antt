@@ -6,7 +6,7 @@ use Rattle.page_record.specs.Spelling.{spelling}
 use Rattle.version_index.specs.Noted.{Noted}
 use Rattle.collector.specs.Matches.{Matches}
 use Rattle.tx_engine.proofs.Programs.{free_program}
-use Rattle.tx_engine.proofs.ProgramCalls.{program_moves, torn_matches, torn_slot, torn_stay, done_image, done_stay, done_come, done_matches}
+use Rattle.tx_engine.proofs.ProgramCalls.{program_moves, torn_matches, torn_slot, torn_stay, done_image, done_does, done_stay, done_come, done_matches}
 use Rattle.tx_engine.proofs.store.Store.write.Goals as goal
 
 pub program-requires-clause-blank : goal.program-requires-clause-blank
@@ -83,6 +83,12 @@ returns-clause-written g c = rw (← c.self.view_is) (record {
   table = c.note_used.ensures.used;
   unsure = rw (← c.self.view_is) at c.requires.nothing;
   image = done_image g.R.CommitRule.kept g.met.R.CommitRule.partial_write g.met.R.CommitRule.completing_write g.met.R.CommitRule.written_partial_write g.met.R.CommitRule.written_completing_write
+      (g.F.Flash.state c.self.inside.flash) (g.F.Flash.state c.program.new.self) c.self.inside.index c.self.inside.blocks c.self.inside.unsure
+      c.self.invariant.stored.rule (rw (← c.self.view_is) at c.requires.nothing) c.self.invariant.stored.matches
+      c.args.at c.args.rec (rw (← c.self.view_is) at c.requires.free.free) (rw (← c.self.view_is) at c.requires.own) (rw (← c.self.view_is) at c.requires.spelled)
+      c.args.bytes.now c.write_spare.new.into (rw (← c.self.view_is) at c.requires.page)
+      (c.write_spare.ensures ∙ ap (λ (x : Config). spelling x.protocol c.args.rec) c.config.ensures.config) c.program.result c.program.ensures c.in_default.field-0 c.in_default.is;
+  does = done_does g.R.CommitRule.kept g.met.R.CommitRule.partial_write g.met.R.CommitRule.completing_write g.met.R.CommitRule.written_partial_write g.met.R.CommitRule.written_completing_write
       (g.F.Flash.state c.self.inside.flash) (g.F.Flash.state c.program.new.self) c.self.inside.index c.self.inside.blocks c.self.inside.unsure
       c.self.invariant.stored.rule (rw (← c.self.view_is) at c.requires.nothing) c.self.invariant.stored.matches
       c.args.at c.args.rec (rw (← c.self.view_is) at c.requires.free.free) (rw (← c.self.view_is) at c.requires.own) (rw (← c.self.view_is) at c.requires.spelled)

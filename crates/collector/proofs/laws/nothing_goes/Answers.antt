@@ -1,0 +1,5 @@
+use Rattle.collector.proofs.NothingGoes.{none_goes}
+use Rattle.collector.proofs.laws.nothing_goes.Goals as goal
+
+pub returns : goal.returns
+returns c = none_goes
