@@ -15,3 +15,5 @@ pub mod Runs
 pub mod Progress
 pub mod Begun
 pub mod Quiet
+pub mod Taking
+pub mod Changes

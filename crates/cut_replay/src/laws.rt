@@ -1,30 +1,57 @@
 //! What holds of all runs. The functions do nothing: each is there for what it ensures.
-ghost use Rattle.std.specs.Prelude.{◌≡◌, ℕ, Bool, false, List, All};
+ghost use Rattle.std.specs.Prelude.{◌≡◌, ℕ, ◌+◌, ◌≤◌, max, Bool, false, List, length, All, Result};
 ghost use Rattle.tx_types.specs.declared.config.Config.{Config};
 ghost use Rattle.flash_model.specs.Operations.{Moment};
-ghost use Rattle.tx_engine.specs.ArrayState.{ArrayState};
+ghost use Rattle.tx_engine.specs.ArrayState.{ArrayState, page_at};
 ghost use Rattle.tx_engine.specs.Standing.{limits_of};
 ghost use Rattle.tx_engine.specs.Submit.{Limits};
 ghost use Rattle.tx_engine.specs.Unbroken.{AllPlain};
+ghost use Rattle.tx_engine.specs.declared.step.Progress.{Progress};
+ghost use Rattle.tx_engine.specs.declared.step.StepError.{StepError};
 ghost use Rattle.host_protocol.specs.declared.command.Command.{Command};
 ghost use Rattle.host_protocol.specs.declared.reply.Reply.{Reply};
-ghost use Rattle.cut_replay.specs.Run.{Run, RunState, Serves, is_arm, is_break};
+ghost use Rattle.cut_replay.specs.Run.{Run, RunState, Serves, Finishes, pages_left, is_arm, is_break, writes_in};
+ghost use Rattle.cut_replay.specs.Run.{Avoid, AllAvoid};
 ghost use Rattle.cut_replay.specs.FlashRun.{Point, IsFlashRun, mentions_in};
 ghost use Rattle.cut_replay.specs.FlashRun.{opening_state, last_state};
 ghost use Rattle.cut_replay.specs.Bounds.{AreFew};
-ghost use Rattle.cut_replay.specs.Unbroken.{IsReply, state_after, UnbrokenRun, FinishesAreDone, VersionsSuffice};
+ghost use Rattle.cut_replay.specs.Unbroken.{IsReply, state_after, UnbrokenRun, AreMaybeSpent, FinishesAreDone};
+ghost use Rattle.cut_replay.specs.Unbroken.{VersionsSuffice};
 
 /// A run without the replies `cut` and `fault`, from a state in which nothing is in doubt, never comes to a
-/// transaction in doubt, and its states and replies are functions of the commands and the array.
+/// transaction in doubt. Its states and replies are functions of the commands, the array and the pages that
+/// are spent at each command, of which there is none where no page comes to its last version.
 pub fn unbroken_runs()
-    ensures command { (limits : Limits) (spent : ℕ → Bool) (c : Command) (old : RunState) (r : Reply) (new : RunState) →
+    ensures command { (limits : Limits) (spent : ℕ → Bool)
+        (c : Command) (old : RunState) (r : Reply) (new : RunState) →
         AllPlain old.machine → Serves limits spent c old r new → is_break r ≡ false →
         IsReply limits spent c old.machine r × (new.machine ≡ state_after limits spent c old.machine)
         × AllPlain new.machine }
-    ensures run { (limits : Limits) (seen : ℕ → ℕ) (old : RunState) (cs : List Command) (rs : List Reply) (new : RunState) →
-        AllPlain old.machine → VersionsSuffice seen cs → Run limits seen old cs rs new →
-        All (λ r. is_break r ≡ false) rs →
-        UnbrokenRun limits old.machine cs rs new.machine × AllPlain new.machine }
+    ensures run { (limits : Limits) (seen : ℕ → ℕ)
+        (old : RunState) (cs : List Command) (rs : List Reply) (new : RunState) →
+        AllPlain old.machine → Run limits seen old cs rs new → All (λ r. is_break r ≡ false) rs →
+        (spents : List (ℕ → Bool)) × AreMaybeSpent seen cs rs spents
+        × UnbrokenRun limits spents old.machine cs rs new.machine × AllPlain new.machine }
+    ensures unspent { (seen : ℕ → ℕ)
+        (cs : List Command) (rs : List Reply) (spents : List (ℕ → Bool)) →
+        VersionsSuffice seen cs → AreMaybeSpent seen cs rs spents →
+        All (λ spent. (page : ℕ) → spent page ≡ false) spents }
+{}
+
+/// Going on with a transaction takes at most as many steps as it has pages left to write, and at least one.
+pub fn finishes_end()
+    ensures { (old : ArrayState) (mids : List ArrayState) (new : ArrayState) (tag : ℕ)
+        (result : Result Progress StepError) →
+        Finishes old mids new tag result → length mids + 1 ≤ max 1 (pages_left tag old) }
+{}
+
+/// A page that no open transaction and no command writes has the bytes that it had, over cuts and faults.
+pub fn pages_change_by_writes()
+    ensures { (limits : Limits) (seen : ℕ → ℕ)
+        (old : RunState) (cs : List Command) (rs : List Reply) (new : RunState) (page : ℕ) →
+        Run limits seen old cs rs new →
+        AllAvoid page old.machine.entries → All (λ c. Avoid page (writes_in c)) cs →
+        page_at new.machine.pages page ≡ page_at old.machine.pages page }
 {}
 
 /// A run on a flash is a run of the array machine, from the array of the image that the flash had.
@@ -40,6 +67,7 @@ pub fn flash_runs_are_runs()
 pub fn quiet_runs()
     ensures none { (cs : List Command) (rs : List Reply) →
         All (λ c. is_arm c ≡ false) cs → AreFew 0 0 cs rs → All (λ r. is_break r ≡ false) rs }
-    ensures finish { (limits : Limits) (old : ArrayState) (cs : List Command) (rs : List Reply) (new : ArrayState) →
-        UnbrokenRun limits old cs rs new → FinishesAreDone limits old cs rs }
+    ensures finish { (limits : Limits) (spents : List (ℕ → Bool))
+        (old : ArrayState) (cs : List Command) (rs : List Reply) (new : ArrayState) →
+        UnbrokenRun limits spents old cs rs new → FinishesAreDone limits spents old cs rs }
 {}
