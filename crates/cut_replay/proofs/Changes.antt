@@ -1,14 +1,14 @@
 -- What a command changes in the array, and which transactions it leaves open.
-use Rattle.std.proofs.Common.{◌≡◌, ◌≢◌, ◌⊎◌, ℕ, Bool, true, false, List, [], ◌∷◌, ◌++◌, length, All, Option, Some, None, Result, Ok, Err, refl, sym, ap, ◌∙◌, subst, inl, inr}
+use Rattle.std.proofs.Common.{◌≡◌, ◌≢◌, ◌⊎◌, ℕ, Bool, true, false, List, [], ◌∷◌, ◌++◌, length, All, AllPairs, Option, Some, None, Result, Ok, Err, refl, sym, ap, ◌∙◌, subst, inl, inr}
 use Rattle.std.specs.Prelude.{MatchOption, MatchBool, Contains}
 use Rattle.std.proofs.lemmas.List.Elements.{All-nil, All-head, All-tail, All-push}
-use Rattle.record_list.proofs.Names.{all_at, in_from}
+use Rattle.record_list.proofs.Names.{all_from, all_at, in_from}
 use Rattle.tx_types.specs.Batch.{PageWrite, Writes}
-use Rattle.tx_engine.specs.ArrayState.{ArrayState, Entry, entry_of, opening, page_at, put, with_entry, without}
+use Rattle.tx_engine.specs.ArrayState.{ArrayState, Entry, Pages, entry_of, opening, page_at, put, with_entry, without}
 use Rattle.tx_engine.specs.Collect.{Collects}
 use Rattle.tx_engine.specs.Step.{Steps, StepGives, Aborts, AbortGives, CutLeaves, settled, settled_entry}
 use Rattle.tx_engine.specs.Submit.{Limits, opened, refusal}
-use Rattle.tx_engine.specs.declared.mark.Mark.TheVariants.{Doubt}
+use Rattle.tx_engine.specs.declared.mark.Mark.TheVariants.{Doubt, Whole}
 use Rattle.tx_engine.specs.declared.abort.Aborted.{Aborted}
 use Rattle.tx_engine.specs.declared.abort.Aborted.TheVariants as aborted
 use Rattle.tx_engine.specs.declared.collect.Collected.{Collected}
@@ -21,24 +21,38 @@ use Rattle.tx_engine.specs.declared.submit.SubmitError.{SubmitError}
 use Rattle.host_protocol.specs.declared.command.Command.{Command}
 use Rattle.host_protocol.specs.declared.command.Command.TheVariants as command
 use Rattle.host_protocol.specs.declared.reply.Reply.{Reply}
-use Rattle.cut_replay.specs.Run.{Run, RunState, Serves, Does, NotDone, IsCut, MayComplete, Finishes, is_arm, Avoid, AllAvoid, writes_in, seen_after}
+use Rattle.cut_replay.specs.Run.{Run, RunState, Serves, Does, NotDone, IsCut, MayComplete, Finishes, is_arm, Avoid, AllAvoid, HasWhole, IsConsistent, writes_in, seen_after}
 use Rattle.cut_replay.proofs.Finishes.{found_is_in, settled_found}
-use Rattle.cut_replay.proofs.Taking.{put_length, put_other, settled_other, settled_length, ArePart, part_none, part_same, part_then, part_settled, part_without, part_with, part_all}
+use Rattle.cut_replay.proofs.Apart.{WholeOrSame, whole_same, taken_or, settled_whole, all_without, all_with}
+use Rattle.cut_replay.proofs.Taking.{put_length, put_other, settled_other, settled_length, ArePart, part_none, part_same, part_then, part_settled, part_without, part_with, part_all, part_pairs, AreWithin, within_kept}
 
--- No transaction is opened, the array has as many pages as before, and a page that no open transaction writes stays.
+-- No transaction is opened, the array has as many pages as before and what the whole ones write, and a page that no open
+-- transaction writes stays.
 pub record Goes (old new : ArrayState) : Type 0 where
   pub part : ArePart new.entries old.entries
   pub stays : (page : ℕ) → AllAvoid page old.entries → page_at new.pages page ≡ page_at old.pages page
   pub long : length new.pages ≡ length old.pages
+  pub whole : IsConsistent old → All (λ e. e.mark ≡ Whole → HasWhole new.pages e) new.entries
+
+pub goes_consistent : (old new : ArrayState) → Goes old new → IsConsistent old → IsConsistent new
+goes_consistent old new h ok = record {
+  distinct = part_all (λ ws. AllPairs (λ v w. v.page ≢ w.page) ws) new.entries old.entries h.part ok.distinct;
+  apart = part_pairs new.entries old.entries h.part ok.apart;
+  within = part_all (λ ws. AreWithin new.pages ws) new.entries old.entries h.part
+      (all_from (λ (e : Entry). AreWithin new.pages e.writes) old.entries (λ e i.
+      within_kept old.pages new.pages e.writes h.long (all_at (λ (e : Entry). AreWithin old.pages e.writes) old.entries e ok.within i)));
+  whole = h.whole ok;
+}
 
 pub goes_nowhere : (old new : ArrayState) → new ≡ old → Goes old new
-goes_nowhere old new same = rw same (record { part = part_same old.entries; stays = λ page h. refl; long = refl })
+goes_nowhere old new same = rw same (record { part = part_same old.entries; stays = λ page h. refl; long = refl; whole = λ ok. ok.whole })
 
 pub goes_then : (old mid new : ArrayState) → Goes old mid → Goes mid new → Goes old new
 goes_then old mid new h k = record {
   part = part_then new.entries mid.entries old.entries k.part h.part;
   stays = λ page avoid. k.stays page (part_all (λ ws. Avoid page ws) mid.entries old.entries h.part avoid) ∙ h.stays page avoid;
   long = k.long ∙ h.long;
+  whole = λ ok. k.whole (goes_consistent old mid h ok);
 }
 
 pub goes_settled : (there : Bool) (s : ArrayState) → Goes s (settled there s)
@@ -46,19 +60,34 @@ goes_settled there s = record {
   part = part_settled there s.entries;
   stays = λ page h. settled_other there page s h;
   long = settled_length there s;
+  whole = λ ok. settled_whole there s ok;
 }
 
--- the array stays, and some transactions
-goes_open : (s : ArrayState) (es : List Entry) → ArePart es s.entries → Goes s (record s { entries = es })
-goes_open s es part = record { part = part; stays = λ page h. refl; long = refl }
+abbrev Whole-in : ArrayState → Entry → Type 0
+Whole-in s e = e.mark ≡ Whole → HasWhole s.pages e
 
--- the array takes one of the transactions
-pub goes_taken : (s : ArrayState) (e : Entry) (es : List Entry) → ((page : ℕ) → AllAvoid page s.entries → Avoid page e.writes) → ArePart es s.entries →
-    Goes s (record { pages = put s.pages e.writes; entries = es })
-goes_taken s e es avoid part = record {
-  part = part;
-  stays = λ page h. put_other page e.writes s.pages (avoid page h);
+-- the array stays, and some transactions
+goes_open : (s : ArrayState) (es : List Entry) → ArePart es s.entries → (All (Whole-in s) s.entries → All (Whole-in s) es) → Goes s (record s { entries = es })
+goes_open s es part whole = record { part = part; stays = λ page h. refl; long = refl; whole = λ ok. whole ok.whole }
+
+pub goes_without : (s : ArrayState) (tag : ℕ) → Goes s (record s { entries = without tag s.entries })
+goes_without s tag = goes_open s (without tag s.entries) (part_without tag s.entries) (all_without (Whole-in s) tag s.entries)
+
+pub whole_kept : (old new : Pages) (e : Entry) → WholeOrSame old new e → HasWhole old e → HasWhole new e
+whole_kept old new e (inl whole) h = whole
+whole_kept old new e (inr same) h = whole_same old new e h same
+
+-- the array takes the transaction with a tag
+pub goes_taken : (s : ArrayState) (tag : ℕ) (e : Entry) → entry_of tag s.entries ≡ Some e → Goes s (record { pages = put s.pages e.writes; entries = without tag s.entries })
+goes_taken s tag e found = record {
+  part = part_without tag s.entries;
+  stays = λ page h. put_other page e.writes s.pages (all_at (λ (x : Entry). Avoid page x.writes) s.entries e h (found_is_in tag s.entries e found));
   long = put_length e.writes s.pages;
+  whole = λ ok.
+      all_without (λ (x : Entry). x.mark ≡ Whole → HasWhole (put s.pages e.writes) x) tag s.entries
+      (all_from (λ (x : Entry). x.mark ≡ Whole → HasWhole (put s.pages e.writes) x) s.entries (λ x i is.
+      whole_kept s.pages (put s.pages e.writes) x (taken_or s ok s.pages e x refl (found_is_in tag s.entries e found) i)
+      (all_at (Whole-in s) s.entries x ok.whole i is)));
 }
 
 goes_to : (old mid new : ArrayState) → new ≡ mid → Goes old mid → Goes old new
@@ -66,40 +95,29 @@ goes_to old mid new same h = rw same h
 
 -- ---- a step
 
--- the writes of the transaction that was found, after settling
-found_avoids : (tag : ℕ) (es : List Entry) (e : Entry) → entry_of tag es ≡ Some e → (page : ℕ) → AllAvoid page es → Avoid page e.writes
-found_avoids tag es e found page h = all_at (λ (x : Entry). Avoid page x.writes) es e h (found_is_in tag es e found)
-
 module _ (there : Bool) (s new : ArrayState) (tag : ℕ) (e : Entry) (found : entry_of tag (settled there s).entries ≡ Some (settled_entry there e)) where
-  fault_goes : (new ≡ s) ⊎ (Goes (settled there s) new) → Goes s new
-  fault_goes (inl same) = goes_nowhere s new same
-  fault_goes (inr goes) = goes_then s (settled there s) new (goes_settled there s) goes
+  then_goes : (mid : ArrayState) → new ≡ mid → Goes (settled there s) mid → Goes s new
+  then_goes mid same goes = goes_then s (settled there s) new (goes_settled there s) (goes_to (settled there s) mid new same goes)
 
-  marked_goes : (f : Entry) → f.writes ≡ e.writes → new ≡ record (settled there s) { entries = with_entry tag f (settled there s).entries } → Goes (settled there s) new
-  marked_goes f same is =
-      goes_to (settled there s) _ new is (goes_open (settled there s) _ (part_with tag f (settled_entry there e) (settled there s).entries same found))
+  marked_goes : (f : Entry) → f.writes ≡ e.writes → f.mark ≢ Whole → new ≡ record (settled there s) { entries = with_entry tag f (settled there s).entries } → Goes s new
+  marked_goes f same plain is = then_goes _ is
+      (goes_open (settled there s) _ (part_with tag f (settled_entry there e) (settled there s).entries same found)
+      (all_with (Whole-in (settled there s)) tag f (settled there s).entries (λ whole. absurd (plain whole))))
 
   gives_goes : (result : Result Progress StepError) → StepGives s (settled there s) tag (settled_entry there e) result new → Goes s new
-  gives_goes (Ok (progress.Wrote done all)) h = goes_then s (settled there s) new (goes_settled there s) (marked_goes _ refl h.4)
-  gives_goes (Ok progress.Done) (inl h) =
-      goes_then s (settled there s) new (goes_settled there s)
-      (goes_to (settled there s) _ new h.1 (goes_open (settled there s) _ (part_without tag (settled there s).entries)))
-  gives_goes (Ok progress.Done) (inr h) =
-      goes_then s (settled there s) new (goes_settled there s)
-      (goes_to (settled there s) _ new h.2
-      (goes_taken (settled there s) (settled_entry there e) _ (found_avoids tag (settled there s).entries (settled_entry there e) found) (part_without tag (settled there s).entries)))
+  gives_goes (Ok (progress.Wrote done all)) h = marked_goes _ refl (λ whole. (let plain = h.0 in cc)) h.4
+  gives_goes (Ok progress.Done) (inl h) = then_goes _ h.1 (goes_without (settled there s) tag)
+  gives_goes (Ok progress.Done) (inr h) = then_goes _ h.2 (goes_taken (settled there s) tag (settled_entry there e) found)
   gives_goes (Err failed.Unknown) h = absurd h
-  gives_goes (Err failed.Fault) (inl same) = fault_goes (inl same)
+  gives_goes (Err failed.Fault) (inl same) = goes_nowhere s new same
   gives_goes (Err failed.Fault) (inr h) = elim h.1 [
-    | inl same ↦ fault_goes (inr (goes_nowhere (settled there s) new same))
-    | inr doubt ↦ fault_goes (inr (marked_goes _ refl doubt.1))
+    | inl same ↦ then_goes (settled there s) same (goes_nowhere (settled there s) (settled there s) refl)
+    | inr doubt ↦ marked_goes _ refl (λ whole. cc) doubt.1
   ]
 
   abort_goes : (result : Result Aborted StepError) → AbortGives s (settled there s) tag (settled_entry there e) result new → Goes s new
-  abort_goes (Ok aborted.Gone) h = goes_then s (settled there s) new (goes_settled there s)
-      (goes_to (settled there s) _ new h.1 (goes_open (settled there s) _ (part_without tag (settled there s).entries)))
-  abort_goes (Ok aborted.Late) h = goes_then s (settled there s) new (goes_settled there s)
-      (goes_to (settled there s) _ new h.1 (goes_open (settled there s) _ (part_without tag (settled there s).entries)))
+  abort_goes (Ok aborted.Gone) h = then_goes _ h.1 (goes_without (settled there s) tag)
+  abort_goes (Ok aborted.Late) h = then_goes _ h.1 (goes_without (settled there s) tag)
   abort_goes (Err failed.Unknown) h = absurd h
   abort_goes (Err failed.Fault) h = goes_nowhere s new h
 
@@ -160,6 +178,7 @@ cut_goes Q old new (there, takes, none) = record {
     | inl same ↦ ap length same ∙ settled_length there old
     | inr took ↦ ap length took.2 ∙ put_length took.0.writes (settled there old).pages ∙ settled_length there old
   ];
+  whole = λ ok. rw none (All-nil (λ (e : Entry). e.mark ≡ Whole → HasWhole new.pages e));
 }
 
 machine_same : (old new : RunState) → new ≡ old → Goes old.machine new.machine

@@ -36,7 +36,7 @@ pub record Writes (there : Bool) (old new : ArrayState) (tag : ℕ) (e : Entry) 
   pub more : e.done + 1 < length e.writes
   pub new_is : new ≡ record (settled there old) { entries = with_entry tag (record (settled_entry there e) { done = e.done + 1 }) (settled there old).entries }
 
-found_writes : (o : Option Entry) (there : Bool) (old new : ArrayState) (tag done all : ℕ) (result : Result Progress StepError) → entry_of tag old.entries ≡ o → result ≡ Ok (progress.Wrote done all) →
+pub found_writes : (o : Option Entry) (there : Bool) (old new : ArrayState) (tag done all : ℕ) (result : Result Progress StepError) → entry_of tag old.entries ≡ o → result ≡ Ok (progress.Wrote done all) →
     MatchOption o ((result ≡ Err failed.Unknown) × (new ≡ old)) (λ e. StepGives old (settled there old) tag (settled_entry there e) result new) → (e : Entry) × Writes there old new tag e
 found_writes None there old new tag done all result found is h = cc
 found_writes (Some e) there old new tag done all result found is h =
@@ -67,15 +67,19 @@ pub settled_found : (there : Bool) (tag : ℕ) (e : Entry) (es : List Entry) →
 settled_found there tag e [] h = cc
 settled_found there tag e (x ∷ es) h = settled_step there tag x e es (has_tag tag x) refl (settled_found there tag e es) h
 
--- it has a page less to write
+-- it is still there, with a page less to write
+pub wrote_found : (old new : ArrayState) (there : Bool) (tag : ℕ) (e : Entry) → Writes there old new tag e →
+    entry_of tag new.entries ≡ Some (record (settled_entry there e) { done = e.done + 1 })
+wrote_found old new there tag e w =
+    let next : Entry = record (settled_entry there e) { done = e.done + 1 } in
+    let t : has_tag tag next ≡ true = tagged tag old.entries e w.found in
+    ap (λ (s : ArrayState). entry_of tag s.entries) w.new_is
+    ∙ again tag next (settled_entry there e) (map (settled_entry there) old.entries) t (settled_found there tag e old.entries w.found)
+
 pub fewer_left : (old new : ArrayState) (there : Bool) (tag : ℕ) (e : Entry) → Writes there old new tag e →
     (pages_left tag new < pages_left tag old) × (0 < pages_left tag new)
 fewer_left old new there tag e w =
-    let next : Entry = record (settled_entry there e) { done = e.done + 1 } in
-    let t : has_tag tag next ≡ true = tagged tag old.entries e w.found in
-    let at : entry_of tag (with_entry tag next (map (settled_entry there) old.entries)) ≡ Some next =
-    again tag next (settled_entry there e) (map (settled_entry there) old.entries) t (settled_found there tag e old.entries w.found) in
-    let now : pages_left tag new ≡ length e.writes - (e.done + 1) = ap (λ (s : ArrayState). pages_left tag s) w.new_is ∙ ap left_of at in
+    let now : pages_left tag new ≡ length e.writes - (e.done + 1) = ap left_of (wrote_found old new there tag e w) in
     let before : pages_left tag old ≡ length e.writes - e.done = ap left_of w.found in
     let more = w.more in (omega (arith, now, before, more), omega (arith, now, more))
 

@@ -16,4 +16,6 @@ pub mod Progress
 pub mod Begun
 pub mod Quiet
 pub mod Taking
+pub mod Apart
 pub mod Changes
+pub mod Atomic

@@ -21,7 +21,7 @@ put_other page (w ∷ ws) pages h =
     put_other page ws _ (All-tail (λ w. w.page ≢ page) w ws h)
     ∙ get_or-set_other pages w.page page (Some w.bytes) None (λ e. All-head (λ w. w.page ≢ page) w ws h (sym e))
 
-abbrev AreWithin : Pages → List PageWrite → Type 0
+abbrev pub AreWithin : Pages → List PageWrite → Type 0
 AreWithin pages ws = All (λ w. w.page < length pages) ws
 
 pub within_kept : (old new : Pages) (ws : List PageWrite) → length new ≡ length old → AreWithin old ws → AreWithin new ws

@@ -33,7 +33,7 @@ use Rattle.cut_replay.specs.Run.{Run, RunState, Serves, Does, Finishes, NotDone,
 use Rattle.cut_replay.specs.Unbroken.{IsReply, page_reply, state_after, UnbrokenRun, AreMaybeSpent, writes_of, VersionsSuffice}
 
 -- a reply that is no break
-unlike : (r q : Reply) → is_break r ≡ false → r ≡ q → is_break q ≡ true → ⊥
+pub unlike : (r q : Reply) → is_break r ≡ false → r ≡ q → is_break q ≡ true → ⊥
 unlike r q h e b = let same = ap is_break e in cc
 
 -- Reading

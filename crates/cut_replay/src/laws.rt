@@ -1,17 +1,21 @@
 //! What holds of all runs. The functions do nothing: each is there for what it ensures.
-ghost use Rattle.std.specs.Prelude.{◌≡◌, ℕ, ◌+◌, ◌≤◌, max, Bool, false, List, length, All, Result};
+ghost use Rattle.std.specs.Prelude.{◌≡◌, ◌⊎◌, ℕ, ◌+◌, ◌≤◌, max, Bool, false, List, [], length};
+ghost use Rattle.std.specs.Prelude.{All, Contains, Some, Result};
+ghost use Rattle.tx_types.specs.Batch.{PageWrite};
 ghost use Rattle.tx_types.specs.declared.config.Config.{Config};
 ghost use Rattle.flash_model.specs.Operations.{Moment};
-ghost use Rattle.tx_engine.specs.ArrayState.{ArrayState, page_at};
+ghost use Rattle.tx_engine.specs.ArrayState.{ArrayState, Entry, Pages, entry_of, idle, is_doubted, page_at};
 ghost use Rattle.tx_engine.specs.Standing.{limits_of};
 ghost use Rattle.tx_engine.specs.Submit.{Limits};
 ghost use Rattle.tx_engine.specs.Unbroken.{AllPlain};
+ghost use Rattle.tx_engine.specs.declared.mark.Mark.TheVariants.{Whole};
 ghost use Rattle.tx_engine.specs.declared.step.Progress.{Progress};
 ghost use Rattle.tx_engine.specs.declared.step.StepError.{StepError};
 ghost use Rattle.host_protocol.specs.declared.command.Command.{Command};
 ghost use Rattle.host_protocol.specs.declared.reply.Reply.{Reply};
 ghost use Rattle.cut_replay.specs.Run.{Run, RunState, Serves, Finishes, pages_left, is_arm, is_break, writes_in};
-ghost use Rattle.cut_replay.specs.Run.{Avoid, AllAvoid};
+ghost use Rattle.cut_replay.specs.Run.{Avoid, AllAvoid, HasWhole, HasSame, IsConsistent};
+ghost use Rattle.cut_replay.specs.Run.{Acknowledges, IsCut, MayComplete};
 ghost use Rattle.cut_replay.specs.FlashRun.{Point, IsFlashRun, mentions_in};
 ghost use Rattle.cut_replay.specs.FlashRun.{opening_state, last_state};
 ghost use Rattle.cut_replay.specs.Bounds.{AreFew};
@@ -52,6 +56,48 @@ pub fn pages_change_by_writes()
         Run limits seen old cs rs new →
         AllAvoid page old.machine.entries → All (λ c. Avoid page (writes_in c)) cs →
         page_at new.machine.pages page ≡ page_at old.machine.pages page }
+{}
+
+/// Over cuts and faults no page comes to be written twice by open transactions, and what a whole one writes
+/// is in the array.
+pub fn consistent_runs()
+    ensures opening { (pages : Pages) → IsConsistent (idle pages) }
+    ensures run { (limits : Limits) (seen : ℕ → ℕ)
+        (old : RunState) (cs : List Command) (rs : List Reply) (new : RunState) →
+        Run limits seen old cs rs new →
+        length old.machine.pages ≡ limits.logical → IsConsistent old.machine →
+        (length new.machine.pages ≡ limits.logical) × IsConsistent new.machine }
+{}
+
+/// A transaction that is acknowledged, by `done` or `late`, is in the array from then on: over cuts and faults
+/// each of its pages has what it wrote until a command writes that page again.
+pub fn acknowledged_transactions()
+    ensures { (limits : Limits) (spent : ℕ → Bool)
+        (c : Command) (old : RunState) (r : Reply) (mid : RunState) (tag : ℕ) (e : Entry)
+        (seen : ℕ → ℕ) (cs : List Command) (rs : List Reply) (new : RunState) (w : PageWrite) →
+        IsConsistent old.machine →
+        Serves limits spent c old r mid → Acknowledges c r tag →
+        entry_of tag old.machine.entries ≡ Some e →
+        Run limits seen mid cs rs new →
+        Contains e.writes w → All (λ d. Avoid w.page (writes_in d)) cs →
+        page_at new.machine.pages w.page ≡ Some w.bytes }
+{}
+
+/// After a cut nothing is open. A transaction that was open is in the array wholly or not at all: a whole one
+/// stays, and one that was not in doubt and whose last page was not being written is not there.
+pub fn cut_transactions()
+    ensures none_open { (c : Command) (old : RunState) (r : Reply) (new : RunState) →
+        IsCut c old r new → new.machine.entries ≡ [] }
+    ensures atomic { (c : Command) (old : RunState) (r : Reply) (new : RunState) (e : Entry) →
+        IsConsistent old.machine → IsCut c old r new → Contains old.machine.entries e →
+        HasWhole new.machine.pages e ⊎ HasSame old.machine.pages new.machine.pages e }
+    ensures whole { (c : Command) (old : RunState) (r : Reply) (new : RunState) (e : Entry) →
+        IsConsistent old.machine → IsCut c old r new → Contains old.machine.entries e →
+        e.mark ≡ Whole → HasWhole new.machine.pages e }
+    ensures others { (c : Command) (old : RunState) (r : Reply) (new : RunState) (e : Entry) →
+        IsConsistent old.machine → IsCut c old r new → Contains old.machine.entries e →
+        is_doubted e.mark ≡ false → (MayComplete c e → ⊥) →
+        HasSame old.machine.pages new.machine.pages e }
 {}
 
 /// A run on a flash is a run of the array machine, from the array of the image that the flash had.

@@ -1,0 +1,238 @@
+-- Open transactions over whole runs: they stay consistent, one that is acknowledged stays in the array, and one that a cut
+-- catches is there wholly or not at all.
+use Rattle.std.proofs.Common.{◌≡◌, ◌≢◌, ◌⊎◌, ℕ, ◌<◌, Bool, true, false, List, [], ◌∷◌, ◌++◌, length, get_or, All, AllPairs, Contains, Option, Some, None, Result, Ok, Err, refl, sym, ap, ◌∙◌, subst, inl, inr, arith}
+use Rattle.std.specs.Prelude.{MatchOption}
+use Rattle.std.proofs.lemmas.List.Elements.{All-nil, All-push, All-head, All-tail, All-contains, Contains-get_or}
+use Rattle.std.proofs.lemmas.List.Quantifiers.{all_pairs_push}
+use Rattle.record_list.proofs.Names.{IsIn, all_from, all_at, in_from}
+use Rattle.tx_types.specs.Batch.{PageWrite, Writes as Batch}
+use Rattle.tx_engine.specs.ArrayState.{ArrayState, Entry, Pages, entry_of, idle, is_doubted, opening, page_at, put, without}
+use Rattle.tx_engine.specs.Step.{Steps, StepGives, Aborts, AbortGives, CutLeaves, settled, settled_entry}
+use Rattle.tx_engine.specs.Submit.{Limits, first_refusals, opened, or_else, refusal, spent_page}
+use Rattle.tx_engine.proofs.Accepting.{IsAccepted, accepted}
+use Rattle.tx_engine.specs.declared.mark.Mark.TheVariants.{Plain, Whole}
+use Rattle.tx_engine.specs.declared.abort.Aborted.{Aborted}
+use Rattle.tx_engine.specs.declared.abort.Aborted.TheVariants as aborted
+use Rattle.tx_engine.specs.declared.step.Progress.{Progress}
+use Rattle.tx_engine.specs.declared.step.Progress.TheVariants as progress
+use Rattle.tx_engine.specs.declared.step.StepError.{StepError}
+use Rattle.tx_engine.specs.declared.step.StepError.TheVariants as failed
+use Rattle.tx_engine.specs.declared.submit.SubmitError.{SubmitError}
+use Rattle.host_protocol.specs.declared.command.Command.{Command}
+use Rattle.host_protocol.specs.declared.command.Command.TheVariants as command
+use Rattle.host_protocol.specs.declared.reply.Reply.{Reply}
+use Rattle.host_protocol.specs.declared.reply.Reply.TheVariants as reply
+use Rattle.cut_replay.specs.Run.{Run, RunState, Serves, Does, NotDone, IsCut, MayComplete, Finishes, Acknowledges, Avoid, AllAvoid, ShareNoPage, HasWhole, HasSame, IsConsistent, is_break, writes_in, seen_after, step_reply, abort_reply}
+use Rattle.cut_replay.proofs.Finishes.{found_is_in, found_writes, settled_found, wrote_found}
+use Rattle.cut_replay.proofs.Unbroken.{unlike}
+use Rattle.cut_replay.proofs.Taking.{settled_length}
+use Rattle.cut_replay.proofs.Apart.{WholeOrSame, share_back, apart_two, other_same, same_then, whole_or_then, taken_has, taken_or, settled_or, settled_sure_same, without_avoids}
+use Rattle.cut_replay.proofs.Changes.{Goes, goes_consistent, goes_nowhere, goes_settled, whole_kept, step_goes, serves_go, run_stays}
+
+-- ---- consistent states
+
+pub idle_consistent : (pages : Pages) → IsConsistent (idle pages)
+idle_consistent pages = record {
+  distinct = All-nil (λ (e : Entry). AllPairs (λ v w. v.page ≢ w.page) e.writes);
+  apart = λ i j d less below. absurd (omega arith);
+  within = All-nil (λ (e : Entry). All (λ w. w.page < length pages) e.writes);
+  whole = All-nil (λ (e : Entry). e.mark ≡ Whole → HasWhole pages e);
+}
+
+none_first : (a b : Option SubmitError) → or_else a b ≡ None → a ≡ None
+none_first None b h = refl
+none_first (Some e) b h = cc
+
+-- a state that is consistent, and of an array of so many pages
+record IsSized (limits : Limits) (s : ArrayState) : Type 0 where
+  long : length s.pages ≡ limits.logical
+  consistent : IsConsistent s
+
+accepted_sized : (limits : Limits) (tag : ℕ) (ws : List PageWrite) (s : ArrayState) → IsSized limits s → IsAccepted limits s.entries tag ws → IsSized limits (opened None tag ws s)
+accepted_sized limits tag ws s h accepts =
+    let ok = h.consistent in
+    let long = h.long in
+    record {
+      long = long;
+      consistent = record {
+        distinct = All-push (λ (e : Entry). AllPairs (λ v w. v.page ≢ w.page) e.writes) s.entries (opening tag ws) ok.distinct accepts.distinct;
+        apart = all_pairs_push ShareNoPage s.entries (opening tag ws) ok.apart (λ k d inside.
+            let e = get_or s.entries k d in
+            let i = in_from s.entries e (Contains-get_or s.entries k d inside) in
+            share_back (opening tag ws) e (all_from (λ w. Avoid w.page e.writes) ws (λ w j.
+            all_at (λ (x : Entry). Avoid w.page x.writes) s.entries e (all_at (λ w. AllAvoid w.page s.entries) ws w accepts.unowned j) i)));
+        within = All-push (λ (e : Entry). All (λ w. w.page < length s.pages) e.writes) s.entries (opening tag ws) ok.within
+            (λ k d lt. (let at = accepts.in_range k d lt in omega arith));
+        whole = All-push (λ (e : Entry). e.mark ≡ Whole → HasWhole s.pages e) s.entries (opening tag ws) ok.whole (λ is. cc);
+      };
+    }
+
+opened_sized : (limits : Limits) (spent : ℕ → Bool) (tag : ℕ) (ws : List PageWrite) (s : ArrayState) (o : Option SubmitError) → refusal limits spent s.entries tag ws ≡ o → IsSized limits s → IsSized limits (opened o tag ws s)
+opened_sized limits spent tag ws s None is h = accepted_sized limits tag ws s h (accepted limits s.entries tag ws (none_first (first_refusals limits s.entries tag ws) (spent_page spent ws) is))
+opened_sized limits spent tag ws s (Some e) is h = h
+
+goes_sized : (limits : Limits) (old new : ArrayState) → Goes old new → IsSized limits old → IsSized limits new
+goes_sized limits old new goes h = record { long = goes.long ∙ h.long; consistent = goes_consistent old new goes h.consistent }
+
+written_sized : (limits : Limits) (spent : ℕ → Bool) (tag : ℕ) (batch : Batch) (old : RunState) (r : Reply) (new : RunState) → IsSized limits old.machine →
+    (NotDone old r new ⊎ ((Does limits spent (command.Write tag batch) old.machine r new.machine × (new.up ≡ true)) ⊎ IsCut (command.Write tag batch) old r new)) → IsSized limits new.machine
+written_sized limits spent tag batch old r new h (inl other) = goes_sized limits old.machine new.machine (goes_nowhere old.machine new.machine (ap (λ (s : RunState). s.machine) other.2)) h
+written_sized limits spent tag batch old r new h (inr (inl does)) =
+    subst (λ (s : ArrayState). IsSized limits s) (sym does.0.1.opens)
+    (opened_sized limits spent tag batch.entries old.machine (refusal limits spent old.machine.entries tag batch.entries) refl h)
+written_sized limits spent tag batch old r new h (inr (inr cut)) = absurd cut.1
+
+serves_sized : (limits : Limits) (spent : ℕ → Bool) (c : Command) (old : RunState) (r : Reply) (new : RunState) → IsSized limits old.machine → Serves limits spent c old r new → IsSized limits new.machine
+serves_sized limits spent (command.Write tag batch) old r new h serves = written_sized limits spent tag batch old r new h serves
+serves_sized limits spent c old r new h serves = goes_sized limits old.machine new.machine (serves_go limits spent c old r new refl serves) h
+
+run_sized : (limits : Limits) (seen : ℕ → ℕ) (old : RunState) (cs : List Command) (rs : List Reply) (new : RunState) → Run limits seen old cs rs new → IsSized limits old.machine → IsSized limits new.machine
+run_sized limits seen old [] [] new run h = subst (λ (s : RunState). IsSized limits s.machine) (sym run) h
+run_sized limits seen old [] (r ∷ rs) new run h = absurd run
+run_sized limits seen old (c ∷ cs) [] new run h = absurd run
+run_sized limits seen old (c ∷ cs) (r ∷ rs) new run h =
+    run_sized limits (seen_after seen c r) run.0 cs rs new run.4 (serves_sized limits run.1 c old r run.0 h run.3)
+
+pub run_consistent : (limits : Limits) (seen : ℕ → ℕ) (old : RunState) (cs : List Command) (rs : List Reply) (new : RunState) → Run limits seen old cs rs new →
+    length old.machine.pages ≡ limits.logical → IsConsistent old.machine → (length new.machine.pages ≡ limits.logical) × IsConsistent new.machine
+run_consistent limits seen old cs rs new run long ok =
+    let sized = run_sized limits seen old cs rs new run (record { long = long; consistent = ok }) in (sized.long, sized.consistent)
+
+-- ---- a transaction that is acknowledged
+
+-- the array has the transaction, and no open one writes its pages
+abbrev IsDoneWith : Entry → ArrayState → Type 0
+IsDoneWith e s = HasWhole s.pages e × All (λ w. AllAvoid w.page s.entries) e.writes
+
+module _ (there : Bool) (old new : ArrayState) (tag : ℕ) (e : Entry) (ok : IsConsistent old) (found : entry_of tag old.entries ≡ Some e) where
+  mid_ok : IsConsistent (settled there old)
+  mid_ok = goes_consistent old (settled there old) (goes_settled there old) ok
+
+  mid_found : entry_of tag (settled there old).entries ≡ Some (settled_entry there e)
+  mid_found = settled_found there tag e old.entries found
+
+  mid_in : IsIn (settled there old).entries (settled_entry there e)
+  mid_in = found_is_in tag (settled there old).entries (settled_entry there e) mid_found
+
+  avoids : All (λ w. AllAvoid w.page (without tag (settled there old).entries)) e.writes
+  avoids = without_avoids tag (settled there old).entries (settled_entry there e) mid_ok.apart mid_found
+
+  whole_done : (settled_entry there e).mark ≡ Whole → new ≡ record (settled there old) { entries = without tag (settled there old).entries } → IsDoneWith e new
+  whole_done whole is = rw is (all_at (λ (x : Entry). x.mark ≡ Whole → HasWhole (settled there old).pages x) (settled there old).entries (settled_entry there e) mid_ok.whole mid_in whole, avoids)
+
+  gives_done : StepGives old (settled there old) tag (settled_entry there e) (Ok progress.Done) new → IsDoneWith e new
+  gives_done (inl h) = whole_done h.0 h.1
+  gives_done (inr h) = rw h.2 (taken_has (settled there old) mid_ok (settled there old).pages (settled_entry there e) refl mid_in, avoids)
+
+step_done_as : (o : Option Entry) (there : Bool) (old new : ArrayState) (tag : ℕ) (e : Entry) → IsConsistent old → entry_of tag old.entries ≡ Some e → o ≡ Some e →
+    MatchOption o ((Ok progress.Done ≡ Err failed.Unknown) × (new ≡ old)) (λ e. StepGives old (settled there old) tag (settled_entry there e) (Ok progress.Done) new) → IsDoneWith e new
+step_done_as None there old new tag e ok found is h = cc
+step_done_as (Some x) there old new tag e ok found is h =
+    let same : x ≡ e = cc in
+    gives_done there old new tag e ok found (subst (λ (y : Entry). StepGives old (settled there old) tag (settled_entry there y) (Ok progress.Done) new) same h)
+
+step_done : (old new : ArrayState) (tag : ℕ) (e : Entry) → IsConsistent old → entry_of tag old.entries ≡ Some e → Steps old new tag (Ok progress.Done) → IsDoneWith e new
+step_done old new tag e ok found h = step_done_as (entry_of tag old.entries) h.0 old new tag e ok found found h.1
+
+finish_done : (mids : List ArrayState) (old new : ArrayState) (tag : ℕ) (e : Entry) → IsConsistent old → entry_of tag old.entries ≡ Some e → Finishes old mids new tag (Ok progress.Done) → IsDoneWith e new
+finish_done [] old new tag e ok found h = step_done old new tag e ok found h
+finish_done (mid ∷ mids) old new tag e ok found h =
+    let w = found_writes (entry_of tag old.entries) h.2.0 old mid tag h.0 h.1 (Ok (progress.Wrote h.0 h.1)) refl refl h.2.1 in
+    let same : w.0 ≡ e = let its = w.1.found in cc in
+    let mid_ok = goes_consistent old mid (step_goes old mid tag (Ok (progress.Wrote h.0 h.1)) h.2) ok in
+    let done = finish_done mids mid new tag _ mid_ok (wrote_found old mid h.2.0 tag w.0 w.1) h.3 in
+    subst (λ (x : Entry). IsDoneWith x new) same done
+
+abort_done_as : (o : Option Entry) (there : Bool) (old new : ArrayState) (tag : ℕ) (e : Entry) → IsConsistent old → entry_of tag old.entries ≡ Some e → o ≡ Some e →
+    MatchOption o ((Ok aborted.Late ≡ Err failed.Unknown) × (new ≡ old)) (λ e. AbortGives old (settled there old) tag (settled_entry there e) (Ok aborted.Late) new) → IsDoneWith e new
+abort_done_as None there old new tag e ok found is h = cc
+abort_done_as (Some x) there old new tag e ok found is h =
+    let same : x ≡ e = cc in
+    let gives = subst (λ (y : Entry). AbortGives old (settled there old) tag (settled_entry there y) (Ok aborted.Late) new) same h in
+    whole_done there old new tag e ok found gives.0 gives.1
+
+told_done : (tag own : ℕ) (result : Result Progress StepError) → reply.Done tag ≡ step_reply own result → result ≡ Ok progress.Done
+told_done tag own (Ok (progress.Wrote done all)) h = cc
+told_done tag own (Ok progress.Done) h = refl
+told_done tag own (Err failed.Unknown) h = cc
+told_done tag own (Err failed.Fault) h = cc
+
+told_late : (tag own : ℕ) (result : Result Aborted StepError) → reply.Late tag ≡ abort_reply own result → result ≡ Ok aborted.Late
+told_late tag own (Ok aborted.Gone) h = cc
+told_late tag own (Ok aborted.Late) h = refl
+told_late tag own (Err failed.Unknown) h = cc
+told_late tag own (Err failed.Fault) h = cc
+
+-- what a reply that is no break says was done
+done_of : (limits : Limits) (spent : ℕ → Bool) (c : Command) (old : RunState) (r : Reply) (new : RunState) → is_break r ≡ false →
+    (NotDone old r new ⊎ ((Does limits spent c old.machine r new.machine × (new.up ≡ true)) ⊎ IsCut c old r new)) → Does limits spent c old.machine r new.machine
+done_of limits spent c old r new b (inl h) = elim h.1 [
+  | inl e ↦ absurd (unlike r reply.Fault b e refl)
+  | inr e ↦ absurd (unlike r reply.Cut b e refl)
+]
+done_of limits spent c old r new b (inr (inl h)) = h.0
+done_of limits spent c old r new b (inr (inr h)) = absurd (unlike r reply.Cut b h.0 refl)
+
+serves_done : (limits : Limits) (spent : ℕ → Bool) (c : Command) (old : RunState) (r : Reply) (new : RunState) (tag : ℕ) (e : Entry) → IsConsistent old.machine →
+    Serves limits spent c old r new → Acknowledges c r tag → entry_of tag old.machine.entries ≡ Some e → IsDoneWith e new.machine
+serves_done limits spent (command.Step own) old r new tag e ok serves told found =
+    let does = done_of limits spent (command.Step own) old r new (ap is_break told.1) serves in
+    let is = told_done tag own does.0 (sym told.1 ∙ does.2) in
+    let steps = subst (λ (x : Result Progress StepError). Steps old.machine new.machine own x) is does.1 in
+    step_done old.machine new.machine tag e ok found (subst (λ t. Steps old.machine new.machine t (Ok progress.Done)) told.0 steps)
+serves_done limits spent (command.Finish own) old r new tag e ok serves told found =
+    let does = done_of limits spent (command.Finish own) old r new (ap is_break told.1) serves in
+    let is = told_done tag own does.1 (sym told.1 ∙ does.3) in
+    let steps = subst (λ (x : Result Progress StepError). Finishes old.machine does.0 new.machine own x) is does.2 in
+    finish_done does.0 old.machine new.machine tag e ok found (subst (λ t. Finishes old.machine does.0 new.machine t (Ok progress.Done)) told.0 steps)
+serves_done limits spent (command.Abort own) old r new tag e ok serves told found =
+    let does = done_of limits spent (command.Abort own) old r new (ap is_break told.1) serves in
+    let is = told_late tag own does.0 (sym told.1 ∙ does.2) in
+    let aborts = subst (λ (x : Result Aborted StepError). Aborts old.machine new.machine own x) is does.1 in
+    let its = subst (λ t. Aborts old.machine new.machine t (Ok aborted.Late)) told.0 aborts in
+    abort_done_as (entry_of tag old.machine.entries) its.0 old.machine new.machine tag e ok found found its.1
+serves_done limits spent c old r new tag e ok serves told found = absurd told
+
+pub acknowledged_stays : (limits : Limits) (spent : ℕ → Bool) (c : Command) (old : RunState) (r : Reply) (mid : RunState) (tag : ℕ) (e : Entry)
+    (seen : ℕ → ℕ) (cs : List Command) (rs : List Reply) (new : RunState) (w : PageWrite) →
+    IsConsistent old.machine → Serves limits spent c old r mid → Acknowledges c r tag → entry_of tag old.machine.entries ≡ Some e → Run limits seen mid cs rs new →
+    Contains e.writes w → All (λ d. Avoid w.page (writes_in d)) cs → page_at new.machine.pages w.page ≡ Some w.bytes
+acknowledged_stays limits spent c old r mid tag e seen cs rs new w ok serves told found run has avoid =
+    let done = serves_done limits spent c old r mid tag e ok serves told found in
+    run_stays limits seen mid cs rs new w.page run (All-contains (λ w. AllAvoid w.page mid.machine.entries) e.writes w done.1 has) avoid
+    ∙ All-contains (λ w. page_at mid.machine.pages w.page ≡ Some w.bytes) e.writes w done.0 has
+
+-- ---- a cut
+
+module _ (c : Command) (old : RunState) (r : Reply) (new : RunState) (e : Entry) (ok : IsConsistent old.machine) (cut : IsCut c old r new) (has : Contains old.machine.entries e) where
+  its_in : IsIn old.machine.entries e
+  its_in = in_from old.machine.entries e has
+
+  pub cut_whole_or_same : HasWhole new.machine.pages e ⊎ HasSame old.machine.pages new.machine.pages e
+  cut_whole_or_same =
+      let there = cut.2.0 in
+      let first = settled_or there old.machine e ok its_in in
+      elim cut.2.1 [
+        | inl same ↦ rw same first
+        | inr took ↦
+            rw took.2 (whole_or_then old.machine.pages (settled there old.machine).pages (put (settled there old.machine).pages took.0.writes) e first
+            (taken_or old.machine ok (settled there old.machine).pages took.0 e (settled_length there old.machine) (in_from old.machine.entries took.0 took.1.0) its_in))
+      ]
+
+  pub cut_whole : e.mark ≡ Whole → HasWhole new.machine.pages e
+  cut_whole is = whole_kept old.machine.pages new.machine.pages e cut_whole_or_same
+      (all_at (λ (x : Entry). x.mark ≡ Whole → HasWhole old.machine.pages x) old.machine.entries e ok.whole its_in is)
+
+  pub cut_others : is_doubted e.mark ≡ false → (MayComplete c e → ⊥) → HasSame old.machine.pages new.machine.pages e
+  cut_others sure other =
+      let there = cut.2.0 in
+      let first = settled_sure_same there old.machine e ok its_in sure in
+      elim cut.2.1 [
+        | inl same ↦ rw same first
+        | inr took ↦ elim (apart_two old.machine.entries e took.0 ok.apart its_in (in_from old.machine.entries took.0 took.1.0)) [
+          | inl one ↦ absurd (other (subst (λ (x : Entry). MayComplete c x) (sym one) took.1.1))
+          | inr share ↦
+              rw took.2 (same_then old.machine.pages (settled there old.machine).pages (put (settled there old.machine).pages took.0.writes) e first
+              (other_same (settled there old.machine).pages took.0 e share))
+        ]
+      ]
