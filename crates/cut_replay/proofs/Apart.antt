@@ -1,8 +1,7 @@
 -- Open transactions that write no page twice, and what the array has of each when it takes one.
-use Rattle.std.proofs.Common.{◌≡◌, ◌≢◌, ◌⊎◌, ℕ, ◌<◌, Bool, true, false, cond, List, [], ◌∷◌, ◌++◌, length, map, All, AllPairs, Option, Some, None, refl, sym, ap, ◌∙◌, subst, inl, inr, arith}
+use Rattle.std.proofs.Common.{◌≡◌, ◌≢◌, ◌⊎◌, ℕ, Bool, true, false, cond, List, [], ◌∷◌, ◌++◌, length, All, AllPairs, Some, refl, sym, ap, ◌∙◌, subst, inl, inr}
 use Rattle.std.proofs.lemmas.List.Elements.{All-nil, All-cons, All-head, All-tail, All-map}
 use Rattle.record_list.proofs.Names.{IsIn, all_from, all_at, in_order, pairs_head, pairs_tail}
-use Rattle.tx_types.specs.Batch.{PageWrite}
 use Rattle.tx_engine.specs.ArrayState.{ArrayState, Entry, Pages, entry_of, has_tag, is_doubted, page_at, put, with_entry, without}
 use Rattle.tx_engine.specs.Step.{doubted, settled, settled_entry, settled_mark}
 use Rattle.tx_engine.specs.declared.mark.Mark.{Mark}
@@ -97,8 +96,11 @@ first_doubted x es pages b is h =
     by : (b : Bool) → is_doubted x.mark ≡ b → All (λ e. ShareNoPage x e) es → AsDoubted pages (put pages (cond b (x.writes ++ doubted es) (doubted es))) x
     by true is others =
         let taken = put_has x.writes pages (All-head (λ e. AllPairs (λ v w. v.page ≢ w.page) e.writes) x es h.distinct) (All-head (λ e. AreWithin pages e.writes) x es h.within) in
-        inl (is, subst (λ (p : Pages). HasWhole p x) (sym (put_append x.writes (doubted es) pages))
-        (whole_same (put pages x.writes) (put (put pages x.writes) (doubted es)) x taken (doubted_same x es (put pages x.writes) others)))
+        inl (
+          is,
+          subst (λ (p : Pages). HasWhole p x) (sym (put_append x.writes (doubted es) pages))
+              (whole_same (put pages x.writes) (put (put pages x.writes) (doubted es)) x taken (doubted_same x es (put pages x.writes) others)),
+        )
     by false is others = inr (is, doubted_same x es pages others)
 
 later_doubted : (x e : Entry) (es : List Entry) (pages : Pages) (b : Bool) → ShareNoPage e x → ((p : Pages) → length p ≡ length pages → AsDoubted p (put p (doubted es)) e) →

@@ -1,16 +1,23 @@
 -- Open transactions over whole runs: they stay consistent, one that is acknowledged stays in the array, and one that a cut
 -- catches is there wholly or not at all.
-use Rattle.std.proofs.Common.{◌≡◌, ◌≢◌, ◌⊎◌, ℕ, ◌<◌, Bool, true, false, List, [], ◌∷◌, ◌++◌, length, get_or, All, AllPairs, Contains, Option, Some, None, Result, Ok, Err, refl, sym, ap, ◌∙◌, subst, inl, inr, arith}
+use Rattle.std.proofs.Common.{◌≡◌, ◌≢◌, ◌⊎◌, ℕ, ◌<◌, Bool, true, false, List, [], ◌∷◌, length, get_or, All, AllPairs, Contains, Option, Some, None, Result, Ok, Err, refl, sym, ap, ◌∙◌, subst, inl, inr, arith}
 use Rattle.std.specs.Prelude.{MatchOption}
-use Rattle.std.proofs.lemmas.List.Elements.{All-nil, All-push, All-head, All-tail, All-contains, Contains-get_or}
+use Rattle.std.proofs.lemmas.List.Elements.{All-nil, All-push, All-contains, Contains-get_or}
 use Rattle.std.proofs.lemmas.List.Quantifiers.{all_pairs_push}
+use Rattle.std.proofs.lemmas.List.FromFn.{length-map-range_with_len}
 use Rattle.record_list.proofs.Names.{IsIn, all_from, all_at, in_from}
 use Rattle.tx_types.specs.Batch.{PageWrite, Writes as Batch}
+use Rattle.tx_types.specs.declared.config.Config.{Config}
+use Rattle.flash_model.specs.Operations.{Moment}
+use Rattle.record_list.specs.Written.{page_at as page_of}
+use Rattle.version_index.specs.Images.{array_in, written_in}
+use Rattle.tx_engine.specs.Standing.{limits_of}
+use Rattle.cut_replay.specs.FlashRun.{opening_state}
 use Rattle.tx_engine.specs.ArrayState.{ArrayState, Entry, Pages, entry_of, idle, is_doubted, opening, page_at, put, without}
-use Rattle.tx_engine.specs.Step.{Steps, StepGives, Aborts, AbortGives, CutLeaves, settled, settled_entry}
+use Rattle.tx_engine.specs.Step.{Steps, StepGives, Aborts, AbortGives, settled, settled_entry}
 use Rattle.tx_engine.specs.Submit.{Limits, first_refusals, opened, or_else, refusal, spent_page}
 use Rattle.tx_engine.proofs.Accepting.{IsAccepted, accepted}
-use Rattle.tx_engine.specs.declared.mark.Mark.TheVariants.{Plain, Whole}
+use Rattle.tx_engine.specs.declared.mark.Mark.TheVariants.{Whole}
 use Rattle.tx_engine.specs.declared.abort.Aborted.{Aborted}
 use Rattle.tx_engine.specs.declared.abort.Aborted.TheVariants as aborted
 use Rattle.tx_engine.specs.declared.step.Progress.{Progress}
@@ -26,7 +33,7 @@ use Rattle.cut_replay.specs.Run.{Run, RunState, Serves, Does, NotDone, IsCut, Ma
 use Rattle.cut_replay.proofs.Finishes.{found_is_in, found_writes, settled_found, wrote_found}
 use Rattle.cut_replay.proofs.Unbroken.{unlike}
 use Rattle.cut_replay.proofs.Taking.{settled_length}
-use Rattle.cut_replay.proofs.Apart.{WholeOrSame, share_back, apart_two, other_same, same_then, whole_or_then, taken_has, taken_or, settled_or, settled_sure_same, without_avoids}
+use Rattle.cut_replay.proofs.Apart.{share_back, apart_two, other_same, same_then, whole_or_then, taken_has, taken_or, settled_or, settled_sure_same, without_avoids}
 use Rattle.cut_replay.proofs.Changes.{Goes, goes_consistent, goes_nowhere, goes_settled, whole_kept, step_goes, serves_go, run_stays}
 
 -- ---- consistent states
@@ -38,6 +45,10 @@ idle_consistent pages = record {
   within = All-nil (λ (e : Entry). All (λ w. w.page < length pages) e.writes);
   whole = All-nil (λ (e : Entry). e.mark ≡ Whole → HasWhole pages e);
 }
+
+pub opening_length : (its : Config) (up : Bool) (from : Moment) → length (opening_state its up from).machine.pages ≡ (limits_of its).logical
+unfolding array_in
+opening_length its up from = length-map-range_with_len (page_of its.protocol (written_in its.protocol from.image) its.logical) 0 its.logical
 
 none_first : (a b : Option SubmitError) → or_else a b ≡ None → a ≡ None
 none_first None b h = refl

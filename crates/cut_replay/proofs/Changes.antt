@@ -1,14 +1,14 @@
 -- What a command changes in the array, and which transactions it leaves open.
-use Rattle.std.proofs.Common.{◌≡◌, ◌≢◌, ◌⊎◌, ℕ, Bool, true, false, List, [], ◌∷◌, ◌++◌, length, All, AllPairs, Option, Some, None, Result, Ok, Err, refl, sym, ap, ◌∙◌, subst, inl, inr}
-use Rattle.std.specs.Prelude.{MatchOption, MatchBool, Contains}
+use Rattle.std.proofs.Common.{◌≡◌, ◌≢◌, ◌⊎◌, ℕ, Bool, true, false, List, [], ◌∷◌, length, All, AllPairs, Option, Some, None, Result, Ok, Err, refl, sym, ap, ◌∙◌, subst, inl, inr}
+use Rattle.std.specs.Prelude.{MatchOption, MatchBool}
 use Rattle.std.proofs.lemmas.List.Elements.{All-nil, All-head, All-tail, All-push}
 use Rattle.record_list.proofs.Names.{all_from, all_at, in_from}
 use Rattle.tx_types.specs.Batch.{PageWrite, Writes}
 use Rattle.tx_engine.specs.ArrayState.{ArrayState, Entry, Pages, entry_of, opening, page_at, put, with_entry, without}
 use Rattle.tx_engine.specs.Collect.{Collects}
-use Rattle.tx_engine.specs.Step.{Steps, StepGives, Aborts, AbortGives, CutLeaves, settled, settled_entry}
+use Rattle.tx_engine.specs.Step.{Steps, StepGives, AbortGives, CutLeaves, settled, settled_entry}
 use Rattle.tx_engine.specs.Submit.{Limits, opened, refusal}
-use Rattle.tx_engine.specs.declared.mark.Mark.TheVariants.{Doubt, Whole}
+use Rattle.tx_engine.specs.declared.mark.Mark.TheVariants.{Whole}
 use Rattle.tx_engine.specs.declared.abort.Aborted.{Aborted}
 use Rattle.tx_engine.specs.declared.abort.Aborted.TheVariants as aborted
 use Rattle.tx_engine.specs.declared.collect.Collected.{Collected}

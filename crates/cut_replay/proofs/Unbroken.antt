@@ -6,10 +6,10 @@ use Rattle.std.proofs.lemmas.Bool.Decides.{nat_tests}
 use Rattle.std.proofs.lemmas.List.Elements.{All-nil, All-cons, All-push, All-head, All-tail}
 use Rattle.std.proofs.lemmas.List.Sums.{sum_by-cons}
 use Rattle.tx_types.specs.Batch.{PageWrite}
-use Rattle.tx_engine.specs.ArrayState.{ArrayState, Entry, entry_of, page_at, opening}
+use Rattle.tx_engine.specs.ArrayState.{ArrayState, entry_of, page_at, opening}
 use Rattle.tx_engine.specs.Read.{ReadsPage}
 use Rattle.tx_engine.specs.Collect.{Collects}
-use Rattle.tx_engine.specs.Submit.{Limits, is_of, answer, opened, refusal}
+use Rattle.tx_engine.specs.Submit.{Limits, is_of, opened, refusal}
 use Rattle.tx_engine.specs.Unbroken.{AllPlain, finish_answer, finished}
 use Rattle.tx_engine.proofs.Unbroken.{IsPlain, settled_same, step_fine, abort_fine, last_finishes, wrote_finishes}
 use Rattle.tx_engine.specs.declared.read.ReadAnswer.{ReadAnswer}
