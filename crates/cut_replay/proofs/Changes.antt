@@ -63,15 +63,15 @@ goes_settled there s = record {
   whole = λ ok. settled_whole there s ok;
 }
 
-abbrev Whole-in : ArrayState → Entry → Type 0
-Whole-in s e = e.mark ≡ Whole → HasWhole s.pages e
+abbrev WholeIsThere : ArrayState → Entry → Type 0
+WholeIsThere s e = e.mark ≡ Whole → HasWhole s.pages e
 
 -- the array stays, and some transactions
-goes_open : (s : ArrayState) (es : List Entry) → ArePart es s.entries → (All (Whole-in s) s.entries → All (Whole-in s) es) → Goes s (record s { entries = es })
+goes_open : (s : ArrayState) (es : List Entry) → ArePart es s.entries → (All (WholeIsThere s) s.entries → All (WholeIsThere s) es) → Goes s (record s { entries = es })
 goes_open s es part whole = record { part = part; stays = λ page h. refl; long = refl; whole = λ ok. whole ok.whole }
 
 pub goes_without : (s : ArrayState) (tag : ℕ) → Goes s (record s { entries = without tag s.entries })
-goes_without s tag = goes_open s (without tag s.entries) (part_without tag s.entries) (all_without (Whole-in s) tag s.entries)
+goes_without s tag = goes_open s (without tag s.entries) (part_without tag s.entries) (all_without (WholeIsThere s) tag s.entries)
 
 pub whole_kept : (old new : Pages) (e : Entry) → WholeOrSame old new e → HasWhole old e → HasWhole new e
 whole_kept old new e (inl whole) h = whole
@@ -87,7 +87,7 @@ goes_taken s tag e found = record {
       all_without (λ (x : Entry). x.mark ≡ Whole → HasWhole (put s.pages e.writes) x) tag s.entries
       (all_from (λ (x : Entry). x.mark ≡ Whole → HasWhole (put s.pages e.writes) x) s.entries (λ x i is.
       whole_kept s.pages (put s.pages e.writes) x (taken_or s ok s.pages e x refl (found_is_in tag s.entries e found) i)
-      (all_at (Whole-in s) s.entries x ok.whole i is)));
+      (all_at (WholeIsThere s) s.entries x ok.whole i is)));
 }
 
 goes_to : (old mid new : ArrayState) → new ≡ mid → Goes old mid → Goes old new
@@ -102,7 +102,7 @@ module _ (there : Bool) (s new : ArrayState) (tag : ℕ) (e : Entry) (found : en
   marked_goes : (f : Entry) → f.writes ≡ e.writes → f.mark ≢ Whole → new ≡ record (settled there s) { entries = with_entry tag f (settled there s).entries } → Goes s new
   marked_goes f same plain is = then_goes _ is
       (goes_open (settled there s) _ (part_with tag f (settled_entry there e) (settled there s).entries same found)
-      (all_with (Whole-in (settled there s)) tag f (settled there s).entries (λ whole. absurd (plain whole))))
+      (all_with (WholeIsThere (settled there s)) tag f (settled there s).entries (λ whole. absurd (plain whole))))
 
   gives_goes : (result : Result Progress StepError) → StepGives s (settled there s) tag (settled_entry there e) result new → Goes s new
   gives_goes (Ok (progress.Wrote done all)) h = marked_goes _ refl (λ whole. (let plain = h.0 in cc)) h.4

@@ -21,12 +21,13 @@ ghost use Rattle.cut_replay.specs.Run.{Acknowledges, IsCut, MayComplete};
 ghost use Rattle.cut_replay.specs.FlashRun.{Point, IsFlashRun, mentions_in};
 ghost use Rattle.cut_replay.specs.FlashRun.{opening_state, last_state};
 ghost use Rattle.cut_replay.specs.Bounds.{AreFew};
-ghost use Rattle.cut_replay.specs.Unbroken.{IsReply, state_after, UnbrokenRun, AreMaybeSpent, FinishesAreDone};
-ghost use Rattle.cut_replay.specs.Unbroken.{VersionsSuffice};
+ghost use Rattle.cut_replay.specs.Unbroken.{IsReply, state_after, UnbrokenRun, AreMaybeSpent};
+ghost use Rattle.cut_replay.specs.Unbroken.{FinishesAreDone, VersionsSuffice};
 
-/// A run without the replies `cut` and `fault`, from a state in which nothing is in doubt, never comes
-/// to a transaction in doubt. Its states and replies are functions of the commands, the array and the
-/// pages that are spent at each command. None is spent where no page comes to its last version.
+/// A run without the replies `cut` and `fault`, from a state in which nothing is in doubt, never
+/// comes to a transaction in doubt. Its states and replies are functions of the commands, the array
+/// and the pages that are spent at each command. None is spent where no page comes to its last
+/// version.
 pub fn unbroken_runs()
     ensures command { (limits : Limits) (spent : ℕ → Bool)
         (c : Command) (old : RunState) (r : Reply) (new : RunState) →
@@ -62,8 +63,8 @@ pub fn pages_change_by_writes()
         page_at new.machine.pages page ≡ page_at old.machine.pages page }
 {}
 
-/// Over cuts and faults the open transactions write no page twice, and what a whole one writes is in
-/// the array.
+/// Over cuts and faults the open transactions write no page twice, and what a whole one writes is
+/// in the array.
 pub fn consistent_runs()
     ensures idle { (pages : Pages) → IsConsistent (idle pages) }
     ensures opening { (its : Config) (up : Bool) (from : Moment) →
@@ -75,8 +76,8 @@ pub fn consistent_runs()
         (length new.machine.pages ≡ limits.logical) × IsConsistent new.machine }
 {}
 
-/// A transaction that is acknowledged, by `done` or `late`, is in the array from then on: over cuts and
-/// faults each of its pages has what it wrote until a command writes that page again.
+/// A transaction that is acknowledged, by `done` or `late`, is in the array from then on: over cuts
+/// and faults each of its pages has what it wrote until a command writes that page again.
 pub fn acknowledged_transactions()
     ensures { (limits : Limits) (spent : ℕ → Bool)
         (c : Command) (old : RunState) (r : Reply) (mid : RunState) (tag : ℕ) (e : Entry)
@@ -90,8 +91,8 @@ pub fn acknowledged_transactions()
 {}
 
 /// After a cut nothing is open. A transaction that was open is in the array wholly or not at all: a
-/// whole one stays, and one that was not in doubt, and whose last page was not being written, is not
-/// there.
+/// whole one stays, and one that was not in doubt, and whose last page was not being written, is
+/// not there.
 pub fn cut_transactions()
     ensures none_open { (c : Command) (old : RunState) (r : Reply) (new : RunState) →
         IsCut c old r new → new.machine.entries ≡ [] }
@@ -116,8 +117,8 @@ pub fn flash_runs_are_runs()
         (last_state (opening_state its run.up from) ps) }
 {}
 
-/// Where no command sets an arm, and no cut and no fault was to come by itself, no reply is `cut` or
-/// `fault`. Each `finish` of an open transaction then replies `done`.
+/// Where no command sets an arm, and no cut and no fault was to come by itself, no reply is `cut`
+/// or `fault`. Each `finish` of an open transaction then replies `done`.
 pub fn quiet_runs()
     ensures none { (cs : List Command) (rs : List Reply) →
         All (λ c. is_arm c ≡ false) cs → AreFew 0 0 cs rs →

@@ -23,9 +23,9 @@ ghost use Rattle.txflash.specs.Steps.{ReadsImage};
 
 use image_file::spelled_images;
 
-/// Where no command arms a break, the replies are those of the array machine in which nothing fails,
-/// for some pages that may be spent at each command; and each `finish` of an open transaction replies
-/// `done`.
+/// Where no command arms a break, the replies are those of the array machine in which nothing
+/// fails, for some pages that may be spent at each command, and each `finish` of an open
+/// transaction replies `done`.
 pub fn unarmed_runs()
     ensures { (its : Config) (from : Moment)
         (cs : List Command) (rs : List Reply) (ps : List Point) →
@@ -34,13 +34,13 @@ pub fn unarmed_runs()
         let opening = idle (array_in its.protocol its.logical from.image) in
         (spents : List (ℕ → Bool)) × AreMaybeSpent (mentions_in its from) cs rs spents
         × UnbrokenRun (limits_of its) spents opening cs rs
-            (last_state (opening_state its run.up from) ps).machine
+        (last_state (opening_state its run.up from) ps).machine
         × FinishesAreDone (limits_of its) spents opening cs rs }
 {}
 
-/// The image with which a run ends is sound, and stands for the array of its last state; where no
-/// command arms a break, it has that array. Its file is read as this image and no other, and serving
-/// it begins at that array with nothing open.
+/// The image with which a run ends is sound, and stands for the array of its last state. Where no
+/// command arms a break it has that array, and serving it again begins there, with nothing open.
+/// A file that is the spelling of an image is read as that image and no other.
 pub fn saved_images()
     ensures sound { (its : Config) (image left : List Contents)
         (cs : List Command) (text : List ℕ) →
