@@ -11,6 +11,7 @@ use Rattle.tx_types.specs.declared.config.Config.{Config}
 use Rattle.flash_model.specs.Operations.{Moment}
 use Rattle.record_list.specs.Written.{page_at as page_of}
 use Rattle.version_index.specs.Images.{array_in, written_in}
+use Rattle.tx_engine.specs.Exits.{StandsFor}
 use Rattle.tx_engine.specs.Standing.{limits_of}
 use Rattle.cut_replay.specs.FlashRun.{opening_state}
 use Rattle.tx_engine.specs.ArrayState.{ArrayState, Entry, Pages, entry_of, idle, is_doubted, opening, page_at, put, without}
@@ -34,7 +35,7 @@ use Rattle.cut_replay.proofs.Finishes.{found_is_in, found_writes, settled_found,
 use Rattle.cut_replay.proofs.Unbroken.{unlike}
 use Rattle.cut_replay.proofs.Taking.{settled_length}
 use Rattle.cut_replay.proofs.Apart.{share_back, apart_two, other_same, same_then, whole_or_then, taken_has, taken_or, settled_or, settled_sure_same, without_avoids}
-use Rattle.cut_replay.proofs.Changes.{Goes, goes_consistent, goes_nowhere, goes_settled, whole_kept, step_goes, serves_go, run_stays}
+use Rattle.cut_replay.proofs.Changes.{Goes, goes_consistent, goes_nowhere, goes_settled, whole_kept, step_goes, serves_go, run_stands}
 
 -- ---- consistent states
 
@@ -205,12 +206,12 @@ serves_done limits spent (command.Abort own) old r new tag e ok serves told foun
 serves_done limits spent c old r new tag e ok serves told found = absurd told
 
 pub acknowledged_stays : (limits : Limits) (spent : ℕ → Bool) (c : Command) (old : RunState) (r : Reply) (mid : RunState) (tag : ℕ) (e : Entry)
-    (seen : ℕ → ℕ) (cs : List Command) (rs : List Reply) (new : RunState) (w : PageWrite) →
-    IsConsistent old.machine → Serves limits spent c old r mid → Acknowledges c r tag → entry_of tag old.machine.entries ≡ Some e → Run limits seen mid cs rs new →
-    Contains e.writes w → All (λ d. Avoid w.page (writes_in d)) cs → page_at new.machine.pages w.page ≡ Some w.bytes
-acknowledged_stays limits spent c old r mid tag e seen cs rs new w ok serves told found run has avoid =
+    (seen : ℕ → ℕ) (cs : List Command) (rs : List Reply) (new : RunState) (pages : Pages) (w : PageWrite) →
+    IsConsistent old.machine → Serves limits spent c old r mid → Acknowledges c r tag → entry_of tag old.machine.entries ≡ Some e → Run limits seen mid cs rs new → StandsFor new.machine pages →
+    Contains e.writes w → All (λ d. Avoid w.page (writes_in d)) cs → page_at pages w.page ≡ Some w.bytes
+acknowledged_stays limits spent c old r mid tag e seen cs rs new pages w ok serves told found run stands has avoid =
     let done = serves_done limits spent c old r mid tag e ok serves told found in
-    run_stays limits seen mid cs rs new w.page run (All-contains (λ w. AllAvoid w.page mid.machine.entries) e.writes w done.1 has) avoid
+    run_stands limits seen mid cs rs new w.page pages run (All-contains (λ w. AllAvoid w.page mid.machine.entries) e.writes w done.1 has) avoid stands
     ∙ All-contains (λ w. page_at mid.machine.pages w.page ≡ Some w.bytes) e.writes w done.0 has
 
 -- ---- a cut

@@ -6,6 +6,7 @@ use Rattle.record_list.proofs.Names.{all_from, all_at, in_from}
 use Rattle.tx_types.specs.Batch.{PageWrite, Writes}
 use Rattle.tx_engine.specs.ArrayState.{ArrayState, Entry, Pages, entry_of, opening, page_at, put, with_entry, without}
 use Rattle.tx_engine.specs.Collect.{Collects}
+use Rattle.tx_engine.specs.Exits.{StandsFor}
 use Rattle.tx_engine.specs.Step.{Steps, StepGives, AbortGives, CutLeaves, settled, settled_entry}
 use Rattle.tx_engine.specs.Submit.{Limits, opened, refusal}
 use Rattle.tx_engine.specs.declared.mark.Mark.TheVariants.{Whole}
@@ -229,11 +230,27 @@ serves_stay : (page : ℕ) (limits : Limits) (spent : ℕ → Bool) (c : Command
 serves_stay page limits spent (command.Write tag batch) old r new h avoid serves = written_stay page limits spent tag batch old r new h avoid serves
 serves_stay page limits spent c old r new h avoid serves = goes_stay page old.machine new.machine h (serves_go limits spent c old r new refl serves)
 
+run_stay : (limits : Limits) (seen : ℕ → ℕ) (old : RunState) (cs : List Command) (rs : List Reply) (new : RunState) (page : ℕ) → Run limits seen old cs rs new →
+    AllAvoid page old.machine.entries → All (λ c. Avoid page (writes_in c)) cs → Stay page old.machine new.machine
+run_stay limits seen old [] [] new page run h avoid = goes_stay page old.machine new.machine h (machine_same old new run)
+run_stay limits seen old [] (r ∷ rs) new page run h avoid = absurd run
+run_stay limits seen old (c ∷ cs) [] new page run h avoid = absurd run
+run_stay limits seen old (c ∷ cs) (r ∷ rs) new page run h avoid =
+    let first = serves_stay page limits run.1 c old r run.0 h (All-head (λ c. Avoid page (writes_in c)) c cs avoid) run.3 in
+    let rest = run_stay limits (seen_after seen c r) run.0 cs rs new page run.4 first.avoid (All-tail (λ c. Avoid page (writes_in c)) c cs avoid) in
+    record { same = rest.same ∙ first.same; avoid = rest.avoid }
+
 pub run_stays : (limits : Limits) (seen : ℕ → ℕ) (old : RunState) (cs : List Command) (rs : List Reply) (new : RunState) (page : ℕ) → Run limits seen old cs rs new →
     AllAvoid page old.machine.entries → All (λ c. Avoid page (writes_in c)) cs → page_at new.machine.pages page ≡ page_at old.machine.pages page
-run_stays limits seen old [] [] new page run h avoid = ap (λ (s : RunState). page_at s.machine.pages page) run
-run_stays limits seen old [] (r ∷ rs) new page run h avoid = absurd run
-run_stays limits seen old (c ∷ cs) [] new page run h avoid = absurd run
-run_stays limits seen old (c ∷ cs) (r ∷ rs) new page run h avoid =
-    let first = serves_stay page limits run.1 c old r run.0 h (All-head (λ c. Avoid page (writes_in c)) c cs avoid) run.3 in
-    run_stays limits (seen_after seen c r) run.0 cs rs new page run.4 first.avoid (All-tail (λ c. Avoid page (writes_in c)) c cs avoid) ∙ first.same
+run_stays limits seen old cs rs new page run h avoid = (run_stay limits seen old cs rs new page run h avoid).same
+
+-- an array that stands for the state has it too
+stands_same : (page : ℕ) (s : ArrayState) (pages : Pages) → AllAvoid page s.entries → StandsFor s pages → page_at pages page ≡ page_at s.pages page
+stands_same page s pages h (inl same) = ap (λ p. page_at p page) same
+stands_same page s pages h (inr (e, has, doubt, took)) =
+    ap (λ p. page_at p page) took ∙ put_other page e.writes s.pages (all_at (λ (x : Entry). Avoid page x.writes) s.entries e h (in_from s.entries e has))
+
+pub run_stands : (limits : Limits) (seen : ℕ → ℕ) (old : RunState) (cs : List Command) (rs : List Reply) (new : RunState) (page : ℕ) (pages : Pages) → Run limits seen old cs rs new →
+    AllAvoid page old.machine.entries → All (λ c. Avoid page (writes_in c)) cs → StandsFor new.machine pages → page_at pages page ≡ page_at old.machine.pages page
+run_stands limits seen old cs rs new page pages run h avoid stands =
+    let stay = run_stay limits seen old cs rs new page run h avoid in stands_same page new.machine pages stay.avoid stands ∙ stay.same

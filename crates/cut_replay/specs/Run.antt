@@ -174,7 +174,7 @@ Avoid page writes = All (λ w. w.page ≢ page) writes
 abbrev pub AllAvoid : ℕ → List Entry → Type 0
 AllAvoid page entries = All (λ e. Avoid page e.writes) entries
 
--- these two transactions write no page both
+-- no page is written by both of these transactions
 abbrev pub ShareNoPage : Entry → Entry → Type 0
 ShareNoPage a b = All (λ w. Avoid w.page b.writes) a.writes
 

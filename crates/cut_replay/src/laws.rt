@@ -6,6 +6,7 @@ ghost use Rattle.tx_types.specs.declared.config.Config.{Config};
 ghost use Rattle.flash_model.specs.Operations.{Moment};
 ghost use Rattle.tx_engine.specs.ArrayState.{ArrayState, Entry, Pages};
 ghost use Rattle.tx_engine.specs.ArrayState.{entry_of, idle, is_doubted, page_at};
+ghost use Rattle.tx_engine.specs.Exits.{StandsFor};
 ghost use Rattle.tx_engine.specs.Standing.{limits_of};
 ghost use Rattle.tx_engine.specs.Submit.{Limits};
 ghost use Rattle.tx_engine.specs.Unbroken.{AllPlain};
@@ -76,18 +77,20 @@ pub fn consistent_runs()
         (length new.machine.pages ≡ limits.logical) × IsConsistent new.machine }
 {}
 
-/// A transaction that is acknowledged, by `done` or `late`, is in the array from then on: over cuts
-/// and faults each of its pages has what it wrote until a command writes that page again.
+/// A transaction that is acknowledged, by `done` or `late`, is in the array from then on, and in each
+/// array that an image may have then: over cuts and faults each of its pages has what it wrote until
+/// a command writes that page again.
 pub fn acknowledged_transactions()
     ensures { (limits : Limits) (spent : ℕ → Bool)
         (c : Command) (old : RunState) (r : Reply) (mid : RunState) (tag : ℕ) (e : Entry)
-        (seen : ℕ → ℕ) (cs : List Command) (rs : List Reply) (new : RunState) (w : PageWrite) →
+        (seen : ℕ → ℕ) (cs : List Command) (rs : List Reply) (new : RunState)
+        (pages : Pages) (w : PageWrite) →
         IsConsistent old.machine →
         Serves limits spent c old r mid → Acknowledges c r tag →
         entry_of tag old.machine.entries ≡ Some e →
-        Run limits seen mid cs rs new →
+        Run limits seen mid cs rs new → StandsFor new.machine pages →
         Contains e.writes w → All (λ d. Avoid w.page (writes_in d)) cs →
-        page_at new.machine.pages w.page ≡ Some w.bytes }
+        page_at pages w.page ≡ Some w.bytes }
 {}
 
 /// After a cut nothing is open. A transaction that was open is in the array wholly or not at all: a
