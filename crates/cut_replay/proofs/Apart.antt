@@ -2,13 +2,14 @@
 use Rattle.std.proofs.Common.{◌≡◌, ◌≢◌, ◌⊎◌, ℕ, Bool, true, false, cond, List, [], ◌∷◌, ◌++◌, length, All, AllPairs, Some, refl, sym, ap, ◌∙◌, subst, inl, inr}
 use Rattle.std.proofs.lemmas.List.Elements.{All-nil, All-cons, All-head, All-tail, All-map}
 use Rattle.record_list.proofs.Names.{IsIn, all_from, all_at, in_order, pairs_head, pairs_tail}
+use Rattle.tx_types.specs.Batch.{PageWrite}
 use Rattle.tx_engine.specs.ArrayState.{ArrayState, Entry, Pages, entry_of, has_tag, is_doubted, page_at, put, with_entry, without}
 use Rattle.tx_engine.specs.Step.{doubted, settled, settled_entry, settled_mark}
 use Rattle.tx_engine.specs.declared.mark.Mark.{Mark}
 use Rattle.tx_engine.specs.declared.mark.Mark.TheVariants.{Plain, Doubt, Whole}
 use Rattle.cut_replay.specs.Run.{Avoid, AllAvoid, ShareNoPage, HasWhole, HasSame, IsConsistent}
 use Rattle.cut_replay.proofs.Finishes.{found_is_in}
-use Rattle.cut_replay.proofs.Taking.{AreWithin, put_length, put_other, put_has, put_append, doubted_avoid, within_kept}
+use Rattle.cut_replay.proofs.Taking.{AreWithin, ArePart, put_length, put_other, put_has, put_append, doubted_avoid, within_kept, part_same, part_less, part_all}
 
 pub share_back : (a b : Entry) → ShareNoPage a b → ShareNoPage b a
 share_back a b h =
@@ -16,7 +17,7 @@ share_back a b h =
     all_from (λ v. v.page ≢ w.page) a.writes (λ v j e.
     all_at (λ w. w.page ≢ v.page) b.writes w (all_at (λ v. Avoid v.page b.writes) a.writes v h j) i (sym e)))
 
--- two of them are one, or write no page both
+-- two of them are one, or have no page in common
 pub apart_two : (es : List Entry) (x y : Entry) → AllPairs ShareNoPage es → IsIn es x → IsIn es y → (x ≡ y) ⊎ ShareNoPage x y
 apart_two es x y all i j = elim (in_order ShareNoPage es x y all i j) [
   | inl same ↦ inl same
@@ -28,10 +29,10 @@ apart_two es x y all i j = elim (in_order ShareNoPage es x y all i j) [
 abbrev pub WholeOrSame : Pages → Pages → Entry → Type 0
 WholeOrSame old new e = HasWhole new e ⊎ HasSame old new e
 
-pub other_same : (pages : Pages) (e x : Entry) → ShareNoPage x e → HasSame pages (put pages e.writes) x
-other_same pages e x share =
-    all_from (λ w. page_at (put pages e.writes) w.page ≡ page_at pages w.page) x.writes (λ w i.
-    put_other w.page e.writes pages (all_at (λ w. Avoid w.page e.writes) x.writes w share i))
+pub other_same : (pages : Pages) (e : Entry) (ws : List PageWrite) → All (λ w. Avoid w.page ws) e.writes → HasSame pages (put pages ws) e
+other_same pages e ws share =
+    all_from (λ w. page_at (put pages ws) w.page ≡ page_at pages w.page) e.writes (λ w i.
+    put_other w.page ws pages (all_at (λ w. Avoid w.page ws) e.writes w share i))
 
 pub whole_same : (old new : Pages) (e : Entry) → HasWhole old e → HasSame old new e → HasWhole new e
 whole_same old new e whole same = λ k d lt. same k d lt ∙ whole k d lt
@@ -44,19 +45,55 @@ whole_or_then old mid new e first (inl whole) = inl whole
 whole_or_then old mid new e (inl whole) (inr same) = inl (whole_same mid new e whole same)
 whole_or_then old mid new e (inr same) (inr more) = inr (same_then old mid new e same more)
 
--- ---- one transaction is taken
+-- ---- a transaction beside others that are taken
 
-module _ (s : ArrayState) (ok : IsConsistent s) where
-  pub taken_has : (pages : Pages) (e : Entry) → length pages ≡ length s.pages → IsIn s.entries e → HasWhole (put pages e.writes) e
-  taken_has pages e long i =
-      put_has e.writes pages (all_at (λ (x : Entry). AllPairs (λ v w. v.page ≢ w.page) x.writes) s.entries e ok.distinct i)
-      (within_kept s.pages pages e.writes long (all_at (λ (x : Entry). AreWithin s.pages x.writes) s.entries e ok.within i))
+-- the writes are those of the transaction, or of none of its pages
+abbrev pub SameOrApart : Entry → List PageWrite → Type 0
+SameOrApart e ws = (ws ≡ e.writes) ⊎ All (λ w. Avoid w.page ws) e.writes
 
-  pub taken_or : (pages : Pages) (e x : Entry) → length pages ≡ length s.pages → IsIn s.entries e → IsIn s.entries x → WholeOrSame pages (put pages e.writes) x
-  taken_or pages e x long i j = elim (apart_two s.entries x e ok.apart j i) [
-    | inl same ↦ inl (subst (λ (y : Entry). HasWhole (put pages e.writes) y) (sym same) (taken_has pages e long i))
-    | inr share ↦ inr (other_same pages e x share)
-  ]
+-- its pages are distinct, and of the array
+pub record IsBeside (pages : Pages) (es : List Entry) (e : Entry) : Type 0 where
+  pub distinct : AllPairs (λ v w. v.page ≢ w.page) e.writes
+  pub within : AreWithin pages e.writes
+  pub each : All (λ f. SameOrApart e f.writes) es
+
+pub beside_then : (old new : Pages) (es fs : List Entry) (e : Entry) → length new ≡ length old → ArePart fs es → IsBeside old es e → IsBeside new fs e
+beside_then old new es fs e long part h = record {
+  distinct = h.distinct;
+  within = within_kept old new e.writes long h.within;
+  each = part_all (SameOrApart e) fs es part h.each;
+}
+
+pub beside_taken : (pages : Pages) (es : List Entry) (e : Entry) → IsBeside pages es e → (ws : List PageWrite) → SameOrApart e ws → WholeOrSame pages (put pages ws) e
+beside_taken pages es e h ws (inl same) = inl (subst (λ vs. HasWhole (put pages vs) e) (sym same) (put_has e.writes pages h.distinct h.within))
+beside_taken pages es e h ws (inr share) = inr (other_same pages e ws share)
+
+beside_first : (x e : Entry) (es : List Entry) (pages : Pages) (b : Bool) → IsBeside pages (x ∷ es) e →
+    ((p : Pages) → length p ≡ length pages → WholeOrSame p (put p (doubted es)) e) → WholeOrSame pages (put pages (cond b (x.writes ++ doubted es) (doubted es))) e
+beside_first x e es pages true h rest =
+    rw (put_append x.writes (doubted es) pages)
+    (whole_or_then pages (put pages x.writes) (put (put pages x.writes) (doubted es)) e
+    (beside_taken pages (x ∷ es) e h x.writes (All-head (λ f. SameOrApart e f.writes) x es h.each)) (rest (put pages x.writes) (put_length x.writes pages)))
+beside_first x e es pages false h rest = rest pages refl
+
+beside_doubted : (es : List Entry) (pages : Pages) (e : Entry) → IsBeside pages es e → WholeOrSame pages (put pages (doubted es)) e
+beside_doubted [] pages e h = inr (λ k d lt. refl)
+beside_doubted (x ∷ es) pages e h =
+    beside_first x e es pages (is_doubted x.mark) h (λ p long. beside_doubted es p e (beside_then pages p (x ∷ es) es e long (part_less x es es (part_same es)) h))
+
+pub beside_settled : (there : Bool) (s : ArrayState) (e : Entry) → IsBeside s.pages s.entries e → WholeOrSame s.pages (settled there s).pages e
+beside_settled true s e h = beside_doubted s.entries s.pages e h
+beside_settled false s e h = inr (λ k d lt. refl)
+
+pub beside_in : (s : ArrayState) (e : Entry) → IsConsistent s → IsIn s.entries e → IsBeside s.pages s.entries e
+beside_in s e ok i = record {
+  distinct = all_at (λ (x : Entry). AllPairs (λ v w. v.page ≢ w.page) x.writes) s.entries e ok.distinct i;
+  within = all_at (λ (x : Entry). AreWithin s.pages x.writes) s.entries e ok.within i;
+  each = all_from (λ f. SameOrApart e f.writes) s.entries (λ f j. elim (apart_two s.entries e f ok.apart i j) [
+    | inl same ↦ inl (ap (λ (x : Entry). x.writes) (sym same))
+    | inr share ↦ inr share
+  ]);
+}
 
 -- ---- what was in doubt is taken
 
@@ -109,7 +146,7 @@ later_doubted x e es pages true share rest =
     rw (put_append x.writes (doubted es) pages)
     (elim (rest (put pages x.writes) (put_length x.writes pages)) [
       | inl whole ↦ inl whole
-      | inr same ↦ inr (same.0, same_then pages (put pages x.writes) (put (put pages x.writes) (doubted es)) e (other_same pages x e share) same.1)
+      | inr same ↦ inr (same.0, same_then pages (put pages x.writes) (put (put pages x.writes) (doubted es)) e (other_same pages e x.writes share) same.1)
     ])
 later_doubted x e es pages false share rest = rest pages refl
 
@@ -125,10 +162,6 @@ each_doubted (x ∷ es) pages e h (inr i) =
 
 well : (s : ArrayState) → IsConsistent s → AreWell s.entries s.pages
 well s ok = record { distinct = ok.distinct; apart = ok.apart; within = ok.within }
-
-pub settled_or : (there : Bool) (s : ArrayState) (e : Entry) → IsConsistent s → IsIn s.entries e → WholeOrSame s.pages (settled there s).pages e
-settled_or true s e ok i = elim (each_doubted s.entries s.pages e (well s ok) i) [ inl whole ↦ inl whole.1 | inr same ↦ inr same.1 ]
-settled_or false s e ok i = inr (λ k d lt. refl)
 
 -- one that is not in doubt is not taken
 pub settled_sure_same : (there : Bool) (s : ArrayState) (e : Entry) → IsConsistent s → IsIn s.entries e → is_doubted e.mark ≡ false → HasSame s.pages (settled there s).pages e

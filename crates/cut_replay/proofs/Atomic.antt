@@ -2,11 +2,11 @@
 -- catches is there wholly or not at all.
 use Rattle.std.proofs.Common.{◌≡◌, ◌≢◌, ◌⊎◌, ℕ, ◌<◌, Bool, true, false, List, [], ◌∷◌, length, get_or, All, AllPairs, Contains, Option, Some, None, Result, Ok, Err, refl, sym, ap, ◌∙◌, subst, inl, inr, arith}
 use Rattle.std.specs.Prelude.{MatchOption}
-use Rattle.std.proofs.lemmas.List.Elements.{All-nil, All-push, All-contains, Contains-get_or}
+use Rattle.std.proofs.lemmas.List.Elements.{All-nil, All-push, All-head, All-tail, All-contains, Contains-get_or}
 use Rattle.std.proofs.lemmas.List.Quantifiers.{all_pairs_push}
 use Rattle.std.proofs.lemmas.List.FromFn.{length-map-range_with_len}
 use Rattle.record_list.proofs.Names.{IsIn, all_from, all_at, in_from}
-use Rattle.tx_types.specs.Batch.{PageWrite, Writes as Batch}
+use Rattle.tx_types.specs.Batch.{PageWrite}
 use Rattle.tx_types.specs.declared.config.Config.{Config}
 use Rattle.flash_model.specs.Operations.{Moment}
 use Rattle.record_list.specs.Written.{page_at as page_of}
@@ -33,9 +33,9 @@ use Rattle.host_protocol.specs.declared.reply.Reply.TheVariants as reply
 use Rattle.cut_replay.specs.Run.{Run, RunState, Serves, Does, NotDone, IsCut, MayComplete, Finishes, Acknowledges, Avoid, AllAvoid, ShareNoPage, HasWhole, HasSame, IsConsistent, is_break, writes_in, seen_after, step_reply, abort_reply}
 use Rattle.cut_replay.proofs.Finishes.{found_is_in, found_writes, settled_found, wrote_found}
 use Rattle.cut_replay.proofs.Unbroken.{unlike}
-use Rattle.cut_replay.proofs.Taking.{settled_length}
-use Rattle.cut_replay.proofs.Apart.{share_back, apart_two, other_same, same_then, whole_or_then, taken_has, taken_or, settled_or, settled_sure_same, without_avoids}
-use Rattle.cut_replay.proofs.Changes.{Goes, goes_consistent, goes_nowhere, goes_settled, whole_kept, step_goes, serves_go, run_stands}
+use Rattle.cut_replay.proofs.Taking.{put_has}
+use Rattle.cut_replay.proofs.Apart.{WholeOrSame, SameOrApart, IsBeside, share_back, apart_two, other_same, same_then, whole_or_then, beside_then, beside_taken, beside_in, settled_sure_same, without_avoids}
+use Rattle.cut_replay.proofs.Changes.{Goes, goes_consistent, goes_settled, whole_kept, step_goes, cut_goes, serves_changes, run_stands}
 
 -- ---- consistent states
 
@@ -86,17 +86,13 @@ opened_sized limits spent tag ws s (Some e) is h = h
 goes_sized : (limits : Limits) (old new : ArrayState) → Goes old new → IsSized limits old → IsSized limits new
 goes_sized limits old new goes h = record { long = goes.long ∙ h.long; consistent = goes_consistent old new goes h.consistent }
 
-written_sized : (limits : Limits) (spent : ℕ → Bool) (tag : ℕ) (batch : Batch) (old : RunState) (r : Reply) (new : RunState) → IsSized limits old.machine →
-    (NotDone old r new ⊎ ((Does limits spent (command.Write tag batch) old.machine r new.machine × (new.up ≡ true)) ⊎ IsCut (command.Write tag batch) old r new)) → IsSized limits new.machine
-written_sized limits spent tag batch old r new h (inl other) = goes_sized limits old.machine new.machine (goes_nowhere old.machine new.machine (ap (λ (s : RunState). s.machine) other.2)) h
-written_sized limits spent tag batch old r new h (inr (inl does)) =
-    subst (λ (s : ArrayState). IsSized limits s) (sym does.0.1.opens)
-    (opened_sized limits spent tag batch.entries old.machine (refusal limits spent old.machine.entries tag batch.entries) refl h)
-written_sized limits spent tag batch old r new h (inr (inr cut)) = absurd cut.1
-
 serves_sized : (limits : Limits) (spent : ℕ → Bool) (c : Command) (old : RunState) (r : Reply) (new : RunState) → IsSized limits old.machine → Serves limits spent c old r new → IsSized limits new.machine
-serves_sized limits spent (command.Write tag batch) old r new h serves = written_sized limits spent tag batch old r new h serves
-serves_sized limits spent c old r new h serves = goes_sized limits old.machine new.machine (serves_go limits spent c old r new refl serves) h
+serves_sized limits spent c old r new h serves = elim (serves_changes limits spent c old r new serves) [
+  | inl goes ↦ goes_sized limits old.machine new.machine goes h
+  | inr change ↦
+      subst (λ (s : ArrayState). IsSized limits s) (sym change.opens)
+      (opened_sized limits spent change.tag (writes_in c) old.machine (refusal limits spent old.machine.entries change.tag (writes_in c)) refl h)
+]
 
 run_sized : (limits : Limits) (seen : ℕ → ℕ) (old : RunState) (cs : List Command) (rs : List Reply) (new : RunState) → Run limits seen old cs rs new → IsSized limits old.machine → IsSized limits new.machine
 run_sized limits seen old [] [] new run h = subst (λ (s : RunState). IsSized limits s.machine) (sym run) h
@@ -126,6 +122,9 @@ module _ (there : Bool) (old new : ArrayState) (tag : ℕ) (e : Entry) (ok : IsC
   mid_in : IsIn (settled there old).entries (settled_entry there e)
   mid_in = found_is_in tag (settled there old).entries (settled_entry there e) mid_found
 
+  mid_beside : IsBeside (settled there old).pages (settled there old).entries (settled_entry there e)
+  mid_beside = beside_in (settled there old) (settled_entry there e) mid_ok mid_in
+
   avoids : All (λ w. AllAvoid w.page (without tag (settled there old).entries)) e.writes
   avoids = without_avoids tag (settled there old).entries (settled_entry there e) mid_ok.apart mid_found
 
@@ -134,7 +133,7 @@ module _ (there : Bool) (old new : ArrayState) (tag : ℕ) (e : Entry) (ok : IsC
 
   gives_done : StepGives old (settled there old) tag (settled_entry there e) (Ok progress.Done) new → IsDoneWith e new
   gives_done (inl h) = whole_done h.0 h.1
-  gives_done (inr h) = rw h.2 (taken_has (settled there old) mid_ok (settled there old).pages (settled_entry there e) refl mid_in, avoids)
+  gives_done (inr h) = rw h.2 (put_has e.writes (settled there old).pages mid_beside.distinct mid_beside.within, avoids)
 
 step_done_as : (o : Option Entry) (there : Bool) (old new : ArrayState) (tag : ℕ) (e : Entry) → IsConsistent old → entry_of tag old.entries ≡ Some e → o ≡ Some e →
     MatchOption o ((Ok progress.Done ≡ Err failed.Unknown) × (new ≡ old)) (λ e. StepGives old (settled there old) tag (settled_entry there e) (Ok progress.Done) new) → IsDoneWith e new
@@ -214,22 +213,63 @@ acknowledged_stays limits spent c old r mid tag e seen cs rs new pages w ok serv
     run_stands limits seen mid cs rs new w.page pages run (All-contains (λ w. AllAvoid w.page mid.machine.entries) e.writes w done.1 has) avoid stands
     ∙ All-contains (λ w. page_at mid.machine.pages w.page ≡ Some w.bytes) e.writes w done.0 has
 
+-- ---- a transaction is in the array wholly or not at all
+
+record IsAtomic (e : Entry) (old new : ArrayState) : Type 0 where
+  atomic : WholeOrSame old.pages new.pages e
+  beside : IsBeside new.pages new.entries e
+
+opened_atomic : (e : Entry) (o : Option SubmitError) (tag : ℕ) (ws : List PageWrite) (s : ArrayState) → IsBeside s.pages s.entries e → All (λ w. Avoid w.page ws) e.writes → IsAtomic e s (opened o tag ws s)
+opened_atomic e None tag ws s h avoid = record {
+  atomic = inr (λ k d lt. refl);
+  beside = record { distinct = h.distinct; within = h.within; each = All-push (λ (f : Entry). SameOrApart e f.writes) s.entries (opening tag ws) h.each (inr avoid) };
+}
+opened_atomic e (Some refused) tag ws s h avoid = record { atomic = inr (λ k d lt. refl); beside = h }
+
+serves_atomic : (limits : Limits) (spent : ℕ → Bool) (c : Command) (old : RunState) (r : Reply) (new : RunState) (e : Entry) → IsBeside old.machine.pages old.machine.entries e →
+    All (λ w. Avoid w.page (writes_in c)) e.writes → Serves limits spent c old r new → IsAtomic e old.machine new.machine
+serves_atomic limits spent c old r new e h avoid serves = elim (serves_changes limits spent c old r new serves) [
+  | inl goes ↦
+      record {
+        atomic = goes.atomic e h;
+        beside = beside_then old.machine.pages new.machine.pages old.machine.entries new.machine.entries e goes.long goes.part h;
+      }
+  | inr change ↦
+      subst (λ (s : ArrayState). IsAtomic e old.machine s) (sym change.opens)
+      (opened_atomic e (refusal limits spent old.machine.entries change.tag (writes_in c)) change.tag (writes_in c) old.machine h avoid)
+]
+
+run_atomic : (limits : Limits) (seen : ℕ → ℕ) (old : RunState) (cs : List Command) (rs : List Reply) (new : RunState) (e : Entry) → IsBeside old.machine.pages old.machine.entries e →
+    All (λ w. All (λ d. Avoid w.page (writes_in d)) cs) e.writes → Run limits seen old cs rs new → IsAtomic e old.machine new.machine
+run_atomic limits seen old [] [] new e h avoid run =
+    subst (λ (s : RunState). IsAtomic e old.machine s.machine) (sym run) (record { atomic = inr (λ k d lt. refl); beside = h })
+run_atomic limits seen old [] (r ∷ rs) new e h avoid run = absurd run
+run_atomic limits seen old (c ∷ cs) [] new e h avoid run = absurd run
+run_atomic limits seen old (c ∷ cs) (r ∷ rs) new e h avoid run =
+    let first = serves_atomic limits run.1 c old r run.0 e h (λ k d lt. All-head (λ x. Avoid (get_or e.writes k d).page (writes_in x)) c cs (avoid k d lt)) run.3 in
+    let rest = run_atomic limits (seen_after seen c r) run.0 cs rs new e first.beside (λ k d lt. All-tail (λ x. Avoid (get_or e.writes k d).page (writes_in x)) c cs (avoid k d lt)) run.4 in
+    record { atomic = whole_or_then old.machine.pages run.0.machine.pages new.machine.pages e first.atomic rest.atomic; beside = rest.beside }
+
+stands_atomic : (s : ArrayState) (pages : Pages) (e : Entry) → IsBeside s.pages s.entries e → StandsFor s pages → WholeOrSame s.pages pages e
+stands_atomic s pages e h (inl same) = rw same (inr (λ k d lt. refl))
+stands_atomic s pages e h (inr (f, has, doubt, took)) =
+    rw took (beside_taken s.pages s.entries e h f.writes (all_at (λ (x : Entry). SameOrApart e x.writes) s.entries f h.each (in_from s.entries f has)))
+
+pub transaction_atomic : (limits : Limits) (seen : ℕ → ℕ) (old : RunState) (cs : List Command) (rs : List Reply) (new : RunState) (pages : Pages) (e : Entry) →
+    IsConsistent old.machine → Contains old.machine.entries e → Run limits seen old cs rs new → StandsFor new.machine pages → All (λ w. All (λ d. Avoid w.page (writes_in d)) cs) e.writes →
+    WholeOrSame old.machine.pages pages e
+transaction_atomic limits seen old cs rs new pages e ok has run stands avoid =
+    let is = run_atomic limits seen old cs rs new e (beside_in old.machine e ok (in_from old.machine.entries e has)) avoid run in
+    whole_or_then old.machine.pages new.machine.pages pages e is.atomic (stands_atomic new.machine pages e is.beside stands)
+
 -- ---- a cut
 
 module _ (c : Command) (old : RunState) (r : Reply) (new : RunState) (e : Entry) (ok : IsConsistent old.machine) (cut : IsCut c old r new) (has : Contains old.machine.entries e) where
   its_in : IsIn old.machine.entries e
   its_in = in_from old.machine.entries e has
 
-  pub cut_whole_or_same : HasWhole new.machine.pages e ⊎ HasSame old.machine.pages new.machine.pages e
-  cut_whole_or_same =
-      let there = cut.2.0 in
-      let first = settled_or there old.machine e ok its_in in
-      elim cut.2.1 [
-        | inl same ↦ rw same first
-        | inr took ↦
-            rw took.2 (whole_or_then old.machine.pages (settled there old.machine).pages (put (settled there old.machine).pages took.0.writes) e first
-            (taken_or old.machine ok (settled there old.machine).pages took.0 e (settled_length there old.machine) (in_from old.machine.entries took.0 took.1.0) its_in))
-      ]
+  pub cut_whole_or_same : WholeOrSame old.machine.pages new.machine.pages e
+  cut_whole_or_same = (cut_goes (MayComplete c) old.machine new.machine cut.2).atomic e (beside_in old.machine e ok its_in)
 
   pub cut_whole : e.mark ≡ Whole → HasWhole new.machine.pages e
   cut_whole is = whole_kept old.machine.pages new.machine.pages e cut_whole_or_same
@@ -245,6 +285,6 @@ module _ (c : Command) (old : RunState) (r : Reply) (new : RunState) (e : Entry)
           | inl one ↦ absurd (other (subst (λ (x : Entry). MayComplete c x) (sym one) took.1.1))
           | inr share ↦
               rw took.2 (same_then old.machine.pages (settled there old.machine).pages (put (settled there old.machine).pages took.0.writes) e first
-              (other_same (settled there old.machine).pages took.0 e share))
+              (other_same (settled there old.machine).pages e took.0.writes share))
         ]
       ]

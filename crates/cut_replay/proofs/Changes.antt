@@ -24,16 +24,17 @@ use Rattle.host_protocol.specs.declared.command.Command.TheVariants as command
 use Rattle.host_protocol.specs.declared.reply.Reply.{Reply}
 use Rattle.cut_replay.specs.Run.{Run, RunState, Serves, Does, NotDone, IsCut, MayComplete, Finishes, is_arm, Avoid, AllAvoid, HasWhole, IsConsistent, writes_in, seen_after}
 use Rattle.cut_replay.proofs.Finishes.{found_is_in, settled_found}
-use Rattle.cut_replay.proofs.Apart.{WholeOrSame, whole_same, taken_or, settled_whole, all_without, all_with}
+use Rattle.cut_replay.proofs.Apart.{WholeOrSame, SameOrApart, IsBeside, whole_same, whole_or_then, beside_then, beside_taken, beside_settled, beside_in, settled_whole, all_without, all_with}
 use Rattle.cut_replay.proofs.Taking.{put_length, put_other, settled_other, settled_length, ArePart, part_none, part_same, part_then, part_settled, part_without, part_with, part_all, part_pairs, AreWithin, within_kept}
 
--- No transaction is opened, the array has as many pages as before and what the whole ones write, and a page that no open
--- transaction writes stays.
+-- No transaction is opened, and the array has as many pages as before and what the whole ones write. A page that no open
+-- transaction writes stays, and of each open one the array has all, or at all its pages what it had.
 pub record Goes (old new : ArrayState) : Type 0 where
   pub part : ArePart new.entries old.entries
   pub stays : (page : ℕ) → AllAvoid page old.entries → page_at new.pages page ≡ page_at old.pages page
   pub long : length new.pages ≡ length old.pages
   pub whole : IsConsistent old → All (λ e. e.mark ≡ Whole → HasWhole new.pages e) new.entries
+  pub atomic : (e : Entry) → IsBeside old.pages old.entries e → WholeOrSame old.pages new.pages e
 
 pub goes_consistent : (old new : ArrayState) → Goes old new → IsConsistent old → IsConsistent new
 goes_consistent old new h ok = record {
@@ -46,7 +47,7 @@ goes_consistent old new h ok = record {
 }
 
 pub goes_nowhere : (old new : ArrayState) → new ≡ old → Goes old new
-goes_nowhere old new same = rw same (record { part = part_same old.entries; stays = λ page h. refl; long = refl; whole = λ ok. ok.whole })
+goes_nowhere old new same = rw same (record { part = part_same old.entries; stays = λ page h. refl; long = refl; whole = λ ok. ok.whole; atomic = λ e h. inr (λ k d lt. refl) })
 
 pub goes_then : (old mid new : ArrayState) → Goes old mid → Goes mid new → Goes old new
 goes_then old mid new h k = record {
@@ -54,6 +55,9 @@ goes_then old mid new h k = record {
   stays = λ page avoid. k.stays page (part_all (λ ws. Avoid page ws) mid.entries old.entries h.part avoid) ∙ h.stays page avoid;
   long = k.long ∙ h.long;
   whole = λ ok. k.whole (goes_consistent old mid h ok);
+  atomic = λ e b.
+      whole_or_then old.pages mid.pages new.pages e (h.atomic e b)
+      (k.atomic e (beside_then old.pages mid.pages old.entries mid.entries e h.long h.part b));
 }
 
 pub goes_settled : (there : Bool) (s : ArrayState) → Goes s (settled there s)
@@ -62,6 +66,7 @@ goes_settled there s = record {
   stays = λ page h. settled_other there page s h;
   long = settled_length there s;
   whole = λ ok. settled_whole there s ok;
+  atomic = λ e b. beside_settled there s e b;
 }
 
 abbrev WholeIsThere : ArrayState → Entry → Type 0
@@ -69,7 +74,7 @@ WholeIsThere s e = e.mark ≡ Whole → HasWhole s.pages e
 
 -- the array stays, and some transactions
 goes_open : (s : ArrayState) (es : List Entry) → ArePart es s.entries → (All (WholeIsThere s) s.entries → All (WholeIsThere s) es) → Goes s (record s { entries = es })
-goes_open s es part whole = record { part = part; stays = λ page h. refl; long = refl; whole = λ ok. whole ok.whole }
+goes_open s es part whole = record { part = part; stays = λ page h. refl; long = refl; whole = λ ok. whole ok.whole; atomic = λ e b. inr (λ k d lt. refl) }
 
 pub goes_without : (s : ArrayState) (tag : ℕ) → Goes s (record s { entries = without tag s.entries })
 goes_without s tag = goes_open s (without tag s.entries) (part_without tag s.entries) (all_without (WholeIsThere s) tag s.entries)
@@ -87,9 +92,12 @@ goes_taken s tag e found = record {
   whole = λ ok.
       all_without (λ (x : Entry). x.mark ≡ Whole → HasWhole (put s.pages e.writes) x) tag s.entries
       (all_from (λ (x : Entry). x.mark ≡ Whole → HasWhole (put s.pages e.writes) x) s.entries (λ x i is.
-      whole_kept s.pages (put s.pages e.writes) x (taken_or s ok s.pages e x refl (found_is_in tag s.entries e found) i)
-      (all_at (WholeIsThere s) s.entries x ok.whole i is)));
+      whole_kept s.pages (put s.pages e.writes) x (takes x (beside_in s x ok i)) (all_at (WholeIsThere s) s.entries x ok.whole i is)));
+  atomic = takes;
 }
+  where
+    takes : (x : Entry) → IsBeside s.pages s.entries x → WholeOrSame s.pages (put s.pages e.writes) x
+    takes x b = beside_taken s.pages s.entries x b e.writes (all_at (λ (f : Entry). SameOrApart x f.writes) s.entries e b.each (found_is_in tag s.entries e found))
 
 goes_to : (old mid new : ArrayState) → new ≡ mid → Goes old mid → Goes old new
 goes_to old mid new same h = rw same h
@@ -180,6 +188,16 @@ cut_goes Q old new (there, takes, none) = record {
     | inr took ↦ ap length took.2 ∙ put_length took.0.writes (settled there old).pages ∙ settled_length there old
   ];
   whole = λ ok. rw none (All-nil (λ (e : Entry). e.mark ≡ Whole → HasWhole new.pages e));
+  atomic = λ e b.
+      let mid = settled there old in
+      let first = beside_settled there old e b in
+      elim takes [
+        | inl same ↦ rw same first
+        | inr took ↦
+            rw took.2 (whole_or_then old.pages mid.pages (put mid.pages took.0.writes) e first
+            (beside_taken mid.pages old.entries e (beside_then old.pages mid.pages old.entries old.entries e (settled_length there old) (part_same old.entries) b)
+            took.0.writes (all_at (λ (f : Entry). SameOrApart e f.writes) old.entries took.0 b.each (in_from old.entries took.0 took.1.0))))
+      ];
 }
 
 machine_same : (old new : RunState) → new ≡ old → Goes old.machine new.machine
@@ -208,16 +226,6 @@ opened_stay : (page : ℕ) (o : Option SubmitError) (tag : ℕ) (ws : List PageW
 opened_stay page None tag ws s h avoid = record { same = refl; avoid = All-push (λ (e : Entry). Avoid page e.writes) s.entries (opening tag ws) h avoid }
 opened_stay page (Some e) tag ws s h avoid = record { same = refl; avoid = h }
 
-written_stay : (page : ℕ) (limits : Limits) (spent : ℕ → Bool) (tag : ℕ) (batch : Writes) (old : RunState) (r : Reply) (new : RunState) →
-    AllAvoid page old.machine.entries → Avoid page batch.entries →
-    (NotDone old r new ⊎ ((Does limits spent (command.Write tag batch) old.machine r new.machine × (new.up ≡ true)) ⊎ IsCut (command.Write tag batch) old r new)) →
-    Stay page old.machine new.machine
-written_stay page limits spent tag batch old r new h avoid (inl not) = goes_stay page old.machine new.machine h (machine_same old new not.2)
-written_stay page limits spent tag batch old r new h avoid (inr (inl does)) =
-    subst (λ (s : ArrayState). Stay page old.machine s) (sym does.0.1.opens)
-    (opened_stay page (refusal limits spent old.machine.entries tag batch.entries) tag batch.entries old.machine h avoid)
-written_stay page limits spent tag batch old r new h avoid (inr (inr cut)) = absurd cut.1
-
 pub serves_go : (limits : Limits) (spent : ℕ → Bool) (c : Command) (old : RunState) (r : Reply) (new : RunState) → is_write c ≡ false → Serves limits spent c old r new → Goes old.machine new.machine
 serves_go limits spent c old r new other serves = match_goes (is_arm c) _ _ (λ h. machine_same old new h.1) (served_goes limits spent c old r new (does_goes limits spent c old.machine r new.machine other)) serves
   where
@@ -225,10 +233,31 @@ serves_go limits spent c old r new other serves = match_goes (is_arm c) _ _ (λ 
     match_goes true P Q p q h = p h
     match_goes false P Q p q h = q h
 
+-- or it opens the transaction that it writes, if that is not refused
+pub record Opens (limits : Limits) (spent : ℕ → Bool) (c : Command) (old new : ArrayState) : Type 0 where
+  pub tag : ℕ
+  pub opens : new ≡ opened (refusal limits spent old.entries tag (writes_in c)) tag (writes_in c) old
+
+written_changes : (limits : Limits) (spent : ℕ → Bool) (tag : ℕ) (batch : Writes) (old : RunState) (r : Reply) (new : RunState) →
+    (NotDone old r new ⊎ ((Does limits spent (command.Write tag batch) old.machine r new.machine × (new.up ≡ true)) ⊎ IsCut (command.Write tag batch) old r new)) →
+    Goes old.machine new.machine ⊎ Opens limits spent (command.Write tag batch) old.machine new.machine
+written_changes limits spent tag batch old r new (inl h) = inl (machine_same old new h.2)
+written_changes limits spent tag batch old r new (inr (inl h)) = inr (record { tag = tag; opens = h.0.1.opens })
+written_changes limits spent tag batch old r new (inr (inr h)) = absurd h.1
+
+pub serves_changes : (limits : Limits) (spent : ℕ → Bool) (c : Command) (old : RunState) (r : Reply) (new : RunState) → Serves limits spent c old r new →
+    Goes old.machine new.machine ⊎ Opens limits spent c old.machine new.machine
+serves_changes limits spent (command.Write tag batch) old r new serves = written_changes limits spent tag batch old r new serves
+serves_changes limits spent c old r new serves = inl (serves_go limits spent c old r new refl serves)
+
 serves_stay : (page : ℕ) (limits : Limits) (spent : ℕ → Bool) (c : Command) (old : RunState) (r : Reply) (new : RunState) →
     AllAvoid page old.machine.entries → Avoid page (writes_in c) → Serves limits spent c old r new → Stay page old.machine new.machine
-serves_stay page limits spent (command.Write tag batch) old r new h avoid serves = written_stay page limits spent tag batch old r new h avoid serves
-serves_stay page limits spent c old r new h avoid serves = goes_stay page old.machine new.machine h (serves_go limits spent c old r new refl serves)
+serves_stay page limits spent c old r new h avoid serves = elim (serves_changes limits spent c old r new serves) [
+  | inl goes ↦ goes_stay page old.machine new.machine h goes
+  | inr change ↦
+      subst (λ (s : ArrayState). Stay page old.machine s) (sym change.opens)
+      (opened_stay page (refusal limits spent old.machine.entries change.tag (writes_in c)) change.tag (writes_in c) old.machine h avoid)
+]
 
 run_stay : (limits : Limits) (seen : ℕ → ℕ) (old : RunState) (cs : List Command) (rs : List Reply) (new : RunState) (page : ℕ) → Run limits seen old cs rs new →
     AllAvoid page old.machine.entries → All (λ c. Avoid page (writes_in c)) cs → Stay page old.machine new.machine

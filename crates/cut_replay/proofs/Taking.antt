@@ -75,7 +75,7 @@ pub part_same : (es : List Entry) → ArePart es es
 part_same [] = refl
 part_same (e ∷ es) = inl (refl, part_same es)
 
-part_less : (o : Entry) (ns os : List Entry) → ArePart ns os → ArePart ns (o ∷ os)
+pub part_less : (o : Entry) (ns os : List Entry) → ArePart ns os → ArePart ns (o ∷ os)
 part_less o [] os h = tt
 part_less o (n ∷ ns) os h = inr h
 

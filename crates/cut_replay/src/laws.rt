@@ -77,9 +77,9 @@ pub fn consistent_runs()
         (length new.machine.pages ≡ limits.logical) × IsConsistent new.machine }
 {}
 
-/// A transaction that is acknowledged, by `done` or `late`, is in the array from then on, and in each
-/// array that an image may have then: over cuts and faults each of its pages has what it wrote until
-/// a command writes that page again.
+/// A transaction that is acknowledged, by `done` or `late`, is in the array from then on, and in
+/// each array that an image may have then: over cuts and faults each of its pages has what it wrote
+/// until a command writes that page again.
 pub fn acknowledged_transactions()
     ensures { (limits : Limits) (spent : ℕ → Bool)
         (c : Command) (old : RunState) (r : Reply) (mid : RunState) (tag : ℕ) (e : Entry)
@@ -91,6 +91,18 @@ pub fn acknowledged_transactions()
         Run limits seen mid cs rs new → StandsFor new.machine pages →
         Contains e.writes w → All (λ d. Avoid w.page (writes_in d)) cs →
         page_at pages w.page ≡ Some w.bytes }
+{}
+
+/// Over any commands, cuts and faults, as long as no command writes its pages, an open transaction
+/// is in the array, and in each array that an image may have then, wholly or not at all.
+pub fn transactions_are_atomic()
+    ensures { (limits : Limits) (seen : ℕ → ℕ)
+        (old : RunState) (cs : List Command) (rs : List Reply) (new : RunState)
+        (pages : Pages) (e : Entry) →
+        IsConsistent old.machine → Contains old.machine.entries e →
+        Run limits seen old cs rs new → StandsFor new.machine pages →
+        All (λ w. All (λ d. Avoid w.page (writes_in d)) cs) e.writes →
+        HasWhole pages e ⊎ HasSame old.machine.pages pages e }
 {}
 
 /// After a cut nothing is open. A transaction that was open is in the array wholly or not at all: a
