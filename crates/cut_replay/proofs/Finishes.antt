@@ -1,5 +1,5 @@
 -- Going on with a transaction up to its end.
-use Rattle.std.proofs.Common.{◌≡◌, ◌≢◌, ◌⊎◌, ℕ, ◌+◌, ◌-◌, ◌<◌, Bool, true, false, cond, List, [], ◌∷◌, length, map, Option, Some, None, Result, Ok, Err, refl, sym, ap, ap₂, ◌∙◌, subst, inl, inr, arith}
+use Rattle.std.proofs.Common.{◌≡◌, ◌≢◌, ◌⊎◌, ℕ, ◌+◌, ◌-◌, ◌<◌, ◌≤◌, max, Bool, true, false, cond, List, [], ◌∷◌, length, map, Option, Some, None, Result, Ok, Err, refl, sym, ap, ap₂, ◌∙◌, subst, inl, inr, arith}
 use Rattle.std.specs.Prelude.{MatchOption}
 use Rattle.tx_types.specs.declared.config.Config.{Config}
 use Rattle.tx_types.specs.Config.{shape_of}
@@ -24,18 +24,10 @@ use Rattle.tx_engine.proofs.Unbroken.{tagged, again}
 use Rattle.host_protocol.specs.declared.command.Command.TheVariants as command
 use Rattle.host_protocol.specs.declared.reply.Reply.{Reply}
 use Rattle.host_protocol.specs.declared.reply.Reply.TheVariants as reply
-use Rattle.cut_replay.specs.Run.{Finishes, step_reply, is_break}
+use Rattle.cut_replay.specs.Run.{Finishes, left_of, pages_left, step_reply, is_break}
 use Rattle.cut_replay.specs.FlashRun.{Point, Tells, is_fault}
 use Rattle.cut_replay.specs.Mounted.{point_at, ServesHere}
 use Rattle.cut_replay.proofs.Single.{step_tells}
-
--- How many pages a transaction has still to write.
-abbrev pub left_of : Option Entry → ℕ
-left_of None = 0
-left_of (Some e) = length e.writes - e.done
-
-abbrev pub pages_left : ℕ → ArrayState → ℕ
-pages_left tag s = left_of (entry_of tag s.entries)
 
 -- A step that wrote a page
 pub record Writes (there : Bool) (old new : ArrayState) (tag : ℕ) (e : Entry) : Type 0 where
@@ -44,7 +36,7 @@ pub record Writes (there : Bool) (old new : ArrayState) (tag : ℕ) (e : Entry) 
   pub more : e.done + 1 < length e.writes
   pub new_is : new ≡ record (settled there old) { entries = with_entry tag (record (settled_entry there e) { done = e.done + 1 }) (settled there old).entries }
 
-found_writes : (o : Option Entry) (there : Bool) (old new : ArrayState) (tag done all : ℕ) (result : Result Progress StepError) → entry_of tag old.entries ≡ o → result ≡ Ok (progress.Wrote done all) →
+pub found_writes : (o : Option Entry) (there : Bool) (old new : ArrayState) (tag done all : ℕ) (result : Result Progress StepError) → entry_of tag old.entries ≡ o → result ≡ Ok (progress.Wrote done all) →
     MatchOption o ((result ≡ Err failed.Unknown) × (new ≡ old)) (λ e. StepGives old (settled there old) tag (settled_entry there e) result new) → (e : Entry) × Writes there old new tag e
 found_writes None there old new tag done all result found is h = cc
 found_writes (Some e) there old new tag done all result found is h =
@@ -71,20 +63,25 @@ settled_step : (there : Bool) (tag : ℕ) (x e : Entry) (es : List Entry) (b : B
 settled_step there tag x e es true is rest h = let same : x ≡ e = cc in ap (λ y. Some (settled_entry there y)) same
 settled_step there tag x e es false is rest h = rest h
 
-settled_found : (there : Bool) (tag : ℕ) (e : Entry) (es : List Entry) → entry_of tag es ≡ Some e → entry_of tag (map (settled_entry there) es) ≡ Some (settled_entry there e)
+pub settled_found : (there : Bool) (tag : ℕ) (e : Entry) (es : List Entry) → entry_of tag es ≡ Some e → entry_of tag (map (settled_entry there) es) ≡ Some (settled_entry there e)
 settled_found there tag e [] h = cc
 settled_found there tag e (x ∷ es) h = settled_step there tag x e es (has_tag tag x) refl (settled_found there tag e es) h
 
--- it has a page less to write
-pub fewer_left : (old new : ArrayState) (there : Bool) (tag : ℕ) (e : Entry) → Writes there old new tag e → pages_left tag new < pages_left tag old
-fewer_left old new there tag e w =
+-- it is still there, with a page less to write
+pub wrote_found : (old new : ArrayState) (there : Bool) (tag : ℕ) (e : Entry) → Writes there old new tag e →
+    entry_of tag new.entries ≡ Some (record (settled_entry there e) { done = e.done + 1 })
+wrote_found old new there tag e w =
     let next : Entry = record (settled_entry there e) { done = e.done + 1 } in
     let t : has_tag tag next ≡ true = tagged tag old.entries e w.found in
-    let at : entry_of tag (with_entry tag next (map (settled_entry there) old.entries)) ≡ Some next =
-    again tag next (settled_entry there e) (map (settled_entry there) old.entries) t (settled_found there tag e old.entries w.found) in
-    let now : pages_left tag new ≡ length e.writes - (e.done + 1) = ap (λ (s : ArrayState). pages_left tag s) w.new_is ∙ ap left_of at in
+    ap (λ (s : ArrayState). entry_of tag s.entries) w.new_is
+    ∙ again tag next (settled_entry there e) (map (settled_entry there) old.entries) t (settled_found there tag e old.entries w.found)
+
+pub fewer_left : (old new : ArrayState) (there : Bool) (tag : ℕ) (e : Entry) → Writes there old new tag e →
+    (pages_left tag new < pages_left tag old) × (0 < pages_left tag new)
+fewer_left old new there tag e w =
+    let now : pages_left tag new ≡ length e.writes - (e.done + 1) = ap left_of (wrote_found old new there tag e w) in
     let before : pages_left tag old ≡ length e.writes - e.done = ap left_of w.found in
-    let more = w.more in omega (arith, now, before, more)
+    let more = w.more in (omega (arith, now, before, more), omega (arith, now, more))
 
 -- nothing is in doubt
 sure_mark : (there : Bool) (m : Mark) → is_doubted (settled_mark there m) ≡ false
@@ -136,7 +133,7 @@ found_in_step : (tag : ℕ) (x e : Entry) (es : List Entry) (b : Bool) → (entr
 found_in_step tag x e es true rest h = inl cc
 found_in_step tag x e es false rest h = inr (rest h)
 
-found_is_in : (tag : ℕ) (es : List Entry) (e : Entry) → entry_of tag es ≡ Some e → IsIn es e
+pub found_is_in : (tag : ℕ) (es : List Entry) (e : Entry) → entry_of tag es ≡ Some e → IsIn es e
 found_is_in tag [] e h = cc
 found_is_in tag (x ∷ es) e h = found_in_step tag x e es (has_tag tag x) (found_is_in tag es e) h
 
@@ -238,4 +235,14 @@ wrote_serves state old mid new own tag done all r first rest =
 pub step_fewer : {F : Type 0} (state : F → FlashState) (old new : Standing F) (own tag done all : ℕ) → ServesHere state (command.Step tag) old new (reply.Wrote own done all) →
     pages_left tag new.machine < pages_left tag old.machine
 step_fewer state old new own tag done all h =
-    let w = step_writes old.machine new.machine own tag done all h.does.0 h.does.1 h.does.2 in fewer_left old.machine new.machine w.0 tag w.1 w.2
+    let w = step_writes old.machine new.machine own tag done all h.does.0 h.does.1 h.does.2 in (fewer_left old.machine new.machine w.0 tag w.1 w.2).0
+
+-- So there are no more steps than pages left, and at least one.
+pub steps_left : (old : ArrayState) (mids : List ArrayState) (new : ArrayState) (tag : ℕ) (result : Result Progress StepError) → Finishes old mids new tag result →
+    length mids + 1 ≤ max 1 (pages_left tag old)
+steps_left old [] new tag result h = omega arith
+steps_left old (mid ∷ mids) new tag result h =
+    let rest : length mids + 1 ≤ max 1 (pages_left tag mid) = steps_left mid mids new tag result h.3 in
+    let w = found_writes (entry_of tag old.entries) h.2.0 old mid tag h.0 h.1 (Ok (progress.Wrote h.0 h.1)) refl refl h.2.1 in
+    let less = fewer_left old mid h.2.0 tag w.0 w.1 in
+    omega (arith, rest, less.0, less.1)

@@ -15,3 +15,7 @@ pub mod Runs
 pub mod Progress
 pub mod Begun
 pub mod Quiet
+pub mod Taking
+pub mod Apart
+pub mod Changes
+pub mod Atomic

@@ -16,7 +16,7 @@ use Rattle.host_protocol.specs.declared.reply.Reply.TheVariants as reply
 use Rattle.cut_replay.specs.Run.{Run, Serves, Does, NotDone, IsCut, is_arm, is_break, seen_after, step_reply}
 use Rattle.cut_replay.specs.FlashRun.{Point, FlashRun, ServesFlash, IsDone, MovesBy, is_fault, last_state}
 use Rattle.cut_replay.specs.Bounds.{AreFew, is_cut, arms_cut, arms_fault}
-use Rattle.cut_replay.specs.Unbroken.{UnbrokenRun, FinishesAreDone, state_after, unspent}
+use Rattle.cut_replay.specs.Unbroken.{UnbrokenRun, FinishesAreDone, state_after}
 
 -- a command on a flash is one on the array machine
 match_weaker : (b : Bool) (P P' Q Q' : Type 0) → (P → P') → (Q → Q') → MatchBool b P Q → MatchBool b P' Q'
@@ -98,9 +98,11 @@ finish_done : (tag : ℕ) (o : Option Entry) (r : Reply) → r ≡ step_reply ta
 finish_done tag None r h some = cc
 finish_done tag (Some e) r h some = h
 
-pub finishes_done : (limits : Limits) (old : ArrayState) (cs : List Command) (rs : List Reply) (new : ArrayState) → UnbrokenRun limits old cs rs new → FinishesAreDone limits old cs rs
-finishes_done limits old [] rs new run = tt
-finishes_done limits old (c ∷ cs) [] new run = tt
-finishes_done limits old (command.Finish tag ∷ cs) (r ∷ rs) new run =
-    (finish_done tag (entry_of tag old.entries) r run.0, finishes_done limits (state_after limits unspent (command.Finish tag) old) cs rs new run.1)
-finishes_done limits old (c ∷ cs) (r ∷ rs) new run = (tt, finishes_done limits (state_after limits unspent c old) cs rs new run.1)
+pub finishes_done : (limits : Limits) (spents : List (ℕ → Bool)) (old : ArrayState) (cs : List Command) (rs : List Reply) (new : ArrayState) →
+    UnbrokenRun limits spents old cs rs new → FinishesAreDone limits spents old cs rs
+finishes_done limits [] old cs rs new run = tt
+finishes_done limits (spent ∷ spents) old [] rs new run = tt
+finishes_done limits (spent ∷ spents) old (c ∷ cs) [] new run = tt
+finishes_done limits (spent ∷ spents) old (command.Finish tag ∷ cs) (r ∷ rs) new run =
+    (finish_done tag (entry_of tag old.entries) r run.0, finishes_done limits spents (state_after limits spent (command.Finish tag) old) cs rs new run.1)
+finishes_done limits (spent ∷ spents) old (c ∷ cs) (r ∷ rs) new run = (tt, finishes_done limits spents (state_after limits spent c old) cs rs new run.1)

@@ -3,13 +3,13 @@ use Rattle.std.proofs.Common.{◌≡◌, ◌≢◌, ◌⊎◌, ℕ, ◌+◌, ◌
 use Rattle.std.specs.Prelude.{All, nat_lt, count_by}
 use Rattle.std.proofs.lemmas.Bool.{cases_Bool}
 use Rattle.std.proofs.lemmas.Bool.Decides.{nat_tests}
-use Rattle.std.proofs.lemmas.List.Elements.{All-push, All-head, All-tail}
+use Rattle.std.proofs.lemmas.List.Elements.{All-nil, All-cons, All-push, All-head, All-tail}
 use Rattle.std.proofs.lemmas.List.Sums.{sum_by-cons}
 use Rattle.tx_types.specs.Batch.{PageWrite}
-use Rattle.tx_engine.specs.ArrayState.{ArrayState, Entry, entry_of, page_at, opening}
+use Rattle.tx_engine.specs.ArrayState.{ArrayState, entry_of, page_at, opening}
 use Rattle.tx_engine.specs.Read.{ReadsPage}
 use Rattle.tx_engine.specs.Collect.{Collects}
-use Rattle.tx_engine.specs.Submit.{Limits, is_of, answer, opened, refusal, spent_page, or_else, first_refusals}
+use Rattle.tx_engine.specs.Submit.{Limits, is_of, opened, refusal}
 use Rattle.tx_engine.specs.Unbroken.{AllPlain, finish_answer, finished}
 use Rattle.tx_engine.proofs.Unbroken.{IsPlain, settled_same, step_fine, abort_fine, last_finishes, wrote_finishes}
 use Rattle.tx_engine.specs.declared.read.ReadAnswer.{ReadAnswer}
@@ -30,10 +30,10 @@ use Rattle.host_protocol.specs.declared.command.Command.TheVariants as command
 use Rattle.host_protocol.specs.declared.reply.Reply.{Reply}
 use Rattle.host_protocol.specs.declared.reply.Reply.TheVariants as reply
 use Rattle.cut_replay.specs.Run.{Run, RunState, Serves, Does, Finishes, NotDone, IsCut, MayBeSpent, seen_after, is_break, is_opened, writes_in, read_reply, submit_reply, step_reply, abort_reply, collect_reply}
-use Rattle.cut_replay.specs.Unbroken.{IsReply, page_reply, state_after, unspent, UnbrokenRun, writes_of, VersionsSuffice}
+use Rattle.cut_replay.specs.Unbroken.{IsReply, page_reply, state_after, UnbrokenRun, AreMaybeSpent, writes_of, VersionsSuffice}
 
 -- a reply that is no break
-unlike : (r q : Reply) → is_break r ≡ false → r ≡ q → is_break q ≡ true → ⊥
+pub unlike : (r q : Reply) → is_break r ≡ false → r ≡ q → is_break q ≡ true → ⊥
 unlike r q h e b = let same = ap is_break e in cc
 
 -- Reading
@@ -144,45 +144,26 @@ command_fine limits spent (command.Cut count what) old r new plain h b = let sam
 command_fine limits spent (command.Fault count what) old r new plain h b = let same = armed_fine old new plain h.1 in (h.0, same.0, same.1)
 command_fine limits spent (command.BadRead count) old r new plain h b = let same = armed_fine old new plain h.1 in (h.0, same.0, same.1)
 
--- A run in which no page is spent
-none_spent : (spent : ℕ → Bool) → ((page : ℕ) → spent page ≡ false) → (ws : List PageWrite) → spent_page spent ws ≡ spent_page unspent ws
-none_spent spent none [] = refl
-none_spent spent none (w ∷ ws) = let not = none w.page in rw not (none_spent spent none ws)
+-- A run
+pub run_fine : (limits : Limits) (seen : ℕ → ℕ) (old : RunState) (cs : List Command) (rs : List Reply) (new : RunState) →
+    AllPlain old.machine → Run limits seen old cs rs new → All (λ r. is_break r ≡ false) rs →
+    (spents : List (ℕ → Bool)) × AreMaybeSpent seen cs rs spents × UnbrokenRun limits spents old.machine cs rs new.machine × AllPlain new.machine
+run_fine limits seen old [] [] new plain run whole =
+    ([], tt, ap (λ s. s.machine) run, subst (λ (s : RunState). AllPlain s.machine) (sym run) plain)
+run_fine limits seen old [] (r ∷ rs) new plain run whole = absurd run
+run_fine limits seen old (c ∷ cs) [] new plain run whole = absurd run
+run_fine limits seen old (c ∷ cs) (r ∷ rs) new plain run whole =
+    let mid = run.0 in
+    let spent = run.1 in
+    let first = command_fine limits spent c old r mid plain run.3 (All-head (λ r. is_break r ≡ false) r rs whole) in
+    let rest = run_fine limits (seen_after seen c r) mid cs rs new first.2 run.4 (All-tail (λ r. is_break r ≡ false) r rs whole) in (
+      spent ∷ rest.0,
+      (run.2, rest.1),
+      (first.0, subst (λ (s : ArrayState). UnbrokenRun limits rest.0 s cs rs new.machine) first.1 rest.2),
+      rest.3,
+    )
 
-same_refusal : (limits : Limits) (spent : ℕ → Bool) → ((page : ℕ) → spent page ≡ false) → (es : List Entry) (tag : ℕ) (ws : List PageWrite) →
-    refusal limits spent es tag ws ≡ refusal limits unspent es tag ws
-same_refusal limits spent none es tag ws =
-    ap (or_else (first_refusals limits es tag ws)) (none_spent spent none ws)
-
-reply_unspent : (limits : Limits) (spent : ℕ → Bool) → ((page : ℕ) → spent page ≡ false) → (c : Command) (s : ArrayState) (r : Reply) →
-    IsReply limits spent c s r → IsReply limits unspent c s r
-reply_unspent limits spent none (command.Write tag batch) s r h =
-    h ∙ ap (λ o. submit_reply tag (length batch.entries) (answer o)) (same_refusal limits spent none s.entries tag batch.entries)
-reply_unspent limits spent none (command.Read page) s r h = h
-reply_unspent limits spent none (command.Step tag) s r h = h
-reply_unspent limits spent none (command.Finish tag) s r h = h
-reply_unspent limits spent none (command.Abort tag) s r h = h
-reply_unspent limits spent none command.Collect s r h = h
-reply_unspent limits spent none command.Stats s r h = h
-reply_unspent limits spent none command.Explain s r h = h
-reply_unspent limits spent none (command.Cut count what) s r h = h
-reply_unspent limits spent none (command.Fault count what) s r h = h
-reply_unspent limits spent none (command.BadRead count) s r h = h
-
-state_unspent : (limits : Limits) (spent : ℕ → Bool) → ((page : ℕ) → spent page ≡ false) → (c : Command) (s : ArrayState) →
-    state_after limits spent c s ≡ state_after limits unspent c s
-state_unspent limits spent none (command.Write tag batch) s = ap (λ o. opened o tag batch.entries s) (same_refusal limits spent none s.entries tag batch.entries)
-state_unspent limits spent none (command.Read page) s = refl
-state_unspent limits spent none (command.Step tag) s = refl
-state_unspent limits spent none (command.Finish tag) s = refl
-state_unspent limits spent none (command.Abort tag) s = refl
-state_unspent limits spent none command.Collect s = refl
-state_unspent limits spent none command.Stats s = refl
-state_unspent limits spent none command.Explain s = refl
-state_unspent limits spent none (command.Cut count what) s = refl
-state_unspent limits spent none (command.Fault count what) s = refl
-state_unspent limits spent none (command.BadRead count) s = refl
-
+-- Pages that do not come to their last version are not spent.
 seen_step : (b : Bool) (n k : ℕ) → cond b (n + k) n ≤ n + k
 seen_step true n k = omega arith
 seen_step false n k = omega arith
@@ -193,23 +174,19 @@ not_yet spent seen page rest may low = elim (cases_Bool (spent page)) [
   | inr not ↦ not
 ]
 
-pub run_fine : (limits : Limits) (seen : ℕ → ℕ) (old : RunState) (cs : List Command) (rs : List Reply) (new : RunState) →
-    AllPlain old.machine → VersionsSuffice seen cs → Run limits seen old cs rs new → All (λ r. is_break r ≡ false) rs →
-    UnbrokenRun limits old.machine cs rs new.machine × AllPlain new.machine
-run_fine limits seen old [] [] new plain low run whole = (ap (λ s. s.machine) run, subst (λ (s : RunState). AllPlain s.machine) (sym run) plain)
-run_fine limits seen old [] (r ∷ rs) new plain low run whole = absurd run
-run_fine limits seen old (c ∷ cs) [] new plain low run whole = absurd run
-run_fine limits seen old (c ∷ cs) (r ∷ rs) new plain low run whole =
-    let mid = run.0 in
-    let spent = run.1 in
-    let none : (page : ℕ) → spent page ≡ false = λ page. not_yet spent seen page (writes_of page (c ∷ cs)) run.2 (low page) in
-    let first = command_fine limits spent c old r mid plain run.3 (All-head (λ r. is_break r ≡ false) r rs whole) in
+pub none_spent : (seen : ℕ → ℕ) (cs : List Command) (rs : List Reply) (spents : List (ℕ → Bool)) →
+    VersionsSuffice seen cs → AreMaybeSpent seen cs rs spents → All (λ spent. (page : ℕ) → spent page ≡ false) spents
+none_spent seen [] [] [] low may = All-nil (λ spent. (page : ℕ) → spent page ≡ false)
+none_spent seen [] [] (spent ∷ spents) low may = absurd may
+none_spent seen [] (r ∷ rs) spents low may = absurd may
+none_spent seen (c ∷ cs) [] spents low may = absurd may
+none_spent seen (c ∷ cs) (r ∷ rs) [] low may = absurd may
+none_spent seen (c ∷ cs) (r ∷ rs) (spent ∷ spents) low may =
     let lower : VersionsSuffice (seen_after seen c r) cs = λ page.
     (
     let most : seen_after seen c r page ≤ seen page + count_by (is_of page) (writes_in c) = seen_step (is_opened r) (seen page) (count_by (is_of page) (writes_in c)) in
     let split : writes_of page (c ∷ cs) ≡ count_by (is_of page) (writes_in c) + writes_of page cs = sum_by-cons (λ c. count_by (is_of page) (writes_in c)) c cs in
     let all = low page in
     omega arith) in
-    let rest = run_fine limits (seen_after seen c r) mid cs rs new first.2 lower run.4 (All-tail (λ r. is_break r ≡ false) r rs whole) in
-    let at = first.1 ∙ state_unspent limits spent none c old.machine in
-    ((reply_unspent limits spent none c old.machine r first.0, subst (λ (s : ArrayState). UnbrokenRun limits s cs rs new.machine) at rest.0), rest.1)
+    All-cons (λ spent. (page : ℕ) → spent page ≡ false) spent spents (λ page. not_yet spent seen page (writes_of page (c ∷ cs)) may.0 (low page))
+    (none_spent (seen_after seen c r) cs rs spents lower may.1)

@@ -1,12 +1,13 @@
 -- What a list of commands does on the array machine, and the replies that it may give.
-use Rattle.std.specs.Prelude.{◌≡◌, ◌⊎◌, ℕ, ◌+◌, ◌^◌, ◌≤◌, Bool, true, false, List, [], ◌∷◌, length, count_by, IsSome, Result, Ok, Err, MatchBool, if◌then◌else◌}
+use Rattle.std.specs.Prelude.{◌≡◌, ◌≢◌, ◌⊎◌, ℕ, ◌+◌, ◌-◌, ◌^◌, ◌<◌, ◌≤◌, Bool, true, false, List, [], ◌∷◌, length, count_by, All, AllPairs, Option, None, Some, IsSome, Result, Ok, Err, MatchBool, if◌then◌else◌}
 use Rattle.tx_types.specs.Batch.{PageWrite}
 use Rattle.tx_types.specs.declared.stats.Stats.{Stats}
-use Rattle.tx_engine.specs.ArrayState.{ArrayState, Entry, Pages, page_at}
+use Rattle.tx_engine.specs.ArrayState.{ArrayState, Entry, Pages, entry_of, page_at}
 use Rattle.tx_engine.specs.Collect.{Collects, TellsStats}
 use Rattle.tx_engine.specs.Read.{ReadsPage}
 use Rattle.tx_engine.specs.Submit.{Limits, Submits, is_of}
 use Rattle.tx_engine.specs.Step.{Steps, Aborts, IsAtLast, CutLeaves}
+use Rattle.tx_engine.specs.declared.mark.Mark.TheVariants.{Whole}
 use Rattle.tx_engine.specs.declared.read.ReadAnswer.{ReadAnswer}
 use Rattle.tx_engine.specs.declared.read.ReadAnswer.TheVariants as answer
 use Rattle.tx_engine.specs.declared.read.ReadError.{ReadError}
@@ -66,6 +67,14 @@ Finishes old [] new tag (Ok progress.Done) = Steps old new tag (Ok progress.Done
 Finishes old [] new tag (Err e) = Steps old new tag (Err e)
 Finishes old (mid ∷ mids) new tag result =
     (done : ℕ) × (all : ℕ) × Steps old mid tag (Ok (progress.Wrote done all)) × Finishes mid mids new tag result
+
+-- how many pages the transaction with a tag has still to write
+abbrev pub left_of : Option Entry → ℕ
+left_of None = 0
+left_of (Some e) = length e.writes - e.done
+
+abbrev pub pages_left : ℕ → ArrayState → ℕ
+pages_left tag s = left_of (entry_of tag s.entries)
 
 -- a page has no version left only where it may have been mentioned at the last one
 abbrev pub MayBeSpent : (ℕ → ℕ) → (ℕ → Bool) → Type 0
@@ -156,6 +165,40 @@ is_opened _ = false
 abbrev pub writes_in : Command → List PageWrite
 writes_in (command.Write tag batch) = batch.entries
 writes_in _ = []
+
+-- none of these writes is of this page
+abbrev pub Avoid : ℕ → List PageWrite → Type 0
+Avoid page writes = All (λ w. w.page ≢ page) writes
+
+-- none of these transactions writes this page
+abbrev pub AllAvoid : ℕ → List Entry → Type 0
+AllAvoid page entries = All (λ e. Avoid page e.writes) entries
+
+-- no page is written by both of these transactions
+abbrev pub ShareNoPage : Entry → Entry → Type 0
+ShareNoPage a b = All (λ w. Avoid w.page b.writes) a.writes
+
+-- the array has all that a transaction writes
+abbrev pub HasWhole : Pages → Entry → Type 0
+HasWhole pages e = All (λ w. page_at pages w.page ≡ Some w.bytes) e.writes
+
+-- an array has at each page of a transaction what another one has
+abbrev pub HasSame : Pages → Pages → Entry → Type 0
+HasSame old new e = All (λ w. page_at new w.page ≡ page_at old w.page) e.writes
+
+-- The open transactions write no page twice, and only pages of the array, which has all that a whole one writes.
+pub record IsConsistent (s : ArrayState) : Type 0 where
+  pub distinct : All (λ e. AllPairs (λ v w. v.page ≢ w.page) e.writes) s.entries
+  pub apart : AllPairs ShareNoPage s.entries
+  pub within : All (λ e. All (λ w. w.page < length s.pages) e.writes) s.entries
+  pub whole : All (λ e. e.mark ≡ Whole → HasWhole s.pages e) s.entries
+
+-- the reply acknowledges the transaction with this tag
+abbrev pub Acknowledges : Command → Reply → ℕ → Type 0
+Acknowledges (command.Step own) r tag = (own ≡ tag) × (r ≡ reply.Done tag)
+Acknowledges (command.Finish own) r tag = (own ≡ tag) × (r ≡ reply.Done tag)
+Acknowledges (command.Abort own) r tag = (own ≡ tag) × (r ≡ reply.Late tag)
+Acknowledges _ r tag = ⊥
 
 -- the pages of a write that was opened may be mentioned once more
 abbrev pub seen_after : (ℕ → ℕ) → Command → Reply → ℕ → ℕ

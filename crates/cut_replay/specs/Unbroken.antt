@@ -1,5 +1,6 @@
--- A run in which power is not cut and nothing fails: its replies and its states are functions of the commands.
-use Rattle.std.specs.Prelude.{◌≡◌, ◌⊎◌, ℕ, ◌+◌, ◌<◌, ◌^◌, Bool, false, List, [], ◌∷◌, length, count_by, sum_by, nat_lt, Option, None, Some, IsSome, if◌then◌else◌}
+-- A run in which power is not cut and nothing fails: its replies and its states are functions of the commands and of the pages
+-- that are spent at each.
+use Rattle.std.specs.Prelude.{◌≡◌, ◌⊎◌, ℕ, ◌+◌, ◌<◌, ◌^◌, Bool, List, [], ◌∷◌, length, count_by, sum_by, nat_lt, Option, None, Some, IsSome, if◌then◌else◌}
 use Rattle.tx_types.specs.declared.stats.Stats.{Stats}
 use Rattle.tx_engine.specs.ArrayState.{ArrayState, entry_of, page_at}
 use Rattle.tx_engine.specs.Collect.{TellsStats}
@@ -9,7 +10,7 @@ use Rattle.host_protocol.specs.declared.command.Command.{Command}
 use Rattle.host_protocol.specs.declared.command.Command.TheVariants as command
 use Rattle.host_protocol.specs.declared.reply.Reply.{Reply}
 use Rattle.host_protocol.specs.declared.reply.Reply.TheVariants as reply
-use Rattle.cut_replay.specs.Run.{TellsReport, submit_reply, step_reply, abort_reply, writes_in}
+use Rattle.cut_replay.specs.Run.{MayBeSpent, TellsReport, submit_reply, step_reply, abort_reply, seen_after, writes_in}
 
 -- the reply to a read of a page with these contents
 abbrev pub page_reply : ℕ → Option (List ℕ) → Reply
@@ -41,17 +42,18 @@ state_after limits spent (command.Finish tag) s = finished (entry_of tag s.entri
 state_after limits spent (command.Abort tag) s = aborted_from (entry_of tag s.entries) tag s
 state_after limits spent _ s = s
 
--- no page is spent
-abbrev pub unspent : ℕ → Bool
-unspent page = false
+-- the commands on this state, with the pages that are spent at each and their replies, leave that state
+abbrev pub UnbrokenRun : Limits → List (ℕ → Bool) → ArrayState → List Command → List Reply → ArrayState → Type 0
+UnbrokenRun limits [] old [] [] new = new ≡ old
+UnbrokenRun limits (spent ∷ spents) old (c ∷ cs) (r ∷ rs) new =
+    IsReply limits spent c old r × UnbrokenRun limits spents (state_after limits spent c old) cs rs new
+UnbrokenRun limits _ old _ _ new = ⊥
 
--- the commands on this state, with their replies, leave that state
-abbrev pub UnbrokenRun : Limits → ArrayState → List Command → List Reply → ArrayState → Type 0
-UnbrokenRun limits old [] [] new = new ≡ old
-UnbrokenRun limits old (c ∷ cs) (r ∷ rs) new =
-    IsReply limits unspent c old r × UnbrokenRun limits (state_after limits unspent c old) cs rs new
-UnbrokenRun limits old [] (r ∷ rs) new = ⊥
-UnbrokenRun limits old (c ∷ cs) [] new = ⊥
+-- each of these may be the pages that are spent at its command, where `seen` is at least the greatest mention of each page
+abbrev pub AreMaybeSpent : (ℕ → ℕ) → List Command → List Reply → List (ℕ → Bool) → Type 0
+AreMaybeSpent seen [] [] [] = Unit {0}
+AreMaybeSpent seen (c ∷ cs) (r ∷ rs) (spent ∷ spents) = MayBeSpent seen spent × AreMaybeSpent (seen_after seen c r) cs rs spents
+AreMaybeSpent seen _ _ _ = ⊥
 
 -- in how many entries of the writes among these commands a page stands
 abbrev pub writes_of : ℕ → List Command → ℕ
@@ -67,6 +69,7 @@ FinishIsDone (command.Finish tag) s r = IsSome (entry_of tag s.entries) → r �
 FinishIsDone _ s r = Unit {0}
 
 -- each finish among the commands on this state does
-abbrev pub FinishesAreDone : Limits → ArrayState → List Command → List Reply → Type 0
-FinishesAreDone limits s (c ∷ cs) (r ∷ rs) = FinishIsDone c s r × FinishesAreDone limits (state_after limits unspent c s) cs rs
-FinishesAreDone limits s _ _ = Unit {0}
+abbrev pub FinishesAreDone : Limits → List (ℕ → Bool) → ArrayState → List Command → List Reply → Type 0
+FinishesAreDone limits (spent ∷ spents) s (c ∷ cs) (r ∷ rs) =
+    FinishIsDone c s r × FinishesAreDone limits spents (state_after limits spent c s) cs rs
+FinishesAreDone limits _ s _ _ = Unit {0}

@@ -1,58 +1,96 @@
--- A run on a flash is a run of the array machine; where nothing is armed, it is one in which nothing fails.
-use Rattle.std.proofs.Common.{◌≡◌, inl, inr, ℕ, Bool, true, false, List, [], ◌∷◌, refl, ap}
-use Rattle.std.specs.Prelude.{All, MatchBool, ◌||◌}
-use Rattle.std.proofs.lemmas.List.Elements.{All-nil}
+-- Runs in which nothing is armed, and the images with which runs end.
+use Rattle.std.proofs.Common.{◌≡◌, inl, inr, ℕ, Bool, ◌||◌, List, [], ◌∷◌, false, refl, sym, ap, subst}
+use Rattle.std.specs.Prelude.{All}
+use Rattle.std.proofs.lemmas.List.Elements.{All-nil, All-contains}
 use Rattle.tx_types.specs.declared.config.Config.{Config}
+use Rattle.tx_types.specs.Config.{shape_of}
+use Rattle.flash_model.specs.Flash.{Contents}
 use Rattle.flash_model.specs.Operations.{Moment}
-use Rattle.version_index.specs.Images.{array_in}
-use Rattle.tx_engine.specs.ArrayState.{Entry, idle}
+use Rattle.version_index.specs.Images.{IsSoundImage, array_in}
+use Rattle.tx_engine.specs.ArrayState.{ArrayState, Entry, Pages, idle}
 use Rattle.tx_engine.specs.declared.mark.Mark.TheVariants.{Plain}
+use Rattle.tx_engine.specs.Exits.{StandsFor}
 use Rattle.tx_engine.specs.Standing.{limits_of}
+use Rattle.tx_engine.specs.Unbroken.{AllPlain}
 use Rattle.host_protocol.specs.declared.command.Command.{Command}
 use Rattle.host_protocol.specs.declared.reply.Reply.{Reply}
 use Rattle.cut_replay.specs.Bounds.{AreFew}
-use Rattle.cut_replay.specs.FlashRun.{Point, FlashRun, IsFlashRun, ServesFlash, is_fault, mentions_in, opening_point}
-use Rattle.cut_replay.specs.Run.{Run, Serves, is_arm, seen_after}
-use Rattle.cut_replay.specs.Unbroken.{UnbrokenRun, VersionsSuffice}
+use Rattle.cut_replay.specs.FlashRun.{Point, FlashRun, IsFlashRun, IsPoint, is_fault, mentions_in, last_moment, last_state, opening_point, opening_state}
+use Rattle.cut_replay.specs.Run.{is_arm, seen_after}
+use Rattle.cut_replay.specs.Unbroken.{UnbrokenRun, AreMaybeSpent, FinishesAreDone}
+use Rattle.cut_replay.proofs.Quiet.{flash_run_is_run, none_broken, finishes_done}
 use Rattle.cut_replay.proofs.Unbroken.{run_fine}
-use Rattle.txflash.specs.Runs.{last_state}
-use Rattle.txflash.proofs.Unarmed.{unarmed}
+use Rattle.txflash.specs.Runs.{IsRun, first_moment, machine_left}
 
-either : (b : Bool) (P Q R S : Type 0) → (P → R) → (Q → S) → MatchBool b P Q → MatchBool b R S
-either true P Q R S f g h = f h
-either false P Q R S f g h = g h
+-- ---- runs in which nothing is armed
 
-serves : (its : Config) (spent : ℕ → Bool) (faulted : Bool) (c : Command) (old : Point) (r : Reply) (new : Point) →
-    ServesFlash its spent faulted c old r new → Serves (limits_of its) spent c old.state r new.state
-serves its spent faulted c old r new =
-    either (is_arm c) _ _ _ _ (λ h. (h.0, ap (λ (p : Point). p.state) h.1))
-    (λ h. elim h [
-      | inl not_done ↦ inl not_done.0
-      | inr other ↦ elim other [ inl done ↦ inr (inl (done.does, done.up)) | inr cut ↦ inr (inr cut.0) ]
-    ])
+abbrev opening_in : Config → Moment → ArrayState
+opening_in its from = idle (array_in its.protocol its.logical from.image)
 
-array_run : (its : Config) (seen : ℕ → ℕ) (faulted : Bool) (old : Point) (cs : List Command) (rs : List Reply) (ps : List Point) →
-    FlashRun its seen faulted old cs rs ps → Run (limits_of its) seen old.state cs rs (last_state old.state ps)
-array_run its seen faulted old [] [] [] h = refl
-array_run its seen faulted old [] [] (p ∷ ps) h = absurd h
-array_run its seen faulted old [] (r ∷ rs) ps h = absurd h
-array_run its seen faulted old (c ∷ cs) [] ps h = absurd h
-array_run its seen faulted old (c ∷ cs) (r ∷ rs) [] h = absurd h
-array_run its seen faulted old (c ∷ cs) (r ∷ rs) (p ∷ ps) h = (
-  p.state,
-  h.0.0,
-  h.0.1,
-  serves its h.0.0 faulted c old r p h.0.2,
-  array_run its (seen_after seen c r) (faulted || is_fault r) p cs rs ps h.2,
-)
+-- a run of the array machine in which nothing fails, at whose end nothing is in doubt
+unbroken : (its : Config) (from : Moment) (cs : List Command) (rs : List Reply) (ps : List Point) (run : IsFlashRun its from cs rs ps) →
+    AreFew 0 0 cs rs → All (λ c. is_arm c ≡ false) cs →
+    (spents : List (ℕ → Bool)) × AreMaybeSpent (mentions_in its from) cs rs spents
+    × UnbrokenRun (limits_of its) spents (opening_in its from) cs rs (last_state (opening_state its run.up from) ps).machine
+    × AllPlain (last_state (opening_state its run.up from) ps).machine
+unbroken its from cs rs ps run few none =
+    run_fine (limits_of its) (mentions_in its from) (opening_state its run.up from) cs rs (last_state (opening_state its run.up from) ps)
+    (All-nil (λ (e : Entry). e.mark ≡ Plain))
+    (flash_run_is_run its (mentions_in its from) false (opening_point its run.up from) cs rs ps run.runs) (none_broken cs rs none few)
 
--- the replies to commands that arm nothing are those of the array machine in which nothing fails
-pub unarmed_array : (its : Config) (from : Moment) (cs : List Command) (rs : List Reply) (ps : List Point) (h : IsFlashRun its from cs rs ps) →
-    AreFew 0 0 cs rs → All (λ c. is_arm c ≡ false) cs → VersionsSuffice (mentions_in its from) cs →
-    UnbrokenRun (limits_of its) (idle (array_in its.protocol its.logical from.image)) cs rs
-    (last_state (opening_point its h.up from).state ps).machine
-unarmed_array its from cs rs ps h few none suffice =
-    (run_fine (limits_of its) (mentions_in its from) (opening_point its h.up from).state cs rs
-    (last_state (opening_point its h.up from).state ps)
-    (All-nil (λ (e : Entry). e.mark ≡ Plain)) suffice
-    (array_run its (mentions_in its from) false (opening_point its h.up from) cs rs ps h.runs) (unarmed cs rs few none)).0
+pub unarmed : (its : Config) (from : Moment) (cs : List Command) (rs : List Reply) (ps : List Point) (run : IsFlashRun its from cs rs ps) →
+    AreFew 0 0 cs rs → All (λ c. is_arm c ≡ false) cs →
+    (spents : List (ℕ → Bool)) × AreMaybeSpent (mentions_in its from) cs rs spents
+    × UnbrokenRun (limits_of its) spents (opening_in its from) cs rs (last_state (opening_state its run.up from) ps).machine
+    × FinishesAreDone (limits_of its) spents (opening_in its from) cs rs
+unarmed its from cs rs ps run few none =
+    let last = (last_state (opening_state its run.up from) ps).machine in
+    let is = unbroken its from cs rs ps run few none in
+    (is.0, is.1, is.2, finishes_done (limits_of its) is.0 (opening_in its from) cs rs last is.2)
+
+-- ---- where a run ends
+
+abbrev last_of : Point → List Point → Point
+last_of old ps = record { state = last_state old.state ps; moment = last_moment old.moment ps }
+
+last_stands : (its : Config) (seen : ℕ → ℕ) (faulted : Bool) (old : Point) (cs : List Command) (rs : List Reply) (ps : List Point) →
+    FlashRun its seen faulted old cs rs ps → IsPoint its old → IsPoint its (last_of old ps)
+last_stands its seen faulted old [] [] [] run is = record { sound = is.sound; array = is.array }
+last_stands its seen faulted old [] [] (p ∷ ps) run is = absurd run
+last_stands its seen faulted old [] (r ∷ rs) ps run is = absurd run
+last_stands its seen faulted old (c ∷ cs) [] ps run is = absurd run
+last_stands its seen faulted old (c ∷ cs) (r ∷ rs) [] run is = absurd run
+last_stands its seen faulted old (c ∷ cs) (r ∷ rs) (p ∷ ps) run is =
+    last_stands its (seen_after seen c r) (faulted || is_fault r) p cs rs ps run.2 run.1
+
+run_stands : (its : Config) (image left : List Contents) (cs : List Command) (text : List ℕ) (run : IsRun its image cs left text) →
+    IsPoint its (last_of (opening_point its run.run.up (first_moment image)) run.points)
+run_stands its image left cs text run =
+    last_stands its (mentions_in its (first_moment image)) false (opening_point its run.run.up (first_moment image)) cs run.replies run.points run.run.runs
+    (record { sound = run.sound; array = inl refl })
+
+pub left_sound : (its : Config) (image left : List Contents) (cs : List Command) (text : List ℕ) → IsRun its image cs left text →
+    IsSoundImage its.protocol its.logical (shape_of its) left
+left_sound its image left cs text run =
+    subst (λ i. IsSoundImage its.protocol its.logical (shape_of its) i) (sym run.last) (run_stands its image left cs text run).sound
+
+pub left_stands : (its : Config) (image left : List Contents) (cs : List Command) (text : List ℕ) (run : IsRun its image cs left text) →
+    StandsFor (machine_left run) (array_in its.protocol its.logical left)
+left_stands its image left cs text run =
+    subst (λ i. StandsFor (machine_left run) (array_in its.protocol its.logical i)) (sym run.last) (run_stands its image left cs text run).array
+
+-- where nothing is in doubt
+sure_array : (s : ArrayState) (pages : Pages) → AllPlain s → StandsFor s pages → pages ≡ s.pages
+sure_array s pages plain (inl same) = same
+sure_array s pages plain (inr (e, has, doubt, took)) = let is = All-contains (λ (e : Entry). e.mark ≡ Plain) s.entries e plain has in cc
+
+pub left_array : (its : Config) (image left : List Contents) (cs : List Command) (text : List ℕ) (run : IsRun its image cs left text) →
+    All (λ c. is_arm c ≡ false) cs → array_in its.protocol its.logical left ≡ (machine_left run).pages
+left_array its image left cs text run none =
+    sure_array (machine_left run) (array_in its.protocol its.logical left)
+    (unbroken its (first_moment image) cs run.replies run.points run.run run.few none).3 (left_stands its image left cs text run)
+
+pub begins_again : (its : Config) (image left last : List Contents) (cs ds : List Command) (text more : List ℕ) (run : IsRun its image cs left text) →
+    All (λ c. is_arm c ≡ false) cs → (next : IsRun its left ds last more) →
+    (opening_state its next.run.up (first_moment left)).machine ≡ idle (machine_left run).pages
+begins_again its image left last cs ds text more run none next = ap idle (left_array its image left cs text run none)

@@ -1,5 +1,4 @@
 pub mod RunLemmas
-pub mod Unarmed
 pub mod Sound
 pub mod Works
 pub mod Parts

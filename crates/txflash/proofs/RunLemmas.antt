@@ -1,7 +1,5 @@
 -- What serving gives, as a run from an image on.
 use Rattle.std.proofs.Common.{◌≡◌, ℕ, Bool, false, List, [], ◌∷◌, ◌++◌, length, take, None, Some, refl, sym, ap, ap₂, ◌∙◌, subst, arith}
-use Rattle.std.specs.Prelude.{◌||◌}
-use Rattle.std.proofs.Math.Seq.{take-length}
 use Rattle.tx_types.specs.declared.config.Config.{Config}
 use Rattle.tx_types.specs.Config.{shape_of}
 use Rattle.tx_types.specs.declared.config.Protocol.{Protocol}
@@ -13,27 +11,12 @@ use Rattle.version_index.specs.Images.{IsSoundImage, records_in}
 use Rattle.verdict_report.specs.Report.{report}
 use Rattle.host_protocol.specs.declared.command.Command.{Command}
 use Rattle.host_protocol.specs.declared.reply.Reply.{Reply}
-use Rattle.cut_replay.specs.FlashRun.{Point, FlashRun, IsFlashRun, is_fault, last_moment, opening_point, mentions_in}
-use Rattle.cut_replay.specs.Run.{seen_after}
+use Rattle.cut_replay.specs.FlashRun.{IsFlashRun, last_moment, opening_point, mentions_in}
 use Rattle.cut_replay.specs.Served.{ServesRun}
 use Rattle.cut_replay.specs.Watching.{text_of_all}
 use Rattle.cut_replay.specs.Bounds.{AreFew}
+use Rattle.cut_replay.proofs.Runs.{run_lengths, take_whole}
 use Rattle.txflash.specs.Runs.{IsRun, first_moment}
-
--- a run has a reply for each command
-run_length : (its : Config) (seen : ℕ → ℕ) (faulted : Bool) (old : Point) (cs : List Command) (rs : List Reply) (ps : List Point) →
-    FlashRun its seen faulted old cs rs ps → length rs ≡ length cs
-run_length its seen faulted old [] [] [] h = refl
-run_length its seen faulted old [] [] (p ∷ ps) h = absurd h
-run_length its seen faulted old [] (r ∷ rs) ps h = absurd h
-run_length its seen faulted old (c ∷ cs) [] ps h = absurd h
-run_length its seen faulted old (c ∷ cs) (r ∷ rs) [] h = absurd h
-run_length its seen faulted old (c ∷ cs) (r ∷ rs) (p ∷ ps) h =
-    let rest = run_length its (seen_after seen c r) (faulted || is_fault r) p cs rs ps h.2 in omega arith
-
--- so all its replies are those to so many commands
-all_replies : (rs : List Reply) (n : ℕ) → length rs ≡ n → take n rs ≡ rs
-all_replies rs n e = rw (← e) (take-length rs)
 
 -- a flash that was just loaded breaks only where it is armed
 pub is_steady : (its : Config) (flash : MemoryState) → flash ≡ fresh (shape_of its) flash.image → IsSteady (state_of flash)
@@ -56,7 +39,7 @@ pub is_run : (its : Config) (flash left : MemoryState) (cs : List Command) (befo
 is_run its flash left cs before after e none is_sound served =
     let start = starts its flash e in
     let told : after ≡ before ++ text_of_all (take (length cs) served.replies) = cc (served.text) in
-    let whole = all_replies served.replies (length cs) (run_length its (mentions_in its (moment_of (state_of flash))) false (opening_point its served.run.up (moment_of (state_of flash))) cs served.replies served.points served.run.runs) in
+    let whole = take_whole (length cs) served.replies (run_lengths its (mentions_in its (moment_of (state_of flash))) false (opening_point its served.run.up (moment_of (state_of flash))) cs served.replies served.points served.run.runs).0 in
     record {
       sound = is_sound;
       replies = served.replies;

@@ -1,15 +1,15 @@
 -- Serving commands on a device from an image on, on a flash that breaks only where the commands arm it.
-use Rattle.std.specs.Prelude.{◌≡◌, ℕ, List, [], ◌∷◌, replicate}
+use Rattle.std.specs.Prelude.{◌≡◌, ℕ, List, replicate}
 use Rattle.tx_types.specs.declared.config.Config.{Config}
 use Rattle.tx_types.specs.declared.config.Protocol.{Protocol}
 use Rattle.tx_types.specs.Config.{shape_of, slots_of}
 use Rattle.flash_model.specs.Flash.{Contents, blank}
 use Rattle.flash_model.specs.Operations.{Moment}
 use Rattle.version_index.specs.Images.{IsSoundImage}
+use Rattle.tx_engine.specs.ArrayState.{ArrayState}
 use Rattle.host_protocol.specs.declared.command.Command.{Command}
 use Rattle.host_protocol.specs.declared.reply.Reply.{Reply}
-use Rattle.cut_replay.specs.Run.{RunState}
-use Rattle.cut_replay.specs.FlashRun.{Point, IsFlashRun, last_moment}
+use Rattle.cut_replay.specs.FlashRun.{Point, IsFlashRun, last_moment, last_state, opening_state}
 use Rattle.cut_replay.specs.Watching.{text_of_all}
 use Rattle.cut_replay.specs.Bounds.{AreFew}
 
@@ -33,11 +33,6 @@ blank_image its = replicate (slots_of (shape_of its)) blank
 abbrev pub first_moment : List Contents → Moment
 first_moment its_image = record { image = its_image; programs = 0; erases = 0 }
 
--- the state of the array machine where a run ends
-abbrev pub last_state : RunState → List Point → RunState
-last_state from [] = from
-last_state from (p ∷ ps) = last_state p.state ps
-
 -- The image is sound, and there is a run on a flash over these commands, from it on, with nothing counted. The run ends
 -- with that image, and the text is that of its replies. Among the replies to the first so many commands there are at
 -- most as many cuts and faults as were armed among these.
@@ -49,3 +44,8 @@ pub record IsRun (its : Config) (image : List Contents) (commands : List Command
   pub last : left ≡ (last_moment (first_moment image) points).image
   pub said : text ≡ text_of_all replies
   pub few : AreFew 0 0 commands replies
+
+-- the state of the array machine with which a run ends
+abbrev pub machine_left : {its : Config} {image : List Contents} {commands : List Command} {left : List Contents} {text : List ℕ} →
+    IsRun its image commands left text → ArrayState
+machine_left {its = its} {image = image} run = (last_state (opening_state its run.run.up (first_moment image)) run.points).machine

@@ -2,7 +2,7 @@ use Rattle.host_protocol.specs.declared.command.Command.TheVariants.{Finish}
 use Rattle.host_protocol.specs.declared.reply.Reply.{Reply}
 use Rattle.tx_engine.specs.Standing.{Standing}
 use Rattle.cut_replay.specs.Mounted.{IsBacked, ServesHere}
-use Rattle.cut_replay.proofs.Finishes.{pages_left}
+use Rattle.cut_replay.specs.Run.{pages_left}
 use Rattle.cut_replay.proofs.finishing.finish.Given as goal
 
 -- what is done from here on is done from the beginning on

@@ -1,4 +1,4 @@
-use Rattle.cut_replay.proofs.Unbroken.{command_fine, run_fine}
+use Rattle.cut_replay.proofs.Unbroken.{command_fine, run_fine, none_spent}
 use Rattle.cut_replay.proofs.laws.unbroken_runs.Goals as goal
 
 pub returns-clause-command : goal.returns-clause-command
@@ -6,3 +6,6 @@ returns-clause-command c = command_fine
 
 pub returns-clause-run : goal.returns-clause-run
 returns-clause-run c = run_fine
+
+pub returns-clause-unspent : goal.returns-clause-unspent
+returns-clause-unspent c = none_spent
