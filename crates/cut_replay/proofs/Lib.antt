@@ -4,6 +4,7 @@ pub mod Devices
 pub mod Single
 pub mod Telling
 pub mod Caching
+pub mod Rereading
 pub mod Finishes
 pub mod Spending
 pub mod Mountings

@@ -1,6 +1,6 @@
 ghost use Rattle.std.specs.Prelude.{◌≡◌, false, length, IfOk, OnErr};
 ghost use Rattle.host_protocol.specs.Commands.{Suits};
-ghost use Rattle.cut_replay.specs.Mounted.{IsBacked, IsCached, IsStill, ServesHere};
+ghost use Rattle.cut_replay.specs.Mounted.{CachesCommand, IsBacked, IsCached, IsStill, ServesHere};
 ghost use Rattle.cut_replay.specs.Run.{is_arm};
 
 use crate::calls::{abort, collect, report, stats, step, write};
@@ -31,6 +31,7 @@ pub fn done<F: Flash, R: CommitRule>(
     requires backed { IsBacked F.state R.kept device.old }
     ensures ok { IfOk result (λ r. ServesHere F.state command.now device.old device.new r) }
     ensures err { OnErr result (IsStill (F.state device.old.flash) (F.state device.new.flash)) }
+    ensures caches { CachesCommand F.state command.now device.old device.new cache.old cache.new }
     ensures size { cache.new.page_bytes ≡ cache.old.page_bytes }
     ensures cached { IsCached device.new cache.new.entries }
     ensures backed { IsBacked F.state R.kept device.new }
