@@ -26,7 +26,7 @@ use Rattle.cut_replay.specs.Run.{IsCut, MayComplete, MayBeSpent, NotDone, is_arm
 use Rattle.cut_replay.specs.FlashRun.{Point, IsPoint, IsDone, MovesBy, ServesFlash, is_fault}
 use Rattle.cut_replay.specs.Bounds.{is_cut}
 use Rattle.cut_replay.specs.Mounted.{point_at, IsSeen, IsCached, IsBacked, ServesHere}
-use Rattle.cut_replay.specs.Sessions.{flash_in, point_of, IsSoundFlash, Fits, FitsMounted, StandsMounted, IsSpentBy, ServesIn, Serves, StaysRefused, Ends, Mounted, Unmounted, MountsAgain, Follows}
+use Rattle.cut_replay.specs.Sessions.{flash_in, point_of, IsSoundFlash, Fits, FitsMounted, StandsMounted, IsSpentBy, ServesIn, Serves, Ends, Mounted, Unmounted, MountsAgain, Follows}
 use Rattle.cut_replay.specs.declared.serving.ServeError.{ServeError}
 use Rattle.cut_replay.specs.declared.serving.ServeError.TheVariants as failed
 use Rattle.cut_replay.specs.declared.session.Session.{Session}
@@ -199,12 +199,17 @@ fits_after {F = F} {R = R} state its c s t r result before after w follows = eli
       subst (λ (x : CachedPages). FitsAfter F R state its x.entries result) (sym cut.1) (again_fits state its t.flash result (after_check state its c s t r before.entries w) t refl cut.0))
 ]
 
+-- the image is sound
+sound_here : {F : Type 0} (state : F → FlashState) (c : Command) (s t : Standing F) (r : Reply) (entries : List CachedPage) → WasDone state s.config c s t r entries → IsSoundFlash s.config (state t.flash)
+sound_here state c s t r entries w =
+    subst (λ (x : Config). IsSoundImage x.protocol x.logical (shape_of x) (state t.flash).image) w.here.config w.backed.sound
+
 -- the whole of what a command comes to that was done
 went_serves : {F R : Type 0} (state : F → FlashState) (c : Command) (s t : Standing F) (r : Reply) (entries : List CachedPage) → WasDone state s.config c s t r entries → (state t.flash).live ≡ true →
     Serves {R = R} state s.config c (session.Mounted s) r (session.Mounted t)
 went_serves state c s t r entries w on = record {
   in_run = λ seen faulted stands. done_in state s.config.protocol c s t r seen faulted w.no_arm w.here w.backed stands;
-  refused = tt;
+  kept = inl (sound_here state c s t r entries w);
   spends = live_spends c r (state s.flash) (state t.flash) w.here.whole w.on on w.here.carries;
   set = sets_none c w.no_arm (state t.flash).told;
 }
@@ -215,14 +220,11 @@ faulted_here : {F : Type 0} (state : F → FlashState) (its : Config) (c : Comma
 faulted_here state its c s t r entries w off =
     subst (λ (q : Reply). ServesHere state c s t q) (is_its_fault r (not_broken (state s.flash) (state t.flash) r w.on off w.here.carries)) w.here
 
-sound_here : {F : Type 0} (state : F → FlashState) (c : Command) (s t : Standing F) (r : Reply) (entries : List CachedPage) → WasDone state s.config c s t r entries → IsSoundFlash s.config (state t.flash)
-sound_here state c s t r entries w =
-    subst (λ (x : Config). IsSoundImage x.protocol x.logical (shape_of x) (state t.flash).image) w.here.config w.backed.sound
-
-cut_refused : {F R : Type 0} (state : F → FlashState) (its : Config) (s : Standing F) (flash : F) (after : Session F R) → IsSoundFlash its (state flash) → Leaves state its flash after →
-    StaysRefused state its (session.Mounted s) after
-cut_refused state its s flash (session.Mounted t) sound leaves = tt
-cut_refused state its s flash (session.Unmounted new) sound leaves = subst (λ (m : Moment). IsSoundImage its.protocol its.logical (shape_of its) m.image) (sym leaves.moment) sound
+-- and it is sound after it was mounted again, or was not
+sound_again : {F R : Type 0} (state : F → FlashState) (its : Config) (flash : F) (after : Session F R) → IsSoundFlash its (state flash) → Leaves state its flash after →
+    IsSoundFlash its (state (flash_in after))
+sound_again state its flash after sound leaves =
+    subst (λ (m : Moment). IsSoundImage its.protocol its.logical (shape_of its) m.image) (sym (mounted_still state its flash after leaves).moment) sound
 
 cut_serves : {F R : Type 0} (state : F → FlashState) (c : Command) (s t : Standing F) (r : Reply) (entries : List CachedPage) (after : Session F R) → WasDone state s.config c s t r entries →
     (state t.flash).live ≡ false → Leaves state s.config t.flash after → Serves state s.config c (session.Mounted s) reply.Cut after
@@ -230,7 +232,7 @@ cut_serves state c s t r entries after w off leaves =
     let here = faulted_here state s.config c s t r entries w off in
     record {
       in_run = λ seen faulted stands. cut_in state s.config.protocol c s t after seen faulted w.no_arm here w.backed stands leaves;
-      refused = cut_refused state s.config s t.flash after (sound_here state c s t r entries w) leaves;
+      kept = inl (sound_again state s.config t.flash after (sound_here state c s t r entries w) leaves);
       spends = cut_spends c (state s.flash) (state t.flash) (state (flash_in after)).told w.on off here.carries (mounted_still state s.config t.flash after leaves).told;
       set = sets_none c w.no_arm (state (flash_in after)).told;
     }
@@ -249,7 +251,7 @@ again_ends R state c s t r entries flash (failed.Unsound law slot) w off h =
 again_ends {F = F} R state c s t r entries flash failed.Memory w off h =
     let after : Session F R = session.Unmounted flash in
     let serves = cut_serves {R = R} state c s t r entries after w off h in
-    inr (serves.in_run, serves.spends)
+    record { cause = inr (serves.in_run, serves.spends); shape = h.shape ∙ w.here.carries.shape; kept = serves.kept }
 
 again_ends_all : {F R : Type 0} (state : F → FlashState) (c : Command) (s t : Standing F) (r : Reply) (entries : List CachedPage) (result : Sessions F R) → WasDone state s.config c s t r entries →
     (state t.flash).live ≡ false → MountsAgain state s.config t result → EndsAfter F R state s.config c s result

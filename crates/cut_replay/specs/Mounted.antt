@@ -1,6 +1,6 @@
 -- What a command does on a mounted device, before it is asked whether power was cut in it.
-use Rattle.std.specs.Prelude.{◌≡◌, ◌<◌, ◌≤◌, ℕ, ◌⊎◌, Bool, true, false, not, ◌&&◌, nat_lt, List, All, Result, Ok, Err, Some}
-use Rattle.std.specs.Prelude.{is_some, MatchBool, if◌then◌else◌}
+use Rattle.std.specs.Prelude.{◌≡◌, ◌<◌, ◌≤◌, ℕ, ◌⊎◌, Bool, true, false, not, ◌&&◌, nat_lt, List, All, Result, Ok, Err}
+use Rattle.std.specs.Prelude.{Some, is_some, MatchBool, if◌then◌else◌}
 use Rattle.tx_types.specs.declared.memory.Memory.{Memory}
 use Rattle.tx_types.specs.declared.config.Protocol.{Protocol}
 use Rattle.tx_types.specs.Config.{checked, shape_of}
@@ -47,7 +47,8 @@ pub record IsCachedAs {F : Type 0} (s : Standing F) (e : CachedPage) : Type 0 wh
 abbrev pub IsCached : {F : Type 0} → Standing F → List CachedPage → Type 0
 IsCached s entries = All (IsCachedAs s) entries
 
--- What holds of a device at every moment: of its flash, and of what a power cut leaves that was met in a call which led here.
+-- What holds of a device at every moment: of its flash, and of what a power cut leaves that was met in a call which led
+-- here.
 pub record IsBacked {F : Type 0} (state : F → FlashState) (protocol : Protocol) (s : Standing F) : Type 0 where
   pub rule : s.config.protocol ≡ protocol
   pub check : checked s.config ≡ Ok (state s.flash).shape
@@ -60,7 +61,8 @@ pub record IsBacked {F : Type 0} (state : F → FlashState) (protocol : Protocol
   pub mentions : MentionsAtMost s.noted s.namings (state s.flash).image
   pub beyond : (page : ℕ) → s.config.logical ≤ page → mention_of s.noted page ≡ 0
   pub step_cut : (old : ArrayState) (there : Bool) (tag : ℕ) → StepsAs there old s.machine tag (Err failed.Fault) →
-      CutLeaves (λ e. (e.tag ≡ tag) × IsAtLast e) old (idle (array_in s.config.protocol s.config.logical (state s.flash).image))
+      CutLeaves (λ e. (e.tag ≡ tag) × IsAtLast e) old
+      (idle (array_in s.config.protocol s.config.logical (state s.flash).image))
   pub same_cut : CutLeaves (λ e. ⊥) s.machine (idle (array_in s.config.protocol s.config.logical (state s.flash).image))
   pub settled_cut : (old : ArrayState) (there : Bool) → s.machine ≡ settled there old →
       CutLeaves (λ e. ⊥) old (idle (array_in s.config.protocol s.config.logical (state s.flash).image))
@@ -68,10 +70,12 @@ pub record IsBacked {F : Type 0} (state : F → FlashState) (protocol : Protocol
 -- what a power cut leaves, if the call met one
 pub record MayHaveCut {F : Type 0} (state : F → FlashState) (c : Command) (old new : Standing F) : Type 0 where
   pub may : MayBeCut old.machine.pages c
-  pub leaves : CutLeaves (MayComplete c) old.machine (idle (array_in new.config.protocol new.config.logical (state new.flash).image))
+  pub leaves : CutLeaves (MayComplete c) old.machine
+      (idle (array_in new.config.protocol new.config.logical (state new.flash).image))
 
 -- A command was done on a device, with this reply unless power was cut.
-pub record ServesHere {F : Type 0} (state : F → FlashState) (c : Command) (old new : Standing F) (r : Reply) : Type 0 where
+pub record ServesHere {F : Type 0}
+    (state : F → FlashState) (c : Command) (old new : Standing F) (r : Reply) : Type 0 where
   pub config : new.config ≡ old.config
   pub does : Does (limits_of old.config) (is_spent old.noted.mentions) c old.machine r new.machine
   pub moves : MovesBy old.config c r (moment_of (state old.flash)) (moment_of (state new.flash))
@@ -94,7 +98,7 @@ pub record IsStill (old new : FlashState) : Type 0 where
 abbrev pub is_held : {F : Type 0} → Standing F → List CachedPage → ℕ → Bool
 is_held s entries page = nat_lt page s.config.logical && is_some (entry_of page (current_of s.noted page) entries)
 
--- A read of a page that is held is answered, and leaves the device and its flash; any other one is a read of the device.
+-- A read of a page that is held is answered, and leaves the device and its flash; any other is a read of the device.
 abbrev pub ReadsThrough : {F : Type 0} → (F → FlashState) → Standing F → Standing F → List CachedPage → ℕ →
     List ℕ → List ℕ → Result ReadAnswer ReadError → Type 0
 ReadsThrough state old new entries page before after result =
@@ -110,7 +114,8 @@ abbrev pub with_page : {F : Type 0} → Standing F → ℕ → List ℕ → Cach
 with_page s page bytes cache = record cache { entries = kept page (current_of s.noted page) bytes cache.entries }
 
 -- a page is kept, unless memory ran out
-abbrev pub KeepsPage : {F : Type 0} → Standing F → CachedPages → CachedPages → ℕ → List ℕ → Result (Unit {0}) Memory → Type 0
+abbrev pub KeepsPage : {F : Type 0} → Standing F → CachedPages → CachedPages → ℕ → List ℕ →
+    Result (Unit {0}) Memory → Type 0
 KeepsPage s before after page bytes (Ok u) = after ≡ with_page s page bytes before
 KeepsPage s before after page bytes (Err e) = after ≡ before
 
@@ -142,7 +147,8 @@ CachesPage s before after page =
     ⊎ (after ≡ before))
 
 -- what a command does to the cache, and a read to the count of reads; only a read changes the cache
-abbrev pub CachesCommand : {F : Type 0} → (F → FlashState) → Command → Standing F → Standing F → CachedPages → CachedPages → Type 0
+abbrev pub CachesCommand : {F : Type 0} → (F → FlashState) → Command → Standing F → Standing F →
+    CachedPages → CachedPages → Type 0
 CachesCommand state (command.Read page) old new before after =
     ReadsOnce state old new before.entries page × CachesPage old before after page
 CachesCommand state _ old new before after = after ≡ before

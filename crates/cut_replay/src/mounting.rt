@@ -57,8 +57,8 @@ fn powered<F: Power>(mut flash: F) -> F
     flash
 }
 
-/// What follows a call of a device. Where power was cut in it the device is mounted again at once, and
-/// the reply is `Cut`.
+/// What follows a call of a device. Where power was cut in it the device is mounted again at once,
+/// and the reply is `Cut`.
 pub fn followed<F: Power, R: CommitRule>(
     alloc: Global,
     config: Config,

@@ -64,8 +64,8 @@ fn told(
     }
 }
 
-/// Reads a page into room for one, and answers too whether there was memory to keep it. A page that is
-/// read from the device is kept under its current version.
+/// Reads a page into room for one. A page that is read from the device is kept under its current
+/// version, where there is memory; the second answer says whether there was.
 fn read_through<F: Flash, R: CommitRule>(
     device: &mut Device<F, R>,
     cache: &mut PageCache,
@@ -99,8 +99,8 @@ fn read_through<F: Flash, R: CommitRule>(
     }
 }
 
-/// Whether a page is held at its current version. Its bytes are then copied, and it comes to the front
-/// of the cache.
+/// Whether a page is held at its current version. Its bytes are then copied, and it comes to the
+/// front of the cache.
 fn find<F: Flash, R: CommitRule>(
     device: &Device<F, R>,
     cache: &mut PageCache,

@@ -67,8 +67,8 @@ impl<F: Arms, R: CommitRule> Session<F, R> {
         }
     }
 
-    /// A program or an erase from now on, the one of this number from 1, will meet a fault with this
-    /// outcome.
+    /// A program or an erase from now on, the one of this number from 1, will meet a fault with
+    /// this outcome.
     pub fn with_fault(self, count: u32, outcome: Outcome) -> Session<F, R>
         requires { 1 ≤ count }
         ensures { SetsArm F.state R.kept (SetsFault (record { count = count; outcome = outcome }))

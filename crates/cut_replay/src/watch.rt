@@ -20,5 +20,6 @@ pub trait Watch<F: Flash> {
         ensures text { OnOk result (Grew (text self.old) (text self.new) (text_of reply.now)) }
         ensures kept { OnOk result (Grew (kept self.old) (kept self.new)
             (record { text = text_of reply.now; moment = moment_of (F.state flash.now) } ∷ [])) }
-        ensures err { OnErr result ((text self.new ≡ text self.old) × (kept self.new ≡ kept self.old)) };
+        ensures err { OnErr result (
+            (text self.new ≡ text self.old) × (kept self.new ≡ kept self.old)) };
 }
