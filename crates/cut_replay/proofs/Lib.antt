@@ -1,5 +1,5 @@
 pub mod Unbroken
-pub mod Backs
+pub mod HeldAlways
 pub mod Devices
 pub mod Single
 pub mod Telling

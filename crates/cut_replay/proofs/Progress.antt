@@ -17,7 +17,7 @@ use Rattle.host_protocol.specs.declared.reply.Reply.TheVariants as reply
 use Rattle.host_protocol.specs.Replies.{text_of}
 use Rattle.cut_replay.specs.Run.{seen_after}
 use Rattle.cut_replay.specs.FlashRun.{Point, FlashRun, ServesFlash, opening_point, mentions_in, last_moment}
-use Rattle.cut_replay.specs.Watching.{Told, Grew, text_of_all, told_of}
+use Rattle.cut_replay.specs.Watching.{ToldReply, Grew, text_of_all, told_of}
 use Rattle.cut_replay.specs.Bounds.{SpendsTold, LastIsSet}
 use Rattle.cut_replay.specs.Served.{Watched, ServesRun, ServesSound, RefusesUnsound}
 use Rattle.cut_replay.specs.Sessions.{flash_in, point_of, StandsAt, ServesIn, Serves, Ends, EndsFor, EndsForMemory, Refuses, IsSpentBy, IsSoundOrSame}
@@ -95,7 +95,7 @@ served_more state its init cs c r s t a b d h serves text kept =
       points = h.points ++ p ∷ [];
       runs = runs_more state its init cs h.replies h.points c r s t h.runs serves.in_run serves.spends;
       text = subst (λ (x : List ℕ). Grew a.text d.text x) (sym (text_more h.replies r)) (grew_more a.text b.text d.text (text_of_all h.replies) (text_of r) h.text text);
-      kept = subst (λ (x : List Told). Grew a.kept d.kept x) (sym (told_more h.replies h.points r p (same.0 ∙ sym same.1)))
+      kept = subst (λ (x : List ToldReply). Grew a.kept d.kept x) (sym (told_more h.replies h.points r p (same.0 ∙ sym same.1)))
           (grew_more a.kept b.kept d.kept (told_of h.replies h.points) (record { text = text_of r; moment = p.moment } ∷ []) h.kept
           (subst (λ (m : Moment). Grew b.kept d.kept (record { text = text_of r; moment = m } ∷ [])) (sym (point_moment state its t)) kept));
       set = last_sets cs c (state (flash_in t)).told serves.set;
@@ -141,7 +141,7 @@ one_untold state its init cs c r s t a b d h served spends text kept =
       last = run_parts state its init (cs ++ c ∷ []) (h.replies ++ r ∷ []) (h.points ++ p ∷ []) t (state (flash_in t)) runs refl;
       text = subst (λ (x : List Reply). Grew a.text d.text (text_of_all x)) (sym replies) (subst (λ (o : Option (List ℕ)). Grew a.text o (text_of_all h.replies)) (sym text) h.text);
       kept = subst (λ (x : List Reply). Grew a.kept d.kept (told_of x (take (length cs) (h.points ++ p ∷ [])))) (sym replies)
-          (subst (λ (x : List Point). Grew a.kept d.kept (told_of h.replies x)) (sym points) (subst (λ (o : Option (List Told)). Grew a.kept o (told_of h.replies h.points)) (sym kept) h.kept));
+          (subst (λ (x : List Point). Grew a.kept d.kept (told_of h.replies x)) (sym points) (subst (λ (o : Option (List ToldReply)). Grew a.kept o (told_of h.replies h.points)) (sym kept) h.kept));
       spends = runs.spends;
     }
 

@@ -49,7 +49,7 @@ IsCached s entries = All (IsCachedAs s) entries
 
 -- What holds of a device at every moment: of its flash, and of what a power cut leaves that was met in a call which led
 -- here.
-pub record IsBacked {F : Type 0} (state : F → FlashState) (protocol : Protocol) (s : Standing F) : Type 0 where
+pub record HoldsAlways {F : Type 0} (state : F → FlashState) (protocol : Protocol) (s : Standing F) : Type 0 where
   pub rule : s.config.protocol ≡ protocol
   pub check : checked s.config ≡ Ok (state s.flash).shape
   pub shape : (state s.flash).shape ≡ shape_of s.config

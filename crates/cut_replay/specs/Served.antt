@@ -8,7 +8,7 @@ use Rattle.version_index.specs.Images.{IsLeastImageBreach}
 use Rattle.host_protocol.specs.declared.command.Command.{Command}
 use Rattle.host_protocol.specs.declared.reply.Reply.{Reply}
 use Rattle.cut_replay.specs.FlashRun.{Point, IsFlashRun, last_moment}
-use Rattle.cut_replay.specs.Watching.{Told, Grew, text_of_all, told_of}
+use Rattle.cut_replay.specs.Watching.{ToldReply, Grew, text_of_all, told_of}
 use Rattle.cut_replay.specs.Bounds.{SpendsTold, LastIsSet}
 use Rattle.cut_replay.specs.Sessions.{IsSoundOrSame}
 use Rattle.cut_replay.specs.declared.serving.ServeError.{ServeError}
@@ -17,7 +17,7 @@ use Rattle.cut_replay.specs.declared.serving.ServeError.TheVariants as failed
 -- what a watch has been told: the text of the replies, and each with its moment, where it tells these
 pub record Watched : Type 0 where
   pub text : Option (List ℕ)
-  pub kept : Option (List Told)
+  pub kept : Option (List ToldReply)
 
 -- There is one run on the flash over these commands. Its last moment is that of the flash that comes back. Of its
 -- replies the first so many were told, each with its moment.

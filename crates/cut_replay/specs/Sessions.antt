@@ -22,7 +22,7 @@ use Rattle.host_protocol.specs.declared.reply.Reply.TheVariants as reply
 use Rattle.cut_replay.specs.Run.{MayBeSpent, seen_after}
 use Rattle.cut_replay.specs.FlashRun.{Point, IsPoint, ServesFlash, is_fault, opening_point}
 use Rattle.cut_replay.specs.Bounds.{is_cut, arms_cut, arms_fault, IsSet}
-use Rattle.cut_replay.specs.Mounted.{point_at, IsSeen, IsCached, IsStill, IsBacked}
+use Rattle.cut_replay.specs.Mounted.{point_at, IsSeen, IsCached, IsStill, HoldsAlways}
 use Rattle.cut_replay.specs.declared.session.Session.{Session}
 use Rattle.cut_replay.specs.declared.session.Session.TheVariants as session
 use Rattle.cut_replay.specs.declared.session.Ended.{Ended}
@@ -50,7 +50,7 @@ pub record FitsMounted {F : Type 0}
   pub check : checked its ≡ Ok (state s.flash).shape
   pub live : (state s.flash).live ≡ true
   pub cached : IsCached s cache
-  pub backed : IsBacked state its.protocol s
+  pub always : HoldsAlways state its.protocol s
 
 -- the session is one on a flash of this configuration
 abbrev pub Fits : {F R : Type 0} → (F → FlashState) → Config → List CachedPage → Session F R → Type 0
@@ -136,7 +136,7 @@ pub record MountsIn {F : Type 0} (state : F → FlashState) (its : Config) (flas
   pub unsure : s.unsure ≡ unsure.Nothing
   pub tables : IsOpened its (state flash).image s.noted s.table
   pub still : IsStill (state flash) (state s.flash)
-  pub backed : IsBacked state its.protocol s
+  pub always : HoldsAlways state its.protocol s
 
 pub record MeetsFault (old new : FlashState) : Type 0 where
   pub still : IsStill old new
@@ -158,7 +158,7 @@ pub record SetsArmHere {F : Type 0}
     (state : F → FlashState) (kept : Protocol) (sets : Told → Told → Type 0) (old new : Standing F) : Type 0 where
   pub stays : new ≡ record old { flash = new.flash }
   pub changes : ChangesTold sets (state old.flash) (state new.flash)
-  pub backed : IsBacked state kept new
+  pub always : HoldsAlways state kept new
 
 abbrev pub SetsArm : {F R : Type 0} → (F → FlashState) → Protocol → (Told → Told → Type 0) →
     Session F R → Session F R → Type 0

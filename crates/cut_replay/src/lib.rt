@@ -2,7 +2,7 @@
 //! plain array of pages in which a transaction changes all its pages at once.
 #![tactic(auto)]
 
-mod backing;
+mod always;
 mod calls;
 mod doing;
 mod finishing;

@@ -3,12 +3,12 @@ ghost use Rattle.flash_model.specs.Operations.{moment_of};
 ghost use Rattle.flash_model.specs.Calls.{Carries};
 ghost use Rattle.tx_engine.specs.ArrayState.{page_at};
 ghost use Rattle.tx_engine.specs.Read.{ReadsPage, is_read_fault};
-ghost use Rattle.cut_replay.specs.Mounted.{IsBacked, IsCached, IsStill, ServesHere};
+ghost use Rattle.cut_replay.specs.Mounted.{HoldsAlways, IsCached, IsStill, ServesHere};
 ghost use Rattle.cut_replay.specs.Mounted.{ReadsThrough, is_held, brought_forward};
 ghost use Rattle.cut_replay.specs.Mounted.{KeepsPage, CachesRead, CachesPage, ReadsOnce};
 ghost use Rattle.cut_replay.specs.Run.{read_reply};
 
-use crate::backing::backing;
+use crate::always::held_always;
 use flash_model::Flash;
 use host_protocol::{Command, Reply};
 use page_cache::PageCache;
@@ -28,17 +28,17 @@ pub fn read<F: Flash, R: CommitRule>(
     requires room { length room.old ≡ device.old.config.page_bytes }
     requires size { cache.old.page_bytes ≡ device.old.config.page_bytes }
     requires cached { IsCached device.old cache.old.entries }
-    requires backed { IsBacked F.state R.kept device.old }
+    requires always { HoldsAlways F.state R.kept device.old }
     ensures ok { IfOk result (ServesHere F.state (Command.Read page) device.old device.new) }
     ensures err { OnErr result (IsStill (F.state device.old.flash) (F.state device.new.flash)) }
     ensures once { ReadsOnce F.state device.old device.new cache.old.entries page }
     ensures keeps { CachesPage device.old cache.old cache.new page }
     ensures size { cache.new.page_bytes ≡ cache.old.page_bytes }
     ensures cached { IsCached device.new cache.new.entries }
-    ensures backed { IsBacked F.state R.kept device.new }
+    ensures always { HoldsAlways F.state R.kept device.new }
 {
     let (answer, _) = read_through(device, cache, room, page);
-    backing(device);
+    held_always(device);
     told(alloc, page, room, answer)
 }
 

@@ -204,19 +204,18 @@ fn begin<F: Power, R: CommitRule>(
 /// Serves the commands in order on the device of a flash, and tells each reply at the end of its
 /// command. A flash with power is mounted first.
 ///
-/// - Cuts: where a command cuts power, its reply is `Cut`. Power is turned on and the flash mounted
-///   again before this is told. All open transactions are gone.
+/// - Cuts: where power is cut in a command, its reply is `Cut`. Power is turned on and the flash is
+///   mounted again before this is told. All open transactions are gone.
 /// - Faults: where a command meets a fault and power stays on, its reply is `Fault`, and the device
 ///   goes on.
-/// - Mounts: where a mount meets a fault, the device stays unmounted. Each next command that is no
-///   arm then turns power on and mounts first. Where that mount meets a fault too, the command is not
-///   done, and its reply is `Fault`, or `Cut` where power is off.
-/// - Cache: a page that was read is kept, unless memory ran out, and read again without the flash
-///   while it is the current one of its page. Each mount begins with an empty cache.
-/// - Unsound: only a mount before the first one that succeeded ends serving so. The flash then holds
-///   what it held.
-/// - Memory: serving ends before or in a command, or in telling its reply. What was told are the
-///   replies up to there.
+/// - Mounts: where a mount meets a fault, the flash stays unmounted. Each command after that, other
+///   than an arm, turns power on and mounts first. Where that mount meets a fault, the command is
+///   not done, and its reply is `Fault`, or `Cut` where power is off.
+/// - Cache: a page that was read is kept, unless memory ran out, and is read again without the
+///   flash while it is held and current. Each mount begins with an empty cache.
+/// - `Unsound` comes only from a mount before the first one that succeeded. The flash then comes
+///   back as it was handed in.
+/// - `Memory` ends the run before a command, or in it. The replies before it were told.
 pub fn serve<F: Power + Arms, R: CommitRule, W: Watch<F>>(
     alloc: Global,
     flash: F,

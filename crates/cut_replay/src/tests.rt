@@ -80,13 +80,14 @@ fn a_page_that_was_read_is_not_read_again(rt: HostRuntime) -> Result<(), Fail> {
 
 #[test]
 fn the_device_is_mounted_again_before_a_cut_is_told(rt: HostRuntime) -> Result<(), Fail> {
-    // The cut falls in the first program. The mount after it reads each of 32 slots, and the read of a
-    // page that was never written none.
+    // The cut falls in the first program. The mount after it reads each of 32 slots, and the read of
+    // a page that was never written none.
     let mut moments = Moments {
         all: Vec::new(rt.alloc()),
     };
     let commands = b"write 1 0=41\ncut 1 none\nfinish 1\nread 0\n";
     served(rt.alloc(), commands, &mut moments)?;
-    assert_eq!(rt; moments.all.as_slice(), [(true, 32), (true, 32), (true, 64), (true, 64)].as_slice());
+    let expected = [(true, 32), (true, 32), (true, 64), (true, 64)];
+    assert_eq!(rt; moments.all.as_slice(), expected.as_slice());
     Ok(())
 }

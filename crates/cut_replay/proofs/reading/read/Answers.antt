@@ -7,7 +7,7 @@ returns-clause-ok g c =
     let answer = c.read_through-answer.ensures in
     reads_serve g.F.Flash.state g.R.CommitRule.kept c.args.device.now c.read_through-answer.new.device c.args.page
     c.read_through-answer.new.room c.read_through-answer.result.0 c.told.result
-    c.backing.ensures.backed answer.reads answer.moment answer.carries answer.stays c.told.ensures.reply
+    c.held_always.ensures.always answer.reads answer.moment answer.carries answer.stays c.told.ensures.reply
 
 pub returns-clause-once : goal.returns-clause-once
 returns-clause-once g c =
