@@ -1,6 +1,6 @@
 -- The session that serving begins with.
 use Rattle.std.proofs.Common.{◌≡◌, Bool, true, false, List, [], Option, Some, None, Result, Ok, Err, refl, ap, ap₂, inl, inr, arith}
-use Rattle.std.specs.Prelude.{IfOk, OnOk}
+use Rattle.std.specs.Prelude.{IfOk}
 use Rattle.tx_types.specs.declared.config.Config.{Config}
 use Rattle.tx_types.specs.Config.{checked}
 use Rattle.tx_types.specs.declared.config.Shape.{Shape}

@@ -1,11 +1,10 @@
 -- How often a read command reads the flash, and what it leaves in the cache.
-use Rattle.std.proofs.Common.{◌≡◌, ℕ, ◌<◌, ◌⊎◌, Bool, true, false, cond, List, Option, Some, None, Result, Ok, Err, refl, sym, ap, ◌∙◌, subst, inl, inr, arith}
+use Rattle.std.proofs.Common.{◌≡◌, ℕ, ◌<◌, ◌⊎◌, Bool, true, false, cond, List, Option, Some, None, Result, Ok, Err, refl, sym, ap, ◌∙◌, subst, inl, inr}
 use Rattle.std.specs.Prelude.{◌&&◌, not, nat_lt, is_some, MatchBool, IsSome}
 use Rattle.std.proofs.lemmas.Bool.{lt-ltb, le-ltb}
 use Rattle.std.proofs.Math.Bool.{and-true, and-false}
 use Rattle.tx_types.specs.declared.memory.Memory.{Memory}
 use Rattle.flash_model.specs.Flash.{FlashState, counted}
-use Rattle.flash_model.specs.Calls.{Reads}
 use Rattle.page_cache.specs.CachedPages.{CachedPage, CachedPages}
 use Rattle.tx_engine.specs.ArrayState.{Pages, page_at}
 use Rattle.tx_engine.specs.Read.{ReadsPage, ReadsFlash}
