@@ -20,12 +20,12 @@ use Rattle.host_protocol.specs.declared.reply.Reply.TheVariants as reply
 use Rattle.cut_replay.specs.Run.{is_arm, seen_after}
 use Rattle.cut_replay.specs.FlashRun.{Point, IsPoint, ServesFlash, opening_point}
 use Rattle.cut_replay.specs.Bounds.{IsSet}
-use Rattle.cut_replay.specs.Mounted.{point_at, IsSeen, IsCachedAs, IsCached, IsBacked}
-use Rattle.cut_replay.specs.Sessions.{flash_in, point_of, Fits, StandsAt, StandsMounted, IsSpentBy, Serves, StaysRefused, SetsArm}
+use Rattle.cut_replay.specs.Mounted.{point_at, IsSeen, IsCachedAs, IsCached, HoldsAlways}
+use Rattle.cut_replay.specs.Sessions.{flash_in, point_of, Fits, StandsAt, StandsMounted, IsSpentBy, Serves, SetsArm}
 use Rattle.cut_replay.specs.declared.session.Session.{Session}
 use Rattle.cut_replay.specs.declared.session.Session.TheVariants as session
 use Rattle.cut_replay.proofs.Mountings.{mounted_point}
-use Rattle.cut_replay.proofs.Followed.{backed_point, or_left}
+use Rattle.cut_replay.proofs.Followed.{always_point, or_left}
 use Rattle.cut_replay.proofs.Lifted.{Cases}
 
 -- what an arm of a kind sets and brings
@@ -103,7 +103,7 @@ same_told (Some x) = (omega arith, omega arith)
 armed_point : {F R : Type 0} (state : F → FlashState) (its : Config) (kept : Protocol) (sets : Told → Told → Type 0) (entries : List CachedPage) (seen : ℕ → ℕ) (faulted : Bool) (old new : Session F R) →
     SetsArm state kept sets old new → Fits state its entries old → StandsAt state its seen faulted old → IsPoint its (point_of state its new)
 armed_point state its kept sets entries seen faulted (session.Mounted s) (session.Mounted t) h fits stands =
-    subst (λ (x : Config). IsPoint x (point_at state t)) (ap (λ (x : Standing _). x.config) h.stays ∙ fits.config) (backed_point state kept t h.backed)
+    subst (λ (x : Config). IsPoint x (point_at state t)) (ap (λ (x : Standing _). x.config) h.stays ∙ fits.config) (always_point state kept t h.always)
 armed_point state its kept sets entries seen faulted (session.Mounted s) (session.Unmounted f) h fits stands = absurd h
 armed_point state its kept sets entries seen faulted (session.Unmounted e) (session.Mounted t) h fits stands = absurd h
 armed_point {F = F} {R = R} state its kept sets entries seen faulted (session.Unmounted e) (session.Unmounted f) h fits stands =
@@ -114,11 +114,12 @@ armed_point {F = F} {R = R} state its kept sets entries seen faulted (session.Un
 armed_serves_flash : (its : Config) (spent : ℕ → Bool) (faulted : Bool) (c : Command) (old new : Point) → is_arm c ≡ true → new ≡ old → ServesFlash its spent faulted c old reply.Armed new
 armed_serves_flash its spent faulted c old new arm same = subst (λ b. MatchBool b ((reply.Armed ≡ reply.Armed) × (new ≡ old)) (Cases its spent faulted c old reply.Armed new)) (sym arm) (refl, same)
 
-armed_refused : {F R : Type 0} (state : F → FlashState) (its : Config) (kept : Protocol) (sets : Told → Told → Type 0) (old new : Session F R) → SetsArm state kept sets old new → StaysRefused state its old new
-armed_refused state its kept sets (session.Mounted s) (session.Mounted t) h = tt
-armed_refused state its kept sets (session.Mounted s) (session.Unmounted f) h = absurd h
-armed_refused state its kept sets (session.Unmounted e) (session.Mounted t) h = tt
-armed_refused state its kept sets (session.Unmounted e) (session.Unmounted f) h = inr (ap (λ (m : Moment). m.image) (still_armed sets (state e) (state f) h))
+armed_moment : {F R : Type 0} (state : F → FlashState) (kept : Protocol) (sets : Told → Told → Type 0) (old new : Session F R) → SetsArm state kept sets old new →
+    moment_of (state (flash_in new)) ≡ moment_of (state (flash_in old))
+armed_moment state kept sets (session.Mounted s) (session.Mounted t) h = still_armed sets (state s.flash) (state t.flash) h.changes
+armed_moment state kept sets (session.Mounted s) (session.Unmounted f) h = absurd h
+armed_moment state kept sets (session.Unmounted e) (session.Mounted t) h = absurd h
+armed_moment state kept sets (session.Unmounted e) (session.Unmounted f) h = still_armed sets (state e) (state f) h
 
 pub armed_serves : {F R : Type 0} (state : F → FlashState) (its : Config) (kept : Protocol) (sets : Told → Told → Type 0) (entries : List CachedPage) (c : Command) (old new : Session F R) →
     IsArming c sets → Fits state its entries old → SetsArm state kept sets old new → Serves state its c old reply.Armed new
@@ -130,7 +131,7 @@ armed_serves state its kept sets entries c old new arming fits h = record {
     point = armed_point state its kept sets entries seen faulted old new h fits stands;
     stands = armed_stands state its kept sets c seen faulted old new h stands;
   };
-  refused = armed_refused state its kept sets old new h;
+  kept = inr (armed_moment state kept sets old new h);
   spends = weaker_told sets (IsSpentBy c reply.Armed) arming.spent (state (flash_in old)).told (state (flash_in new)).told (armed_told state kept sets old new h);
   set = then_told sets (IsSet c) arming.set (state (flash_in old)).told (state (flash_in new)).told (armed_told state kept sets old new h);
 }
@@ -146,7 +147,7 @@ armed_fits {F = F} state its kept sets entries (session.Mounted s) (session.Moun
   check = fits.check ∙ ap (λ (x : FlashState). Ok x.shape) (sym h.changes.stays);
   live = ap (λ (x : FlashState). x.live) h.changes.stays ∙ fits.live;
   cached = subst (λ (x : Standing F). IsCached x entries) (sym h.stays) (All-weaker (IsCachedAs s) (IsCachedAs (record s { flash = t.flash })) (fits_flash s t.flash) entries fits.cached);
-  backed = subst (λ (p : Protocol). IsBacked state p t) (sym rule) h.backed;
+  always = subst (λ (p : Protocol). HoldsAlways state p t) (sym rule) h.always;
 }
 armed_fits state its kept sets entries (session.Mounted s) (session.Unmounted f) rule fits h = absurd h
 armed_fits state its kept sets entries (session.Unmounted e) (session.Mounted t) rule fits h = absurd h

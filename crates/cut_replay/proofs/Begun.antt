@@ -1,6 +1,6 @@
 -- The session that serving begins with.
-use Rattle.std.proofs.Common.{◌≡◌, Bool, true, false, List, [], Option, Some, None, Result, Ok, Err, refl, ap, ap₂, inl, arith}
-use Rattle.std.specs.Prelude.{IfOk, OnOk}
+use Rattle.std.proofs.Common.{◌≡◌, Bool, true, false, List, [], Option, Some, None, Result, Ok, Err, refl, ap, ap₂, inl, inr, arith}
+use Rattle.std.specs.Prelude.{IfOk}
 use Rattle.tx_types.specs.declared.config.Config.{Config}
 use Rattle.tx_types.specs.Config.{checked}
 use Rattle.tx_types.specs.declared.config.Shape.{Shape}
@@ -10,17 +10,17 @@ use Rattle.flash_model.specs.Calls.{BothTell, NoMore}
 use Rattle.flash_model.specs.Operations.{Moment, moment_of}
 use Rattle.tx_engine.specs.ArrayState.{ArrayState}
 use Rattle.cut_replay.specs.FlashRun.{mentions_in, opening_point}
-use Rattle.cut_replay.specs.Sessions.{flash_in, point_of, IsSoundFlash, Fits, Mounted, Unmounted}
+use Rattle.cut_replay.specs.Sessions.{flash_in, point_of, IsSoundFlash, IsSoundOrSame, Fits, Mounted, Unmounted}
 use Rattle.cut_replay.specs.Beginning.{Begins}
 use Rattle.host_protocol.specs.declared.command.Command.{Command}
 use Rattle.cut_replay.specs.Mounted.{IsStill}
-use Rattle.cut_replay.specs.Served.{Watched, ServesSound}
+use Rattle.cut_replay.specs.Served.{Watched, ServesSound, RefusesUnsound}
 use Rattle.cut_replay.specs.declared.serving.ServeError.{ServeError}
 use Rattle.cut_replay.specs.declared.serving.ServeError.TheVariants as failed
 use Rattle.cut_replay.specs.declared.session.Session.{Session}
 use Rattle.cut_replay.specs.declared.session.Session.TheVariants as session
 use Rattle.cut_replay.specs.declared.session.Ended.{Ended}
-use Rattle.cut_replay.proofs.Mountings.{mounted_stands, mounted_leaves}
+use Rattle.cut_replay.proofs.Mountings.{mounted_stands, mounted_leaves, mounted_still}
 use Rattle.cut_replay.proofs.Mountings.{sound_unbroken}
 use Rattle.cut_replay.proofs.Progress.{served_none, all_served}
 
@@ -87,7 +87,21 @@ pub fits_shape : {F R : Type 0} (state : F → FlashState) (its : Config) (cache
 fits_shape state its cache (session.Mounted s) h = h.check
 fits_shape state its cache (session.Unmounted flash) h = h
 
-pub same_shape : (its : Config) (old new : Shape) (r : Result (Unit {0}) ServeError) → checked its ≡ Ok old →
-    OnOk r (checked its ≡ Ok new) → OnOk r (new ≡ old)
-same_shape its old new (Ok u) was is = cc
-same_shape its old new (Err e) was is = is
+pub same_shape : (its : Config) (old new : Shape) → checked its ≡ Ok old →
+    checked its ≡ Ok new → new ≡ old
+same_shape its old new was is = cc
+
+-- whatever the image is
+pub begun_kept : {F R : Type 0} (state : F → FlashState) (its : Config) (flash : F) (result : Results F R) → IfOk result (Mounted state its flash) →
+    IfOk result (λ s. IsSoundOrSame its (state flash) (state (flash_in s)))
+begun_kept state its flash (Ok s) h = inr (mounted_still state its flash s (mounted_leaves state its flash s h)).moment
+begun_kept state its flash (Err e) h = tt
+
+pub begin_refused : {F : Type 0} (state : F → FlashState) (its : Config) (flash new : F) (why : ServeError) → Unmounted state its flash new why →
+    RefusesUnsound its (state flash) (state new) (Err why)
+begin_refused state its flash new (failed.Unsound law slot) h = (h.0.moment, h.1)
+begin_refused state its flash new failed.Memory h = inr h.moment
+
+pub begin_shape : {F : Type 0} (state : F → FlashState) (its : Config) (flash new : F) (why : ServeError) → Unmounted state its flash new why → (state new).shape ≡ (state flash).shape
+begin_shape state its flash new (failed.Unsound law slot) h = h.0.shape
+begin_shape state its flash new failed.Memory h = h.shape

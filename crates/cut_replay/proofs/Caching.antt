@@ -7,6 +7,7 @@ use Rattle.std.proofs.lemmas.List.Elements.{All-head, All-tail, All-cons, All-ta
 use Rattle.tx_types.specs.declared.memory.Memory.{Memory}
 use Rattle.version_index.specs.Noted.{current_of}
 use Rattle.page_cache.specs.CachedPages.{CachedPage, CachedPages, has_key, entry_of, without, promoted, kept}
+use Rattle.page_cache.proofs.Pages.{promoted-missing}
 use Rattle.tx_engine.specs.ArrayState.{page_at}
 use Rattle.tx_engine.specs.Standing.{Standing}
 use Rattle.cut_replay.specs.Mounted.{IsCachedAs, IsCached}
@@ -90,3 +91,9 @@ pub keep_cached : {F : Type 0} (s : Standing F) (page version : ℕ) (bytes : Li
 keep_cached s page version bytes old new (Ok u) exists at h is ok err =
     subst (λ (c : CachedPages). IsCached s c.entries) (sym ok) (subst (λ v. IsCached s (kept page v bytes old.entries)) (sym is) (kept_cached s page bytes old.entries exists at h))
 keep_cached s page version bytes old new (Err e) exists at h is ok err = subst (λ (c : CachedPages). IsCached s c.entries) (sym err) h
+
+-- a look-up that found nothing leaves the cache
+pub missed_stays : (page version : ℕ) (old new : CachedPages) → is_some (entry_of page version old.entries) ≡ false →
+    new ≡ record old { entries = promoted page version old.entries } → new ≡ old
+missed_stays page version old new none is =
+    is ∙ ap (λ (es : List CachedPage). record old { entries = es }) (promoted-missing page version old.entries none)

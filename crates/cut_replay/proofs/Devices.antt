@@ -24,7 +24,7 @@ use Rattle.collector.specs.declared.unsure.Unsure.TheVariants as unsure
 use Rattle.cut_replay.specs.Run.{Does, seen_after, is_break, is_opened, writes_in}
 use Rattle.cut_replay.specs.FlashRun.{Tells, is_fault, is_still}
 use Rattle.cut_replay.specs.Bounds.{is_cut}
-use Rattle.cut_replay.specs.Mounted.{point_at, IsSeen, IsCachedAs, IsCached, IsBacked, MayHaveCut, ServesHere}
+use Rattle.cut_replay.specs.Mounted.{point_at, IsSeen, IsCachedAs, IsCached, HoldsAlways, MayHaveCut, ServesHere}
 
 -- some item of a list, as an item in it, and back
 pub in_any : {X : Type 0} (P : X → Type 0) (xs : List X) → Any P xs → (x : X) × IsIn xs x × P x
@@ -64,7 +64,7 @@ named_before old new page version names h =
 
 -- a call that may settle, write and collect leaves the mentions within what was seen
 pub exits_seen : {F : Type 0} (state : F → FlashState) (kept : Protocol) (old new : Standing F) (broken : Bool) (seen : ℕ → ℕ) →
-    IsBacked state kept old → IsBacked state kept new → Exits state old new broken → IsSeen seen old → IsSeen seen new
+    HoldsAlways state kept old → HoldsAlways state kept new → Exits state old new broken → IsSeen seen old → IsSeen seen new
 exits_seen state kept old new broken seen was is exits h = record {
   mentions = λ page. elim (cases_lt page old.config.logical) [
     | inl lt ↦ elim (exits.mentions page (subst (λ (c : Config). page < c.logical) (sym was.its) lt)) [
@@ -94,7 +94,7 @@ cached_stays old new entries same tell h = All-weaker (IsCachedAs old) (IsCached
 
 -- what a command does that is one call which may settle, write and collect
 pub exits_serve : {F : Type 0} (state : F → FlashState) (kept : Protocol) (c : Command) (old new : Standing F) (r : Reply) (broken : Bool) →
-    IsBacked state kept old → IsBacked state kept new → Exits state old new broken → is_break r ≡ broken → is_fault r ≡ broken → is_cut r ≡ false →
+    HoldsAlways state kept old → HoldsAlways state kept new → Exits state old new broken → is_break r ≡ broken → is_fault r ≡ broken → is_cut r ≡ false →
     Does (limits_of old.config) (is_spent old.noted.mentions) c old.machine r new.machine → (is_still c ≡ true → moment_of (state new.flash) ≡ moment_of (state old.flash)) →
     ((faulted : Bool) → (faulted ≡ false → old.unsure ≡ unsure.Nothing) → Tells old.config faulted (point_at state old) r (point_at state new)) →
     (old.unsure ≡ unsure.Nothing → is_fault r ≡ false → new.unsure ≡ unsure.Nothing) → (is_fault r ≡ true → MayHaveCut state c old new) → ServesHere state c old new r

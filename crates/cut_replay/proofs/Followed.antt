@@ -25,8 +25,8 @@ use Rattle.host_protocol.specs.declared.reply.Reply.TheVariants as reply
 use Rattle.cut_replay.specs.Run.{IsCut, MayComplete, MayBeSpent, NotDone, is_arm, seen_after}
 use Rattle.cut_replay.specs.FlashRun.{Point, IsPoint, IsDone, MovesBy, ServesFlash, is_fault}
 use Rattle.cut_replay.specs.Bounds.{is_cut}
-use Rattle.cut_replay.specs.Mounted.{point_at, IsSeen, IsCached, IsBacked, ServesHere}
-use Rattle.cut_replay.specs.Sessions.{flash_in, point_of, IsSoundFlash, Fits, FitsMounted, StandsMounted, IsSpentBy, ServesIn, Serves, StaysRefused, Ends, Mounted, Unmounted, MountsAgain, Follows}
+use Rattle.cut_replay.specs.Mounted.{point_at, IsSeen, IsCached, HoldsAlways, ServesHere}
+use Rattle.cut_replay.specs.Sessions.{flash_in, point_of, IsSoundFlash, Fits, FitsMounted, StandsMounted, IsSpentBy, ServesIn, Serves, Ends, Mounted, Unmounted, MountsAgain, Follows}
 use Rattle.cut_replay.specs.declared.serving.ServeError.{ServeError}
 use Rattle.cut_replay.specs.declared.serving.ServeError.TheVariants as failed
 use Rattle.cut_replay.specs.declared.session.Session.{Session}
@@ -59,19 +59,19 @@ or_right true b h = cc
 or_right false b h = h
 
 -- the point of a device
-pub backed_point : {F : Type 0} (state : F → FlashState) (kept : Protocol) (s : Standing F) → IsBacked state kept s → IsPoint s.config (point_at state s)
-backed_point state kept s h = record { sound = h.sound; array = h.array }
+pub always_point : {F : Type 0} (state : F → FlashState) (kept : Protocol) (s : Standing F) → HoldsAlways state kept s → IsPoint s.config (point_at state s)
+always_point state kept s h = record { sound = h.sound; array = h.array }
 
 -- Power was not cut
 pub done_in : {F R : Type 0} (state : F → FlashState) (kept : Protocol) (c : Command) (s t : Standing F) (r : Reply) (seen : ℕ → ℕ) (faulted : Bool) → is_arm c ≡ false →
-    ServesHere state c s t r → IsBacked state kept t → StandsMounted seen faulted s →
+    ServesHere state c s t r → HoldsAlways state kept t → StandsMounted seen faulted s →
     ServesIn {R = R} state s.config seen faulted c (session.Mounted s) r (session.Mounted t)
-done_in state kept c s t r seen faulted no_arm h backed stands = record {
+done_in state kept c s t r seen faulted no_arm h always stands = record {
   spent = is_spent s.noted.mentions;
   may = may_be_spent seen s stands.mentions;
   serves = served_no_arm s.config (is_spent s.noted.mentions) faulted c (point_at state s) r (point_at state t) no_arm
       (inr (inl (record { does = h.does; up = refl; moves = h.moves; tells = h.tells faulted stands.sure })));
-  point = subst (λ (x : Config). IsPoint x (point_at state t)) h.config (backed_point state kept t backed);
+  point = subst (λ (x : Config). IsPoint x (point_at state t)) h.config (always_point state kept t always);
   stands = record {
     sure = λ whole. h.sure (stands.sure (or_left faulted (is_fault r) whole)) (or_right faulted (is_fault r) whole);
     mentions = h.seen seen stands.mentions;
@@ -82,11 +82,11 @@ done_in state kept c s t r seen faulted no_arm h backed stands = record {
 fault_reply : (c : Command) (seen : ℕ → ℕ) (r : Reply) (page : ℕ) → r ≡ reply.Fault → seen_after seen c r page ≡ seen page
 fault_reply c seen r page is = ap (λ q. seen_after seen c q page) is
 
-cut_seen : {F : Type 0} (state : F → FlashState) (kept : Protocol) (seen : ℕ → ℕ) (t : Standing F) (page : ℕ) → IsBacked state kept t → IsSeen seen t → page < t.config.logical →
+cut_seen : {F : Type 0} (state : F → FlashState) (kept : Protocol) (seen : ℕ → ℕ) (t : Standing F) (page : ℕ) → HoldsAlways state kept t → IsSeen seen t → page < t.config.logical →
     mention (records_in t.config.protocol (state t.flash).image) page ≤ seen page
-cut_seen state kept seen t page backed h lt =
-    let its = backed.its in
-    let most = backed.mentions page (subst (λ (x : Config). page < x.logical) (sym its) lt) in
+cut_seen state kept seen t page always h lt =
+    let its = always.its in
+    let most = always.mentions page (subst (λ (x : Config). page < x.logical) (sym its) lt) in
     subst (λ (x : Config). mention (records_in x.protocol (state t.flash).image) page ≤ seen page) its (elim most [
       | inl noted ↦ (let least = h.mentions page in omega (arith, noted, least))
       | inr named ↦ (let least = h.names page named.0 named.1 in let of = named.2 in omega (arith, of, least))
@@ -100,14 +100,14 @@ cut_moves its c old mid new h same = record {
 }
 
 pub cut_in : {F R : Type 0} (state : F → FlashState) (kept : Protocol) (c : Command) (s t : Standing F) (after : Session F R) (seen : ℕ → ℕ) (faulted : Bool) → is_arm c ≡ false →
-    ServesHere state c s t reply.Fault → IsBacked state kept t → StandsMounted seen faulted s → Leaves state s.config t.flash after →
+    ServesHere state c s t reply.Fault → HoldsAlways state kept t → StandsMounted seen faulted s → Leaves state s.config t.flash after →
     ServesIn {R = R} state s.config seen faulted c (session.Mounted s) reply.Cut after
-cut_in state kept c s t after seen faulted no_arm h backed stands leaves =
+cut_in state kept c s t after seen faulted no_arm h always stands leaves =
     let its = s.config in
-    let sound : IsSoundFlash its (state t.flash) = subst (λ (x : Config). IsSoundImage x.protocol x.logical (shape_of x) (state t.flash).image) h.config backed.sound in
+    let sound : IsSoundFlash its (state t.flash) = subst (λ (x : Config). IsSoundImage x.protocol x.logical (shape_of x) (state t.flash).image) h.config always.sound in
     let most : (page : ℕ) → page < its.logical → mention (records_in its.protocol (state t.flash).image) page ≤ seen page = λ page lt.
     subst (λ (x : Config). mention (records_in x.protocol (state t.flash).image) page ≤ seen page) h.config
-    (cut_seen state kept seen t page backed (h.seen seen stands.mentions) (subst (λ (x : Config). page < x.logical) (sym h.config) lt)) in
+    (cut_seen state kept seen t page always (h.seen seen stands.mentions) (subst (λ (x : Config). page < x.logical) (sym h.config) lt)) in
     let cut = h.cut refl in
     let left : CutLeaves (MayComplete c) s.machine (point_of state its after).state.machine =
     subst (λ (m : ArrayState). CutLeaves (MayComplete c) s.machine m) (sym (mounted_machine state its t.flash after leaves))
@@ -162,7 +162,7 @@ pub record WasDone {F : Type 0} (state : F → FlashState) (its : Config) (c : C
   pub on : (state s.flash).live ≡ true
   pub here : ServesHere state c s t r
   pub cached : IsCached t entries
-  pub backed : IsBacked state its.protocol t
+  pub always : HoldsAlways state its.protocol t
 
 mounted_fits : {F R : Type 0} (state : F → FlashState) (its : Config) (flash : F) (after : Session F R) → checked its ≡ Ok (state flash).shape → Mounted state its flash after → Fits state its [] after
 mounted_fits state its flash (session.Mounted t) check h = record {
@@ -170,12 +170,12 @@ mounted_fits state its flash (session.Mounted t) check h = record {
   check = check ∙ ap (λ (x : Shape). Ok x) (sym h.still.shape);
   live = h.live;
   cached = λ k d lt. (let none : k < 0 = lt in absurd (omega arith));
-  backed = h.backed;
+  always = h.always;
 }
 mounted_fits state its flash (session.Unmounted new) check h = check ∙ ap (λ (x : Shape). Ok x) (sym h.still.shape)
 
 pub after_check : {F : Type 0} (state : F → FlashState) (its : Config) (c : Command) (s t : Standing F) (r : Reply) (entries : List CachedPage) → WasDone state its c s t r entries → checked its ≡ Ok (state t.flash).shape
-after_check state its c s t r entries w = ap checked (sym (w.here.config ∙ w.config)) ∙ w.backed.check
+after_check state its c s t r entries w = ap checked (sym (w.here.config ∙ w.config)) ∙ w.always.check
 
 again_fits : {F R : Type 0} (state : F → FlashState) (its : Config) (flash : F) (result : Sessions F R) → checked its ≡ Ok (state flash).shape →
     (t : Standing F) → t.flash ≡ flash → MountsAgain state its t result → FitsAfter F R state its [] result
@@ -192,19 +192,24 @@ fits_after {F = F} {R = R} state its c s t r result before after w follows = eli
         check = after_check state its c s t r before.entries w;
         live = on;
         cached = subst (λ (x : CachedPages). IsCached t x.entries) (sym went.1) w.cached;
-        backed = w.backed;
+        always = w.always;
       }))
   | inr off ↦ (
       let cut = follows.was_cut off in
       subst (λ (x : CachedPages). FitsAfter F R state its x.entries result) (sym cut.1) (again_fits state its t.flash result (after_check state its c s t r before.entries w) t refl cut.0))
 ]
 
+-- the image is sound
+sound_here : {F : Type 0} (state : F → FlashState) (c : Command) (s t : Standing F) (r : Reply) (entries : List CachedPage) → WasDone state s.config c s t r entries → IsSoundFlash s.config (state t.flash)
+sound_here state c s t r entries w =
+    subst (λ (x : Config). IsSoundImage x.protocol x.logical (shape_of x) (state t.flash).image) w.here.config w.always.sound
+
 -- the whole of what a command comes to that was done
 went_serves : {F R : Type 0} (state : F → FlashState) (c : Command) (s t : Standing F) (r : Reply) (entries : List CachedPage) → WasDone state s.config c s t r entries → (state t.flash).live ≡ true →
     Serves {R = R} state s.config c (session.Mounted s) r (session.Mounted t)
 went_serves state c s t r entries w on = record {
-  in_run = λ seen faulted stands. done_in state s.config.protocol c s t r seen faulted w.no_arm w.here w.backed stands;
-  refused = tt;
+  in_run = λ seen faulted stands. done_in state s.config.protocol c s t r seen faulted w.no_arm w.here w.always stands;
+  kept = inl (sound_here state c s t r entries w);
   spends = live_spends c r (state s.flash) (state t.flash) w.here.whole w.on on w.here.carries;
   set = sets_none c w.no_arm (state t.flash).told;
 }
@@ -215,22 +220,19 @@ faulted_here : {F : Type 0} (state : F → FlashState) (its : Config) (c : Comma
 faulted_here state its c s t r entries w off =
     subst (λ (q : Reply). ServesHere state c s t q) (is_its_fault r (not_broken (state s.flash) (state t.flash) r w.on off w.here.carries)) w.here
 
-sound_here : {F : Type 0} (state : F → FlashState) (c : Command) (s t : Standing F) (r : Reply) (entries : List CachedPage) → WasDone state s.config c s t r entries → IsSoundFlash s.config (state t.flash)
-sound_here state c s t r entries w =
-    subst (λ (x : Config). IsSoundImage x.protocol x.logical (shape_of x) (state t.flash).image) w.here.config w.backed.sound
-
-cut_refused : {F R : Type 0} (state : F → FlashState) (its : Config) (s : Standing F) (flash : F) (after : Session F R) → IsSoundFlash its (state flash) → Leaves state its flash after →
-    StaysRefused state its (session.Mounted s) after
-cut_refused state its s flash (session.Mounted t) sound leaves = tt
-cut_refused state its s flash (session.Unmounted new) sound leaves = subst (λ (m : Moment). IsSoundImage its.protocol its.logical (shape_of its) m.image) (sym leaves.moment) sound
+-- and it is sound after it was mounted again, or was not
+sound_again : {F R : Type 0} (state : F → FlashState) (its : Config) (flash : F) (after : Session F R) → IsSoundFlash its (state flash) → Leaves state its flash after →
+    IsSoundFlash its (state (flash_in after))
+sound_again state its flash after sound leaves =
+    subst (λ (m : Moment). IsSoundImage its.protocol its.logical (shape_of its) m.image) (sym (mounted_still state its flash after leaves).moment) sound
 
 cut_serves : {F R : Type 0} (state : F → FlashState) (c : Command) (s t : Standing F) (r : Reply) (entries : List CachedPage) (after : Session F R) → WasDone state s.config c s t r entries →
     (state t.flash).live ≡ false → Leaves state s.config t.flash after → Serves state s.config c (session.Mounted s) reply.Cut after
 cut_serves state c s t r entries after w off leaves =
     let here = faulted_here state s.config c s t r entries w off in
     record {
-      in_run = λ seen faulted stands. cut_in state s.config.protocol c s t after seen faulted w.no_arm here w.backed stands leaves;
-      refused = cut_refused state s.config s t.flash after (sound_here state c s t r entries w) leaves;
+      in_run = λ seen faulted stands. cut_in state s.config.protocol c s t after seen faulted w.no_arm here w.always stands leaves;
+      kept = inl (sound_again state s.config t.flash after (sound_here state c s t r entries w) leaves);
       spends = cut_spends c (state s.flash) (state t.flash) (state (flash_in after)).told w.on off here.carries (mounted_still state s.config t.flash after leaves).told;
       set = sets_none c w.no_arm (state (flash_in after)).told;
     }
@@ -249,7 +251,7 @@ again_ends R state c s t r entries flash (failed.Unsound law slot) w off h =
 again_ends {F = F} R state c s t r entries flash failed.Memory w off h =
     let after : Session F R = session.Unmounted flash in
     let serves = cut_serves {R = R} state c s t r entries after w off h in
-    inr (serves.in_run, serves.spends)
+    record { cause = inr (serves.in_run, serves.spends); shape = h.shape ∙ w.here.carries.shape; kept = serves.kept }
 
 again_ends_all : {F R : Type 0} (state : F → FlashState) (c : Command) (s t : Standing F) (r : Reply) (entries : List CachedPage) (result : Sessions F R) → WasDone state s.config c s t r entries →
     (state t.flash).live ≡ false → MountsAgain state s.config t result → EndsAfter F R state s.config c s result
@@ -285,12 +287,12 @@ follows_size state its t r result before after follows = elim (cases_Bool (state
 ]
 
 pub was_done : {F : Type 0} (state : F → FlashState) (its : Config) (kept : Protocol) (c : Command) (s t : Standing F) (r : Reply) (before entries : List CachedPage) → its.protocol ≡ kept →
-    FitsMounted state its before s → is_arm c ≡ false → ServesHere state c s t r → IsCached t entries → IsBacked state kept t → WasDone state its c s t r entries
-was_done state its kept c s t r before entries rule fits no_arm here cached backed = record {
+    FitsMounted state its before s → is_arm c ≡ false → ServesHere state c s t r → IsCached t entries → HoldsAlways state kept t → WasDone state its c s t r entries
+was_done state its kept c s t r before entries rule fits no_arm here cached always = record {
   config = fits.config;
   no_arm = no_arm;
   on = fits.live;
   here = here;
   cached = cached;
-  backed = subst (λ (p : Protocol). IsBacked state p t) (sym rule) backed;
+  always = subst (λ (p : Protocol). HoldsAlways state p t) (sym rule) always;
 }

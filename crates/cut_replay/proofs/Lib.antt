@@ -1,9 +1,10 @@
 pub mod Unbroken
-pub mod Backs
+pub mod HeldAlways
 pub mod Devices
 pub mod Single
 pub mod Telling
 pub mod Caching
+pub mod Rereading
 pub mod Finishes
 pub mod Spending
 pub mod Mountings

@@ -18,7 +18,7 @@ use Rattle.host_protocol.specs.declared.reply.Reply.TheVariants as reply
 use Rattle.cut_replay.specs.Run.{Does, IsCut, MayBeCut, MayComplete, NotDone, is_arm, seen_after}
 use Rattle.cut_replay.specs.FlashRun.{Point, IsDone, MovesBy, ServesFlash, Tells, HasErased, opening_point}
 use Rattle.cut_replay.specs.Mounted.{point_at, IsStill}
-use Rattle.cut_replay.specs.Sessions.{flash_in, point_of, StandsMounted, StandsUnmounted, IsSpentBy, ServesIn, Serves, StaysRefused, Ends, MountsIn, MeetsFault, Mounted, Unmounted}
+use Rattle.cut_replay.specs.Sessions.{flash_in, point_of, StandsMounted, StandsUnmounted, IsSpentBy, ServesIn, Serves, IsSoundOrSame, Ends, EndsFor, MountsIn, MeetsFault, Mounted, Unmounted}
 use Rattle.cut_replay.specs.declared.serving.ServeError.{ServeError}
 use Rattle.cut_replay.specs.declared.serving.ServeError.TheVariants as failed
 use Rattle.cut_replay.specs.declared.session.Ended.{Ended}
@@ -81,15 +81,16 @@ lifted_run {F = F} {R = R} state its flash t c r new no_arm mounts h seen faulte
       stands = served.stands;
     }
 
-lifted_refused : {F R : Type 0} (state : F → FlashState) (its : Config) (flash : F) (t : Standing F) (new : Session F R) → StaysRefused {R = R} state its (session.Mounted t) new → StaysRefused {R = R} state its (session.Unmounted flash) new
-lifted_refused state its flash t (session.Mounted s) h = tt
-lifted_refused state its flash t (session.Unmounted after) h = inl h
+-- from another flash with the same moment
+sound_or_same_from : (its : Config) (a b new : FlashState) → moment_of b ≡ moment_of a → IsSoundOrSame its b new → IsSoundOrSame its a new
+sound_or_same_from its a b new same (inl sound) = inl sound
+sound_or_same_from its a b new same (inr is) = inr (is ∙ same)
 
 pub lifted_serves : {F R : Type 0} (state : F → FlashState) (its : Config) (flash : F) (t : Standing F) (c : Command) (r : Reply) (new : Session F R) → is_arm c ≡ false → MountsIn state its flash t →
     Serves {R = R} state its c (session.Mounted t) r new → Serves {R = R} state its c (session.Unmounted flash) r new
 lifted_serves state its flash t c r new no_arm mounts h = record {
   in_run = lifted_run state its flash t c r new no_arm mounts h.in_run;
-  refused = lifted_refused state its flash t new h.refused;
+  kept = sound_or_same_from its (state flash) (state t.flash) (state (flash_in new)) mounts.still.moment h.kept;
   spends = spends_after c r (state flash).told (state t.flash).told (state (flash_in new)).told mounts.still.told h.spends;
   set = h.set;
 }
@@ -97,19 +98,27 @@ lifted_serves state its flash t c r new no_arm mounts h = record {
 still_then : (a b d : FlashState) → IsStill a b → IsStill b d → IsStill a d
 still_then a b d ab bd = record { moment = bd.moment ∙ ab.moment; shape = bd.shape ∙ ab.shape; told = no_more_then a.told b.told d.told ab.told bd.told }
 
-pub lifted_ends : {F : Type 0} (R : Type 0) (state : F → FlashState) (its : Config) (flash : F) (t : Standing F) (c : Command) (new : F) (why : ServeError) → is_arm c ≡ false → MountsIn state its flash t →
-    Ends {R = R} state its c (session.Mounted t) new why → Ends {R = R} state its c (session.Unmounted flash) new why
-lifted_ends R state its flash t c new (failed.Unsound law slot) no_arm mounts h = absurd h
-lifted_ends R state its flash t c new failed.Memory no_arm mounts (inl still) = inl (still_then (state flash) (state t.flash) (state new) mounts.still still)
-lifted_ends {F = F} R state its flash t c new failed.Memory no_arm mounts (inr cut) =
+lifted_cause : {F : Type 0} (R : Type 0) (state : F → FlashState) (its : Config) (flash : F) (t : Standing F) (c : Command) (new : F) (why : ServeError) → is_arm c ≡ false → MountsIn state its flash t →
+    EndsFor {R = R} state its c (session.Mounted t) new why → EndsFor {R = R} state its c (session.Unmounted flash) new why
+lifted_cause R state its flash t c new (failed.Unsound law slot) no_arm mounts h = absurd h
+lifted_cause R state its flash t c new failed.Memory no_arm mounts (inl still) = inl (still_then (state flash) (state t.flash) (state new) mounts.still still)
+lifted_cause {F = F} R state its flash t c new failed.Memory no_arm mounts (inr cut) =
     let after : Session F R = session.Unmounted new in
     inr (lifted_run {R = R} state its flash t c reply.Cut after no_arm mounts cut.0, spends_after c reply.Cut (state flash).told (state t.flash).told (state new).told mounts.still.told cut.1)
+
+pub lifted_ends : {F : Type 0} (R : Type 0) (state : F → FlashState) (its : Config) (flash : F) (t : Standing F) (c : Command) (new : F) (why : ServeError) → is_arm c ≡ false → MountsIn state its flash t →
+    Ends {R = R} state its c (session.Mounted t) new why → Ends {R = R} state its c (session.Unmounted flash) new why
+lifted_ends R state its flash t c new why no_arm mounts h = record {
+  cause = lifted_cause R state its flash t c new why no_arm mounts h.cause;
+  shape = h.shape ∙ mounts.still.shape;
+  kept = sound_or_same_from its (state flash) (state t.flash) (state new) mounts.still.moment h.kept;
+}
 
 -- The device was not mounted
 pub unmounted_ends : {F : Type 0} (R : Type 0) (state : F → FlashState) (its : Config) (c : Command) (flash new : F) (why : ServeError) → Unmounted state its flash new why →
     Ends {R = R} state its c (session.Unmounted flash) new why
-unmounted_ends R state its c flash new (failed.Unsound law slot) h = (ap (λ (m : Moment). m.image) h.0.moment, h.1)
-unmounted_ends R state its c flash new failed.Memory h = inl h
+unmounted_ends R state its c flash new (failed.Unsound law slot) h = record { cause = (h.0.moment, h.1); shape = h.0.shape; kept = inr h.0.moment }
+unmounted_ends R state its c flash new failed.Memory h = record { cause = inl h; shape = h.shape; kept = inr h.moment }
 
 abbrev IsFaultOrCut : FlashState → Reply → Type 0
 IsFaultOrCut s r = ((r ≡ reply.Fault) × (s.live ≡ true)) ⊎ ((r ≡ reply.Cut) × (s.live ≡ false))
@@ -146,7 +155,7 @@ not_done_serves {F = F} R state its c flash new r no_arm h is =
               (subst (λ (m : Moment). mention (records_in its.protocol m.image) page ≤ seen page) (sym h.still.moment) (stands.mentions page lt));
         };
       };
-      refused = inr (ap (λ (m : Moment). m.image) h.still.moment);
+      kept = inr h.still.moment;
       spends = not_done_spends c (state flash) (state new) r is h;
       set = sets_none c no_arm (state new).told;
     }

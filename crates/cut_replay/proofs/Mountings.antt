@@ -75,7 +75,7 @@ opened_seen : {F : Type 0} (state : F → FlashState) (its : Config) (flash : F)
 opened_seen state its flash seen s h most = record {
   mentions = λ page. elim (cases_lt page its.logical) [
     | inl lt ↦ (let least = most page lt in let is = opened_mention s.noted (records_in its.protocol (state flash).image) its.logical page (ap (λ (n : Noted). n.mentions) h.tables.noted_is) lt in omega (arith, is, least))
-    | inr ge ↦ (let none = h.backed.beyond page (subst (λ (c : Config). c.logical ≤ page) (sym h.config) ge) in omega (arith, none))
+    | inr ge ↦ (let none = h.always.beyond page (subst (λ (c : Config). c.logical ≤ page) (sym h.config) ge) in omega (arith, none))
   ];
   names = λ page version named. absurd (none_named page version (subst (λ (x : List Naming). IsNamedAt x page version) h.namings named));
 }

@@ -14,7 +14,7 @@ use Rattle.tx_engine.specs.ArrayState.{idle}
 use Rattle.tx_engine.specs.Standing.{Standing}
 use Rattle.tx_engine.specs.Opens.{Mounts, FailsToMount}
 use Rattle.tx_engine.specs.declared.mount.MountError.TheVariants as mount
-use Rattle.cut_replay.specs.Mounted.{IsBacked, IsStill}
+use Rattle.cut_replay.specs.Mounted.{HoldsAlways, IsStill}
 use Rattle.cut_replay.specs.Sessions.{MountsIn, MeetsFault, Unmounted}
 use Rattle.cut_replay.specs.declared.serving.ServeError.TheVariants as failed
 
@@ -33,8 +33,8 @@ pub powered_live : (old on : FlashState) → TurnsOn old on → on.live ≡ true
 powered_live old on turned = ap (λ (s : FlashState). s.live) turned
 
 pub powered_mounts : {F : Type 0} (state : F → FlashState) (its : Config) (kept : Protocol) (old on : F) (s : Standing F) → its.protocol ≡ kept → TurnsOn (state old) (state on) →
-    Mounts state on its s → IsBacked state kept s → MountsIn state its old s
-powered_mounts state its kept old on s rule turned mounts backed =
+    Mounts state on its s → HoldsAlways state kept s → MountsIn state its old s
+powered_mounts state its kept old on s rule turned mounts always =
     let image : (state on).image ≡ (state old).image = ap (λ (x : FlashState). x.image) turned in
     record {
       config = mounts.config;
@@ -44,7 +44,7 @@ powered_mounts state its kept old on s rule turned mounts backed =
       unsure = mounts.unsure;
       tables = subst (λ (x : List Contents). IsOpened its x s.noted s.table) image mounts.tables;
       still = powered_still (state old) (state on) (state s.flash) false turned mounts.moment mounts.carries;
-      backed = subst (λ (p : Protocol). IsBacked state p s) (sym rule) backed;
+      always = subst (λ (p : Protocol). HoldsAlways state p s) (sym rule) always;
     }
 
 -- a mount that met a fault

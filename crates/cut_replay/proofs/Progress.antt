@@ -4,6 +4,7 @@ use Rattle.std.specs.Prelude.{IfSome, OnOk, OnErr}
 use Rattle.std.specs.Result.{is_err}
 use Rattle.std.proofs.lemmas.List.{take_more, take_all, length-take-le}
 use Rattle.tx_types.specs.declared.config.Config.{Config}
+use Rattle.tx_types.specs.declared.config.Slot.{Slot}
 use Rattle.tx_types.specs.declared.memory.Memory.{Memory}
 use Rattle.tx_types.specs.Config.{shape_of}
 use Rattle.flash_model.specs.Flash.{FlashState, Told as TellsBreaks}
@@ -16,11 +17,11 @@ use Rattle.host_protocol.specs.declared.reply.Reply.TheVariants as reply
 use Rattle.host_protocol.specs.Replies.{text_of}
 use Rattle.cut_replay.specs.Run.{seen_after}
 use Rattle.cut_replay.specs.FlashRun.{Point, FlashRun, ServesFlash, opening_point, mentions_in, last_moment}
-use Rattle.cut_replay.specs.Watching.{Told, Grew, text_of_all, told_of}
+use Rattle.cut_replay.specs.Watching.{ToldReply, Grew, text_of_all, told_of}
 use Rattle.cut_replay.specs.Bounds.{SpendsTold, LastIsSet}
 use Rattle.cut_replay.specs.Served.{Watched, ServesRun, ServesSound, RefusesUnsound}
-use Rattle.cut_replay.specs.Sessions.{flash_in, point_of, StandsAt, ServesIn, Serves, Ends, EndsForMemory, Refuses, IsSpentBy, StaysRefused}
-use Rattle.cut_replay.specs.Beginning.{Begins, IsKept}
+use Rattle.cut_replay.specs.Sessions.{flash_in, point_of, StandsAt, ServesIn, Serves, Ends, EndsFor, EndsForMemory, Refuses, IsSpentBy, IsSoundOrSame}
+use Rattle.cut_replay.specs.Beginning.{Begins}
 use Rattle.cut_replay.specs.declared.serving.ServeError.{ServeError}
 use Rattle.cut_replay.specs.declared.serving.ServeError.TheVariants as failed
 use Rattle.cut_replay.specs.declared.session.Session.{Session}
@@ -94,7 +95,7 @@ served_more state its init cs c r s t a b d h serves text kept =
       points = h.points ++ p ∷ [];
       runs = runs_more state its init cs h.replies h.points c r s t h.runs serves.in_run serves.spends;
       text = subst (λ (x : List ℕ). Grew a.text d.text x) (sym (text_more h.replies r)) (grew_more a.text b.text d.text (text_of_all h.replies) (text_of r) h.text text);
-      kept = subst (λ (x : List Told). Grew a.kept d.kept x) (sym (told_more h.replies h.points r p (same.0 ∙ sym same.1)))
+      kept = subst (λ (x : List ToldReply). Grew a.kept d.kept x) (sym (told_more h.replies h.points r p (same.0 ∙ sym same.1)))
           (grew_more a.kept b.kept d.kept (told_of h.replies h.points) (record { text = text_of r; moment = p.moment } ∷ []) h.kept
           (subst (λ (m : Moment). Grew b.kept d.kept (record { text = text_of r; moment = m } ∷ [])) (sym (point_moment state its t)) kept));
       set = last_sets cs c (state (flash_in t)).told serves.set;
@@ -140,7 +141,7 @@ one_untold state its init cs c r s t a b d h served spends text kept =
       last = run_parts state its init (cs ++ c ∷ []) (h.replies ++ r ∷ []) (h.points ++ p ∷ []) t (state (flash_in t)) runs refl;
       text = subst (λ (x : List Reply). Grew a.text d.text (text_of_all x)) (sym replies) (subst (λ (o : Option (List ℕ)). Grew a.text o (text_of_all h.replies)) (sym text) h.text);
       kept = subst (λ (x : List Reply). Grew a.kept d.kept (told_of x (take (length cs) (h.points ++ p ∷ [])))) (sym replies)
-          (subst (λ (x : List Point). Grew a.kept d.kept (told_of h.replies x)) (sym points) (subst (λ (o : Option (List Told)). Grew a.kept o (told_of h.replies h.points)) (sym kept) h.kept));
+          (subst (λ (x : List Point). Grew a.kept d.kept (told_of h.replies x)) (sym points) (subst (λ (o : Option (List ToldReply)). Grew a.kept o (told_of h.replies h.points)) (sym kept) h.kept));
       spends = runs.spends;
     }
 
@@ -172,15 +173,15 @@ ended_for_memory {F = F} {R = R} state its init list at c s flash a b lt read h 
     )
 
 -- a session that stands has no image that is refused
-unrefused : {F R : Type 0} (state : F → FlashState) (its : Config) (seen : ℕ → ℕ) (faulted : Bool) (s : Session F R) (flash : F) (law slot : ℕ) → StandsAt state its seen faulted s → Refuses state its s flash law slot → ⊥
+unrefused : {F R : Type 0} (state : F → FlashState) (its : Config) (seen : ℕ → ℕ) (faulted : Bool) (s : Session F R) (flash : F) (law : ℕ) (slot : Slot) → StandsAt state its seen faulted s → Refuses state its s flash law slot → ⊥
 unrefused state its seen faulted (session.Mounted s) flash law slot stands h = h
-unrefused state its seen faulted (session.Unmounted old) flash law slot stands h = sound_unbroken its (state old).image (record { law = law; slot = record { 0 = slot } }) stands.sound h.1
+unrefused state its seen faulted (session.Unmounted old) flash law slot stands h = sound_unbroken its (state old).image (record { law = law; slot = slot }) stands.sound h.1
 
 pub ended_in : {F R : Type 0} (state : F → FlashState) (its : Config) (init : FlashState) (list : List Command) (at : ℕ) (c : Command) (s : Session F R) (flash : F) (why : ServeError) (a b : Watched) → at < length list →
     c ≡ get_or list at c → HasServed state its init (take at list) s a b → Ends state its c s flash why → ServesSound its list init (state flash) a b (Err why)
 ended_in state its init list at c s flash (failed.Unsound law slot) a b lt read h ends =
-    absurd (unrefused state its (seen_through (mentions_in its (moment_of init)) (take at list) h.replies) (faulted_through false h.replies) s flash law slot.0 h.runs.stands ends)
-ended_in state its init list at c s flash failed.Memory a b lt read h ends = ended_for_memory state its init list at c s flash a b lt read h ends
+    absurd (unrefused state its (seen_through (mentions_in its (moment_of init)) (take at list) h.replies) (faulted_through false h.replies) s flash law slot h.runs.stands ends.cause)
+ended_in state its init list at c s flash failed.Memory a b lt read h ends = ended_for_memory state its init list at c s flash a b lt read h ends.cause
 
 -- the reply of it could not be told
 pub untold_in : {F R : Type 0} (state : F → FlashState) (its : Config) (init : FlashState) (list : List Command) (at : ℕ) (c : Command) (r : Reply) (s t : Session F R) (flash : F) (a b d : Watched) → at < length list →
@@ -209,21 +210,23 @@ served_to_the_end state its init list at s flash a b ge h is =
     (all_served state its init list s (state (flash_in s)) a b end refl (no_more_same (state (flash_in s)).told), end.set)
 
 -- Of the flash that was handed in
-pub kept_more : {F R : Type 0} (state : F → FlashState) (its : Config) (init : FlashState) (s t : Session F R) → IsKept state its init s → StaysRefused state its s t → IsKept state its init t
-kept_more state its init s (session.Mounted t) h stays = tt
-kept_more state its init (session.Mounted s) (session.Unmounted new) h stays = inl stays
-kept_more state its init (session.Unmounted old) (session.Unmounted new) h (inl sound) = inl sound
-kept_more state its init (session.Unmounted old) (session.Unmounted new) (inl sound) (inr same) = inl (subst (λ i. IsSoundImage its.protocol its.logical (shape_of its) i) (sym same) sound)
-kept_more state its init (session.Unmounted old) (session.Unmounted new) (inr was) (inr same) = inr (same ∙ was)
+pub kept_more : (its : Config) (init old new : FlashState) → IsSoundOrSame its init old → IsSoundOrSame its old new → IsSoundOrSame its init new
+kept_more its init old new h (inl sound) = inl sound
+kept_more its init old new (inl sound) (inr same) = inl (subst (λ (m : Moment). IsSoundImage its.protocol its.logical (shape_of its) m.image) (sym same) sound)
+kept_more its init old new (inr was) (inr same) = inr (same ∙ was)
 
-pub refused_in : {F R : Type 0} (state : F → FlashState) (its : Config) (init : FlashState) (c : Command) (s : Session F R) (flash : F) (why : ServeError) → IsKept state its init s → Ends state its c s flash why →
-    RefusesUnsound its init (state flash) (Err why)
-refused_in state its init c s flash failed.Memory kept ends = tt
-refused_in state its init c (session.Mounted s) flash (failed.Unsound law slot) kept ends = absurd ends
-refused_in state its init c (session.Unmounted old) flash (failed.Unsound law slot) (inl sound) ends =
+refused_for : {F R : Type 0} (state : F → FlashState) (its : Config) (init : FlashState) (c : Command) (s : Session F R) (flash : F) (law : ℕ) (slot : Slot) → IsSoundOrSame its init (state (flash_in s)) →
+    EndsFor state its c s flash (failed.Unsound law slot) → RefusesUnsound its init (state flash) (Err (failed.Unsound law slot))
+refused_for state its init c (session.Mounted s) flash law slot kept ends = absurd ends
+refused_for state its init c (session.Unmounted old) flash law slot (inl sound) ends =
     absurd (sound_unbroken its (state old).image (record { law = law; slot = slot }) sound ends.1)
-refused_in state its init c (session.Unmounted old) flash (failed.Unsound law slot) (inr same) ends =
-    (ends.0 ∙ same, subst (λ i. IsLeastImageBreach its.protocol its.logical (shape_of its) i (record { law = law; slot = slot })) same ends.1)
+refused_for state its init c (session.Unmounted old) flash law slot (inr same) ends =
+    (ends.0 ∙ same, subst (λ (m : Moment). IsLeastImageBreach its.protocol its.logical (shape_of its) m.image (record { law = law; slot = slot })) same ends.1)
+
+pub refused_in : {F R : Type 0} (state : F → FlashState) (its : Config) (init : FlashState) (c : Command) (s : Session F R) (flash : F) (why : ServeError) → IsSoundOrSame its init (state (flash_in s)) → Ends state its c s flash why →
+    RefusesUnsound its init (state flash) (Err why)
+refused_in state its init c s flash failed.Memory kept ends = kept_more its init (state (flash_in s)) (state flash) kept ends.kept
+refused_in state its init c s flash (failed.Unsound law slot) kept ends = refused_for state its init c s flash law slot kept ends.cause
 
 -- what holds of an answer that was given, and of none
 pub on_ok : (P : Type 0) (r : Result (Unit {0}) Memory) → is_err r ≡ false → OnOk r P → P

@@ -35,7 +35,7 @@ use Rattle.host_protocol.specs.declared.reply.Reply.{Reply}
 use Rattle.cut_replay.specs.Run.{step_reply, abort_reply, collect_reply, is_break}
 use Rattle.cut_replay.specs.FlashRun.{Point, Tells, is_fault, HasErased, IsErase}
 use Rattle.cut_replay.specs.Bounds.{is_cut}
-use Rattle.cut_replay.specs.Mounted.{point_at, IsBacked, MayHaveCut, ServesHere}
+use Rattle.cut_replay.specs.Mounted.{point_at, HoldsAlways, MayHaveCut, ServesHere}
 use Rattle.cut_replay.proofs.Devices.{exits_serve}
 
 -- A step
@@ -57,7 +57,7 @@ step_sure old new tag (Ok p) sure unknown was whole = sure
 step_sure old new tag (Err failed.Unknown) sure unknown was whole = ap (λ (s : Standing _). s.unsure) (unknown refl) ∙ was
 step_sure old new tag (Err failed.Fault) sure unknown was whole = cc
 
-step_cuts : {F : Type 0} (state : F → FlashState) (kept : Protocol) (old new : Standing F) (there : Bool) (tag : ℕ) (result : Result Progress StepError) → IsBacked state kept new →
+step_cuts : {F : Type 0} (state : F → FlashState) (kept : Protocol) (old new : Standing F) (there : Bool) (tag : ℕ) (result : Result Progress StepError) → HoldsAlways state kept new →
     StepsAs there old.machine new.machine tag result → is_fault (step_reply tag result) ≡ true → MayHaveCut state (command.Step tag) old new
 step_cuts state kept old new there tag (Ok (progress.Wrote done all)) is steps fault = cc
 step_cuts state kept old new there tag (Ok progress.Done) is steps fault = cc
@@ -65,7 +65,7 @@ step_cuts state kept old new there tag (Err failed.Unknown) is steps fault = cc
 step_cuts state kept old new there tag (Err failed.Fault) is steps fault = record { may = tt; leaves = is.step_cut old.machine there tag steps }
 
 pub step_serves : {F : Type 0} (state : F → FlashState) (kept : Protocol) (old new : Standing F) (there : Bool) (tag : ℕ) (result : Result Progress StepError) (r : Reply) →
-    IsBacked state kept old → IsBacked state kept new → StepsAs there old.machine new.machine tag result → Exits state old new (is_step_fault result) →
+    HoldsAlways state kept old → HoldsAlways state kept new → StepsAs there old.machine new.machine tag result → Exits state old new (is_step_fault result) →
     OnOk result (new.unsure ≡ unsure.Nothing) → (result ≡ Err failed.Unknown → new ≡ old) → r ≡ step_reply tag result → ServesHere state (command.Step tag) old new r
 step_serves state kept old new there tag result r was is steps exits sure unknown told =
     let breaks = step_breaks tag result in
@@ -99,7 +99,7 @@ aborts_same : (o : Option Entry) (there : Bool) (old new : ArrayState) (tag : �
 aborts_same None there old new tag result is h = cc
 aborts_same (Some e) there old new tag result is h = subst (λ (x : Result Aborted StepError). AbortGives old (settled there old) tag (settled_entry there e) x new) is h
 
-abort_cuts : {F : Type 0} (state : F → FlashState) (kept : Protocol) (old new : Standing F) (there : Bool) (tag : ℕ) (result : Result Aborted StepError) → IsBacked state kept new →
+abort_cuts : {F : Type 0} (state : F → FlashState) (kept : Protocol) (old new : Standing F) (there : Bool) (tag : ℕ) (result : Result Aborted StepError) → HoldsAlways state kept new →
     AbortsAs there old.machine new.machine tag result → is_fault (abort_reply tag result) ≡ true → MayHaveCut state (command.Abort tag) old new
 abort_cuts state kept old new there tag (Ok aborted.Gone) is aborts fault = cc
 abort_cuts state kept old new there tag (Ok aborted.Late) is aborts fault = cc
@@ -111,7 +111,7 @@ abort_cuts state kept old new there tag (Err failed.Fault) is aborts fault = rec
 }
 
 pub abort_serves : {F : Type 0} (state : F → FlashState) (kept : Protocol) (old new : Standing F) (there : Bool) (tag : ℕ) (result : Result Aborted StepError) (r : Reply) →
-    IsBacked state kept old → IsBacked state kept new → AbortsAs there old.machine new.machine tag result → Exits state old new (is_abort_fault result) →
+    HoldsAlways state kept old → HoldsAlways state kept new → AbortsAs there old.machine new.machine tag result → Exits state old new (is_abort_fault result) →
     moment_of (state new.flash) ≡ moment_of (state old.flash) → OnOk result (new.unsure ≡ unsure.Nothing) → (result ≡ Err failed.Unknown → new ≡ old) →
     r ≡ abort_reply tag result → ServesHere state (command.Abort tag) old new r
 abort_serves state kept old new there tag result r was is aborts exits still sure unknown told =
@@ -131,7 +131,7 @@ collect_sure : {F : Type 0} (new : Standing F) (result : Result Collected Fault)
 collect_sure new (Ok p) sure whole = sure
 collect_sure new (Err fault) sure whole = cc
 
-collect_cuts : {F : Type 0} (state : F → FlashState) (kept : Protocol) (old new : Standing F) (there : Bool) (result : Result Collected Fault) → IsBacked state kept new →
+collect_cuts : {F : Type 0} (state : F → FlashState) (kept : Protocol) (old new : Standing F) (there : Bool) (result : Result Collected Fault) → HoldsAlways state kept new →
     CollectsAs there old.machine new.machine result → is_fault (collect_reply result) ≡ true → MayHaveCut state command.Collect old new
 collect_cuts state kept old new there (Ok collected.One) is collects fault = cc
 collect_cuts state kept old new there (Ok collected.Nothing) is collects fault = cc
@@ -160,7 +160,7 @@ collect_tells state old new n t faulted (Ok collected.Nothing) shape tables noth
 collect_tells state old new n t faulted (Err fault) shape tables nothing = tt
 
 pub collect_serves : {F : Type 0} (state : F → FlashState) (kept : Protocol) (old new : Standing F) (there : Bool) (n : Noted) (t : BlockTable) (result : Result Collected Fault) (r : Reply) →
-    IsBacked state kept old → IsBacked state kept new → CollectsAs there old.machine new.machine result → Exits state old new (is_err result) → OnOk result (new.unsure ≡ unsure.Nothing) →
+    HoldsAlways state kept old → HoldsAlways state kept new → CollectsAs there old.machine new.machine result → Exits state old new (is_err result) → OnOk result (new.unsure ≡ unsure.Nothing) →
     IfOk result (Collections state old new n t) →
     (result ≡ Ok collected.Nothing → HasNothingToCollect old.config.protocol old.config.logical (state new.flash).image new.machine.entries) →
     r ≡ collect_reply result → ServesHere state command.Collect old new r

@@ -43,7 +43,7 @@ use Rattle.host_protocol.specs.declared.reply.Reply.TheVariants as reply
 use Rattle.cut_replay.specs.Run.{Does, read_reply, submit_reply, is_break, seen_after}
 use Rattle.cut_replay.specs.FlashRun.{Point, Tells, MovesBy, is_fault}
 use Rattle.cut_replay.specs.Bounds.{is_cut}
-use Rattle.cut_replay.specs.Mounted.{point_at, IsSeen, IsBacked, ServesHere}
+use Rattle.cut_replay.specs.Mounted.{point_at, IsSeen, HoldsAlways, ServesHere}
 use Rattle.cut_replay.proofs.Devices.{in_any, any_in, in_append, seen_at, seen_later}
 
 -- the moment stays
@@ -75,7 +75,7 @@ pub stats_serves : {F : Type 0} (state : F → FlashState) (s : Standing F) (tol
 stats_serves state s told machine programs erases =
     same_serves state command.Stats s (reply.Stats told) refl refl refl (told, machine, refl, refl) (λ faulted h. (programs, erases))
 
-pub report_serves : {F : Type 0} (state : F → FlashState) (kept : Protocol) (s : Standing F) (list : List Found) (text : List ℕ) → IsBacked state kept s → list ≡ found_in s.noted.notes →
+pub report_serves : {F : Type 0} (state : F → FlashState) (kept : Protocol) (s : Standing F) (list : List Found) (text : List ℕ) → HoldsAlways state kept s → list ≡ found_in s.noted.notes →
     text ≡ report kept list s.config.logical → ServesHere state command.Explain s s (reply.Report text)
 report_serves state kept s list text is found told =
     same_serves state command.Explain s (reply.Report text) refl refl refl ((text, refl), refl)
@@ -108,7 +108,7 @@ read_may logical pages page bytes (Err unread.Fault) reads fault = reads.1
 -- only the flash changed, and its moment stays
 pub flash_serves : {F : Type 0} (state : F → FlashState) (kept : Protocol) (old : Standing F) (flash : F) (page : ℕ) (bytes : List ℕ) (result : Result ReadAnswer ReadError) →
     (let new : Standing F = record old { flash = flash } in
-    IsBacked state kept new → ReadsPage old.config.logical old.machine.pages page bytes result → moment_of (state flash) ≡ moment_of (state old.flash) →
+    HoldsAlways state kept new → ReadsPage old.config.logical old.machine.pages page bytes result → moment_of (state flash) ≡ moment_of (state old.flash) →
     Carries (state old.flash) (state flash) (is_read_fault result) → ServesHere state (command.Read page) old new (read_reply page bytes result))
 flash_serves state kept old flash page bytes result is reads still carries =
     let breaks = read_breaks page bytes result in
@@ -126,12 +126,12 @@ flash_serves state kept old flash page bytes result is reads still carries =
     }
 
 pub read_serves : {F : Type 0} (state : F → FlashState) (kept : Protocol) (old new : Standing F) (page : ℕ) (bytes : List ℕ) (result : Result ReadAnswer ReadError) (r : Reply) →
-    IsBacked state kept new → ReadsPage old.config.logical old.machine.pages page bytes result → moment_of (state new.flash) ≡ moment_of (state old.flash) →
+    HoldsAlways state kept new → ReadsPage old.config.logical old.machine.pages page bytes result → moment_of (state new.flash) ≡ moment_of (state old.flash) →
     Carries (state old.flash) (state new.flash) (is_read_fault result) → new ≡ record old { flash = new.flash } → r ≡ read_reply page bytes result → ServesHere state (command.Read page) old new r
 read_serves {F = F} state kept old new page bytes result r is reads still carries stays told =
     subst (λ (q : Reply). ServesHere state (command.Read page) old new q) (sym told)
     (subst (λ (s : Standing F). ServesHere state (command.Read page) old s (read_reply page bytes result)) (sym stays)
-    (flash_serves state kept old new.flash page bytes result (subst (λ (s : Standing F). IsBacked state kept s) stays is) reads still carries))
+    (flash_serves state kept old new.flash page bytes result (subst (λ (s : Standing F). HoldsAlways state kept s) stays is) reads still carries))
 
 -- A write
 write_unbroken : (tag pages : ℕ) (result : Result (Unit {0}) SubmitError) →
@@ -240,7 +240,7 @@ told_refused tag pages e result r told is = told ∙ ap (submit_reply tag pages)
 
 -- a read whose reply there was memory for
 pub reads_serve : {F : Type 0} (state : F → FlashState) (kept : Protocol) (old new : Standing F) (page : ℕ) (bytes : List ℕ) (result : Result ReadAnswer ReadError) (r : Result Reply Memory) →
-    IsBacked state kept new → ReadsPage old.config.logical old.machine.pages page bytes result → moment_of (state new.flash) ≡ moment_of (state old.flash) →
+    HoldsAlways state kept new → ReadsPage old.config.logical old.machine.pages page bytes result → moment_of (state new.flash) ≡ moment_of (state old.flash) →
     Carries (state old.flash) (state new.flash) (is_read_fault result) → new ≡ record old { flash = new.flash } → IfOk r (λ r. r ≡ read_reply page bytes result) →
     IfOk r (λ r. ServesHere state (command.Read page) old new r)
 reads_serve state kept old new page bytes result (Ok r) is reads still carries stays told = read_serves state kept old new page bytes result r is reads still carries stays told

@@ -1,22 +1,17 @@
 -- How a session begins that serves a list of commands.
-use Rattle.std.specs.Prelude.{◌≡◌, ◌⊎◌, Bool, false}
+use Rattle.std.specs.Prelude.{◌≡◌, Bool, false}
 use Rattle.tx_types.specs.declared.config.Config.{Config}
 use Rattle.flash_model.specs.Flash.{FlashState}
 use Rattle.flash_model.specs.Calls.{BothTell, NoMore}
 use Rattle.flash_model.specs.Operations.{moment_of}
 use Rattle.cut_replay.specs.FlashRun.{mentions_in, opening_point}
-use Rattle.cut_replay.specs.Sessions.{point_of, flash_in, IsSoundFlash, StandsAt}
+use Rattle.cut_replay.specs.Sessions.{point_of, flash_in, StandsAt}
 use Rattle.cut_replay.specs.declared.session.Session.{Session}
-use Rattle.cut_replay.specs.declared.session.Session.TheVariants as session
 
 -- it is at the opening point of a flash, mounted or not, and no more is to come
-pub record Begins {F R : Type 0} (state : F → FlashState) (its : Config) (init : FlashState) (s : Session F R) : Type 0 where
+pub record Begins {F R : Type 0}
+    (state : F → FlashState) (its : Config) (init : FlashState) (s : Session F R) : Type 0 where
   pub up : Bool
   pub point : point_of state its s ≡ opening_point its up (moment_of init)
   pub stands : StandsAt state its (mentions_in its (moment_of init)) false s
   pub told : BothTell NoMore init.told (state (flash_in s)).told
-
--- where it is not mounted its image is sound, or that of the flash handed in
-abbrev pub IsKept : {F R : Type 0} → (F → FlashState) → Config → FlashState → Session F R → Type 0
-IsKept state its init (session.Mounted s) = Unit {0}
-IsKept state its init (session.Unmounted flash) = IsSoundFlash its (state flash) ⊎ ((state flash).image ≡ init.image)

@@ -1,15 +1,17 @@
 -- What a command does on a mounted device, before it is asked whether power was cut in it.
-use Rattle.std.specs.Prelude.{◌≡◌, ◌<◌, ◌≤◌, ℕ, Bool, true, false, ◌&&◌, nat_lt, List, All, Result, Ok, Err, Some, is_some, MatchBool}
+use Rattle.std.specs.Prelude.{◌≡◌, ◌<◌, ◌≤◌, ℕ, ◌⊎◌, Bool, true, false, not, ◌&&◌, nat_lt, List, All, Result, Ok, Err}
+use Rattle.std.specs.Prelude.{Some, is_some, MatchBool, if◌then◌else◌}
+use Rattle.tx_types.specs.declared.memory.Memory.{Memory}
 use Rattle.tx_types.specs.declared.config.Protocol.{Protocol}
 use Rattle.tx_types.specs.Config.{checked, shape_of}
-use Rattle.flash_model.specs.Flash.{FlashState}
+use Rattle.flash_model.specs.Flash.{FlashState, counted}
 use Rattle.flash_model.specs.Calls.{Carries, BothTell, NoMore}
 use Rattle.flash_model.specs.Operations.{moment_of}
 use Rattle.version_index.specs.Images.{IsSoundImage, array_in, records_in}
 use Rattle.version_index.specs.Notes.{found_in}
 use Rattle.version_index.specs.Noted.{current_of, mention_of}
 use Rattle.collector.specs.declared.unsure.Unsure.TheVariants as unsure
-use Rattle.page_cache.specs.CachedPages.{CachedPage, entry_of}
+use Rattle.page_cache.specs.CachedPages.{CachedPage, CachedPages, entry_of, promoted, kept}
 use Rattle.tx_engine.specs.ArrayState.{ArrayState, page_at, idle}
 use Rattle.tx_engine.specs.Exits.{StandsFor, MentionsAtMost, VersionsTell, IsNamedAt}
 use Rattle.tx_engine.specs.Naming.{is_spent}
@@ -17,9 +19,11 @@ use Rattle.tx_engine.specs.Read.{ReadsFlash, read_place}
 use Rattle.tx_engine.specs.Standing.{Standing, limits_of}
 use Rattle.tx_engine.specs.Step.{StepsAs, CutLeaves, IsAtLast, settled}
 use Rattle.tx_engine.specs.declared.read.ReadAnswer.{ReadAnswer}
+use Rattle.tx_engine.specs.declared.read.ReadAnswer.TheVariants as answer
 use Rattle.tx_engine.specs.declared.read.ReadError.{ReadError}
 use Rattle.tx_engine.specs.declared.step.StepError.TheVariants as failed
 use Rattle.host_protocol.specs.declared.command.Command.{Command}
+use Rattle.host_protocol.specs.declared.command.Command.TheVariants as command
 use Rattle.host_protocol.specs.declared.reply.Reply.{Reply}
 use Rattle.cut_replay.specs.Run.{Does, MayBeCut, MayComplete, seen_after}
 use Rattle.cut_replay.specs.FlashRun.{Point, MovesBy, Tells, is_fault}
@@ -43,8 +47,9 @@ pub record IsCachedAs {F : Type 0} (s : Standing F) (e : CachedPage) : Type 0 wh
 abbrev pub IsCached : {F : Type 0} → Standing F → List CachedPage → Type 0
 IsCached s entries = All (IsCachedAs s) entries
 
--- What holds of a device at every moment: of its flash, and of what a power cut leaves that was met in a call which led here.
-pub record IsBacked {F : Type 0} (state : F → FlashState) (protocol : Protocol) (s : Standing F) : Type 0 where
+-- What holds of a device at every moment: of its flash, and of what a power cut leaves that was met in a call which led
+-- here.
+pub record HoldsAlways {F : Type 0} (state : F → FlashState) (protocol : Protocol) (s : Standing F) : Type 0 where
   pub rule : s.config.protocol ≡ protocol
   pub check : checked s.config ≡ Ok (state s.flash).shape
   pub shape : (state s.flash).shape ≡ shape_of s.config
@@ -56,7 +61,8 @@ pub record IsBacked {F : Type 0} (state : F → FlashState) (protocol : Protocol
   pub mentions : MentionsAtMost s.noted s.namings (state s.flash).image
   pub beyond : (page : ℕ) → s.config.logical ≤ page → mention_of s.noted page ≡ 0
   pub step_cut : (old : ArrayState) (there : Bool) (tag : ℕ) → StepsAs there old s.machine tag (Err failed.Fault) →
-      CutLeaves (λ e. (e.tag ≡ tag) × IsAtLast e) old (idle (array_in s.config.protocol s.config.logical (state s.flash).image))
+      CutLeaves (λ e. (e.tag ≡ tag) × IsAtLast e) old
+      (idle (array_in s.config.protocol s.config.logical (state s.flash).image))
   pub same_cut : CutLeaves (λ e. ⊥) s.machine (idle (array_in s.config.protocol s.config.logical (state s.flash).image))
   pub settled_cut : (old : ArrayState) (there : Bool) → s.machine ≡ settled there old →
       CutLeaves (λ e. ⊥) old (idle (array_in s.config.protocol s.config.logical (state s.flash).image))
@@ -64,10 +70,12 @@ pub record IsBacked {F : Type 0} (state : F → FlashState) (protocol : Protocol
 -- what a power cut leaves, if the call met one
 pub record MayHaveCut {F : Type 0} (state : F → FlashState) (c : Command) (old new : Standing F) : Type 0 where
   pub may : MayBeCut old.machine.pages c
-  pub leaves : CutLeaves (MayComplete c) old.machine (idle (array_in new.config.protocol new.config.logical (state new.flash).image))
+  pub leaves : CutLeaves (MayComplete c) old.machine
+      (idle (array_in new.config.protocol new.config.logical (state new.flash).image))
 
 -- A command was done on a device, with this reply unless power was cut.
-pub record ServesHere {F : Type 0} (state : F → FlashState) (c : Command) (old new : Standing F) (r : Reply) : Type 0 where
+pub record ServesHere {F : Type 0}
+    (state : F → FlashState) (c : Command) (old new : Standing F) (r : Reply) : Type 0 where
   pub config : new.config ≡ old.config
   pub does : Does (limits_of old.config) (is_spent old.noted.mentions) c old.machine r new.machine
   pub moves : MovesBy old.config c r (moment_of (state old.flash)) (moment_of (state new.flash))
@@ -90,8 +98,57 @@ pub record IsStill (old new : FlashState) : Type 0 where
 abbrev pub is_held : {F : Type 0} → Standing F → List CachedPage → ℕ → Bool
 is_held s entries page = nat_lt page s.config.logical && is_some (entry_of page (current_of s.noted page) entries)
 
--- A read of a page that is held leaves the device and its flash; any other one is a read of the device.
-abbrev pub ReadsThrough : {F : Type 0} → (F → FlashState) → Standing F → Standing F → List CachedPage → ℕ → List ℕ → List ℕ → Result ReadAnswer ReadError → Type 0
+-- A read of a page that is held is answered, and leaves the device and its flash; any other is a read of the device.
+abbrev pub ReadsThrough : {F : Type 0} → (F → FlashState) → Standing F → Standing F → List CachedPage → ℕ →
+    List ℕ → List ℕ → Result ReadAnswer ReadError → Type 0
 ReadsThrough state old new entries page before after result =
-    MatchBool (is_held old entries page) (new ≡ old)
+    MatchBool (is_held old entries page) ((new ≡ old) × (result ≡ Ok answer.Page))
     (ReadsFlash state (read_place old.noted old.unsure page) old.flash new.flash before after result)
+
+-- the entry of a page at its current version comes to the front
+abbrev pub brought_forward : {F : Type 0} → Standing F → ℕ → CachedPages → CachedPages
+brought_forward s page cache = record cache { entries = promoted page (current_of s.noted page) cache.entries }
+
+-- these bytes of a page come in front, under its current version
+abbrev pub with_page : {F : Type 0} → Standing F → ℕ → List ℕ → CachedPages → CachedPages
+with_page s page bytes cache = record cache { entries = kept page (current_of s.noted page) bytes cache.entries }
+
+-- a page is kept, unless memory ran out
+abbrev pub KeepsPage : {F : Type 0} → Standing F → CachedPages → CachedPages → ℕ → List ℕ →
+    Result (Unit {0}) Memory → Type 0
+KeepsPage s before after page bytes (Ok u) = after ≡ with_page s page bytes before
+KeepsPage s before after page bytes (Err e) = after ≡ before
+
+-- What a read leaves in the cache: a page that was held comes to the front; a page that was read is kept, unless memory
+-- ran out.
+abbrev pub CachesRead : {F : Type 0} → Standing F → CachedPages → CachedPages → ℕ → List ℕ →
+    Result ReadAnswer ReadError → Result (Unit {0}) Memory → Type 0
+CachesRead s before after page bytes (Ok answer.Page) memory =
+    MatchBool (is_held s before.entries page) (after ≡ brought_forward s page before)
+    (KeepsPage s before after page bytes memory)
+CachesRead s before after page bytes _ memory = after ≡ before
+
+-- a page that was written and is not held takes a read of the flash
+abbrev pub takes_read : {F : Type 0} → Standing F → List CachedPage → ℕ → Bool
+takes_read s entries page =
+    nat_lt page s.config.logical && is_some (page_at s.machine.pages page) && not (is_held s entries page)
+
+-- a read takes one read of a flash that is live where it takes one, and else none
+abbrev pub ReadsOnce : {F : Type 0} → (F → FlashState) → Standing F → Standing F → List CachedPage → ℕ → Type 0
+ReadsOnce state old new entries page =
+    (state old.flash).live ≡ true → (state new.flash).reads ≡
+    (if takes_read old entries page then counted (state old.flash).reads else (state old.flash).reads)
+
+-- a page that is held comes to the front; of another one the bytes of the array are kept, or nothing changes
+abbrev pub CachesPage : {F : Type 0} → Standing F → CachedPages → CachedPages → ℕ → Type 0
+CachesPage s before after page =
+    MatchBool (is_held s before.entries page) (after ≡ brought_forward s page before)
+    (((bytes : List ℕ) × (page_at s.machine.pages page ≡ Some bytes) × (after ≡ with_page s page bytes before))
+    ⊎ (after ≡ before))
+
+-- what a command does to the cache, and a read to the count of reads; only a read changes the cache
+abbrev pub CachesCommand : {F : Type 0} → (F → FlashState) → Command → Standing F → Standing F →
+    CachedPages → CachedPages → Type 0
+CachesCommand state (command.Read page) old new before after =
+    ReadsOnce state old new before.entries page × CachesPage old before after page
+CachesCommand state _ old new before after = after ≡ before

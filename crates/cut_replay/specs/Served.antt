@@ -8,19 +8,21 @@ use Rattle.version_index.specs.Images.{IsLeastImageBreach}
 use Rattle.host_protocol.specs.declared.command.Command.{Command}
 use Rattle.host_protocol.specs.declared.reply.Reply.{Reply}
 use Rattle.cut_replay.specs.FlashRun.{Point, IsFlashRun, last_moment}
-use Rattle.cut_replay.specs.Watching.{Told, Grew, text_of_all, told_of}
+use Rattle.cut_replay.specs.Watching.{ToldReply, Grew, text_of_all, told_of}
 use Rattle.cut_replay.specs.Bounds.{SpendsTold, LastIsSet}
+use Rattle.cut_replay.specs.Sessions.{IsSoundOrSame}
 use Rattle.cut_replay.specs.declared.serving.ServeError.{ServeError}
 use Rattle.cut_replay.specs.declared.serving.ServeError.TheVariants as failed
 
 -- what a watch has been told: the text of the replies, and each with its moment, where it tells these
 pub record Watched : Type 0 where
   pub text : Option (List ℕ)
-  pub kept : Option (List Told)
+  pub kept : Option (List ToldReply)
 
--- There is one run on the flash over these commands. Its last moment is that of the flash that comes back. Of its replies the
--- first so many were told, each with its moment.
-pub record ServesRun (its : Config) (cs : List Command) (told : ℕ) (old new : FlashState) (before after : Watched) : Type 0 where
+-- There is one run on the flash over these commands. Its last moment is that of the flash that comes back. Of its
+-- replies the first so many were told, each with its moment.
+pub record ServesRun
+    (its : Config) (cs : List Command) (told : ℕ) (old new : FlashState) (before after : Watched) : Type 0 where
   pub replies : List Reply
   pub points : List Point
   pub run : IsFlashRun its (moment_of old) cs replies points
@@ -30,19 +32,22 @@ pub record ServesRun (its : Config) (cs : List Command) (told : ℕ) (old new : 
   pub spends : SpendsTold cs replies old.told new.told
 
 -- what serving comes to where the image handed in was sound
-abbrev pub ServesSound : Config → List Command → FlashState → FlashState → Watched → Watched → Result (Unit {0}) ServeError → Type 0
+abbrev pub ServesSound : Config → List Command → FlashState → FlashState → Watched → Watched →
+    Result (Unit {0}) ServeError → Type 0
 ServesSound its cs old new before after (Ok u) =
     ServesRun its cs (length cs) old new before after × IfSome new.told (LastIsSet cs)
 ServesSound its cs old new before after (Err failed.Memory) =
     (told : ℕ) × (told ≤ length cs)
-    × (ServesRun its (take told cs) told old new before after ⊎ ServesRun its (take (told + 1) cs) told old new before after)
+    × (ServesRun its (take told cs) told old new before after
+    ⊎ ServesRun its (take (told + 1) cs) told old new before after)
 ServesSound its cs old new before after (Err (failed.Unsound law slot)) = ⊥
 
--- A flash is refused exactly as it was handed in, and its image is not sound: the first law that it breaks, and the slot that the
--- law names.
+-- What serving comes to whatever the image was. A flash that is refused holds and has counted what it did when it was
+-- handed in, and its image is not sound: the first law that it breaks, and the slot that the law names. Any other flash
+-- comes back with a sound image, or as it was handed in.
 abbrev pub RefusesUnsound : Config → FlashState → FlashState → Result (Unit {0}) ServeError → Type 0
 RefusesUnsound its old new (Err (failed.Unsound law slot)) =
-    (new.image ≡ old.image)
+    (moment_of new ≡ moment_of old)
     × IsLeastImageBreach its.protocol its.logical (shape_of its) old.image (record { law = law; slot = slot })
-RefusesUnsound its old new (Err failed.Memory) = Unit {0}
-RefusesUnsound its old new (Ok u) = Unit {0}
+RefusesUnsound its old new (Err failed.Memory) = IsSoundOrSame its old new
+RefusesUnsound its old new (Ok u) = IsSoundOrSame its old new

@@ -1,7 +1,9 @@
 -- A flash on which commands are served, with its device while that is mounted.
-use Rattle.std.specs.Prelude.{◌≡◌, ◌⊎◌, ◌<◌, ◌≤◌, ◌+◌, ℕ, Bool, true, false, ◌||◌, List, [], IfSome, Result, Ok, Err, if◌then◌else◌}
+use Rattle.std.specs.Prelude.{◌≡◌, ◌⊎◌, ◌<◌, ◌≤◌, ◌+◌, ℕ, Bool, true, false, ◌||◌, List, [], IfSome, Result, Ok, Err}
+use Rattle.std.specs.Prelude.{if◌then◌else◌}
 use Rattle.tx_types.specs.declared.config.Config.{Config}
 use Rattle.tx_types.specs.declared.config.Protocol.{Protocol}
+use Rattle.tx_types.specs.declared.config.Slot.{Slot}
 use Rattle.tx_types.specs.Config.{checked, shape_of}
 use Rattle.flash_model.specs.Flash.{FlashState, Told}
 use Rattle.flash_model.specs.Calls.{BothTell, Spends}
@@ -20,7 +22,7 @@ use Rattle.host_protocol.specs.declared.reply.Reply.TheVariants as reply
 use Rattle.cut_replay.specs.Run.{MayBeSpent, seen_after}
 use Rattle.cut_replay.specs.FlashRun.{Point, IsPoint, ServesFlash, is_fault, opening_point}
 use Rattle.cut_replay.specs.Bounds.{is_cut, arms_cut, arms_fault, IsSet}
-use Rattle.cut_replay.specs.Mounted.{point_at, IsSeen, IsCached, IsStill, IsBacked}
+use Rattle.cut_replay.specs.Mounted.{point_at, IsSeen, IsCached, IsStill, HoldsAlways}
 use Rattle.cut_replay.specs.declared.session.Session.{Session}
 use Rattle.cut_replay.specs.declared.session.Session.TheVariants as session
 use Rattle.cut_replay.specs.declared.session.Ended.{Ended}
@@ -37,17 +39,18 @@ abbrev pub point_of : {F R : Type 0} → (F → FlashState) → Config → Sessi
 point_of state its (session.Mounted s) = point_at state s
 point_of state its (session.Unmounted flash) = opening_point its false (moment_of (state flash))
 
--- the configuration passes the check with this shape, and the image is sound
+-- the image of a flash is sound
 abbrev pub IsSoundFlash : Config → FlashState → Type 0
 IsSoundFlash its s = IsSoundImage its.protocol its.logical (shape_of its) s.image
 
 -- a mounted device is live, with what holds of it at every moment, and the cache holds nothing that is out of date
-pub record FitsMounted {F : Type 0} (state : F → FlashState) (its : Config) (cache : List CachedPage) (s : Standing F) : Type 0 where
+pub record FitsMounted {F : Type 0}
+    (state : F → FlashState) (its : Config) (cache : List CachedPage) (s : Standing F) : Type 0 where
   pub config : s.config ≡ its
   pub check : checked its ≡ Ok (state s.flash).shape
   pub live : (state s.flash).live ≡ true
   pub cached : IsCached s cache
-  pub backed : IsBacked state its.protocol s
+  pub always : HoldsAlways state its.protocol s
 
 -- the session is one on a flash of this configuration
 abbrev pub Fits : {F R : Type 0} → (F → FlashState) → Config → List CachedPage → Session F R → Type 0
@@ -73,35 +76,35 @@ pub record IsSpentBy (c : Command) (r : Reply) (old new : Told) : Type 0 where
   pub breaks : (if is_fault r then 1 else 0) + new.breaks ≤ old.breaks + (if arms_fault c then 1 else 0)
 
 -- A command was served in a session, with this reply.
-pub record ServesIn {F R : Type 0} (state : F → FlashState) (its : Config) (seen : ℕ → ℕ) (faulted : Bool) (c : Command) (old : Session F R) (r : Reply) (new : Session F R) : Type 0 where
+pub record ServesIn {F R : Type 0}
+    (state : F → FlashState) (its : Config) (seen : ℕ → ℕ) (faulted : Bool)
+    (c : Command) (old : Session F R) (r : Reply) (new : Session F R) : Type 0 where
   pub spent : ℕ → Bool
   pub may : MayBeSpent seen spent
   pub serves : ServesFlash its spent faulted c (point_of state its old) r (point_of state its new)
   pub point : IsPoint its (point_of state its new)
   pub stands : StandsAt state its (seen_after seen c r) (faulted || is_fault r) new
 
--- the image is sound, or the flash was not mounted before either and its image is the same
-abbrev pub IsSameOrSound : {F R : Type 0} → (F → FlashState) → Config → Session F R → F → Type 0
-IsSameOrSound state its (session.Mounted s) flash = IsSoundFlash its (state flash)
-IsSameOrSound state its (session.Unmounted old) flash = IsSoundFlash its (state flash) ⊎ ((state flash).image ≡ (state old).image)
-
-abbrev pub StaysRefused : {F R : Type 0} → (F → FlashState) → Config → Session F R → Session F R → Type 0
-StaysRefused state its old (session.Mounted s) = Unit {0}
-StaysRefused state its old (session.Unmounted flash) = IsSameOrSound state its old flash
+-- the image is sound, or nothing was written: the moment is the same
+abbrev pub IsSoundOrSame : Config → FlashState → FlashState → Type 0
+IsSoundOrSame its old new = IsSoundFlash its new ⊎ (moment_of new ≡ moment_of old)
 
 -- What serving a command comes to, whatever the image is.
-pub record Serves {F R : Type 0} (state : F → FlashState) (its : Config) (c : Command) (old : Session F R) (r : Reply) (new : Session F R) : Type 0 where
-  pub in_run : (seen : ℕ → ℕ) → (faulted : Bool) → StandsAt state its seen faulted old → ServesIn state its seen faulted c old r new
-  pub refused : StaysRefused state its old new
+pub record Serves {F R : Type 0}
+    (state : F → FlashState) (its : Config)
+    (c : Command) (old : Session F R) (r : Reply) (new : Session F R) : Type 0 where
+  pub in_run : (seen : ℕ → ℕ) → (faulted : Bool) → StandsAt state its seen faulted old →
+      ServesIn state its seen faulted c old r new
+  pub kept : IsSoundOrSame its (state (flash_in old)) (state (flash_in new))
   pub spends : BothTell (IsSpentBy c r) (state (flash_in old)).told (state (flash_in new)).told
   pub set : IfSome (state (flash_in new)).told (IsSet c)
 
 -- The flash was refused: it was never mounted, and its image is not sound.
-abbrev pub Refuses : {F R : Type 0} → (F → FlashState) → Config → Session F R → F → ℕ → ℕ → Type 0
+abbrev pub Refuses : {F R : Type 0} → (F → FlashState) → Config → Session F R → F → ℕ → Slot → Type 0
 Refuses state its (session.Mounted s) flash law slot = ⊥
 Refuses state its (session.Unmounted old) flash law slot =
-    ((state flash).image ≡ (state old).image)
-    × IsLeastImageBreach its.protocol its.logical (shape_of its) (state old).image (record { law = law; slot = record { 0 = slot } })
+    (moment_of (state flash) ≡ moment_of (state old))
+    × IsLeastImageBreach its.protocol its.logical (shape_of its) (state old).image (record { law = law; slot = slot })
 
 -- there was no memory before the command did anything, or after power was cut in it
 abbrev pub EndsForMemory : {F R : Type 0} → (F → FlashState) → Config → Command → Session F R → F → Type 0
@@ -112,9 +115,17 @@ EndsForMemory state its c old flash =
     × BothTell (IsSpentBy c reply.Cut) (state (flash_in old)).told (state flash).told)
 
 -- Why no more commands are served.
-abbrev pub Ends : {F R : Type 0} → (F → FlashState) → Config → Command → Session F R → F → ServeError → Type 0
-Ends state its c old flash (failed.Unsound law slot) = Refuses state its old flash law slot.0
-Ends state its c old flash failed.Memory = EndsForMemory state its c old flash
+abbrev pub EndsFor : {F R : Type 0} → (F → FlashState) → Config → Command → Session F R → F → ServeError → Type 0
+EndsFor state its c old flash (failed.Unsound law slot) = Refuses state its old flash law slot
+EndsFor state its c old flash failed.Memory = EndsForMemory state its c old flash
+
+-- and what the flash is that comes back
+pub record Ends {F R : Type 0}
+    (state : F → FlashState) (its : Config)
+    (c : Command) (old : Session F R) (flash : F) (why : ServeError) : Type 0 where
+  pub cause : EndsFor state its c old flash why
+  pub shape : (state flash).shape ≡ (state (flash_in old)).shape
+  pub kept : IsSoundOrSame its (state (flash_in old)) (state flash)
 
 -- What mounting a flash comes to: its device, with nothing open; or a read met a fault.
 pub record MountsIn {F : Type 0} (state : F → FlashState) (its : Config) (flash : F) (s : Standing F) : Type 0 where
@@ -125,7 +136,7 @@ pub record MountsIn {F : Type 0} (state : F → FlashState) (its : Config) (flas
   pub unsure : s.unsure ≡ unsure.Nothing
   pub tables : IsOpened its (state flash).image s.noted s.table
   pub still : IsStill (state flash) (state s.flash)
-  pub backed : IsBacked state its.protocol s
+  pub always : HoldsAlways state its.protocol s
 
 pub record MeetsFault (old new : FlashState) : Type 0 where
   pub still : IsStill old new
@@ -143,22 +154,27 @@ Unmounted state its flash new (failed.Unsound law slot) =
 Unmounted state its flash new failed.Memory = IsStill (state flash) (state new)
 
 -- an arm of the flash is set, and all else of the session stays
-pub record SetsArmHere {F : Type 0} (state : F → FlashState) (kept : Protocol) (sets : Told → Told → Type 0) (old new : Standing F) : Type 0 where
+pub record SetsArmHere {F : Type 0}
+    (state : F → FlashState) (kept : Protocol) (sets : Told → Told → Type 0) (old new : Standing F) : Type 0 where
   pub stays : new ≡ record old { flash = new.flash }
   pub changes : ChangesTold sets (state old.flash) (state new.flash)
-  pub backed : IsBacked state kept new
+  pub always : HoldsAlways state kept new
 
-abbrev pub SetsArm : {F R : Type 0} → (F → FlashState) → Protocol → (Told → Told → Type 0) → Session F R → Session F R → Type 0
+abbrev pub SetsArm : {F R : Type 0} → (F → FlashState) → Protocol → (Told → Told → Type 0) →
+    Session F R → Session F R → Type 0
 SetsArm state kept sets (session.Mounted old) (session.Mounted new) = SetsArmHere state kept sets old new
 SetsArm state kept sets (session.Unmounted old) (session.Unmounted new) = ChangesTold sets (state old) (state new)
 SetsArm state kept sets (session.Mounted old) (session.Unmounted new) = ⊥
 SetsArm state kept sets (session.Unmounted old) (session.Mounted new) = ⊥
 
 -- What comes of a call of a device: nothing more where it is live still, and else a mount of its flash.
-abbrev pub MountsAgain : {F R : Type 0} → (F → FlashState) → Config → Standing F → Result (Session F R × Reply) (Ended F) → Type 0
+abbrev pub MountsAgain : {F R : Type 0} → (F → FlashState) → Config → Standing F →
+    Result (Session F R × Reply) (Ended F) → Type 0
 MountsAgain state its s (Ok done) = Mounted state its s.flash done.0 × (done.1 ≡ reply.Cut)
 MountsAgain state its s (Err ended) = Unmounted state its s.flash ended.flash ended.why
 
-pub record Follows {F R : Type 0} (state : F → FlashState) (its : Config) (s : Standing F) (r : Reply) (result : Result (Session F R × Reply) (Ended F)) (before after : CachedPages) : Type 0 where
+pub record Follows {F R : Type 0}
+    (state : F → FlashState) (its : Config) (s : Standing F) (r : Reply)
+    (result : Result (Session F R × Reply) (Ended F)) (before after : CachedPages) : Type 0 where
   pub went_on : (state s.flash).live ≡ true → (result ≡ Ok (session.Mounted s, r)) × (after ≡ before)
   pub was_cut : (state s.flash).live ≡ false → MountsAgain state its s result × (after ≡ record before { entries = [] })

@@ -7,7 +7,7 @@ use Rattle.host_protocol.specs.declared.reply.Reply.{Reply}
 use Rattle.cut_replay.specs.FlashRun.{Point}
 
 -- the text of a reply, and what the flash was when it was given
-pub record Told : Type 0 where
+pub record ToldReply : Type 0 where
   pub text : List ℕ
   pub moment : Moment
 
@@ -21,5 +21,5 @@ abbrev pub text_of_all : List Reply → List ℕ
 text_of_all replies = flat_map text_of replies
 
 -- what is told of replies and the points that they were given at
-abbrev pub told_of : List Reply → List Point → List Told
+abbrev pub told_of : List Reply → List Point → List ToldReply
 told_of replies points = map (λ (r, p). record { text = text_of r; moment = p.moment }) (zip replies points)

@@ -1,8 +1,8 @@
 ghost use Rattle.std.specs.Prelude.{◌≡◌, ℕ, Err, IfOk};
-ghost use Rattle.cut_replay.specs.Mounted.{IsBacked, ServesHere};
+ghost use Rattle.cut_replay.specs.Mounted.{HoldsAlways, ServesHere};
 ghost use Rattle.cut_replay.specs.Run.{submit_reply, step_reply, abort_reply, collect_reply};
 
-use crate::backing::backing;
+use crate::always::held_always;
 use flash_model::Flash;
 use host_protocol::{Command, Reply};
 use record_list::CommitRule;
@@ -14,12 +14,12 @@ use verdict_report::explain;
 /// Opens a transaction.
 pub fn write<F: Flash, R: CommitRule>(device: &mut Device<F, R>, tag: u32, batch: &Batch) -> Reply
     requires page { batch.now.page_bytes ≡ device.old.config.page_bytes }
-    requires backed { IsBacked F.state R.kept device.old }
+    requires always { HoldsAlways F.state R.kept device.old }
     ensures serves { ServesHere F.state (Command.Write tag batch.now) device.old device.new result }
-    ensures backed { IsBacked F.state R.kept device.new }
+    ensures always { HoldsAlways F.state R.kept device.new }
 {
     let answer = device.submit(tag, batch);
-    backing(device);
+    held_always(device);
     match answer {
         Ok(()) => Reply::Opened(tag, batch.len() as u32),
         Err(refusal) => refused(tag, refusal),
@@ -43,12 +43,12 @@ fn refused(tag: u32, refusal: SubmitError) -> Reply
 
 /// Goes on with a transaction by a page.
 pub fn step<F: Flash, R: CommitRule>(device: &mut Device<F, R>, tag: u32) -> Reply
-    requires { IsBacked F.state R.kept device.old }
+    requires { HoldsAlways F.state R.kept device.old }
     ensures serves { ServesHere F.state (Command.Step tag) device.old device.new result }
-    ensures backed { IsBacked F.state R.kept device.new }
+    ensures always { HoldsAlways F.state R.kept device.new }
 {
     let answer = device.step(tag);
-    backing(device);
+    held_always(device);
     stepped(tag, answer)
 }
 
@@ -66,12 +66,12 @@ pub fn stepped(tag: u32, answer: Result<Progress, StepError>) -> Reply
 
 /// Gives a transaction up.
 pub fn abort<F: Flash, R: CommitRule>(device: &mut Device<F, R>, tag: u32) -> Reply
-    requires { IsBacked F.state R.kept device.old }
+    requires { HoldsAlways F.state R.kept device.old }
     ensures serves { ServesHere F.state (Command.Abort tag) device.old device.new result }
-    ensures backed { IsBacked F.state R.kept device.new }
+    ensures always { HoldsAlways F.state R.kept device.new }
 {
     let answer = device.abort(tag);
-    backing(device);
+    held_always(device);
     given_up(tag, answer)
 }
 
@@ -89,12 +89,12 @@ fn given_up(tag: u32, answer: Result<Aborted, StepError>) -> Reply
 
 /// Wins a block back.
 pub fn collect<F: Flash, R: CommitRule>(device: &mut Device<F, R>) -> Reply
-    requires { IsBacked F.state R.kept device.old }
+    requires { HoldsAlways F.state R.kept device.old }
     ensures serves { ServesHere F.state Command.Collect device.old device.new result }
-    ensures backed { IsBacked F.state R.kept device.new }
+    ensures always { HoldsAlways F.state R.kept device.new }
 {
     let answer = device.collect();
-    backing(device);
+    held_always(device);
     won_back(answer)
 }
 
@@ -123,7 +123,7 @@ pub fn report<F: Flash, R: CommitRule>(
 ) -> Result<Reply, Memory>
     ensures { IfOk result (λ r. ServesHere F.state Command.Explain device.now device.now r) }
 {
-    let logical = backing(device).logical;
+    let logical = held_always(device).logical;
     let found = device.found(alloc)?;
     let mut text = Vec::new(alloc);
     explain::<R>(alloc, &found, logical, &mut text)?;

@@ -1,6 +1,7 @@
 ghost use Rattle.std.specs.Prelude.{◌≡◌, false, length, IfOk, OnErr};
 ghost use Rattle.host_protocol.specs.Commands.{Suits};
-ghost use Rattle.cut_replay.specs.Mounted.{IsBacked, IsCached, IsStill, ServesHere};
+ghost use Rattle.cut_replay.specs.Mounted.{HoldsAlways, IsCached, IsStill, ServesHere};
+ghost use Rattle.cut_replay.specs.Mounted.{CachesCommand};
 ghost use Rattle.cut_replay.specs.Run.{is_arm};
 
 use crate::calls::{abort, collect, report, stats, step, write};
@@ -28,12 +29,13 @@ pub fn done<F: Flash, R: CommitRule>(
     requires room { length room.old ≡ device.old.config.page_bytes }
     requires size { cache.old.page_bytes ≡ device.old.config.page_bytes }
     requires cached { IsCached device.old cache.old.entries }
-    requires backed { IsBacked F.state R.kept device.old }
+    requires always { HoldsAlways F.state R.kept device.old }
     ensures ok { IfOk result (λ r. ServesHere F.state command.now device.old device.new r) }
     ensures err { OnErr result (IsStill (F.state device.old.flash) (F.state device.new.flash)) }
+    ensures caches { CachesCommand F.state command.now device.old device.new cache.old cache.new }
     ensures size { cache.new.page_bytes ≡ cache.old.page_bytes }
     ensures cached { IsCached device.new cache.new.entries }
-    ensures backed { IsBacked F.state R.kept device.new }
+    ensures always { HoldsAlways F.state R.kept device.new }
 {
     match command {
         Command::Read { page } => read(alloc, device, cache, room, *page),

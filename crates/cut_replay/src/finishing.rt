@@ -1,5 +1,5 @@
 ghost use Rattle.std.specs.Prelude.{◌≡◌};
-ghost use Rattle.cut_replay.specs.Mounted.{IsBacked, ServesHere};
+ghost use Rattle.cut_replay.specs.Mounted.{HoldsAlways, ServesHere};
 
 use crate::calls::step;
 use flash_model::Flash;
@@ -7,13 +7,13 @@ use host_protocol::{Command, Reply};
 use record_list::CommitRule;
 use tx_engine::Device;
 
-/// Goes on with a transaction up to its end, or to the first step that is not done. The reply is that
-/// of the last step. It takes at most as many steps as the transaction has pages to write, and one at
-/// least.
+/// Goes on with a transaction up to its end, or to the first step that is not done. The reply is
+/// that of the last step. It takes at most as many steps as the transaction has pages to write, and
+/// one at least.
 pub fn finish<F: Flash, R: CommitRule>(device: &mut Device<F, R>, tag: u32) -> Reply
-    requires { IsBacked F.state R.kept device.old }
+    requires { HoldsAlways F.state R.kept device.old }
     ensures serves { ServesHere F.state (Command.Finish tag) device.old device.new result }
-    ensures backed { IsBacked F.state R.kept device.new }
+    ensures always { HoldsAlways F.state R.kept device.new }
 {
     loop {
         match step(device, tag) {

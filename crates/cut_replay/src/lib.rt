@@ -1,8 +1,8 @@
-//! Serving a list of commands on a flash, over power cuts and faults: the replies are those of a plain array of pages in
-//! which a transaction changes all its pages at once.
+//! Serving a list of commands on a flash, over power cuts and faults: the replies are those of a
+//! plain array of pages in which a transaction changes all its pages at once.
 #![tactic(auto)]
 
-mod backing;
+mod always;
 mod calls;
 mod doing;
 mod finishing;

@@ -4,7 +4,7 @@ ghost use Rattle.flash_model.specs.Arms.{TurnsOn};
 ghost use Rattle.cut_replay.specs.Sessions.{Mounted, Unmounted, Follows};
 
 use crate::ServeError;
-use crate::backing::backing;
+use crate::always::held_always;
 use crate::session::{Ended, Session};
 use flash_model::Power;
 use host_protocol::Reply;
@@ -30,7 +30,7 @@ pub fn mount<F: Power, R: CommitRule>(
     cache.clear();
     match Device::mount(alloc, powered(flash), config) {
         Ok(device) => {
-            backing(&device);
+            held_always(&device);
             Ok(Session::Mounted(device))
         }
         Err((flash, error)) => match error {
@@ -57,8 +57,8 @@ fn powered<F: Power>(mut flash: F) -> F
     flash
 }
 
-/// What follows a call of a device. Where power was cut in it the device is mounted again at once, and
-/// the reply is `Cut`.
+/// What follows a call of a device. Where power was cut in it the device is mounted again at once,
+/// and the reply is `Cut`.
 pub fn followed<F: Power, R: CommitRule>(
     alloc: Global,
     config: Config,

@@ -3,11 +3,12 @@ ghost use Rattle.flash_model.specs.Operations.{moment_of};
 ghost use Rattle.flash_model.specs.Calls.{Carries};
 ghost use Rattle.tx_engine.specs.ArrayState.{page_at};
 ghost use Rattle.tx_engine.specs.Read.{ReadsPage, is_read_fault};
-ghost use Rattle.cut_replay.specs.Mounted.{IsBacked, IsCached, IsStill, ServesHere};
-ghost use Rattle.cut_replay.specs.Mounted.{ReadsThrough, is_held};
+ghost use Rattle.cut_replay.specs.Mounted.{HoldsAlways, IsCached, IsStill, ServesHere};
+ghost use Rattle.cut_replay.specs.Mounted.{ReadsThrough, is_held, brought_forward};
+ghost use Rattle.cut_replay.specs.Mounted.{KeepsPage, CachesRead, CachesPage, ReadsOnce};
 ghost use Rattle.cut_replay.specs.Run.{read_reply};
 
-use crate::backing::backing;
+use crate::always::held_always;
 use flash_model::Flash;
 use host_protocol::{Command, Reply};
 use page_cache::PageCache;
@@ -27,15 +28,17 @@ pub fn read<F: Flash, R: CommitRule>(
     requires room { length room.old ≡ device.old.config.page_bytes }
     requires size { cache.old.page_bytes ≡ device.old.config.page_bytes }
     requires cached { IsCached device.old cache.old.entries }
-    requires backed { IsBacked F.state R.kept device.old }
+    requires always { HoldsAlways F.state R.kept device.old }
     ensures ok { IfOk result (ServesHere F.state (Command.Read page) device.old device.new) }
     ensures err { OnErr result (IsStill (F.state device.old.flash) (F.state device.new.flash)) }
+    ensures once { ReadsOnce F.state device.old device.new cache.old.entries page }
+    ensures keeps { CachesPage device.old cache.old cache.new page }
     ensures size { cache.new.page_bytes ≡ cache.old.page_bytes }
     ensures cached { IsCached device.new cache.new.entries }
-    ensures backed { IsBacked F.state R.kept device.new }
+    ensures always { HoldsAlways F.state R.kept device.new }
 {
-    let answer = read_through(device, cache, room, page);
-    backing(device);
+    let (answer, _) = read_through(device, cache, room, page);
+    held_always(device);
     told(alloc, page, room, answer)
 }
 
@@ -62,38 +65,42 @@ fn told(
 }
 
 /// Reads a page into room for one. A page that is read from the device is kept under its current
-/// version.
+/// version, where there is memory; the second answer says whether there was.
 fn read_through<F: Flash, R: CommitRule>(
     device: &mut Device<F, R>,
     cache: &mut PageCache,
     room: &mut [u8],
     page: u32,
-) -> Result<ReadAnswer, ReadError>
+) -> (Result<ReadAnswer, ReadError>, Result<(), Memory>)
     requires room { length room.old ≡ device.old.config.page_bytes }
     requires size { cache.old.page_bytes ≡ device.old.config.page_bytes }
     requires cached { IsCached device.old cache.old.entries }
-    ensures reads { ReadsPage device.old.config.logical device.old.machine.pages page room.new result }
+    ensures reads { let s = device.old in
+        ReadsPage s.config.logical s.machine.pages page room.new result.0 }
     // A page that is held takes no read of the flash, and any other written page takes one.
-    ensures through { ReadsThrough F.state device.old device.new cache.old.entries page room.old room.new result }
+    ensures through { ReadsThrough F.state device.old device.new cache.old.entries page
+        room.old room.new result.0 }
     ensures moment { moment_of (F.state device.new.flash) ≡ moment_of (F.state device.old.flash) }
-    ensures carries { Carries (F.state device.old.flash) (F.state device.new.flash) (is_read_fault result) }
+    ensures carries { Carries (F.state device.old.flash) (F.state device.new.flash)
+        (is_read_fault result.0) }
     ensures stays { device.new ≡ record device.old { flash = device.new.flash } }
-    ensures size { cache.new.page_bytes ≡ cache.old.page_bytes }
+    ensures keeps { CachesRead device.old cache.old cache.new page room.new result.0 result.1 }
     ensures cached { IsCached device.new cache.new.entries }
 {
     if find(device, cache, room, page) {
-        return Ok(ReadAnswer::Page);
+        return (Ok(ReadAnswer::Page), Ok(()));
     }
     match device.read(page, room) {
         Ok(ReadAnswer::Page) => {
-            keep(device, cache, room, page);
-            Ok(ReadAnswer::Page)
+            let kept = keep(device, cache, room, page);
+            (Ok(ReadAnswer::Page), kept)
         }
-        other => other,
+        other => (other, Ok(())),
     }
 }
 
-/// Whether a page is held at its current version. Its bytes are then copied.
+/// Whether a page is held at its current version. Its bytes are then copied, and it comes to the
+/// front of the cache.
 fn find<F: Flash, R: CommitRule>(
     device: &Device<F, R>,
     cache: &mut PageCache,
@@ -107,7 +114,8 @@ fn find<F: Flash, R: CommitRule>(
     ensures exists { result ≡ true → page < device.now.config.logical }
     ensures bytes { result ≡ true → page_at device.now.machine.pages page ≡ Some room.new }
     ensures missed { result ≡ false → room.new ≡ room.old }
-    ensures size { cache.new.page_bytes ≡ cache.old.page_bytes }
+    ensures front { result ≡ true → cache.new ≡ brought_forward device.now page cache.old }
+    ensures stays { result ≡ false → cache.new ≡ cache.old }
     ensures cached { IsCached device.now cache.new.entries }
 {
     if page >= device.config().logical {
@@ -123,15 +131,15 @@ fn keep<F: Flash, R: CommitRule>(
     cache: &mut PageCache,
     room: &[u8],
     page: u32,
-)
+) -> Result<(), Memory>
     requires room { length room.now ≡ device.now.config.page_bytes }
     requires size { cache.old.page_bytes ≡ device.now.config.page_bytes }
     requires cached { IsCached device.now cache.old.entries }
     requires exists { page < device.now.config.logical }
     requires bytes { page_at device.now.machine.pages page ≡ Some room.now }
-    ensures size { cache.new.page_bytes ≡ cache.old.page_bytes }
+    ensures keeps { KeepsPage device.now cache.old cache.new page room.now result }
     ensures cached { IsCached device.now cache.new.entries }
 {
     let version = device.version(page);
-    let _ = cache.keep(page, version, room);
+    cache.keep(page, version, room)
 }

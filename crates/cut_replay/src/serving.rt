@@ -1,12 +1,12 @@
 ghost use Rattle.std.specs.Prelude.{◌≡◌, Ok, false, length, OnOk, IfOk, IfErr, All};
-ghost use Rattle.tx_types.specs.Config.{checked, shape_of};
+ghost use Rattle.tx_types.specs.Config.{checked};
 ghost use Rattle.flash_model.specs.Flash.{FlashState, IsSteady};
 ghost use Rattle.host_protocol.specs.Commands.{Suits};
-ghost use Rattle.version_index.specs.Images.{IsSoundImage};
 ghost use Rattle.cut_replay.specs.Run.{is_arm};
 ghost use Rattle.cut_replay.specs.Mounted.{IsCached};
-ghost use Rattle.cut_replay.specs.Sessions.{Fits, Serves, Ends, IsSoundFlash, Unmounted};
-ghost use Rattle.cut_replay.specs.Beginning.{Begins, IsKept};
+ghost use Rattle.cut_replay.specs.Sessions.{flash_in, Fits, Serves, Ends, Unmounted};
+ghost use Rattle.cut_replay.specs.Sessions.{IsSoundFlash, IsSoundOrSame};
+ghost use Rattle.cut_replay.specs.Beginning.{Begins};
 ghost use Rattle.cut_replay.specs.Served.{ServesSound, RefusesUnsound};
 
 use crate::Watch;
@@ -24,7 +24,8 @@ use tx_types::{Config, Memory, Slot};
 /// Why the commands were not all served.
 #[derive(Clone, Copy, Debug, PartialEq, Eq)]
 pub enum ServeError {
-    /// The image that was handed in is not sound: the first law that it breaks, and the slot that the law names.
+    /// The image that was handed in is not sound: the first law that it breaks, and the slot that
+    /// the law names.
     Unsound { law: u8, slot: Slot },
     /// There was no memory.
     Memory,
@@ -146,9 +147,10 @@ fn serve_all<F: Power + Arms, R: CommitRule, W: Watch<F>>(
         ServesSound config list.now init (F.state result.0)
         (record { text = W.text out.old; kept = W.kept out.old })
         (record { text = W.text out.new; kept = W.kept out.new }) result.1 }
-    ensures refuses { (init : FlashState) → IsKept F.state config init session →
+    ensures refuses { (init : FlashState) →
+        IsSoundOrSame config init (F.state (flash_in session)) →
         RefusesUnsound config init (F.state result.0) result.1 }
-    ensures shape { OnOk result.1 (checked config ≡ Ok (F.state result.0).shape) }
+    ensures shape { checked config ≡ Ok (F.state result.0).shape }
 {
     for command in list {
         match serve_one(alloc, config, session, cache, room, command) {
@@ -187,7 +189,8 @@ fn begin<F: Power, R: CommitRule>(
     ensures fits { IfOk result (λ s. Fits F.state config cache.new.entries s) }
     ensures begins { IsSoundFlash config (F.state flash) →
         IfOk result (Begins F.state config (F.state flash)) }
-    ensures kept { IfOk result (IsKept F.state config (F.state flash)) }
+    ensures kept { IfOk result (λ s.
+        IsSoundOrSame config (F.state flash) (F.state (flash_in s))) }
     ensures failed { IfErr result (λ e. Unmounted F.state config flash e.flash e.why) }
     ensures size { cache.new.page_bytes ≡ cache.old.page_bytes }
 {
@@ -198,7 +201,21 @@ fn begin<F: Power, R: CommitRule>(
     }
 }
 
-/// Serves the commands in order on the device of a flash, and tells each reply at the end of its command.
+/// Serves the commands in order on the device of a flash, and tells each reply at the end of its
+/// command. A flash with power is mounted first.
+///
+/// - Cuts: where power is cut in a command, its reply is `Cut`. Power is turned on and the flash is
+///   mounted again before this is told. All open transactions are gone.
+/// - Faults: where a command meets a fault and power stays on, its reply is `Fault`, and the device
+///   goes on.
+/// - Mounts: where a mount meets a fault, the flash stays unmounted. Each command after that, other
+///   than an arm, turns power on and mounts first. Where that mount meets a fault, the command is
+///   not done, and its reply is `Fault`, or `Cut` where power is off.
+/// - Cache: a page that was read is kept, unless memory ran out, and is read again without the
+///   flash while it is held and current. Each mount begins with an empty cache.
+/// - `Unsound` comes only from a mount before the first one that succeeded. The flash then comes
+///   back as it was handed in.
+/// - `Memory` ends the run before a command, or in it. The replies before it were told.
 pub fn serve<F: Power + Arms, R: CommitRule, W: Watch<F>>(
     alloc: Global,
     flash: F,
@@ -209,13 +226,14 @@ pub fn serve<F: Power + Arms, R: CommitRule, W: Watch<F>>(
     requires check { checked config ≡ Ok (F.state flash).shape }
     requires rule { config.protocol ≡ R.kept }
     requires suits { All (Suits config.page_bytes) list.now }
-    ensures steady { IsSteady (F.state flash) → OnOk result.1 (
-        IsSoundImage config.protocol config.logical (shape_of config) (F.state flash).image) }
-    ensures serves { IsSoundImage config.protocol config.logical (shape_of config) (F.state flash).image →
+    ensures steady { IsSteady (F.state flash) →
+        OnOk result.1 (IsSoundFlash config (F.state flash)) }
+    ensures serves { IsSoundFlash config (F.state flash) →
         ServesSound config list.now (F.state flash) (F.state result.0)
-        (record { text = W.text out.old; kept = W.kept out.old }) (record { text = W.text out.new; kept = W.kept out.new }) result.1 }
+        (record { text = W.text out.old; kept = W.kept out.old })
+        (record { text = W.text out.new; kept = W.kept out.new }) result.1 }
     ensures refuses { RefusesUnsound config (F.state flash) (F.state result.0) result.1 }
-    ensures shape { OnOk result.1 ((F.state result.0).shape ≡ (F.state flash).shape) }
+    ensures shape { (F.state result.0).shape ≡ (F.state flash).shape }
 {
     let Ok((mut cache, mut room)) = rooms(alloc, config.page_bytes) else {
         return (flash, Err(ServeError::Memory));

@@ -3,7 +3,7 @@ ghost use Rattle.flash_model.specs.Arms.{SetsCut, SetsFault, SetsBadRead};
 ghost use Rattle.cut_replay.specs.Sessions.{flash_in, SetsArm};
 
 use crate::ServeError;
-use crate::backing::backing;
+use crate::always::held_always;
 use flash_model::{Arms, Flash, Outcome};
 use record_list::CommitRule;
 use tx_engine::Device;
@@ -57,7 +57,7 @@ impl<F: Arms, R: CommitRule> Session<F, R> {
         match self {
             Session::Mounted(mut device) => {
                 device.arm_cut(count, outcome);
-                backing(&device);
+                held_always(&device);
                 Session::Mounted(device)
             }
             Session::Unmounted(mut flash) => {
@@ -67,8 +67,8 @@ impl<F: Arms, R: CommitRule> Session<F, R> {
         }
     }
 
-    /// A program or an erase from now on, the one of this number from 1, will meet a fault with this
-    /// outcome.
+    /// A program or an erase from now on, the one of this number from 1, will meet a fault with
+    /// this outcome.
     pub fn with_fault(self, count: u32, outcome: Outcome) -> Session<F, R>
         requires { 1 ≤ count }
         ensures { SetsArm F.state R.kept (SetsFault (record { count = count; outcome = outcome }))
@@ -77,7 +77,7 @@ impl<F: Arms, R: CommitRule> Session<F, R> {
         match self {
             Session::Mounted(mut device) => {
                 device.arm_fault(count, outcome);
-                backing(&device);
+                held_always(&device);
                 Session::Mounted(device)
             }
             Session::Unmounted(mut flash) => {
@@ -95,7 +95,7 @@ impl<F: Arms, R: CommitRule> Session<F, R> {
         match self {
             Session::Mounted(mut device) => {
                 device.arm_bad_read(count);
-                backing(&device);
+                held_always(&device);
                 Session::Mounted(device)
             }
             Session::Unmounted(mut flash) => {

@@ -1,7 +1,7 @@
 ghost use Rattle.std.specs.Prelude.{◌≡◌, ℕ, List, [], ◌∷◌, Option, OnOk, OnErr};
 ghost use Rattle.flash_model.specs.Operations.{moment_of};
 ghost use Rattle.host_protocol.specs.Replies.{text_of};
-ghost use Rattle.cut_replay.specs.Watching.{Told, Grew};
+ghost use Rattle.cut_replay.specs.Watching.{ToldReply, Grew};
 
 use flash_model::Flash;
 use host_protocol::Reply;
@@ -13,12 +13,13 @@ pub trait Watch<F: Flash> {
     ghost text: { Self → Option (List ℕ) };
 
     /// Each reply's text with what the flash was, where it tells these.
-    ghost kept: { Self → Option (List Told) };
+    ghost kept: { Self → Option (List ToldReply) };
 
     /// Takes a reply and what the flash is. After `Memory` nothing has changed.
     fn tell(&mut self, flash: &F, reply: &Reply) -> Result<(), Memory>
         ensures text { OnOk result (Grew (text self.old) (text self.new) (text_of reply.now)) }
         ensures kept { OnOk result (Grew (kept self.old) (kept self.new)
             (record { text = text_of reply.now; moment = moment_of (F.state flash.now) } ∷ [])) }
-        ensures err { OnErr result ((text self.new ≡ text self.old) × (kept self.new ≡ kept self.old)) };
+        ensures err { OnErr result (
+            (text self.new ≡ text self.old) × (kept self.new ≡ kept self.old)) };
 }

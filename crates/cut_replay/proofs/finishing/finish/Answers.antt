@@ -7,7 +7,7 @@ loop-last-smaller g c =
 
 pub loop-last-preserved : goal.loop-last-preserved
 loop-last-preserved g c = (
-  c.step.ensures.backed,
+  c.step.ensures.always,
   λ new r rest. c.loop-last.invariant.1 new r
       (wrote_serves g.F.Flash.state c.loop-last.device c.step.new.device new c.in-Wrote.field-0 c.args.tag c.in-Wrote.field-1 c.in-Wrote.field-2 r c.in-Wrote.ensures.serves rest),
 )
@@ -16,5 +16,5 @@ pub returns-in_default : goal.returns-in_default
 returns-in_default g c = record {
   serves = c.loop-last.invariant.1 c.step.new.device c.step.result
       (last_serves g.F.Flash.state c.loop-last.device c.step.new.device c.args.tag c.step.result (λ own done all. c.in_default.not-Wrote own done all) c.step.ensures.serves);
-  backed = c.step.ensures.backed;
+  always = c.step.ensures.always;
 }

@@ -1,14 +1,14 @@
 use Rattle.host_protocol.specs.declared.command.Command.TheVariants.{Finish}
 use Rattle.host_protocol.specs.declared.reply.Reply.{Reply}
 use Rattle.tx_engine.specs.Standing.{Standing}
-use Rattle.cut_replay.specs.Mounted.{IsBacked, ServesHere}
+use Rattle.cut_replay.specs.Mounted.{HoldsAlways, ServesHere}
 use Rattle.cut_replay.specs.Run.{pages_left}
 use Rattle.cut_replay.proofs.finishing.finish.Given as goal
 
 -- what is done from here on is done from the beginning on
 abbrev pub invariant-loop-last : goal.invariant-loop-last
 invariant-loop-last g l =
-    IsBacked g.F.Flash.state g.R.CommitRule.kept l.device
+    HoldsAlways g.F.Flash.state g.R.CommitRule.kept l.device
     × ((new : Standing _) (r : Reply) → ServesHere g.F.Flash.state (Finish l.tag) l.device new r → ServesHere g.F.Flash.state (Finish l.tag) l.initial.device new r)
 
 abbrev pub decreases-loop-last : goal.decreases-loop-last

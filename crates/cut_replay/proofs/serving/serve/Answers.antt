@@ -1,4 +1,4 @@
-use Rattle.cut_replay.proofs.Begun.{rooms_ended, begin_ended, same_shape}
+use Rattle.cut_replay.proofs.Begun.{rooms_ended, begin_ended, begin_refused, begin_shape, same_shape}
 use Rattle.cut_replay.proofs.serving.serve.Goals as goal
 
 pub returns-in_default-clause-serves : goal.returns-in_default-clause-serves
@@ -18,5 +18,13 @@ returns-clause-serves g c = λ sound.
 
 pub returns-in-Ok-begin-clause-shape : goal.returns-in-Ok-begin-clause-shape
 returns-in-Ok-begin-clause-shape g c =
-    same_shape c.args.config (g.F.Flash.state c.args.flash).shape (g.F.Flash.state c.serve_all.result.0).shape c.serve_all.result.1
+    same_shape c.args.config (g.F.Flash.state c.args.flash).shape (g.F.Flash.state c.serve_all.result.0).shape
     c.requires.check c.serve_all.ensures.shape
+
+pub returns-clause-refuses : goal.returns-clause-refuses
+returns-clause-refuses g c =
+    begin_refused g.F.Flash.state c.args.config c.args.flash c.in-Err.ended.flash c.in-Err.ended.why c.in-Err.ensures.failed
+
+pub returns-clause-shape : goal.returns-clause-shape
+returns-clause-shape g c =
+    begin_shape g.F.Flash.state c.args.config c.args.flash c.in-Err.ended.flash c.in-Err.ended.why c.in-Err.ensures.failed

@@ -1,9 +1,11 @@
-use Rattle.std.proofs.Common.{◌≡◌, Ok, sym, subst, ◌∙◌, List, [], ◌∷◌, take}
+use Rattle.std.proofs.Common.{◌≡◌, Ok, sym, ap, subst, ◌∙◌, List, [], ◌∷◌, take}
+use Rattle.tx_types.specs.declared.config.Shape.{Shape}
 use Rattle.tx_types.specs.Config.{checked}
 use Rattle.host_protocol.specs.Replies.{text_of}
 use Rattle.host_protocol.specs.declared.command.Command.{Command}
 use Rattle.flash_model.specs.Operations.{moment_of}
 use Rattle.cut_replay.specs.Served.{Watched}
+use Rattle.cut_replay.specs.Sessions.{flash_in, IsSoundOrSame}
 use Rattle.cut_replay.specs.Watching.{Grew}
 use Rattle.cut_replay.proofs.Progress.{HasServed, served_none, served_more, next_of, ended_in, untold_in, served_to_the_end, kept_more, refused_in, on_ok, on_err}
 use Rattle.cut_replay.proofs.Begun.{fits_shape}
@@ -36,7 +38,28 @@ returns-in-Err-clause-serves g c = λ init begins.
 
 pub returns-in-Err-clause-refuses : goal.returns-in-Err-clause-refuses
 returns-in-Err-clause-refuses g c = λ init kept.
-    refused_in g.F.Flash.state c.args.config init c.command-item.result c.loop-command.session c.in-Err.ended.flash c.in-Err.ended.why (c.loop-command.invariant.kept init kept) c.in-Err.ensures.ends
+    refused_in g.F.Flash.state c.args.config init c.command-item.result c.loop-command.session c.in-Err.ended.flash c.in-Err.ended.why
+    (c.loop-command.invariant.kept init kept) c.in-Err.ensures.ends
+
+pub returns-then-is_err-clause-refuses : goal.returns-then-is_err-clause-refuses
+returns-then-is_err-clause-refuses g c = λ init kept.
+    subst (λ flash. IsSoundOrSame c.args.config init (g.F.Flash.state flash)) (sym c.close.ensures)
+    (kept_more c.args.config init (g.F.Flash.state (flash_in c.loop-command.session)) (g.F.Flash.state (flash_in c.in-Ok.next))
+    (c.loop-command.invariant.kept init kept) c.in-Ok.ensures.serves.kept)
+
+pub returns-clause-refuses : goal.returns-clause-refuses
+returns-clause-refuses g c = λ init kept.
+    subst (λ flash. IsSoundOrSame c.args.config init (g.F.Flash.state flash)) (sym c.close-2.ensures) (c.loop-command.invariant.kept init kept)
+
+pub returns-then-is_err-clause-shape : goal.returns-then-is_err-clause-shape
+returns-then-is_err-clause-shape g c =
+    subst (λ flash. checked c.args.config ≡ Ok (g.F.Flash.state flash).shape) (sym c.close.ensures)
+    (fits_shape g.F.Flash.state c.args.config c.serve_one.new.cache.entries c.in-Ok.next c.in-Ok.ensures.fits)
+
+pub returns-in-Err-clause-shape : goal.returns-in-Err-clause-shape
+returns-in-Err-clause-shape g c =
+    fits_shape g.F.Flash.state c.args.config c.loop-command.cache.entries c.loop-command.session c.loop-command.invariant.fits
+    ∙ ap (λ (x : Shape). Ok x) (sym c.in-Err.ensures.ends.shape)
 
 pub loop-command-preserved : goal.loop-command-preserved
 loop-command-preserved g c =
@@ -59,7 +82,8 @@ loop-command-preserved g c =
           subst (λ (cs : List Command). HasServed state its init cs c.in-Ok.next before after) (sym (next_of list at command c.loop-command-test.true c.command-item.is))
           (served_more state its init (take at list) command c.in-Ok.reply c.loop-command.session c.in-Ok.next before between after (c.loop-command.invariant.served init begins) c.in-Ok.ensures.serves text
           (subst (λ flash. Grew between.kept after.kept (record { text = text_of c.in-Ok.reply; moment = moment_of (state flash) } ∷ [])) c.flash.ensures kept));
-      kept = λ init kept. kept_more state its init c.loop-command.session c.in-Ok.next (c.loop-command.invariant.kept init kept) c.in-Ok.ensures.serves.refused;
+      kept = λ init kept. kept_more its init (state (flash_in c.loop-command.session)) (state (flash_in c.in-Ok.next))
+          (c.loop-command.invariant.kept init kept) c.in-Ok.ensures.serves.kept;
     }
 
 pub returns-clause-serves : goal.returns-clause-serves

@@ -1,7 +1,7 @@
 use Rattle.std.proofs.Common.{◌≡◌, take, length}
 use Rattle.flash_model.specs.Flash.{FlashState}
-use Rattle.cut_replay.specs.Sessions.{Fits}
-use Rattle.cut_replay.specs.Beginning.{Begins, IsKept}
+use Rattle.cut_replay.specs.Sessions.{flash_in, Fits, IsSoundOrSame}
+use Rattle.cut_replay.specs.Beginning.{Begins}
 use Rattle.cut_replay.proofs.Progress.{HasServed}
 use Rattle.cut_replay.proofs.serving.serve_all.Given as goal
 
@@ -13,5 +13,6 @@ invariant-loop-command g l = record {
   served : (init : FlashState) → Begins g.F.Flash.state l.config init l.initial.session →
       HasServed g.F.Flash.state l.config init (take l.command-index l.list) l.session
       (record { text = g.W.Watch.text l.initial.out; kept = g.W.Watch.kept l.initial.out }) (record { text = g.W.Watch.text l.out; kept = g.W.Watch.kept l.out });
-  kept : (init : FlashState) → IsKept g.F.Flash.state l.config init l.initial.session → IsKept g.F.Flash.state l.config init l.session;
+  kept : (init : FlashState) → IsSoundOrSame l.config init (g.F.Flash.state (flash_in l.initial.session)) →
+      IsSoundOrSame l.config init (g.F.Flash.state (flash_in l.session));
 }

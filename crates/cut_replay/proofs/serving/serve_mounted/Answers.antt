@@ -8,7 +8,7 @@ followed-requires-clause-check g c =
     let t = c.done.new.device in
     after_check g.F.Flash.state c.args.config c.args.command.now s t c.in-Ok.reply c.done.new.cache.entries
     (was_done g.F.Flash.state c.args.config g.R.CommitRule.kept c.args.command.now s t c.in-Ok.reply c.args.cache.now.entries c.done.new.cache.entries c.requires.rule c.requires.fits c.requires.no_arm
-    c.in-Ok.ensures.ok c.done.ensures.cached c.done.ensures.backed)
+    c.in-Ok.ensures.ok c.done.ensures.cached c.done.ensures.always)
 
 pub returns-in-Ok-clause-fits : goal.returns-in-Ok-clause-fits
 returns-in-Ok-clause-fits g c =
@@ -16,7 +16,7 @@ returns-in-Ok-clause-fits g c =
     let t = c.done.new.device in
     fits_after g.F.Flash.state c.args.config c.args.command.now s t c.in-Ok.reply c.followed.result c.done.new.cache c.followed.new.cache
     (was_done g.F.Flash.state c.args.config g.R.CommitRule.kept c.args.command.now s t c.in-Ok.reply c.args.cache.now.entries c.done.new.cache.entries c.requires.rule c.requires.fits c.requires.no_arm
-    c.in-Ok.ensures.ok c.done.ensures.cached c.done.ensures.backed) c.followed.ensures
+    c.in-Ok.ensures.ok c.done.ensures.cached c.done.ensures.always) c.followed.ensures
 
 pub returns-in-Ok-clause-serves : goal.returns-in-Ok-clause-serves
 returns-in-Ok-clause-serves g c =
@@ -24,7 +24,7 @@ returns-in-Ok-clause-serves g c =
     let t = c.done.new.device in
     (serves_after g.F.Flash.state c.args.config c.args.command.now s t c.in-Ok.reply c.followed.result c.done.new.cache c.followed.new.cache
     (was_done g.F.Flash.state c.args.config g.R.CommitRule.kept c.args.command.now s t c.in-Ok.reply c.args.cache.now.entries c.done.new.cache.entries c.requires.rule c.requires.fits c.requires.no_arm
-    c.in-Ok.ensures.ok c.done.ensures.cached c.done.ensures.backed) c.followed.ensures).0
+    c.in-Ok.ensures.ok c.done.ensures.cached c.done.ensures.always) c.followed.ensures).0
 
 pub returns-in-Ok-clause-ends : goal.returns-in-Ok-clause-ends
 returns-in-Ok-clause-ends g c =
@@ -32,7 +32,7 @@ returns-in-Ok-clause-ends g c =
     let t = c.done.new.device in
     (serves_after g.F.Flash.state c.args.config c.args.command.now s t c.in-Ok.reply c.followed.result c.done.new.cache c.followed.new.cache
     (was_done g.F.Flash.state c.args.config g.R.CommitRule.kept c.args.command.now s t c.in-Ok.reply c.args.cache.now.entries c.done.new.cache.entries c.requires.rule c.requires.fits c.requires.no_arm
-    c.in-Ok.ensures.ok c.done.ensures.cached c.done.ensures.backed) c.followed.ensures).1
+    c.in-Ok.ensures.ok c.done.ensures.cached c.done.ensures.always) c.followed.ensures).1
 
 pub returns-in-Ok-clause-size : goal.returns-in-Ok-clause-size
 returns-in-Ok-clause-size g c =

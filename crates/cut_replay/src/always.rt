@@ -1,5 +1,5 @@
 ghost use Rattle.std.specs.Prelude.{◌≡◌};
-ghost use Rattle.cut_replay.specs.Mounted.{IsBacked};
+ghost use Rattle.cut_replay.specs.Mounted.{HoldsAlways};
 
 use flash_model::Flash;
 use record_list::CommitRule;
@@ -8,9 +8,9 @@ use tx_engine::laws::{cuts_leave, devices_stand};
 use tx_types::Config;
 
 /// The configuration of a device, and what holds of its flash whatever was broken before.
-pub fn backing<F: Flash, R: CommitRule>(device: &Device<F, R>) -> Config
+pub fn held_always<F: Flash, R: CommitRule>(device: &Device<F, R>) -> Config
     ensures config { result ≡ device.now.config }
-    ensures backed { IsBacked F.state R.kept device.now }
+    ensures always { HoldsAlways F.state R.kept device.now }
 {
     devices_stand::<F, R>();
     cuts_leave::<F, R>();

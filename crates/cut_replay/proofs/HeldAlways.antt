@@ -15,7 +15,7 @@ use Rattle.tx_engine.specs.Exits.{StandsFor, MentionsAtMost}
 use Rattle.tx_engine.specs.Standing.{Standing, Stands}
 use Rattle.tx_engine.specs.Step.{StepsAs, CutLeaves, IsAtLast, settled}
 use Rattle.tx_engine.specs.declared.step.StepError.TheVariants as failed
-use Rattle.cut_replay.specs.Mounted.{IsBacked}
+use Rattle.cut_replay.specs.Mounted.{HoldsAlways}
 
 -- a page past the last one is not mentioned
 none_beyond : (n : Noted) (logical page : ℕ) → length n.mentions ≡ logical → logical ≤ page → mention_of n page ≡ 0
@@ -31,12 +31,12 @@ SettledCuts F state kept s =
     (old : Standing F) (there : Bool) → (s.machine ≡ old.machine) ⊎ (s.machine ≡ settled there old.machine) →
     CutLeaves (λ e. ⊥) old.machine (idle (array_in kept s.config.logical (state s.flash).image))
 
-pub backs : {F : Type 0} (state : F → FlashState) (kept : Protocol) (s : Standing F) → Stands state s → (rule : s.config.protocol ≡ kept) →
+pub holds_always : {F : Type 0} (state : F → FlashState) (kept : Protocol) (s : Standing F) → Stands state s → (rule : s.config.protocol ≡ kept) →
     IsSoundImage kept s.config.logical (state s.flash).shape (state s.flash).image →
     StandsFor s.machine (array_in kept s.config.logical (state s.flash).image) →
     (s.unsure ≡ unsure.Nothing → (records_in kept (state s.flash).image ≡ found_in s.noted.notes) × (array_in kept s.config.logical (state s.flash).image ≡ s.machine.pages)) →
-    MentionsAtMost s.noted s.namings (state s.flash).image → StepCuts F state kept s → SettledCuts F state kept s → IsBacked state kept s
-backs state kept s stands rule sound array records mentions step still =
+    MentionsAtMost s.noted s.namings (state s.flash).image → StepCuts F state kept s → SettledCuts F state kept s → HoldsAlways state kept s
+holds_always state kept s stands rule sound array records mentions step still =
     let shape : (state s.flash).shape ≡ shape_of s.config = stands.matches.shape ∙ ap shape_of (sym stands.config) in
     let its = sym rule in
     record {
