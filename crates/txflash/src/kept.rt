@@ -32,9 +32,9 @@ pub struct Kept {
 
 impl Model for Kept {
     ghost use Rattle.std.specs.Prelude.{List};
-    ghost use Rattle.cut_replay.specs.Watching.{Told};
+    ghost use Rattle.cut_replay.specs.Watching.{ToldReply};
 
-    ghost Value = { List Told };
+    ghost Value = { List ToldReply };
 
     ghost use Rattle.txflash.specs.KeptEntries.{told_in};
 
