@@ -1,5 +1,5 @@
 -- What serving gives, as a run from an image on.
-use Rattle.std.proofs.Common.{◌≡◌, ℕ, Bool, false, List, [], ◌∷◌, ◌++◌, length, take, None, Some, refl, sym, ap, ap₂, ◌∙◌, subst, arith}
+use Rattle.std.proofs.Common.{◌≡◌, ℕ, false, List, [], ◌++◌, length, take, None, Some, refl, sym, ap, ap₂, ◌∙◌, subst}
 use Rattle.tx_types.specs.declared.config.Config.{Config}
 use Rattle.tx_types.specs.Config.{shape_of}
 use Rattle.tx_types.specs.declared.config.Protocol.{Protocol}
@@ -10,7 +10,6 @@ use Rattle.record_list.specs.declared.found.Found.{Found}
 use Rattle.version_index.specs.Images.{IsSoundImage, records_in}
 use Rattle.verdict_report.specs.Report.{report}
 use Rattle.host_protocol.specs.declared.command.Command.{Command}
-use Rattle.host_protocol.specs.declared.reply.Reply.{Reply}
 use Rattle.cut_replay.specs.FlashRun.{IsFlashRun, last_moment, opening_point, mentions_in}
 use Rattle.cut_replay.specs.Served.{ServesRun}
 use Rattle.cut_replay.specs.Watching.{text_of_all}
