@@ -1,4 +1,5 @@
 use super::*;
+use crate::generator::Generator;
 use flash_model::Outcome;
 use host_protocol::{Command, Reply, parse, reply_text};
 use std::alloc::{AllocError, Global};
@@ -100,6 +101,13 @@ fn digest(text: &str) -> u64 {
             .wrapping_add(u64::from(byte) + 1);
     }
     digest
+}
+
+#[test]
+fn a_number_is_the_high_bits_of_the_new_state(rt: HostRuntime) {
+    let mut generator = Generator { state: 1 };
+    assert_eq!(rt; generator.draw(1 << 31), 908834774);
+    assert_eq!(rt; generator.state, 7806831264735756412);
 }
 
 const FIRST: &str = "write 1 13=cc000000000000000000000000000000 \

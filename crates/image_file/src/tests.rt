@@ -106,62 +106,62 @@ fn slots_of_each_kind_are_written_and_read(rt: HostRuntime) -> Result<(), Fail> 
 /// What is changed in the image of a small device, and the rule that is broken then.
 type Case = (&'static [(usize, u8)], Option<ImageError>);
 
+const CASES: [Case; 30] = [
+    (&[], None),
+    // Every rule is broken, and then one rule fewer at each line.
+    (
+        &[(0, 0), (8, 3), (36, 1), (12, 24), (73, 3), (176, 0)],
+        Some(ImageError::Magic),
+    ),
+    (
+        &[(8, 3), (36, 1), (12, 24), (73, 3), (176, 0)],
+        Some(ImageError::Protocol),
+    ),
+    (
+        &[(36, 1), (12, 24), (73, 3), (176, 0)],
+        Some(ImageError::Reserved),
+    ),
+    (
+        &[(12, 24), (73, 3), (176, 0)],
+        Some(ImageError::Config(ConfigError::Page)),
+    ),
+    (&[(12, 32), (73, 3), (176, 0)], Some(ImageError::Length)),
+    (&[(73, 3), (176, 0)], Some(ImageError::SlotState(Slot(9)))),
+    (&[(176, 0)], Some(ImageError::SlotBytes(Slot(1)))),
+    // Each end of the magic.
+    (&[(0, 0x74)], Some(ImageError::Magic)),
+    (&[(7, 0x32)], Some(ImageError::Magic)),
+    // The protocols.
+    (&[(8, 0)], Some(ImageError::Protocol)),
+    (&[(8, 2)], None),
+    (&[(8, 3)], Some(ImageError::Protocol)),
+    (&[(11, 1)], Some(ImageError::Protocol)),
+    // Each end of the reserved bytes.
+    (&[(36, 1)], Some(ImageError::Reserved)),
+    (&[(63, 0x80)], Some(ImageError::Reserved)),
+    // Numbers of no device, and of one with fewer or more slots.
+    (&[(28, 21)], Some(ImageError::Config(ConfigError::Space))),
+    (&[(35, 1)], Some(ImageError::Config(ConfigError::Pending))),
+    (&[(24, 1), (28, 4)], Some(ImageError::Length)),
+    (&[(20, 5)], Some(ImageError::Length)),
+    // States: the least, the last, and none that stands for nothing.
+    (&[(64, 3)], Some(ImageError::SlotState(Slot(0)))),
+    (&[(95, 0xff)], Some(ImageError::SlotState(Slot(31)))),
+    (&[(69, 3), (66, 4)], Some(ImageError::SlotState(Slot(2)))),
+    // The bytes of blank slots: contents and both ends of the spare area.
+    (&[(96, 0xfe)], Some(ImageError::SlotBytes(Slot(0)))),
+    (&[(432, 0)], Some(ImageError::SlotBytes(Slot(4)))),
+    (&[(2655, 0x7f)], Some(ImageError::SlotBytes(Slot(31)))),
+    (&[(1000, 0), (500, 0)], Some(ImageError::SlotBytes(Slot(5)))),
+    // A damaged slot is not all 00, and a complete one has any bytes.
+    (&[(66, 2)], Some(ImageError::SlotBytes(Slot(2)))),
+    (&[(66, 1)], None),
+    (&[(66, 1), (256, 0), (335, 9)], None),
+];
+
 #[test]
 fn bytes_are_read_or_break_a_first_rule(rt: HostRuntime) -> Result<(), Fail> {
-    let page = Some(ImageError::Config(ConfigError::Page));
-    let space = Some(ImageError::Config(ConfigError::Space));
-    let state = |at| Some(ImageError::SlotState(Slot(at)));
-    let bytes = |at| Some(ImageError::SlotBytes(Slot(at)));
-    let cases: [Case; 30] = [
-        (&[], None),
-        // Every rule is broken, and then one rule fewer at each line.
-        (
-            &[(0, 0), (8, 3), (36, 1), (12, 24), (73, 3), (176, 0)],
-            Some(ImageError::Magic),
-        ),
-        (
-            &[(8, 3), (36, 1), (12, 24), (73, 3), (176, 0)],
-            Some(ImageError::Protocol),
-        ),
-        (
-            &[(36, 1), (12, 24), (73, 3), (176, 0)],
-            Some(ImageError::Reserved),
-        ),
-        (&[(12, 24), (73, 3), (176, 0)], page),
-        (&[(12, 32), (73, 3), (176, 0)], Some(ImageError::Length)),
-        (&[(73, 3), (176, 0)], state(9)),
-        (&[(176, 0)], bytes(1)),
-        // Each end of the magic.
-        (&[(0, 0x74)], Some(ImageError::Magic)),
-        (&[(7, 0x32)], Some(ImageError::Magic)),
-        // The protocols.
-        (&[(8, 0)], Some(ImageError::Protocol)),
-        (&[(8, 2)], None),
-        (&[(8, 3)], Some(ImageError::Protocol)),
-        (&[(11, 1)], Some(ImageError::Protocol)),
-        // Each end of the reserved bytes.
-        (&[(36, 1)], Some(ImageError::Reserved)),
-        (&[(63, 0x80)], Some(ImageError::Reserved)),
-        // Numbers of no device, and of one with fewer or more slots.
-        (&[(28, 21)], space),
-        (&[(35, 1)], Some(ImageError::Config(ConfigError::Pending))),
-        (&[(24, 1), (28, 4)], Some(ImageError::Length)),
-        (&[(20, 5)], Some(ImageError::Length)),
-        // States: the least, the last, and none that stands for nothing.
-        (&[(64, 3)], state(0)),
-        (&[(95, 0xff)], state(31)),
-        (&[(69, 3), (66, 4)], state(2)),
-        // The bytes of blank slots: contents and both ends of the spare area.
-        (&[(96, 0xfe)], bytes(0)),
-        (&[(432, 0)], bytes(4)),
-        (&[(2655, 0x7f)], bytes(31)),
-        (&[(1000, 0), (500, 0)], bytes(5)),
-        // A damaged slot is not all 00, and a complete one has any bytes.
-        (&[(66, 2)], bytes(2)),
-        (&[(66, 1)], None),
-        (&[(66, 1), (256, 0), (335, 9)], None),
-    ];
-    for (changes, want) in cases {
+    for (changes, want) in CASES {
         let bytes = changed(rt.alloc(), changes)?;
         assert_eq!(rt;
             read_image(rt.alloc(), &bytes).err(),

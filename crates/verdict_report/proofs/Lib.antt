@@ -3,3 +3,4 @@ pub mod WalkLemmas
 pub mod LineLemmas
 pub mod PageLemmas
 pub mod Examples
+pub mod LengthLemmas

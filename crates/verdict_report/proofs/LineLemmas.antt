@@ -28,6 +28,22 @@ parts_after_spaces : (a b c d e f : List (List ℕ)) →
     after_spaces (a ++ (b ++ (c ++ (d ++ (e ++ f))))) ≡ after_spaces a ++ (after_spaces b ++ (after_spaces c ++ (after_spaces d ++ (after_spaces e ++ after_spaces f))))
 parts_after_spaces a b c d e f = simp after_spaces-append
 
+-- the parts of a line
+pub line_parts : (page version : ℕ) (why : Why) (current : ℕ) (links more : List (List ℕ)) →
+    page_line page version why current (links ++ more)
+    ≡ (codes "verdict" ++ (after_spaces (decimal page ∷ codes "newest" ∷ decimal version ∷ [])
+    ++ (after_spaces (verdict_word (verdict_of why) ∷ []) ++ (after_spaces (reason_words why)
+    ++ (after_spaces (codes "current" ∷ decimal current ∷ codes "walk" ∷ []) ++ (after_spaces links ++ after_spaces more)))))) ++ 10 ∷ []
+line_parts page version why current links more =
+    let first = codes "verdict" in
+    let a = decimal page ∷ codes "newest" ∷ decimal version ∷ [] in
+    let b = verdict_word (verdict_of why) ∷ [] in
+    let c = reason_words why in
+    let d = codes "current" ∷ decimal current ∷ codes "walk" ∷ [] in
+    ap (λ text. text ++ 10 ∷ [])
+    (join_after_spaces first (a ++ (b ++ (c ++ (d ++ (links ++ more)))))
+    ∙ ap (λ text. first ++ text) (parts_after_spaces a b c d links more))
+
 -- texts that grow part by part
 grown : (old first a b c d e f s t u v w x y : List ℕ) →
     s ≡ old ++ (first ++ a) → t ≡ s ++ b → u ≡ t ++ c → v ≡ u ++ d → w ≡ v ++ e → x ≡ w ++ f → y ≡ x ++ 10 ∷ [] →
@@ -49,9 +65,7 @@ line_written page version why current links more old s t u v w x y es et eu ev e
     let c = reason_words why in
     let d = codes "current" ∷ decimal current ∷ codes "walk" ∷ [] in
     grown old first (after_spaces a) (after_spaces b) (after_spaces c) (after_spaces d) (after_spaces links) (after_spaces more) s t u v w x y es et eu ev ew ex ey
-    ∙ ap (λ text. old ++ (text ++ 10 ∷ []))
-    (ap (λ text. first ++ text) (sym (parts_after_spaces a b c d links more))
-    ∙ sym (join_after_spaces first (a ++ (b ++ (c ++ (d ++ (links ++ more)))))))
+    ∙ ap (λ text. old ++ text) (sym (line_parts page version why current links more))
 
 -- a line whose parts are those of a page
 pub line_explained : (protocol : Protocol) (list : List Found) (logical page version : ℕ) (start : Link) (reason : Why) (current : ℕ) (walk : Walk) →

@@ -1,7 +1,7 @@
 -- A walk, link by link.
-use Rattle.std.proofs.Common.{◌≡◌, ℕ, zero, suc, ◌+◌, ◌-◌, ◌<◌, ◌≤◌, Bool, true, false, cond, ◌||◌, List, [], ◌∷◌, ◌++◌, length, get_or, take, refl, sym, ap, ap₂, ◌∙◌, subst, inl, inr, arith, append-nil, append_assoc, length-take, Some, None}
+use Rattle.std.proofs.Common.{◌≡◌, ℕ, zero, suc, ◌+◌, ◌-◌, ◌<◌, ◌≤◌, Bool, true, false, cond, ◌||◌, List, [], ◌∷◌, ◌++◌, length, get_or, take, refl, sym, ap, ap₂, ◌∙◌, subst, inl, inr, arith, append-nil, append_assoc, Some, None}
 use Rattle.std.proofs.lemmas.Bool.{false≢true, cases_Bool, cond-true, cond-false}
-use Rattle.std.proofs.lemmas.List.{get_or_push, length_push, take_all, take-append-le}
+use Rattle.std.proofs.lemmas.List.{get_or_push, length_push}
 use Rattle.tx_types.specs.declared.record.Link.{Link}
 use Rattle.tx_types.specs.declared.config.Protocol.{Protocol}
 use Rattle.record_list.specs.declared.found.Found.{Found}
@@ -124,19 +124,6 @@ pub why_shown : (protocol : Protocol) (list : List Found) (logical page : ℕ) (
     why protocol list logical page ≡ why_at protocol list (newest_name list page) w.last
 why_shown protocol list logical page w is =
     (walk_decides protocol list logical page).last w.last ∙ ap (why_at protocol list (newest_name list page)) (is.last w.last)
-
--- the first links, with one link more
-pub shown_more : (items links : List Link) (link : Link) → items ≡ take 16 links → length items < 16 → items ++ link ∷ [] ≡ take 16 (links ++ link ∷ [])
-shown_more items links link is few =
-    let e = ap length is in
-    let short : length links < 16 = (let l = length-take 16 links in omega arith) in
-    ap (λ front. front ++ link ∷ []) (is ∙ take_all 16 links (omega arith))
-    ∙ sym (take_all 16 (links ++ link ∷ []) (let l = length_push links link in omega arith))
-
-pub shown_full : (items links : List Link) (link : Link) → items ≡ take 16 links → 16 ≤ length items → items ≡ take 16 (links ++ link ∷ [])
-shown_full items links link is full =
-    let e = ap length is in
-    is ∙ sym (take-append-le 16 links (link ∷ []) (let l = length-take 16 links in omega arith))
 
 -- a walk with one link more
 pub walk_more : (old new : Walk) (link : Link) →

@@ -1,5 +1,5 @@
 -- Lists of a few records, and their reports.
-use Rattle.std.specs.Prelude.{◌≡◌, ℕ, List, [], ◌∷◌, ◌++◌, codes}
+use Rattle.std.specs.Prelude.{◌≡◌, List, [], ◌∷◌, ◌++◌, codes}
 use Rattle.tx_types.specs.declared.config.Protocol.{Protocol}
 use Rattle.tx_types.specs.declared.config.Protocol.TheVariants.{Scc, Bpcc}
 use Rattle.record_list.specs.declared.found.Found.{Found}

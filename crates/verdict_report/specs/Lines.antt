@@ -1,7 +1,9 @@
 -- What the parts of a line are made of.
-use Rattle.std.specs.Prelude.{◌≡◌, ℕ, ◌-◌, List, ◌∷◌, ◌++◌, length, map, take, slice_index_or}
-use Rattle.std.specs.List.{flat_map}
+use Rattle.std.specs.Prelude.{◌≡◌, ℕ, ◌-◌, ◌^◌, ◌<◌, List, ◌∷◌, ◌++◌, length, map, take, slice_index_or}
+use Rattle.std.specs.List.{flat_map, AllByRecursion}
 use Rattle.tx_types.specs.declared.record.Link.{Link}
+use Rattle.record_list.specs.declared.found.Why.{Why}
+use Rattle.record_list.specs.declared.found.Why.TheVariants.{Straddled}
 use Rattle.verdict_report.specs.declared.line.Line.{Line}
 use Rattle.verdict_report.specs.declared.walk.Walk.{Walk}
 use Rattle.verdict_report.specs.Report.{link_word, most_links, more_words, page_line}
@@ -23,3 +25,21 @@ words_of walk = map link_word walk.shown.items ++ more_words walk.count
 -- the text of a line
 abbrev pub line_text : Line → List ℕ
 line_text line = page_line line.page line.newest line.why line.current (words_of line.walk)
+
+-- the version in a reason is one of its type
+abbrev pub IsReason : Why → Type 0
+IsReason (Straddled version) = version < 2 ^ 64
+IsReason reason = Unit {0}
+
+-- the numbers in the line of a page are those of their types
+pub record FitTypes (page version : ℕ) (reason : Why) (current : ℕ) (links : List Link) : Type 0 where
+  pub page_fits : page < 2 ^ 32
+  pub version_fits : version < 2 ^ 64
+  pub reason_fits : IsReason reason
+  pub current_fits : current < 2 ^ 64
+  pub links_fit : AllByRecursion (λ link. (link.page < 2 ^ 32) × (link.version < 2 ^ 64)) links
+  pub count_fits : length links < 2 ^ 64
+
+-- the most bytes of such a line with its line feed
+abbrev pub max_line_bytes : ℕ
+max_line_bytes = 662

@@ -10,4 +10,4 @@ mod theorems;
 mod walk;
 
 pub use report::explain;
-pub use theorems::{pages_are_those_of_records, walk_decides, worked_reports};
+pub use theorems::{lines_are_short, pages_are_those_of_records, walk_decides, worked_reports};

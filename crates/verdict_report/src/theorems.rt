@@ -1,10 +1,13 @@
 //! What holds of all reports. The functions do nothing: each is there for what it ensures.
-ghost use Rattle.std.specs.Prelude.{ℕ, ◌<◌, ◌↔◌, List, IsTrue, Contains};
+ghost use Rattle.std.specs.Prelude.{ℕ, ◌<◌, ◌≤◌, ◌↔◌, List, length, IsTrue, Contains};
 ghost use Rattle.std.specs.List.Sorted.{IsStrictlyIncreasing};
+ghost use Rattle.tx_types.specs.declared.record.Link.{Link};
 ghost use Rattle.tx_types.specs.declared.config.Protocol.{Protocol};
 ghost use Rattle.record_list.specs.declared.found.Found.{Found};
+ghost use Rattle.record_list.specs.declared.found.Why.{Why};
 ghost use Rattle.verdict_report.specs.Walks.{links_of, IsDecidingWalk};
-ghost use Rattle.verdict_report.specs.Report.{has_record, pages};
+ghost use Rattle.verdict_report.specs.Lines.{FitTypes, max_line_bytes};
+ghost use Rattle.verdict_report.specs.Report.{has_record, page_line, pages, walk_words};
 ghost use Rattle.verdict_report.specs.Examples.{EmptyReport, StraddledReport, TwiceStraddledReport, EndlessReport};
 
 /// The links that a report shows of a page are those of the walk that decides the verdict on it.
@@ -19,6 +22,13 @@ pub fn pages_are_those_of_records()
         Contains (pages list logical) page ↔ ((page < logical) × IsTrue (has_record list page)) }
     ensures ascending { (list : List Found) (logical : ℕ) →
         IsStrictlyIncreasing (pages list logical) }
+{}
+
+/// The line of a page, with its line feed, is short, where the numbers in it are those of their types.
+pub fn lines_are_short()
+    ensures { (page version : ℕ) (reason : Why) (current : ℕ) (links : List Link) →
+        FitTypes page version reason current links →
+        length (page_line page version reason current (walk_words links)) ≤ max_line_bytes }
 {}
 
 /// The reports of a few records.

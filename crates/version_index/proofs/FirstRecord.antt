@@ -1,6 +1,7 @@
 -- The first record where there is none: a transaction of one page asks for it.
-use Rattle.std.proofs.Common.{◌≡◌, ℕ, ◌<◌, ◌≤◌, ◌^◌, List, [], ◌∷◌, refl, sym, ap, subst, arith}
+use Rattle.std.proofs.Common.{◌≡◌, ℕ, ◌<◌, ◌≤◌, List, [], ◌∷◌, refl, sym, ap, subst, arith}
 use Rattle.std.proofs.lemmas.List.Elements.{All-from_recursion}
+use Rattle.tx_types.specs.Limits.{max_version}
 use Rattle.tx_types.specs.declared.record.Link.{Link}
 use Rattle.tx_types.specs.declared.record.Rec.{Rec}
 use Rattle.tx_types.specs.declared.config.Protocol.TheVariants.{Scc}
@@ -15,14 +16,11 @@ use Rattle.version_index.specs.Noted.{Noted, IsNextRecord}
 pub record IsAlone (logical : ℕ) (rec : Rec) : Type 0 where
   pub page : rec.page < logical
   pub low : 1 ≤ rec.version
-  pub high : rec.version ≤ 2 ^ 62
+  pub high : rec.version ≤ max_version
   pub own : rec.next ≡ name_of rec
   pub back : rec.back ≡ 0
 
 module _ (logical : ℕ) (rec : Rec) (a : IsAlone logical rec) where
-  alone : List Link
-  alone = name_of rec ∷ []
-
   alone_asked : (list : List Found) → IsAsked Scc list logical (name_of rec ∷ []) rec
   alone_asked list =
       All-from_recursion (λ (x : Link × Link). name_of rec ≡ x.0 → (rec.next ≡ x.1) × (rec.back ≡ back_version Scc list logical x.0.page)) ((name_of rec, name_of rec) ∷ [])
@@ -32,7 +30,7 @@ module _ (logical : ℕ) (rec : Rec) (a : IsAlone logical rec) where
   alone_begun = record {
     transaction = record {
       distinct = λ i j d less within. absurd (omega arith);
-      in_range = All-from_recursion (λ (x : Link). (x.page < logical) × (1 ≤ x.version) × (x.version ≤ 2 ^ 62)) (name_of rec ∷ []) ((a.page, a.low, a.high), tt);
+      in_range = All-from_recursion (λ (x : Link). (x.page < logical) × (1 ≤ x.version) × (x.version ≤ max_version)) (name_of rec ∷ []) ((a.page, a.low, a.high), tt);
     };
     asked = λ k d within. absurd (omega arith);
     others = λ k d within. absurd (omega arith);

@@ -5,7 +5,7 @@ use Rattle.tx_types.specs.declared.record.Link.{Link}
 use Rattle.tx_types.specs.declared.config.Protocol.{Protocol}
 use Rattle.tx_types.specs.Config.{shape_of, blocks_of}
 use Rattle.flash_model.proofs.ImageLemmas.{block_within}
-use Rattle.record_list.specs.Records.{has_name, IsScanned}
+use Rattle.record_list.specs.Records.{has_name}
 use Rattle.record_list.specs.Current.{cur, must_go}
 use Rattle.record_list.specs.SoundList.{Pages, OwnPageExists}
 use Rattle.record_list.specs.Written.{first_slot, home, is_outside, is_needed}
@@ -16,14 +16,8 @@ use Rattle.version_index.specs.Tables.{noted_of, IsTabled}
 use Rattle.version_index.specs.declared.index.Index.TheInside.{Inside}
 
 module _ {R : Type 0} (protocol : Protocol) (d : Inside R) (t : IsTabled protocol d) where
-  pub tabled_scanned : IsScanned d.list.items
-  tabled_scanned = subst IsScanned (sym t.list) t.noted.scanned
-
   pub tabled_pages : All (OwnPageExists d.config.logical) d.list.items
   tabled_pages = subst (λ l. All (OwnPageExists d.config.logical) l) (sym t.list) (own_pages _ d.config.logical (t.noted.sound Pages))
-
-  pub tabled_block : 0 < d.shape.pages_per_block
-  tabled_block = subst (λ s. 0 < s.pages_per_block) (sym t.shape) (let least = t.noted.bounds.shape.pages_least in omega arith)
 
   -- what is counted over the list is what was noted
   pub tabled_current : (page : ℕ) → cur protocol d.list.items d.config.logical page ≡ current_of (noted_of d) page

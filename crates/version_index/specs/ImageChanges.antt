@@ -16,9 +16,11 @@ use Rattle.version_index.specs.Images.{written_in, records_in, array_in, IsSound
 abbrev pub image_with : Protocol → List Contents → ℕ → List ℕ → Rec → List Contents
 image_with protocol image at bytes rec = slice_set image at (complete bytes (spelling protocol rec))
 
--- a transaction in progress among the records of a sound image asks for a record, which is absent and may be programmed in
--- a blank slot
-pub record AsksFor (protocol : Protocol) (logical : ℕ) (shape : Shape) (image : List Contents) (names : List Link) (at : ℕ) (rec : Rec) : Type 0 where
+-- a transaction in progress among the records of a sound image asks for a record, which is absent and may be
+-- programmed in a blank slot
+pub record AsksFor
+    (protocol : Protocol) (logical : ℕ) (shape : Shape) (image : List Contents)
+    (names : List Link) (at : ℕ) (rec : Rec) : Type 0 where
   pub sound : IsSoundImage protocol logical shape image
   pub within : at < length image
   pub blank : slot_at image at ≡ blank
@@ -40,27 +42,35 @@ abbrev pub BytesCome : Protocol → List Contents → Rec → List ℕ → Type 
 BytesCome protocol image' rec bytes = bytes_at (written_in protocol image') (name_of rec) ≡ Some bytes
 
 -- what the image with a record more keeps where a name of the transaction stays absent: its array too
-pub record KeepsPartial (protocol : Protocol) (logical : ℕ) (shape : Shape) (image image' : List Contents) (names : List Link) (rec : Rec) (bytes : List ℕ) : Type 0 where
+pub record KeepsPartial
+    (protocol : Protocol) (logical : ℕ) (shape : Shape) (image image' : List Contents)
+    (names : List Link) (rec : Rec) (bytes : List ℕ) : Type 0 where
   pub sound : IsSoundImage protocol logical shape image'
   pub records : PartialWriteKeeps protocol (records_in protocol image) (records_in protocol image') logical names
   pub array : array_in protocol logical image' ≡ array_in protocol logical image
   pub old_bytes : BytesStay protocol image image'
   pub new_bytes : BytesCome protocol image' rec bytes
 
--- What it keeps where it completes the cycle. The pages of the transaction hold the bytes of its records, and every other
--- page holds what it held.
-pub record KeepsCompleting (protocol : Protocol) (logical : ℕ) (shape : Shape) (image image' : List Contents) (names : List Link) (rec : Rec) (bytes : List ℕ) : Type 0 where
+-- What it keeps where it completes the cycle. The pages of the transaction hold the bytes of its records, and every
+-- other page holds what it held.
+pub record KeepsCompleting
+    (protocol : Protocol) (logical : ℕ) (shape : Shape) (image image' : List Contents)
+    (names : List Link) (rec : Rec) (bytes : List ℕ) : Type 0 where
   pub sound : IsSoundImage protocol logical shape image'
   pub records : CompletingWriteKeeps protocol (records_in protocol image) (records_in protocol image') logical names
-  pub taken : All (λ name. slice_index_or (array_in protocol logical image') name.page None ≡ bytes_at (written_in protocol image') name) names
+  pub taken : All (λ name.
+      slice_index_or (array_in protocol logical image') name.page None
+      ≡ bytes_at (written_in protocol image') name) names
   pub elsewhere : (page : ℕ) → page < logical → All (λ name. name.page ≢ page) names →
-      slice_index_or (array_in protocol logical image') page None ≡ slice_index_or (array_in protocol logical image) page None
+      slice_index_or (array_in protocol logical image') page None
+      ≡ slice_index_or (array_in protocol logical image) page None
   pub old_bytes : BytesStay protocol image image'
   pub new_bytes : BytesCome protocol image' rec bytes
 
 -- what the image with a copy more keeps: it has no name that it had not
 pub record KeepsCopied (protocol : Protocol) (logical : ℕ) (shape : Shape) (image image' : List Contents) : Type 0 where
-  pub names : (name : Link) → is_present (records_in protocol image') name ≡ true → is_present (records_in protocol image) name ≡ true
+  pub names : (name : Link) → is_present (records_in protocol image') name ≡ true →
+      is_present (records_in protocol image) name ≡ true
   pub sound : IsSoundImage protocol logical shape image'
   pub records : CopyKeeps protocol (records_in protocol image) (records_in protocol image') logical
   pub array : array_in protocol logical image' ≡ array_in protocol logical image

@@ -72,6 +72,8 @@ impl<R: CommitRule> Index<R> {
         ensures current { All (λ name. current_of self.new name.page ≡ name.version) names.now }
         ensures stays { self.new ≡ self.old }
     {
+        // No effect at run time: nothing is to be changed. The proof reads the names and the tables
+        // from these uses.
         let _ = names;
         let _ = &self.config;
     }

@@ -71,8 +71,8 @@ fn lowest_outside_spare(
 ) -> Option<Slot>
     requires { 0 < shape.pages_per_block }
     ensures { let numbered = option_map (λ block. block.0) spare in
-        option_map (λ at. at.0) result
-        ≡ first_slot (λ f. has_name name f.rec && is_outside_spare shape numbered f.slot.0) list.now }
+        option_map (λ at. at.0) result ≡ first_slot
+        (λ f. has_name name f.rec && is_outside_spare shape numbered f.slot.0) list.now }
 {
     list.iter()
         .find(|found| has_name(&found.rec, name) && is_outside_spare(shape, spare, found.slot))
