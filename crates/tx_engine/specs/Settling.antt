@@ -5,8 +5,9 @@ use Rattle.tx_types.specs.declared.record.Link.{Link}
 use Rattle.flash_model.specs.Flash.{FlashState}
 use Rattle.flash_model.specs.Operations.{moment_of}
 use Rattle.flash_model.specs.declared.flash.Broken.{Broken}
+use Rattle.collector.specs.Looking.{ReadsAtMost}
 use Rattle.collector.specs.Preserves.{IsThere, Preserves}
-use Rattle.collector.specs.Settling.{Settlement, settlement}
+use Rattle.collector.specs.Settling.{Settlement, settlement, slots_read}
 use Rattle.collector.specs.declared.unsure.Unsure.TheVariants as unsure
 use Rattle.tx_engine.specs.ArrayState.{ArrayState, Entry, put, with_entry, without}
 use Rattle.tx_engine.specs.declared.mark.Mark.TheVariants.{Plain, Doubt, Whole}
@@ -32,10 +33,12 @@ pub record HasTables {F : Type 0} (found : Settlement) (s : Standing F) : Type 0
   pub noted : s.noted ≡ record found.noted { pins = s.noted.pins }
   pub table : s.table ≡ found.table
 
--- The place could not be read: all is as before but the flash, and nothing was programmed or erased.
+-- The place could not be read: all is as before but the flash. Nothing was programmed or erased, and no more slots were read
+-- than the place has.
 pub record StaysUnread {F : Type 0} (state : F → FlashState) (old new : Standing F) : Type 0 where
   pub stays : new ≡ record old { flash = new.flash }
   pub moment : moment_of (state new.flash) ≡ moment_of (state old.flash)
+  pub reads : ReadsAtMost (slots_read old.noted old.unsure) (state old.flash).reads (state new.flash).reads
 
 -- no record is noted of a name that had none, but for this name
 abbrev pub AddsOnly : Link → Noted → Noted → Type 0

@@ -218,7 +218,7 @@ returns-in_default-clause-found g c =
     of_each (next_of s c.args.tag) (λ name. IsThere (settlement_of state s).noted name → moment_of (state s.flash) ≡ moment_of (state s.flash)) (λ name here. refl)
 
 pub returns-in_default-clause-fresh : goal.returns-in_default-clause-fresh
-returns-in_default-clause-fresh g c = inl (record { stays = refl; moment = refl })
+returns-in_default-clause-fresh g c = inl (record { stays = refl; moment = refl; reads = inl refl })
 
 pub returns-in_err-settle-clause-fresh : goal.returns-in_err-settle-clause-fresh
 returns-in_err-settle-clause-fresh g c =
@@ -229,6 +229,7 @@ returns-in_err-settle-clause-fresh g c =
     (inl (record {
       stays = failed_stays state c.self.inside.store c.settle.new.store c.self.inside.openings c.settle.new.openings c.in_err-settle.ensures.failed.0 c.in_err-settle.ensures.failed.1 c.settle.ensures.moment;
       moment = c.settle.ensures.moment;
+      reads = c.in_err-settle.ensures.first_failed;
     })))
 
 pub returns-in_err-advance-clause-fresh : goal.returns-in_err-advance-clause-fresh
