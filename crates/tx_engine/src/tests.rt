@@ -4,5 +4,6 @@ mod devices;
 mod doubts;
 mod failing;
 mod full;
+mod history;
 mod rows;
 mod sweep;

@@ -10,7 +10,7 @@ use flash_model::Outcome::{All, Bad, None as Nothing};
 use std::test::Fail;
 
 /// Faults at the last program of a transaction, which then turns out to be there or not.
-const DOUBTS: [Row; 8] = [
+const DOUBTS: [Row; 9] = [
     (
         SIMPLE,
         &[
@@ -75,6 +75,18 @@ const DOUBTS: [Row; 8] = [
         ],
         "open; fault; done; 8; written 1 open 0 pending 0 programs 1 erases 0 garbage 0",
     ),
+    (
+        SIMPLE,
+        &[
+            Write(1, &[(0, 8)]),
+            Fault(1, Nothing),
+            Finish(1),
+            GiveUp(1),
+            Read(0),
+            Stats,
+        ],
+        "open; fault; gone; blank; written 0 open 0 pending 0 programs 0 erases 0 garbage 0",
+    ),
     // The page before the last one turns out to be written, and takes no program more.
     (
         SIMPLE,
@@ -84,12 +96,13 @@ const DOUBTS: [Row; 8] = [
             Step(1),
             Read(0),
             Step(1),
-            Step(1),
+            Stats,
+            Finish(1),
             Read(0),
             Read(1),
             Stats,
         ],
-        "open; fault; blank; wrote 1/2; done; 8; 9; written 2 open 0 pending 0 programs 1 erases 0 garbage 0",
+        "open; fault; blank; wrote 1/2; written 0 open 1 pending 2 programs 0 erases 0 garbage 0; done; 8; 9; written 2 open 0 pending 0 programs 1 erases 0 garbage 0",
     ),
     // The step of another transaction takes in the one in doubt, before it is cut.
     (

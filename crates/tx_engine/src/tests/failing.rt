@@ -1,14 +1,15 @@
-//! The same device over a flash that is no flash in memory, and of which any call may fail.
+//! The same device over a flash that is no flash in memory, and of which any call may fail, or be cut.
 ghost use Rattle.std.specs.Prelude.{◌≡◌, None};
 ghost use Rattle.mem_flash.specs.Memory.{state_of};
 
 use super::array::Array;
 use super::calls::mounted;
 use super::devices::blank;
-use super::sweep::{CONFIG, HISTORY, OUTCOMES, act, expect};
+use super::history::{CONFIG, HISTORY, OUTCOMES};
+use super::sweep::once;
 use crate::{Device, MountError};
 use bpcc_commit::Bpcc;
-use flash_model::{Arms, Broken, Flash, Outcome, Seen};
+use flash_model::{Arms, Broken, Flash, Outcome, Power, Seen};
 use mem_flash::MemFlash;
 use record_list::CommitRule;
 use scc_commit::Scc;
@@ -26,6 +27,8 @@ struct Failing {
     left: u32,
     /// What is left of a program or an erase that fails.
     outcome: Outcome,
+    /// Whether power goes off in it.
+    cuts: bool,
 }
 
 impl Failing {
@@ -38,6 +41,17 @@ impl Failing {
         }
         self.left -= 1;
         self.left == 0
+    }
+
+    /// The next program or erase fails, or is cut.
+    fn arm(&mut self)
+        ensures { state_of self.new.flash ≡ record (state_of self.old.flash) { told = (state_of self.new.flash).told } }
+    {
+        if self.cuts {
+            self.flash.arm_cut(1, self.outcome);
+        } else {
+            self.flash.arm_fault(1, self.outcome);
+        }
     }
 }
 
@@ -69,16 +83,22 @@ impl Flash for Failing {
 
     fn program(&mut self, at: Slot, bytes: &[u8], spare: &[u8; 64]) -> Result<(), Broken> {
         if self.is_due() {
-            self.flash.arm_fault(1, self.outcome);
+            self.arm();
         }
         self.flash.program(at, bytes, spare)
     }
 
     fn erase(&mut self, block: Block) -> Result<(), Broken> {
         if self.is_due() {
-            self.flash.arm_fault(1, self.outcome);
+            self.arm();
         }
         self.flash.erase(block)
+    }
+}
+
+impl Power for Failing {
+    fn power_on(&mut self) {
+        self.flash.power_on();
     }
 }
 
@@ -105,6 +125,7 @@ fn failed<R: CommitRule>(
     alloc: Global,
     left: u32,
     outcome: Outcome,
+    cuts: bool,
 ) -> Result<bool, Fail> {
     let config = Config {
         protocol: R::protocol(),
@@ -114,24 +135,32 @@ fn failed<R: CommitRule>(
         flash: blank(alloc, config)?,
         left,
         outcome,
+        cuts,
     };
     let mut device = opened::<R>(rt, alloc, flash, config)?;
     let mut array = Array::new();
+    let may_do = outcome == Outcome::All;
     for deed in HISTORY {
-        if act(rt, alloc, &mut device, &mut array, deed)? {
-            expect(rt, alloc, &mut device, &mut array, false)?;
-            let again = act(rt, alloc, &mut device, &mut array, deed)?;
+        let (next, broken) = once(rt, alloc, device, &mut array, deed, may_do)?;
+        device = next;
+        if broken {
+            let (next, again) = once(rt, alloc, device, &mut array, deed, may_do)?;
             assert!(rt; !again, "two calls failed");
+            device = next;
         }
     }
-    expect(rt, alloc, &mut device, &mut array, false)?;
     Ok(device.flash().left == 0)
 }
 
 /// The number of the first call that the history does not come to.
-fn calls<R: CommitRule>(rt: &impl Abort, alloc: Global, outcome: Outcome) -> Result<u32, Fail> {
+fn calls<R: CommitRule>(
+    rt: &impl Abort,
+    alloc: Global,
+    outcome: Outcome,
+    cuts: bool,
+) -> Result<u32, Fail> {
     for left in 1..1000 {
-        if !failed::<R>(rt, alloc, left, outcome)? {
+        if !failed::<R>(rt, alloc, left, outcome, cuts)? {
             return Ok(left);
         }
     }
@@ -140,11 +169,13 @@ fn calls<R: CommitRule>(rt: &impl Abort, alloc: Global, outcome: Outcome) -> Res
 
 #[test]
 fn any_call_of_a_flash_may_fail(rt: HostRuntime) -> Result<(), Fail> {
-    for outcome in OUTCOMES {
-        let simple = calls::<Scc>(&rt, rt.alloc(), outcome)?;
-        assert!(rt; simple > 50, "{simple} calls");
-        let back_pointer = calls::<Bpcc>(&rt, rt.alloc(), outcome)?;
-        assert!(rt; back_pointer > 50, "{back_pointer} calls");
+    for cuts in [false, true] {
+        for outcome in OUTCOMES {
+            let simple = calls::<Scc>(&rt, rt.alloc(), outcome, cuts)?;
+            assert!(rt; simple > 100, "{simple} calls");
+            let back_pointer = calls::<Bpcc>(&rt, rt.alloc(), outcome, cuts)?;
+            assert!(rt; back_pointer > 100, "{back_pointer} calls");
+        }
     }
     Ok(())
 }
