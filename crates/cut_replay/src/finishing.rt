@@ -15,7 +15,7 @@ pub fn finish<F: Flash, R: CommitRule>(device: &mut Device<F, R>, tag: u32) -> R
     ensures serves { ServesHere F.state (Command.Finish tag) device.old device.new result }
     ensures always { HoldsAlways F.state R.kept device.new }
 {
-    loop {
+    'steps: loop {
         match step(device, tag) {
             Reply::Wrote(..) => {}
             last => return last,

@@ -6,10 +6,10 @@ use Rattle.cut_replay.specs.Run.{pages_left}
 use Rattle.cut_replay.proofs.finishing.finish.Given as goal
 
 -- what is done from here on is done from the beginning on
-abbrev pub invariant-loop-last : goal.invariant-loop-last
-invariant-loop-last g l =
+abbrev pub invariant-steps : goal.invariant-steps
+invariant-steps g l =
     HoldsAlways g.F.Flash.state g.R.CommitRule.kept l.device
     × ((new : Standing _) (r : Reply) → ServesHere g.F.Flash.state (Finish l.tag) l.device new r → ServesHere g.F.Flash.state (Finish l.tag) l.initial.device new r)
 
-abbrev pub decreases-loop-last : goal.decreases-loop-last
-decreases-loop-last g l = pages_left l.tag l.device.machine
+abbrev pub decreases-steps : goal.decreases-steps
+decreases-steps g l = pages_left l.tag l.device.machine
