@@ -1,5 +1,6 @@
-ghost use Rattle.std.specs.Prelude.{◌≡◌, ◌<◌, ℕ, [], Some, IfOk, length, map, flat_map};
-ghost use Rattle.flash_model.specs.Flash.{slot_at};
+ghost use Rattle.std.specs.Prelude.{◌≡◌, ◌<◌, ◌++◌, ℕ, List, [], All, Some, IfOk, length};
+ghost use Rattle.std.specs.Prelude.{map, flat_map};
+ghost use Rattle.flash_model.specs.Flash.{IsWhole, complete, slot_at};
 ghost use Rattle.flash_model.specs.Calls.{seen_of};
 ghost use Rattle.mem_flash.specs.Slots.{cell_of};
 ghost use Rattle.txflash.specs.Keeping.{entry_at};
@@ -22,8 +23,8 @@ struct Entry {
     erases: u64,
 }
 
-/// The replies of a run, each with a copy of what the flash was when it was given. It is seen as the
-/// list of their texts and moments.
+/// The replies of a run, each with a copy of what the flash was when it was given. It is seen as
+/// the list of their texts and moments.
 #[derive(Drop)]
 pub struct Kept {
     alloc: Global,
@@ -86,13 +87,17 @@ impl Kept {
         flash.seen(at)
     }
 
-    /// The contents of a slot and then its spare area: all 0xff where the slot was blank, and all 0x00
-    /// where it was damaged.
+    /// The contents of a slot and then its spare area: all 0xff where the slot was blank, and all
+    /// 0x00 where it was damaged. It is as long as that of each complete slot.
     pub fn cell(&self, i: usize, at: Slot) -> &[u8]
         requires reply { i < length self.now }
         requires slot { at.0 < length (entry_at self.now i).moment.image }
-        ensures { (page_bytes : ℕ) × (result.now ≡
-            cell_of page_bytes (slot_at (entry_at self.now i).moment.image at.0)) }
+        ensures shown { (page_bytes : ℕ) × ((result.now ≡
+            cell_of page_bytes (slot_at (entry_at self.now i).moment.image at.0))
+            × All (IsWhole page_bytes) (entry_at self.now i).moment.image) }
+        ensures complete { (bytes spare : List ℕ)
+            → slot_at (entry_at self.now i).moment.image at.0 ≡ complete bytes spare
+            → result.now ≡ bytes ++ spare }
     {
         let flash = &self.entries[i].flash;
         let _ = flash.shape();

@@ -1,13 +1,17 @@
-//! Calls of the program on desks in memory. Most are tables: words, commands, and what is to be said
-//! of them.
+//! Calls of the program on desks in memory. Most are tables: words, commands, and what is to be
+//! said of them.
 mod arms;
 mod causes;
+mod files;
 mod hostile;
 mod images;
+mod manual;
+mod moves;
 mod rows;
+mod worlds;
 
 use crate::top::top;
-use desk_io::MemDesk;
+use desk_io::{Desk, MemDesk};
 use std::alloc::Global;
 use std::test::Fail;
 
@@ -21,7 +25,7 @@ const FORMAT_BPCC: [&str; 9] = ["format", "d.img", "bpcc", "16", "4", "4", "2", 
 const RUN: [&str; 3] = ["run", "d.img", "c.txt"];
 
 /// The status of a call with these words.
-fn call(alloc: Global, words: &[&str], desk: &mut MemDesk) -> Result<u8, Fail> {
+fn call<D: Desk>(alloc: Global, words: &[&str], desk: &mut D) -> Result<u8, Fail> {
     let mut all = Vec::new(alloc);
     for word in words {
         all.push(String::from_str(alloc, word)?)?;
@@ -34,8 +38,21 @@ fn desk(alloc: Global) -> MemDesk {
     MemDesk::new(alloc, Vec::new(alloc))
 }
 
-/// The lines of a text that has a semicolon between each two. `..` at the end of a line stands for the
-/// zeros behind the first byte of a page.
+/// The words of a text. `''` is the word without a byte.
+fn words(alloc: Global, text: &str) -> Result<Vec<&str>, Fail> {
+    let mut words = Vec::new(alloc);
+    for word in text.split(' ') {
+        match word {
+            "" => {}
+            "''" => words.push("")?,
+            _ => words.push(word)?,
+        }
+    }
+    Ok(words)
+}
+
+/// The lines of a text that has a semicolon between each two. `..` at the end of a line stands for
+/// the zeros behind the first byte of a page.
 fn lines(alloc: Global, text: &str) -> Result<Vec<u8>, Fail> {
     let mut all = Vec::new(alloc);
     for line in text.split(';') {

@@ -1,14 +1,14 @@
 //! The statuses: which words, files and failing calls of the desk they come from.
 use super::images::default_image;
-use super::{FORMAT, RUN, call, desk, lines};
+use super::{FORMAT, RUN, call, desk, lines, words};
 use desk_io::MemDesk;
 use std::alloc::Global;
 use std::test::Fail;
 
-/// A line for each call: the status, what is said, and the words, on a desk with an image `d.img` of a default device,
-/// a cut off image `short.img`, commands `c.txt`, and a file `bad.txt` whose fourth line is no command. `''` is the
-/// word without a byte. First words that are not in the table, then calls that the first failing step decides, and
-/// numbers of no device.
+/// A line for each call: the status, what is said, and the words, on a desk with an image `d.img`
+/// of a default device, a cut off image `short.img`, commands `c.txt`, and a file `bad.txt` whose
+/// fourth line is no command. `''` is the word without a byte. First words that are not in the
+/// table, then calls that the first failing step decides, and numbers of no device.
 const CALLS: &str = "\
     1;bad words;\n\
     1;bad words;--help\n\
@@ -94,19 +94,6 @@ fn words_and_files_decide(rt: HostRuntime) -> Result<(), Fail> {
     Ok(())
 }
 
-/// The words of a text. `''` is the word without a byte.
-fn words(alloc: Global, text: &str) -> Result<Vec<&str>, Fail> {
-    let mut words = Vec::new(alloc);
-    for word in text.split(' ') {
-        match word {
-            "" => {}
-            "''" => words.push("")?,
-            _ => words.push(word)?,
-        }
-    }
-    Ok(words)
-}
-
 /// Words, what is said, and the status.
 type Call = (&'static [&'static str], &'static str, u8);
 
@@ -115,12 +102,14 @@ const DONE: [Call; 3] = [
     // The summary of generated commands, with leading zeros in the words.
     (
         &["drive", "00000000000000000001", "0000000000", "scc"],
-        "drive scc start 1 count 0 commands 61 done 20 aborted 0 cut 0 refused 0 unknown 0 programs 20 erases 0 sum 210",
+        "drive scc start 1 count 0 commands 61 done 20 aborted 0 cut 0 refused 0 unknown 0 \
+         programs 20 erases 0 sum 210",
         0,
     ),
     (
         &["drive", "1", "0", "bpcc"],
-        "drive bpcc start 1 count 0 commands 61 done 20 aborted 0 cut 0 refused 0 unknown 0 programs 20 erases 0 sum 210",
+        "drive bpcc start 1 count 0 commands 61 done 20 aborted 0 cut 0 refused 0 unknown 0 \
+         programs 20 erases 0 sum 210",
         0,
     ),
 ];
@@ -140,13 +129,18 @@ fn explains_and_drives(rt: HostRuntime) -> Result<(), Fail> {
 #[test]
 fn drives_alike_at_each_run(rt: HostRuntime) -> Result<(), Fail> {
     let alloc = rt.alloc();
-    let mut said = Vec::new(alloc);
-    for _ in 0..2 {
-        let mut desk = desk(alloc);
-        assert_eq!(rt; call(alloc, &["drive", "1", "200", "bpcc"], &mut desk)?, 0);
-        said.push(desk.said().to_vec(alloc)?)?;
+    for protocol in ["scc", "bpcc"] {
+        let mut said = Vec::new(alloc);
+        for _ in 0..2 {
+            let mut desk = desk(alloc);
+            assert_eq!(rt;
+                call(alloc, &["drive", "1", "200", protocol], &mut desk)?,
+                0
+            );
+            said.push(desk.said().to_vec(alloc)?)?;
+        }
+        assert_eq!(rt; said.first(), said.last());
     }
-    assert_eq!(rt; said.first(), said.last());
     Ok(())
 }
 
@@ -170,8 +164,8 @@ fn formats_devices(rt: HostRuntime) -> Result<(), Fail> {
     Ok(())
 }
 
-/// Words, the numbers of the calls of the desk that fail, what is said, and what of the new image is in the file
-/// afterwards: nothing of it, its first half, or all.
+/// Words, the numbers of the calls of the desk that fail, what is said, and what of the new image
+/// is in the file afterwards: nothing of it, its first half, or all.
 type Failing = (&'static [&'static str], &'static [u32], &'static str, Kept);
 
 #[derive(Clone, Copy)]

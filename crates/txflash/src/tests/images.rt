@@ -11,7 +11,8 @@ const SLOTS: usize = 32;
 /// The bytes of a slot: a page and a spare area.
 const CELL: usize = 80;
 
-/// A record: its slot, its page and version, the page and version of its link, and its back version.
+/// A record: its slot, its page and version, the page and version of its link, and its back
+/// version.
 pub type Record = (u8, u32, u64, (u32, u64), u64);
 
 /// The image of a blank default device of this protocol.

@@ -12,7 +12,7 @@ use std::test::Fail;
 use tx_types::{Protocol, Slot};
 
 /// Commands for a fresh default device, and the replies to them.
-const TRIED: [(&str, &str); 29] = [
+const TRIED: [(&str, &str); 31] = [
     ("", ""),
     ("read 19; read 20", "blank 19; refused range 20"),
     (
@@ -116,6 +116,15 @@ const TRIED: [(&str, &str); 29] = [
         "write 1 0=07; fault 1 all; finish 1; write 2 1=09; cut 1 none; finish 2; read 0; read 1",
         "open 1 1; armed; fault; open 2 1; armed; cut; page 0 07..; blank 1",
     ),
+    // A step of another transaction finds out that one is done.
+    (
+        "write 1 0=07; write 2 1=09 2=0a; fault 1 all; finish 1; step 2; read 0; finish 1",
+        "open 1 1; open 2 2; armed; fault; wrote 2 1 2; page 0 07..; done 1",
+    ),
+    (
+        "write 1 0=07; write 2 1=09 2=0a; fault 1 all; finish 1; step 2; abort 1; read 0",
+        "open 1 1; open 2 2; armed; fault; wrote 2 1 2; late 1; page 0 07..",
+    ),
     ("explain", "explained 0"),
     (
         "stats",
@@ -177,7 +186,8 @@ const RUNS: [(&[&str], &str, &str); 4] = [
          verdict 3 newest 1 committed cycle current 1 walk 3:1; \
          verdict 4 newest 1 committed cycle current 1 walk 4:1; explained 5",
     ),
-    // Three cuts while blocks are collected: in a copy, in a copy after the spare was erased, and in the erase.
+    // Three cuts while blocks are collected: in a copy, in a copy after the spare was erased, and
+    // in the erase.
     (
         &["format", "d.img", "scc", "16", "2", "3", "1", "2", "1"],
         "write 1 0=01; finish 1; write 2 1=02; finish 2; write 3 0=03; finish 3; write 4 0=04; finish 4; \
@@ -283,6 +293,22 @@ fn complete_slots(alloc: Global, kept: &Kept, i: usize) -> Result<Vec<u32>, Fail
     Ok(all)
 }
 
+/// What the slot of a record shows: page 0 with byte 1, version 1, and a link to page 1, version 1.
+const CELL: &str =
+    "01000000000000000000000000000000 54584652 01 01 0000 00000000 01000000 0100000000000000 \
+                    0100000000000000 0000000000000000 \
+                    000000000000000000000000000000000000000000000000";
+
+/// The hexadecimal digits of bytes.
+fn digits_of(alloc: Global, bytes: &[u8]) -> Result<Vec<u8>, Fail> {
+    let mut digits = Vec::new(alloc);
+    for byte in bytes {
+        let pair = format!(in alloc; "{byte:02x}")?;
+        digits.extend_from_slice(pair.as_bytes())?;
+    }
+    Ok(digits)
+}
+
 #[test]
 fn keeps_what_the_flash_was_at_each_reply(rt: HostRuntime) -> Result<(), Fail> {
     let alloc = rt.alloc();
@@ -297,15 +323,27 @@ fn keeps_what_the_flash_was_at_each_reply(rt: HostRuntime) -> Result<(), Fail> {
     let (_, done) = serve::<MemFlash, Scc, Kept>(alloc, flash, config, &list, &mut kept);
     assert_eq!(rt; done, Ok(()));
     assert_eq!(rt; kept.len(), 3);
+    let mut cell = Vec::new(alloc);
+    for part in CELL.split(' ') {
+        cell.extend_from_slice(part.as_bytes())?;
+    }
     for (i, text) in ["open 1 2\n", "wrote 1 1 2\n", "done 1\n"]
         .iter()
         .enumerate()
     {
         assert_eq!(rt; complete_slots(alloc, &kept, i)?.len(), i);
-        if i < kept.len() {
+        if i < kept.len() && kept.slots(i) > 0 {
             assert_eq!(rt; kept.text(i), text.as_bytes());
             assert_eq!(rt; kept.programs(i), i as u64);
             assert_eq!(rt; kept.erases(i), 0);
+            let first = digits_of(alloc, kept.cell(i, Slot(0)))?;
+            let blank = [b'f'; 160];
+            let shown = if i == 0 {
+                blank.as_slice()
+            } else {
+                cell.as_slice()
+            };
+            assert_eq!(rt; first.as_slice(), shown, "at {i}");
         }
     }
     Ok(())
