@@ -121,9 +121,6 @@ read_none n s first =
 
 module _ (n : Noted) (old now : FlashState) (first at : ℕ) (x y : Bool) (h : ReadSoFar n old now first at x y) (c : FlashState) (bytes spare : List ℕ)
     (r : Result Seen Broken) (reads : Reads now c at bytes spare r) where
-  pub read_shape : now.shape ≡ old.shape
-  read_shape = so_far_shape old now (at - first) h.looks
-
   -- a read that is broken ends it
   pub read_broken : (most : ℕ) (e : Broken) → r ≡ Err e → first ≤ at → at < first + most → Looks old c most true
   read_broken most e is low high =

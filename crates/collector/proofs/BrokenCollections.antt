@@ -93,6 +93,6 @@ module _ (s : FlashState) (n n' : Noted) (t : BlockTable) (u : Unsure) (m : Matc
   victim_no_new A B C D (Err x) done torn = subst (HasNoNewRecord n) (sym torn.1) (HasNoNewRecord-nothing n)
 
 -- what is so is so after an error
-pub on_err : (r : Result (Unit {0}) Broken) (P : Type 0) → P → OnErr r P
+pub on_err : {X : Type 0} (r : Result X Broken) (P : Type 0) → P → OnErr r P
 on_err (Ok x) P h = tt
 on_err (Err x) P h = h

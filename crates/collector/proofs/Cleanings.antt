@@ -1,5 +1,5 @@
 -- Making the spare blank: where it is blank already, and by an erase.
-use Rattle.std.proofs.Common.{◌≡◌, ℕ, ◌+◌, ◌*◌, ◌<◌, ◌≤◌, true, false, [], ◌∷◌, length, Option, Some, None, OnOk, Ok, Err, Result, refl, sym, ap, ◌∙◌, subst, inl, inr, arith}
+use Rattle.std.proofs.Common.{◌≡◌, ℕ, ◌+◌, ◌*◌, ◌<◌, ◌≤◌, true, false, [], ◌∷◌, length, Option, Some, None, OnOk, OnErr, Ok, Err, Result, refl, sym, ap, ◌∙◌, subst, inl, inr, arith}
 use Rattle.std.specs.Result.{is_err}
 use Rattle.std.specs.Option.{option_map_or}
 use Rattle.std.proofs.lemmas.Bool.{cases_lt, cond-true, cond-false}
@@ -23,6 +23,7 @@ use Rattle.die_alloc.specs.BlockTable.{BlockTable}
 use Rattle.collector.specs.declared.unsure.Unsure.{Unsure}
 use Rattle.collector.specs.declared.unsure.Unsure.TheVariants as unsure
 use Rattle.collector.specs.Matches.{Matches}
+use Rattle.collector.specs.BreakingOff.{CleaningBreaks}
 use Rattle.collector.specs.Collecting.{is_blank, is_blank_block, is_noted_blank, cleaning}
 use Rattle.collector.proofs.Calm.{noted_as_read}
 use Rattle.collector.proofs.NotesLeft.{note_at-in, note_at-out, length-noted}
@@ -100,3 +101,14 @@ module _ (s : FlashState) (n : Noted) (t : BlockTable) (u : Unsure) (nothing : u
 
     pub erase_does : is_noted_blank n t.spare ≡ false → OnOk r (Does s.shape (moment_of s) (cleaning n s.image t.spare) (moment_of s'))
     erase_does fail = does r (subst (λ k. Erases s s' k r) is erases) fail
+
+    breaks : (q : Result (Unit {0}) Broken) → Erases s s' t.spare q → is_noted_blank n t.spare ≡ false → OnErr q (CleaningBreaks n s s' t.spare)
+    breaks (Ok x) e fail = tt
+    breaks (Err x) e fail = record {
+      first = cond-false (is_blank_block n s.image t.spare) [] (erase t.spare ∷ []) (blank_as_read ∙ fail);
+      torn = e.torn;
+      reads = e.reads;
+    }
+
+    pub erase_breaks : is_noted_blank n t.spare ≡ false → OnErr r (CleaningBreaks n s s' t.spare)
+    erase_breaks fail = breaks r (subst (λ k. Erases s s' k r) is erases) fail

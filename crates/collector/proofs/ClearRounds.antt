@@ -98,14 +98,14 @@ module _ (p : Protocol) (page below : ℕ) (s0 s : FlashState) (n0 n : Noted) (t
       law = subst LossLaw (sym rule ∙ ap (λ (k : Config). k.protocol) (sym so.kept.config)) loss
 
       -- there are fewer such blocks after the round
-      pub round_fewer : IsTreated n t.spare block n' → blocks_to_go n' page below < blocks_to_go n page below
+      pub round_fewer : IsTreated n t block n' t' → blocks_to_go n' page below < blocks_to_go n page below
       round_fewer treated = elim (cases_eq block t.spare) [
         | inl same ↦ (
-            let is : n' ≡ erased n block = treated.0 same ∙ ap (erased n) (sym same) in
+            let is : n' ≡ erased n block = (treated.0 same).0 ∙ ap (erased n) (sym same) in
             subst (λ (k : Noted). blocks_to_go k page below < blocks_to_go n page below) (sym is)
             (erased_fewer n so.matches.noted page below so.names so.next block block_exists now (subst (Preserves n) is kept')))
         | inr apart ↦ (
-            let is = treated.1 apart in
+            let is = (treated.1 apart).0 in
             let low = spare_within s n t calm in
             subst (λ (k : Noted). blocks_to_go k page below < blocks_to_go n page below) (sym is)
             (collected_fewer n so.matches.noted page below so.names so.next block t.spare low block_exists
@@ -137,7 +137,7 @@ module _ (p : Protocol) (page below : ℕ) (s0 s : FlashState) (n0 n : Noted) (t
       pub round_carries : (broken : _) → Carries s s' broken → Carries s0 s' broken
       round_carries broken carries = Carries-then s0 s s' broken so.carries carries
 
-      pub round_done : u' ≡ unsure.Nothing → IsTreated n t.spare block n' → KeepsArray p n.config.logical s.image s'.image → CostsAtMost n.config.pages_per_block 1 s s' →
+      pub round_done : u' ≡ unsure.Nothing → IsTreated n t block n' t' → KeepsArray p n.config.logical s.image s'.image → CostsAtMost n.config.pages_per_block 1 s s' →
           FlashMoves s s' false → Carries s s' false → ClearsSoFar p page below s0 s' n0 n' t' u'
       round_done sure treated array costs moves carries = record {
         nothing = sure;

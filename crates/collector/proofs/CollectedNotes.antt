@@ -125,10 +125,3 @@ module _ (n : Noted) (some : 0 < n.config.pages_per_block) (long : length n.note
             in_copy from (noted_in (noted_cleaned n spare).notes from f.rec (holds_within (noted_cleaned n spare).notes from f.rec is) is)
             (from_filter (needed_of (noted_cleaned n spare)) from (slots_in (noted_cleaned n spare) block) j).1)
       ]
-
-  -- no record is new
-  pub collected_no_new : HasNoNewRecord n (collected n spare block)
-  collected_no_new = no_new n (collected n spare block) (λ f i. elim (collected_from f i) [
-    | in_place was out ↦ record { was = f; is_in = was; same = refl }
-    | in_copy from was needed ↦ record { was = found from f.rec; is_in = (erased_from n some long spare spare_below (found from f.rec) was).0; same = refl }
-  ])

@@ -10,7 +10,7 @@ use Rattle.tx_types.specs.declared.config.Shape.{Shape}
 use Rattle.flash_model.specs.declared.flash.Broken.{Broken}
 use Rattle.flash_model.specs.Flash.{FlashState, slot_at}
 use Rattle.flash_model.specs.Calls.{Erases}
-use Rattle.flash_model.specs.Operations.{Operation, erase, block_of, moment_of, after, CanDo}
+use Rattle.flash_model.specs.Operations.{Moment, Operation, erase, block_of, moment_of, after, CanDo}
 use Rattle.flash_model.specs.Moves.{Does, FlashMoves, StayOff}
 use Rattle.flash_model.proofs.ImageLemmas.{block_within, slot_at-does}
 use Rattle.flash_model.proofs.MoveLemmas.{same_moments, Does-append, FlashMoves-operates}
@@ -59,21 +59,13 @@ module _ (p : Protocol) (loss : LossLaw p) (s0 : FlashState) (n0 : Noted) (t : B
         blank_on = λ k from before. note_at-in (shape_of n0.config) some n0.notes m.noted.slots t.spare below Blank k from before;
       }
 
-  -- the operations of the whole
-  module _ (s1 s2 s3 : FlashState) (n1 n2 : Noted) (t1 : BlockTable) (block used : ℕ) (noted : n1 ≡ erased n0 t.spare) (table : t1 ≡ t) (apart : block ≢ t.spare)
-      (exists : block < blocks_of (shape_of n0.config)) (shape1 : s1.shape ≡ s0.shape) (shape2 : s2.shape ≡ s0.shape)
-      (cleans : Does s0.shape (moment_of s0) (cleaning n0 s0.image t.spare) (moment_of s1))
-      (copied : CopiesDone n1 n2 s1 s2 t1.spare block used) (r : Result (Unit {0}) Broken) (erases : Erases s2 s3 block r) where
-    can : CanDo s2.shape s2.image (erase block)
-    can = omega (arith, exists, ap blocks_of (shape2 ∙ m.shape))
-
-    pub victim_moves : FlashMoves s2 s3 (is_err r)
-    victim_moves = FlashMoves-operates s2 s3 (erase block) r can erases
-
+  -- once the spare was made blank
+  module _ (s1 : FlashState) (n1 : Noted) (t1 : BlockTable) (block : ℕ) (noted : n1 ≡ erased n0 t.spare) (table : t1 ≡ t) (apart : block ≢ t.spare)
+      (shape1 : s1.shape ≡ s0.shape) (cleans : Does s0.shape (moment_of s0) (cleaning n0 s0.image t.spare) (moment_of s1)) where
     abbrev slots : List ℕ
     slots = needed_slots (noted_cleaned n0 t.spare) block
 
-    -- the copied slots hold what they held before the spare was made blank
+    -- the slots to be copied hold what they held before
     stay_off : (k : ℕ) → IsIn slots k → StayOff s0.shape (k / s0.shape.pages_per_block) (cleaning n0 s0.image t.spare)
     stay_off k i =
         let parts = from_filter (needed_of (erased n0 t.spare)) k (range_with_len (block * n0.config.pages_per_block) n0.config.pages_per_block) i in
@@ -89,27 +81,46 @@ module _ (p : Protocol) (loss : LossLaw p) (s0 : FlashState) (n0 : Noted) (t : B
           | inr none ↦ absurd none
         ]))
 
-    same_slots : (k : ℕ) → IsIn slots k → slot_at s1.image k ≡ slot_at s0.image k
+    pub same_slots : (k : ℕ) → IsIn slots k → slot_at s1.image k ≡ slot_at s0.image k
     same_slots k i = slot_at-does s0.shape (moment_of s0) (moment_of s1) (cleaning n0 s0.image t.spare) k m.flash cleans (stay_off k i)
 
-    abbrev programs : List Operation
-    programs = copies n0.config.page_bytes s0.image (t.spare * n0.config.pages_per_block) slots
+    abbrev programs : List ℕ → List Operation
+    programs first = copies n0.config.page_bytes s0.image (t.spare * n0.config.pages_per_block) first
 
-    copies_are : Does s0.shape (moment_of s1) programs (moment_of s2)
-    copies_are =
-        subst (λ l. Does s0.shape (moment_of s1) l (moment_of s2)) (copies_same n0.config.page_bytes s1.image s0.image (t.spare * n0.config.pages_per_block) slots same_slots)
-        (subst (λ sh. Does sh (moment_of s1) (copies n0.config.page_bytes s1.image (t.spare * n0.config.pages_per_block) slots) (moment_of s2)) shape1
-        (subst (λ (k : Noted). Does s1.shape (moment_of s1) (copies k.config.page_bytes s1.image (t.spare * k.config.pages_per_block) (needed_slots k block)) (moment_of s2)) noted
-        (subst (λ (k : BlockTable). Does s1.shape (moment_of s1) (copies n1.config.page_bytes s1.image (k.spare * n1.config.pages_per_block) (needed_slots n1 block)) (moment_of s2)) table
-        copied.programmed)))
+    -- the copies of some of them follow on making the spare blank
+    pub copies_follow : (first : List ℕ) → ((k : ℕ) → IsIn first k → IsIn slots k) → (now : Moment) →
+        Does s1.shape (moment_of s1) (copies n1.config.page_bytes s1.image (t1.spare * n1.config.pages_per_block) first) now →
+        Does s0.shape (moment_of s0) (cleaning n0 s0.image t.spare ++ programs first) now
+    copies_follow first are now does =
+        Does-append s0.shape (moment_of s0) (moment_of s1) now (cleaning n0 s0.image t.spare) (programs first) cleans
+        (subst (λ l. Does s0.shape (moment_of s1) l now)
+        (copies_same n0.config.page_bytes s1.image s0.image (t.spare * n0.config.pages_per_block) first (λ k i. same_slots k (are k i)))
+        (subst (λ sh. Does sh (moment_of s1) (copies n0.config.page_bytes s1.image (t.spare * n0.config.pages_per_block) first) now) shape1
+        (subst (λ (k : Noted). Does s1.shape (moment_of s1) (copies k.config.page_bytes s1.image (t.spare * k.config.pages_per_block) first) now) noted
+        (subst (λ (k : BlockTable). Does s1.shape (moment_of s1) (copies n1.config.page_bytes s1.image (k.spare * n1.config.pages_per_block) first) now) table
+        does))))
 
-    pub collects : OnOk r (Does s0.shape (moment_of s0) (collecting n0 s0.image t.spare block) (moment_of s3))
-    collects = by r erases
-      where
-        by : (q : Result (Unit {0}) Broken) → Erases s2 s3 block q → OnOk q (Does s0.shape (moment_of s0) (collecting n0 s0.image t.spare block) (moment_of s3))
-        by (Err x) e = tt
-        by (Ok x) e =
-            Does-append s0.shape (moment_of s0) (moment_of s2) (moment_of s3) (cleaning n0 s0.image t.spare ++ programs) (erase block ∷ [])
-            (Does-append s0.shape (moment_of s0) (moment_of s1) (moment_of s2) (cleaning n0 s0.image t.spare) programs cleans copies_are)
-            (subst (λ sh. Does sh (moment_of s2) (erase block ∷ []) (moment_of s3)) shape2
-            (can, same_moments (moment_of s3) (after s2.shape (moment_of s2) (erase block)) e.done.image e.done.programs e.done.erases))
+    -- the operations of the whole
+    module _ (s2 s3 : FlashState) (n2 : Noted) (used : ℕ) (exists : block < blocks_of (shape_of n0.config)) (shape2 : s2.shape ≡ s0.shape)
+        (copied : CopiesDone n1 n2 s1 s2 t1.spare block used) (r : Result (Unit {0}) Broken) (erases : Erases s2 s3 block r) where
+      can : CanDo s2.shape s2.image (erase block)
+      can = omega (arith, exists, ap blocks_of (shape2 ∙ m.shape))
+
+      pub victim_moves : FlashMoves s2 s3 (is_err r)
+      victim_moves = FlashMoves-operates s2 s3 (erase block) r can erases
+
+      -- all that is needed was copied
+      pub all_copied : Does s0.shape (moment_of s0) (cleaning n0 s0.image t.spare ++ programs slots) (moment_of s2)
+      all_copied = copies_follow slots (λ k i. i) (moment_of s2)
+          (subst (λ (k : Noted). Does s1.shape (moment_of s1) (copies n1.config.page_bytes s1.image (t1.spare * n1.config.pages_per_block) (needed_slots k block)) (moment_of s2)) noted
+          copied.programmed)
+
+      pub collects : OnOk r (Does s0.shape (moment_of s0) (collecting n0 s0.image t.spare block) (moment_of s3))
+      collects = by r erases
+        where
+          by : (q : Result (Unit {0}) Broken) → Erases s2 s3 block q → OnOk q (Does s0.shape (moment_of s0) (collecting n0 s0.image t.spare block) (moment_of s3))
+          by (Err x) e = tt
+          by (Ok x) e =
+              Does-append s0.shape (moment_of s0) (moment_of s2) (moment_of s3) (cleaning n0 s0.image t.spare ++ programs slots) (erase block ∷ []) all_copied
+              (subst (λ sh. Does sh (moment_of s2) (erase block ∷ []) (moment_of s3)) shape2
+              (can, same_moments (moment_of s3) (after s2.shape (moment_of s2) (erase block)) e.done.image e.done.programs e.done.erases))

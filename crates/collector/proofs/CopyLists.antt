@@ -2,7 +2,8 @@
 use Rattle.std.proofs.Common.{◌≡◌, ℕ, zero, suc, ◌+◌, ◌<◌, ◌≤◌, Bool, true, false, cond, List, [], ◌∷◌, ◌++◌, length, filter, Any, refl, sym, ap, ap₂, ◌∙◌, subst, inl, inr, arith}
 use Rattle.std.specs.List.{range_with_len}
 use Rattle.std.proofs.lemmas.Bool.{cond-true, cond-false, cond_both}
-use Rattle.std.proofs.lemmas.List.{map-id}
+use Rattle.std.proofs.lemmas.List.{append-nil, map-id}
+use Rattle.std.proofs.lemmas.List.Elements.{filter-append}
 use Rattle.std.proofs.lemmas.List.FromFn.{filter_of_map_range_with_len_more, length-range_with_len}
 use Rattle.flash_model.specs.Flash.{Contents, slot_at}
 use Rattle.flash_model.specs.Calls.{page_of, spare_of}
@@ -40,16 +41,32 @@ filter_more p a n at e =
     ∙ filter_of_map_range_with_len_more p (λ k. k) a n at e
     ∙ ap (λ l. filter p l ++ cond (p at) (at ∷ []) []) (map-id (range_with_len a n))
 
-append_nil : {X : Type 0} (xs : List X) → xs ++ [] ≡ xs
-append_nil [] = refl
-append_nil (x ∷ xs) = ap (λ l. x ∷ l) (append_nil xs)
-
 pub filter_passed : (p : ℕ → Bool) (a n at : ℕ) → a + n ≡ at → p at ≡ false → filter p (range_with_len a (n + 1)) ≡ filter p (range_with_len a n)
 filter_passed p a n at e fail =
-    filter_more p a n at e ∙ ap (λ l. filter p (range_with_len a n) ++ l) (cond-false (p at) (at ∷ []) [] fail) ∙ append_nil (filter p (range_with_len a n))
+    filter_more p a n at e ∙ ap (λ l. filter p (range_with_len a n) ++ l) (cond-false (p at) (at ∷ []) [] fail) ∙ append-nil (filter p (range_with_len a n))
 
 pub filter_taken : (p : ℕ → Bool) (a n at : ℕ) → a + n ≡ at → p at ≡ true → filter p (range_with_len a (n + 1)) ≡ filter p (range_with_len a n) ++ at ∷ []
 filter_taken p a n at e pass = filter_more p a n at e ∙ ap (λ l. filter p (range_with_len a n) ++ l) (cond-true (p at) (at ∷ []) [] pass)
+
+-- the numbers of a range that pass, about one that does
+range_parts : (a k m : ℕ) → range_with_len a (k + (m + 1)) ≡ range_with_len a k ++ (a + k) ∷ range_with_len (a + k + 1) m
+range_parts a zero m =
+    ap (λ l. range_with_len a l) (let more : 0 + (m + 1) ≡ suc m = omega arith in more)
+    ∙ ap (λ q. q ∷ range_with_len (q + 1) m) (let at : a ≡ a + 0 = omega arith in at)
+range_parts a (suc k) m =
+    ap (λ q. range_with_len a q) (let more : suc k + (m + 1) ≡ suc (k + (m + 1)) = omega arith in more)
+    ∙ ap (λ l. a ∷ l)
+    (range_parts (a + 1) k m
+    ∙ ap (λ q. range_with_len (a + 1) k ++ q ∷ range_with_len (q + 1) m) (let at : a + 1 + k ≡ a + suc k = omega arith in at))
+
+pub filter_parts : (p : ℕ → Bool) (a k m n at : ℕ) → a + k ≡ at → k + (m + 1) ≡ n → p at ≡ true →
+    filter p (range_with_len a n) ≡ filter p (range_with_len a k) ++ at ∷ filter p (range_with_len (at + 1) m)
+filter_parts p a k m n at is all pass =
+    ap (λ q. filter p (range_with_len a q)) (sym all)
+    ∙ ap (filter p) (range_parts a k m ∙ ap (λ q. range_with_len a k ++ q ∷ range_with_len (q + 1) m) is)
+    ∙ filter-append p (range_with_len a k) (at ∷ range_with_len (at + 1) m)
+    ∙ ap (λ l. filter p (range_with_len a k) ++ l)
+    (cond-true (p at) (at ∷ filter p (range_with_len (at + 1) m)) (filter p (range_with_len (at + 1) m)) pass)
 
 pub length-more : {X : Type 0} (xs : List X) (x : X) → length (xs ++ x ∷ []) ≡ length xs + 1
 length-more [] x = refl

@@ -200,6 +200,15 @@ module _ (p : Protocol) (n0 n : Noted) (s0 s : FlashState) (t : BlockTable) (u :
       let same : slots_of (shape_of n.config) ≡ slots_of (shape_of n0.config) = ap (λ c. slots_of (shape_of c)) same_config in
       omega (arith, end, same, high, block_is)
 
+  pub to_at : to ≡ start + length (needed_before n0 first at)
+  to_at = ap (λ k. start + k) h.count
+
+  pub its_program : copy_program n.config.page_bytes s.image to at ≡ copy_program n0.config.page_bytes s0.image (start + length (needed_before n0 first at)) at
+  its_program =
+      ap (λ (k : Config). copy_program k.page_bytes s.image to at) same_config
+      ∙ ap (λ c. program to (page_of n0.config.page_bytes c) (spare_of c)) (h.image at away)
+      ∙ ap (λ k. copy_program n0.config.page_bytes s0.image k at) to_at
+
   -- it is needed
   module _ (needed : needed_of n at ≡ true) where
     -- and holds a record
@@ -215,7 +224,7 @@ module _ (p : Protocol) (n0 n : Noted) (s0 s : FlashState) (t : BlockTable) (u :
     pub has_record : IsSome (rec_of (note_at n.notes at))
     has_record = subst (λ note. IsSome (rec_of note)) (sym source.is) refl
 
-    needed0 : needed_of n0 at ≡ true
+    pub needed0 : needed_of n0 at ≡ true
     needed0 = sym (h.needs at away) ∙ needed
 
     module _ (law : CopyLaw n.config.protocol) (n' : Noted) (s' : FlashState) (u' : Unsure) (matches : Matches s' n' t u') (nothing : u' ≡ unsure.Nothing)
@@ -261,15 +270,6 @@ module _ (p : Protocol) (n0 n : Noted) (s0 s : FlashState) (t : BlockTable) (u :
 
       so_far : needed_before n0 first (at + 1) ≡ needed_before n0 first at ++ at ∷ []
       so_far = ap (λ k. filter (needed_of n0) (range_with_len first k)) (sym next_at) ∙ filter_taken (needed_of n0) first (at - first) at here needed0
-
-      to_at : to ≡ start + length (needed_before n0 first at)
-      to_at = ap (λ k. start + k) h.count
-
-      its_program : copy_program n.config.page_bytes s.image to at ≡ copy_program n0.config.page_bytes s0.image (start + length (needed_before n0 first at)) at
-      its_program =
-          ap (λ (k : Config). copy_program k.page_bytes s.image to at) same_config
-          ∙ ap (λ c. program to (page_of n0.config.page_bytes c) (spare_of c)) (h.image at away)
-          ∙ ap (λ k. copy_program n0.config.page_bytes s0.image k at) to_at
 
       does_now : Does s0.shape (moment_of s0) (copies n0.config.page_bytes s0.image start (needed_before n0 first (at + 1))) (moment_of s')
       does_now =

@@ -51,5 +51,6 @@ pub mod RoomMade
 pub mod RoomCalls
 pub mod ClearRounds
 pub mod FoundSlots
+pub mod OpenedTables
+mod BreakingOff
 mod BrokenCollections
-mod BlankFlash

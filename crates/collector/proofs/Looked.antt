@@ -1,5 +1,5 @@
 -- What stays where slots were read, and how often it was read.
-use Rattle.std.proofs.Common.{◌≡◌, ℕ, zero, suc, ◌+◌, ◌<◌, true, false, refl, sym, ap, ◌∙◌, subst, inl, inr, arith, eqb-true}
+use Rattle.std.proofs.Common.{◌≡◌, ℕ, zero, suc, ◌+◌, ◌<◌, true, refl, sym, ap, ◌∙◌, subst, inl, inr, arith, eqb-true}
 use Rattle.std.specs.Prelude.{◌==◌}
 use Rattle.std.proofs.lemmas.Bool.{cases_Bool, cond-false}
 use Rattle.flash_model.specs.Flash.{FlashState, counted, counted_by}
@@ -26,9 +26,6 @@ reads_more (suc k) reads =
     ap counted (reads_some (suc k) reads (omega arith)) ∙ counted_by-twice (suc k) 1 reads ∙ sym (reads_some (suc k + 1) reads (omega arith))
 
 module _ (s s1 : FlashState) (count : ℕ) where
-  pub looked_reads : Looks s s1 count false → 0 < count → s1.reads ≡ reads_after count s.reads
-  looked_reads looks some = looks.all ∙ sym (reads_some count s.reads some)
-
   -- after a failed read all matches as before
   pub failed_matches : (n n' : Noted) (t t' : BlockTable) (u : Unsure) → Looks s s1 count true → n' ≡ n → t' ≡ t → Matches s n t u → Matches s1 n' t' u
   failed_matches n n' t t' u looks noted table m =

@@ -121,10 +121,6 @@ module _ (s s' : FlashState) (n : Noted) (spare block : ℕ)
       let c = erases-copies n.config.page_bytes s.image (spare * n.config.pages_per_block) slots in
       omega (arith, count, a, b, c)
 
-  pub erases_most : s'.erases ≤ s.erases + 2
-  unfolding first
-  erases_most = (let d = (one_erase (is_blank_block n s.image spare) spare).1 in omega (arith, erases_all, d))
-
   pub erases_once : is_blank_block n s.image spare ≡ true → s'.erases ≤ s.erases + 1
   unfolding first erases
   erases_once blank =

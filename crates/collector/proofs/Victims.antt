@@ -1,11 +1,17 @@
 -- The search for the block with the most garbage.
-use Rattle.std.proofs.Common.{◌≡◌, ℕ, ◌+◌, ◌<◌, ◌≤◌, Option, Some, None, refl, sym, subst, inl, inr, arith}
+use Rattle.std.proofs.Common.{◌≡◌, ℕ, ◌+◌, ◌<◌, ◌≤◌, Option, Some, None, MatchOption, refl, sym, subst, inl, inr, arith}
 use Rattle.std.proofs.lemmas.Bool.{cases_lt}
 use Rattle.tx_types.specs.declared.config.Block.{Block}
 use Rattle.tx_types.specs.Config.{shape_of, blocks_of}
 use Rattle.version_index.specs.Noted.{Noted}
 use Rattle.die_alloc.specs.BlockTable.{BlockTable}
-use Rattle.collector.specs.Victim.{garbage_in, FindsVictim, IsBestSoFar}
+use Rattle.collector.specs.Victim.{garbage_in, FindsVictim}
+
+-- of the blocks below this one, the choice so far
+pub record IsBestSoFar (n : Noted) (t : BlockTable) (upto most : ℕ) (best : Option Block) : Type 0 where
+  pub at_most : (block : ℕ) → block < upto → garbage_in n t block ≤ most
+  pub found :
+      MatchOption best (most ≡ 0) (λ b. (b.0 < upto) × (garbage_in n t b.0 ≡ most) × (0 < most) × ((other : ℕ) → other < b.0 → garbage_in n t other < most))
 
 module _ (n : Noted) (t : BlockTable) where
   pub best_start : IsBestSoFar n t 0 0 None

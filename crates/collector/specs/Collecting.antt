@@ -1,14 +1,13 @@
 -- Collecting a block: which operations it takes.
 use Rattle.std.specs.Prelude.{◌≡◌, ℕ, ◌+◌, ◌*◌, ◌==◌, Bool, true, false, Some, List, [], ◌∷◌, ◌++◌, filter, Any, length, if◌then◌else◌}
 use Rattle.std.specs.List.{range_with_len, list_all}
-use Rattle.tx_types.specs.Config.{shape_of}
 use Rattle.tx_types.specs.declared.config.BlockState.{BlockState}
 use Rattle.tx_types.specs.declared.config.BlockState.TheVariants.{Clean, Part}
 use Rattle.flash_model.specs.declared.flash.Seen.{Seen}
 use Rattle.flash_model.specs.declared.flash.Seen.TheVariants as seen
 use Rattle.flash_model.specs.Flash.{FlashState, Contents, blank, damaged, complete, slot_at, counted}
 use Rattle.flash_model.specs.Calls.{page_of, spare_of}
-use Rattle.flash_model.specs.Operations.{Operation, program, erase, with_block, moment_of}
+use Rattle.flash_model.specs.Operations.{Operation, program, erase, moment_of}
 use Rattle.flash_model.specs.Moves.{Does}
 use Rattle.tx_types.specs.declared.config.Slot.{Slot}
 use Rattle.version_index.specs.Notes.{note_at}
@@ -36,10 +35,6 @@ is_blank_block n image block = list_all (λ slot. is_blank (slot_at image slot))
 abbrev pub cleaning : Noted → List Contents → ℕ → List Operation
 cleaning n image spare = if is_blank_block n image spare then [] else erase spare ∷ []
 
--- the image once the spare is all blank
-abbrev pub cleaned : Noted → List Contents → ℕ → List Contents
-cleaned n image spare = with_block (shape_of n.config) image spare blank
-
 -- what is noted once the spare is all blank
 abbrev pub noted_cleaned : Noted → ℕ → Noted
 noted_cleaned n spare = erased n spare
@@ -58,8 +53,8 @@ abbrev pub copies : ℕ → List Contents → ℕ → List ℕ → List Operatio
 copies page_bytes image to [] = []
 copies page_bytes image to (from ∷ rest) = copy_program page_bytes image to from ∷ copies page_bytes image (to + 1) rest
 
--- the operations that collect a block: the spare is made blank, what is needed in the block is copied there, and the block
--- is erased
+-- the operations that collect a block: the spare is made blank, what is needed in the block is copied there, and the
+-- block is erased
 abbrev pub collecting : Noted → List Contents → ℕ → ℕ → List Operation
 collecting n image spare block =
     cleaning n image spare
@@ -90,7 +85,8 @@ reads_blank seen.Damaged = false
 
 -- a copy that was done: one read and one program
 pub record CopyDone (n : Noted) (old new : FlashState) (from to : ℕ) : Type 0 where
-  pub programmed : Does old.shape (moment_of old) (copy_program n.config.page_bytes old.image to from ∷ []) (moment_of new)
+  pub programmed :
+      Does old.shape (moment_of old) (copy_program n.config.page_bytes old.image to from ∷ []) (moment_of new)
   pub reads : new.reads ≡ counted old.reads
 
 -- what is noted once the records of these slots stand in the spare too, one after another from a slot of it on
@@ -98,14 +94,15 @@ abbrev pub copied_from : Noted → ℕ → List ℕ → Noted
 copied_from n to [] = n
 copied_from n to (from ∷ rest) = copied_from (copied n from to) (to + 1) rest
 
--- what is noted once a block was collected: it is the spare, and all blank; what was needed in it stands in the old spare
+-- what is noted once a block was collected: it is the spare, and all blank; what was needed in it stands in the old
+-- spare
 abbrev pub collected : Noted → ℕ → ℕ → Noted
 collected n spare block =
     let m = noted_cleaned n spare in
     with_spare_noted (erased (copied_from m (spare * n.config.pages_per_block) (needed_slots m block)) block) block
 
--- The copies of what is needed in a block, in the order of its slots, from the first slot of the spare on: so many, each of
--- them one read and one program. Then nothing that is wanted stands in the block alone.
+-- The copies of what is needed in a block, in the order of its slots, from the first slot of the spare on: so many,
+-- each of them one read and one program. Then nothing that is wanted stands in the block alone.
 pub record CopiesDone (n n' : Noted) (old new : FlashState) (spare block used : ℕ) : Type 0 where
   pub count : used ≡ length (needed_slots n block)
   pub programmed :
@@ -116,8 +113,8 @@ pub record CopiesDone (n n' : Noted) (old new : FlashState) (spare block used : 
   pub spared : CanSpare n' block
   pub reads : new.reads ≡ reads_after used old.reads
 
--- A block was collected for the sake of room: of the blocks with the most garbage, once the spare is blank, the lowest. This is
--- the slot that is programmed next then.
+-- A block was collected for the sake of room: of the blocks with the most garbage, once the spare is blank, the lowest.
+-- This is the slot that is programmed next then.
 pub record CollectsForRoom (n : Noted) (t : BlockTable) (n' : Noted) (t' : BlockTable) (at : Slot) : Type 0 where
   pub victim : ℕ
   pub is_victim : IsVictim (noted_cleaned n t.spare) t victim

@@ -1,6 +1,6 @@
--- Making room for the next record of a transaction: which blocks hold records that must go before it, and what is known of
--- the pinned records beside it.
-use Rattle.std.specs.Prelude.{◌≡◌, ◌≢◌, ◌⊎◌, ℕ, ◌+◌, ◌-◌, ◌*◌, ◌/◌, ◌≤◌, ◌==◌, Bool, false, ◌&&◌, List, All, Any, Contains, count_by, length}
+-- Making room for the next record of a transaction: which blocks hold records that must go before it, and what is known
+-- of the pinned records beside it.
+use Rattle.std.specs.Prelude.{◌≡◌, ◌≢◌, ◌⊎◌, ℕ, ◌+◌, ◌-◌, ◌*◌, ◌/◌, ◌≤◌, ◌==◌, Bool, false, ◌&&◌, Some, List, All, Any, Contains, count_by, length}
 use Rattle.std.specs.List.{list_any, range_with_len}
 use Rattle.tx_types.specs.Config.{shape_of, blocks_of}
 use Rattle.tx_types.specs.declared.record.Link.{Link}
@@ -9,7 +9,7 @@ use Rattle.record_list.specs.Records.{is_present}
 use Rattle.record_list.specs.Current.{must_go}
 use Rattle.record_list.specs.Transaction.{InProgress, ShareNoPage}
 use Rattle.version_index.specs.Notes.{found_in}
-use Rattle.version_index.specs.Noted.{Noted, current_of, pinned_names, erased}
+use Rattle.version_index.specs.Noted.{Noted, current_of, pinned_names, erased, block_to_go}
 use Rattle.die_alloc.specs.BlockTable.{BlockTable}
 use Rattle.collector.specs.Victim.{IsVictim}
 use Rattle.collector.specs.Collecting.{collected, exchanged, needed_slots, noted_cleaned}
@@ -52,9 +52,19 @@ pub record CostsAtMost (pages_per_block collections : ℕ) (old new : FlashState
   pub programs : new.programs ≤ old.programs + collections * (pages_per_block - 1)
   pub erases : new.erases ≤ old.erases + collections * 2
 
--- a block that holds a record which must go was treated: erased where it is the spare, and else collected
-abbrev pub IsTreated : Noted → ℕ → ℕ → Noted → Type 0
-IsTreated n spare block n' = (block ≡ spare → n' ≡ erased n spare) × (block ≢ spare → n' ≡ collected n spare block)
+-- a block was treated: erased where it is the spare, and else collected
+abbrev pub IsTreated : Noted → BlockTable → ℕ → Noted → BlockTable → Type 0
+IsTreated n t block n' t' =
+    (block ≡ t.spare → (n' ≡ erased n t.spare) × (t' ≡ t))
+    × (block ≢ t.spare → (n' ≡ collected n t.spare block)
+    × (t' ≡ exchanged t block (length (needed_slots (noted_cleaned n t.spare) block))))
+
+-- Blocks were treated in turn, from these tables on: each was the lowest that then held a record which must go before
+-- this version of a page is programmed.
+pub data TreatsInTurn (page below : ℕ) (n : Noted) (t : BlockTable) : Noted → BlockTable → Type 0 where
+  none : TreatsInTurn page below n t n t
+  one_more : (n' n'' : Noted) → (t' t'' : BlockTable) → (block : ℕ) → TreatsInTurn page below n t n' t' →
+      block_to_go n' page below ≡ Some block → IsTreated n' t' block n'' t'' → TreatsInTurn page below n t n'' t''
 
 -- each record that is noted afterwards was noted before
 abbrev pub HasNoNewRecord : Noted → Noted → Type 0

@@ -32,12 +32,14 @@ abbrev pub contents_noted : Protocol → ℕ → List Written → Note → Conte
 contents_noted protocol page_bytes list Blank = blank
 contents_noted protocol page_bytes list Damaged = damaged
 contents_noted protocol page_bytes list (Holds rec) =
-    complete (option_map_or (λ bytes. bytes) (bytes_at list (name_of rec)) (replicate page_bytes 0)) (spelling protocol rec)
+    complete (option_map_or (λ bytes. bytes) (bytes_at list (name_of rec)) (replicate page_bytes 0))
+    (spelling protocol rec)
 
 abbrev pub contents_known : Noted → ℕ → Unsure → List Contents → ℕ → Contents → Contents
 contents_known n spare unsure image slot contents =
     if is_unsure (shape_of n.config) spare unsure slot
-    then contents_noted n.config.protocol n.config.page_bytes (written_in n.config.protocol image) (note_at n.notes slot)
+    then contents_noted n.config.protocol n.config.page_bytes (written_in n.config.protocol image)
+    (note_at n.notes slot)
     else contents
 
 unfoldable pub known_image : Noted → ℕ → Unsure → List Contents → List Contents

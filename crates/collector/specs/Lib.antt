@@ -7,3 +7,4 @@ pub mod Settling
 pub mod Looking
 pub mod Going
 pub mod Tidy
+pub mod BreakingOff

@@ -18,7 +18,8 @@ use Rattle.collector.specs.Known.{is_unsure}
 
 -- each slot of a block passes the test
 abbrev pub AllOfBlock : Noted → ℕ → (ℕ → Type 0) → Type 0
-AllOfBlock n block P = (slot : ℕ) → slot < slots_of (shape_of n.config) → slot / n.config.pages_per_block ≡ block → P slot
+AllOfBlock n block P =
+    (slot : ℕ) → slot < slots_of (shape_of n.config) → slot / n.config.pages_per_block ≡ block → P slot
 
 -- a slot is noted as it reads
 abbrev pub IsNotedAt : List Contents → Noted → ℕ → Type 0
@@ -28,11 +29,13 @@ IsNotedAt image n slot = note_at n.notes slot ≡ note_of n.config.protocol (slo
 abbrev pub IsErasing : List Contents → Noted → ℕ → Type 0
 IsErasing image n block =
     AllOfBlock n block (IsNotedAt image n)
-    ⊎ (AllOfBlock n block (λ slot. slot_at image slot ≡ damaged) ⊎ AllOfBlock n block (λ slot. slot_at image slot ≡ blank))
+    ⊎ (AllOfBlock n block (λ slot. slot_at image slot ≡ damaged)
+    ⊎ AllOfBlock n block (λ slot. slot_at image slot ≡ blank))
 
 -- each record that is noted in a block can be spelled
 abbrev pub HasSpellings : Noted → ℕ → Type 0
-HasSpellings n block = AllOfBlock n block (λ slot. (rec : Rec) → note_at n.notes slot ≡ Holds rec → CanBeSpelled n.config.protocol rec)
+HasSpellings n block =
+    AllOfBlock n block (λ slot. (rec : Rec) → note_at n.notes slot ≡ Holds rec → CanBeSpelled n.config.protocol rec)
 
 -- what a broken program leaves: the slot blank, or damaged, or with what was asked for
 abbrev pub IsProgramming : List Contents → ℕ → (Contents → Type 0) → Type 0
@@ -46,8 +49,11 @@ SpellsRecord n rec contents = (bytes : _) × (contents ≡ complete bytes (spell
 -- so many first slots of a block hold records, and those after them, one at least, are blank
 pub record IsFilledBy (n : Noted) (block filled : ℕ) : Type 0 where
   pub within : filled < n.config.pages_per_block
-  pub records : (k : ℕ) → k < filled → (rec : Rec) × (note_at n.notes (block * n.config.pages_per_block + k) ≡ Holds rec)
-  pub tail : (k : ℕ) → filled ≤ k → k < n.config.pages_per_block → note_at n.notes (block * n.config.pages_per_block + k) ≡ Blank
+  pub records :
+      (k : ℕ) → k < filled → (rec : Rec) × (note_at n.notes (block * n.config.pages_per_block + k) ≡ Holds rec)
+  pub tail :
+      (k : ℕ) → filled ≤ k → k < n.config.pages_per_block →
+      note_at n.notes (block * n.config.pages_per_block + k) ≡ Blank
 
 -- the first slots of a block hold records, up to some slot
 abbrev pub IsFilledTo : Noted → ℕ → Type 0
@@ -65,7 +71,8 @@ IsPlace image n t (unsure.Copy from to) =
     × IsProgramming image to.0 (λ contents. contents ≡ slot_at image from.0)
 IsPlace image n t unsure.SpareErase = IsErasing image n t.spare × HasSpellings n t.spare
 IsPlace image n t (unsure.VictimErase block) =
-    (block.0 < blocks_of (shape_of n.config)) × (block.0 ≢ t.spare) × IsErasing image n block.0 × IsFilledTo n t.spare × HasSpellings n block.0
+    (block.0 < blocks_of (shape_of n.config)) × (block.0 ≢ t.spare) × IsErasing image n block.0
+    × IsFilledTo n t.spare × HasSpellings n block.0
 
 -- each current, each held and each pinned present record has a slot outside the block
 abbrev pub CanSpare : Noted → ℕ → Type 0
@@ -80,8 +87,8 @@ VictimIsSpared n (unsure.Copy from to) = Unit {0}
 VictimIsSpared n unsure.SpareErase = Unit {0}
 VictimIsSpared n (unsure.VictimErase block) = CanSpare n block.0
 
--- The tables match the flash. Its image is sound; save for the one place whose contents are not known each slot is noted
--- as it reads; the records that are needed have slots outside the spare; and free slots are blank.
+-- The tables match the flash. Its image is sound; save for the one place whose contents are not known each slot is
+-- noted as it reads; the records that are needed have slots outside the spare; and free slots are noted as blank.
 pub record Matches (s : FlashState) (n : Noted) (t : BlockTable) (u : Unsure) : Type 0 where
   pub shape : s.shape ≡ shape_of n.config
   pub flash : IsFlash s
@@ -96,8 +103,8 @@ pub record Matches (s : FlashState) (n : Noted) (t : BlockTable) (u : Unsure) : 
   pub victim : VictimIsSpared n u
   pub free : (slot : ℕ) → IsFree t slot → note_at n.notes slot ≡ Blank
 
--- A record whose program was broken may be there: a transaction in progress asks for it, and each of its records that is
--- present has a slot outside the spare.
+-- A record whose program was broken may be there: a transaction in progress asks for it, and each of its records that
+-- is present has a slot outside the spare.
 pub record CanTakeOwn (n : Noted) (t : BlockTable) (rec : Rec) : Type 0 where
   pub next : IsNextRecord n rec
   pub outside : All (λ name. is_present (found_in n.notes) name ≡ true →
@@ -114,4 +121,6 @@ CanTake n t (unsure.VictimErase block) = Unit {0}
 pub record IsNextOfSpare (n : Noted) (spare at : ℕ) : Type 0 where
   pub within : at < slots_of (shape_of n.config)
   pub in_spare : at / n.config.pages_per_block ≡ spare
-  pub blank_on : (k : ℕ) → at ≤ k → k < spare * n.config.pages_per_block + n.config.pages_per_block → note_at n.notes k ≡ Blank
+  pub blank_on :
+      (k : ℕ) → at ≤ k → k < spare * n.config.pages_per_block + n.config.pages_per_block →
+      note_at n.notes k ≡ Blank

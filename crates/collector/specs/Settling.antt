@@ -79,7 +79,8 @@ unchanged n t = record { noted = n; table = t; answer = Other }
 abbrev pub settlement : Noted → BlockTable → List Contents → Unsure → Settlement
 settlement n t image unsure.Nothing = unchanged n t
 settlement n t image (unsure.Own at rec) = own_settled n t at.0 (λ m. programmed m at.0 rec) (slot_at image at.0)
-settlement n t image (unsure.Copy from to) = record { noted = copy_settled n from.0 to.0 (slot_at image to.0); table = t; answer = Other }
+settlement n t image (unsure.Copy from to) =
+    record { noted = copy_settled n from.0 to.0 (slot_at image to.0); table = t; answer = Other }
 settlement n t image unsure.SpareErase =
     if block_reads_as_noted n image t.spare then unchanged n t
     else record { noted = block_settled n image t.spare; table = t; answer = Other }

@@ -1,5 +1,5 @@
 -- Which block is collected: the one outside the spare with the most garbage.
-use Rattle.std.specs.Prelude.{◌≡◌, ℕ, ◌<◌, ◌≤◌, Bool, true, false, Option, Some, None, MatchOption}
+use Rattle.std.specs.Prelude.{◌≡◌, ℕ, ◌<◌, ◌≤◌, Bool, true, false, Option, Some, None}
 use Rattle.tx_types.specs.Config.{shape_of, blocks_of}
 use Rattle.tx_types.specs.declared.config.Block.{Block}
 use Rattle.tx_types.specs.declared.config.BlockState.{BlockState}
@@ -31,8 +31,3 @@ HasNoGarbage n t = (block : ℕ) → block < blocks_of (shape_of n.config) → g
 abbrev pub FindsVictim : Noted → BlockTable → Option Block → Type 0
 FindsVictim n t None = HasNoGarbage n t
 FindsVictim n t (Some block) = IsVictim n t block.0
-
--- of the blocks below this one, the choice so far
-pub record IsBestSoFar (n : Noted) (t : BlockTable) (upto most : ℕ) (best : Option Block) : Type 0 where
-  pub at_most : (block : ℕ) → block < upto → garbage_in n t block ≤ most
-  pub found : MatchOption best (most ≡ 0) (λ b. (b.0 < upto) × (garbage_in n t b.0 ≡ most) × (0 < most) × ((other : ℕ) → other < b.0 → garbage_in n t other < most))

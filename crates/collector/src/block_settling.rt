@@ -15,7 +15,8 @@ use record_list::CommitRule;
 use tx_types::{Block, Slot};
 use version_index::Index;
 
-/// Finds out whether the spare was erased: it is as before, or all its slots are blank, or all are damaged.
+/// Finds out whether the spare was erased: it is as before, or all its slots are blank, or all are
+/// damaged.
 pub(crate) fn settle_spare<F: Flash, R: CommitRule>(
     flash: &mut F,
     index: &mut Index<R>,
@@ -47,8 +48,9 @@ pub(crate) fn settle_spare<F: Flash, R: CommitRule>(
     Ok(())
 }
 
-/// Finds out whether a collected block was erased: it is as before, or all its slots are blank, or all are damaged. Where
-/// it is not as before it is the spare, and more programs may go to the old one.
+/// Finds out whether a collected block was erased: it is as before, or all its slots are blank, or
+/// all are damaged. Where it is not as before it is the spare, and more programs may go to the old
+/// one.
 pub(crate) fn settle_victim<F: Flash, R: CommitRule>(
     flash: &mut F,
     index: &mut Index<R>,
@@ -62,7 +64,8 @@ pub(crate) fn settle_victim<F: Flash, R: CommitRule>(
     ensures matches { OnOk result
         (Matches (F.state flash.new) index.new blocks.new Unsure.Nothing) }
     ensures settled { OnOk result (
-        let found = settlement index.old blocks.old (F.state flash.old).image (Unsure.VictimErase block) in
+        let found = settlement index.old blocks.old (F.state flash.old).image
+        (Unsure.VictimErase block) in
         (index.new ≡ found.noted) × (blocks.new ≡ found.table)) }
     ensures preserves { Preserves index.old index.new }
     ensures failed { OnErr result ((index.new ≡ index.old) × (blocks.new ≡ blocks.old)) }

@@ -14,8 +14,8 @@ use flash_model::{Broken, Flash};
 use record_list::CommitRule;
 use version_index::Index;
 
-/// Finds out what a broken operation left, if there was one: reads the place and notes what it holds. The image stays.
-/// After a failed read all is as before.
+/// Finds out what a broken operation left, if there was one: reads the place and notes what it
+/// holds. The image stays. After a failed read all is as before.
 pub fn settle<F: Flash, R: CommitRule>(
     flash: &mut F,
     index: &mut Index<R>,

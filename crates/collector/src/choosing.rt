@@ -7,8 +7,8 @@ use record_list::CommitRule;
 use tx_types::{Block, BlockState};
 use version_index::Index;
 
-/// The block outside the spare with the most garbage slots, the lowest of such blocks; None where no slot outside the
-/// spare is garbage.
+/// The block outside the spare with the most garbage slots, the lowest of such blocks; None where
+/// no slot outside the spare is garbage.
 pub fn victim<R: CommitRule>(index: &Index<R>, blocks: &Blocks) -> Option<Block>
     requires shape { blocks.now.shape ≡ shape_of index.now.config }
     requires spare { index.now.spare ≡ Some blocks.now.spare }
@@ -29,7 +29,8 @@ pub fn victim<R: CommitRule>(index: &Index<R>, blocks: &Blocks) -> Option<Block>
     best
 }
 
-/// The number of garbage slots of a block, among them its blank ones where no more programs go there.
+/// The number of garbage slots of a block, among them its blank ones where no more programs go
+/// there.
 fn garbage_in<R: CommitRule>(index: &Index<R>, blocks: &Blocks, block: Block) -> u32
     requires shape { blocks.now.shape ≡ shape_of index.now.config }
     requires exists { block.0 < blocks_of (shape_of index.now.config) }

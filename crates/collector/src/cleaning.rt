@@ -7,6 +7,7 @@ ghost use Rattle.flash_model.specs.Operations.{moment_of};
 ghost use Rattle.version_index.specs.Noted.{erased};
 ghost use Rattle.collector.specs.Matches.{Matches};
 ghost use Rattle.collector.specs.Preserves.{Preserves, KeepsArray};
+ghost use Rattle.collector.specs.BreakingOff.{CleaningBreaks};
 ghost use Rattle.collector.specs.Collecting.{cleaning, is_noted_blank, reads_blank};
 
 use crate::Unsure;
@@ -17,7 +18,8 @@ use record_list::CommitRule;
 use tx_types::{Block, Slot};
 use version_index::Index;
 
-/// Makes the spare all blank: erases it where it is not. After a broken erase it is not known what the spare holds.
+/// Makes the spare all blank: erases it where it is not. After a broken erase it is not known what
+/// the spare holds.
 pub fn clean_spare<F: Flash, R: CommitRule>(
     flash: &mut F,
     index: &mut Index<R>,
@@ -33,10 +35,13 @@ pub fn clean_spare<F: Flash, R: CommitRule>(
         (F.state flash.old).image (F.state flash.new).image }
     // After Ok the spare is all blank, by one erase or none, and all else is as before.
     ensures done { OnOk result (Does (F.state flash.old).shape (moment_of (F.state flash.old))
-        (cleaning index.old (F.state flash.old).image blocks.old.spare) (moment_of (F.state flash.new))) }
+        (cleaning index.old (F.state flash.old).image blocks.old.spare)
+        (moment_of (F.state flash.new))) }
     ensures sure { OnOk result (unsure.new ≡ Unsure.Nothing) }
     ensures noted { OnOk result (index.new ≡ erased index.old blocks.old.spare) }
     // After a broken erase the tables are as before.
+    ensures broken { OnErr result (CleaningBreaks index.old
+        (F.state flash.old) (F.state flash.new) blocks.old.spare) }
     ensures torn { OnErr result ((unsure.new ≡ Unsure.SpareErase) × (index.new ≡ index.old)) }
     ensures blocks { blocks.new ≡ blocks.old }
     ensures moves { FlashMoves (F.state flash.old) (F.state flash.new) (is_err result) }

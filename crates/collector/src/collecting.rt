@@ -1,4 +1,4 @@
-ghost use Rattle.std.specs.Prelude.{◌≡◌, ◌≢◌, ◌*◌, ◌<◌, OnOk, OnErr, IfOk, length};
+ghost use Rattle.std.specs.Prelude.{◌≡◌, ◌≢◌, ◌*◌, ◌<◌, OnOk, OnErr, IfOk, length, []};
 ghost use Rattle.std.specs.Result.{is_err};
 ghost use Rattle.tx_types.specs.Config.{shape_of, blocks_of};
 ghost use Rattle.tx_types.specs.declared.config.Slot.{Slot};
@@ -10,7 +10,9 @@ ghost use Rattle.collector.specs.Looking.{reads_after};
 ghost use Rattle.collector.specs.Matches.{Matches, IsNextOfSpare};
 ghost use Rattle.collector.specs.Preserves.{Preserves, KeepsArray};
 ghost use Rattle.collector.specs.Going.{HasNoNewRecord, CostsAtMost, CostsBroken, CostsCopying};
-ghost use Rattle.collector.specs.Collecting.{collected, collecting, needed_slots, noted_cleaned, exchanged, CopiesDone, HasUnneeded};
+ghost use Rattle.collector.specs.BreakingOff.{BreaksOff, CopiesBreakOff};
+ghost use Rattle.collector.specs.Collecting.{collected, collecting, needed_slots};
+ghost use Rattle.collector.specs.Collecting.{noted_cleaned, exchanged, CopiesDone, HasUnneeded};
 
 use crate::Unsure;
 use crate::cleaning::clean_spare;
@@ -22,8 +24,9 @@ use record_list::CommitRule;
 use tx_types::{Block, Slot};
 use version_index::Index;
 
-/// Collects a block: makes the spare blank, copies there what is needed in the block, in the order of slots, and erases
-/// the block, which becomes the spare. A copy reads its source directly before its program, and nothing else is read.
+/// Collects a block: makes the spare blank, copies there what is needed in the block, in the order
+/// of slots, and erases the block, which becomes the spare. A copy reads its source directly before
+/// its program, and nothing else is read.
 pub fn collect<F: Flash, R: CommitRule>(
     flash: &mut F,
     index: &mut Index<R>,
@@ -45,15 +48,20 @@ pub fn collect<F: Flash, R: CommitRule>(
         (F.state flash.old).image (F.state flash.new).image }
     // After Ok exactly these operations were done, and the tables say so.
     ensures done { OnOk result (Does (F.state flash.old).shape (moment_of (F.state flash.old))
-        (collecting index.old (F.state flash.old).image blocks.old.spare block.0) (moment_of (F.state flash.new))) }
+        (collecting index.old (F.state flash.old).image blocks.old.spare block.0)
+        (moment_of (F.state flash.new))) }
     ensures noted { OnOk result (index.new ≡ collected index.old blocks.old.spare block.0) }
     ensures sure { OnOk result (unsure.new ≡ Unsure.Nothing) }
     ensures others { (at : Slot) (rec : Rec) → unsure.new ≡ Unsure.Own at rec → ⊥ }
     ensures blocks { OnOk result (blocks.new ≡ exchanged blocks.old block.0
         (length (needed_slots (noted_cleaned index.old blocks.old.spare) block.0))) }
     ensures reads { OnOk result ((F.state flash.new).reads ≡ reads_after
-        (length (needed_slots (noted_cleaned index.old blocks.old.spare) block.0)) (F.state flash.old).reads) }
-    // After a broken operation the blocks are kept as they were, and it is not counted.
+        (length (needed_slots (noted_cleaned index.old blocks.old.spare) block.0))
+        (F.state flash.old).reads) }
+    // After a broken operation a front part of the operations was done, and the tables say so. The
+    // blocks are kept as they were, and what was broken is not counted.
+    ensures broken { OnErr result (BreaksOff index.old (F.state flash.old) (F.state flash.new)
+        blocks.old.spare block.0 index.new unsure.new) }
     ensures stays { OnErr result (blocks.new ≡ blocks.old) }
     ensures costs { OnErr result (CostsBroken index.old.config.pages_per_block
         (F.state flash.old) (F.state flash.new)) }
@@ -69,8 +77,8 @@ pub fn collect<F: Flash, R: CommitRule>(
     erase_victim(flash, index, blocks, unsure, block, used)
 }
 
-/// Copies what is needed in a block to the blank spare, from its first slot on and in the order of slots, and answers how
-/// many slots that takes.
+/// Copies what is needed in a block to the blank spare, from its first slot on and in the order of
+/// slots, and answers how many slots that takes.
 fn copy_needed<F: Flash, R: CommitRule>(
     flash: &mut F,
     index: &mut Index<R>,
@@ -94,6 +102,8 @@ fn copy_needed<F: Flash, R: CommitRule>(
         (F.state flash.old).image (F.state flash.new).image }
     ensures copied { IfOk result (λ used. CopiesDone index.old index.new
         (F.state flash.old) (F.state flash.new) blocks.now.spare block.0 used) }
+    ensures broken { OnErr result (CopiesBreakOff index.old (F.state flash.old)
+        (F.state flash.new) [] blocks.now.spare block.0 index.new unsure.new) }
     ensures sure { OnOk result (unsure.new ≡ Unsure.Nothing) }
     ensures others { (at : Slot) (rec : Rec) → unsure.new ≡ Unsure.Own at rec → ⊥ }
     ensures records { HasNoNewRecord index.old index.new }

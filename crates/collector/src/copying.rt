@@ -11,6 +11,7 @@ ghost use Rattle.version_index.specs.Notes.{note_at, rec_of};
 ghost use Rattle.version_index.specs.Noted.{copied};
 ghost use Rattle.collector.specs.Matches.{Matches, IsNextOfSpare};
 ghost use Rattle.collector.specs.Preserves.{Preserves, KeepsArray};
+ghost use Rattle.collector.specs.BreakingOff.{CopyBreaksOff};
 ghost use Rattle.collector.specs.Collecting.{CopyDone};
 
 use crate::Unsure;
@@ -20,8 +21,9 @@ use record_list::CommitRule;
 use tx_types::Slot;
 use version_index::Index;
 
-/// Copies the record of a slot to the next blank slot of the spare: reads it, and programs the same bytes. A failed
-/// read changes nothing; after a broken program it is not known what the slot of the copy holds.
+/// Copies the record of a slot to the next blank slot of the spare: reads it, and programs the same
+/// bytes. A failed read changes nothing; after a broken program it is not known what the slot of
+/// the copy holds.
 pub(crate) fn copy_record<F: Flash, R: CommitRule>(
     flash: &mut F,
     index: &mut Index<R>,
@@ -42,11 +44,14 @@ pub(crate) fn copy_record<F: Flash, R: CommitRule>(
     ensures preserves { Preserves index.old index.new }
     ensures array { KeepsArray R.kept index.old.config.logical
         (F.state flash.old).image (F.state flash.new).image }
-    ensures done { OnOk result (CopyDone index.old (F.state flash.old) (F.state flash.new) from.0 to.0) }
+    ensures done { OnOk result (CopyDone index.old
+        (F.state flash.old) (F.state flash.new) from.0 to.0) }
     ensures sure { OnOk result (unsure.new ≡ Unsure.Nothing) }
     ensures others { (at : Slot) (rec : Rec) → unsure.new ≡ Unsure.Own at rec → ⊥ }
     ensures noted { OnOk result (index.new ≡ copied index.old from.0 to.0) }
     ensures stays { OnErr result (index.new ≡ index.old) }
+    ensures broken { OnErr result (CopyBreaksOff index.old
+        (F.state flash.old) (F.state flash.new) from to unsure.new) }
     ensures counts { OnErr result (((F.state flash.new).programs ≡ (F.state flash.old).programs)
         × ((F.state flash.new).erases ≡ (F.state flash.old).erases)) }
     ensures moves { FlashMoves (F.state flash.old) (F.state flash.new) (is_err result) }

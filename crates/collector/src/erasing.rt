@@ -42,8 +42,8 @@ pub(crate) fn erase_spare<F: Flash, R: CommitRule>(
     Ok(())
 }
 
-/// Erases a block whose needed records were copied to the spare, of which so many slots are used: the block is the spare
-/// then, and more programs may go to the old one.
+/// Erases a block whose needed records were copied to the spare, of which so many slots are used:
+/// the block is the spare then, and more programs may go to the old one.
 pub(crate) fn erase_victim<F: Flash, R: CommitRule>(
     flash: &mut F,
     index: &mut Index<R>,

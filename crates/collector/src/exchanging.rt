@@ -9,7 +9,8 @@ use record_list::CommitRule;
 use tx_types::{Block, BlockState};
 use version_index::Index;
 
-/// Makes a block the spare. So many first slots of the old spare are used, and more programs may go there.
+/// Makes a block the spare. So many first slots of the old spare are used, and more programs may go
+/// there.
 pub(crate) fn exchange<R: CommitRule>(
     index: &mut Index<R>,
     blocks: &mut Blocks,

@@ -1,4 +1,5 @@
-//! What follows where the tables of a device match its flash. The functions do nothing: each is there for what it ensures.
+//! What follows where the tables of a device match its flash. The functions do nothing: each is
+//! there for what it ensures.
 ghost use Rattle.std.specs.Prelude.{◌≡◌, ◌≢◌, ◌<◌, ◌↔◌, ◌⊎◌, ℕ, List, Any, All, Contains, length, true, false};
 ghost use Rattle.tx_types.specs.Config.{shape_of, slots_of};
 ghost use Rattle.tx_types.specs.declared.record.Link.{Link};
@@ -26,7 +27,8 @@ ghost use Rattle.collector.specs.Going.{IsNextName, blocks_to_go};
 use record_list::CommitRule;
 use tx_types::Protocol;
 
-/// The known image is sound, its notes are those of the tables, and it stands for the array that is known.
+/// The known image is sound, its notes are those of the tables, and it stands for the array that is
+/// known.
 pub fn known_images_stand<R: CommitRule>()
     ensures sound { (s : FlashState) (n : Noted) (t : BlockTable) (u : Unsure) →
         Matches s n t u → n.config.protocol ≡ R.kept →
@@ -39,8 +41,8 @@ pub fn known_images_stand<R: CommitRule>()
         array_in R.kept n.config.logical (known_image n t.spare u s.image) ≡ array_known n s.image }
 {}
 
-/// The image has the records, the current versions and the array that will be known of it once the place is settled whose
-/// contents are not known.
+/// The image has the records, the current versions and the array that will be known of it once the
+/// place is settled whose contents are not known.
 pub fn images_stand<R: CommitRule>()
     ensures matches { (s : FlashState) (n : Noted) (t : BlockTable) (u : Unsure) →
         Matches s n t u → CanTake n t u → n.config.protocol ≡ R.kept →
@@ -50,15 +52,19 @@ pub fn images_stand<R: CommitRule>()
         records_in R.kept s.image ≡ found_in (settlement n t s.image u).noted.notes }
     ensures current { (s : FlashState) (n : Noted) (t : BlockTable) (u : Unsure) (page : ℕ) →
         Matches s n t u → CanTake n t u → n.config.protocol ≡ R.kept →
-        current_in R.kept n.config.logical s.image page ≡ current_of (settlement n t s.image u).noted page }
+        current_in R.kept n.config.logical s.image page
+        ≡ current_of (settlement n t s.image u).noted page }
     ensures array { (s : FlashState) (n : Noted) (t : BlockTable) (u : Unsure) →
         Matches s n t u → CanTake n t u → n.config.protocol ≡ R.kept →
-        array_in R.kept n.config.logical s.image ≡ array_known (settlement n t s.image u).noted s.image }
-    // All but the record of an open transaction that is found changes nothing that is known of pages.
+        array_in R.kept n.config.logical s.image
+        ≡ array_known (settlement n t s.image u).noted s.image }
+    // All but the record of an open transaction that is found changes nothing that is known of
+    // pages.
     ensures preserves { (s : FlashState) (n : Noted) (t : BlockTable) (u : Unsure) →
         Matches s n t u → CanTake n t u → n.config.protocol ≡ R.kept →
         (settlement n t s.image u).answer ≢ settled.Present →
-        Preserves n (settlement n t s.image u).noted × (array_in R.kept n.config.logical s.image ≡ array_known n s.image) }
+        Preserves n (settlement n t s.image u).noted
+        × (array_in R.kept n.config.logical s.image ≡ array_known n s.image) }
 {}
 
 /// What is kept is known too: the array, and the bytes of each pinned name that is there.
@@ -67,18 +73,20 @@ pub fn arrays_stay<R: CommitRule>()
         Matches s n t u → Matches s' n' t' u' → n.config.protocol ≡ R.kept →
         Preserves n n' → KeepsArray R.kept n.config.logical s.image s'.image →
         array_known n' s'.image ≡ array_known n s.image }
-    ensures bytes { (s s' : FlashState) (n n' : Noted) (t t' : BlockTable) (u u' : Unsure) (name : Link) →
+    ensures bytes { (s s' : FlashState) (n n' : Noted) (t t' : BlockTable) (u u' : Unsure)
+        (name : Link) →
         Matches s n t u → Matches s' n' t' u' → n.config.protocol ≡ R.kept →
         Preserves n n' → KeepsArray R.kept n.config.logical s.image s'.image →
         Contains (pinned_names n.pins) name → IsThere n name →
         bytes_at (written_in R.kept s'.image) name ≡ bytes_at (written_in R.kept s.image) name }
     // Each pinned name is of a page.
     ensures next { (n n' : Noted) (names : List Link) (name : Link) →
-        length n.pins ≡ n.config.logical → Preserves n n' → IsNextName n names name → IsNextName n' names name }
+        length n.pins ≡ n.config.logical → Preserves n n' →
+        IsNextName n names name → IsNextName n' names name }
 {}
 
-/// What the tables keep where the next record of a transaction is noted, which leaves a name absent, or completes the
-/// cycle.
+/// What the tables keep where the next record of a transaction is noted, which leaves a name
+/// absent, or completes the cycle.
 pub fn noted_writes<R: CommitRule>()
     ensures names { (n : Noted) (at : ℕ) (rec : Rec) (name : Link) →
         IsNoted R.kept n → at < slots_of (shape_of n.config) → note_at n.notes at ≡ note.Blank →
@@ -86,17 +94,20 @@ pub fn noted_writes<R: CommitRule>()
     ensures partial { (n : Noted) (at : ℕ) (rec : Rec) (next : IsNextRecord n rec) →
         IsNoted R.kept n → at < slots_of (shape_of n.config) → note_at n.notes at ≡ note.Blank →
         Any (λ name. is_present (found_in (programmed n at rec).notes) name ≡ false) next.names →
-        PartialWriteKeeps R.kept (found_in n.notes) (found_in (programmed n at rec).notes) n.config.logical next.names }
+        PartialWriteKeeps R.kept (found_in n.notes) (found_in (programmed n at rec).notes)
+        n.config.logical next.names }
     ensures completing { (n : Noted) (at : ℕ) (rec : Rec) (next : IsNextRecord n rec) →
         IsNoted R.kept n → at < slots_of (shape_of n.config) → note_at n.notes at ≡ note.Blank →
         All (λ name. is_present (found_in (programmed n at rec).notes) name ≡ true) next.names →
-        CompletingWriteKeeps R.kept (found_in n.notes) (found_in (programmed n at rec).notes) n.config.logical next.names }
+        CompletingWriteKeeps R.kept (found_in n.notes) (found_in (programmed n at rec).notes)
+        n.config.logical next.names }
 {}
 
 /// Where nothing outside the spare is garbage, and the spare is blank, the image is tidy.
 pub fn tidy_images()
     ensures { (s : FlashState) (n : Noted) (t : BlockTable) →
-        Matches s n t unsure.Nothing → AllOfBlock n t.spare (λ slot. note_at n.notes slot ≡ note.Blank) → HasNoGarbage n t →
+        Matches s n t unsure.Nothing →
+        AllOfBlock n t.spare (λ slot. note_at n.notes slot ≡ note.Blank) → HasNoGarbage n t →
         IsTidy n.config.protocol n.config.logical s.image (pinned_names n.pins) }
 {}
 

@@ -1,5 +1,5 @@
-//! The collector: it changes blocks for the sake of room, and finds out what a broken operation left. Whatever
-//! breaks, the image stays sound and stands for the same array.
+//! The collector: it changes blocks for the sake of room, and finds out what a broken operation
+//! left. Whatever breaks, the image stays sound and stands for the same array.
 #![tactic(auto)]
 
 mod block_settling;

@@ -1,4 +1,4 @@
-ghost use Rattle.std.specs.Prelude.{◌≡◌, ◌≢◌, ◌<◌, ℕ, List, Some, None, Ok, OnOk, IfOk, length, false};
+ghost use Rattle.std.specs.Prelude.{◌≡◌, ◌≢◌, ◌<◌, ℕ, List, Some, None, Ok, OnOk, OnErr, IfOk, length, false};
 ghost use Rattle.std.specs.Result.{is_err};
 ghost use Rattle.tx_types.specs.declared.record.Link.{Link};
 ghost use Rattle.tx_types.specs.Config.{shape_of, blocks_of};
@@ -12,7 +12,8 @@ ghost use Rattle.die_alloc.specs.NextSlot.{next_slot, after_next_slot};
 ghost use Rattle.collector.specs.Matches.{Matches};
 ghost use Rattle.collector.specs.Preserves.{Preserves, KeepsArray};
 ghost use Rattle.collector.specs.Going.{IsNextName, CostsAtMost, blocks_to_go};
-ghost use Rattle.collector.specs.Going.{IsTreated, HasNoNewRecord, MakesRoom};
+ghost use Rattle.collector.specs.Going.{IsTreated, TreatsInTurn, HasNoNewRecord, MakesRoom};
+ghost use Rattle.collector.specs.BreakingOff.{BreaksOff};
 ghost use Rattle.collector.specs.Collecting.{CollectsForRoom, HasUnneeded};
 
 use crate::Unsure;
@@ -25,8 +26,9 @@ use record_list::CommitRule;
 use tx_types::{Block, Slot};
 use version_index::Index;
 
-/// Treats each block that holds a record which must go before the version `below` of a page is programmed, the lowest
-/// first: erases it where it is the spare, and else collects it. Then there is none.
+/// Treats each block that holds a record which must go before the version `below` of a page is
+/// programmed, the lowest first: erases it where it is the spare, and else collects it. Then there
+/// is none.
 pub fn clear<F: Flash, R: CommitRule>(
     flash: &mut F,
     index: &mut Index<R>,
@@ -39,17 +41,22 @@ pub fn clear<F: Flash, R: CommitRule>(
     requires nothing { unsure.old ≡ Unsure.Nothing }
     requires matches { Matches (F.state flash.old) index.old blocks.old unsure.old }
     requires rule { index.old.config.protocol ≡ R.kept }
-    requires next { (names : List Link) × IsNextName index.old names (record { page = page; version = below }) }
+    requires next { (names : List Link) × IsNextName index.old names
+        (record { page = page; version = below }) }
     requires room { length room.old ≡ index.old.config.page_bytes }
     ensures matches { Matches (F.state flash.new) index.new blocks.new unsure.new }
     ensures preserves { Preserves index.old index.new }
     ensures array { KeepsArray R.kept index.old.config.logical
         (F.state flash.old).image (F.state flash.new).image }
     ensures cleared { OnOk result (block_to_go index.new page below ≡ None) }
+    // The lowest such block comes first, as the tables then are, and so on.
+    ensures turns { OnOk result
+        (TreatsInTurn page below index.old blocks.old index.new blocks.new) }
     ensures sure { OnOk result (unsure.new ≡ Unsure.Nothing) }
     ensures others { (at : Slot) (rec : Rec) → unsure.new ≡ Unsure.Own at rec → ⊥ }
     // Where nothing must go, nothing is done.
-    ensures idle { block_to_go index.old page below ≡ None → (result ≡ Ok tt) × (flash.new ≡ flash.old)
+    ensures idle { block_to_go index.old page below ≡ None →
+        (result ≡ Ok tt) × (flash.new ≡ flash.old)
         × (index.new ≡ index.old) × (blocks.new ≡ blocks.old) × (unsure.new ≡ unsure.old) }
     ensures costs { CostsAtMost index.old.config.pages_per_block (blocks_to_go index.old page below)
         (F.state flash.old) (F.state flash.new) }
@@ -84,7 +91,9 @@ fn treat<F: Flash, R: CommitRule>(
         (F.state flash.old).image (F.state flash.new).image }
     ensures sure { OnOk result (unsure.new ≡ Unsure.Nothing) }
     ensures others { (at : Slot) (rec : Rec) → unsure.new ≡ Unsure.Own at rec → ⊥ }
-    ensures treated { OnOk result (IsTreated index.old blocks.old.spare block.0 index.new) }
+    ensures treated { OnOk result (IsTreated index.old blocks.old block.0 index.new blocks.new) }
+    ensures broken { OnErr result (BreaksOff index.old (F.state flash.old) (F.state flash.new)
+        blocks.old.spare block.0 index.new unsure.new) }
     ensures costs { CostsAtMost index.old.config.pages_per_block 1
         (F.state flash.old) (F.state flash.new) }
     ensures moves { FlashMoves (F.state flash.old) (F.state flash.new) (is_err result) }
@@ -97,8 +106,8 @@ fn treat<F: Flash, R: CommitRule>(
     }
 }
 
-/// The slot that is programmed next. Where no block has room the spare is made blank and the block with the most
-/// garbage is collected first: so there is such a slot.
+/// The slot that is programmed next. Where no block has room the spare is made blank and the block
+/// with the most garbage is collected first: so there is such a slot.
 pub fn free_slot<F: Flash, R: CommitRule>(
     flash: &mut F,
     index: &mut Index<R>,
@@ -119,13 +128,17 @@ pub fn free_slot<F: Flash, R: CommitRule>(
     ensures sure { OnOk result (unsure.new ≡ Unsure.Nothing) }
     ensures others { (at : Slot) (rec : Rec) → unsure.new ≡ Unsure.Own at rec → ⊥ }
     // A block that has room serves at once, and only the cursor moves.
-    ensures direct { (IsFull blocks.old → ⊥) → IfOk result (λ at. Some at ≡ next_slot blocks.old) × (blocks.new ≡ after_next_slot blocks.old)
-        × (is_err result ≡ false) × (flash.new ≡ flash.old) × (index.new ≡ index.old) × (unsure.new ≡ unsure.old) }
+    ensures direct { (IsFull blocks.old → ⊥) → IfOk result (λ at. Some at ≡ next_slot blocks.old)
+        × (blocks.new ≡ after_next_slot blocks.old) × (is_err result ≡ false)
+        × (flash.new ≡ flash.old) × (index.new ≡ index.old) × (unsure.new ≡ unsure.old) }
     // Else the block with the most garbage is collected once the spare is blank.
-    ensures collects { IsFull blocks.old → IfOk result (λ at. CollectsForRoom index.old blocks.old index.new blocks.new at) }
-    ensures costs { CostsAtMost index.old.config.pages_per_block 1 (F.state flash.old) (F.state flash.new) }
+    ensures collects { IsFull blocks.old → IfOk result
+        (λ at. CollectsForRoom index.old blocks.old index.new blocks.new at) }
+    ensures costs { CostsAtMost index.old.config.pages_per_block 1
+        (F.state flash.old) (F.state flash.new) }
     // What need not go before a program need not go afterwards.
-    ensures still_clear { (page below : ℕ) → block_to_go index.old page below ≡ None → block_to_go index.new page below ≡ None }
+    ensures still_clear { (page below : ℕ) → block_to_go index.old page below ≡ None →
+        block_to_go index.new page below ≡ None }
     ensures moves { FlashMoves (F.state flash.old) (F.state flash.new) (is_err result) }
     ensures carries { Carries (F.state flash.old) (F.state flash.new) (is_err result) }
 {

@@ -1,7 +1,7 @@
 use tx_types::{Block, Rec, Slot};
 
-/// The one operation whose outcome is not known, because it was broken. The tables stand as if it had not been
-/// tried.
+/// The one operation whose outcome is not known, because it was broken. The tables stand as if it
+/// had not been tried.
 #[derive(Clone, Copy, Debug, PartialEq, Eq)]
 pub enum Unsure {
     /// There is none: the tables mirror the flash.

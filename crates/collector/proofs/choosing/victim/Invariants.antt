@@ -1,4 +1,4 @@
-use Rattle.collector.specs.Victim.{IsBestSoFar}
+use Rattle.collector.proofs.Victims.{IsBestSoFar}
 use Rattle.collector.proofs.choosing.victim.Given as goal
 
 abbrev pub invariant-loop-block : goal.invariant-loop-block

@@ -1,4 +1,4 @@
-use Rattle.std.proofs.Common.{true, ◌<◌, sym, ◌∙◌, subst, arith}
+use Rattle.std.proofs.Common.{true, ◌<◌, refl, sym, ◌∙◌, subst, arith}
 use Rattle.tx_types.specs.Config.{shape_of, blocks_of}
 use Rattle.tx_types.specs.declared.config.Config.{Config}
 use Rattle.flash_model.specs.Moves.{FlashMoves}
@@ -8,6 +8,7 @@ use Rattle.collector.specs.Preserves.{KeepsArray}
 use Rattle.collector.proofs.BrokenCollections.{cleaned_no_new, broken_costs, broken_at_most, erase_broken, erase_costs, victim_no_new, on_err}
 use Rattle.collector.proofs.Chains.{HasNoNewRecord-nothing, HasNoNewRecord-then}
 use Rattle.collector.proofs.Keeping.{preserves_then, keeps_array_then}
+use Rattle.collector.proofs.BreakingOff.{copies_broke, victim_broke}
 use Rattle.collector.proofs.Collections.{unneeded_cleaned, first_of_spare, victim_moves, collects}
 use Rattle.collector.proofs.collecting.collect.Goals as goal
 
@@ -57,9 +58,10 @@ returns-clause-array g c =
 pub returns-clause-done : goal.returns-clause-done
 returns-clause-done g c =
     collects g.R.CommitRule.kept g.met.R.CommitRule.block_loss (g.F.Flash.state c.args.flash.now) c.args.index.now c.args.blocks.now c.args.unsure.now c.requires.rule c.requires.matches
-    (g.F.Flash.state c.clean_spare.new.flash) (g.F.Flash.state c.copy_needed.new.flash) (g.F.Flash.state c.erase_victim.new.flash) c.clean_spare.new.index c.copy_needed.new.index c.clean_spare.new.blocks c.args.block.0 c.in_ok-used.used
-    c.in_ok-clean_spare.ensures.noted c.in_ok-clean_spare.ensures.blocks c.requires.not_spare c.requires.exists c.in_ok-clean_spare.ensures.carries.shape
-    (c.in_ok-used.ensures.carries.shape ∙ c.in_ok-clean_spare.ensures.carries.shape) c.in_ok-clean_spare.ensures.done c.in_ok-used.ensures.copied c.erase_victim.result c.erase_victim.ensures.erases
+    (g.F.Flash.state c.clean_spare.new.flash) c.clean_spare.new.index c.clean_spare.new.blocks c.args.block.0
+    c.in_ok-clean_spare.ensures.noted c.in_ok-clean_spare.ensures.blocks c.requires.not_spare c.in_ok-clean_spare.ensures.carries.shape c.in_ok-clean_spare.ensures.done
+    (g.F.Flash.state c.copy_needed.new.flash) (g.F.Flash.state c.erase_victim.new.flash) c.copy_needed.new.index c.in_ok-used.used c.requires.exists
+    (c.in_ok-used.ensures.carries.shape ∙ c.in_ok-clean_spare.ensures.carries.shape) c.in_ok-used.ensures.copied c.erase_victim.result c.erase_victim.ensures.erases
 
 pub returns-clause-moves : goal.returns-clause-moves
 returns-clause-moves g c =
@@ -68,9 +70,10 @@ returns-clause-moves g c =
     FlashMoves-then (g.F.Flash.state c.args.flash.now) (g.F.Flash.state c.copy_needed.new.flash) (g.F.Flash.state c.erase_victim.new.flash) _ (shape2 ∙ shape1)
     (FlashMoves-then (g.F.Flash.state c.args.flash.now) (g.F.Flash.state c.clean_spare.new.flash) (g.F.Flash.state c.copy_needed.new.flash) _ shape1 c.in_ok-clean_spare.ensures.moves c.in_ok-used.ensures.moves)
     (victim_moves g.R.CommitRule.kept g.met.R.CommitRule.block_loss (g.F.Flash.state c.args.flash.now) c.args.index.now c.args.blocks.now c.args.unsure.now c.requires.rule c.requires.matches
-    (g.F.Flash.state c.clean_spare.new.flash) (g.F.Flash.state c.copy_needed.new.flash) (g.F.Flash.state c.erase_victim.new.flash) c.clean_spare.new.index c.copy_needed.new.index c.clean_spare.new.blocks c.args.block.0 c.in_ok-used.used
-    c.in_ok-clean_spare.ensures.noted c.in_ok-clean_spare.ensures.blocks c.requires.not_spare c.requires.exists shape1 (shape2 ∙ shape1)
-    c.in_ok-clean_spare.ensures.done c.in_ok-used.ensures.copied c.erase_victim.result c.erase_victim.ensures.erases)
+    (g.F.Flash.state c.clean_spare.new.flash) c.clean_spare.new.index c.clean_spare.new.blocks c.args.block.0
+    c.in_ok-clean_spare.ensures.noted c.in_ok-clean_spare.ensures.blocks c.requires.not_spare shape1 c.in_ok-clean_spare.ensures.done
+    (g.F.Flash.state c.copy_needed.new.flash) (g.F.Flash.state c.erase_victim.new.flash) c.copy_needed.new.index c.in_ok-used.used c.requires.exists
+    (shape2 ∙ shape1) c.in_ok-used.ensures.copied c.erase_victim.result c.erase_victim.ensures.erases)
 
 pub returns-in_err-clean_spare-clause-costs : goal.returns-in_err-clean_spare-clause-costs
 returns-in_err-clean_spare-clause-costs g c =
@@ -124,3 +127,20 @@ returns-clause-at_most g c =
     (broken_costs (g.F.Flash.state c.args.flash.now) c.args.index.now c.clean_spare.new.index c.args.blocks.now c.args.unsure.now c.requires.matches c.in_ok-clean_spare.ensures.noted
     (g.F.Flash.state c.clean_spare.new.flash) (g.F.Flash.state c.copy_needed.new.flash) c.in_ok-clean_spare.ensures.preserves.config c.in_ok-clean_spare.ensures.programs c.in_ok-clean_spare.ensures.erases c.in_ok-used.ensures.costs)
     c.erase_victim.result c.erase_victim.ensures.erases
+
+pub returns-in_err-used-clause-broken : goal.returns-in_err-used-clause-broken
+returns-in_err-used-clause-broken g c =
+    on_err c.from_residual-in_err-used.result _
+    (copies_broke g.R.CommitRule.kept g.met.R.CommitRule.block_loss (g.F.Flash.state c.args.flash.now) c.args.index.now c.args.blocks.now c.args.unsure.now c.requires.rule c.requires.matches
+    (g.F.Flash.state c.clean_spare.new.flash) c.clean_spare.new.index c.clean_spare.new.blocks c.args.block.0
+    c.in_ok-clean_spare.ensures.noted c.in_ok-clean_spare.ensures.blocks c.requires.not_spare c.in_ok-clean_spare.ensures.carries.shape c.in_ok-clean_spare.ensures.done c.in_ok-clean_spare.ensures.reads
+    (g.F.Flash.state c.copy_needed.new.flash) c.copy_needed.new.index c.copy_needed.new.unsure c.in_err-used.ensures.broken)
+
+pub returns-clause-broken : goal.returns-clause-broken
+returns-clause-broken g c =
+    victim_broke g.R.CommitRule.kept g.met.R.CommitRule.block_loss (g.F.Flash.state c.args.flash.now) c.args.index.now c.args.blocks.now c.args.unsure.now c.requires.rule c.requires.matches
+    (g.F.Flash.state c.clean_spare.new.flash) c.clean_spare.new.index c.clean_spare.new.blocks c.args.block.0
+    c.in_ok-clean_spare.ensures.noted c.in_ok-clean_spare.ensures.blocks c.requires.not_spare c.in_ok-clean_spare.ensures.carries.shape c.in_ok-clean_spare.ensures.done c.in_ok-clean_spare.ensures.reads
+    (g.F.Flash.state c.copy_needed.new.flash) (g.F.Flash.state c.erase_victim.new.flash) c.copy_needed.new.index c.in_ok-used.used c.requires.exists
+    (c.in_ok-used.ensures.carries.shape ∙ c.in_ok-clean_spare.ensures.carries.shape) c.in_ok-used.ensures.copied
+    c.args.block refl c.erase_victim.new.index c.erase_victim.new.unsure _ c.erase_victim.result c.erase_victim.ensures.erases c.erase_victim.ensures.torn

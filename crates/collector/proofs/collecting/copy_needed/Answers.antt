@@ -1,4 +1,4 @@
-use Rattle.std.proofs.Common.{◌≡◌, ◌+◌, ◌*◌, ◌<◌, true, sym, ap, ◌∙◌, subst, arith}
+use Rattle.std.proofs.Common.{◌≡◌, ◌+◌, ◌*◌, ◌<◌, true, refl, sym, ap, ◌∙◌, subst, arith}
 use Rattle.tx_types.specs.declared.config.Config.{Config}
 use Rattle.flash_model.specs.Calls.{Carries}
 use Rattle.flash_model.specs.Moves.{FlashMoves}
@@ -8,7 +8,8 @@ use Rattle.record_list.specs.Changes.{CopyLaw}
 use Rattle.collector.specs.Going.{HasNoNewRecord}
 use Rattle.collector.specs.Preserves.{KeepsArray}
 use Rattle.collector.proofs.Keeping.{keeps_array_then}
-use Rattle.collector.proofs.BrokenCollections.{copying_no_new, copying_costs, copying_costs_torn}
+use Rattle.collector.proofs.BreakingOff.{copying_broke}
+use Rattle.collector.proofs.BrokenCollections.{copying_no_new, copying_costs, copying_costs_torn, on_err}
 use Rattle.collector.proofs.CopyingBlocks.{copied_none, copied_passed, copied_taken, copied_all, at_within, next_of_spare, has_record}
 use Rattle.collector.proofs.collecting.copy_needed.Goals.{then-needed+in_ok-copy_record, else-needed}
 use Rattle.collector.proofs.collecting.copy_needed.Goals as goal
@@ -121,3 +122,13 @@ returns-clause-costs g c =
     c.loop-at.invariant (ap (λ k. c.args.block.0 * k) same) start (omega (arith, c.loop-at-test.false, c.loop-at.auto.at-end, same)) c.requires.not_spare c.requires.unneeded in
     copying_costs g.R.CommitRule.kept c.args.index.now c.loop-at.index (g.F.Flash.state c.args.flash.now) (g.F.Flash.state c.loop-at.flash) c.args.blocks.now c.loop-at.unsure _ _ c.loop-at.at c.loop-at.used
     c.loop-at.invariant (let few = done.filled.within in let config = c.loop-at.invariant.preserves.config in omega (arith, few, ap (λ (k : Config). k.pages_per_block) config))
+
+pub returns-in_err-copy_record-clause-broken : goal.returns-in_err-copy_record-clause-broken
+returns-in_err-copy_record-clause-broken g c =
+    let same : c.config-pages.result.pages_per_block ≡ c.args.index.now.config.pages_per_block = ap (λ (k : Config). k.pages_per_block) c.config-pages.ensures.config in
+    let start = ap (λ k. k * c.config-pages.result.pages_per_block) c.spare.ensures.spare ∙ ap (λ k. c.args.blocks.now.spare * k) same in
+    on_err c.from_residual.result _
+    (copying_broke g.R.CommitRule.kept c.args.index.now c.loop-at.index (g.F.Flash.state c.args.flash.now) (g.F.Flash.state c.loop-at.flash) c.args.blocks.now c.loop-at.unsure _ _ c.loop-at.at c.loop-at.used c.args.block.0
+    c.loop-at.invariant c.loop-at.auto.at (ap (λ k. c.args.block.0 * k) same) start (omega (arith, c.loop-at-test.true, same)) c.requires.not_spare c.requires.exists
+    (sym c.needed.ensures ∙ c.if-needed.true) (g.F.Flash.state c.copy_record.new.flash) c.copy_record.new.index c.copy_record.new.unsure _ _ refl refl
+    c.in_err-copy_record.ensures.stays c.in_err-copy_record.ensures.broken)

@@ -2,6 +2,7 @@ use Rattle.std.proofs.Common.{◌≡◌, Some, true, refl, sym, ◌∙◌, subst
 use Rattle.std.proofs.lemmas.Option.{none-some}
 use Rattle.flash_model.specs.Moves.{FlashMoves}
 use Rattle.version_index.specs.Noted.{Noted, block_to_go}
+use Rattle.collector.specs.Going.{none, one_more}
 use Rattle.collector.proofs.ClearRounds.{clears_none, block_exists, block_unneeded, round_fewer, round_kept, round_array, round_costs_all, round_moves, round_done}
 use Rattle.collector.proofs.making_room.clear.Goals as goal
 
@@ -9,7 +10,8 @@ pub loop-block-init : goal.loop-block-init
 loop-block-init g c = record {
   so_far = clears_none g.R.CommitRule.kept c.args.page c.args.below (g.F.Flash.state c.args.flash.now) c.args.index.now c.args.blocks.now c.args.unsure.now
       c.requires.nothing c.requires.matches c.requires.next;
-  idle = λ none. (refl, refl, refl, refl);
+  turns = none;
+  idle = λ nothing. (refl, refl, refl, refl);
 }
 
 pub treat-requires-clause-exists : goal.treat-requires-clause-exists
@@ -28,8 +30,9 @@ loop-block-preserved g c = record {
   so_far = round_done _ _ _ _ _ _ _ _ _ c.loop-block.invariant.so_far c.in-Some.block.0 (sym c.in-Some.ensures) g.met.R.CommitRule.block_loss c.requires.rule
       (g.F.Flash.state c.treat.new.flash) c.treat.new.index c.treat.new.blocks c.treat.new.unsure c.in_ok-treat.ensures.matches c.in_ok-treat.ensures.preserves
       c.in_ok-treat.ensures.sure c.in_ok-treat.ensures.treated c.in_ok-treat.ensures.array c.in_ok-treat.ensures.costs c.in_ok-treat.ensures.moves c.in_ok-treat.ensures.carries;
-  idle = λ none. absurd (none-some c.in-Some.block.0 (sym none
-      ∙ subst (λ (n : Noted). block_to_go n c.args.page c.args.below ≡ Some c.in-Some.block.0) (c.loop-block.invariant.idle none).1 (sym c.in-Some.ensures)));
+  turns = one_more c.loop-block.index c.treat.new.index c.loop-block.blocks c.treat.new.blocks c.in-Some.block.0 c.loop-block.invariant.turns (sym c.in-Some.ensures) c.in_ok-treat.ensures.treated;
+  idle = λ nothing. absurd (none-some c.in-Some.block.0 (sym nothing
+      ∙ subst (λ (n : Noted). block_to_go n c.args.page c.args.below ≡ Some c.in-Some.block.0) (c.loop-block.invariant.idle nothing).1 (sym c.in-Some.ensures)));
 }
 
 pub returns-in_err-treat-clause-preserves : goal.returns-in_err-treat-clause-preserves

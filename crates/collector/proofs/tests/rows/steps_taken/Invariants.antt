@@ -1,7 +1,7 @@
 use Rattle.std.proofs.Common.{◌≡◌, length}
 use Rattle.mem_flash.specs.Memory.{state_of}
 use Rattle.collector.specs.Matches.{Matches}
-use Rattle.collector.proofs.tests.outcome.Given as goal
+use Rattle.collector.proofs.tests.rows.steps_taken.Given as goal
 
 abbrev pub invariant-loop-step : goal.invariant-loop-step
 invariant-loop-step g l =

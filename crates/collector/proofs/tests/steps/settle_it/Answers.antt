@@ -2,7 +2,7 @@ use Rattle.std.proofs.Common.{ap, ◌∙◌}
 use Rattle.mem_flash.specs.Memory.{state_of}
 use Rattle.version_index.specs.Noted.{Noted}
 use Rattle.collector.proofs.SettledImages.{settled_stands}
-use Rattle.collector.proofs.tests.settle_it.Goals as goal
+use Rattle.collector.proofs.tests.steps.settle_it.Goals as goal
 
 pub returns-in-Ok-clause-config : goal.returns-in-Ok-clause-config
 returns-in-Ok-clause-config g c =
