@@ -13,6 +13,4 @@ returns-in-Ok-clause-run g c =
 
 pub returns-in-Ok-clause-shape : goal.returns-in-Ok-clause-shape
 returns-in-Ok-clause-shape g c =
-    let done = c.in-Ok.is in
-    let same = rw done at c.serve-flash.ensures.shape in
-    same ∙ ap (λ (s : MemoryState). s.shape) c.requires.fresh
+    c.serve-flash.ensures.shape ∙ ap (λ (s : MemoryState). s.shape) c.requires.fresh
