@@ -18,8 +18,8 @@ use std::process::Abort;
 use std::test::Fail;
 use tx_types::{Block, Config, Shape, Slot};
 
-/// A flash of which one call fails, whether it reads, programs or erases. It does not tell what is
-/// to come.
+/// A flash of which one call fails, whether it programs or erases, or where a failed one is to leave
+/// nothing without a cut also where it reads. It does not tell what is to come.
 #[derive(Debug, Drop)]
 struct Failing {
     flash: MemFlash,
@@ -75,7 +75,7 @@ impl Flash for Failing {
     }
 
     fn read(&mut self, at: Slot, into: &mut [u8], spare: &mut [u8; 64]) -> Result<Seen, Broken> {
-        if self.is_due() {
+        if !self.cuts && self.outcome == Outcome::None && self.is_due() {
             self.flash.arm_bad_read(1);
         }
         self.flash.read(at, into, spare)
@@ -172,9 +172,9 @@ fn any_call_of_a_flash_may_fail(rt: HostRuntime) -> Result<(), Fail> {
     for cuts in [false, true] {
         for outcome in OUTCOMES {
             let simple = calls::<Scc>(&rt, rt.alloc(), outcome, cuts)?;
-            assert!(rt; simple > 100, "{simple} calls");
+            assert!(rt; simple > 30, "{simple} calls");
             let back_pointer = calls::<Bpcc>(&rt, rt.alloc(), outcome, cuts)?;
-            assert!(rt; back_pointer > 100, "{back_pointer} calls");
+            assert!(rt; back_pointer > 30, "{back_pointer} calls");
         }
     }
     Ok(())
