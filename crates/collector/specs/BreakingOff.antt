@@ -23,7 +23,7 @@ pub record CopiedFirst (n : Noted) (old : FlashState) (before : List Operation) 
       Does old.shape (moment_of old) (before ++ copies n.config.page_bytes old.image (start_of n spare) first) now
   pub noted : n' ≡ copied_from n (start_of n spare) first
 
--- the next slot could not be read: nothing is broken
+-- no operation was broken, and a slot is left to be copied, which was to be read next
 pub record ReadFails (n : Noted) (old new : FlashState) (before : List Operation) (spare block : ℕ)
     (n' : Noted) : Type 0 where
   pub first : List ℕ
@@ -56,7 +56,7 @@ pub record CleaningBreaks (n : Noted) (old new : FlashState) (spare : ℕ) : Typ
   pub torn : Torn old.shape (moment_of old) (erase spare) (moment_of new)
   pub reads : new.reads ≡ old.reads
 
--- a copy breaks off: its source could not be read, or it was read and the program was broken
+-- a copy breaks off: nothing was done, or its source was read and the program was broken
 abbrev pub CopyBreaksOff : Noted → FlashState → FlashState → Slot → Slot → Unsure → Type 0
 CopyBreaksOff n old new from to u =
     ((u ≡ unsure.Nothing) × (moment_of new ≡ moment_of old))
@@ -73,7 +73,7 @@ CopiesBreakOff n old new before spare block n' (unsure.Own at rec) = ⊥
 CopiesBreakOff n old new before spare block n' unsure.SpareErase = ⊥
 CopiesBreakOff n old new before spare block n' (unsure.VictimErase b) = ⊥
 
--- a collection breaks off, and this place is unsure then: the front part of its operations was done
+-- a collection breaks off, and this place is unsure then: a front part of its operations was done
 abbrev pub BreaksOff : Noted → FlashState → FlashState → ℕ → ℕ → Noted → Unsure → Type 0
 BreaksOff n old new spare block n' unsure.SpareErase = CleaningBreaks n old new spare × (n' ≡ n)
 BreaksOff n old new spare block n' unsure.Nothing =

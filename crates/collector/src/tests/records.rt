@@ -42,9 +42,9 @@ const SMALL: Config = Config {
     pending: 1,
 };
 
-/// Pages 0 and 1 were asked for together, and given up after page 0. Then pages 1, 1, 2, 3, 2, 4 and 2
-/// were written, each alone. Version 2 of page 1 is superseded, and is kept all the same, since it says
-/// that version 1 of page 0 counts for nothing.
+/// Pages 0 and 1 were asked for together, and given up after page 0. Then pages 1, 1, 2, 3, 2, 4
+/// and 2 were written, each alone. Version 2 of page 1 is superseded, and is kept all the same,
+/// since it says that version 1 of page 0 counts for nothing.
 const GIVEN_UP: [Item; 8] = [
     Record(0, (0, 1), (1, 1), 0, 0xaa),
     Record(16, (1, 2), (1, 2), 0, 0xcc),
@@ -78,8 +78,8 @@ const FULL: [Item; 4] = [
     Record(3, (0, 3), (0, 3), 0, 4),
 ];
 
-/// Power goes off in a copy, in a copy after the spare was erased, and in the erase of the block. Each
-/// row does what the one before it did, and more.
+/// Power goes off in a copy, in a copy after the spare was erased, and in the erase of the block.
+/// Each row does what the one before it did, and more.
 const CUTS: [(&[Step], &str); 4] = [
     (
         &[Choose, Cut(1, Bad), Collect(0, 0), Reopen],
@@ -146,7 +146,8 @@ const THREE: [Item; 3] = [
     Record(1, (0, 2), (0, 2), 0, 3),
 ];
 
-/// A fault at the copy and at the erase of a collection, what is settled, and which block comes next.
+/// A fault at the copy and at the erase of a collection, what is settled, and which block comes
+/// next.
 const FAULTS: [(&[Step], &str); 6] = [
     (
         &[

@@ -14,8 +14,8 @@ use std::process::Abort;
 use std::test::Fail;
 use tx_types::{Config, Protocol};
 
-/// What the steps of a row come to: whether each call was answered (`+`) or broken (`-`), and how the
-/// flash is then. The pages read the same all the while.
+/// What the steps of a row come to: whether each call was answered (`+`) or broken (`-`), and how
+/// the flash is then. The pages read the same all the while.
 fn steps_taken<R: CommitRule>(
     rt: &impl Abort,
     alloc: Global,

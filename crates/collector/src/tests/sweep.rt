@@ -31,8 +31,8 @@ const BPCC: Config = Config {
     pending: 2,
 };
 
-/// A loose record, one that is doubled and is current, a stale one and one that is current; then its
-/// double, a slot that is damaged, and one current record more; in the spare one that is stale.
+/// A loose record, one that is doubled and is current, a stale one and one that is current; then
+/// its double, a slot that is damaged, and one current record more; in the spare one that is stale.
 const BY_CYCLES: [Item; 8] = [
     Record(0, (0, 1), (4, 1), 0, 1),
     Record(1, (1, 1), (1, 1), 0, 2),
@@ -44,8 +44,8 @@ const BY_CYCLES: [Item; 8] = [
     Record(8, (2, 1), (2, 1), 0, 3),
 ];
 
-/// The same with a record that is held: version 2 of page 1, which says that version 1 of page 0 counts
-/// for nothing.
+/// The same with a record that is held: version 2 of page 1, which says that version 1 of page 0
+/// counts for nothing.
 const BY_BACK_POINTERS: [Item; 9] = [
     Record(0, (0, 1), (1, 1), 0, 1),
     Record(1, (1, 2), (1, 2), 0, 2),

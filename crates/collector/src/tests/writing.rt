@@ -16,8 +16,8 @@ use tx_types::{Config, Link, MAX_VERSION, Protocol, Rec, Slot};
 /// What is programmed.
 #[derive(Clone, Copy, Debug)]
 pub enum Item {
-    /// In a slot a record: its page and version, those of its link, and its back version. And the byte
-    /// of which its page is full.
+    /// In a slot a record: its page and version, those of its link, and its back version. And the
+    /// byte of which its page is full.
     Record(u32, (u32, u64), (u32, u64), u64, u8),
     /// In a slot what can't be read.
     Damaged(u32),
