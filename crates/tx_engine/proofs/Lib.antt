@@ -24,7 +24,6 @@ pub mod Programs
 pub mod ProgramCalls
 pub mod KeptTwice
 pub mod CollectCalls
-pub mod OpenedTables
 pub mod TableLaws
 pub mod OpenList
 pub mod OpenNames

@@ -2,7 +2,7 @@ use Rattle.std.proofs.Common.{sym, ap, ◌∙◌, subst}
 use Rattle.tx_types.specs.declared.config.Shape.{Shape}
 use Rattle.version_index.specs.Images.{IsSoundImage}
 use Rattle.version_index.specs.Noted.{Noted}
-use Rattle.tx_engine.proofs.OpenedTables.{opened_matches}
+use Rattle.collector.proofs.OpenedTables.{opened_matches}
 use Rattle.tx_engine.proofs.store.Store.open.Goals as goal
 
 pub invariant_of-result : goal.invariant_of-result
