@@ -7,7 +7,7 @@ use Rattle.tx_types.specs.declared.memory.Memory.{Memory}
 use Rattle.flash_model.specs.Flash.{FlashState, counted}
 use Rattle.page_cache.specs.CachedPages.{CachedPage, CachedPages}
 use Rattle.tx_engine.specs.ArrayState.{Pages, page_at}
-use Rattle.tx_engine.specs.Read.{ReadsPage, ReadsFlash}
+use Rattle.tx_engine.specs.Read.{ReadsPage, ReadsFlash, read_place}
 use Rattle.tx_engine.specs.Standing.{Standing}
 use Rattle.tx_engine.specs.declared.read.ReadAnswer.{ReadAnswer}
 use Rattle.tx_engine.specs.declared.read.ReadAnswer.TheVariants as answer
@@ -36,27 +36,27 @@ written_page : (logical : ℕ) (pages : Pages) (page : ℕ) → page < logical �
 written_page logical pages page lt some = rw (lt-ltb page logical lt) some
 
 -- a read of the device
-device_counts : {F : Type 0} (state : F → FlashState) (old new : F) (logical : ℕ) (pages : Pages) (page : ℕ) (before after : List ℕ) (result : Result ReadAnswer ReadError) →
-    ReadsPage logical pages page after result → ReadsFlash state old new before after result → CountsOne (is_written logical pages page) (state old) (state new)
-device_counts state old new logical pages page before after (Ok answer.Blank) reads flash =
+device_counts : {F : Type 0} (state : F → FlashState) (place : Option ℕ) (old new : F) (logical : ℕ) (pages : Pages) (page : ℕ) (before after : List ℕ) (result : Result ReadAnswer ReadError) →
+    ReadsPage logical pages page after result → ReadsFlash state place old new before after result → CountsOne (is_written logical pages page) (state old) (state new)
+device_counts state place old new logical pages page before after (Ok answer.Blank) reads flash =
     unread_counts (is_written logical pages page) (state old) (state new) (blank_page logical pages page reads.1) (ap state flash.0)
-device_counts state old new logical pages page before after (Ok answer.Page) reads flash =
+device_counts state place old new logical pages page before after (Ok answer.Page) reads flash =
     let some : IsSome (page_at pages page) = subst (λ (o : Option (List ℕ)). IsSome o) (sym reads.1) refl in
-    read_counts (is_written logical pages page) (state old) (state new) (written_page logical pages page reads.0 some) flash.3.reads
-device_counts state old new logical pages page before after (Err unread.Range) reads flash =
+    read_counts (is_written logical pages page) (state old) (state new) (written_page logical pages page reads.0 some) flash.4.reads
+device_counts state place old new logical pages page before after (Err unread.Range) reads flash =
     unread_counts (is_written logical pages page) (state old) (state new) (rw (le-ltb page logical reads) refl) (ap state flash.0)
-device_counts state old new logical pages page before after (Err unread.Fault) reads flash =
-    read_counts (is_written logical pages page) (state old) (state new) (written_page logical pages page reads.0 reads.1) flash.3.reads
+device_counts state place old new logical pages page before after (Err unread.Fault) reads flash =
+    read_counts (is_written logical pages page) (state old) (state new) (written_page logical pages page reads.0 reads.1) flash.4.reads
 
 -- and one through the cache
 through_counts : {F : Type 0} (state : F → FlashState) (old new : Standing F) (page : ℕ) (before after : List ℕ) (result : Result ReadAnswer ReadError) (held : Bool) →
-    ReadsPage old.config.logical old.machine.pages page after result → MatchBool held ((new ≡ old) × (result ≡ Ok answer.Page)) (ReadsFlash state old.flash new.flash before after result) →
+    ReadsPage old.config.logical old.machine.pages page after result → MatchBool held ((new ≡ old) × (result ≡ Ok answer.Page)) (ReadsFlash state (read_place old.noted old.unsure page) old.flash new.flash before after result) →
     CountsOne (is_written old.config.logical old.machine.pages page && not held) (state old.flash) (state new.flash)
 through_counts {F = F} state old new page before after result true reads same =
     unread_counts _ (state old.flash) (state new.flash) (and-false (is_written old.config.logical old.machine.pages page)) (ap (λ (s : Standing F). state s.flash) same.0)
 through_counts state old new page before after result false reads flash =
     subst (λ (b : Bool). CountsOne b (state old.flash) (state new.flash)) (sym (and-true (is_written old.config.logical old.machine.pages page)))
-    (device_counts state old.flash new.flash old.config.logical old.machine.pages page before after result reads flash)
+    (device_counts state (read_place old.noted old.unsure page) old.flash new.flash old.config.logical old.machine.pages page before after result reads flash)
 
 pub reads_once : {F : Type 0} (state : F → FlashState) (old new : Standing F) (entries : List CachedPage) (page : ℕ) (before after : List ℕ) (result : Result ReadAnswer ReadError) →
     ReadsPage old.config.logical old.machine.pages page after result → ReadsThrough state old new entries page before after result → ReadsOnce state old new entries page
@@ -79,10 +79,10 @@ left_alone : {F : Type 0} (s : Standing F) (before after : CachedPages) (page : 
 left_alone s before after page true unheld same = cc
 left_alone s before after page false unheld same = inr same
 
-not_held : {F : Type 0} (state : F → FlashState) (old new : Standing F) (before after : List ℕ) (result : Result ReadAnswer ReadError) (held : Bool) →
-    MatchBool held ((new ≡ old) × (result ≡ Ok answer.Page)) (ReadsFlash state old.flash new.flash before after result) → (result ≡ Ok answer.Page → ⊥) → held ≡ false
-not_held state old new before after result true through other = absurd (other through.1)
-not_held state old new before after result false through other = refl
+not_held : {F : Type 0} (state : F → FlashState) (old new : Standing F) (page : ℕ) (before after : List ℕ) (result : Result ReadAnswer ReadError) (held : Bool) →
+    MatchBool held ((new ≡ old) × (result ≡ Ok answer.Page)) (ReadsFlash state (read_place old.noted old.unsure page) old.flash new.flash before after result) → (result ≡ Ok answer.Page → ⊥) → held ≡ false
+not_held state old new page before after result true through other = absurd (other through.1)
+not_held state old new page before after result false through other = refl
 
 pub page_left : {F : Type 0} (state : F → FlashState) (old new : Standing F) (cache left : CachedPages) (page : ℕ) (before after : List ℕ) (result : Result ReadAnswer ReadError) (memory : Result (Unit {0}) Memory) →
     ReadsPage old.config.logical old.machine.pages page after result → ReadsThrough state old new cache.entries page before after result → CachesRead old cache left page after result memory →
@@ -90,9 +90,9 @@ pub page_left : {F : Type 0} (state : F → FlashState) (old new : Standing F) (
 page_left state old new cache left page before after (Ok answer.Page) memory reads through keeps =
     left_in old cache left page after memory (is_held old cache.entries page) reads.1 keeps
 page_left state old new cache left page before after (Ok answer.Blank) memory reads through keeps =
-    left_alone old cache left page _ (not_held state old new before after (Ok answer.Blank) _ through (λ is. cc)) keeps
+    left_alone old cache left page _ (not_held state old new page before after (Ok answer.Blank) _ through (λ is. cc)) keeps
 page_left state old new cache left page before after (Err e) memory reads through keeps =
-    left_alone old cache left page _ (not_held state old new before after (Err e) _ through (λ is. cc)) keeps
+    left_alone old cache left page _ (not_held state old new page before after (Err e) _ through (λ is. cc)) keeps
 
 size_in : {F : Type 0} (s : Standing F) (cache left : CachedPages) (page : ℕ) (held : Bool) → Leaves s cache left page held → left.page_bytes ≡ cache.page_bytes
 size_in s cache left page true h = ap (λ (c : CachedPages). c.page_bytes) h
