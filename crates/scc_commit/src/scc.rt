@@ -34,7 +34,7 @@ impl CommitRule for Scc {
     /// Whether the record is loose and mentions the page below the version.
     fn must_go(list: &[Found], logical: u32, at: usize, page: u32, below: u64) -> bool {
         let rec = list[at].rec;
-        is_loose(Protocol::Scc, list, logical, rec) && mentions_below(rec, page, below)
+        mentions_below(rec, page, below) && is_loose(Protocol::Scc, list, logical, rec)
     }
 
     /// No record is responsible for another.
