@@ -88,7 +88,7 @@ pub record ServesHere {F : Type 0}
   pub cut : is_fault r ≡ true → MayHaveCut state c old new
   pub whole : is_cut r ≡ false
 
--- the moment stays, and what is to come
+-- moment and shape stay, and no more is to come
 pub record IsStill (old new : FlashState) : Type 0 where
   pub moment : moment_of new ≡ moment_of old
   pub shape : new.shape ≡ old.shape

@@ -42,9 +42,9 @@ ServesSound its cs old new before after (Err failed.Memory) =
     ⊎ ServesRun its (take (told + 1) cs) told old new before after)
 ServesSound its cs old new before after (Err (failed.Unsound law slot)) = ⊥
 
--- What serving comes to whatever the image was. A flash that is refused holds and has counted what it did when it was
--- handed in, and its image is not sound: the first law that it breaks, and the slot that the law names. Any other flash
--- comes back with a sound image, or as it was handed in.
+-- What serving comes to whatever the image was. A flash that is refused has the moment that it had when it was handed in,
+-- and its image is not sound: the first law that it breaks, and the slot that the law names. Any other flash comes back
+-- with a sound image, or with that moment.
 abbrev pub RefusesUnsound : Config → FlashState → FlashState → Result (Unit {0}) ServeError → Type 0
 RefusesUnsound its old new (Err (failed.Unsound law slot)) =
     (moment_of new ≡ moment_of old)

@@ -1,5 +1,5 @@
--- A run in which power is not cut and nothing fails: its replies and its states are functions of the commands and of the pages
--- that are spent at each.
+-- A run in which power is not cut and nothing fails: its states, and its replies but for what `collect`, `stats` and `explain`
+-- tell of the flash, are functions of the commands and of the pages that are spent at each.
 use Rattle.std.specs.Prelude.{◌≡◌, ◌⊎◌, ℕ, ◌+◌, ◌<◌, ◌^◌, Bool, List, [], ◌∷◌, length, count_by, sum_by, nat_lt, Option, None, Some, IsSome, if◌then◌else◌}
 use Rattle.tx_types.specs.declared.stats.Stats.{Stats}
 use Rattle.tx_engine.specs.ArrayState.{ArrayState, entry_of, page_at}

@@ -8,8 +8,7 @@ use record_list::CommitRule;
 use tx_engine::Device;
 
 /// Goes on with a transaction up to its end, or to the first step that is not done. The reply is
-/// that of the last step. It takes at most as many steps as the transaction has pages to write, and
-/// one at least.
+/// that of the last step.
 pub fn finish<F: Flash, R: CommitRule>(device: &mut Device<F, R>, tag: u32) -> Reply
     requires { HoldsAlways F.state R.kept device.old }
     ensures serves { ServesHere F.state (Command.Finish tag) device.old device.new result }

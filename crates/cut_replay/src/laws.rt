@@ -25,10 +25,10 @@ ghost use Rattle.cut_replay.specs.Bounds.{AreFew};
 ghost use Rattle.cut_replay.specs.Unbroken.{IsReply, state_after, UnbrokenRun, AreMaybeSpent};
 ghost use Rattle.cut_replay.specs.Unbroken.{FinishesAreDone, VersionsSuffice};
 
-/// A run without the replies `cut` and `fault`, from a state in which nothing is in doubt, never
-/// comes to a transaction in doubt. Its states and replies are functions of the commands, the array
-/// and the pages that are spent at each command. None is spent where no page comes to its last
-/// version.
+/// A run without the replies `cut` and `fault`, from a state in which nothing is in doubt or whole,
+/// never comes to such a transaction. Its states, and its replies but for what `collect`, `stats`
+/// and `explain` tell of the flash, are functions of the commands, the state at the beginning and
+/// the pages that are spent at each command. None is spent where no page comes to its last version.
 pub fn unbroken_runs()
     ensures command { (limits : Limits) (spent : ℕ → Bool)
         (c : Command) (old : RunState) (r : Reply) (new : RunState) →
@@ -47,8 +47,8 @@ pub fn unbroken_runs()
         All (λ spent. (page : ℕ) → spent page ≡ false) spents }
 {}
 
-/// Going on with a transaction takes at most as many steps as it has pages left to write, and at
-/// least one.
+/// A `finish` is at most as many steps as the transaction has pages left to write, or one where it
+/// has none.
 pub fn finishes_end()
     ensures { (old : ArrayState) (mids : List ArrayState) (new : ArrayState) (tag : ℕ)
         (result : Result Progress StepError) →
@@ -106,8 +106,8 @@ pub fn transactions_are_atomic()
 {}
 
 /// After a cut nothing is open. A transaction that was open is in the array wholly or not at all: a
-/// whole one stays, and one that was not in doubt, and whose last page was not being written, is
-/// not there.
+/// whole one stays, and of one that was not in doubt, and whose last page was not being written,
+/// the pages are as they were.
 pub fn cut_transactions()
     ensures none_open { (c : Command) (old : RunState) (r : Reply) (new : RunState) →
         IsCut c old r new → new.machine.entries ≡ [] }

@@ -214,7 +214,7 @@ fn begin<F: Power, R: CommitRule>(
 /// - Cache: a page that was read is kept, unless memory ran out, and is read again without the
 ///   flash while it is held and current. Each mount begins with an empty cache.
 /// - `Unsound` comes only from a mount before the first one that succeeded. The flash then comes
-///   back as it was handed in.
+///   back with its image and its counts of programs and erases.
 /// - `Memory` ends the run before a command, or in it. The replies before it were told.
 pub fn serve<F: Power + Arms, R: CommitRule, W: Watch<F>>(
     alloc: Global,

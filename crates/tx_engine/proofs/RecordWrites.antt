@@ -10,8 +10,8 @@ use Rattle.tx_types.specs.declared.record.Link.{Link}
 use Rattle.tx_types.specs.declared.record.Rec.{Rec}
 use Rattle.flash_model.specs.Flash.{FlashState, Contents, blank, complete, slot_at}
 use Rattle.flash_model.specs.declared.flash.Broken.{Broken}
-use Rattle.flash_model.specs.Moves.{Does}
-use Rattle.flash_model.specs.Operations.{moment_of, program}
+use Rattle.flash_model.specs.Moves.{Does, Moves, FlashMoves}
+use Rattle.flash_model.specs.Operations.{Moment, moment_of, program}
 use Rattle.page_record.specs.Spelling.{spelling}
 use Rattle.record_list.specs.Records.{name_of}
 use Rattle.record_list.specs.Transaction.{back_version}
@@ -21,7 +21,7 @@ use Rattle.die_alloc.specs.BlockTable.{BlockTable, IsFirstFree, IsFull}
 use Rattle.die_alloc.specs.NextSlot.{next_slot, after_next_slot}
 use Rattle.collector.specs.Collecting.{CollectsForRoom}
 use Rattle.collector.specs.declared.unsure.Unsure.{Unsure}
-use Rattle.collector.specs.Going.{blocks_to_go}
+use Rattle.collector.specs.Going.{TreatsInTurn, blocks_to_go}
 use Rattle.collector.specs.Matches.{Matches}
 use Rattle.collector.specs.Preserves.{IsThere, Preserves}
 use Rattle.tx_engine.specs.OpenTable.{OpenTable}
@@ -52,11 +52,14 @@ module _ {F : Type 0} (state : F → FlashState) (S S1 S2 S3 : Stored F) (O O' :
       (broken : Bool) → ((IsFull S1.table → ⊥) → (broken ≡ false) × (S2.flash ≡ S1.flash)) → (state S2.flash).shape ≡ (state S.flash).shape →
       block_to_go S1.noted name.page name.version ≡ None → FindsSlot S1.noted S1.table S2.noted S2.table at → name_of rec ≡ name → rec.next ≡ link →
       rec.back ≡ back_version S2.noted.config.protocol (found_in S2.noted.notes) S2.noted.config.logical rec.page →
-      at.0 < length (state S2.flash).image → Writes state S2 S3 at.0 rec bytes → WritesRecord state (standing_in state S O) (standing_in state S3 O') name link bytes
-  writes_record noted kept idle broken direct shape clear slot named linked back within w = record {
+      at.0 < length (state S2.flash).image → Writes state S2 S3 at.0 rec bytes →
+      TreatsInTurn name.page name.version S.noted S.table S1.noted S1.table → FlashMoves (state S.flash) (state S2.flash) false →
+      WritesRecord state (standing_in state S O) (standing_in state S3 O') name link bytes
+  writes_record noted kept idle broken direct shape clear slot named linked back within w turns moves = record {
     cleared = S1.noted;
     cleared_table = S1.table;
     kept = kept;
+    turns = turns;
     idle = λ none.
         let same = idle (none_to_go S.noted name.page name.version noted none) in
         (ap (λ (s : Stored F). s.noted) same, ap (λ (s : Stored F). s.table) same);
@@ -70,6 +73,7 @@ module _ {F : Type 0} (state : F → FlashState) (S S1 S2 S3 : Stored F) (O O' :
     linked = linked;
     back = back ∙ ap (λ (a : Link). back_version S2.noted.config.protocol (found_in S2.noted.notes) S2.noted.config.logical a.page) named;
     before = moment_of (state S2.flash);
+    moves = moves;
     direct = λ none room.
         let same = idle (none_to_go S.noted name.page name.version noted none) in
         let stays = (direct (λ full. room (subst (λ (T : Stored F). IsFull T.table) same full))).1 in
@@ -98,6 +102,7 @@ writes_pinned state known a b name link bytes flash table noted w = record {
   cleared = w.cleared;
   cleared_table = w.cleared_table;
   kept = w.kept;
+  turns = w.turns;
   idle = w.idle;
   clear = w.clear;
   open_noted = w.open_noted;
@@ -109,6 +114,7 @@ writes_pinned state known a b name link bytes flash table noted w = record {
   linked = w.linked;
   back = w.back;
   before = w.before;
+  moves = w.moves;
   direct = w.direct;
   does = subst (λ f. Does (state known.flash).shape w.before (program w.at.0 bytes (spelling w.open_noted.config.protocol w.rec) ∷ []) (moment_of (state f))) (sym flash) w.does;
   image = ap (λ f. slot_at (state f).image w.at.0) flash ∙ w.image;
@@ -124,6 +130,8 @@ writes_from state a b new name link bytes moment shape noted table w = record {
   cleared = w.cleared;
   cleared_table = w.cleared_table;
   kept = subst (λ (n : Noted). Preserves n w.cleared) noted w.kept;
+  turns = subst (λ (n : Noted). TreatsInTurn name.page name.version n a.table w.cleared w.cleared_table) noted
+      (subst (λ (t : BlockTable). TreatsInTurn name.page name.version b.noted t w.cleared w.cleared_table) table w.turns);
   idle = λ none.
       let i = w.idle (subst (λ (n : Noted). blocks_to_go n name.page name.version ≡ 0) (sym noted) none) in
       (i.0 ∙ noted, i.1 ∙ table);
@@ -137,6 +145,8 @@ writes_from state a b new name link bytes moment shape noted table w = record {
   linked = w.linked;
   back = w.back;
   before = w.before;
+  moves = subst (λ (sh : Shape). Moves sh (moment_of (state a.flash)) false w.before) shape
+      (subst (λ (m : Moment). Moves (state b.flash).shape m false w.before) moment w.moves);
   direct = λ none room.
       w.direct (subst (λ (n : Noted). blocks_to_go n name.page name.version ≡ 0) (sym noted) none) (λ full. room (subst IsFull table full)) ∙ moment;
   does = subst (λ (sh : Shape). Does sh w.before (program w.at.0 bytes (spelling w.open_noted.config.protocol w.rec) ∷ []) (moment_of (state new.flash))) shape w.does;

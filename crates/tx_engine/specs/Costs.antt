@@ -8,8 +8,8 @@ use Rattle.tx_engine.specs.Settling.{with_settlement}
 use Rattle.tx_engine.specs.Standing.{Standing}
 use Rattle.tx_engine.specs.Writing.{next_of}
 
--- The counts rise at most by one collection for each block that holds a record which must go, by one collection more where no
--- block has room, and by one program.
+-- The counts rise at most by one collection for each block that holds a record which must go, by one collection
+-- more, and by one program.
 pub record StepCosts {F : Type 0} (state : F → FlashState) (old new : Standing F) (name : Link) : Type 0 where
   pub programs : (state new.flash).programs
       ≤ (state old.flash).programs + (blocks_to_go old.noted name.page name.version + 1) * (old.config.pages_per_block - 1) + 1

@@ -24,7 +24,7 @@ ReadsPage logical pages page bytes (Err failed.Range) = logical ≤ page
 ReadsPage logical pages page bytes (Err failed.Fault) = (page < logical) × IsSome (page_at pages page)
 
 -- the slot from which a page is read, if it has a current record: the home of that, and, while it is not known whether a
--- collected block was erased, the lowest slot outside that block
+-- collected block was erased, its lowest slot outside that block
 abbrev pub read_place : Noted → Unsure → ℕ → Option ℕ
 read_place n unsure.Nothing page = home_of n (current_name_of n page)
 read_place n (unsure.Own at rec) page = home_of n (current_name_of n page)

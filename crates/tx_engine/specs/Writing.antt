@@ -1,12 +1,12 @@
 -- What a step writes next, what it did with it, and in which slot.
-use Rattle.std.specs.Prelude.{◌≡◌, ◌⊎◌, ℕ, List, [], ◌∷◌, None, Option, Some, find, Result, Ok, Err, IfSome}
+use Rattle.std.specs.Prelude.{false, ◌≡◌, ◌⊎◌, ℕ, List, [], ◌∷◌, None, Option, Some, find, Result, Ok, Err, IfSome}
 use Rattle.std.specs.List.{zip}
 use Rattle.std.specs.Option.{option_map}
 use Rattle.tx_types.specs.declared.config.Slot.{Slot}
 use Rattle.tx_types.specs.declared.record.Link.{Link}
 use Rattle.tx_types.specs.declared.record.Rec.{Rec}
 use Rattle.flash_model.specs.Flash.{FlashState, complete, slot_at}
-use Rattle.flash_model.specs.Moves.{Does}
+use Rattle.flash_model.specs.Moves.{Does, Moves}
 use Rattle.flash_model.specs.Operations.{Moment, moment_of, program}
 use Rattle.page_record.specs.Spelling.{spelling}
 use Rattle.record_list.specs.Records.{name_of}
@@ -16,7 +16,7 @@ use Rattle.version_index.specs.Noted.{Noted, block_to_go, programmed}
 use Rattle.die_alloc.specs.BlockTable.{BlockTable, IsFull, with_slot}
 use Rattle.die_alloc.specs.NextSlot.{next_slot, after_next_slot}
 use Rattle.collector.specs.Collecting.{CollectsForRoom}
-use Rattle.collector.specs.Going.{blocks_to_go}
+use Rattle.collector.specs.Going.{blocks_to_go, TreatsInTurn}
 use Rattle.collector.specs.Looking.{reads_after}
 use Rattle.collector.specs.Preserves.{IsThere, Preserves}
 use Rattle.collector.specs.Settling.{slots_read}
@@ -34,7 +34,8 @@ open_of s tag = find (λ (e, x). has_tag tag e) (zip s.machine.entries s.namings
 abbrev pub next_of : {F : Type 0} → Standing F → ℕ → Option Link
 next_of s tag = option_map (λ (e, x). name_at x e.done) (open_of s tag)
 
--- The record of the next page was there already: no operation but the reads that settled the device, and only pins change.
+-- The record of the next page was there already: the tables are the settled ones but for the pins, and no slot was read but to
+-- settle.
 pub record WritesNothing {F : Type 0} (state : F → FlashState) (old new : Standing F) : Type 0 where
   pub tables : HasTables (settlement_of state old) new
   pub reads : (state new.flash).reads ≡ reads_after (slots_read old.noted old.unsure) (state old.flash).reads
@@ -44,13 +45,15 @@ pub record FindsSlot (n : Noted) (t : BlockTable) (n' : Noted) (t' : BlockTable)
   pub direct : (IsFull t → ⊥) → (next_slot t ≡ Some at) × (n' ≡ n) × (t' ≡ after_next_slot t)
   pub collects : IsFull t → CollectsForRoom n t n' t' at
 
--- A settled device wrote a record. First the records went that had to: where none had to, nothing was done. Then a slot was
--- found. There the record of this name was programmed, with this link and the bytes of its page, and it is noted there. Where
--- nothing had to go and a block had room, that one program is all that was done to the flash.
+-- A settled device wrote a record. First the records went that had to, block after block, the lowest first: where none had to,
+-- nothing was done. Then a slot was found. There the record of this name was programmed, with this link and the bytes of its page,
+-- and it is noted there. That program came last. Where nothing had to go and a block had room, it is all that was done to the
+-- flash.
 pub record WritesRecord {F : Type 0} (state : F → FlashState) (known new : Standing F) (name link : Link) (bytes : List ℕ) : Type 0 where
   pub cleared : Noted
   pub cleared_table : BlockTable
   pub kept : Preserves known.noted cleared
+  pub turns : TreatsInTurn name.page name.version known.noted known.table cleared cleared_table
   pub idle : blocks_to_go known.noted name.page name.version ≡ 0 → (cleared ≡ known.noted) × (cleared_table ≡ known.table)
   pub clear : block_to_go cleared name.page name.version ≡ None
   pub open_noted : Noted
@@ -62,6 +65,7 @@ pub record WritesRecord {F : Type 0} (state : F → FlashState) (known new : Sta
   pub linked : rec.next ≡ link
   pub back : rec.back ≡ back_version open_noted.config.protocol (found_in open_noted.notes) open_noted.config.logical name.page
   pub before : Moment
+  pub moves : Moves (state known.flash).shape (moment_of (state known.flash)) false before
   pub direct : blocks_to_go known.noted name.page name.version ≡ 0 → (IsFull known.table → ⊥) → before ≡ moment_of (state known.flash)
   pub does : Does (state known.flash).shape before
       (program at.0 bytes (spelling open_noted.config.protocol rec) ∷ []) (moment_of (state new.flash))

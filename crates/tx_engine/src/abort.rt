@@ -25,7 +25,8 @@ pub enum Aborted {
 impl<F: Flash, R: CommitRule> Device<F, R> {
     /// Gives up the transaction with this tag, if there is one. First it becomes known what a broken
     /// operation left: it is too late where the transaction turns out to be whole. The flash is only
-    /// read: each slot once whose contents were not known. After a fault all is as before.
+    /// read: as many slots as were not known. After a fault all is as before but the flash, whose
+    /// slots stay.
     pub fn abort(&mut self, tag: u32) -> Result<Aborted, StepError>
         ensures aborts { AbortsAs (is_there F.state self.old)
             self.old.machine self.new.machine tag result }

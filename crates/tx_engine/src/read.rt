@@ -28,8 +28,8 @@ pub enum ReadError {
 impl<F: Flash, R: CommitRule> Device<F, R> {
     /// Reads a logical page into room for a page of bytes, as the array has it. A page that is blank is
     /// answered without the flash, and leaves the room as it was. Any other one takes one read, of the
-    /// home of its current record; while it is not known whether a collected block was erased, of the
-    /// lowest slot outside that block. After a fault the room holds any bytes.
+    /// home of its current record; while it is not known whether a collected block was erased, of that
+    /// record's lowest slot outside the block. After a fault the room holds any bytes.
     pub fn read(&mut self, page: u32, into: &mut [u8]) -> Result<ReadAnswer, ReadError>
         requires { length into.old ≡ self.old.config.page_bytes }
         ensures reads { ReadsPage self.old.config.logical self.old.machine.pages page

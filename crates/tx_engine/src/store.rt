@@ -20,7 +20,7 @@ ghost use Rattle.collector.specs.Collecting.{CollectsForRoom};
 ghost use Rattle.collector.specs.Looking.{ReadsAtMost, reads_after};
 ghost use Rattle.collector.specs.Matches.{CanTake, CanTakeOwn};
 ghost use Rattle.collector.specs.Settling.{settlement, slots_read};
-ghost use Rattle.collector.specs.Going.{IsNextName, CostsAtMost, blocks_to_go};
+ghost use Rattle.collector.specs.Going.{IsNextName, CostsAtMost, TreatsInTurn, blocks_to_go};
 ghost use Rattle.collector.specs.Known.{page_known};
 ghost use Rattle.collector.specs.Victim.{garbage_in};
 ghost use Rattle.tx_engine.specs.Collections.{CollectsTables};
@@ -273,6 +273,8 @@ impl<F: Flash, R: CommitRule> Store<F, R> {
             × IsNextName self.old.noted names (record { page = page; version = below }) }
         ensures keeps { Keeps F.state self.old self.new (is_err result) }
         ensures cleared { OnOk result (block_to_go self.new.noted page below ≡ None) }
+        ensures turns { OnOk result (TreatsInTurn page below
+            self.old.noted self.old.table self.new.noted self.new.table) }
         ensures sure { OnOk result (self.new.unsure ≡ unsure.Nothing) }
         ensures others { (at : Slot) (rec : Rec) → self.new.unsure ≡ unsure.Own at rec → ⊥ }
         ensures idle { block_to_go self.old.noted page below ≡ None →

@@ -9,7 +9,7 @@ ghost use Rattle.record_list.specs.Transaction.{back_version};
 ghost use Rattle.version_index.specs.Notes.{found_in};
 ghost use Rattle.version_index.specs.Noted.{block_to_go};
 ghost use Rattle.die_alloc.specs.BlockTable.{IsFull, IsFirstFree};
-ghost use Rattle.collector.specs.Going.{IsNextName, CostsAtMost, blocks_to_go};
+ghost use Rattle.collector.specs.Going.{IsNextName, CostsAtMost, TreatsInTurn, blocks_to_go};
 ghost use Rattle.collector.specs.Matches.{CanTakeOwn};
 ghost use Rattle.collector.specs.declared.unsure.Unsure.TheVariants as unsure;
 ghost use Rattle.tx_engine.specs.Costs.{StepCosts};
@@ -95,6 +95,8 @@ fn clear<F: Flash, R: CommitRule>(
         (standing_in F.state store.new openings.now) (is_err result) }
     ensures sure { OnOk result (store.new.unsure ≡ unsure.Nothing) }
     ensures cleared { OnOk result (block_to_go store.new.noted name.page name.version ≡ None) }
+    ensures turns { OnOk result (TreatsInTurn name.page name.version
+        store.old.noted store.old.table store.new.noted store.new.table) }
     ensures idle { block_to_go store.old.noted name.page name.version ≡ None →
         (is_err result ≡ false) × (store.new ≡ store.old) }
     ensures costs { CostsAtMost store.old.noted.config.pages_per_block

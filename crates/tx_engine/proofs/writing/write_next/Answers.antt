@@ -4,7 +4,7 @@ use Rattle.std.specs.Result.{is_err}
 use Rattle.tx_types.specs.declared.config.Config.{Config}
 use Rattle.tx_types.specs.declared.record.Link.{Link}
 use Rattle.version_index.specs.Noted.{block_to_go}
-use Rattle.collector.specs.Going.{IsNextName, CostsAtMost, blocks_to_go}
+use Rattle.collector.specs.Going.{IsNextName, CostsAtMost, TreatsInTurn, blocks_to_go}
 use Rattle.tx_engine.specs.Exits.{Exits}
 use Rattle.tx_engine.specs.OpenTable.{opening_at}
 use Rattle.tx_engine.specs.Settling.{WriteFails, link_place}
@@ -150,6 +150,8 @@ returns-clause-writes g c = let state = g.F.Flash.state in
     c.next_record-rec.ensures.named c.next_record-rec.ensures.next c.next_record-rec.ensures.back
     (free_within (state c.find_slot.new.store.flash) c.find_slot.new.store.noted c.find_slot.new.store.table c.find_slot.new.store.unsure c.in_ok-slot.ensures.left.stands.matches c.in_ok-slot.slot.0 c.in_ok-slot.ensures.free)
     c.in_default.ensures.written
+    (subst (λ (a : Link). TreatsInTurn a.page a.version c.args.store.now.noted c.args.store.now.table c.clear.new.store.noted c.clear.new.store.table) is c.in_ok-clear.ensures.turns)
+    (left_then state (standing_in state c.args.store.now c.args.openings.now) (standing_in state c.clear.new.store c.args.openings.now) (standing_in state c.find_slot.new.store c.args.openings.now) false refl refl c.in_ok-clear.ensures.left c.in_ok-slot.ensures.left).exits.moves
 
 pub returns-clause-fresh : goal.returns-clause-fresh
 returns-clause-fresh g c = let state = g.F.Flash.state in
