@@ -15,7 +15,7 @@ use Rattle.version_index.specs.Noted.{Noted}
 use Rattle.collector.specs.Looking.{Looks}
 use Rattle.collector.proofs.OwnCalls.{looks_once, looks_broken}
 use Rattle.collector.specs.Settling.{reads_as, reads_alike, holds_record}
-use Rattle.collector.specs.Collecting.{is_blank, reads_blank}
+use Rattle.collector.specs.Collecting.{is_blank_slot, reads_blank}
 
 -- reads one after another
 pub looks_then : (a b c : FlashState) (k : ℕ) (broken : Bool) → Looks a b k false → Looks b c 1 broken → Looks a c (k + 1) broken
@@ -82,7 +82,7 @@ range_push p a (suc n) =
     ∙ sym (and_assoc (p a) (list_all p (range_with_len (a + 1) n)) (p (a + suc n)))
 
 -- how a slot reads that holds these contents
-pub blank_reads : (contents : Contents) → reads_blank (seen_of contents) ≡ is_blank contents
+pub blank_reads : (contents : Contents) → reads_blank (seen_of contents) ≡ is_blank_slot contents
 blank_reads blank = refl
 blank_reads damaged = refl
 blank_reads (complete bytes spare) = refl
@@ -102,7 +102,7 @@ abbrev test_noted : Noted → List Contents → ℕ → Bool
 test_noted n image slot = reads_as (note_at n.notes slot) (slot_at image slot)
 
 abbrev test_blank : List Contents → ℕ → Bool
-test_blank image slot = is_blank (slot_at image slot)
+test_blank image slot = is_blank_slot (slot_at image slot)
 
 -- what is known once the slots of a block before this one were read
 pub record ReadSoFar (n : Noted) (old now : FlashState) (first at : ℕ) (as_noted blank : Bool) : Type 0 where

@@ -18,24 +18,24 @@ use Rattle.page_record.specs.Rules.{record_of}
 use Rattle.version_index.specs.declared.note.Note.{Note}
 use Rattle.version_index.specs.declared.note.Note.TheVariants.{Blank, Damaged, Holds}
 use Rattle.version_index.specs.Notes.{note_at, note_of, with_block_noted}
-use Rattle.version_index.specs.Noted.{Noted, erased, is_blank as is_blank_noted}
+use Rattle.version_index.specs.Noted.{Noted, erased, is_blank}
 use Rattle.die_alloc.specs.BlockTable.{BlockTable}
 use Rattle.collector.specs.declared.unsure.Unsure.{Unsure}
 use Rattle.collector.specs.declared.unsure.Unsure.TheVariants as unsure
 use Rattle.collector.specs.Matches.{Matches}
 use Rattle.collector.specs.BreakingOff.{CleaningBreaks}
-use Rattle.collector.specs.Collecting.{is_blank, is_blank_block, is_noted_blank, cleaning}
+use Rattle.collector.specs.Collecting.{is_blank_slot, is_blank_block, is_noted_blank, cleaning}
 use Rattle.collector.proofs.Calm.{noted_as_read}
 use Rattle.collector.proofs.NotesLeft.{note_at-in, note_at-out, length-noted}
 use Rattle.collector.proofs.Ranges.{all_range, range_same}
 
 -- a slot that is noted as it reads is noted blank exactly where it is
-blank_as_noted : (p : Protocol) (contents : Contents) → is_blank_noted (note_of p contents) ≡ is_blank contents
+blank_as_noted : (p : Protocol) (contents : Contents) → is_blank (note_of p contents) ≡ is_blank_slot contents
 blank_as_noted p blank = refl
 blank_as_noted p damaged = refl
 blank_as_noted p (complete bytes spare) = never (record_of p spare)
   where
-    never : (o : Option Rec) → is_blank_noted (option_map_or Holds o Damaged) ≡ false
+    never : (o : Option Rec) → is_blank (option_map_or Holds o Damaged) ≡ false
     never None = refl
     never (Some rec) = refl
 
@@ -52,9 +52,9 @@ module _ (s : FlashState) (n : Noted) (t : BlockTable) (u : Unsure) (nothing : u
   -- the spare reads blank exactly where it is noted so
   pub blank_as_read : is_blank_block n s.image t.spare ≡ is_noted_blank n t.spare
   blank_as_read =
-      range_same (λ slot. is_blank (slot_at s.image slot)) (λ slot. is_blank_noted (note_at n.notes slot)) (t.spare * n.config.pages_per_block) n.config.pages_per_block
+      range_same (λ slot. is_blank_slot (slot_at s.image slot)) (λ slot. is_blank (note_at n.notes slot)) (t.spare * n.config.pages_per_block) n.config.pages_per_block
       (λ k low high.
-      sym (ap is_blank_noted (noted_as_read s n t m k (omega (arith, high, fits, ap slots_of m.shape))) ∙ blank_as_noted n.config.protocol (slot_at s.image k)))
+      sym (ap is_blank (noted_as_read s n t m k (omega (arith, high, fits, ap slots_of m.shape))) ∙ blank_as_noted n.config.protocol (slot_at s.image k)))
 
   -- where it is noted blank nothing is done
   pub cleaned_already : is_noted_blank n t.spare ≡ true → Does s.shape (moment_of s) (cleaning n s.image t.spare) (moment_of s)
@@ -71,14 +71,14 @@ module _ (s : FlashState) (n : Noted) (t : BlockTable) (u : Unsure) (nothing : u
       let each : (k : ℕ) → k < length n.notes → note_at n.notes k ≡ note_at notes' k = λ k within. elim (cases_lt k (t.spare * n.config.pages_per_block)) [
         | inl before ↦ sym (note_at-out sh some n.notes m.noted.slots t.spare below Blank k (inl before))
         | inr from ↦ elim (cases_lt k (t.spare * n.config.pages_per_block + n.config.pages_per_block)) [
-          | inl to ↦ noted_blank (note_at n.notes k) (all_range (λ slot. is_blank_noted (note_at n.notes slot)) (t.spare * n.config.pages_per_block) n.config.pages_per_block e k from to)
+          | inl to ↦ noted_blank (note_at n.notes k) (all_range (λ slot. is_blank (note_at n.notes slot)) (t.spare * n.config.pages_per_block) n.config.pages_per_block e k from to)
               ∙ sym (note_at-in sh some n.notes m.noted.slots t.spare below Blank k from to)
           | inr behind ↦ sym (note_at-out sh some n.notes m.noted.slots t.spare below Blank k (inr behind))
         ]
       ] in
       ap (λ notes. record n { notes = notes }) (ext_get_or Blank n.notes notes' (sym (length-noted sh some n.notes m.noted.slots t.spare below Blank)) each)
     where
-      noted_blank : (note : Note) → is_blank_noted note ≡ true → note ≡ Blank
+      noted_blank : (note : Note) → is_blank note ≡ true → note ≡ Blank
       noted_blank Blank e = refl
       noted_blank Damaged e = cc
       noted_blank (Holds rec) e = cc

@@ -26,7 +26,7 @@ use Rattle.version_index.specs.ImageChanges.{KeepsCopied, KeepsDamaged}
 use Rattle.version_index.specs.Notes.{note_at, note_of}
 use Rattle.version_index.specs.Noted.{Noted, IsNoted, copied}
 use Rattle.version_index.proofs.ImageLaws.{image_copy_law, image_damage_law}
-use Rattle.die_alloc.specs.BlockTable.{BlockTable, IsFree, block_of}
+use Rattle.die_alloc.specs.BlockTable.{BlockTable, IsFree, block_of_slot}
 use Rattle.die_alloc.proofs.Changes.{block_within, has_room_not_spare}
 use Rattle.collector.specs.declared.unsure.Unsure.TheVariants as unsure
 use Rattle.collector.specs.Matches.{Matches}
@@ -122,8 +122,8 @@ module _ (s s' : FlashState) (n : Noted) (t : BlockTable) (m : Matches s n t uns
   -- a free slot lies outside the spare
   free_other : (slot : ℕ) → IsFree t slot → slot ≢ to.0
   free_other slot free e =
-      has_room_not_spare t m.table (block_of t.shape slot) (block_within t m.table slot free.within) free.room
-      (ap (block_of t.shape) e ∙ ap (λ (x : Shape). to.0 / x.pages_per_block) (m.blocks ∙ m.shape) ∙ in_spare)
+      has_room_not_spare t m.table (block_of_slot t.shape slot) (block_within t m.table slot free.within) free.room
+      (ap (block_of_slot t.shape) e ∙ ap (λ (x : Shape). to.0 / x.pages_per_block) (m.blocks ∙ m.shape) ∙ in_spare)
 
   -- the copy was programmed
   pub copy_done : Programs s s' to.0 bytes spare (Ok tt) → CopyLaw n.config.protocol → IsNoted p (copied n from.0 to.0) →

@@ -34,7 +34,7 @@ use Rattle.collector.proofs.Losing.{blocked, spared_still}
 use Rattle.collector.proofs.SpelledNotes.{calm_spelled}
 use Rattle.collector.proofs.Exchange.{free_away, free_before, tail_blank}
 use Rattle.collector.specs.Collecting.{exchanged}
-use Rattle.die_alloc.specs.BlockTable.{with_spare as table_with}
+use Rattle.die_alloc.specs.BlockTable.{table_with_spare}
 
 module _ (s : FlashState) (n : Noted) (t : BlockTable) (m : Matches s n t unsure.Nothing)
     (loss : LossLaw n.config.protocol) (written_loss : WrittenLossLaw n.config.protocol)
@@ -274,7 +274,7 @@ module _ (s s' : FlashState) (n : Noted) (t : BlockTable) (m : Matches s n t uns
   -- the collected block was erased: it is the spare, and the old one has its copies
   pub victim_erased : (block : ℕ) → block < blocks_of (shape_of n.config) → block ≢ t.spare → CanSpare n block → (filled : IsFilledTo n t.spare) →
       Erases s s' block (Ok tt) → IsNoted n.config.protocol (with_spare (erased n block) block) →
-      IsBlockTable (table_with t block) → IsBlockTable (exchanged t block filled.0) →
+      IsBlockTable (table_with_spare t block) → IsBlockTable (exchanged t block filled.0) →
       Matches s' (with_spare (erased n block) block) (exchanged t block filled.0) unsure.Nothing
   victim_erased block below other spared filled e noted mid table =
       let below_table : block < blocks_of t.shape = omega (arith, below, ap blocks_of m.blocks, ap blocks_of m.shape) in

@@ -19,7 +19,7 @@ use Rattle.version_index.specs.Noted.{Noted}
 use Rattle.version_index.proofs.Blocks.{inside_block}
 use Rattle.die_alloc.specs.BlockTable.{BlockTable}
 use Rattle.collector.specs.declared.unsure.Unsure.{Unsure}
-use Rattle.collector.specs.Collecting.{is_blank, is_blank_block, slots_in}
+use Rattle.collector.specs.Collecting.{is_blank_slot, is_blank_block, slots_in}
 use Rattle.collector.specs.Matches.{Matches, IsNotedAt, AllOfBlock, IsErasing}
 use Rattle.collector.specs.Settling.{reads_as, block_reads_as_noted}
 use Rattle.collector.proofs.Ranges.{all_range, range_all}
@@ -103,8 +103,8 @@ module _ (s : FlashState) (n : Noted) (t : BlockTable) (u : Unsure) (m : Matches
         let k = block * n.config.pages_per_block in
         let lt = within k (omega arith) (omega (arith, some)) in
         let in_block = here k (omega arith) (omega (arith, some)) in
-        let is : is_blank (slot_at s.image k) ≡ true = tested (λ slot. is_blank (slot_at s.image slot)) b k lt in_block in
-        absurd (both_ways (is_blank (slot_at s.image k)) (ap is_blank (bad k lt in_block)) is))
+        let is : is_blank_slot (slot_at s.image k) ≡ true = tested (λ slot. is_blank_slot (slot_at s.image slot)) b k lt in_block in
+        absurd (both_ways (is_blank_slot (slot_at s.image k)) (ap is_blank_slot (bad k lt in_block)) is))
     | inr none ↦ none
   ]
 
@@ -113,7 +113,7 @@ module _ (s : FlashState) (n : Noted) (t : BlockTable) (u : Unsure) (m : Matches
   damaged_all h b = elim (changed h) [
     | inl bad ↦ bad
     | inr none ↦ (
-        let all : is_blank_block n s.image block ≡ true = range_all (λ slot. is_blank (slot_at s.image slot)) (block * n.config.pages_per_block) n.config.pages_per_block
-        (λ k low high. ap is_blank (none k (within k low high) (here k low high))) in
+        let all : is_blank_block n s.image block ≡ true = range_all (λ slot. is_blank_slot (slot_at s.image slot)) (block * n.config.pages_per_block) n.config.pages_per_block
+        (λ k low high. ap is_blank_slot (none k (within k low high) (here k low high))) in
         absurd (both_ways (is_blank_block n s.image block) b all))
   ]

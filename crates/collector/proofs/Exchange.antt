@@ -8,7 +8,7 @@ use Rattle.tx_types.specs.declared.config.BlockState.TheVariants.{Spare, Clean, 
 use Rattle.version_index.specs.declared.note.Note.TheVariants.{Blank}
 use Rattle.version_index.specs.Notes.{note_at}
 use Rattle.version_index.specs.Noted.{Noted}
-use Rattle.die_alloc.specs.BlockTable.{BlockTable, IsBlockTable, block_of, HasRoom, IsFree, use_of, used_of, with_spare}
+use Rattle.die_alloc.specs.BlockTable.{BlockTable, IsBlockTable, block_of_slot, HasRoom, IsFree, use_of, used_of, table_with_spare}
 use Rattle.die_alloc.specs.declared.block_use.BlockUse.{BlockUse}
 use Rattle.die_alloc.proofs.Changes.{use_of-with_use_same, use_of-with_use_other, use_of-with_spare_same, use_of-with_spare_other}
 use Rattle.collector.specs.Collecting.{exchanged, open_state}
@@ -22,21 +22,21 @@ slot_in per block slot e =
 
 -- a block of the exchanged table that has room is the old spare, or one that had it
 module _ (t : BlockTable) (h : IsBlockTable t) (block : ℕ) (below : block < blocks_of t.shape) (other : block ≢ t.spare)
-    (mid : IsBlockTable (with_spare t block)) (used : ℕ) where
+    (mid : IsBlockTable (table_with_spare t block)) (used : ℕ) where
   abbrev after : BlockTable
   after = exchanged t block used
 
   use_block : use_of after block ≡ record { state = Spare; used = 0 }
   use_block =
-      use_of-with_use_other (with_spare t block) t.spare block (open_state used) used other
+      use_of-with_use_other (table_with_spare t block) t.spare block (open_state used) used other
       ∙ use_of-with_spare_same t h block below
 
   use_old : use_of after t.spare ≡ record { state = open_state used; used = used }
-  use_old = use_of-with_use_same (with_spare t block) mid t.spare (open_state used) used h.spare_within
+  use_old = use_of-with_use_same (table_with_spare t block) mid t.spare (open_state used) used h.spare_within
 
   use_other : (b : ℕ) → b ≢ block → b ≢ t.spare → use_of after b ≡ use_of t b
   use_other b away apart =
-      use_of-with_use_other (with_spare t block) t.spare b (open_state used) used apart
+      use_of-with_use_other (table_with_spare t block) t.spare b (open_state used) used apart
       ∙ use_of-with_spare_other t block b away apart
 
   no_room : HasRoom after block → (Spare ≡ Clean) ⊎ (Spare ≡ Part)
@@ -55,25 +55,25 @@ module _ (t : BlockTable) (h : IsBlockTable t) (block : ℕ) (below : block < bl
       elim room [ inl clean ↦ inl (sym same ∙ clean) | inr part ↦ inr (sym same ∙ part) ]
 
   -- a free slot lies outside the new spare
-  pub free_away : (slot : ℕ) → IsFree after slot → block_of t.shape slot ≢ block
+  pub free_away : (slot : ℕ) → IsFree after slot → block_of_slot t.shape slot ≢ block
   free_away slot free here = never (no_room (subst (HasRoom after) here free.room)) ⊥
 
   -- it was free, or lies in the old spare behind its copies
   pub free_before : (slot : ℕ) → IsFree after slot →
-      ((block_of t.shape slot ≡ t.spare) × (used ≤ slot % t.shape.pages_per_block)) ⊎ IsFree t slot
-  free_before slot free = elim (cases_Bool (block_of t.shape slot == t.spare)) [
+      ((block_of_slot t.shape slot ≡ t.spare) × (used ≤ slot % t.shape.pages_per_block)) ⊎ IsFree t slot
+  free_before slot free = elim (cases_Bool (block_of_slot t.shape slot == t.spare)) [
     | inl old ↦ inl (
-      eqb-true (block_of t.shape slot) t.spare old,
+      eqb-true (block_of_slot t.shape slot) t.spare old,
       (let is = ap (λ (u : BlockUse). u.used) use_old in
-          subst (λ u. u ≤ slot % t.shape.pages_per_block) is (subst (λ b. used_of after b ≤ slot % t.shape.pages_per_block) (eqb-true (block_of t.shape slot) t.spare old) free.unused)),
+          subst (λ u. u ≤ slot % t.shape.pages_per_block) is (subst (λ b. used_of after b ≤ slot % t.shape.pages_per_block) (eqb-true (block_of_slot t.shape slot) t.spare old) free.unused)),
     )
     | inr apart ↦
         (let away = free_away slot free in
-        let no_spare = unequal (block_of t.shape slot) t.spare apart in
+        let no_spare = unequal (block_of_slot t.shape slot) t.spare apart in
         inr (record {
           within = free.within;
-          room = room_other (block_of t.shape slot) away no_spare free.room;
-          unused = subst (λ u. u ≤ slot % t.shape.pages_per_block) (ap (λ (u : BlockUse). u.used) (use_other (block_of t.shape slot) away no_spare)) free.unused;
+          room = room_other (block_of_slot t.shape slot) away no_spare free.room;
+          unused = subst (λ u. u ≤ slot % t.shape.pages_per_block) (ap (λ (u : BlockUse). u.used) (use_other (block_of_slot t.shape slot) away no_spare)) free.unused;
         }))
   ]
     where

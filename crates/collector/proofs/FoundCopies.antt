@@ -22,7 +22,7 @@ use Rattle.record_list.specs.Current.{cur, is_held}
 use Rattle.collector.specs.Preserves.{Preserves}
 use Rattle.collector.proofs.CopyNotes.{copy_preserves, copy_spared}
 use Rattle.version_index.proofs.NotedChanges.{damaged_noted, copied_noted}
-use Rattle.die_alloc.specs.BlockTable.{BlockTable, IsFree, block_of}
+use Rattle.die_alloc.specs.BlockTable.{BlockTable, IsFree, block_of_slot}
 use Rattle.die_alloc.proofs.Changes.{block_within, has_room_not_spare}
 use Rattle.collector.specs.declared.unsure.Unsure.TheVariants as unsure
 use Rattle.collector.specs.Matches.{Matches, IsNotedAt}
@@ -90,8 +90,8 @@ module _ (p : Protocol) (copy : CopyLaw p) (s s1 : FlashState) (n : Noted) (t : 
   free_other slot free = (
     free,
     λ e.
-        has_room_not_spare t m.table (block_of t.shape slot) (block_within t m.table slot free.within) free.room
-        (ap (block_of t.shape) e ∙ ap (λ (x : Shape). to.0 / x.pages_per_block) (m.blocks ∙ m.shape) ∙ m.place.1),
+        has_room_not_spare t m.table (block_of_slot t.shape slot) (block_within t m.table slot free.within) free.room
+        (ap (block_of_slot t.shape) e ∙ ap (λ (x : Shape). to.0 / x.pages_per_block) (m.blocks ∙ m.shape) ∙ m.place.1),
   )
 
   -- it is blank still

@@ -37,9 +37,9 @@ use Rattle.version_index.proofs.ImageScans.{records_scanned}
 use Rattle.version_index.proofs.NotedImages.{found_in_notes}
 use Rattle.version_index.proofs.Pins.{numbered_pin}
 use Rattle.die_alloc.specs.declared.block_use.BlockUse.{BlockUse}
-use Rattle.die_alloc.specs.BlockTable.{BlockTable, IsBlockTable, IsFree, HasRoom, MayHave, use_of, state_of, used_of, no_block}
+use Rattle.die_alloc.specs.BlockTable.{BlockTable, IsBlockTable, IsFree, HasRoom, MayHave, use_of, block_state, used_of, no_block}
 use Rattle.die_alloc.proofs.Changes.{block_within}
-use Rattle.scan_recovery.specs.Opening.{reads_blank, seen_in, slots_in, is_blank_block, used_in, use_in, opening_table, opening_noted, IsChosenFrom, IsOpened}
+use Rattle.scan_recovery.specs.Opening.{reads_blank, seen_in, seen_in_block, reads_blank_block, used_in, use_in, opening_table, opening_noted, IsChosenFrom, IsOpened}
 use Rattle.collector.specs.declared.unsure.Unsure.TheVariants as unsure
 use Rattle.collector.specs.Matches.{Matches, CanSpare}
 use Rattle.collector.proofs.SettledExits.{matches_still}
@@ -59,7 +59,7 @@ blank_contents blank e = refl
 blank_contents damaged e = cc
 blank_contents (complete bytes spare) e = cc
 
-blank_slot : (shape : Shape) (image : List Contents) (block k : ℕ) → 0 < shape.pages_per_block → is_blank_block shape (seen_in image) block ≡ true →
+blank_slot : (shape : Shape) (image : List Contents) (block k : ℕ) → 0 < shape.pages_per_block → reads_blank_block shape (seen_in image) block ≡ true →
     k < length image → k / shape.pages_per_block ≡ block → slot_at image k ≡ blank
 blank_slot shape image block k some e within here =
     let per = shape.pages_per_block in
@@ -89,48 +89,48 @@ module _ (shape : Shape) (slots : List Seen) (spare : ℕ) where
   use_spare : (block : ℕ) → block ≡ spare → use_in shape slots spare block ≡ record { state = Spare; used = 0 }
   use_spare block e = cond-true (eqb block spare) _ _ (eq-eqb block spare e)
 
-  use_clean : (block : ℕ) → eqb block spare ≡ false → is_blank_block shape slots block ≡ true → use_in shape slots spare block ≡ record { state = Clean; used = 0 }
-  use_clean block other e = cond-false (eqb block spare) _ _ other ∙ cond-true (is_blank_block shape slots block) _ _ e
+  use_clean : (block : ℕ) → eqb block spare ≡ false → reads_blank_block shape slots block ≡ true → use_in shape slots spare block ≡ record { state = Clean; used = 0 }
+  use_clean block other e = cond-false (eqb block spare) _ _ other ∙ cond-true (reads_blank_block shape slots block) _ _ e
 
-  use_shut : (block : ℕ) → eqb block spare ≡ false → is_blank_block shape slots block ≡ false →
-      use_in shape slots spare block ≡ record { state = Shut; used = used_in (slots_in shape slots block) }
-  use_shut block other e = cond-false (eqb block spare) _ _ other ∙ cond-false (is_blank_block shape slots block) _ _ e
+  use_shut : (block : ℕ) → eqb block spare ≡ false → reads_blank_block shape slots block ≡ false →
+      use_in shape slots spare block ≡ record { state = Shut; used = used_in (seen_in_block shape slots block) }
+  use_shut block other e = cond-false (eqb block spare) _ _ other ∙ cond-false (reads_blank_block shape slots block) _ _ e
 
   -- the spare, a block that is all blank, and any other one
   pub data Kind (block : ℕ) : Type 0 where
     spared : block ≡ spare → use_of table block ≡ record { state = Spare; used = 0 } → Kind block
-    clean : block ≢ spare → is_blank_block shape slots block ≡ true → use_of table block ≡ record { state = Clean; used = 0 } → Kind block
-    shut : block ≢ spare → use_of table block ≡ record { state = Shut; used = used_in (slots_in shape slots block) } → Kind block
+    clean : block ≢ spare → reads_blank_block shape slots block ≡ true → use_of table block ≡ record { state = Clean; used = 0 } → Kind block
+    shut : block ≢ spare → use_of table block ≡ record { state = Shut; used = used_in (seen_in_block shape slots block) } → Kind block
 
   kind_of : (block : ℕ) → block < blocks_of shape → Kind block
   kind_of block low = elim (cases_Bool (eqb block spare)) [
     | inl here ↦ (let e = eqb-true block spare here in spared e (use_at block low ∙ use_spare block e))
     | inr other ↦
         (let apart : block ≢ spare = λ e. false≢true (sym other ∙ eq-eqb block spare e) in
-        elim (cases_Bool (is_blank_block shape slots block)) [
+        elim (cases_Bool (reads_blank_block shape slots block)) [
           | inl e ↦ clean apart e (use_at block low ∙ use_clean block other e)
           | inr e ↦ shut apart (use_at block low ∙ use_shut block other e)
         ])
   ]
 
-  state_is : (block : ℕ) (u : BlockUse) → use_of table block ≡ u → state_of table block ≡ u.state
+  state_is : (block : ℕ) (u : BlockUse) → use_of table block ≡ u → block_state table block ≡ u.state
   state_is block u e = ap (λ (x : BlockUse). x.state) e
 
-  may_have : (block : ℕ) → Kind block → MayHave shape.pages_per_block (state_of table block) (used_of table block)
+  may_have : (block : ℕ) → Kind block → MayHave shape.pages_per_block (block_state table block) (used_of table block)
   may_have block (spared here e) = subst (λ (u : BlockUse). MayHave shape.pages_per_block u.state u.used) (sym e) refl
   may_have block (clean apart all_blank e) = subst (λ (u : BlockUse). MayHave shape.pages_per_block u.state u.used) (sym e) refl
   may_have block (shut apart e) =
-      let low = used_low (slots_in shape slots block) in
+      let low = used_low (seen_in_block shape slots block) in
       let long = length-take shape.pages_per_block (drop (block * shape.pages_per_block) slots) in
       subst (λ (u : BlockUse). MayHave shape.pages_per_block u.state u.used) (sym e) (omega (arith, low, long))
 
-  is_spare : (block : ℕ) → Kind block → (state_of table block ≡ Spare) ↔ (block ≡ spare)
+  is_spare : (block : ℕ) → Kind block → (block_state table block ≡ Spare) ↔ (block ≡ spare)
   is_spare block (spared here e) = (λ s. here, λ b. state_is block _ e)
   is_spare block (clean apart all_blank e) = (λ s. (let no : Clean ≡ Spare = sym (state_is block _ e) ∙ s in cc), λ b. absurd (apart b))
   is_spare block (shut apart e) = (λ s. (let no : Shut ≡ Spare = sym (state_is block _ e) ∙ s in cc), λ b. absurd (apart b))
 
   -- a block with room is all blank
-  has_blank : (block : ℕ) → Kind block → HasRoom table block → is_blank_block shape slots block ≡ true
+  has_blank : (block : ℕ) → Kind block → HasRoom table block → reads_blank_block shape slots block ≡ true
   has_blank block (spared here e) (inl c) = let no : Spare ≡ Clean = sym (state_is block _ e) ∙ c in cc
   has_blank block (spared here e) (inr p) = let no : Spare ≡ Part = sym (state_is block _ e) ∙ p in cc
   has_blank block (clean apart all_blank e) room = all_blank
@@ -148,7 +148,7 @@ module _ (shape : Shape) (slots : List Seen) (spare : ℕ) where
   }
 
   -- a free slot lies in a blank block
-  free_blank : (at : ℕ) → IsFree table at → at / shape.pages_per_block < blocks_of shape → is_blank_block shape slots (at / shape.pages_per_block) ≡ true
+  free_blank : (at : ℕ) → IsFree table at → at / shape.pages_per_block < blocks_of shape → reads_blank_block shape slots (at / shape.pages_per_block) ≡ true
   free_blank at free low = has_blank (at / shape.pages_per_block) (kind_of (at / shape.pages_per_block) low) free.room
 
 -- nothing is pinned
@@ -209,7 +209,7 @@ module _ (its : Config) (s : FlashState) (check : checked its ≡ Ok s.shape) (w
   }
 
   -- no record stands in a blank block
-  blank_apart : is_blank_block sh (seen_in s.image) spare ≡ true → (f : Found) → IsIn (found_in n.notes) f → is_outside sh spare f.slot.0 ≡ true
+  blank_apart : reads_blank_block sh (seen_in s.image) spare ≡ true → (f : Found) → IsIn (found_in n.notes) f → is_outside sh spare f.slot.0 ≡ true
   blank_apart all_blank f i = elim (cases_Bool (is_outside sh spare f.slot.0)) [
     | inl out ↦ out
     | inr inside ↦

@@ -15,7 +15,7 @@ use Rattle.record_list.specs.Written.{is_outside}
 use Rattle.version_index.specs.declared.note.Note.TheVariants.{Blank, Damaged, Holds}
 use Rattle.version_index.specs.Notes.{note_at, note_of}
 use Rattle.version_index.specs.Noted.{Noted, IsNoted, programmed, damaged_at}
-use Rattle.die_alloc.specs.BlockTable.{BlockTable, IsBlockTable, IsFree, block_of, with_slot}
+use Rattle.die_alloc.specs.BlockTable.{BlockTable, IsBlockTable, IsFree, block_of_slot, with_slot}
 use Rattle.die_alloc.proofs.Changes.{block_within, has_room_not_spare}
 use Rattle.collector.specs.declared.unsure.Unsure.{Unsure}
 use Rattle.collector.specs.declared.unsure.Unsure.TheVariants as unsure
@@ -34,7 +34,7 @@ out_from shape block slot apart = elim (cases_Bool ((slot / shape.pages_per_bloc
 -- a free slot lies outside the spare
 pub free_out : (s : FlashState) (n : Noted) (t : BlockTable) (u : Unsure) → Matches s n t u → (slot : ℕ) → IsFree t slot → is_outside (shape_of n.config) t.spare slot ≡ true
 free_out s n t u m slot free =
-    let apart = has_room_not_spare t m.table (block_of t.shape slot) (block_within t m.table slot free.within) free.room in
+    let apart = has_room_not_spare t m.table (block_of_slot t.shape slot) (block_within t m.table slot free.within) free.room in
     out_from (shape_of n.config) t.spare slot (λ e. apart (ap (λ (x : Shape). slot / x.pages_per_block) (m.blocks ∙ m.shape) ∙ e))
 
 -- a slot of a record is noted as it reads

@@ -24,10 +24,10 @@ use Rattle.record_list.proofs.SoundNames.{sound_map}
 use Rattle.version_index.specs.declared.note.Note.{Note}
 use Rattle.version_index.specs.declared.note.Note.TheVariants.{Blank, Damaged, Holds}
 use Rattle.version_index.specs.Notes.{note_at, found_in}
-use Rattle.version_index.specs.Noted.{Noted, IsNoted, current_of, needed_of, garbage_of, is_garbage_at, shut_or_part, pinned_names, erased, is_blank as is_blank_noted}
+use Rattle.version_index.specs.Noted.{Noted, IsNoted, current_of, needed_of, garbage_of, is_garbage_at, shut_or_part, pinned_names, erased, is_blank}
 use Rattle.version_index.proofs.Blocks.{other_block, in_it, inside_block}
 use Rattle.version_index.proofs.NotedFacts.{spare_garbage, other_garbage}
-use Rattle.die_alloc.specs.BlockTable.{BlockTable, IsBlockTable, IsFull, MayHave, no_block, use_of, state_of, used_of, with_spare}
+use Rattle.die_alloc.specs.BlockTable.{BlockTable, IsBlockTable, IsFull, MayHave, no_block, use_of, block_state, used_of, table_with_spare}
 use Rattle.die_alloc.specs.declared.block_use.BlockUse.{BlockUse}
 use Rattle.die_alloc.proofs.Changes.{shut_where_full}
 use Rattle.collector.specs.declared.unsure.Unsure.TheVariants as unsure
@@ -79,7 +79,7 @@ count_some p a (suc n) h = elim (cases_Bool (p a)) [
       record { at = rest.at; low = omega arith; high = omega arith; passes = rest.passes })
 ]
 
-noted_blank : (note : Note) → is_blank_noted note ≡ true → note ≡ Blank
+noted_blank : (note : Note) → is_blank note ≡ true → note ≡ Blank
 noted_blank Blank e = refl
 noted_blank Damaged e = absurd (false≢true e)
 noted_blank (Holds rec) e = absurd (false≢true e)
@@ -96,13 +96,13 @@ not_on false e = refl
 garbage_unneeded : (n : Noted) (shut : Bool) (slot : ℕ) → is_garbage_at n (shut_or_part shut) slot ≡ true → needed_of n slot ≡ false
 garbage_unneeded n true slot e = not_on (needed_of n slot) e
 garbage_unneeded n false slot e =
-    (or_parts (is_blank_noted (note_at n.notes slot)) (needed_of n slot) (not_on (is_blank_noted (note_at n.notes slot) || needed_of n slot) e)).1
+    (or_parts (is_blank (note_at n.notes slot)) (needed_of n slot) (not_on (is_blank (note_at n.notes slot) || needed_of n slot) e)).1
 
 -- the slots of a block that is all blank
 pub blank_erased : (n : Noted) → IsNoted n.config.protocol n → (block : ℕ) → block < blocks_of (shape_of n.config) → is_noted_blank (erased n block) block ≡ true
 blank_erased n noted block below =
-    range_all (λ slot. is_blank_noted (note_at (erased n block).notes slot)) (block * n.config.pages_per_block) n.config.pages_per_block
-    (λ k low high. ap is_blank_noted
+    range_all (λ slot. is_blank (note_at (erased n block).notes slot)) (block * n.config.pages_per_block) n.config.pages_per_block
+    (λ k low high. ap is_blank
     (note_at-in (shape_of n.config) (let b = noted.bounds.shape.pages_least in omega arith) n.notes noted.slots block below Blank k low high))
 
 -- a name of a transaction in progress that is there has nobody responsible
@@ -138,25 +138,25 @@ module _ (s : FlashState) (n : Noted) (t : BlockTable) (m : Matches s n t unsure
   -- the block with the most garbage is not the spare
   pub victim_apart : (block : ℕ) → IsVictim n t block → block ≢ t.spare
   victim_apart block v same =
-      let none = spare_garbage n block (is_shut (state_of t block)) (ap (is_slot block) m.spare ∙ eq-eqb t.spare block (sym same)) in
+      let none = spare_garbage n block (is_shut (block_state t block)) (ap (is_slot block) m.spare ∙ eq-eqb t.spare block (sym same)) in
       let more = v.some in absurd (omega arith)
 
   -- and has a slot that is not needed
   pub victim_unneeded : (block : ℕ) → IsVictim n t block → HasUnneeded n block
   victim_unneeded block v =
-      let shut = is_shut (state_of t block) in
-      let more : 0 < count_by (is_garbage_at n (shut_or_part (is_shut (state_of t block)))) (range_with_len (block * n.config.pages_per_block) n.config.pages_per_block) =
-      subst (λ k. 0 < k) (other_garbage n block (is_shut (state_of t block)) (not_its_spare block (victim_apart block v))) v.some in
-      let one = count_some (is_garbage_at n (shut_or_part (is_shut (state_of t block)))) (block * n.config.pages_per_block) n.config.pages_per_block more in
+      let shut = is_shut (block_state t block) in
+      let more : 0 < count_by (is_garbage_at n (shut_or_part (is_shut (block_state t block)))) (range_with_len (block * n.config.pages_per_block) n.config.pages_per_block) =
+      subst (λ k. 0 < k) (other_garbage n block (is_shut (block_state t block)) (not_its_spare block (victim_apart block v))) v.some in
+      let one = count_some (is_garbage_at n (shut_or_part (is_shut (block_state t block)))) (block * n.config.pages_per_block) n.config.pages_per_block more in
       has_unneeded n block one.at (in_range (block * n.config.pages_per_block) n.config.pages_per_block one.at one.low one.high)
-      (garbage_unneeded n (is_shut (state_of t block)) one.at one.passes)
+      (garbage_unneeded n (is_shut (block_state t block)) one.at one.passes)
 
   module _ (blanked : is_noted_blank n t.spare ≡ true) (full : IsFull t) (names : List Link) (name : Link) (next : IsNextName n names name) where
     spare_blank : (slot : ℕ) → is_outside (shape_of n.config) t.spare slot ≡ false → note_at n.notes slot ≡ Blank
     spare_blank slot out =
         let inside = inside_block n.config.pages_per_block t.spare slot some (in_it (shape_of n.config) t.spare slot out) in
         noted_blank (note_at n.notes slot)
-        (all_range (λ k. is_blank_noted (note_at n.notes k)) (t.spare * n.config.pages_per_block) n.config.pages_per_block blanked slot inside.0 inside.1)
+        (all_range (λ k. is_blank (note_at n.notes k)) (t.spare * n.config.pages_per_block) n.config.pages_per_block blanked slot inside.0 inside.1)
 
     -- a slot outside the spare that is not garbage is needed
     all_needed : HasNoGarbage n t → (slot : ℕ) → slot < slots_of (shape_of n.config) → is_outside (shape_of n.config) t.spare slot ≡ true → needed_of n slot ≡ true
@@ -202,7 +202,7 @@ module _ (s : FlashState) (n : Noted) (t : BlockTable) (m : Matches s n t unsure
 -- the old spare once it was exchanged for a block
 use_old : (t : BlockTable) → IsBlockTable t → (block used : ℕ) → use_of (exchanged t block used) t.spare ≡ record { state = open_state used; used = used }
 use_old t h block used =
-    get_or-set_same (with_spare t block).blocks t.spare (record { state = open_state used; used = used }) no_block
+    get_or-set_same (table_with_spare t block).blocks t.spare (record { state = open_state used; used = used }) no_block
     (rw (length-set, length-set, h.count) h.spare_within)
 
 -- it has room
@@ -213,7 +213,7 @@ pub record HasRoomMade (t : BlockTable) (block used : ℕ) : Type 0 where
 pub room_made : (t : BlockTable) → IsBlockTable t → (block used : ℕ) → IsBlockTable (exchanged t block used) → HasRoomMade t block used
 room_made t h block used h' = by (eqb used 0) refl
   where
-    its_state : state_of (exchanged t block used) t.spare ≡ open_state used
+    its_state : block_state (exchanged t block used) t.spare ≡ open_state used
     its_state = ap (λ (u : BlockUse). u.state) (use_old t h block used)
 
     its_used : used_of (exchanged t block used) t.spare ≡ used

@@ -13,7 +13,7 @@ use Rattle.version_index.specs.Notes.{note_at, note_of, rec_of, with_block_noted
 use Rattle.version_index.specs.Noted.{Noted, IsNoted, with_spare}
 use Rattle.version_index.proofs.Blocks.{outside_it, in_it, inside_block}
 use Rattle.collector.proofs.NotesLeft.{note_at-in, note_at-out}
-use Rattle.die_alloc.specs.BlockTable.{BlockTable, IsBlockTable, block_of, with_spare as table_with}
+use Rattle.die_alloc.specs.BlockTable.{BlockTable, IsBlockTable, block_of_slot, table_with_spare}
 use Rattle.die_alloc.proofs.Changes.{block_within, has_room_not_spare}
 use Rattle.collector.specs.declared.unsure.Unsure.{Unsure}
 use Rattle.collector.specs.declared.unsure.Unsure.TheVariants as unsure
@@ -79,7 +79,7 @@ settled_spare s n t m loss contents note fits none all noted =
       spared = spared_still n m.noted loss t.spare below m.spared note none;
       victim = tt;
       free = λ slot free.
-          let apart = has_room_not_spare t m.table (block_of t.shape slot) (block_within t m.table slot free.within) free.room in
+          let apart = has_room_not_spare t m.table (block_of_slot t.shape slot) (block_within t m.table slot free.within) free.room in
           let out = out_of s.shape t.spare slot (λ e. apart (ap (λ (x : Shape). slot / x.pages_per_block) m.blocks ∙ e)) in
           noted_out s n t unsure.SpareErase m t.spare below contents note fits all other slot out ∙ m.free slot free;
     }
@@ -88,7 +88,7 @@ settled_spare s n t m loss contents note fits none all noted =
 pub settled_victim : (s : FlashState) (n : Noted) (t : BlockTable) (block : Block) (m : Matches s n t (unsure.VictimErase block)) (loss : LossLaw n.config.protocol)
     (contents : Contents) (note : Note) → note ≡ note_of n.config.protocol contents → rec_of note ≡ None →
     AllOfBlock n block.0 (λ slot. slot_at s.image slot ≡ contents) → (filled : IsFilledTo n t.spare) → block.0 < blocks_of (shape_of n.config) → block.0 ≢ t.spare →
-    IsNoted n.config.protocol (with_spare (blocked n block.0 note) block.0) → IsBlockTable (table_with t block.0) → IsBlockTable (exchanged t block.0 filled.0) →
+    IsNoted n.config.protocol (with_spare (blocked n block.0 note) block.0) → IsBlockTable (table_with_spare t block.0) → IsBlockTable (exchanged t block.0 filled.0) →
     Matches s (with_spare (blocked n block.0 note) block.0) (exchanged t block.0 filled.0) unsure.Nothing
 settled_victim s n t block m loss contents note fits none all filled below apart noted mid table =
     let below_table : block.0 < blocks_of t.shape = omega (arith, below, ap blocks_of m.blocks, ap blocks_of m.shape) in

@@ -12,7 +12,7 @@ use Rattle.version_index.specs.Notes.{note_at, note_of}
 use Rattle.version_index.proofs.FoundIn.{found_in_damaged}
 use Rattle.version_index.specs.Noted.{Noted, IsNoted, damaged_at, pinned_names}
 use Rattle.record_list.specs.Written.{IsDispensable}
-use Rattle.die_alloc.specs.BlockTable.{BlockTable, IsBlockTable, IsFree, HasRoom, block_of, used_of, with_slot}
+use Rattle.die_alloc.specs.BlockTable.{BlockTable, IsBlockTable, IsFree, HasRoom, block_of_slot, used_of, with_slot}
 use Rattle.die_alloc.specs.declared.block_use.BlockUse.{BlockUse}
 use Rattle.die_alloc.proofs.Changes.{use_of-with_slot_same, use_of-with_slot_other}
 use Rattle.collector.specs.declared.unsure.Unsure.{Unsure}
@@ -107,10 +107,10 @@ module _ (s : FlashState) (n : Noted) (t t' : BlockTable) (u : Unsure) (m : Matc
 
 -- a slot that is used is free no more, and those that are free were free
 pub free_with_slot : (t : BlockTable) → IsBlockTable t → (at : ℕ) → IsFree t at → (slot : ℕ) → IsFree (with_slot t at) slot → IsFree t slot × (slot ≢ at)
-free_with_slot t h at free slot f = elim (cases_Bool (block_of t.shape slot == block_of t.shape at)) [
+free_with_slot t h at free slot f = elim (cases_Bool (block_of_slot t.shape slot == block_of_slot t.shape at)) [
   | inr other ↦
-      (let apart = unequal (block_of t.shape slot) (block_of t.shape at) other in
-      let same = use_of-with_slot_other t at (block_of t.shape slot) apart in (
+      (let apart = unequal (block_of_slot t.shape slot) (block_of_slot t.shape at) other in
+      let same = use_of-with_slot_other t at (block_of_slot t.shape slot) apart in (
         record {
           within = f.within;
           room = elim f.room [
@@ -119,17 +119,17 @@ free_with_slot t h at free slot f = elim (cases_Bool (block_of t.shape slot == b
           ];
           unused = subst (λ k. k ≤ slot % t.shape.pages_per_block) (ap (λ (x : BlockUse). x.used) same) f.unused;
         },
-        λ e. apart (ap (block_of t.shape) e),
+        λ e. apart (ap (block_of_slot t.shape) e),
       ))
   | inl here ↦
-      (let block : block_of t.shape slot ≡ block_of t.shape at = eqb-true (block_of t.shape slot) (block_of t.shape at) here in
+      (let block : block_of_slot t.shape slot ≡ block_of_slot t.shape at = eqb-true (block_of_slot t.shape slot) (block_of_slot t.shape at) here in
       let same = use_of-with_slot_same t h at free.within in
-      let used : used_of (with_slot t at) (block_of t.shape slot) ≡ at % t.shape.pages_per_block + 1 = ap (used_of (with_slot t at)) block ∙ ap (λ (x : BlockUse). x.used) same in
+      let used : used_of (with_slot t at) (block_of_slot t.shape slot) ≡ at % t.shape.pages_per_block + 1 = ap (used_of (with_slot t at)) block ∙ ap (λ (x : BlockUse). x.used) same in
       let behind : at % t.shape.pages_per_block + 1 ≤ slot % t.shape.pages_per_block = omega (arith, f.unused, used) in (
         record {
           within = f.within;
           room = subst (HasRoom t) (sym block) free.room;
-          unused = (let low : used_of t (block_of t.shape at) ≤ at % t.shape.pages_per_block = free.unused in
+          unused = (let low : used_of t (block_of_slot t.shape at) ≤ at % t.shape.pages_per_block = free.unused in
               subst (λ b. used_of t b ≤ slot % t.shape.pages_per_block) (sym block) (omega (arith, low, behind)));
         },
         λ e. (let eq : slot % t.shape.pages_per_block ≡ at % t.shape.pages_per_block = ap (λ k. k % t.shape.pages_per_block) e in absurd (omega (arith, eq, behind))),

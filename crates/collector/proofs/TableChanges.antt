@@ -8,7 +8,7 @@ use Rattle.tx_types.specs.Config.{blocks_of}
 use Rattle.tx_types.specs.declared.config.BlockState.{BlockState}
 use Rattle.tx_types.specs.declared.config.BlockState.TheVariants.{Spare, Clean, Part, Shut}
 use Rattle.die_alloc.specs.declared.block_use.BlockUse.{BlockUse}
-use Rattle.die_alloc.specs.BlockTable.{BlockTable, IsBlockTable, MayHave, IsFree, block_of, use_of, with_use, with_slot, with_spare}
+use Rattle.die_alloc.specs.BlockTable.{BlockTable, IsBlockTable, MayHave, IsFree, block_of_slot, use_of, with_use, with_slot, table_with_spare}
 use Rattle.die_alloc.proofs.Changes.{block_within, has_room_not_spare, use_of-with_use_same, use_of-with_use_other, use_of-with_spare_same, use_of-with_spare_old, use_of-with_spare_other}
 use Rattle.collector.specs.Collecting.{exchanged, open_state}
 
@@ -51,7 +51,7 @@ slot_table t h at free =
     let least = h.numbers.pages_least in
     let low : at % t.shape.pages_per_block < t.shape.pages_per_block = mod-lt at (omega arith) in
     let count = at % t.shape.pages_per_block + 1 in
-    use_table t h (block_of t.shape at) (if count == t.shape.pages_per_block then Shut else Part) count within (has_room_not_spare t h (block_of t.shape at) within free.room)
+    use_table t h (block_of_slot t.shape at) (if count == t.shape.pages_per_block then Shut else Part) count within (has_room_not_spare t h (block_of_slot t.shape at) within free.room)
     (no_spare (count == t.shape.pages_per_block)) (may (cases_Bool (count == t.shape.pages_per_block)) low)
   where
     no_spare : (b : Bool) → (if b then Shut else Part) ≢ Spare
@@ -70,7 +70,7 @@ slot_table t h at free =
         rw more (omega arith, omega arith))
 
 -- a block becomes the spare
-pub spare_table : (t : BlockTable) → IsBlockTable t → (block : ℕ) → block < blocks_of t.shape → block ≢ t.spare → IsBlockTable (with_spare t block)
+pub spare_table : (t : BlockTable) → IsBlockTable t → (block : ℕ) → block < blocks_of t.shape → block ≢ t.spare → IsBlockTable (table_with_spare t block)
 spare_table t h block within apart = record {
   numbers = h.numbers;
   count = length-set (set t.blocks t.spare (record { state = Clean; used = 0 })) block (record { state = Spare; used = 0 })
@@ -78,10 +78,10 @@ spare_table t h block within apart = record {
   die = h.die;
   spare_within = within;
   one_spare = λ b low. elim (equal_or b block) [
-    | inl e ↦ (λ spare. e, λ is. ap (λ (u : BlockUse). u.state) (ap (use_of (with_spare t block)) e ∙ use_of-with_spare_same t h block within))
+    | inl e ↦ (λ spare. e, λ is. ap (λ (u : BlockUse). u.state) (ap (use_of (table_with_spare t block)) e ∙ use_of-with_spare_same t h block within))
     | inr away ↦ elim (equal_or b t.spare) [
       | inl old ↦
-          (let its = ap (λ (u : BlockUse). u.state) (ap (use_of (with_spare t block)) old ∙ use_of-with_spare_old t h block (λ e. apart (sym e))) in
+          (let its = ap (λ (u : BlockUse). u.state) (ap (use_of (table_with_spare t block)) old ∙ use_of-with_spare_old t h block (λ e. apart (sym e))) in
           (λ spare. clean_spare b block (sym its ∙ spare), λ is. absurd (away is)))
       | inr other ↦
           (let same = ap (λ (u : BlockUse). u.state) (use_of-with_spare_other t block b away other) in
@@ -89,9 +89,9 @@ spare_table t h block within apart = record {
     ]
   ];
   bounds = λ b low. elim (equal_or b block) [
-    | inl e ↦ subst (IsKept t) (sym (ap (use_of (with_spare t block)) e ∙ use_of-with_spare_same t h block within)) refl
+    | inl e ↦ subst (IsKept t) (sym (ap (use_of (table_with_spare t block)) e ∙ use_of-with_spare_same t h block within)) refl
     | inr away ↦ elim (equal_or b t.spare) [
-      | inl old ↦ subst (IsKept t) (sym (ap (use_of (with_spare t block)) old ∙ use_of-with_spare_old t h block (λ e. apart (sym e)))) refl
+      | inl old ↦ subst (IsKept t) (sym (ap (use_of (table_with_spare t block)) old ∙ use_of-with_spare_old t h block (λ e. apart (sym e)))) refl
       | inr other ↦ subst (IsKept t) (sym (use_of-with_spare_other t block b away other)) (h.bounds b low)
     ]
   ];
@@ -104,7 +104,7 @@ spare_table t h block within apart = record {
 pub exchanged_table : (t : BlockTable) → IsBlockTable t → (block : ℕ) → block < blocks_of t.shape → block ≢ t.spare → (used : ℕ) → used < t.shape.pages_per_block →
     IsBlockTable (exchanged t block used)
 exchanged_table t h block within apart used few =
-    use_table (with_spare t block) (spare_table t h block within apart) t.spare (open_state used) used h.spare_within (λ e. apart (sym e)) (no_spare (used == 0))
+    use_table (table_with_spare t block) (spare_table t h block within apart) t.spare (open_state used) used h.spare_within (λ e. apart (sym e)) (no_spare (used == 0))
     (may (cases_Bool (used == 0)))
   where
     no_spare : (b : Bool) → (if b then Clean else Part) ≢ Spare

@@ -19,7 +19,7 @@ use Rattle.version_index.proofs.Blocks.{inside_block}
 use Rattle.version_index.proofs.FoundIn.{noted_from}
 use Rattle.version_index.proofs.NotedFacts.{other_garbage}
 use Rattle.version_index.proofs.Places.{in_at, one_in_slot}
-use Rattle.die_alloc.specs.BlockTable.{BlockTable, state_of}
+use Rattle.die_alloc.specs.BlockTable.{BlockTable, block_state}
 use Rattle.die_alloc.proofs.Changes.{block_within}
 use Rattle.collector.specs.declared.unsure.Unsure.TheVariants as unsure
 use Rattle.collector.specs.Matches.{Matches, AllOfBlock}
@@ -69,7 +69,7 @@ module _ (s : FlashState) (n : Noted) (t : BlockTable) (m : Matches s n t unsure
   needed_outside : (slot : ℕ) → slot < slots_of (shape_of n.config) → slot / n.config.pages_per_block ≢ t.spare → is_blank (note_at n.notes slot) ≡ false → needed_of n slot ≡ true
   needed_outside slot within apart full =
       let block = slot / n.config.pages_per_block in
-      let shut = is_shut (state_of t block) in
+      let shut = is_shut (block_state t block) in
       let other : is_slot block n.spare ≡ false = ap (is_slot block) m.spare ∙ ne_eqb t.spare block (λ e. apart (sym e)) in
       let none = sym (other_garbage n block shut other) ∙ clear block (below slot within) in
       let place = inside_block n.config.pages_per_block block slot per_some refl in

@@ -11,7 +11,7 @@ use Rattle.record_list.specs.WrittenChanges.{WrittenLossLaw}
 use Rattle.version_index.specs.declared.note.Note.TheVariants.{Blank}
 use Rattle.version_index.specs.Noted.{Noted, IsNoted, CanLose, current_of, held_of, erased, with_spare}
 use Rattle.version_index.proofs.NotedChanges.{block_noted}
-use Rattle.die_alloc.specs.BlockTable.{BlockTable, IsBlockTable, with_spare as table_with}
+use Rattle.die_alloc.specs.BlockTable.{BlockTable, IsBlockTable, table_with_spare}
 use Rattle.collector.specs.declared.unsure.Unsure.{Unsure}
 use Rattle.collector.specs.declared.unsure.Unsure.TheVariants as unsure
 use Rattle.collector.specs.Matches.{Matches, CanSpare, IsFilledBy}
@@ -68,7 +68,7 @@ module _ (p : Protocol) (loss : LossLaw p) (written_loss : WrittenLossLaw p) (s 
   loses = can_lose s n t m b.0 spared
 
   module _ (x : Unit {0}) (ok : r ≡ Ok x) (mid n' : Noted) (noted : mid ≡ erased n b.0) (changed : n' ≡ with_spare mid b.0)
-      (t' : BlockTable) (table : t' ≡ exchanged t b.0 used) (between : IsBlockTable (table_with t b.0)) (good : IsBlockTable t') where
+      (t' : BlockTable) (table : t' ≡ exchanged t b.0 used) (between : IsBlockTable (table_with_spare t b.0)) (good : IsBlockTable t') where
     done : Erases s s' b.0 (Ok tt)
     done = subst (λ q. Erases s s' b.0 q) ok e
 

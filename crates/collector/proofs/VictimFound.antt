@@ -15,7 +15,7 @@ use Rattle.version_index.specs.Notes.{found_in, note_at, note_of, rec_of}
 use Rattle.version_index.specs.Noted.{Noted, CanLose, pinned_names, erased, lost, with_spare}
 use Rattle.version_index.proofs.Blocks.{in_it}
 use Rattle.version_index.proofs.NotedChanges.{block_noted}
-use Rattle.die_alloc.specs.BlockTable.{BlockTable, IsBlockTable, with_spare as table_with}
+use Rattle.die_alloc.specs.BlockTable.{BlockTable, IsBlockTable, table_with_spare}
 use Rattle.collector.specs.declared.unsure.Unsure.TheVariants as unsure
 use Rattle.collector.specs.Collecting.{is_blank_block, exchanged}
 use Rattle.collector.specs.Looking.{Looks}
@@ -92,7 +92,7 @@ module _ (p : Protocol) (loss : LossLaw p) (s s1 : FlashState) (n : Noted) (t : 
 
   module _ (contents : Contents) (note : Note) (fits : note ≡ note_of n.config.protocol contents) (none : rec_of note ≡ None)
       (mid n' : Noted) (noted : mid ≡ blocked n b.0 note) (changed : n' ≡ with_spare mid b.0)
-      (t' : BlockTable) (used : ℕ) (held : used ≡ records_held n t.spare) (table : t' ≡ exchanged t b.0 used) (between : IsBlockTable (table_with t b.0)) (good : IsBlockTable t') where
+      (t' : BlockTable) (used : ℕ) (held : used ≡ records_held n t.spare) (table : t' ≡ exchanged t b.0 used) (between : IsBlockTable (table_with_spare t b.0)) (good : IsBlockTable t') where
     changed_to : n' ≡ with_spare (blocked n b.0 note) b.0
     changed_to = changed ∙ ap (λ k. with_spare k b.0) noted
 
@@ -113,7 +113,7 @@ module _ (p : Protocol) (loss : LossLaw p) (s s1 : FlashState) (n : Noted) (t : 
   -- it was
   pub victim_blank : block_reads_as_noted n s.image b.0 ≡ false → is_blank_block n s.image b.0 ≡ true →
       (mid n' : Noted) → mid ≡ erased n b.0 → n' ≡ with_spare mid b.0 → (t' : BlockTable) (used : ℕ) → used ≡ records_held n t.spare → t' ≡ exchanged t b.0 used →
-      IsBlockTable (table_with t b.0) → IsBlockTable t' → Matches s1 n' t' unsure.Nothing
+      IsBlockTable (table_with_spare t b.0) → IsBlockTable t' → Matches s1 n' t' unsure.Nothing
   victim_blank e blanks mid n' noted changed t' used held table between good =
       victim_now blank Blank refl refl mid n' noted changed t' used held table between good
       (blank_all s1 n t (unsure.VictimErase b) m b.0 exists m.place.2 (as_noted false e) (as_blank true blanks))
@@ -121,7 +121,7 @@ module _ (p : Protocol) (loss : LossLaw p) (s s1 : FlashState) (n : Noted) (t : 
   -- half of it was
   pub victim_damaged : block_reads_as_noted n s.image b.0 ≡ false → is_blank_block n s.image b.0 ≡ false →
       (mid n' : Noted) → mid ≡ lost n b.0 → n' ≡ with_spare mid b.0 → (t' : BlockTable) (used : ℕ) → used ≡ records_held n t.spare → t' ≡ exchanged t b.0 used →
-      IsBlockTable (table_with t b.0) → IsBlockTable t' → Matches s1 n' t' unsure.Nothing
+      IsBlockTable (table_with_spare t b.0) → IsBlockTable t' → Matches s1 n' t' unsure.Nothing
   victim_damaged e blanks mid n' noted changed t' used held table between good =
       victim_now damaged Damaged refl refl mid n' noted changed t' used held table between good
       (damaged_all s1 n t (unsure.VictimErase b) m b.0 exists m.place.2 (as_noted false e) (as_blank false blanks))

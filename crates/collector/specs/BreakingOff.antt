@@ -16,11 +16,13 @@ start_of n block = block * n.config.pages_per_block
 
 -- After some operations the first of the needed slots of a block were copied to the spare, in their order, and no more
 -- was done. The copies of the rest would come next. What is noted says so.
-pub record CopiedFirst (n : Noted) (old : FlashState) (before : List Operation) (spare block : ℕ) (first rest : List ℕ)
+pub record CopiedFirst (n : Noted) (old : FlashState) (before : List Operation) (spare block : ℕ)
+    (first rest : List ℕ)
     (now : Moment) (n' : Noted) : Type 0 where
   pub order : needed_slots n block ≡ first ++ rest
   pub done :
-      Does old.shape (moment_of old) (before ++ copies n.config.page_bytes old.image (start_of n spare) first) now
+      Does old.shape (moment_of old)
+      (before ++ copies n.config.page_bytes old.image (start_of n spare) first) now
   pub noted : n' ≡ copied_from n (start_of n spare) first
 
 -- no operation was broken, and a slot is left to be copied, which was to be read next
@@ -32,18 +34,21 @@ pub record ReadFails (n : Noted) (old new : FlashState) (before : List Operation
   pub copied : CopiedFirst n old before spare block first (from ∷ later) (moment_of new) n'
 
 -- the next slot was read, and the program of its copy was broken
-pub record CopyBreaks (n : Noted) (old new : FlashState) (before : List Operation) (spare block : ℕ) (from to : ℕ)
+pub record CopyBreaks (n : Noted) (old new : FlashState) (before : List Operation) (spare block : ℕ)
+    (from to : ℕ)
     (n' : Noted) : Type 0 where
   pub first : List ℕ
   pub later : List ℕ
   pub between : Moment
   pub copied : CopiedFirst n old before spare block first (from ∷ later) between n'
   pub place : to ≡ start_of n spare + length first
-  pub torn : Torn old.shape between (copy_program n.config.page_bytes old.image to from) (moment_of new)
+  pub torn : Torn old.shape between (copy_program n.config.page_bytes old.image to from)
+      (moment_of new)
   pub reads : new.reads ≡ reads_after (length first + 1) old.reads
 
 -- all copies were done, and the erase of the block was broken
-pub record EraseBreaks (n : Noted) (old new : FlashState) (before : List Operation) (spare block : ℕ)
+pub record EraseBreaks (n : Noted) (old new : FlashState) (before : List Operation)
+    (spare block : ℕ)
     (n' : Noted) : Type 0 where
   pub between : Moment
   pub copied : CopiedFirst n old before spare block (needed_slots n block) [] between n'
@@ -61,12 +66,15 @@ abbrev pub CopyBreaksOff : Noted → FlashState → FlashState → Slot → Slot
 CopyBreaksOff n old new from to u =
     ((u ≡ unsure.Nothing) × (moment_of new ≡ moment_of old))
     ⊎ ((u ≡ unsure.Copy from to)
-    × Torn old.shape (moment_of old) (copy_program n.config.page_bytes old.image to.0 from.0) (moment_of new)
+    × Torn old.shape (moment_of old) (copy_program n.config.page_bytes old.image to.0 from.0)
+    (moment_of new)
     × (new.reads ≡ counted old.reads))
 
 -- the copies of a collection break off, after some operations, and this place is unsure then
-abbrev pub CopiesBreakOff : Noted → FlashState → FlashState → List Operation → ℕ → ℕ → Noted → Unsure → Type 0
-CopiesBreakOff n old new before spare block n' unsure.Nothing = ReadFails n old new before spare block n'
+abbrev pub CopiesBreakOff : Noted → FlashState → FlashState → List Operation → ℕ → ℕ → Noted →
+    Unsure → Type 0
+CopiesBreakOff n old new before spare block n' unsure.Nothing =
+    ReadFails n old new before spare block n'
 CopiesBreakOff n old new before spare block n' (unsure.Copy from to) =
     CopyBreaks n old new before spare block from.0 to.0 n'
 CopiesBreakOff n old new before spare block n' (unsure.Own at rec) = ⊥
@@ -79,7 +87,9 @@ BreaksOff n old new spare block n' unsure.SpareErase = CleaningBreaks n old new 
 BreaksOff n old new spare block n' unsure.Nothing =
     ReadFails (noted_cleaned n spare) old new (cleaning n old.image spare) spare block n'
 BreaksOff n old new spare block n' (unsure.Copy from to) =
-    CopyBreaks (noted_cleaned n spare) old new (cleaning n old.image spare) spare block from.0 to.0 n'
+    CopyBreaks (noted_cleaned n spare) old new
+    (cleaning n old.image spare) spare block from.0 to.0 n'
 BreaksOff n old new spare block n' (unsure.VictimErase b) =
-    (b.0 ≡ block) × EraseBreaks (noted_cleaned n spare) old new (cleaning n old.image spare) spare block n'
+    (b.0 ≡ block)
+    × EraseBreaks (noted_cleaned n spare) old new (cleaning n old.image spare) spare block n'
 BreaksOff n old new spare block n' (unsure.Own at rec) = ⊥

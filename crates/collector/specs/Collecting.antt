@@ -11,17 +11,17 @@ use Rattle.flash_model.specs.Operations.{Operation, program, erase, moment_of}
 use Rattle.flash_model.specs.Moves.{Does}
 use Rattle.tx_types.specs.declared.config.Slot.{Slot}
 use Rattle.version_index.specs.Notes.{note_at}
-use Rattle.version_index.specs.Noted.{Noted, needed_of, copied, erased, with_spare as with_spare_noted, is_blank as is_blank_noted}
-use Rattle.die_alloc.specs.BlockTable.{BlockTable, with_use, with_spare}
+use Rattle.version_index.specs.Noted.{Noted, needed_of, copied, erased, with_spare, is_blank}
+use Rattle.die_alloc.specs.BlockTable.{BlockTable, with_use, table_with_spare}
 use Rattle.die_alloc.specs.NextSlot.{next_slot, after_next_slot}
 use Rattle.collector.specs.Looking.{reads_after}
 use Rattle.collector.specs.Matches.{IsFilledBy, CanSpare}
 use Rattle.collector.specs.Victim.{IsVictim}
 
-abbrev pub is_blank : Contents → Bool
-is_blank blank = true
-is_blank damaged = false
-is_blank (complete bytes spare) = false
+abbrev pub is_blank_slot : Contents → Bool
+is_blank_slot blank = true
+is_blank_slot damaged = false
+is_blank_slot (complete bytes spare) = false
 
 -- the slots of a block
 abbrev pub slots_in : Noted → ℕ → List ℕ
@@ -29,7 +29,8 @@ slots_in n block = range_with_len (block * n.config.pages_per_block) n.config.pa
 
 -- whether each slot of a block is blank
 abbrev pub is_blank_block : Noted → List Contents → ℕ → Bool
-is_blank_block n image block = list_all (λ slot. is_blank (slot_at image slot)) (slots_in n block)
+is_blank_block n image block =
+    list_all (λ slot. is_blank_slot (slot_at image slot)) (slots_in n block)
 
 -- the spare is erased where it is not all blank
 abbrev pub cleaning : Noted → List Contents → ℕ → List Operation
@@ -51,14 +52,16 @@ copy_program page_bytes image to from =
 -- the programs of the copies of these slots, one after another from a slot of the spare on
 abbrev pub copies : ℕ → List Contents → ℕ → List ℕ → List Operation
 copies page_bytes image to [] = []
-copies page_bytes image to (from ∷ rest) = copy_program page_bytes image to from ∷ copies page_bytes image (to + 1) rest
+copies page_bytes image to (from ∷ rest) =
+    copy_program page_bytes image to from ∷ copies page_bytes image (to + 1) rest
 
 -- the operations that collect a block: the spare is made blank, what is needed in the block is copied there, and the
 -- block is erased
 abbrev pub collecting : Noted → List Contents → ℕ → ℕ → List Operation
 collecting n image spare block =
     cleaning n image spare
-    ++ copies n.config.page_bytes image (spare * n.config.pages_per_block) (needed_slots (noted_cleaned n spare) block)
+    ++ copies n.config.page_bytes image (spare * n.config.pages_per_block)
+    (needed_slots (noted_cleaned n spare) block)
     ++ erase block ∷ []
 
 -- the state of a block whose first slots are used, of which the last is not
@@ -67,7 +70,7 @@ open_state used = if used == 0 then Clean else Part
 
 -- the block is the spare now, and the old spare has so many used slots
 abbrev pub exchanged : BlockTable → ℕ → ℕ → BlockTable
-exchanged t block used = with_use (with_spare t block) t.spare (open_state used) used
+exchanged t block used = with_use (table_with_spare t block) t.spare (open_state used) used
 
 -- a slot of the block is not needed
 abbrev pub HasUnneeded : Noted → ℕ → Type 0
@@ -75,7 +78,7 @@ HasUnneeded n block = Any (λ slot. needed_of n slot ≡ false) (slots_in n bloc
 
 -- whether each slot of a block is noted as blank
 abbrev pub is_noted_blank : Noted → ℕ → Bool
-is_noted_blank n block = list_all (λ slot. is_blank_noted (note_at n.notes slot)) (slots_in n block)
+is_noted_blank n block = list_all (λ slot. is_blank (note_at n.notes slot)) (slots_in n block)
 
 -- a slot reads blank
 abbrev pub reads_blank : Seen → Bool
@@ -86,7 +89,8 @@ reads_blank seen.Damaged = false
 -- a copy that was done: one read and one program
 pub record CopyDone (n : Noted) (old new : FlashState) (from to : ℕ) : Type 0 where
   pub programmed :
-      Does old.shape (moment_of old) (copy_program n.config.page_bytes old.image to from ∷ []) (moment_of new)
+      Does old.shape (moment_of old) (copy_program n.config.page_bytes old.image to from ∷ [])
+      (moment_of new)
   pub reads : new.reads ≡ counted old.reads
 
 -- what is noted once the records of these slots stand in the spare too, one after another from a slot of it on
@@ -99,7 +103,9 @@ copied_from n to (from ∷ rest) = copied_from (copied n from to) (to + 1) rest
 abbrev pub collected : Noted → ℕ → ℕ → Noted
 collected n spare block =
     let m = noted_cleaned n spare in
-    with_spare_noted (erased (copied_from m (spare * n.config.pages_per_block) (needed_slots m block)) block) block
+    with_spare
+    (erased (copied_from m (spare * n.config.pages_per_block)
+    (needed_slots m block)) block) block
 
 -- The copies of what is needed in a block, in the order of its slots, from the first slot of the spare on: so many,
 -- each of them one read and one program. Then nothing that is wanted stands in the block alone.
@@ -107,7 +113,8 @@ pub record CopiesDone (n n' : Noted) (old new : FlashState) (spare block used : 
   pub count : used ≡ length (needed_slots n block)
   pub programmed :
       Does old.shape (moment_of old)
-      (copies n.config.page_bytes old.image (spare * n.config.pages_per_block) (needed_slots n block)) (moment_of new)
+      (copies n.config.page_bytes old.image (spare * n.config.pages_per_block)
+      (needed_slots n block)) (moment_of new)
   pub noted : n' ≡ copied_from n (spare * n.config.pages_per_block) (needed_slots n block)
   pub filled : IsFilledBy n' spare used
   pub spared : CanSpare n' block
@@ -115,9 +122,13 @@ pub record CopiesDone (n n' : Noted) (old new : FlashState) (spare block used : 
 
 -- A block was collected for the sake of room: of the blocks with the most garbage, once the spare is blank, the lowest.
 -- This is the slot that is programmed next then.
-pub record CollectsForRoom (n : Noted) (t : BlockTable) (n' : Noted) (t' : BlockTable) (at : Slot) : Type 0 where
+pub record CollectsForRoom (n : Noted) (t : BlockTable) (n' : Noted) (t' : BlockTable)
+    (at : Slot) : Type 0 where
   pub victim : ℕ
   pub is_victim : IsVictim (noted_cleaned n t.spare) t victim
   pub noted : n' ≡ collected n t.spare victim
-  pub slot : next_slot (exchanged t victim (length (needed_slots (noted_cleaned n t.spare) victim))) ≡ Some at
-  pub table : t' ≡ after_next_slot (exchanged t victim (length (needed_slots (noted_cleaned n t.spare) victim)))
+  pub slot : next_slot (exchanged t victim (length (needed_slots (noted_cleaned n t.spare) victim)))
+      ≡ Some at
+  pub table : t'
+      ≡ after_next_slot
+      (exchanged t victim (length (needed_slots (noted_cleaned n t.spare) victim)))

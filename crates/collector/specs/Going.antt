@@ -24,7 +24,8 @@ is_going n page below block =
 
 -- how many blocks hold such a record
 unfoldable pub blocks_to_go : Noted → ℕ → ℕ → ℕ
-blocks_to_go n page below = count_by (is_going n page below) (range_with_len 0 (blocks_of (shape_of n.config)))
+blocks_to_go n page below =
+    count_by (is_going n page below) (range_with_len 0 (blocks_of (shape_of n.config)))
 
 -- a transaction in progress that has a name
 pub record IsOfOther (n : Noted) (names : List Link) (name : Link) : Type 0 where
@@ -35,7 +36,8 @@ pub record IsOfOther (n : Noted) (names : List Link) (name : Link) : Type 0 wher
 
 -- a pinned name is current, or one of these, or of another transaction in progress, which shares no page with them
 abbrev pub IsPinBeside : Noted → List Link → Link → Type 0
-IsPinBeside n names name = (current_of n name.page ≡ name.version) ⊎ (Contains names name ⊎ IsOfOther n names name)
+IsPinBeside n names name =
+    (current_of n name.page ≡ name.version) ⊎ (Contains names name ⊎ IsOfOther n names name)
 
 -- A name that a transaction in progress writes next: it is absent. All names of the transaction are pinned, and what is
 -- pinned beside them is current or of other transactions in progress.
@@ -61,14 +63,18 @@ IsTreated n t block n' t' =
 
 -- Blocks were treated in turn, from these tables on: each was the lowest that then held a record which must go before
 -- this version of a page is programmed.
-pub data TreatsInTurn (page below : ℕ) (n : Noted) (t : BlockTable) : Noted → BlockTable → Type 0 where
+pub data TreatsInTurn (page below : ℕ) (n : Noted) (t : BlockTable) : Noted → BlockTable →
+    Type 0 where
   none : TreatsInTurn page below n t n t
-  one_more : (n' n'' : Noted) → (t' t'' : BlockTable) → (block : ℕ) → TreatsInTurn page below n t n' t' →
-      block_to_go n' page below ≡ Some block → IsTreated n' t' block n'' t'' → TreatsInTurn page below n t n'' t''
+  one_more : (n' n'' : Noted) → (t' t'' : BlockTable) → (block : ℕ) →
+      TreatsInTurn page below n t n' t' →
+      block_to_go n' page below ≡ Some block → IsTreated n' t' block n'' t'' →
+      TreatsInTurn page below n t n'' t''
 
 -- each record that is noted afterwards was noted before
 abbrev pub HasNoNewRecord : Noted → Noted → Type 0
-HasNoNewRecord old new = All (λ f. Any (λ g. g.rec ≡ f.rec) (found_in old.notes)) (found_in new.notes)
+HasNoNewRecord old new =
+    All (λ f. Any (λ g. g.rec ≡ f.rec) (found_in old.notes)) (found_in new.notes)
 
 -- copying what is needed in a block takes fewer programs than it has slots, and no erase
 pub record CostsCopying (pages_per_block : ℕ) (old new : FlashState) : Type 0 where

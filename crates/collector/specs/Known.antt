@@ -44,7 +44,8 @@ contents_known n spare unsure image slot contents =
 
 unfoldable pub known_image : Noted → ℕ → Unsure → List Contents → List Contents
 known_image n spare unsure image =
-    map (λ (slot, contents). contents_known n spare unsure image slot contents) (enumerate_from 0 image)
+    map (λ (slot, contents). contents_known n spare unsure image slot contents)
+    (enumerate_from 0 image)
 
 -- what the known image has at a page: the bytes that the flash has under the name of the page's current record
 abbrev pub page_known : Noted → List Contents → ℕ → Option (List ℕ)

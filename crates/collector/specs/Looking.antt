@@ -11,7 +11,8 @@ reads_after count reads = if count == 0 then reads else counted_by count reads
 
 -- a count of reads once no slot was read, or so many slots, or fewer
 abbrev pub ReadsAtMost : ℕ → ℕ → ℕ → Type 0
-ReadsAtMost count old new = (new ≡ old) ⊎ ((fewer : ℕ) × (fewer ≤ count) × (new ≡ counted_by fewer old))
+ReadsAtMost count old new =
+    (new ≡ old) ⊎ ((fewer : ℕ) × (fewer ≤ count) × (new ≡ counted_by fewer old))
 
 -- so many slots are read, or fewer where one of them can't be read
 pub record Looks (old new : FlashState) (count : ℕ) (broken : Bool) : Type 0 where

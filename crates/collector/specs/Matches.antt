@@ -19,7 +19,8 @@ use Rattle.collector.specs.Known.{is_unsure}
 -- each slot of a block passes the test
 abbrev pub AllOfBlock : Noted → ℕ → (ℕ → Type 0) → Type 0
 AllOfBlock n block P =
-    (slot : ℕ) → slot < slots_of (shape_of n.config) → slot / n.config.pages_per_block ≡ block → P slot
+    (slot : ℕ) → slot < slots_of (shape_of n.config) → slot / n.config.pages_per_block ≡ block →
+    P slot
 
 -- a slot is noted as it reads
 abbrev pub IsNotedAt : List Contents → Noted → ℕ → Type 0
@@ -35,7 +36,9 @@ IsErasing image n block =
 -- each record that is noted in a block can be spelled
 abbrev pub HasSpellings : Noted → ℕ → Type 0
 HasSpellings n block =
-    AllOfBlock n block (λ slot. (rec : Rec) → note_at n.notes slot ≡ Holds rec → CanBeSpelled n.config.protocol rec)
+    AllOfBlock n block
+    (λ slot. (rec : Rec) → note_at n.notes slot ≡ Holds rec →
+    CanBeSpelled n.config.protocol rec)
 
 -- what a broken program leaves: the slot blank, or damaged, or with what was asked for
 abbrev pub IsProgramming : List Contents → ℕ → (Contents → Type 0) → Type 0
@@ -44,13 +47,15 @@ IsProgramming image at IsAskedFor =
 
 -- contents with the spelling of a record as their spare area
 abbrev pub SpellsRecord : Noted → Rec → Contents → Type 0
-SpellsRecord n rec contents = (bytes : _) × (contents ≡ complete bytes (spelling n.config.protocol rec))
+SpellsRecord n rec contents =
+    (bytes : _) × (contents ≡ complete bytes (spelling n.config.protocol rec))
 
 -- so many first slots of a block hold records, and those after them, one at least, are blank
 pub record IsFilledBy (n : Noted) (block filled : ℕ) : Type 0 where
   pub within : filled < n.config.pages_per_block
   pub records :
-      (k : ℕ) → k < filled → (rec : Rec) × (note_at n.notes (block * n.config.pages_per_block + k) ≡ Holds rec)
+      (k : ℕ) → k < filled →
+      (rec : Rec) × (note_at n.notes (block * n.config.pages_per_block + k) ≡ Holds rec)
   pub tail :
       (k : ℕ) → filled ≤ k → k < n.config.pages_per_block →
       note_at n.notes (block * n.config.pages_per_block + k) ≡ Blank
@@ -66,7 +71,8 @@ IsPlace image n t (unsure.Own at rec) =
     IsFree t at.0 × (note_at n.notes at.0 ≡ Blank) × CanBeSpelled n.config.protocol rec
     × IsProgramming image at.0 (SpellsRecord n rec)
 IsPlace image n t (unsure.Copy from to) =
-    (to.0 < slots_of (shape_of n.config)) × (to.0 / n.config.pages_per_block ≡ t.spare) × (note_at n.notes to.0 ≡ Blank)
+    (to.0 < slots_of (shape_of n.config)) × (to.0 / n.config.pages_per_block ≡ t.spare)
+    × (note_at n.notes to.0 ≡ Blank)
     × (from.0 < slots_of (shape_of n.config)) × ((rec : Rec) × (note_at n.notes from.0 ≡ Holds rec))
     × IsProgramming image to.0 (λ contents. contents ≡ slot_at image from.0)
 IsPlace image n t unsure.SpareErase = IsErasing image n t.spare × HasSpellings n t.spare
@@ -77,7 +83,8 @@ IsPlace image n t (unsure.VictimErase block) =
 -- each current, each held and each pinned present record has a slot outside the block
 abbrev pub CanSpare : Noted → ℕ → Type 0
 CanSpare n block =
-    IsDispensable n.config.protocol (found_in n.notes) n.config.logical (pinned_names n.pins) (shape_of n.config) block
+    IsDispensable n.config.protocol (found_in n.notes) n.config.logical (pinned_names n.pins)
+    (shape_of n.config) block
 
 -- the block that is being erased, where that is the collected one
 abbrev pub VictimIsSpared : Noted → Unsure → Type 0
@@ -97,7 +104,8 @@ pub record Matches (s : FlashState) (n : Noted) (t : BlockTable) (u : Unsure) : 
   pub table : IsBlockTable t
   pub blocks : t.shape ≡ s.shape
   pub spare : n.spare ≡ Some t.spare
-  pub sure : (slot : ℕ) → slot < slots_of s.shape → is_unsure s.shape t.spare u slot ≡ false → IsNotedAt s.image n slot
+  pub sure : (slot : ℕ) → slot < slots_of s.shape → is_unsure s.shape t.spare u slot ≡ false →
+      IsNotedAt s.image n slot
   pub place : IsPlace s.image n t u
   pub spared : CanSpare n t.spare
   pub victim : VictimIsSpared n u
@@ -108,7 +116,8 @@ pub record Matches (s : FlashState) (n : Noted) (t : BlockTable) (u : Unsure) : 
 pub record CanTakeOwn (n : Noted) (t : BlockTable) (rec : Rec) : Type 0 where
   pub next : IsNextRecord n rec
   pub outside : All (λ name. is_present (found_in n.notes) name ≡ true →
-      is_present (left (is_outside (shape_of n.config) t.spare) (found_in n.notes)) name ≡ true) next.names
+      is_present (left (is_outside (shape_of n.config) t.spare) (found_in n.notes)) name
+      ≡ true) next.names
 
 abbrev pub CanTake : Noted → BlockTable → Unsure → Type 0
 CanTake n t unsure.Nothing = Unit {0}

@@ -22,7 +22,8 @@ pub record Preserves (old new : Noted) : Type 0 where
   pub mentions : new.mentions ≡ old.mentions
   pub current : (page : ℕ) → page < old.config.logical → current_of new page ≡ current_of old page
   pub fewer : (name : Link) → IsThere new name → IsThere old name
-  pub pinned : (name : Link) → Contains (pinned_names old.pins) name → IsThere old name → IsThere new name
+  pub pinned : (name : Link) → Contains (pinned_names old.pins) name → IsThere old name →
+      IsThere new name
   pub present :
       (page : ℕ) → page < old.config.logical → IsThere old (current_name_of old page) →
       IsThere new (current_name_of old page)

@@ -51,8 +51,10 @@ records_held n block = count_by (λ slot. holds_record (note_at n.notes slot)) (
 -- the slot of a program of an open transaction's record: a damaged one is used too
 abbrev pub own_settled : Noted → BlockTable → ℕ → (Noted → Noted) → Contents → Settlement
 own_settled n t at done blank = record { noted = n; table = t; answer = Missing }
-own_settled n t at done damaged = record { noted = damaged_at n at; table = with_slot t at; answer = Missing }
-own_settled n t at done (complete bytes spare) = record { noted = done n; table = with_slot t at; answer = Present }
+own_settled n t at done damaged =
+    record { noted = damaged_at n at; table = with_slot t at; answer = Missing }
+own_settled n t at done (complete bytes spare) =
+    record { noted = done n; table = with_slot t at; answer = Present }
 
 -- the slot of a copy
 abbrev pub copy_settled : Noted → ℕ → ℕ → Contents → Noted
@@ -78,7 +80,8 @@ unchanged n t = record { noted = n; table = t; answer = Other }
 -- what is known once the place was read that was not known
 abbrev pub settlement : Noted → BlockTable → List Contents → Unsure → Settlement
 settlement n t image unsure.Nothing = unchanged n t
-settlement n t image (unsure.Own at rec) = own_settled n t at.0 (λ m. programmed m at.0 rec) (slot_at image at.0)
+settlement n t image (unsure.Own at rec) =
+    own_settled n t at.0 (λ m. programmed m at.0 rec) (slot_at image at.0)
 settlement n t image (unsure.Copy from to) =
     record { noted = copy_settled n from.0 to.0 (slot_at image to.0); table = t; answer = Other }
 settlement n t image unsure.SpareErase =

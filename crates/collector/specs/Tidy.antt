@@ -8,7 +8,8 @@ use Rattle.record_list.specs.Current.{IsCurrent, is_held}
 use Rattle.version_index.specs.Images.{records_in}
 
 -- no slot is damaged, no record stands in two slots, and each record is current, or held, or has one of these names
-pub record IsTidy (protocol : Protocol) (logical : ℕ) (image : List Contents) (names : List Link) : Type 0 where
+pub record IsTidy (protocol : Protocol) (logical : ℕ) (image : List Contents)
+    (names : List Link) : Type 0 where
   pub whole : All (λ contents. contents ≢ damaged) image
   pub once : AllPairs (λ f g. name_of f.rec ≢ name_of g.rec) (records_in protocol image)
   pub wanted : All (λ f. IsCurrent protocol (records_in protocol image) logical f.rec

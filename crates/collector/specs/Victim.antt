@@ -5,7 +5,7 @@ use Rattle.tx_types.specs.declared.config.Block.{Block}
 use Rattle.tx_types.specs.declared.config.BlockState.{BlockState}
 use Rattle.tx_types.specs.declared.config.BlockState.TheVariants.{Spare, Clean, Part, Shut}
 use Rattle.version_index.specs.Noted.{Noted, garbage_of}
-use Rattle.die_alloc.specs.BlockTable.{BlockTable, state_of}
+use Rattle.die_alloc.specs.BlockTable.{BlockTable, block_state}
 
 abbrev pub is_shut : BlockState → Bool
 is_shut Spare = false
@@ -15,13 +15,14 @@ is_shut Shut = true
 
 -- the number of garbage slots of a block: none in the spare
 abbrev pub garbage_in : Noted → BlockTable → ℕ → ℕ
-garbage_in n t block = garbage_of n block (is_shut (state_of t block))
+garbage_in n t block = garbage_of n block (is_shut (block_state t block))
 
 -- the block has garbage, none has more, and none that is lower has as much
 pub record IsVictim (n : Noted) (t : BlockTable) (block : ℕ) : Type 0 where
   pub exists : block < blocks_of (shape_of n.config)
   pub some : 0 < garbage_in n t block
-  pub most : (other : ℕ) → other < blocks_of (shape_of n.config) → garbage_in n t other ≤ garbage_in n t block
+  pub most : (other : ℕ) → other < blocks_of (shape_of n.config) →
+      garbage_in n t other ≤ garbage_in n t block
   pub lowest : (other : ℕ) → other < block → garbage_in n t other < garbage_in n t block
 
 -- no slot outside the spare is garbage

@@ -1,7 +1,7 @@
 ghost use Rattle.std.specs.Prelude.{◌≡◌, ◌≢◌, ◌<◌};
 ghost use Rattle.tx_types.specs.Config.{shape_of, blocks_of};
 ghost use Rattle.version_index.specs.Noted.{with_spare};
-ghost use Rattle.die_alloc.specs.BlockTable.{IsBlockTable, with_spare as table_with_spare};
+ghost use Rattle.die_alloc.specs.BlockTable.{IsBlockTable, table_with_spare};
 ghost use Rattle.collector.specs.Collecting.{exchanged, open_state};
 
 use die_alloc::Blocks;
@@ -20,7 +20,7 @@ pub(crate) fn exchange<R: CommitRule>(
     requires shape { blocks.old.shape ≡ shape_of index.old.config }
     requires exists { block.0 < blocks_of (shape_of index.old.config) }
     requires not_spare { block.0 ≢ blocks.old.spare }
-    requires room { used < index.old.config.pages_per_block }
+    requires not_full { used < index.old.config.pages_per_block }
     ensures noted { index.new ≡ with_spare index.old block.0 }
     ensures blocks { blocks.new ≡ exchanged blocks.old block.0 used }
     ensures between { IsBlockTable (table_with_spare blocks.old block.0) }

@@ -174,7 +174,7 @@ fn make_room<F: Flash, R: CommitRule>(
     ensures sure { OnOk result (unsure.new ≡ Unsure.Nothing) }
     ensures others { (at : Slot) (rec : Rec) → unsure.new ≡ Unsure.Own at rec → ⊥ }
     ensures made { OnOk result (MakesRoom index.old blocks.old index.new blocks.new) }
-    ensures room { OnOk result (IsFull blocks.new → ⊥) }
+    ensures free { OnOk result (IsFull blocks.new → ⊥) }
     ensures records { HasNoNewRecord index.old index.new }
     ensures costs { CostsAtMost index.old.config.pages_per_block 1
         (F.state flash.old) (F.state flash.new) }

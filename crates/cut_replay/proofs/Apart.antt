@@ -7,19 +7,19 @@ use Rattle.tx_engine.specs.ArrayState.{ArrayState, Entry, Pages, entry_of, has_t
 use Rattle.tx_engine.specs.Step.{doubted, settled, settled_entry, settled_mark}
 use Rattle.tx_engine.specs.declared.mark.Mark.{Mark}
 use Rattle.tx_engine.specs.declared.mark.Mark.TheVariants.{Plain, Doubt, Whole}
-use Rattle.cut_replay.specs.Run.{Avoid, AllAvoid, ShareNoPage, HasWhole, HasSame, IsConsistent}
+use Rattle.cut_replay.specs.Run.{Avoid, AllAvoid, EntriesAreApart, HasWhole, HasSame, IsConsistent}
 use Rattle.cut_replay.proofs.Finishes.{found_is_in}
 use Rattle.cut_replay.proofs.Taking.{AreWithin, ArePart, put_length, put_other, put_has, put_append, doubted_avoid, within_kept, part_same, part_less, part_all}
 
-pub share_back : (a b : Entry) → ShareNoPage a b → ShareNoPage b a
+pub share_back : (a b : Entry) → EntriesAreApart a b → EntriesAreApart b a
 share_back a b h =
     all_from (λ w. Avoid w.page a.writes) b.writes (λ w i.
     all_from (λ v. v.page ≢ w.page) a.writes (λ v j e.
     all_at (λ w. w.page ≢ v.page) b.writes w (all_at (λ v. Avoid v.page b.writes) a.writes v h j) i (sym e)))
 
 -- two of them are one, or have no page in common
-pub apart_two : (es : List Entry) (x y : Entry) → AllPairs ShareNoPage es → IsIn es x → IsIn es y → (x ≡ y) ⊎ ShareNoPage x y
-apart_two es x y all i j = elim (in_order ShareNoPage es x y all i j) [
+pub apart_two : (es : List Entry) (x y : Entry) → AllPairs EntriesAreApart es → IsIn es x → IsIn es y → (x ≡ y) ⊎ EntriesAreApart x y
+apart_two es x y all i j = elim (in_order EntriesAreApart es x y all i j) [
   | inl same ↦ inl same
   | inr (inl share) ↦ inr share
   | inr (inr share) ↦ inr (share_back y x share)
@@ -101,36 +101,36 @@ beside_in s e ok i = record {
 abbrev AsDoubted : Pages → Pages → Entry → Type 0
 AsDoubted old new e = ((is_doubted e.mark ≡ true) × HasWhole new e) ⊎ ((is_doubted e.mark ≡ false) × HasSame old new e)
 
-others_avoid : (x : Entry) (es : List Entry) → All (λ e. ShareNoPage x e) es → All (λ w. AllAvoid w.page es) x.writes
+others_avoid : (x : Entry) (es : List Entry) → All (λ e. EntriesAreApart x e) es → All (λ w. AllAvoid w.page es) x.writes
 others_avoid x es h =
     all_from (λ w. AllAvoid w.page es) x.writes (λ w i.
     all_from (λ e. Avoid w.page e.writes) es (λ e j.
-    all_at (λ w. Avoid w.page e.writes) x.writes w (all_at (λ e. ShareNoPage x e) es e h j) i))
+    all_at (λ w. Avoid w.page e.writes) x.writes w (all_at (λ e. EntriesAreApart x e) es e h j) i))
 
-doubted_same : (x : Entry) (es : List Entry) (pages : Pages) → All (λ e. ShareNoPage x e) es → HasSame pages (put pages (doubted es)) x
+doubted_same : (x : Entry) (es : List Entry) (pages : Pages) → All (λ e. EntriesAreApart x e) es → HasSame pages (put pages (doubted es)) x
 doubted_same x es pages h =
     all_from (λ w. page_at (put pages (doubted es)) w.page ≡ page_at pages w.page) x.writes (λ w i.
     put_other w.page (doubted es) pages (doubted_avoid w.page es (all_at (λ w. AllAvoid w.page es) x.writes w (others_avoid x es h) i)))
 
 record AreWell (es : List Entry) (pages : Pages) : Type 0 where
   distinct : All (λ e. AllPairs (λ v w. v.page ≢ w.page) e.writes) es
-  apart : AllPairs ShareNoPage es
+  apart : AllPairs EntriesAreApart es
   within : All (λ e. AreWithin pages e.writes) es
 
 well_tail : (x : Entry) (es : List Entry) (old new : Pages) → length new ≡ length old → AreWell (x ∷ es) old → AreWell es new
 well_tail x es old new long h = record {
   distinct = All-tail (λ e. AllPairs (λ v w. v.page ≢ w.page) e.writes) x es h.distinct;
-  apart = pairs_tail ShareNoPage x es h.apart;
+  apart = pairs_tail EntriesAreApart x es h.apart;
   within = all_from (λ e. AreWithin new e.writes) es (λ e i. within_kept old new e.writes long (all_at (λ e. AreWithin old e.writes) es e (All-tail (λ e. AreWithin old e.writes) x es h.within) i));
 }
 
 -- with the first of them, and then the others
 first_doubted : (x : Entry) (es : List Entry) (pages : Pages) (b : Bool) → is_doubted x.mark ≡ b → AreWell (x ∷ es) pages → AsDoubted pages (put pages (cond b (x.writes ++ doubted es) (doubted es))) x
 first_doubted x es pages b is h =
-    let others : All (λ e. ShareNoPage x e) es = all_from (λ e. ShareNoPage x e) es (λ e i. pairs_head ShareNoPage x es e h.apart i) in
+    let others : All (λ e. EntriesAreApart x e) es = all_from (λ e. EntriesAreApart x e) es (λ e i. pairs_head EntriesAreApart x es e h.apart i) in
     by b is others
   where
-    by : (b : Bool) → is_doubted x.mark ≡ b → All (λ e. ShareNoPage x e) es → AsDoubted pages (put pages (cond b (x.writes ++ doubted es) (doubted es))) x
+    by : (b : Bool) → is_doubted x.mark ≡ b → All (λ e. EntriesAreApart x e) es → AsDoubted pages (put pages (cond b (x.writes ++ doubted es) (doubted es))) x
     by true is others =
         let taken = put_has x.writes pages (All-head (λ e. AllPairs (λ v w. v.page ≢ w.page) e.writes) x es h.distinct) (All-head (λ e. AreWithin pages e.writes) x es h.within) in
         inl (
@@ -140,7 +140,7 @@ first_doubted x es pages b is h =
         )
     by false is others = inr (is, doubted_same x es pages others)
 
-later_doubted : (x e : Entry) (es : List Entry) (pages : Pages) (b : Bool) → ShareNoPage e x → ((p : Pages) → length p ≡ length pages → AsDoubted p (put p (doubted es)) e) →
+later_doubted : (x e : Entry) (es : List Entry) (pages : Pages) (b : Bool) → EntriesAreApart e x → ((p : Pages) → length p ≡ length pages → AsDoubted p (put p (doubted es)) e) →
     AsDoubted pages (put pages (cond b (x.writes ++ doubted es) (doubted es))) e
 later_doubted x e es pages true share rest =
     rw (put_append x.writes (doubted es) pages)
@@ -155,7 +155,7 @@ each_doubted [] pages e h i = absurd i
 each_doubted (x ∷ es) pages e h (inl same) =
     subst (λ (y : Entry). AsDoubted pages (put pages (doubted (x ∷ es))) y) same (first_doubted x es pages (is_doubted x.mark) refl h)
 each_doubted (x ∷ es) pages e h (inr i) =
-    later_doubted x e es pages (is_doubted x.mark) (share_back x e (pairs_head ShareNoPage x es e h.apart i))
+    later_doubted x e es pages (is_doubted x.mark) (share_back x e (pairs_head EntriesAreApart x es e h.apart i))
     (λ p long. each_doubted es p e (well_tail x es pages p long h) i)
 
 -- ---- a consistent state that settles
@@ -204,17 +204,17 @@ all_with P tag new (e ∷ es) its h = elim (has_tag tag e) as (λ b. All P (cond
 ]
 
 -- those beside the one with a tag write none of its pages
-goes_step : (tag : ℕ) (x e : Entry) (es : List Entry) (b : Bool) → AllPairs ShareNoPage (x ∷ es) → (entry_of tag es ≡ Some e → All (λ f. ShareNoPage e f) (without tag es)) →
-    cond b (Some x) (entry_of tag es) ≡ Some e → All (λ f. ShareNoPage e f) (cond b es (x ∷ without tag es))
+goes_step : (tag : ℕ) (x e : Entry) (es : List Entry) (b : Bool) → AllPairs EntriesAreApart (x ∷ es) → (entry_of tag es ≡ Some e → All (λ f. EntriesAreApart e f) (without tag es)) →
+    cond b (Some x) (entry_of tag es) ≡ Some e → All (λ f. EntriesAreApart e f) (cond b es (x ∷ without tag es))
 goes_step tag x e es true apart rest h =
     let is : x ≡ e = cc in
-    subst (λ (y : Entry). All (λ f. ShareNoPage y f) es) is (all_from (λ f. ShareNoPage x f) es (λ f i. pairs_head ShareNoPage x es f apart i))
+    subst (λ (y : Entry). All (λ f. EntriesAreApart y f) es) is (all_from (λ f. EntriesAreApart x f) es (λ f i. pairs_head EntriesAreApart x es f apart i))
 goes_step tag x e es false apart rest h =
-    All-cons (λ f. ShareNoPage e f) x (without tag es) (share_back x e (pairs_head ShareNoPage x es e apart (found_is_in tag es e h))) (rest h)
+    All-cons (λ f. EntriesAreApart e f) x (without tag es) (share_back x e (pairs_head EntriesAreApart x es e apart (found_is_in tag es e h))) (rest h)
 
-without_share : (tag : ℕ) (es : List Entry) (e : Entry) → AllPairs ShareNoPage es → entry_of tag es ≡ Some e → All (λ f. ShareNoPage e f) (without tag es)
-without_share tag [] e apart h = All-nil (λ (f : Entry). ShareNoPage e f)
-without_share tag (x ∷ es) e apart h = goes_step tag x e es (has_tag tag x) apart (without_share tag es e (pairs_tail ShareNoPage x es apart)) h
+without_share : (tag : ℕ) (es : List Entry) (e : Entry) → AllPairs EntriesAreApart es → entry_of tag es ≡ Some e → All (λ f. EntriesAreApart e f) (without tag es)
+without_share tag [] e apart h = All-nil (λ (f : Entry). EntriesAreApart e f)
+without_share tag (x ∷ es) e apart h = goes_step tag x e es (has_tag tag x) apart (without_share tag es e (pairs_tail EntriesAreApart x es apart)) h
 
-pub without_avoids : (tag : ℕ) (es : List Entry) (e : Entry) → AllPairs ShareNoPage es → entry_of tag es ≡ Some e → All (λ w. AllAvoid w.page (without tag es)) e.writes
+pub without_avoids : (tag : ℕ) (es : List Entry) (e : Entry) → AllPairs EntriesAreApart es → entry_of tag es ≡ Some e → All (λ w. AllAvoid w.page (without tag es)) e.writes
 without_avoids tag es e apart h = others_avoid e (without tag es) (without_share tag es e apart h)

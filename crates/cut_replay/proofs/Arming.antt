@@ -21,7 +21,7 @@ use Rattle.cut_replay.specs.Run.{is_arm, seen_after}
 use Rattle.cut_replay.specs.FlashRun.{Point, IsPoint, ServesFlash, opening_point}
 use Rattle.cut_replay.specs.Bounds.{IsSet}
 use Rattle.cut_replay.specs.Mounted.{point_at, IsSeen, IsCachedAs, IsCached, HoldsAlways}
-use Rattle.cut_replay.specs.Sessions.{flash_in, point_of, Fits, StandsAt, StandsMounted, IsSpentBy, Serves, SetsArm}
+use Rattle.cut_replay.specs.Sessions.{flash_in, point_of, Fits, StandsAt, StandsMounted, IsSpentBy, ServesSession, SetsArm}
 use Rattle.cut_replay.specs.declared.session.Session.{Session}
 use Rattle.cut_replay.specs.declared.session.Session.TheVariants as session
 use Rattle.cut_replay.proofs.Mountings.{mounted_point}
@@ -122,7 +122,7 @@ armed_moment state kept sets (session.Unmounted e) (session.Mounted t) h = absur
 armed_moment state kept sets (session.Unmounted e) (session.Unmounted f) h = still_armed sets (state e) (state f) h
 
 pub armed_serves : {F R : Type 0} (state : F → FlashState) (its : Config) (kept : Protocol) (sets : Told → Told → Type 0) (entries : List CachedPage) (c : Command) (old new : Session F R) →
-    IsArming c sets → Fits state its entries old → SetsArm state kept sets old new → Serves state its c old reply.Armed new
+    IsArming c sets → Fits state its entries old → SetsArm state kept sets old new → ServesSession state its c old reply.Armed new
 armed_serves state its kept sets entries c old new arming fits h = record {
   in_run = λ seen faulted stands. record {
     spent = λ page. false;
@@ -155,6 +155,6 @@ armed_fits state its kept sets entries (session.Unmounted e) (session.Unmounted 
 
 -- at the command that was read
 pub armed_as : {F R : Type 0} (state : F → FlashState) (its : Config) (kept : Protocol) (sets : Told → Told → Type 0) (entries : List CachedPage) (c d : Command) (old new : Session F R) →
-    c ≡ d → IsArming d sets → Fits state its entries old → SetsArm state kept sets old new → Serves state its c old reply.Armed new
+    c ≡ d → IsArming d sets → Fits state its entries old → SetsArm state kept sets old new → ServesSession state its c old reply.Armed new
 armed_as state its kept sets entries c d old new is arming fits h =
-    subst (λ x. Serves state its x old reply.Armed new) (sym is) (armed_serves state its kept sets entries d old new arming fits h)
+    subst (λ x. ServesSession state its x old reply.Armed new) (sym is) (armed_serves state its kept sets entries d old new arming fits h)

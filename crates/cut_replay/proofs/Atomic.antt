@@ -30,7 +30,7 @@ use Rattle.host_protocol.specs.declared.command.Command.{Command}
 use Rattle.host_protocol.specs.declared.command.Command.TheVariants as command
 use Rattle.host_protocol.specs.declared.reply.Reply.{Reply}
 use Rattle.host_protocol.specs.declared.reply.Reply.TheVariants as reply
-use Rattle.cut_replay.specs.Run.{Run, RunState, Serves, Does, NotDone, IsCut, MayComplete, Finishes, Acknowledges, Avoid, AllAvoid, ShareNoPage, HasWhole, HasSame, IsConsistent, is_break, writes_in, seen_after, step_reply, abort_reply}
+use Rattle.cut_replay.specs.Run.{Run, RunState, Serves, DoesCommand, NotDone, IsCut, MayComplete, Finishes, Acknowledges, Avoid, AllAvoid, EntriesAreApart, HasWhole, HasSame, IsConsistent, is_break, writes_in, seen_after, step_reply, abort_reply}
 use Rattle.cut_replay.proofs.Finishes.{found_is_in, found_writes, settled_found, wrote_found}
 use Rattle.cut_replay.proofs.Unbroken.{unlike}
 use Rattle.cut_replay.proofs.Taking.{put_has}
@@ -68,7 +68,7 @@ accepted_sized limits tag ws s h accepts =
       long = long;
       consistent = record {
         distinct = All-push (λ (e : Entry). AllPairs (λ v w. v.page ≢ w.page) e.writes) s.entries (opening tag ws) ok.distinct accepts.distinct;
-        apart = all_pairs_push ShareNoPage s.entries (opening tag ws) ok.apart (λ k d inside.
+        apart = all_pairs_push EntriesAreApart s.entries (opening tag ws) ok.apart (λ k d inside.
             let e = get_or s.entries k d in
             let i = in_from s.entries e (Contains-get_or s.entries k d inside) in
             share_back (opening tag ws) e (all_from (λ w. Avoid w.page e.writes) ws (λ w j.
@@ -176,7 +176,7 @@ told_late tag own (Err failed.Fault) h = cc
 
 -- what a reply that is no break says was done
 done_of : (limits : Limits) (spent : ℕ → Bool) (c : Command) (old : RunState) (r : Reply) (new : RunState) → is_break r ≡ false →
-    (NotDone old r new ⊎ ((Does limits spent c old.machine r new.machine × (new.up ≡ true)) ⊎ IsCut c old r new)) → Does limits spent c old.machine r new.machine
+    (NotDone old r new ⊎ ((DoesCommand limits spent c old.machine r new.machine × (new.up ≡ true)) ⊎ IsCut c old r new)) → DoesCommand limits spent c old.machine r new.machine
 done_of limits spent c old r new b (inl h) = elim h.1 [
   | inl e ↦ absurd (unlike r reply.Fault b e refl)
   | inr e ↦ absurd (unlike r reply.Cut b e refl)

@@ -13,7 +13,7 @@ use Rattle.cut_replay.specs.FlashRun.{mentions_in, opening_point}
 use Rattle.cut_replay.specs.Sessions.{flash_in, point_of, IsSoundFlash, IsSoundOrSame, Fits, Mounted, Unmounted}
 use Rattle.cut_replay.specs.Beginning.{Begins}
 use Rattle.host_protocol.specs.declared.command.Command.{Command}
-use Rattle.cut_replay.specs.Mounted.{IsStill}
+use Rattle.cut_replay.specs.Mounted.{MomentStays}
 use Rattle.cut_replay.specs.Served.{Watched, ServesSound, RefusesUnsound}
 use Rattle.cut_replay.specs.declared.serving.ServeError.{ServeError}
 use Rattle.cut_replay.specs.declared.serving.ServeError.TheVariants as failed
@@ -66,7 +66,7 @@ dead_begins R state its flash sound = record {
 }
 
 -- nothing was served, for want of memory
-nothing_served : {F : Type 0} (R : Type 0) (state : F → FlashState) (its : Config) (list : List Command) (flash new : F) (w : Watched) → IsSoundFlash its (state flash) → IsStill (state flash) (state new) →
+nothing_served : {F : Type 0} (R : Type 0) (state : F → FlashState) (its : Config) (list : List Command) (flash new : F) (w : Watched) → IsSoundFlash its (state flash) → MomentStays (state flash) (state new) →
     ServesSound its list (state flash) (state new) w w (Err failed.Memory)
 nothing_served {F = F} R state its list flash new w sound still =
     let old : Session F R = session.Unmounted flash in

@@ -6,7 +6,7 @@ use Rattle.std.proofs.lemmas.Bool.{and_parts}
 use Rattle.std.proofs.lemmas.List.Elements.{All-head, All-tail, All-cons, All-take}
 use Rattle.tx_types.specs.declared.memory.Memory.{Memory}
 use Rattle.version_index.specs.Noted.{current_of}
-use Rattle.page_cache.specs.CachedPages.{CachedPage, CachedPages, has_key, entry_of, without, promoted, kept}
+use Rattle.page_cache.specs.CachedPages.{CachedPage, CachedPages, has_key, cached_page, without_page, promoted, kept}
 use Rattle.page_cache.proofs.Pages.{promoted-missing}
 use Rattle.tx_engine.specs.ArrayState.{page_at}
 use Rattle.tx_engine.specs.Standing.{Standing}
@@ -25,12 +25,12 @@ found_cached : {F : Type 0} (s : Standing F) (page version : ℕ) (e : CachedPag
 found_cached s page version e [] h found = cc
 found_cached s page version e (x ∷ es) h found = found_step s page version x e es (has_key page version x) refl h (found_cached s page version e es) found
 
-entry_cached : {F : Type 0} (s : Standing F) (page version : ℕ) (e : CachedPage) (es : List CachedPage) → IsCached s es → entry_of page version es ≡ Some e → IsCachedAs s e × (has_key page version e ≡ true)
-unfolding entry_of
+entry_cached : {F : Type 0} (s : Standing F) (page version : ℕ) (e : CachedPage) (es : List CachedPage) → IsCached s es → cached_page page version es ≡ Some e → IsCachedAs s e × (has_key page version e ≡ true)
+unfolding cached_page
 entry_cached s page version e es h found = found_cached s page version e es h found
 
 -- so its bytes are those of the array, where the version is the current one
-pub held_bytes : {F : Type 0} (s : Standing F) (page : ℕ) (e : CachedPage) (es : List CachedPage) → IsCached s es → entry_of page (current_of s.noted page) es ≡ Some e → page_at s.machine.pages page ≡ Some e.bytes
+pub held_bytes : {F : Type 0} (s : Standing F) (page : ℕ) (e : CachedPage) (es : List CachedPage) → IsCached s es → cached_page page (current_of s.noted page) es ≡ Some e → page_at s.machine.pages page ≡ Some e.bytes
 held_bytes s page e es h found =
     let both = entry_cached s page (current_of s.noted page) e es h found in
     let keys = and_parts (page == e.page) (current_of s.noted page == e.version) both.1 in
@@ -39,21 +39,21 @@ held_bytes s page e es h found =
     ap (page_at s.machine.pages) here ∙ both.0.current (sym version ∙ ap (current_of s.noted) here)
 
 -- what is left without a key is cached still
-without_cached : (P : CachedPage → Type 0) (page version : ℕ) (es : List CachedPage) → All P es → All P (without page version es)
-unfolding without
+without_cached : (P : CachedPage → Type 0) (page version : ℕ) (es : List CachedPage) → All P es → All P (without_page page version es)
+unfolding without_page
 without_cached P page version [] h = h
-without_cached P page version (e ∷ es) h = elim (has_key page version e) as (λ b. All P (cond b es (e ∷ without page version es))) [
+without_cached P page version (e ∷ es) h = elim (has_key page version e) as (λ b. All P (cond b es (e ∷ without_page page version es))) [
   | true ↦ All-tail P e es h
-  | false ↦ All-cons P e (without page version es) (All-head P e es h) (without_cached P page version es (All-tail P e es h))
+  | false ↦ All-cons P e (without_page page version es) (All-head P e es h) (without_cached P page version es (All-tail P e es h))
 ]
 
-promoted_from : {F : Type 0} (s : Standing F) (page version : ℕ) (es : List CachedPage) (o : Option CachedPage) → entry_of page version es ≡ o → IsCached s es → IsCached s (option_map_or (λ e. e ∷ without page version es) o es)
+promoted_from : {F : Type 0} (s : Standing F) (page version : ℕ) (es : List CachedPage) (o : Option CachedPage) → cached_page page version es ≡ o → IsCached s es → IsCached s (option_map_or (λ e. e ∷ without_page page version es) o es)
 promoted_from s page version es None is h = h
-promoted_from s page version es (Some e) is h = All-cons (IsCachedAs s) e (without page version es) (entry_cached s page version e es h is).0 (without_cached (IsCachedAs s) page version es h)
+promoted_from s page version es (Some e) is h = All-cons (IsCachedAs s) e (without_page page version es) (entry_cached s page version e es h is).0 (without_cached (IsCachedAs s) page version es h)
 
 pub promoted_cached : {F : Type 0} (s : Standing F) (page version : ℕ) (es : List CachedPage) → IsCached s es → IsCached s (promoted page version es)
 unfolding promoted
-promoted_cached s page version es h = promoted_from s page version es (entry_of page version es) refl h
+promoted_cached s page version es h = promoted_from s page version es (cached_page page version es) refl h
 
 -- the current bytes of a page may be kept
 pub kept_cached : {F : Type 0} (s : Standing F) (page : ℕ) (bytes : List ℕ) (es : List CachedPage) → page < s.config.logical → page_at s.machine.pages page ≡ Some bytes → IsCached s es →
@@ -63,21 +63,21 @@ kept_cached s page bytes es exists at h =
     let version = current_of s.noted page in
     let new : CachedPage = record { page = page; version = version; bytes = bytes } in
     let mine : IsCachedAs s new = record { exists = exists; least = omega arith; current = λ is. at } in
-    All-take (IsCachedAs s) 16 (new ∷ without page version es) (All-cons (IsCachedAs s) new (without page version es) mine (without_cached (IsCachedAs s) page version es h))
+    All-take (IsCachedAs s) 16 (new ∷ without_page page version es) (All-cons (IsCachedAs s) new (without_page page version es) mine (without_cached (IsCachedAs s) page version es h))
 
 -- what a look-up under the current version copies
-copied_from : {F : Type 0} (s : Standing F) (page : ℕ) (es : List CachedPage) (o : Option CachedPage) (before : List ℕ) → IsCached s es → entry_of page (current_of s.noted page) es ≡ o →
+copied_from : {F : Type 0} (s : Standing F) (page : ℕ) (es : List CachedPage) (o : Option CachedPage) (before : List ℕ) → IsCached s es → cached_page page (current_of s.noted page) es ≡ o →
     is_some o ≡ true → page_at s.machine.pages page ≡ Some (option_map_or (λ e. e.bytes) o before)
 copied_from s page es None before h is held = cc
 copied_from s page es (Some e) before h is held = held_bytes s page e es h is
 
 pub look_up : {F : Type 0} (s : Standing F) (page version : ℕ) (es : List CachedPage) (before after : List ℕ) (held : Bool) → IsCached s es → version ≡ current_of s.noted page →
-    held ≡ is_some (entry_of page version es) → after ≡ option_map_or (λ e. e.bytes) (entry_of page version es) before → held ≡ true → page_at s.machine.pages page ≡ Some after
+    held ≡ is_some (cached_page page version es) → after ≡ option_map_or (λ e. e.bytes) (cached_page page version es) before → held ≡ true → page_at s.machine.pages page ≡ Some after
 look_up s page version es before after held h is found copied there_is =
     let now = current_of s.noted page in
-    let at : entry_of page version es ≡ entry_of page now es = ap (λ v. entry_of page v es) is in
-    let there : is_some (entry_of page now es) ≡ true = ap is_some (sym at) ∙ sym found ∙ there_is in
-    copied_from s page es (entry_of page now es) before h refl there
+    let at : cached_page page version es ≡ cached_page page now es = ap (λ v. cached_page page v es) is in
+    let there : is_some (cached_page page now es) ≡ true = ap is_some (sym at) ∙ sym found ∙ there_is in
+    copied_from s page es (cached_page page now es) before h refl there
     ∙ ap (λ o. Some (option_map_or (λ e. e.bytes) o before)) (sym at) ∙ ap (λ (x : List ℕ). Some x) (sym copied)
 
 -- what the cache is after it
@@ -93,7 +93,7 @@ keep_cached s page version bytes old new (Ok u) exists at h is ok err =
 keep_cached s page version bytes old new (Err e) exists at h is ok err = subst (λ (c : CachedPages). IsCached s c.entries) (sym err) h
 
 -- a look-up that found nothing leaves the cache
-pub missed_stays : (page version : ℕ) (old new : CachedPages) → is_some (entry_of page version old.entries) ≡ false →
+pub missed_stays : (page version : ℕ) (old new : CachedPages) → is_some (cached_page page version old.entries) ≡ false →
     new ≡ record old { entries = promoted page version old.entries } → new ≡ old
 missed_stays page version old new none is =
     is ∙ ap (λ (es : List CachedPage). record old { entries = es }) (promoted-missing page version old.entries none)

@@ -22,7 +22,7 @@ use Rattle.tx_engine.specs.declared.submit.SubmitError.{SubmitError}
 use Rattle.host_protocol.specs.declared.command.Command.{Command}
 use Rattle.host_protocol.specs.declared.command.Command.TheVariants as command
 use Rattle.host_protocol.specs.declared.reply.Reply.{Reply}
-use Rattle.cut_replay.specs.Run.{Run, RunState, Serves, Does, NotDone, IsCut, MayComplete, Finishes, is_arm, Avoid, AllAvoid, HasWhole, IsConsistent, writes_in, seen_after}
+use Rattle.cut_replay.specs.Run.{Run, RunState, Serves, DoesCommand, NotDone, IsCut, MayComplete, Finishes, is_arm, Avoid, AllAvoid, HasWhole, IsConsistent, writes_in, seen_after}
 use Rattle.cut_replay.proofs.Finishes.{found_is_in, settled_found}
 use Rattle.cut_replay.proofs.Apart.{WholeOrSame, SameOrApart, IsBeside, whole_same, whole_or_then, beside_then, beside_taken, beside_settled, beside_in, settled_whole, all_without, all_with}
 use Rattle.cut_replay.proofs.Taking.{put_length, put_other, settled_other, settled_length, ArePart, part_none, part_same, part_then, part_settled, part_without, part_with, part_all, part_pairs, AreWithin, within_kept}
@@ -160,7 +160,7 @@ abbrev pub is_write : Command → Bool
 is_write (command.Write tag batch) = true
 is_write _ = false
 
-does_goes : (limits : Limits) (spent : ℕ → Bool) (c : Command) (old : ArrayState) (r : Reply) (new : ArrayState) → is_write c ≡ false → Does limits spent c old r new → Goes old new
+does_goes : (limits : Limits) (spent : ℕ → Bool) (c : Command) (old : ArrayState) (r : Reply) (new : ArrayState) → is_write c ≡ false → DoesCommand limits spent c old r new → Goes old new
 does_goes limits spent (command.Read page) old r new other h = goes_nowhere old new h.4
 does_goes limits spent (command.Write tag batch) old r new other h = cc
 does_goes limits spent (command.Step tag) old r new other h = step_goes old new tag h.0 h.1
@@ -205,8 +205,8 @@ machine_same old new same = goes_nowhere old.machine new.machine (ap (λ (s : Ru
 
 -- of a command that opens nothing
 served_goes : (limits : Limits) (spent : ℕ → Bool) (c : Command) (old : RunState) (r : Reply) (new : RunState) →
-    (Does limits spent c old.machine r new.machine → Goes old.machine new.machine) →
-    (NotDone old r new ⊎ ((Does limits spent c old.machine r new.machine × (new.up ≡ true)) ⊎ IsCut c old r new)) → Goes old.machine new.machine
+    (DoesCommand limits spent c old.machine r new.machine → Goes old.machine new.machine) →
+    (NotDone old r new ⊎ ((DoesCommand limits spent c old.machine r new.machine × (new.up ≡ true)) ⊎ IsCut c old r new)) → Goes old.machine new.machine
 served_goes limits spent c old r new does (inl h) = machine_same old new h.2
 served_goes limits spent c old r new does (inr (inl h)) = does h.0
 served_goes limits spent c old r new does (inr (inr h)) = cut_goes (MayComplete c) old.machine new.machine h.2
@@ -239,7 +239,7 @@ pub record Opens (limits : Limits) (spent : ℕ → Bool) (c : Command) (old new
   pub opens : new ≡ opened (refusal limits spent old.entries tag (writes_in c)) tag (writes_in c) old
 
 written_changes : (limits : Limits) (spent : ℕ → Bool) (tag : ℕ) (batch : Writes) (old : RunState) (r : Reply) (new : RunState) →
-    (NotDone old r new ⊎ ((Does limits spent (command.Write tag batch) old.machine r new.machine × (new.up ≡ true)) ⊎ IsCut (command.Write tag batch) old r new)) →
+    (NotDone old r new ⊎ ((DoesCommand limits spent (command.Write tag batch) old.machine r new.machine × (new.up ≡ true)) ⊎ IsCut (command.Write tag batch) old r new)) →
     Goes old.machine new.machine ⊎ Opens limits spent (command.Write tag batch) old.machine new.machine
 written_changes limits spent tag batch old r new (inl h) = inl (machine_same old new h.2)
 written_changes limits spent tag batch old r new (inr (inl h)) = inr (record { tag = tag; opens = h.0.1.opens })

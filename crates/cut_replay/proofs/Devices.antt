@@ -21,7 +21,7 @@ use Rattle.tx_engine.specs.Standing.{Standing, Naming, limits_of}
 use Rattle.host_protocol.specs.declared.command.Command.{Command}
 use Rattle.host_protocol.specs.declared.reply.Reply.{Reply}
 use Rattle.collector.specs.declared.unsure.Unsure.TheVariants as unsure
-use Rattle.cut_replay.specs.Run.{Does, seen_after, is_break, is_opened, writes_in}
+use Rattle.cut_replay.specs.Run.{DoesCommand, seen_after, is_break, is_opened, writes_in}
 use Rattle.cut_replay.specs.FlashRun.{Tells, is_fault, is_still}
 use Rattle.cut_replay.specs.Bounds.{is_cut}
 use Rattle.cut_replay.specs.Mounted.{point_at, IsSeen, IsCachedAs, IsCached, HoldsAlways, MayHaveCut, ServesHere}
@@ -77,8 +77,8 @@ exits_seen state kept old new broken seen was is exits h = record {
 }
 
 -- the cache stays right where versions do not fall, and a page whose version stays has its bytes
-cached_page : {F : Type 0} (old new : Standing F) → new.config ≡ old.config → VersionsTell old new → (e : CachedPage) → IsCachedAs old e → IsCachedAs new e
-cached_page old new same tell e h =
+cached_stays_so : {F : Type 0} (old new : Standing F) → new.config ≡ old.config → VersionsTell old new → (e : CachedPage) → IsCachedAs old e → IsCachedAs new e
+cached_stays_so old new same tell e h =
     let exists : e.page < new.config.logical = subst (λ (c : Config). e.page < c.logical) (sym same) h.exists in
     elim (tell e.page h.exists) [
       | inl rose ↦ (let most = h.least in record { exists = exists; least = omega arith; current = λ now. absurd (omega (arith, now, rose, most)) })
@@ -90,12 +90,12 @@ cached_page old new same tell e h =
     ]
 
 pub cached_stays : {F : Type 0} (old new : Standing F) (entries : List CachedPage) → new.config ≡ old.config → VersionsTell old new → IsCached old entries → IsCached new entries
-cached_stays old new entries same tell h = All-weaker (IsCachedAs old) (IsCachedAs new) (cached_page old new same tell) entries h
+cached_stays old new entries same tell h = All-weaker (IsCachedAs old) (IsCachedAs new) (cached_stays_so old new same tell) entries h
 
 -- what a command does that is one call which may settle, write and collect
 pub exits_serve : {F : Type 0} (state : F → FlashState) (kept : Protocol) (c : Command) (old new : Standing F) (r : Reply) (broken : Bool) →
     HoldsAlways state kept old → HoldsAlways state kept new → Exits state old new broken → is_break r ≡ broken → is_fault r ≡ broken → is_cut r ≡ false →
-    Does (limits_of old.config) (is_spent old.noted.mentions) c old.machine r new.machine → (is_still c ≡ true → moment_of (state new.flash) ≡ moment_of (state old.flash)) →
+    DoesCommand (limits_of old.config) (is_spent old.noted.mentions) c old.machine r new.machine → (is_still c ≡ true → moment_of (state new.flash) ≡ moment_of (state old.flash)) →
     ((faulted : Bool) → (faulted ≡ false → old.unsure ≡ unsure.Nothing) → Tells old.config faulted (point_at state old) r (point_at state new)) →
     (old.unsure ≡ unsure.Nothing → is_fault r ≡ false → new.unsure ≡ unsure.Nothing) → (is_fault r ≡ true → MayHaveCut state c old new) → ServesHere state c old new r
 exits_serve state kept c old new r broken was is exits breaks faults whole does still tells sure cut = record {

@@ -84,7 +84,7 @@ fewer_left old new there tag e w =
     let more = w.more in (omega (arith, now, before, more), omega (arith, now, more))
 
 -- nothing is in doubt
-sure_mark : (there : Bool) (m : Mark) → is_doubted (settled_mark there m) ≡ false
+pub sure_mark : (there : Bool) (m : Mark) → is_doubted (settled_mark there m) ≡ false
 sure_mark there Plain = refl
 sure_mark true Doubt = refl
 sure_mark false Doubt = refl
@@ -94,19 +94,19 @@ sure_settled : (there : Bool) (es : List Entry) → doubted (map (settled_entry 
 sure_settled there [] = refl
 sure_settled there (e ∷ es) = rw (sure_mark there e.mark) (sure_settled there es)
 
-sure_with : (there : Bool) (tag : ℕ) (new : Entry) (es : List Entry) → is_doubted new.mark ≡ false → doubted (with_entry tag new (map (settled_entry there) es)) ≡ []
+pub sure_with : (there : Bool) (tag : ℕ) (new : Entry) (es : List Entry) → is_doubted new.mark ≡ false → doubted (with_entry tag new (map (settled_entry there) es)) ≡ []
 sure_with there tag new [] is = refl
 sure_with there tag new (e ∷ es) is = elim (has_tag tag e) as (λ b. doubted (cond b (new ∷ map (settled_entry there) es) (settled_entry there e ∷ with_entry tag new (map (settled_entry there) es))) ≡ []) [
   | true ↦ rw is (sure_settled there es)
   | false ↦ rw (sure_mark there e.mark) (sure_with there tag new es is)
 ]
 
-settled_sure : (there : Bool) (s : ArrayState) → doubted s.entries ≡ [] → (settled there s).pages ≡ s.pages
+pub settled_sure : (there : Bool) (s : ArrayState) → doubted s.entries ≡ [] → (settled there s).pages ≡ s.pages
 settled_sure true s is = ap (put s.pages) is
 settled_sure false s is = refl
 
 -- each of its transactions is one of before, with its tag and its pages
-abbrev IsFrom : List Entry → Entry → Type 0
+abbrev pub IsFrom : List Entry → Entry → Type 0
 IsFrom es e = (old : Entry) × IsIn es old × (old.tag ≡ e.tag) × (old.writes ≡ e.writes)
 
 from_more : (x : Entry) (es : List Entry) (e : Entry) → IsFrom es e → IsFrom (x ∷ es) e
@@ -137,7 +137,7 @@ pub found_is_in : (tag : ℕ) (es : List Entry) (e : Entry) → entry_of tag es 
 found_is_in tag [] e h = cc
 found_is_in tag (x ∷ es) e h = found_in_step tag x e es (has_tag tag x) (found_is_in tag es e) h
 
-from_mid : (there : Bool) (old mid : ArrayState) (tag : ℕ) (e other : Entry) → Writes there old mid tag e → IsIn mid.entries other → IsFrom old.entries other
+pub from_mid : (there : Bool) (old mid : ArrayState) (tag : ℕ) (e other : Entry) → Writes there old mid tag e → IsIn mid.entries other → IsFrom old.entries other
 from_mid there old mid tag e other w i =
     let next : Entry = record (settled_entry there e) { done = e.done + 1 } in
     elim (with_from there tag next other old.entries (subst (λ (s : ArrayState). IsIn s.entries other) w.new_is i)) [

@@ -26,7 +26,7 @@ use Rattle.cut_replay.specs.Run.{IsCut, MayComplete, MayBeSpent, NotDone, is_arm
 use Rattle.cut_replay.specs.FlashRun.{Point, IsPoint, IsDone, MovesBy, ServesFlash, is_fault}
 use Rattle.cut_replay.specs.Bounds.{is_cut}
 use Rattle.cut_replay.specs.Mounted.{point_at, IsSeen, IsCached, HoldsAlways, ServesHere}
-use Rattle.cut_replay.specs.Sessions.{flash_in, point_of, IsSoundFlash, Fits, FitsMounted, StandsMounted, IsSpentBy, ServesIn, Serves, Ends, Mounted, Unmounted, MountsAgain, Follows}
+use Rattle.cut_replay.specs.Sessions.{flash_in, point_of, IsSoundFlash, Fits, FitsMounted, StandsMounted, IsSpentBy, ServesIn, ServesSession, EndsServing, Mounted, Unmounted, MountsAgain, Follows}
 use Rattle.cut_replay.specs.declared.serving.ServeError.{ServeError}
 use Rattle.cut_replay.specs.declared.serving.ServeError.TheVariants as failed
 use Rattle.cut_replay.specs.declared.session.Session.{Session}
@@ -150,10 +150,10 @@ abbrev FitsAfter : (F R : Type 0) → (F → FlashState) → Config → List Cac
 FitsAfter F R state its entries result = IfOk result (λ done. Fits state its entries done.0)
 
 abbrev ServesAfter : (F R : Type 0) → (F → FlashState) → Config → Command → Standing F → Sessions F R → Type 0
-ServesAfter F R state its c s result = IfOk result (λ done. Serves state its c (session.Mounted s) done.1 done.0)
+ServesAfter F R state its c s result = IfOk result (λ done. ServesSession state its c (session.Mounted s) done.1 done.0)
 
 abbrev EndsAfter : (F R : Type 0) → (F → FlashState) → Config → Command → Standing F → Sessions F R → Type 0
-EndsAfter F R state its c s result = IfErr result (λ e. Ends {R = R} state its c (session.Mounted s) e.flash e.why)
+EndsAfter F R state its c s result = IfErr result (λ e. EndsServing {R = R} state its c (session.Mounted s) e.flash e.why)
 
 -- what is known of a command that was done
 pub record WasDone {F : Type 0} (state : F → FlashState) (its : Config) (c : Command) (s t : Standing F) (r : Reply) (entries : List CachedPage) : Type 0 where
@@ -206,7 +206,7 @@ sound_here state c s t r entries w =
 
 -- the whole of what a command comes to that was done
 went_serves : {F R : Type 0} (state : F → FlashState) (c : Command) (s t : Standing F) (r : Reply) (entries : List CachedPage) → WasDone state s.config c s t r entries → (state t.flash).live ≡ true →
-    Serves {R = R} state s.config c (session.Mounted s) r (session.Mounted t)
+    ServesSession {R = R} state s.config c (session.Mounted s) r (session.Mounted t)
 went_serves state c s t r entries w on = record {
   in_run = λ seen faulted stands. done_in state s.config.protocol c s t r seen faulted w.no_arm w.here w.always stands;
   kept = inl (sound_here state c s t r entries w);
@@ -227,7 +227,7 @@ sound_again state its flash after sound leaves =
     subst (λ (m : Moment). IsSoundImage its.protocol its.logical (shape_of its) m.image) (sym (mounted_still state its flash after leaves).moment) sound
 
 cut_serves : {F R : Type 0} (state : F → FlashState) (c : Command) (s t : Standing F) (r : Reply) (entries : List CachedPage) (after : Session F R) → WasDone state s.config c s t r entries →
-    (state t.flash).live ≡ false → Leaves state s.config t.flash after → Serves state s.config c (session.Mounted s) reply.Cut after
+    (state t.flash).live ≡ false → Leaves state s.config t.flash after → ServesSession state s.config c (session.Mounted s) reply.Cut after
 cut_serves state c s t r entries after w off leaves =
     let here = faulted_here state s.config c s t r entries w off in
     record {
@@ -240,12 +240,12 @@ cut_serves state c s t r entries after w off leaves =
 again_serves : {F R : Type 0} (state : F → FlashState) (c : Command) (s t : Standing F) (r : Reply) (entries : List CachedPage) (result : Sessions F R) → WasDone state s.config c s t r entries →
     (state t.flash).live ≡ false → MountsAgain state s.config t result → ServesAfter F R state s.config c s result
 again_serves {F = F} {R = R} state c s t r entries (Ok done) w off h =
-    subst (λ (q : Reply). Serves {R = R} state s.config c (session.Mounted s) q done.0) (sym h.1)
+    subst (λ (q : Reply). ServesSession {R = R} state s.config c (session.Mounted s) q done.0) (sym h.1)
     (cut_serves state c s t r entries done.0 w off (mounted_leaves state s.config t.flash done.0 h.0))
 again_serves state c s t r entries (Err e) w off h = tt
 
 again_ends : {F : Type 0} (R : Type 0) (state : F → FlashState) (c : Command) (s t : Standing F) (r : Reply) (entries : List CachedPage) (flash : F) (why : ServeError) → WasDone state s.config c s t r entries →
-    (state t.flash).live ≡ false → Unmounted state s.config t.flash flash why → Ends {R = R} state s.config c (session.Mounted s) flash why
+    (state t.flash).live ≡ false → Unmounted state s.config t.flash flash why → EndsServing {R = R} state s.config c (session.Mounted s) flash why
 again_ends R state c s t r entries flash (failed.Unsound law slot) w off h =
     absurd (sound_unbroken s.config (state t.flash).image (record { law = law; slot = slot }) (sound_here state c s t r entries w) h.1)
 again_ends {F = F} R state c s t r entries flash failed.Memory w off h =

@@ -19,4 +19,5 @@ pub mod Quiet
 pub mod Taking
 pub mod Apart
 pub mod Changes
+pub mod AtOnce
 pub mod Atomic

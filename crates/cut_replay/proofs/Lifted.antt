@@ -15,10 +15,10 @@ use Rattle.tx_engine.specs.Step.{CutLeaves}
 use Rattle.host_protocol.specs.declared.command.Command.{Command}
 use Rattle.host_protocol.specs.declared.reply.Reply.{Reply}
 use Rattle.host_protocol.specs.declared.reply.Reply.TheVariants as reply
-use Rattle.cut_replay.specs.Run.{Does, IsCut, MayBeCut, MayComplete, NotDone, is_arm, seen_after}
+use Rattle.cut_replay.specs.Run.{DoesCommand, IsCut, MayBeCut, MayComplete, NotDone, is_arm, seen_after}
 use Rattle.cut_replay.specs.FlashRun.{Point, IsDone, MovesBy, ServesFlash, Tells, HasErased, opening_point}
-use Rattle.cut_replay.specs.Mounted.{point_at, IsStill}
-use Rattle.cut_replay.specs.Sessions.{flash_in, point_of, StandsMounted, StandsUnmounted, IsSpentBy, ServesIn, Serves, IsSoundOrSame, Ends, EndsFor, MountsIn, MeetsFault, Mounted, Unmounted}
+use Rattle.cut_replay.specs.Mounted.{point_at, MomentStays}
+use Rattle.cut_replay.specs.Sessions.{flash_in, point_of, StandsMounted, StandsUnmounted, IsSpentBy, ServesIn, ServesSession, IsSoundOrSame, EndsServing, EndsFor, MountsIn, MeetsFault, Mounted, Unmounted}
 use Rattle.cut_replay.specs.declared.serving.ServeError.{ServeError}
 use Rattle.cut_replay.specs.declared.serving.ServeError.TheVariants as failed
 use Rattle.cut_replay.specs.declared.session.Ended.{Ended}
@@ -39,7 +39,7 @@ moves_from its c r a b new same h = subst (λ (m : Moment). MovesBy its c r m ne
 done_from : (its : Config) (spent : ℕ → Bool) (faulted : Bool) (c : Command) (a b : Point) (r : Reply) (new : Point) → b.state.machine ≡ a.state.machine → b.moment ≡ a.moment →
     IsDone its spent faulted c a r new → IsDone its spent faulted c b r new
 done_from its spent faulted c a b r new machine moment h = record {
-  does = subst (λ (m : ArrayState). Does (limits_of its) spent c m r new.state.machine) (sym machine) h.does;
+  does = subst (λ (m : ArrayState). DoesCommand (limits_of its) spent c m r new.state.machine) (sym machine) h.does;
   up = h.up;
   moves = moves_from its c r a.moment b.moment new.moment moment h.moves;
   tells = tells_from its faulted a b r new moment h.tells;
@@ -87,7 +87,7 @@ sound_or_same_from its a b new same (inl sound) = inl sound
 sound_or_same_from its a b new same (inr is) = inr (is ∙ same)
 
 pub lifted_serves : {F R : Type 0} (state : F → FlashState) (its : Config) (flash : F) (t : Standing F) (c : Command) (r : Reply) (new : Session F R) → is_arm c ≡ false → MountsIn state its flash t →
-    Serves {R = R} state its c (session.Mounted t) r new → Serves {R = R} state its c (session.Unmounted flash) r new
+    ServesSession {R = R} state its c (session.Mounted t) r new → ServesSession {R = R} state its c (session.Unmounted flash) r new
 lifted_serves state its flash t c r new no_arm mounts h = record {
   in_run = lifted_run state its flash t c r new no_arm mounts h.in_run;
   kept = sound_or_same_from its (state flash) (state t.flash) (state (flash_in new)) mounts.still.moment h.kept;
@@ -95,7 +95,7 @@ lifted_serves state its flash t c r new no_arm mounts h = record {
   set = h.set;
 }
 
-still_then : (a b d : FlashState) → IsStill a b → IsStill b d → IsStill a d
+still_then : (a b d : FlashState) → MomentStays a b → MomentStays b d → MomentStays a d
 still_then a b d ab bd = record { moment = bd.moment ∙ ab.moment; shape = bd.shape ∙ ab.shape; told = no_more_then a.told b.told d.told ab.told bd.told }
 
 lifted_cause : {F : Type 0} (R : Type 0) (state : F → FlashState) (its : Config) (flash : F) (t : Standing F) (c : Command) (new : F) (why : ServeError) → is_arm c ≡ false → MountsIn state its flash t →
@@ -107,7 +107,7 @@ lifted_cause {F = F} R state its flash t c new failed.Memory no_arm mounts (inr 
     inr (lifted_run {R = R} state its flash t c reply.Cut after no_arm mounts cut.0, spends_after c reply.Cut (state flash).told (state t.flash).told (state new).told mounts.still.told cut.1)
 
 pub lifted_ends : {F : Type 0} (R : Type 0) (state : F → FlashState) (its : Config) (flash : F) (t : Standing F) (c : Command) (new : F) (why : ServeError) → is_arm c ≡ false → MountsIn state its flash t →
-    Ends {R = R} state its c (session.Mounted t) new why → Ends {R = R} state its c (session.Unmounted flash) new why
+    EndsServing {R = R} state its c (session.Mounted t) new why → EndsServing {R = R} state its c (session.Unmounted flash) new why
 lifted_ends R state its flash t c new why no_arm mounts h = record {
   cause = lifted_cause R state its flash t c new why no_arm mounts h.cause;
   shape = h.shape ∙ mounts.still.shape;
@@ -116,7 +116,7 @@ lifted_ends R state its flash t c new why no_arm mounts h = record {
 
 -- The device was not mounted
 pub unmounted_ends : {F : Type 0} (R : Type 0) (state : F → FlashState) (its : Config) (c : Command) (flash new : F) (why : ServeError) → Unmounted state its flash new why →
-    Ends {R = R} state its c (session.Unmounted flash) new why
+    EndsServing {R = R} state its c (session.Unmounted flash) new why
 unmounted_ends R state its c flash new (failed.Unsound law slot) h = record { cause = (h.0.moment, h.1); shape = h.0.shape; kept = inr h.0.moment }
 unmounted_ends R state its c flash new failed.Memory h = record { cause = inl h; shape = h.shape; kept = inr h.moment }
 
@@ -138,7 +138,7 @@ not_opened s c seen r page (inl is) = ap (λ q. seen_after seen c q page) is.0
 not_opened s c seen r page (inr is) = ap (λ q. seen_after seen c q page) is.0
 
 pub not_done_serves : {F : Type 0} (R : Type 0) (state : F → FlashState) (its : Config) (c : Command) (flash new : F) (r : Reply) → is_arm c ≡ false → MeetsFault (state flash) (state new) → IsFaultOrCut (state new) r →
-    Serves {R = R} state its c (session.Unmounted flash) r (session.Unmounted new)
+    ServesSession {R = R} state its c (session.Unmounted flash) r (session.Unmounted new)
 not_done_serves {F = F} R state its c flash new r no_arm h is =
     let after : Session F R = session.Unmounted new in
     let same : opening_point its false (moment_of (state new)) ≡ opening_point its false (moment_of (state flash)) = ap (λ (m : Moment). opening_point its false m) h.still.moment in
@@ -160,7 +160,7 @@ not_done_serves {F = F} R state its c flash new r no_arm h is =
       set = sets_none c no_arm (state new).told;
     }
 
-pub unmounted_check : (its : Config) (old new : FlashState) → checked its ≡ Ok old.shape → IsStill old new → checked its ≡ Ok new.shape
+pub unmounted_check : (its : Config) (old new : FlashState) → checked its ≡ Ok old.shape → MomentStays old new → checked its ≡ Ok new.shape
 unmounted_check its old new check still = check ∙ ap (λ (x : Shape). Ok x) (sym still.shape)
 
 -- What was mounted
@@ -175,11 +175,11 @@ abbrev Results : (F R : Type 0) → Type 0
 Results F R = Result (Session F R × Reply) (Ended F)
 
 pub lifted_result : {F R : Type 0} (state : F → FlashState) (its : Config) (flash : F) (t : Standing F) (c : Command) (result : Results F R) → is_arm c ≡ false → MountsIn state its flash t →
-    IfOk result (λ done. Serves {R = R} state its c (session.Mounted t) done.1 done.0) → IfOk result (λ done. Serves {R = R} state its c (session.Unmounted flash) done.1 done.0)
+    IfOk result (λ done. ServesSession {R = R} state its c (session.Mounted t) done.1 done.0) → IfOk result (λ done. ServesSession {R = R} state its c (session.Unmounted flash) done.1 done.0)
 lifted_result {R = R} state its flash t c (Ok done) no_arm mounts h = lifted_serves {R = R} state its flash t c done.1 done.0 no_arm mounts h
 lifted_result state its flash t c (Err e) no_arm mounts h = tt
 
 pub lifted_error : {F R : Type 0} (state : F → FlashState) (its : Config) (flash : F) (t : Standing F) (c : Command) (result : Results F R) → is_arm c ≡ false → MountsIn state its flash t →
-    IfErr result (λ e. Ends {R = R} state its c (session.Mounted t) e.flash e.why) → IfErr result (λ e. Ends {R = R} state its c (session.Unmounted flash) e.flash e.why)
+    IfErr result (λ e. EndsServing {R = R} state its c (session.Mounted t) e.flash e.why) → IfErr result (λ e. EndsServing {R = R} state its c (session.Unmounted flash) e.flash e.why)
 lifted_error state its flash t c (Ok done) no_arm mounts h = tt
 lifted_error {R = R} state its flash t c (Err e) no_arm mounts h = lifted_ends R state its flash t c e.flash e.why no_arm mounts h

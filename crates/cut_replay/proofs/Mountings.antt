@@ -25,7 +25,7 @@ use Rattle.tx_engine.specs.Exits.{IsNamedAt}
 use Rattle.tx_engine.specs.Standing.{Standing, Naming}
 use Rattle.cut_replay.specs.FlashRun.{IsPoint}
 use Rattle.cut_replay.proofs.Devices.{in_any}
-use Rattle.cut_replay.specs.Mounted.{IsSeen, IsStill}
+use Rattle.cut_replay.specs.Mounted.{IsSeen, MomentStays}
 use Rattle.cut_replay.specs.Sessions.{point_of, flash_in, IsSoundFlash, StandsAt, MountsIn, Mounted}
 use Rattle.cut_replay.specs.declared.session.Session.{Session}
 use Rattle.cut_replay.specs.declared.session.Session.TheVariants as session
@@ -33,7 +33,7 @@ use Rattle.cut_replay.specs.declared.session.Session.TheVariants as session
 -- the device of a flash, or the flash, with its moment
 abbrev pub Leaves : {F R : Type 0} → (F → FlashState) → Config → F → Session F R → Type 0
 Leaves state its flash (session.Mounted s) = MountsIn state its flash s
-Leaves state its flash (session.Unmounted new) = IsStill (state flash) (state new)
+Leaves state its flash (session.Unmounted new) = MomentStays (state flash) (state new)
 
 pub mounted_leaves : {F R : Type 0} (state : F → FlashState) (its : Config) (flash : F) (s : Session F R) → Mounted state its flash s → Leaves state its flash s
 mounted_leaves state its flash (session.Mounted s) h = h
@@ -46,7 +46,7 @@ mounted_machine state its flash (session.Mounted s) h = h.machine
 mounted_machine state its flash (session.Unmounted new) h = ap (λ (m : Moment). idle (array_in its.protocol its.logical m.image)) h.moment
 
 -- and its moment
-pub mounted_still : {F R : Type 0} (state : F → FlashState) (its : Config) (flash : F) (s : Session F R) → Leaves state its flash s → IsStill (state flash) (state (flash_in s))
+pub mounted_still : {F R : Type 0} (state : F → FlashState) (its : Config) (flash : F) (s : Session F R) → Leaves state its flash s → MomentStays (state flash) (state (flash_in s))
 mounted_still state its flash (session.Mounted s) h = h.still
 mounted_still state its flash (session.Unmounted new) h = h
 

@@ -14,7 +14,7 @@ use Rattle.tx_engine.specs.ArrayState.{idle}
 use Rattle.tx_engine.specs.Standing.{Standing}
 use Rattle.tx_engine.specs.Opens.{Mounts, FailsToMount}
 use Rattle.tx_engine.specs.declared.mount.MountError.TheVariants as mount
-use Rattle.cut_replay.specs.Mounted.{HoldsAlways, IsStill}
+use Rattle.cut_replay.specs.Mounted.{HoldsAlways, MomentStays}
 use Rattle.cut_replay.specs.Sessions.{MountsIn, MeetsFault, Unmounted}
 use Rattle.cut_replay.specs.declared.serving.ServeError.TheVariants as failed
 
@@ -22,7 +22,7 @@ pub powered_on : (old : FlashState) → old.live ≡ true → TurnsOn old old
 powered_on old on = ap (λ (b : Bool). record old { live = b }) on
 
 -- a call on the powered flash that leaves its moment
-pub powered_still : (old on new : FlashState) (broken : Bool) → TurnsOn old on → moment_of new ≡ moment_of on → Carries on new broken → IsStill old new
+pub powered_still : (old on new : FlashState) (broken : Bool) → TurnsOn old on → moment_of new ≡ moment_of on → Carries on new broken → MomentStays old new
 powered_still old on new broken turned moment carries = record {
   moment = moment ∙ ap moment_of turned;
   shape = carries.shape ∙ ap (λ (s : FlashState). s.shape) turned;

@@ -7,7 +7,7 @@ use Rattle.tx_types.specs.declared.config.Config.{Config}
 use Rattle.tx_types.specs.declared.config.Slot.{Slot}
 use Rattle.tx_types.specs.declared.memory.Memory.{Memory}
 use Rattle.tx_types.specs.Config.{shape_of}
-use Rattle.flash_model.specs.Flash.{FlashState, Told as TellsBreaks}
+use Rattle.flash_model.specs.Flash.{FlashState, Told}
 use Rattle.flash_model.specs.Calls.{BothTell, NoMore}
 use Rattle.flash_model.specs.Operations.{Moment, moment_of}
 use Rattle.version_index.specs.Images.{IsSoundImage, IsLeastImageBreach}
@@ -17,10 +17,10 @@ use Rattle.host_protocol.specs.declared.reply.Reply.TheVariants as reply
 use Rattle.host_protocol.specs.Replies.{text_of}
 use Rattle.cut_replay.specs.Run.{seen_after}
 use Rattle.cut_replay.specs.FlashRun.{Point, FlashRun, ServesFlash, opening_point, mentions_in, last_moment}
-use Rattle.cut_replay.specs.Watching.{ToldReply, Grew, text_of_all, told_of}
+use Rattle.cut_replay.specs.Watching.{ToldReply, Grew, text_of_all, replies_told}
 use Rattle.cut_replay.specs.Bounds.{SpendsTold, LastIsSet}
 use Rattle.cut_replay.specs.Served.{Watched, ServesRun, ServesSound, RefusesUnsound}
-use Rattle.cut_replay.specs.Sessions.{flash_in, point_of, StandsAt, ServesIn, Serves, Ends, EndsFor, EndsForMemory, Refuses, IsSpentBy, IsSoundOrSame}
+use Rattle.cut_replay.specs.Sessions.{flash_in, point_of, StandsAt, ServesIn, ServesSession, EndsServing, EndsFor, EndsForMemory, Refuses, IsSpentBy, IsSoundOrSame}
 use Rattle.cut_replay.specs.Beginning.{Begins}
 use Rattle.cut_replay.specs.declared.serving.ServeError.{ServeError}
 use Rattle.cut_replay.specs.declared.serving.ServeError.TheVariants as failed
@@ -48,7 +48,7 @@ pub record HasServed {F R : Type 0} (state : F → FlashState) (its : Config) (i
   pub points : List Point
   pub runs : Runs state its init cs replies points s
   pub text : Grew before.text after.text (text_of_all replies)
-  pub kept : Grew before.kept after.kept (told_of replies points)
+  pub kept : Grew before.kept after.kept (replies_told replies points)
   pub set : IfSome (state (flash_in s)).told (LastIsSet cs)
 
 -- at the beginning
@@ -85,7 +85,7 @@ runs_more state its init cs rs ps c r s t h served spends =
 
 -- which was told
 pub served_more : {F R : Type 0} (state : F → FlashState) (its : Config) (init : FlashState) (cs : List Command) (c : Command) (r : Reply) (s t : Session F R) (a b d : Watched) →
-    HasServed state its init cs s a b → Serves state its c s r t → Grew b.text d.text (text_of r) → Grew b.kept d.kept (record { text = text_of r; moment = moment_of (state (flash_in t)) } ∷ []) →
+    HasServed state its init cs s a b → ServesSession state its c s r t → Grew b.text d.text (text_of r) → Grew b.kept d.kept (record { text = text_of r; moment = moment_of (state (flash_in t)) } ∷ []) →
     HasServed state its init (cs ++ c ∷ []) t a d
 served_more state its init cs c r s t a b d h serves text kept =
     let p = point_of state its t in
@@ -96,7 +96,7 @@ served_more state its init cs c r s t a b d h serves text kept =
       runs = runs_more state its init cs h.replies h.points c r s t h.runs serves.in_run serves.spends;
       text = subst (λ (x : List ℕ). Grew a.text d.text x) (sym (text_more h.replies r)) (grew_more a.text b.text d.text (text_of_all h.replies) (text_of r) h.text text);
       kept = subst (λ (x : List ToldReply). Grew a.kept d.kept x) (sym (told_more h.replies h.points r p (same.0 ∙ sym same.1)))
-          (grew_more a.kept b.kept d.kept (told_of h.replies h.points) (record { text = text_of r; moment = p.moment } ∷ []) h.kept
+          (grew_more a.kept b.kept d.kept (replies_told h.replies h.points) (record { text = text_of r; moment = p.moment } ∷ []) h.kept
           (subst (λ (m : Moment). Grew b.kept d.kept (record { text = text_of r; moment = m } ∷ [])) (sym (point_moment state its t)) kept));
       set = last_sets cs c (state (flash_in t)).told serves.set;
     }
@@ -119,8 +119,8 @@ all_served state its init cs s final a b h same no_more =
       run = record { up = h.runs.up; runs = h.runs.run };
       last = run_parts state its init cs h.replies h.points s final h.runs same;
       text = subst (λ (x : List Reply). Grew a.text b.text (text_of_all x)) (sym replies) h.text;
-      kept = subst (λ (x : List Reply). Grew a.kept b.kept (told_of x (take (length cs) h.points))) (sym replies)
-          (subst (λ (x : List Point). Grew a.kept b.kept (told_of h.replies x)) (sym points) h.kept);
+      kept = subst (λ (x : List Reply). Grew a.kept b.kept (replies_told x (take (length cs) h.points))) (sym replies)
+          (subst (λ (x : List Point). Grew a.kept b.kept (replies_told h.replies x)) (sym points) h.kept);
       spends = spends_later cs h.replies init.told (state (flash_in s)).told final.told h.runs.spends no_more;
     }
 
@@ -140,8 +140,8 @@ one_untold state its init cs c r s t a b d h served spends text kept =
       run = record { up = runs.up; runs = runs.run };
       last = run_parts state its init (cs ++ c ∷ []) (h.replies ++ r ∷ []) (h.points ++ p ∷ []) t (state (flash_in t)) runs refl;
       text = subst (λ (x : List Reply). Grew a.text d.text (text_of_all x)) (sym replies) (subst (λ (o : Option (List ℕ)). Grew a.text o (text_of_all h.replies)) (sym text) h.text);
-      kept = subst (λ (x : List Reply). Grew a.kept d.kept (told_of x (take (length cs) (h.points ++ p ∷ [])))) (sym replies)
-          (subst (λ (x : List Point). Grew a.kept d.kept (told_of h.replies x)) (sym points) (subst (λ (o : Option (List ToldReply)). Grew a.kept o (told_of h.replies h.points)) (sym kept) h.kept));
+      kept = subst (λ (x : List Reply). Grew a.kept d.kept (replies_told x (take (length cs) (h.points ++ p ∷ [])))) (sym replies)
+          (subst (λ (x : List Point). Grew a.kept d.kept (replies_told h.replies x)) (sym points) (subst (λ (o : Option (List ToldReply)). Grew a.kept o (replies_told h.replies h.points)) (sym kept) h.kept));
       spends = runs.spends;
     }
 
@@ -178,14 +178,14 @@ unrefused state its seen faulted (session.Mounted s) flash law slot stands h = h
 unrefused state its seen faulted (session.Unmounted old) flash law slot stands h = sound_unbroken its (state old).image (record { law = law; slot = slot }) stands.sound h.1
 
 pub ended_in : {F R : Type 0} (state : F → FlashState) (its : Config) (init : FlashState) (list : List Command) (at : ℕ) (c : Command) (s : Session F R) (flash : F) (why : ServeError) (a b : Watched) → at < length list →
-    c ≡ get_or list at c → HasServed state its init (take at list) s a b → Ends state its c s flash why → ServesSound its list init (state flash) a b (Err why)
+    c ≡ get_or list at c → HasServed state its init (take at list) s a b → EndsServing state its c s flash why → ServesSound its list init (state flash) a b (Err why)
 ended_in state its init list at c s flash (failed.Unsound law slot) a b lt read h ends =
     absurd (unrefused state its (seen_through (mentions_in its (moment_of init)) (take at list) h.replies) (faulted_through false h.replies) s flash law slot h.runs.stands ends.cause)
 ended_in state its init list at c s flash failed.Memory a b lt read h ends = ended_for_memory state its init list at c s flash a b lt read h ends.cause
 
 -- the reply of it could not be told
 pub untold_in : {F R : Type 0} (state : F → FlashState) (its : Config) (init : FlashState) (list : List Command) (at : ℕ) (c : Command) (r : Reply) (s t : Session F R) (flash : F) (a b d : Watched) → at < length list →
-    c ≡ get_or list at c → HasServed state its init (take at list) s a b → Serves state its c s r t → flash ≡ flash_in t → d.text ≡ b.text → d.kept ≡ b.kept → ServesSound its list init (state flash) a d (Err failed.Memory)
+    c ≡ get_or list at c → HasServed state its init (take at list) s a b → ServesSession state its c s r t → flash ≡ flash_in t → d.text ≡ b.text → d.kept ≡ b.kept → ServesSound its list init (state flash) a d (Err failed.Memory)
 untold_in state its init list at c r s t flash a b d lt read h serves is text kept =
     let count : length (take at list) ≡ at = taken_length list at (omega arith) in (
       at,
@@ -197,7 +197,7 @@ untold_in state its init list at c r s t flash a b d lt read h serves is text ke
     )
 
 -- all was served
-no_more_same : (o : Option TellsBreaks) → BothTell NoMore o o
+no_more_same : (o : Option Told) → BothTell NoMore o o
 no_more_same None = tt
 no_more_same (Some told) = (omega arith, omega arith)
 
@@ -223,7 +223,7 @@ refused_for state its init c (session.Unmounted old) flash law slot (inl sound) 
 refused_for state its init c (session.Unmounted old) flash law slot (inr same) ends =
     (ends.0 ∙ same, subst (λ (m : Moment). IsLeastImageBreach its.protocol its.logical (shape_of its) m.image (record { law = law; slot = slot })) same ends.1)
 
-pub refused_in : {F R : Type 0} (state : F → FlashState) (its : Config) (init : FlashState) (c : Command) (s : Session F R) (flash : F) (why : ServeError) → IsSoundOrSame its init (state (flash_in s)) → Ends state its c s flash why →
+pub refused_in : {F R : Type 0} (state : F → FlashState) (its : Config) (init : FlashState) (c : Command) (s : Session F R) (flash : F) (why : ServeError) → IsSoundOrSame its init (state (flash_in s)) → EndsServing state its c s flash why →
     RefusesUnsound its init (state flash) (Err why)
 refused_in state its init c s flash failed.Memory kept ends = kept_more its init (state (flash_in s)) (state flash) kept ends.kept
 refused_in state its init c s flash (failed.Unsound law slot) kept ends = refused_for state its init c s flash law slot kept ends.cause

@@ -13,7 +13,7 @@ use Rattle.host_protocol.specs.declared.command.Command.{Command}
 use Rattle.host_protocol.specs.declared.command.Command.TheVariants as command
 use Rattle.host_protocol.specs.declared.reply.Reply.{Reply}
 use Rattle.host_protocol.specs.declared.reply.Reply.TheVariants as reply
-use Rattle.cut_replay.specs.Run.{Run, Serves, Does, NotDone, IsCut, is_arm, is_break, seen_after, step_reply}
+use Rattle.cut_replay.specs.Run.{Run, Serves, DoesCommand, NotDone, IsCut, is_arm, is_break, seen_after, step_reply}
 use Rattle.cut_replay.specs.FlashRun.{Point, FlashRun, ServesFlash, IsDone, MovesBy, is_fault, last_state}
 use Rattle.cut_replay.specs.Bounds.{AreFew, is_cut, arms_cut, arms_fault}
 use Rattle.cut_replay.specs.Unbroken.{UnbrokenRun, FinishesAreDone, state_after}
@@ -26,7 +26,7 @@ match_weaker false P P' Q Q' p q h = q h
 serves_machine : (its : Config) (spent : ℕ → Bool) (faulted : Bool) (c : Command) (old : Point) (r : Reply) (new : Point) →
     ((NotDone old.state r new.state × (new.moment ≡ old.moment))
     ⊎ (IsDone its spent faulted c old r new ⊎ (IsCut c old.state r new.state × MovesBy its c r old.moment new.moment))) →
-    NotDone old.state r new.state ⊎ ((Does (limits_of its) spent c old.state.machine r new.state.machine × (new.state.up ≡ true)) ⊎ IsCut c old.state r new.state)
+    NotDone old.state r new.state ⊎ ((DoesCommand (limits_of its) spent c old.state.machine r new.state.machine × (new.state.up ≡ true)) ⊎ IsCut c old.state r new.state)
 serves_machine its spent faulted c old r new (inl h) = inl h.0
 serves_machine its spent faulted c old r new (inr (inl h)) = inr (inl (h.does, h.up))
 serves_machine its spent faulted c old r new (inr (inr h)) = inr (inr h.0)

@@ -13,7 +13,7 @@ use Rattle.tx_engine.specs.declared.read.ReadAnswer.{ReadAnswer}
 use Rattle.tx_engine.specs.declared.read.ReadAnswer.TheVariants as answer
 use Rattle.tx_engine.specs.declared.read.ReadError.{ReadError}
 use Rattle.tx_engine.specs.declared.read.ReadError.TheVariants as unread
-use Rattle.cut_replay.specs.Mounted.{is_held, ReadsThrough, ReadsOnce, CachesRead, CachesPage, KeepsPage, brought_forward, with_page}
+use Rattle.cut_replay.specs.Mounted.{is_cached, ReadsThrough, ReadsOnce, CachesRead, CachesPage, KeepsPage, brought_forward, with_page}
 
 -- one read more where it is counted
 abbrev CountsOne : Bool → FlashState → FlashState → Type 0
@@ -60,7 +60,7 @@ through_counts state old new page before after result false reads flash =
 
 pub reads_once : {F : Type 0} (state : F → FlashState) (old new : Standing F) (entries : List CachedPage) (page : ℕ) (before after : List ℕ) (result : Result ReadAnswer ReadError) →
     ReadsPage old.config.logical old.machine.pages page after result → ReadsThrough state old new entries page before after result → ReadsOnce state old new entries page
-reads_once state old new entries page before after result reads through = through_counts state old new page before after result (is_held old entries page) reads through
+reads_once state old new entries page before after result reads through = through_counts state old new page before after result (is_cached old entries page) reads through
 
 -- What is left in the cache
 abbrev Leaves : {F : Type 0} → Standing F → CachedPages → CachedPages → ℕ → Bool → Type 0
@@ -88,7 +88,7 @@ pub page_left : {F : Type 0} (state : F → FlashState) (old new : Standing F) (
     ReadsPage old.config.logical old.machine.pages page after result → ReadsThrough state old new cache.entries page before after result → CachesRead old cache left page after result memory →
     CachesPage old cache left page
 page_left state old new cache left page before after (Ok answer.Page) memory reads through keeps =
-    left_in old cache left page after memory (is_held old cache.entries page) reads.1 keeps
+    left_in old cache left page after memory (is_cached old cache.entries page) reads.1 keeps
 page_left state old new cache left page before after (Ok answer.Blank) memory reads through keeps =
     left_alone old cache left page _ (not_held state old new page before after (Ok answer.Blank) _ through (λ is. cc)) keeps
 page_left state old new cache left page before after (Err e) memory reads through keeps =
@@ -100,4 +100,4 @@ size_in s cache left page false (inl h) = ap (λ (c : CachedPages). c.page_bytes
 size_in s cache left page false (inr h) = ap (λ (c : CachedPages). c.page_bytes) h
 
 pub size_left : {F : Type 0} (s : Standing F) (cache left : CachedPages) (page : ℕ) → CachesPage s cache left page → left.page_bytes ≡ cache.page_bytes
-size_left s cache left page h = size_in s cache left page (is_held s cache.entries page) h
+size_left s cache left page h = size_in s cache left page (is_cached s cache.entries page) h

@@ -7,14 +7,14 @@ use Rattle.std.proofs.lemmas.Bool.{cases_lt}
 use Rattle.std.proofs.lemmas.List.{take_all, take-append-le}
 use Rattle.std.proofs.lemmas.List.Sums.{sum_by_push}
 use Rattle.tx_types.specs.declared.config.Config.{Config}
-use Rattle.flash_model.specs.Flash.{Told as TellsBreaks}
+use Rattle.flash_model.specs.Flash.{Told}
 use Rattle.flash_model.specs.Calls.{BothTell, NoMore}
 use Rattle.host_protocol.specs.declared.command.Command.{Command}
 use Rattle.host_protocol.specs.declared.reply.Reply.{Reply}
 use Rattle.host_protocol.specs.Replies.{text_of}
 use Rattle.cut_replay.specs.Run.{MayBeSpent, seen_after}
 use Rattle.cut_replay.specs.FlashRun.{Point, IsPoint, FlashRun, ServesFlash, is_fault, last_moment}
-use Rattle.cut_replay.specs.Watching.{Grew, text_of_all, told_of}
+use Rattle.cut_replay.specs.Watching.{Grew, text_of_all, replies_told}
 use Rattle.cut_replay.specs.Bounds.{AreSpent, SpendsTold, is_cut, arms_cut, arms_fault, IsSet, LastIsSet}
 use Rattle.cut_replay.specs.Sessions.{IsSpentBy}
 use Rattle.cut_replay.proofs.Spending.{both_tell}
@@ -95,7 +95,7 @@ grew_more (Some a) b d xs ys ab bd = subst (λ o. Grew o d ys) ab bd ∙ ap (λ 
 pub text_more : (rs : List Reply) (r : Reply) → text_of_all (rs ++ r ∷ []) ≡ text_of_all rs ++ text_of r
 text_more rs r = flat_map-append text_of rs (r ∷ []) ∙ ap (λ t. flat_map text_of rs ++ t) (append-nil (text_of r))
 
-pub told_more : (rs : List Reply) (ps : List Point) (r : Reply) (p : Point) → length rs ≡ length ps → told_of (rs ++ r ∷ []) (ps ++ p ∷ []) ≡ told_of rs ps ++ record { text = text_of r; moment = p.moment } ∷ []
+pub told_more : (rs : List Reply) (ps : List Point) (r : Reply) (p : Point) → length rs ≡ length ps → replies_told (rs ++ r ∷ []) (ps ++ p ∷ []) ≡ replies_told rs ps ++ record { text = text_of r; moment = p.moment } ∷ []
 told_more [] [] r p same = refl
 told_more [] (q ∷ ps) r p same = absurd (omega arith)
 told_more (s ∷ rs) [] r p same = absurd (omega arith)
@@ -134,14 +134,14 @@ none_taken : {X : Type 0} (test : X → Bool) (j : ℕ) → count_by test (take 
 none_taken test zero = refl
 none_taken test (suc j) = refl
 
-spent_nothing : (old new : TellsBreaks) → NoMore old new → AreSpent [] [] old new
+spent_nothing : (old new : Told) → NoMore old new → AreSpent [] [] old new
 spent_nothing old new h = record {
   few = λ j. (omega (arith, none_taken is_cut j), omega (arith, none_taken is_fault j));
   cuts = omega (arith, h.0);
   breaks = omega (arith, h.1);
 }
 
-spent_more : (cs : List Command) (rs : List Reply) (c : Command) (r : Reply) → length rs ≡ length cs → (x y z : TellsBreaks) → AreSpent cs rs x y → IsSpentBy c r y z → AreSpent (cs ++ c ∷ []) (rs ++ r ∷ []) x z
+spent_more : (cs : List Command) (rs : List Reply) (c : Command) (r : Reply) → length rs ≡ length cs → (x y z : Told) → AreSpent cs rs x y → IsSpentBy c r y z → AreSpent (cs ++ c ∷ []) (rs ++ r ∷ []) x z
 spent_more cs rs c r same x y z h k =
     let cut_count = count_push is_cut rs r in
     let fault_count = count_push is_fault rs r in
@@ -155,29 +155,29 @@ spent_more cs rs c r same x y z h k =
       breaks = breaks;
     }
 
-spent_later : (cs : List Command) (rs : List Reply) (x y z : TellsBreaks) → AreSpent cs rs x y → NoMore y z → AreSpent cs rs x z
+spent_later : (cs : List Command) (rs : List Reply) (x y z : Told) → AreSpent cs rs x y → NoMore y z → AreSpent cs rs x z
 spent_later cs rs x y z h k = record { few = h.few; cuts = omega (arith, h.cuts, k.0); breaks = omega (arith, h.breaks, k.1) }
 
-pub spends_nothing : (a b : Option TellsBreaks) → BothTell NoMore a b → SpendsTold [] [] a b
+pub spends_nothing : (a b : Option Told) → BothTell NoMore a b → SpendsTold [] [] a b
 spends_nothing a b = weaker_told NoMore (AreSpent [] []) spent_nothing a b
 
-pub spends_more : (cs : List Command) (rs : List Reply) (c : Command) (r : Reply) (a b d : Option TellsBreaks) → length rs ≡ length cs → SpendsTold cs rs a b → BothTell (IsSpentBy c r) b d →
+pub spends_more : (cs : List Command) (rs : List Reply) (c : Command) (r : Reply) (a b d : Option Told) → length rs ≡ length cs → SpendsTold cs rs a b → BothTell (IsSpentBy c r) b d →
     SpendsTold (cs ++ c ∷ []) (rs ++ r ∷ []) a d
 spends_more cs rs c r a b d same = both_tell (AreSpent cs rs) (IsSpentBy c r) (AreSpent (cs ++ c ∷ []) (rs ++ r ∷ [])) (spent_more cs rs c r same) a b d
 
-pub spends_later : (cs : List Command) (rs : List Reply) (a b d : Option TellsBreaks) → SpendsTold cs rs a b → BothTell NoMore b d → SpendsTold cs rs a d
+pub spends_later : (cs : List Command) (rs : List Reply) (a b d : Option Told) → SpendsTold cs rs a b → BothTell NoMore b d → SpendsTold cs rs a d
 spends_later cs rs a b d = both_tell (AreSpent cs rs) NoMore (AreSpent cs rs) (spent_later cs rs) a b d
 
 -- The last arm
-pub last_set : (cs : List Command) (c : Command) (told : TellsBreaks) → IsSet c told → LastIsSet (cs ++ c ∷ []) told
+pub last_set : (cs : List Command) (c : Command) (told : Told) → IsSet c told → LastIsSet (cs ++ c ∷ []) told
 last_set [] c told h = h
 last_set (d ∷ []) c told h = h
 last_set (d ∷ e ∷ cs) c told h = last_set (e ∷ cs) c told h
 
-pub last_sets : (cs : List Command) (c : Command) (o : Option TellsBreaks) → IfSome o (IsSet c) → IfSome o (LastIsSet (cs ++ c ∷ []))
+pub last_sets : (cs : List Command) (c : Command) (o : Option Told) → IfSome o (IsSet c) → IfSome o (LastIsSet (cs ++ c ∷ []))
 last_sets cs c None h = tt
 last_sets cs c (Some told) h = last_set cs c told h
 
-pub none_sets : (o : Option TellsBreaks) → IfSome o (LastIsSet [])
+pub none_sets : (o : Option Told) → IfSome o (LastIsSet [])
 none_sets None = tt
 none_sets (Some told) = tt

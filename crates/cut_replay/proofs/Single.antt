@@ -8,7 +8,7 @@ use Rattle.tx_types.specs.declared.config.Protocol.{Protocol}
 use Rattle.tx_types.specs.declared.config.Shape.{Shape}
 use Rattle.tx_types.specs.Config.{shape_of}
 use Rattle.flash_model.specs.Flash.{FlashState}
-use Rattle.flash_model.specs.Moves.{Does as DoesAll}
+use Rattle.flash_model.specs.Moves.{Does}
 use Rattle.flash_model.specs.Operations.{Operation, Moment, moment_of, erase}
 use Rattle.version_index.specs.Images.{array_in}
 use Rattle.version_index.specs.Noted.{Noted}
@@ -143,9 +143,9 @@ collect_cuts state kept old new there (Err fault) is (inr settles) met = record 
 
 -- the operations of a collection end in an erase
 erased_last : (its : Config) (shape : Shape) (old new : Moment) (first more : List Operation) (block : ℕ) → shape ≡ shape_of its →
-    DoesAll shape old (first ++ more ++ erase block ∷ []) new → HasErased its old new
+    Does shape old (first ++ more ++ erase block ∷ []) new → HasErased its old new
 erased_last its shape old new first more block is does =
-    (first ++ more ++ erase block ∷ [], subst (λ (x : Shape). DoesAll x old (first ++ more ++ erase block ∷ []) new) is does, Any-push IsErase (first ++ more) (erase block) tt)
+    (first ++ more ++ erase block ∷ [], subst (λ (x : Shape). Does x old (first ++ more ++ erase block ∷ []) new) is does, Any-push IsErase (first ++ more) (erase block) tt)
 
 abbrev Collections : {F : Type 0} → (F → FlashState) → Standing F → Standing F → Noted → BlockTable → Collected → Type 0
 Collections state old new n t answer = CollectsTables (state old.flash) (state new.flash) n new.noted t new.table answer

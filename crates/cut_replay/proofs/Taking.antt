@@ -6,7 +6,7 @@ use Rattle.record_list.proofs.Names.{all_from, all_at, pairs_head, pairs_tail, p
 use Rattle.tx_types.specs.Batch.{PageWrite}
 use Rattle.tx_engine.specs.ArrayState.{ArrayState, Entry, Pages, entry_of, has_tag, is_doubted, page_at, put, with_entry, without}
 use Rattle.tx_engine.specs.Step.{doubted, settled, settled_entry}
-use Rattle.cut_replay.specs.Run.{Avoid, AllAvoid, ShareNoPage}
+use Rattle.cut_replay.specs.Run.{Avoid, AllAvoid, EntriesAreApart}
 
 -- ---- the array with some writes
 
@@ -115,12 +115,12 @@ part_all P (n ∷ ns) (o ∷ os) (inl h) all =
     All-cons (λ (e : Entry). P e.writes) n ns (subst P (sym h.0) (All-head (λ (e : Entry). P e.writes) o os all)) (part_all P ns os h.1 (All-tail (λ (e : Entry). P e.writes) o os all))
 part_all P (n ∷ ns) (o ∷ os) (inr h) all = part_all P (n ∷ ns) os h (All-tail (λ (e : Entry). P e.writes) o os all)
 
-pub part_pairs : (ns os : List Entry) → ArePart ns os → AllPairs ShareNoPage os → AllPairs ShareNoPage ns
+pub part_pairs : (ns os : List Entry) → ArePart ns os → AllPairs EntriesAreApart os → AllPairs EntriesAreApart ns
 part_pairs ns [] h all = rw h all
 part_pairs [] (o ∷ os) h all = λ i j d less below. absurd (omega arith)
 part_pairs (n ∷ ns) (o ∷ os) (inl h) all =
     let from : All (λ e. All (λ w. Avoid w.page e.writes) n.writes) os =
-    all_from (λ e. All (λ w. Avoid w.page e.writes) n.writes) os (λ e i. subst (λ (ws : List PageWrite). All (λ w. Avoid w.page e.writes) ws) (sym h.0) (pairs_head ShareNoPage o os e all i)) in
+    all_from (λ e. All (λ w. Avoid w.page e.writes) n.writes) os (λ e i. subst (λ (ws : List PageWrite). All (λ w. Avoid w.page e.writes) ws) (sym h.0) (pairs_head EntriesAreApart o os e all i)) in
     let kept = part_all (λ vs. All (λ w. Avoid w.page vs) n.writes) ns os h.1 from in
-    pairs_cons ShareNoPage n ns (λ e i. all_at (λ (e : Entry). ShareNoPage n e) ns e kept i) (part_pairs ns os h.1 (pairs_tail ShareNoPage o os all))
-part_pairs (n ∷ ns) (o ∷ os) (inr h) all = part_pairs (n ∷ ns) os h (pairs_tail ShareNoPage o os all)
+    pairs_cons EntriesAreApart n ns (λ e i. all_at (λ (e : Entry). EntriesAreApart n e) ns e kept i) (part_pairs ns os h.1 (pairs_tail EntriesAreApart o os all))
+part_pairs (n ∷ ns) (o ∷ os) (inr h) all = part_pairs (n ∷ ns) os h (pairs_tail EntriesAreApart o os all)

@@ -40,7 +40,7 @@ use Rattle.host_protocol.specs.declared.command.Command.{Command}
 use Rattle.host_protocol.specs.declared.command.Command.TheVariants as command
 use Rattle.host_protocol.specs.declared.reply.Reply.{Reply}
 use Rattle.host_protocol.specs.declared.reply.Reply.TheVariants as reply
-use Rattle.cut_replay.specs.Run.{Does, read_reply, submit_reply, is_break, seen_after}
+use Rattle.cut_replay.specs.Run.{DoesCommand, read_reply, submit_reply, is_break, seen_after}
 use Rattle.cut_replay.specs.FlashRun.{Point, Tells, MovesBy, is_fault}
 use Rattle.cut_replay.specs.Bounds.{is_cut}
 use Rattle.cut_replay.specs.Mounted.{point_at, IsSeen, HoldsAlways, ServesHere}
@@ -55,7 +55,7 @@ stays_moved its c r old new same = record {
 
 -- nothing at all changed
 pub same_serves : {F : Type 0} (state : F → FlashState) (c : Command) (s : Standing F) (r : Reply) → is_break r ≡ false → is_fault r ≡ false → is_cut r ≡ false →
-    Does (limits_of s.config) (is_spent s.noted.mentions) c s.machine r s.machine →
+    DoesCommand (limits_of s.config) (is_spent s.noted.mentions) c s.machine r s.machine →
     ((faulted : Bool) → (faulted ≡ false → s.unsure ≡ unsure.Nothing) → Tells s.config faulted (point_at state s) r (point_at state s)) → ServesHere state c s s r
 same_serves state c s r unbroken whole uncut does tells = record {
   config = refl;

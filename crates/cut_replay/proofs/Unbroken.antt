@@ -29,8 +29,8 @@ use Rattle.host_protocol.specs.declared.command.Command.{Command}
 use Rattle.host_protocol.specs.declared.command.Command.TheVariants as command
 use Rattle.host_protocol.specs.declared.reply.Reply.{Reply}
 use Rattle.host_protocol.specs.declared.reply.Reply.TheVariants as reply
-use Rattle.cut_replay.specs.Run.{Run, RunState, Serves, Does, Finishes, NotDone, IsCut, MayBeSpent, seen_after, is_break, is_opened, writes_in, read_reply, submit_reply, step_reply, abort_reply, collect_reply}
-use Rattle.cut_replay.specs.Unbroken.{IsReply, page_reply, state_after, UnbrokenRun, AreMaybeSpent, writes_of, VersionsSuffice}
+use Rattle.cut_replay.specs.Run.{Run, RunState, Serves, DoesCommand, Finishes, NotDone, IsCut, MayBeSpent, seen_after, is_break, is_opened, writes_in, read_reply, submit_reply, step_reply, abort_reply, collect_reply}
+use Rattle.cut_replay.specs.Unbroken.{IsReply, page_reply, state_after, UnbrokenRun, AreMaybeSpent, times_written, VersionsSuffice}
 
 -- a reply that is no break
 pub unlike : (r q : Reply) → is_break r ≡ false → r ≡ q → is_break q ≡ true → ⊥
@@ -89,7 +89,7 @@ abbrev Fine : Limits → (ℕ → Bool) → Command → ArrayState → Reply →
 Fine limits spent c old r new = IsReply limits spent c old r × (new ≡ state_after limits spent c old) × AllPlain new
 
 does_fine : (limits : Limits) (spent : ℕ → Bool) (c : Command) (old : ArrayState) (r : Reply) (new : ArrayState) →
-    AllPlain old → Does limits spent c old r new → is_break r ≡ false → Fine limits spent c old r new
+    AllPlain old → DoesCommand limits spent c old r new → is_break r ≡ false → Fine limits spent c old r new
 does_fine limits spent (command.Read page) old r new plain h b =
     (h.3 ∙ read_fine limits old page h.0 h.1 h.2 (ap is_break (sym h.3) ∙ b), h.4, subst AllPlain (sym h.4) plain)
 does_fine limits spent (command.Write tag batch) old r new plain h b =
@@ -117,7 +117,7 @@ does_fine limits spent (command.Fault count what) old r new plain h b = absurd h
 does_fine limits spent (command.BadRead count) old r new plain h b = absurd h
 
 served_fine : (limits : Limits) (spent : ℕ → Bool) (c : Command) (old : RunState) (r : Reply) (new : RunState) → AllPlain old.machine →
-    (NotDone old r new ⊎ ((Does limits spent c old.machine r new.machine × (new.up ≡ true)) ⊎ IsCut c old r new)) → is_break r ≡ false →
+    (NotDone old r new ⊎ ((DoesCommand limits spent c old.machine r new.machine × (new.up ≡ true)) ⊎ IsCut c old r new)) → is_break r ≡ false →
     Fine limits spent c old.machine r new.machine
 served_fine limits spent c old r new plain (inl h) b = elim h.1 [
   | inl e ↦ absurd (unlike r reply.Fault b e refl)
@@ -185,8 +185,8 @@ none_spent seen (c ∷ cs) (r ∷ rs) (spent ∷ spents) low may =
     let lower : VersionsSuffice (seen_after seen c r) cs = λ page.
     (
     let most : seen_after seen c r page ≤ seen page + count_by (is_of page) (writes_in c) = seen_step (is_opened r) (seen page) (count_by (is_of page) (writes_in c)) in
-    let split : writes_of page (c ∷ cs) ≡ count_by (is_of page) (writes_in c) + writes_of page cs = sum_by-cons (λ c. count_by (is_of page) (writes_in c)) c cs in
+    let split : times_written page (c ∷ cs) ≡ count_by (is_of page) (writes_in c) + times_written page cs = sum_by-cons (λ c. count_by (is_of page) (writes_in c)) c cs in
     let all = low page in
     omega arith) in
-    All-cons (λ spent. (page : ℕ) → spent page ≡ false) spent spents (λ page. not_yet spent seen page (writes_of page (c ∷ cs)) may.0 (low page))
+    All-cons (λ spent. (page : ℕ) → spent page ≡ false) spent spents (λ page. not_yet spent seen page (times_written page (c ∷ cs)) may.0 (low page))
     (none_spent (seen_after seen c r) cs rs spents lower may.1)

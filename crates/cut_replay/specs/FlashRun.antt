@@ -4,7 +4,7 @@ use Rattle.std.specs.Prelude.{◌≡◌, ◌⊎◌, ℕ, ◌||◌, Bool, true, f
 use Rattle.tx_types.specs.declared.config.Config.{Config}
 use Rattle.tx_types.specs.Config.{shape_of}
 use Rattle.flash_model.specs.Operations.{Operation, program, erase, Moment}
-use Rattle.flash_model.specs.Moves.{Does as DoesAll, Moves}
+use Rattle.flash_model.specs.Moves.{Does, Moves}
 use Rattle.record_list.specs.Records.{mention}
 use Rattle.version_index.specs.Images.{records_in, array_in, IsSoundImage}
 use Rattle.verdict_report.specs.Report.{report}
@@ -16,7 +16,7 @@ use Rattle.tx_engine.specs.ArrayState.{idle}
 use Rattle.tx_engine.specs.Collections.{HasNothingToCollect}
 use Rattle.tx_engine.specs.Exits.{StandsFor}
 use Rattle.tx_engine.specs.Standing.{limits_of}
-use Rattle.cut_replay.specs.Run.{RunState, Does, NotDone, IsCut, MayBeSpent, is_arm, is_break, seen_after}
+use Rattle.cut_replay.specs.Run.{RunState, DoesCommand, NotDone, IsCut, MayBeSpent, is_arm, is_break, seen_after}
 
 -- where a run stands: its state, and what the flash holds and has counted
 pub record Point : Type 0 where
@@ -54,22 +54,26 @@ IsErase (erase block) = Unit {0}
 
 -- the operations between were done, and a block was erased
 abbrev pub HasErased : Config → Moment → Moment → Type 0
-HasErased its old new = (done : List Operation) × DoesAll (shape_of its) old done new × Any IsErase done
+HasErased its old new =
+    (done : List Operation) × Does (shape_of its) old done new × Any IsErase done
 
 -- What a reply tells of the flash: the counts; the report on the records, where no fault was met before; that a block was
 -- erased; that there is nothing to collect.
 abbrev pub Tells : Config → Bool → Point → Reply → Point → Type 0
-Tells its faulted old (reply.Stats told) new = (told.programs ≡ new.moment.programs) × (told.erases ≡ new.moment.erases)
+Tells its faulted old (reply.Stats told) new =
+    (told.programs ≡ new.moment.programs) × (told.erases ≡ new.moment.erases)
 Tells its faulted old (reply.Report text) new =
-    faulted ≡ false → text ≡ report its.protocol (records_in its.protocol new.moment.image) its.logical
+    faulted ≡ false →
+    text ≡ report its.protocol (records_in its.protocol new.moment.image) its.logical
 Tells its faulted old reply.Collected new = HasErased its old.moment new.moment
 Tells its faulted old reply.Nothing new =
     HasNothingToCollect its.protocol its.logical new.moment.image new.state.machine.entries
 Tells its faulted old _ new = Unit {0}
 
 -- the command was done, and power was not cut
-pub record IsDone (its : Config) (spent : ℕ → Bool) (faulted : Bool) (c : Command) (old : Point) (r : Reply) (new : Point) : Type 0 where
-  pub does : Does (limits_of its) spent c old.state.machine r new.state.machine
+pub record IsDone (its : Config) (spent : ℕ → Bool) (faulted : Bool) (c : Command) (old : Point)
+    (r : Reply) (new : Point) : Type 0 where
+  pub does : DoesCommand (limits_of its) spent c old.state.machine r new.state.machine
   pub up : new.state.up ≡ true
   pub moves : MovesBy its c r old.moment new.moment
   pub tells : Tells its faulted old r new
@@ -79,7 +83,8 @@ abbrev pub ServesFlash : Config → (ℕ → Bool) → Bool → Command → Poin
 ServesFlash its spent faulted c old r new =
     MatchBool (is_arm c) ((r ≡ reply.Armed) × (new ≡ old))
     ((NotDone old.state r new.state × (new.moment ≡ old.moment))
-    ⊎ (IsDone its spent faulted c old r new ⊎ (IsCut c old.state r new.state × MovesBy its c r old.moment new.moment)))
+    ⊎ (IsDone its spent faulted c old r new
+    ⊎ (IsCut c old.state r new.state × MovesBy its c r old.moment new.moment)))
 
 abbrev pub is_fault : Reply → Bool
 is_fault reply.Fault = true
@@ -87,7 +92,8 @@ is_fault _ = false
 
 -- A run over a list of commands: one reply and one point for each. `seen` is at least the greatest mention of each page on the
 -- flash, and `faulted` says whether a fault was met before.
-abbrev pub FlashRun : Config → (ℕ → ℕ) → Bool → Point → List Command → List Reply → List Point → Type 0
+abbrev pub FlashRun : Config → (ℕ → ℕ) → Bool → Point → List Command → List Reply → List Point →
+    Type 0
 FlashRun its seen faulted old [] [] [] = Unit {0}
 FlashRun its seen faulted old (c ∷ cs) (r ∷ rs) (p ∷ ps) =
     ((spent : ℕ → Bool) × MayBeSpent seen spent × ServesFlash its spent faulted c old r p)
@@ -98,7 +104,8 @@ FlashRun its seen faulted old _ _ _ = ⊥
 -- the point at which a run begins: the array of the image, with nothing open
 abbrev pub opening_point : Config → Bool → Moment → Point
 opening_point its its_up its_moment = record {
-  state = record { machine = idle (array_in its.protocol its.logical its_moment.image); up = its_up };
+  state =
+      record { machine = idle (array_in its.protocol its.logical its_moment.image); up = its_up };
   moment = its_moment;
 }
 
@@ -107,7 +114,8 @@ abbrev pub mentions_in : Config → Moment → ℕ → ℕ
 mentions_in its m page = mention (records_in its.protocol m.image) page
 
 -- a run on a flash from this moment on, and the moment where it ends
-pub record IsFlashRun (its : Config) (from : Moment) (cs : List Command) (rs : List Reply) (ps : List Point) : Type 0 where
+pub record IsFlashRun (its : Config) (from : Moment) (cs : List Command) (rs : List Reply)
+    (ps : List Point) : Type 0 where
   pub up : Bool
   pub runs : FlashRun its (mentions_in its from) false (opening_point its up from) cs rs ps
 

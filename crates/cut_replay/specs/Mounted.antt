@@ -4,6 +4,7 @@ use Rattle.std.specs.Prelude.{Some, is_some, MatchBool, if◌then◌else◌}
 use Rattle.tx_types.specs.declared.memory.Memory.{Memory}
 use Rattle.tx_types.specs.declared.config.Protocol.{Protocol}
 use Rattle.tx_types.specs.Config.{checked, shape_of}
+use Rattle.tx_types.specs.Limits.{max_pending}
 use Rattle.flash_model.specs.Flash.{FlashState, counted}
 use Rattle.flash_model.specs.Calls.{Carries, BothTell, NoMore}
 use Rattle.flash_model.specs.Operations.{moment_of}
@@ -11,7 +12,7 @@ use Rattle.version_index.specs.Images.{IsSoundImage, array_in, records_in}
 use Rattle.version_index.specs.Notes.{found_in}
 use Rattle.version_index.specs.Noted.{current_of, mention_of}
 use Rattle.collector.specs.declared.unsure.Unsure.TheVariants as unsure
-use Rattle.page_cache.specs.CachedPages.{CachedPage, CachedPages, entry_of, promoted, kept}
+use Rattle.page_cache.specs.CachedPages.{CachedPage, CachedPages, cached_page, promoted, kept}
 use Rattle.tx_engine.specs.ArrayState.{ArrayState, page_at, idle}
 use Rattle.tx_engine.specs.Exits.{StandsFor, MentionsAtMost, VersionsTell, IsNamedAt}
 use Rattle.tx_engine.specs.Naming.{is_spent}
@@ -25,13 +26,14 @@ use Rattle.tx_engine.specs.declared.step.StepError.TheVariants as failed
 use Rattle.host_protocol.specs.declared.command.Command.{Command}
 use Rattle.host_protocol.specs.declared.command.Command.TheVariants as command
 use Rattle.host_protocol.specs.declared.reply.Reply.{Reply}
-use Rattle.cut_replay.specs.Run.{Does, MayBeCut, MayComplete, seen_after}
+use Rattle.cut_replay.specs.Run.{DoesCommand, MayBeCut, MayComplete, seen_after}
 use Rattle.cut_replay.specs.FlashRun.{Point, MovesBy, Tells, is_fault}
 use Rattle.cut_replay.specs.Bounds.{is_cut}
 
 -- the point of a run at which a device is mounted
 abbrev pub point_at : {F : Type 0} → (F → FlashState) → Standing F → Point
-point_at state s = record { state = record { machine = s.machine; up = true }; moment = moment_of (state s.flash) }
+point_at state s =
+    record { state = record { machine = s.machine; up = true }; moment = moment_of (state s.flash) }
 
 -- each page is mentioned so often at most, and named so high by an open transaction
 pub record IsSeen {F : Type 0} (seen : ℕ → ℕ) (s : Standing F) : Type 0 where
@@ -42,33 +44,42 @@ pub record IsSeen {F : Type 0} (seen : ℕ → ℕ) (s : Standing F) : Type 0 wh
 pub record IsCachedAs {F : Type 0} (s : Standing F) (e : CachedPage) : Type 0 where
   pub exists : e.page < s.config.logical
   pub least : e.version ≤ current_of s.noted e.page
-  pub current : e.version ≡ current_of s.noted e.page → page_at s.machine.pages e.page ≡ Some e.bytes
+  pub current : e.version ≡ current_of s.noted e.page →
+      page_at s.machine.pages e.page ≡ Some e.bytes
 
 abbrev pub IsCached : {F : Type 0} → Standing F → List CachedPage → Type 0
 IsCached s entries = All (IsCachedAs s) entries
 
 -- What holds of a device at every moment: of its flash, and of what a power cut leaves that was met in a call which led
 -- here.
-pub record HoldsAlways {F : Type 0} (state : F → FlashState) (protocol : Protocol) (s : Standing F) : Type 0 where
+pub record HoldsAlways {F : Type 0} (state : F → FlashState) (protocol : Protocol)
+    (s : Standing F) : Type 0 where
   pub rule : s.config.protocol ≡ protocol
   pub check : checked s.config ≡ Ok (state s.flash).shape
   pub shape : (state s.flash).shape ≡ shape_of s.config
-  pub few : s.config.pending ≤ 256
-  pub sound : IsSoundImage s.config.protocol s.config.logical (shape_of s.config) (state s.flash).image
-  pub array : StandsFor s.machine (array_in s.config.protocol s.config.logical (state s.flash).image)
-  pub records : s.unsure ≡ unsure.Nothing → records_in s.config.protocol (state s.flash).image ≡ found_in s.noted.notes
+  pub few : s.config.pending ≤ max_pending
+  pub sound : IsSoundImage s.config.protocol s.config.logical (shape_of s.config)
+      (state s.flash).image
+  pub array : StandsFor s.machine
+      (array_in s.config.protocol s.config.logical (state s.flash).image)
+  pub records : s.unsure ≡ unsure.Nothing →
+      records_in s.config.protocol (state s.flash).image ≡ found_in s.noted.notes
   pub its : s.noted.config ≡ s.config
   pub mentions : MentionsAtMost s.noted s.namings (state s.flash).image
   pub beyond : (page : ℕ) → s.config.logical ≤ page → mention_of s.noted page ≡ 0
-  pub step_cut : (old : ArrayState) (there : Bool) (tag : ℕ) → StepsAs there old s.machine tag (Err failed.Fault) →
+  pub step_cut : (old : ArrayState) (there : Bool) (tag : ℕ) →
+      StepsAs there old s.machine tag (Err failed.Fault) →
       CutLeaves (λ e. (e.tag ≡ tag) × IsAtLast e) old
       (idle (array_in s.config.protocol s.config.logical (state s.flash).image))
-  pub same_cut : CutLeaves (λ e. ⊥) s.machine (idle (array_in s.config.protocol s.config.logical (state s.flash).image))
+  pub same_cut : CutLeaves (λ e. ⊥) s.machine
+      (idle (array_in s.config.protocol s.config.logical (state s.flash).image))
   pub settled_cut : (old : ArrayState) (there : Bool) → s.machine ≡ settled there old →
-      CutLeaves (λ e. ⊥) old (idle (array_in s.config.protocol s.config.logical (state s.flash).image))
+      CutLeaves (λ e. ⊥) old
+      (idle (array_in s.config.protocol s.config.logical (state s.flash).image))
 
 -- what a power cut leaves, if the call met one
-pub record MayHaveCut {F : Type 0} (state : F → FlashState) (c : Command) (old new : Standing F) : Type 0 where
+pub record MayHaveCut {F : Type 0} (state : F → FlashState) (c : Command)
+    (old new : Standing F) : Type 0 where
   pub may : MayBeCut old.machine.pages c
   pub leaves : CutLeaves (MayComplete c) old.machine
       (idle (array_in new.config.protocol new.config.logical (state new.flash).image))
@@ -77,7 +88,8 @@ pub record MayHaveCut {F : Type 0} (state : F → FlashState) (c : Command) (old
 pub record ServesHere {F : Type 0}
     (state : F → FlashState) (c : Command) (old new : Standing F) (r : Reply) : Type 0 where
   pub config : new.config ≡ old.config
-  pub does : Does (limits_of old.config) (is_spent old.noted.mentions) c old.machine r new.machine
+  pub does : DoesCommand (limits_of old.config)
+      (is_spent old.noted.mentions) c old.machine r new.machine
   pub moves : MovesBy old.config c r (moment_of (state old.flash)) (moment_of (state new.flash))
   pub carries : Carries (state old.flash) (state new.flash) (is_fault r)
   pub tells : (faulted : Bool) → (faulted ≡ false → old.unsure ≡ unsure.Nothing) →
@@ -89,29 +101,34 @@ pub record ServesHere {F : Type 0}
   pub whole : is_cut r ≡ false
 
 -- moment and shape stay, and no more is to come
-pub record IsStill (old new : FlashState) : Type 0 where
+pub record MomentStays (old new : FlashState) : Type 0 where
   pub moment : moment_of new ≡ moment_of old
   pub shape : new.shape ≡ old.shape
   pub told : BothTell NoMore old.told new.told
 
 -- whether a page is held in the cache at its current version
-abbrev pub is_held : {F : Type 0} → Standing F → List CachedPage → ℕ → Bool
-is_held s entries page = nat_lt page s.config.logical && is_some (entry_of page (current_of s.noted page) entries)
+abbrev pub is_cached : {F : Type 0} → Standing F → List CachedPage → ℕ → Bool
+is_cached s entries page =
+    nat_lt page s.config.logical && is_some (cached_page page (current_of s.noted page) entries)
 
 -- A read of a page that is held is answered, and leaves the device and its flash; any other is a read of the device.
-abbrev pub ReadsThrough : {F : Type 0} → (F → FlashState) → Standing F → Standing F → List CachedPage → ℕ →
+abbrev pub ReadsThrough : {F : Type 0} → (F → FlashState) → Standing F → Standing F →
+    List CachedPage → ℕ →
     List ℕ → List ℕ → Result ReadAnswer ReadError → Type 0
 ReadsThrough state old new entries page before after result =
-    MatchBool (is_held old entries page) ((new ≡ old) × (result ≡ Ok answer.Page))
-    (ReadsFlash state (read_place old.noted old.unsure page) old.flash new.flash before after result)
+    MatchBool (is_cached old entries page) ((new ≡ old) × (result ≡ Ok answer.Page))
+    (ReadsFlash state
+    (read_place old.noted old.unsure page) old.flash new.flash before after result)
 
 -- the entry of a page at its current version comes to the front
 abbrev pub brought_forward : {F : Type 0} → Standing F → ℕ → CachedPages → CachedPages
-brought_forward s page cache = record cache { entries = promoted page (current_of s.noted page) cache.entries }
+brought_forward s page cache =
+    record cache { entries = promoted page (current_of s.noted page) cache.entries }
 
 -- these bytes of a page come in front, under its current version
 abbrev pub with_page : {F : Type 0} → Standing F → ℕ → List ℕ → CachedPages → CachedPages
-with_page s page bytes cache = record cache { entries = kept page (current_of s.noted page) bytes cache.entries }
+with_page s page bytes cache =
+    record cache { entries = kept page (current_of s.noted page) bytes cache.entries }
 
 -- a page is kept, unless memory ran out
 abbrev pub KeepsPage : {F : Type 0} → Standing F → CachedPages → CachedPages → ℕ → List ℕ →
@@ -124,26 +141,30 @@ KeepsPage s before after page bytes (Err e) = after ≡ before
 abbrev pub CachesRead : {F : Type 0} → Standing F → CachedPages → CachedPages → ℕ → List ℕ →
     Result ReadAnswer ReadError → Result (Unit {0}) Memory → Type 0
 CachesRead s before after page bytes (Ok answer.Page) memory =
-    MatchBool (is_held s before.entries page) (after ≡ brought_forward s page before)
+    MatchBool (is_cached s before.entries page) (after ≡ brought_forward s page before)
     (KeepsPage s before after page bytes memory)
 CachesRead s before after page bytes _ memory = after ≡ before
 
 -- a page that was written and is not held takes a read of the flash
 abbrev pub takes_read : {F : Type 0} → Standing F → List CachedPage → ℕ → Bool
 takes_read s entries page =
-    nat_lt page s.config.logical && is_some (page_at s.machine.pages page) && not (is_held s entries page)
+    nat_lt page s.config.logical && is_some (page_at s.machine.pages page)
+    && not (is_cached s entries page)
 
 -- a read takes one read of a flash that is live where it takes one, and else none
-abbrev pub ReadsOnce : {F : Type 0} → (F → FlashState) → Standing F → Standing F → List CachedPage → ℕ → Type 0
+abbrev pub ReadsOnce : {F : Type 0} → (F → FlashState) → Standing F → Standing F → List CachedPage →
+    ℕ → Type 0
 ReadsOnce state old new entries page =
     (state old.flash).live ≡ true → (state new.flash).reads ≡
-    (if takes_read old entries page then counted (state old.flash).reads else (state old.flash).reads)
+    (if takes_read old entries page then counted (state old.flash).reads
+    else (state old.flash).reads)
 
 -- a page that is held comes to the front; of another one the bytes of the array are kept, or nothing changes
 abbrev pub CachesPage : {F : Type 0} → Standing F → CachedPages → CachedPages → ℕ → Type 0
 CachesPage s before after page =
-    MatchBool (is_held s before.entries page) (after ≡ brought_forward s page before)
-    (((bytes : List ℕ) × (page_at s.machine.pages page ≡ Some bytes) × (after ≡ with_page s page bytes before))
+    MatchBool (is_cached s before.entries page) (after ≡ brought_forward s page before)
+    (((bytes : List ℕ) × (page_at s.machine.pages page ≡ Some bytes)
+    × (after ≡ with_page s page bytes before))
     ⊎ (after ≡ before))
 
 -- what a command does to the cache, and a read to the count of reads; only a read changes the cache

@@ -1,12 +1,13 @@
 -- What a list of commands does on the array machine, and the replies that it may give.
-use Rattle.std.specs.Prelude.{◌≡◌, ◌≢◌, ◌⊎◌, ℕ, ◌+◌, ◌-◌, ◌^◌, ◌<◌, ◌≤◌, Bool, true, false, List, [], ◌∷◌, length, count_by, All, AllPairs, Option, None, Some, IsSome, Result, Ok, Err, MatchBool, if◌then◌else◌}
+use Rattle.std.specs.Prelude.{◌≡◌, ◌≢◌, ◌⊎◌, ℕ, ◌+◌, ◌-◌, ◌<◌, ◌≤◌, Bool, true, false, List, [], ◌∷◌, length, count_by, All, AllPairs, Contains, Option, None, Some, IsSome, Result, Ok, Err, MatchBool, if◌then◌else◌}
 use Rattle.tx_types.specs.Batch.{PageWrite}
+use Rattle.tx_types.specs.Limits.{max_version}
 use Rattle.tx_types.specs.declared.stats.Stats.{Stats}
 use Rattle.tx_engine.specs.ArrayState.{ArrayState, Entry, Pages, entry_of, page_at}
 use Rattle.tx_engine.specs.Collect.{Collects, TellsStats}
 use Rattle.tx_engine.specs.Read.{ReadsPage}
 use Rattle.tx_engine.specs.Submit.{Limits, Submits, is_of}
-use Rattle.tx_engine.specs.Step.{Steps, Aborts, IsAtLast, CutLeaves}
+use Rattle.tx_engine.specs.Step.{Steps, Aborts, IsAtLast, MayTake, CutLeaves, settled}
 use Rattle.tx_engine.specs.declared.mark.Mark.TheVariants.{Whole}
 use Rattle.tx_engine.specs.declared.read.ReadAnswer.{ReadAnswer}
 use Rattle.tx_engine.specs.declared.read.ReadAnswer.TheVariants as answer
@@ -61,12 +62,14 @@ abort_reply tag (Err failed.Unknown) = reply.Unknown tag
 abort_reply tag (Err failed.Fault) = reply.Fault
 
 -- Steps of one transaction through these states, up to the first answer that is no `Wrote`.
-abbrev pub Finishes : ArrayState → List ArrayState → ArrayState → ℕ → Result Progress StepError → Type 0
+abbrev pub Finishes : ArrayState → List ArrayState → ArrayState → ℕ → Result Progress StepError →
+    Type 0
 Finishes old [] new tag (Ok (progress.Wrote done all)) = ⊥
 Finishes old [] new tag (Ok progress.Done) = Steps old new tag (Ok progress.Done)
 Finishes old [] new tag (Err e) = Steps old new tag (Err e)
 Finishes old (mid ∷ mids) new tag result =
-    (done : ℕ) × (all : ℕ) × Steps old mid tag (Ok (progress.Wrote done all)) × Finishes mid mids new tag result
+    (done : ℕ) × (all : ℕ) × Steps old mid tag (Ok (progress.Wrote done all))
+    × Finishes mid mids new tag result
 
 -- how many pages the transaction with a tag has still to write
 abbrev pub left_of : Option Entry → ℕ
@@ -78,7 +81,7 @@ pages_left tag s = left_of (entry_of tag s.entries)
 
 -- a page has no version left only where it may have been mentioned at the last one
 abbrev pub MayBeSpent : (ℕ → ℕ) → (ℕ → Bool) → Type 0
-MayBeSpent seen spent = (page : ℕ) → spent page ≡ true → 2 ^ 62 ≤ seen page
+MayBeSpent seen spent = (page : ℕ) → spent page ≡ true → max_version ≤ seen page
 
 -- the reply of a collection
 abbrev pub collect_reply : Result Collected Fault → Reply
@@ -90,27 +93,30 @@ abbrev pub TellsReport : Reply → Type 0
 TellsReport r = (text : List ℕ) × (r ≡ reply.Report text)
 
 -- A command is done on a mounted device, whose power is not cut: its reply, and the state that it leaves.
-abbrev pub Does : Limits → (ℕ → Bool) → Command → ArrayState → Reply → ArrayState → Type 0
-Does limits spent (command.Read page) old r new =
+abbrev pub DoesCommand : Limits → (ℕ → Bool) → Command → ArrayState → Reply → ArrayState → Type 0
+DoesCommand limits spent (command.Read page) old r new =
     (bytes : List ℕ) × (result : Result ReadAnswer ReadError)
-    × ReadsPage limits.logical old.pages page bytes result × (r ≡ read_reply page bytes result) × (new ≡ old)
-Does limits spent (command.Write tag batch) old r new =
+    × ReadsPage limits.logical old.pages page bytes result × (r ≡ read_reply page bytes result)
+    × (new ≡ old)
+DoesCommand limits spent (command.Write tag batch) old r new =
     (result : Result (Unit {0}) SubmitError)
-    × Submits limits spent old new tag batch.entries result × (r ≡ submit_reply tag (length batch.entries) result)
-Does limits spent (command.Step tag) old r new =
+    × Submits limits spent old new tag batch.entries result
+    × (r ≡ submit_reply tag (length batch.entries) result)
+DoesCommand limits spent (command.Step tag) old r new =
     (result : Result Progress StepError) × Steps old new tag result × (r ≡ step_reply tag result)
-Does limits spent (command.Finish tag) old r new =
-    (mids : List ArrayState) × (result : Result Progress StepError) × Finishes old mids new tag result × (r ≡ step_reply tag result)
-Does limits spent (command.Abort tag) old r new =
+DoesCommand limits spent (command.Finish tag) old r new =
+    (mids : List ArrayState) × (result : Result Progress StepError)
+    × Finishes old mids new tag result × (r ≡ step_reply tag result)
+DoesCommand limits spent (command.Abort tag) old r new =
     (result : Result Aborted StepError) × Aborts old new tag result × (r ≡ abort_reply tag result)
-Does limits spent command.Collect old r new =
+DoesCommand limits spent command.Collect old r new =
     (result : Result Collected Fault) × Collects old new result × (r ≡ collect_reply result)
-Does limits spent command.Stats old r new =
+DoesCommand limits spent command.Stats old r new =
     (told : Stats) × TellsStats old told × (r ≡ reply.Stats told) × (new ≡ old)
-Does limits spent command.Explain old r new = TellsReport r × (new ≡ old)
-Does limits spent (command.Cut count what) old r new = ⊥
-Does limits spent (command.Fault count what) old r new = ⊥
-Does limits spent (command.BadRead count) old r new = ⊥
+DoesCommand limits spent command.Explain old r new = TellsReport r × (new ≡ old)
+DoesCommand limits spent (command.Cut count what) old r new = ⊥
+DoesCommand limits spent (command.Fault count what) old r new = ⊥
+DoesCommand limits spent (command.BadRead count) old r new = ⊥
 
 -- power may be cut while the command is done
 abbrev pub MayBeCut : Pages → Command → Type 0
@@ -150,13 +156,17 @@ NotDone old r new = (old.up ≡ false) × ((r ≡ reply.Fault) ⊎ (r ≡ reply.
 
 -- power was cut while the command was done
 abbrev pub IsCut : Command → RunState → Reply → RunState → Type 0
-IsCut c old r new = (r ≡ reply.Cut) × MayBeCut old.machine.pages c × CutLeaves (MayComplete c) old.machine new.machine
+IsCut c old r new =
+    (r ≡ reply.Cut) × MayBeCut old.machine.pages c
+    × CutLeaves (MayComplete c) old.machine new.machine
 
 -- a command, its reply, and the state that it leaves
 abbrev pub Serves : Limits → (ℕ → Bool) → Command → RunState → Reply → RunState → Type 0
 Serves limits spent c old r new =
     MatchBool (is_arm c) ((r ≡ reply.Armed) × (new ≡ old))
-    (NotDone old r new ⊎ ((Does limits spent c old.machine r new.machine × (new.up ≡ true)) ⊎ IsCut c old r new))
+    (NotDone old r new
+    ⊎ ((DoesCommand limits spent c old.machine r new.machine × (new.up ≡ true))
+    ⊎ IsCut c old r new))
 
 abbrev pub is_opened : Reply → Bool
 is_opened (reply.Opened tag pages) = true
@@ -175,8 +185,8 @@ abbrev pub AllAvoid : ℕ → List Entry → Type 0
 AllAvoid page entries = All (λ e. Avoid page e.writes) entries
 
 -- no page is written by both of these transactions
-abbrev pub ShareNoPage : Entry → Entry → Type 0
-ShareNoPage a b = All (λ w. Avoid w.page b.writes) a.writes
+abbrev pub EntriesAreApart : Entry → Entry → Type 0
+EntriesAreApart a b = All (λ w. Avoid w.page b.writes) a.writes
 
 -- the array has all that a transaction writes
 abbrev pub HasWhole : Pages → Entry → Type 0
@@ -189,7 +199,7 @@ HasSame old new e = All (λ w. page_at new w.page ≡ page_at old w.page) e.writ
 -- The open transactions write no page twice, and only pages of the array, which has all that a whole one writes.
 pub record IsConsistent (s : ArrayState) : Type 0 where
   pub distinct : All (λ e. AllPairs (λ v w. v.page ≢ w.page) e.writes) s.entries
-  pub apart : AllPairs ShareNoPage s.entries
+  pub apart : AllPairs EntriesAreApart s.entries
   pub within : All (λ e. All (λ w. w.page < length s.pages) e.writes) s.entries
   pub whole : All (λ e. e.mark ≡ Whole → HasWhole s.pages e) s.entries
 
@@ -200,9 +210,22 @@ Acknowledges (command.Finish own) r tag = (own ≡ tag) × (r ≡ reply.Done tag
 Acknowledges (command.Abort own) r tag = (own ≡ tag) × (r ≡ reply.Late tag)
 Acknowledges _ r tag = ⊥
 
+-- the reply says that this transaction is done, or that power was cut
+abbrev pub IsDoneOrCut : Reply → ℕ → Type 0
+IsDoneOrCut r tag = (r ≡ reply.Done tag) ⊎ (r ≡ reply.Cut)
+
+-- The array after a command is the settled one, or that with all pages of an open transaction more: of one that the command
+-- may complete, where it is answered as done or power was cut.
+abbrev pub ChangesAtOnce : Command → Reply → ArrayState → ArrayState → Type 0
+ChangesAtOnce c r old new =
+    (there : Bool)
+    × MayTake (settled there old).pages
+    (λ e. Contains old.entries e × (MayComplete c e × IsDoneOrCut r e.tag)) new.pages
+
 -- the pages of a write that was opened may be mentioned once more
 abbrev pub seen_after : (ℕ → ℕ) → Command → Reply → ℕ → ℕ
-seen_after seen c r page = if is_opened r then seen page + count_by (is_of page) (writes_in c) else seen page
+seen_after seen c r page =
+    if is_opened r then seen page + count_by (is_of page) (writes_in c) else seen page
 
 -- A run over a list of commands: one reply for each, from this state to that. `seen` is at least the greatest
 -- mention of each page on the flash.

@@ -8,7 +8,7 @@ use Rattle.version_index.specs.Images.{IsLeastImageBreach}
 use Rattle.host_protocol.specs.declared.command.Command.{Command}
 use Rattle.host_protocol.specs.declared.reply.Reply.{Reply}
 use Rattle.cut_replay.specs.FlashRun.{Point, IsFlashRun, last_moment}
-use Rattle.cut_replay.specs.Watching.{ToldReply, Grew, text_of_all, told_of}
+use Rattle.cut_replay.specs.Watching.{ToldReply, Grew, text_of_all, replies_told}
 use Rattle.cut_replay.specs.Bounds.{SpendsTold, LastIsSet}
 use Rattle.cut_replay.specs.Sessions.{IsSoundOrSame}
 use Rattle.cut_replay.specs.declared.serving.ServeError.{ServeError}
@@ -22,13 +22,14 @@ pub record Watched : Type 0 where
 -- There is one run on the flash over these commands. Its last moment is that of the flash that comes back. Of its
 -- replies the first so many were told, each with its moment.
 pub record ServesRun
-    (its : Config) (cs : List Command) (told : ℕ) (old new : FlashState) (before after : Watched) : Type 0 where
+    (its : Config) (cs : List Command) (told : ℕ) (old new : FlashState)
+    (before after : Watched) : Type 0 where
   pub replies : List Reply
   pub points : List Point
   pub run : IsFlashRun its (moment_of old) cs replies points
   pub last : moment_of new ≡ last_moment (moment_of old) points
   pub text : Grew before.text after.text (text_of_all (take told replies))
-  pub kept : Grew before.kept after.kept (told_of (take told replies) (take told points))
+  pub kept : Grew before.kept after.kept (replies_told (take told replies) (take told points))
   pub spends : SpendsTold cs replies old.told new.told
 
 -- what serving comes to where the image handed in was sound
@@ -48,6 +49,7 @@ ServesSound its cs old new before after (Err (failed.Unsound law slot)) = ⊥
 abbrev pub RefusesUnsound : Config → FlashState → FlashState → Result (Unit {0}) ServeError → Type 0
 RefusesUnsound its old new (Err (failed.Unsound law slot)) =
     (moment_of new ≡ moment_of old)
-    × IsLeastImageBreach its.protocol its.logical (shape_of its) old.image (record { law = law; slot = slot })
+    × IsLeastImageBreach its.protocol its.logical (shape_of its) old.image
+    (record { law = law; slot = slot })
 RefusesUnsound its old new (Err failed.Memory) = IsSoundOrSame its old new
 RefusesUnsound its old new (Ok u) = IsSoundOrSame its old new

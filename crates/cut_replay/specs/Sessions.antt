@@ -22,7 +22,7 @@ use Rattle.host_protocol.specs.declared.reply.Reply.TheVariants as reply
 use Rattle.cut_replay.specs.Run.{MayBeSpent, seen_after}
 use Rattle.cut_replay.specs.FlashRun.{Point, IsPoint, ServesFlash, is_fault, opening_point}
 use Rattle.cut_replay.specs.Bounds.{is_cut, arms_cut, arms_fault, IsSet}
-use Rattle.cut_replay.specs.Mounted.{point_at, IsSeen, IsCached, IsStill, HoldsAlways}
+use Rattle.cut_replay.specs.Mounted.{point_at, IsSeen, IsCached, MomentStays, HoldsAlways}
 use Rattle.cut_replay.specs.declared.session.Session.{Session}
 use Rattle.cut_replay.specs.declared.session.Session.TheVariants as session
 use Rattle.cut_replay.specs.declared.session.Ended.{Ended}
@@ -45,7 +45,8 @@ IsSoundFlash its s = IsSoundImage its.protocol its.logical (shape_of its) s.imag
 
 -- a mounted device is live, with what holds of it at every moment, and the cache holds nothing that is out of date
 pub record FitsMounted {F : Type 0}
-    (state : F → FlashState) (its : Config) (cache : List CachedPage) (s : Standing F) : Type 0 where
+    (state : F → FlashState) (its : Config) (cache : List CachedPage)
+    (s : Standing F) : Type 0 where
   pub config : s.config ≡ its
   pub check : checked its ≡ Ok (state s.flash).shape
   pub live : (state s.flash).live ≡ true
@@ -53,27 +54,32 @@ pub record FitsMounted {F : Type 0}
   pub always : HoldsAlways state its.protocol s
 
 -- the session is one on a flash of this configuration
-abbrev pub Fits : {F R : Type 0} → (F → FlashState) → Config → List CachedPage → Session F R → Type 0
+abbrev pub Fits : {F R : Type 0} → (F → FlashState) → Config → List CachedPage → Session F R →
+    Type 0
 Fits state its cache (session.Mounted s) = FitsMounted state its cache s
 Fits state its cache (session.Unmounted flash) = checked its ≡ Ok (state flash).shape
 
 -- `seen` is at least each mention, and nothing is unsure where no fault was met
-pub record StandsMounted {F : Type 0} (seen : ℕ → ℕ) (faulted : Bool) (s : Standing F) : Type 0 where
+pub record StandsMounted {F : Type 0} (seen : ℕ → ℕ) (faulted : Bool)
+    (s : Standing F) : Type 0 where
   pub sure : faulted ≡ false → s.unsure ≡ unsure.Nothing
   pub mentions : IsSeen seen s
 
 pub record StandsUnmounted (its : Config) (seen : ℕ → ℕ) (flash : FlashState) : Type 0 where
   pub sound : IsSoundFlash its flash
-  pub mentions : (page : ℕ) → page < its.logical → mention (records_in its.protocol flash.image) page ≤ seen page
+  pub mentions : (page : ℕ) → page < its.logical →
+      mention (records_in its.protocol flash.image) page ≤ seen page
 
-abbrev pub StandsAt : {F R : Type 0} → (F → FlashState) → Config → (ℕ → ℕ) → Bool → Session F R → Type 0
+abbrev pub StandsAt : {F R : Type 0} → (F → FlashState) → Config → (ℕ → ℕ) → Bool → Session F R →
+    Type 0
 StandsAt state its seen faulted (session.Mounted s) = StandsMounted seen faulted s
 StandsAt state its seen faulted (session.Unmounted flash) = StandsUnmounted its seen (state flash)
 
 -- the command and its reply use up a cut or a fault, or an arm brings one
 pub record IsSpentBy (c : Command) (r : Reply) (old new : Told) : Type 0 where
   pub cuts : (if is_cut r then 1 else 0) + new.cuts ≤ old.cuts + (if arms_cut c then 1 else 0)
-  pub breaks : (if is_fault r then 1 else 0) + new.breaks ≤ old.breaks + (if arms_fault c then 1 else 0)
+  pub breaks : (if is_fault r then 1 else 0) + new.breaks ≤ old.breaks +
+      (if arms_fault c then 1 else 0)
 
 -- A command was served in a session, with this reply.
 pub record ServesIn {F R : Type 0}
@@ -90,7 +96,7 @@ abbrev pub IsSoundOrSame : Config → FlashState → FlashState → Type 0
 IsSoundOrSame its old new = IsSoundFlash its new ⊎ (moment_of new ≡ moment_of old)
 
 -- What serving a command comes to, whatever the image is.
-pub record Serves {F R : Type 0}
+pub record ServesSession {F R : Type 0}
     (state : F → FlashState) (its : Config)
     (c : Command) (old : Session F R) (r : Reply) (new : Session F R) : Type 0 where
   pub in_run : (seen : ℕ → ℕ) → (faulted : Bool) → StandsAt state its seen faulted old →
@@ -100,27 +106,31 @@ pub record Serves {F R : Type 0}
   pub set : IfSome (state (flash_in new)).told (IsSet c)
 
 -- The flash was refused: it was never mounted, and its image is not sound.
-abbrev pub Refuses : {F R : Type 0} → (F → FlashState) → Config → Session F R → F → ℕ → Slot → Type 0
+abbrev pub Refuses : {F R : Type 0} → (F → FlashState) → Config → Session F R → F → ℕ → Slot →
+    Type 0
 Refuses state its (session.Mounted s) flash law slot = ⊥
 Refuses state its (session.Unmounted old) flash law slot =
     (moment_of (state flash) ≡ moment_of (state old))
-    × IsLeastImageBreach its.protocol its.logical (shape_of its) (state old).image (record { law = law; slot = slot })
+    × IsLeastImageBreach its.protocol its.logical (shape_of its) (state old).image
+    (record { law = law; slot = slot })
 
 -- there was no memory before the command did anything, or after power was cut in it
-abbrev pub EndsForMemory : {F R : Type 0} → (F → FlashState) → Config → Command → Session F R → F → Type 0
+abbrev pub EndsForMemory : {F R : Type 0} → (F → FlashState) → Config → Command → Session F R → F →
+    Type 0
 EndsForMemory state its c old flash =
-    IsStill (state (flash_in old)) (state flash)
+    MomentStays (state (flash_in old)) (state flash)
     ⊎ (((seen : ℕ → ℕ) → (faulted : Bool) → StandsAt state its seen faulted old →
     ServesIn state its seen faulted c old reply.Cut (session.Unmounted flash))
     × BothTell (IsSpentBy c reply.Cut) (state (flash_in old)).told (state flash).told)
 
 -- Why no more commands are served.
-abbrev pub EndsFor : {F R : Type 0} → (F → FlashState) → Config → Command → Session F R → F → ServeError → Type 0
+abbrev pub EndsFor : {F R : Type 0} → (F → FlashState) → Config → Command → Session F R → F →
+    ServeError → Type 0
 EndsFor state its c old flash (failed.Unsound law slot) = Refuses state its old flash law slot
 EndsFor state its c old flash failed.Memory = EndsForMemory state its c old flash
 
 -- and what the flash is that comes back
-pub record Ends {F R : Type 0}
+pub record EndsServing {F R : Type 0}
     (state : F → FlashState) (its : Config)
     (c : Command) (old : Session F R) (flash : F) (why : ServeError) : Type 0 where
   pub cause : EndsFor state its c old flash why
@@ -128,18 +138,19 @@ pub record Ends {F R : Type 0}
   pub kept : IsSoundOrSame its (state (flash_in old)) (state flash)
 
 -- What mounting a flash comes to: its device, with nothing open; or a read met a fault.
-pub record MountsIn {F : Type 0} (state : F → FlashState) (its : Config) (flash : F) (s : Standing F) : Type 0 where
+pub record MountsIn {F : Type 0} (state : F → FlashState) (its : Config) (flash : F)
+    (s : Standing F) : Type 0 where
   pub config : s.config ≡ its
   pub live : (state s.flash).live ≡ true
   pub machine : s.machine ≡ idle (array_in its.protocol its.logical (state flash).image)
   pub namings : s.namings ≡ []
   pub unsure : s.unsure ≡ unsure.Nothing
   pub tables : IsOpened its (state flash).image s.noted s.table
-  pub still : IsStill (state flash) (state s.flash)
+  pub still : MomentStays (state flash) (state s.flash)
   pub always : HoldsAlways state its.protocol s
 
 pub record MeetsFault (old new : FlashState) : Type 0 where
-  pub still : IsStill old new
+  pub still : MomentStays old new
   pub spends : BothTell (Spends new.live) old.told new.told
 
 abbrev pub Mounted : {F R : Type 0} → (F → FlashState) → Config → F → Session F R → Type 0
@@ -149,21 +160,25 @@ Mounted state its flash (session.Unmounted new) = MeetsFault (state flash) (stat
 -- and why no device was mounted
 abbrev pub Unmounted : {F : Type 0} → (F → FlashState) → Config → F → F → ServeError → Type 0
 Unmounted state its flash new (failed.Unsound law slot) =
-    IsStill (state flash) (state new)
-    × IsLeastImageBreach its.protocol its.logical (shape_of its) (state flash).image (record { law = law; slot = slot })
-Unmounted state its flash new failed.Memory = IsStill (state flash) (state new)
+    MomentStays (state flash) (state new)
+    × IsLeastImageBreach its.protocol its.logical (shape_of its) (state flash).image
+    (record { law = law; slot = slot })
+Unmounted state its flash new failed.Memory = MomentStays (state flash) (state new)
 
 -- an arm of the flash is set, and all else of the session stays
 pub record SetsArmHere {F : Type 0}
-    (state : F → FlashState) (kept : Protocol) (sets : Told → Told → Type 0) (old new : Standing F) : Type 0 where
+    (state : F → FlashState) (kept : Protocol) (sets : Told → Told → Type 0)
+    (old new : Standing F) : Type 0 where
   pub stays : new ≡ record old { flash = new.flash }
   pub changes : ChangesTold sets (state old.flash) (state new.flash)
   pub always : HoldsAlways state kept new
 
 abbrev pub SetsArm : {F R : Type 0} → (F → FlashState) → Protocol → (Told → Told → Type 0) →
     Session F R → Session F R → Type 0
-SetsArm state kept sets (session.Mounted old) (session.Mounted new) = SetsArmHere state kept sets old new
-SetsArm state kept sets (session.Unmounted old) (session.Unmounted new) = ChangesTold sets (state old) (state new)
+SetsArm state kept sets (session.Mounted old) (session.Mounted new) =
+    SetsArmHere state kept sets old new
+SetsArm state kept sets (session.Unmounted old) (session.Unmounted new) =
+    ChangesTold sets (state old) (state new)
 SetsArm state kept sets (session.Mounted old) (session.Unmounted new) = ⊥
 SetsArm state kept sets (session.Unmounted old) (session.Mounted new) = ⊥
 
@@ -176,5 +191,7 @@ MountsAgain state its s (Err ended) = Unmounted state its s.flash ended.flash en
 pub record Follows {F R : Type 0}
     (state : F → FlashState) (its : Config) (s : Standing F) (r : Reply)
     (result : Result (Session F R × Reply) (Ended F)) (before after : CachedPages) : Type 0 where
-  pub went_on : (state s.flash).live ≡ true → (result ≡ Ok (session.Mounted s, r)) × (after ≡ before)
-  pub was_cut : (state s.flash).live ≡ false → MountsAgain state its s result × (after ≡ record before { entries = [] })
+  pub went_on : (state s.flash).live ≡ true →
+      (result ≡ Ok (session.Mounted s, r)) × (after ≡ before)
+  pub was_cut : (state s.flash).live ≡ false →
+      MountsAgain state its s result × (after ≡ record before { entries = [] })

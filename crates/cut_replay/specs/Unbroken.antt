@@ -1,6 +1,7 @@
 -- A run in which power is not cut and nothing fails: its states, and its replies but for what `collect`, `stats` and `explain`
 -- tell of the flash, are functions of the commands and of the pages that are spent at each.
-use Rattle.std.specs.Prelude.{◌≡◌, ◌⊎◌, ℕ, ◌+◌, ◌<◌, ◌^◌, Bool, List, [], ◌∷◌, length, count_by, sum_by, nat_lt, Option, None, Some, IsSome, if◌then◌else◌}
+use Rattle.std.specs.Prelude.{◌≡◌, ◌⊎◌, ℕ, ◌+◌, ◌<◌, Bool, List, [], ◌∷◌, length, count_by, sum_by, nat_lt, Option, None, Some, IsSome, if◌then◌else◌}
+use Rattle.tx_types.specs.Limits.{max_version}
 use Rattle.tx_types.specs.declared.stats.Stats.{Stats}
 use Rattle.tx_engine.specs.ArrayState.{ArrayState, entry_of, page_at}
 use Rattle.tx_engine.specs.Collect.{TellsStats}
@@ -21,12 +22,17 @@ page_reply page (Some bytes) = reply.Page page bytes
 -- functions of the array; all else is.
 abbrev pub IsReply : Limits → (ℕ → Bool) → Command → ArrayState → Reply → Type 0
 IsReply limits spent (command.Read page) s r =
-    r ≡ (if nat_lt page limits.logical then page_reply page (page_at s.pages page) else reply.RefusedRange page)
+    r ≡ (if nat_lt page limits.logical then page_reply page (page_at s.pages page)
+    else reply.RefusedRange page)
 IsReply limits spent (command.Write tag batch) s r =
-    r ≡ submit_reply tag (length batch.entries) (answer (refusal limits spent s.entries tag batch.entries))
-IsReply limits spent (command.Step tag) s r = r ≡ step_reply tag (step_answer (entry_of tag s.entries))
-IsReply limits spent (command.Finish tag) s r = r ≡ step_reply tag (finish_answer (entry_of tag s.entries))
-IsReply limits spent (command.Abort tag) s r = r ≡ abort_reply tag (abort_answer (entry_of tag s.entries))
+    r ≡ submit_reply tag (length batch.entries)
+    (answer (refusal limits spent s.entries tag batch.entries))
+IsReply limits spent (command.Step tag) s r =
+    r ≡ step_reply tag (step_answer (entry_of tag s.entries))
+IsReply limits spent (command.Finish tag) s r =
+    r ≡ step_reply tag (finish_answer (entry_of tag s.entries))
+IsReply limits spent (command.Abort tag) s r =
+    r ≡ abort_reply tag (abort_answer (entry_of tag s.entries))
 IsReply limits spent command.Collect s r = (r ≡ reply.Collected) ⊎ (r ≡ reply.Nothing)
 IsReply limits spent command.Stats s r = (told : Stats) × TellsStats s told × (r ≡ reply.Stats told)
 IsReply limits spent command.Explain s r = TellsReport r
@@ -36,32 +42,36 @@ IsReply limits spent (command.BadRead count) s r = r ≡ reply.Armed
 
 -- the state that a command leaves
 abbrev pub state_after : Limits → (ℕ → Bool) → Command → ArrayState → ArrayState
-state_after limits spent (command.Write tag batch) s = opened (refusal limits spent s.entries tag batch.entries) tag batch.entries s
+state_after limits spent (command.Write tag batch) s =
+    opened (refusal limits spent s.entries tag batch.entries) tag batch.entries s
 state_after limits spent (command.Step tag) s = stepped (entry_of tag s.entries) tag s
 state_after limits spent (command.Finish tag) s = finished (entry_of tag s.entries) tag s
 state_after limits spent (command.Abort tag) s = aborted_from (entry_of tag s.entries) tag s
 state_after limits spent _ s = s
 
 -- the commands on this state, with the pages that are spent at each and their replies, leave that state
-abbrev pub UnbrokenRun : Limits → List (ℕ → Bool) → ArrayState → List Command → List Reply → ArrayState → Type 0
+abbrev pub UnbrokenRun : Limits → List (ℕ → Bool) → ArrayState → List Command → List Reply →
+    ArrayState → Type 0
 UnbrokenRun limits [] old [] [] new = new ≡ old
 UnbrokenRun limits (spent ∷ spents) old (c ∷ cs) (r ∷ rs) new =
-    IsReply limits spent c old r × UnbrokenRun limits spents (state_after limits spent c old) cs rs new
+    IsReply limits spent c old r
+    × UnbrokenRun limits spents (state_after limits spent c old) cs rs new
 UnbrokenRun limits _ old _ _ new = ⊥
 
 -- each of these may be the pages that are spent at its command, where `seen` is at least the greatest mention of each page
 abbrev pub AreMaybeSpent : (ℕ → ℕ) → List Command → List Reply → List (ℕ → Bool) → Type 0
 AreMaybeSpent seen [] [] [] = Unit {0}
-AreMaybeSpent seen (c ∷ cs) (r ∷ rs) (spent ∷ spents) = MayBeSpent seen spent × AreMaybeSpent (seen_after seen c r) cs rs spents
+AreMaybeSpent seen (c ∷ cs) (r ∷ rs) (spent ∷ spents) =
+    MayBeSpent seen spent × AreMaybeSpent (seen_after seen c r) cs rs spents
 AreMaybeSpent seen _ _ _ = ⊥
 
 -- in how many entries of the writes among these commands a page stands
-abbrev pub writes_of : ℕ → List Command → ℕ
-writes_of page cs = sum_by (λ c. count_by (is_of page) (writes_in c)) cs
+abbrev pub times_written : ℕ → List Command → ℕ
+times_written page cs = sum_by (λ c. count_by (is_of page) (writes_in c)) cs
 
 -- no page comes to its last version by these commands
 abbrev pub VersionsSuffice : (ℕ → ℕ) → List Command → Type 0
-VersionsSuffice seen cs = (page : ℕ) → seen page + writes_of page cs < 2 ^ 62
+VersionsSuffice seen cs = (page : ℕ) → seen page + times_written page cs < max_version
 
 -- a finish of an open transaction replies that it is done
 abbrev pub FinishIsDone : Command → ArrayState → Reply → Type 0
@@ -69,7 +79,8 @@ FinishIsDone (command.Finish tag) s r = IsSome (entry_of tag s.entries) → r �
 FinishIsDone _ s r = Unit {0}
 
 -- each finish among the commands on this state does
-abbrev pub FinishesAreDone : Limits → List (ℕ → Bool) → ArrayState → List Command → List Reply → Type 0
+abbrev pub FinishesAreDone : Limits → List (ℕ → Bool) → ArrayState → List Command → List Reply →
+    Type 0
 FinishesAreDone limits (spent ∷ spents) s (c ∷ cs) (r ∷ rs) =
     FinishIsDone c s r × FinishesAreDone limits spents (state_after limits spent c s) cs rs
 FinishesAreDone limits _ s _ _ = Unit {0}

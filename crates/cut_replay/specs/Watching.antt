@@ -21,5 +21,6 @@ abbrev pub text_of_all : List Reply → List ℕ
 text_of_all replies = flat_map text_of replies
 
 -- what is told of replies and the points that they were given at
-abbrev pub told_of : List Reply → List Point → List ToldReply
-told_of replies points = map (λ (r, p). record { text = text_of r; moment = p.moment }) (zip replies points)
+abbrev pub replies_told : List Reply → List Point → List ToldReply
+replies_told replies points =
+    map (λ (r, p). record { text = text_of r; moment = p.moment }) (zip replies points)

@@ -19,6 +19,7 @@ ghost use Rattle.cut_replay.specs.Run.{Run, RunState, Serves, Finishes};
 ghost use Rattle.cut_replay.specs.Run.{pages_left, is_arm, is_break, writes_in};
 ghost use Rattle.cut_replay.specs.Run.{Avoid, AllAvoid, HasWhole, HasSame, IsConsistent};
 ghost use Rattle.cut_replay.specs.Run.{Acknowledges, IsCut, MayComplete};
+ghost use Rattle.cut_replay.specs.Run.{ChangesAtOnce, IsDoneOrCut};
 ghost use Rattle.cut_replay.specs.FlashRun.{Point, IsFlashRun, mentions_in};
 ghost use Rattle.cut_replay.specs.FlashRun.{opening_state, last_state};
 ghost use Rattle.cut_replay.specs.Bounds.{AreFew};
@@ -53,6 +54,22 @@ pub fn finishes_end()
     ensures { (old : ArrayState) (mids : List ArrayState) (new : ArrayState) (tag : ℕ)
         (result : Result Progress StepError) →
         Finishes old mids new tag result → length mids + 1 ≤ max 1 (pages_left tag old) }
+{}
+
+/// Whatever a command is answered, the array changes by whole transactions alone: by that in doubt,
+/// where it turns out to be there, and then by one that the command was to complete, where the
+/// answer is `done`, or power was cut. Any other command leaves the array, where nothing is in
+/// doubt.
+pub fn arrays_change_at_once()
+    ensures at_once { (limits : Limits) (spent : ℕ → Bool)
+        (c : Command) (old : RunState) (r : Reply) (new : RunState) →
+        Serves limits spent c old r new → ChangesAtOnce c r old.machine new.machine }
+    ensures stays { (limits : Limits) (spent : ℕ → Bool)
+        (c : Command) (old : RunState) (r : Reply) (new : RunState) →
+        Serves limits spent c old r new →
+        All (λ e. is_doubted e.mark ≡ false) old.machine.entries →
+        ((tag : ℕ) → IsDoneOrCut r tag → ⊥) →
+        new.machine.pages ≡ old.machine.pages }
 {}
 
 /// A page that no open transaction and no command writes has what it had, over cuts and faults.

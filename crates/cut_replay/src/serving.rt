@@ -4,7 +4,7 @@ ghost use Rattle.flash_model.specs.Flash.{FlashState, IsSteady};
 ghost use Rattle.host_protocol.specs.Commands.{Suits};
 ghost use Rattle.cut_replay.specs.Run.{is_arm};
 ghost use Rattle.cut_replay.specs.Mounted.{IsCached};
-ghost use Rattle.cut_replay.specs.Sessions.{flash_in, Fits, Serves, Ends, Unmounted};
+ghost use Rattle.cut_replay.specs.Sessions.{flash_in, Fits, ServesSession, EndsServing, Unmounted};
 ghost use Rattle.cut_replay.specs.Sessions.{IsSoundFlash, IsSoundOrSame};
 ghost use Rattle.cut_replay.specs.Beginning.{Begins};
 ghost use Rattle.cut_replay.specs.Served.{ServesSound, RefusesUnsound};
@@ -48,9 +48,9 @@ fn serve_mounted<F: Power, R: CommitRule>(
     requires size { cache.old.page_bytes ≡ config.page_bytes }
     ensures fits { IfOk result (λ done. Fits {R = R} F.state config cache.new.entries done.0) }
     ensures serves { IfOk result (λ done.
-        Serves F.state config command.now (Session.Mounted device) done.1 done.0) }
+        ServesSession F.state config command.now (Session.Mounted device) done.1 done.0) }
     ensures ends { IfErr result (λ e.
-        Ends {R = R} F.state config command.now (Session.Mounted device) e.flash e.why) }
+        EndsServing {R = R} F.state config command.now (Session.Mounted device) e.flash e.why) }
     ensures size { cache.new.page_bytes ≡ cache.old.page_bytes }
 {
     match done(alloc, &mut device, cache, room, command) {
@@ -79,9 +79,9 @@ fn serve_unmounted<F: Power, R: CommitRule>(
     requires size { cache.old.page_bytes ≡ config.page_bytes }
     ensures fits { IfOk result (λ done. Fits {R = R} F.state config cache.new.entries done.0) }
     ensures serves { IfOk result (λ done.
-        Serves F.state config command.now (Session.Unmounted flash) done.1 done.0) }
+        ServesSession F.state config command.now (Session.Unmounted flash) done.1 done.0) }
     ensures ends { IfErr result (λ e.
-        Ends {R = R} F.state config command.now (Session.Unmounted flash) e.flash e.why) }
+        EndsServing {R = R} F.state config command.now (Session.Unmounted flash) e.flash e.why) }
     ensures size { cache.new.page_bytes ≡ cache.old.page_bytes }
 {
     match mount(alloc, flash, config, cache)? {
@@ -107,9 +107,9 @@ fn serve_one<F: Power + Arms, R: CommitRule>(
     requires size { cache.old.page_bytes ≡ config.page_bytes }
     ensures fits { IfOk result (λ done. Fits {R = R} F.state config cache.new.entries done.0) }
     ensures serves { IfOk result (λ done.
-        Serves F.state config command.now session done.1 done.0) }
+        ServesSession F.state config command.now session done.1 done.0) }
     ensures ends { IfErr result (λ e.
-        Ends {R = R} F.state config command.now session e.flash e.why) }
+        EndsServing {R = R} F.state config command.now session e.flash e.why) }
     ensures size { cache.new.page_bytes ≡ cache.old.page_bytes }
 {
     match command {

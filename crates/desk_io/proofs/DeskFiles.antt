@@ -12,7 +12,7 @@ use Rattle.std.specs.Str.{bytes_eq}
 use Rattle.std.specs.FinMap as files
 use Rattle.std.proofs.lemmas.Map.Text.{btree_map_updates_text, is_eq-slice_cmp}
 use Rattle.desk_io.specs.Desk.{Files, file_at}
-use Rattle.desk_io.specs.Kept.{entry_of}
+use Rattle.desk_io.specs.Kept.{kept_file}
 
 -- names to bytes, with what a `Vec` keeps beside them
 abbrev pub Kept : Type 0
@@ -21,22 +21,22 @@ Kept = BTreeMap (String Global) (Vec ℕ Global)
 abbrev bytes_of : Vec ℕ Global → List ℕ
 bytes_of v = v.items
 
-find-entry_of : (name : List ℕ) (es : List (String Global × Vec ℕ Global))
-    → files.find (slice_cmp nat_cmp) name (map entry_of es)
+find-kept_file : (name : List ℕ) (es : List (String Global × Vec ℕ Global))
+    → files.find (slice_cmp nat_cmp) name (map kept_file es)
     ≡ option_map bytes_of (lookup (is_at (λ k. slice_cmp nat_cmp name (string_bytes k))) es)
-find-entry_of name [] = refl
-find-entry_of name (e ∷ es) =
+find-kept_file name [] = refl
+find-kept_file name (e ∷ es) =
     elim (is_eq (slice_cmp nat_cmp name (string_bytes e.0))) as (λ b.
-    cond b (Some e.1.items) (files.find (slice_cmp nat_cmp) name (map entry_of es))
+    cond b (Some e.1.items) (files.find (slice_cmp nat_cmp) name (map kept_file es))
     ≡ option_map bytes_of (cond b (Some e.1) (lookup (is_at (λ k. slice_cmp nat_cmp name (string_bytes k))) es))) [
       | true ↦ refl
-      | false ↦ find-entry_of name es
+      | false ↦ find-kept_file name es
     ]
 
 -- a file is what the map has at its name
 pub file_at-kept : (m : Kept) (name : List ℕ)
-    → file_at (files.from_entries (map entry_of m.entries)) name ≡ option_map bytes_of (get_by_text m name)
-file_at-kept m name = files.get-from_entries nat_list_cmp_total (map entry_of m.entries) name ∙ find-entry_of name m.entries
+    → file_at (files.from_entries (map kept_file m.entries)) name ≡ option_map bytes_of (get_by_text m name)
+file_at-kept m name = files.get-from_entries nat_list_cmp_total (map kept_file m.entries) name ∙ find-kept_file name m.entries
 
 option_map-cond : (b : Bool) (v : Vec ℕ Global) (o : Option (Vec ℕ Global))
     → option_map bytes_of (cond b (Some v) o) ≡ cond b (Some v.items) (option_map bytes_of o)
@@ -50,11 +50,11 @@ ties name q = sym (is_eq-slice_cmp name q) ∙ (eq_by_cmp_equiv nat_list_cmp_tot
 -- a new value in the map is a new file
 pub insert-kept : (m n : Kept) (key : String Global) (v : Vec ℕ Global) (name : List ℕ) → string_bytes key ≡ name
     → Updates string_cmp m n key (Some v)
-    → ◌≡◌ {A = Files} (files.from_entries (map entry_of n.entries)) (files.insert (files.from_entries (map entry_of m.entries)) name v.items)
+    → ◌≡◌ {A = Files} (files.from_entries (map kept_file n.entries)) (files.insert (files.from_entries (map kept_file m.entries)) name v.items)
 insert-kept m n key v name is updates =
     files.same_map nat_list_cmp_total (files.slice_cmp-IsAntisymmetric files.nat_cmp-IsAntisymmetric) _ _ (λ q.
     file_at-kept n q ∙ ap (option_map bytes_of) (btree_map_updates_text (string_bytes key) m n (Some v) updates q)
     ∙ option_map-cond (bytes_eq (string_bytes key) q) v (get_by_text m q)
     ∙ ap (λ b. cond b (Some v.items) (option_map bytes_of (get_by_text m q))) (ap (λ k. bytes_eq k q) is ∙ ties name q)
     ∙ ap (cond (is_eq (slice_cmp nat_cmp q name)) (Some v.items)) (sym (file_at-kept m q))
-    ∙ sym (files.get-insert nat_list_cmp_total (files.from_entries (map entry_of m.entries)) name v.items q))
+    ∙ sym (files.get-insert nat_list_cmp_total (files.from_entries (map kept_file m.entries)) name v.items q))

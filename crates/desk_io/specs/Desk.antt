@@ -19,20 +19,20 @@ abbrev pub file_at : Files → List ℕ → Option (List ℕ)
 file_at files name = map.get files name
 
 -- these files, but that the one of this name has these bytes, or is gone
-abbrev pub put : Files → List ℕ → Option (List ℕ) → Files
-put files name (Some bytes) = map.insert files name bytes
-put files name None = map.remove files name
+abbrev pub files_with : Files → List ℕ → Option (List ℕ) → Files
+files_with files name (Some bytes) = map.insert files name bytes
+files_with files name None = map.remove files name
 
 -- What a desk tells: its files, all bytes that were said on it, and how many calls were made of it. A call that ran
 -- out of memory counts as none.
-pub record Contents : Type 0 where
+pub record DeskContents : Type 0 where
   pub files : Files
   pub said : List ℕ
   pub calls : ℕ
 
 -- A desk: what it tells, if it does, and how many of its calls failed.
 pub record DeskState : Type 0 where
-  pub told : Option Contents
+  pub told : Option DeskContents
   pub faults : ℕ
 
 -- a count goes up by one and stands still at the end of its type
@@ -44,54 +44,57 @@ abbrev pub Rose : ℕ → ℕ → Type 0
 Rose before now = counted before ≤ now
 
 -- with one file changed
-abbrev pub with_file : List ℕ → Option (List ℕ) → Contents → Contents
-with_file name left c = record c { files = put c.files name left }
+abbrev pub with_file : List ℕ → Option (List ℕ) → DeskContents → DeskContents
+with_file name left c = record c { files = files_with c.files name left }
 
 -- with these bytes said after all others
-abbrev pub with_said : List ℕ → Contents → Contents
+abbrev pub with_said : List ℕ → DeskContents → DeskContents
 with_said bytes c = record c { said = c.said ++ bytes }
 
 -- with nothing changed
-abbrev pub as_before : Contents → Contents
+abbrev pub as_before : DeskContents → DeskContents
 as_before c = c
 
 -- a call more, which changed the contents so
-abbrev pub called : (Contents → Contents) → Contents → Contents
+abbrev pub called : (DeskContents → DeskContents) → DeskContents → DeskContents
 called change c = record (change c) { calls = counted (change c).calls }
 
 -- the desk after a call that did not fail and changed its contents so
-abbrev pub after_answer : (Contents → Contents) → DeskState → DeskState
+abbrev pub after_answer : (DeskContents → DeskContents) → DeskState → DeskState
 after_answer change desk = record desk { told = option_map (called change) desk.told }
 
 -- the desk after a call that failed and changed its contents so
-abbrev pub after_fault : (Contents → Contents) → DeskState → DeskState
-after_fault change desk = record { told = option_map (called change) desk.told; faults = counted desk.faults }
+abbrev pub after_fault : (DeskContents → DeskContents) → DeskState → DeskState
+after_fault change desk =
+    record { told = option_map (called change) desk.told; faults = counted desk.faults }
 
 -- the most bytes of a file that is loaded
 abbrev pub max_file_bytes : ℕ
 max_file_bytes = 134217728
 
 -- what a load finds at a name
-pub data Found : Type 0 where
-  Missing : Found
-  TooLong : Found
-  Bytes : (bytes : List ℕ) → Found
+pub data FileFound : Type 0 where
+  Missing : FileFound
+  TooLong : FileFound
+  Bytes : (bytes : List ℕ) → FileFound
 
-abbrev pub found_of : Option (List ℕ) → Found
-found_of None = Missing
-found_of (Some bytes) = if nat_le (length bytes) max_file_bytes then Bytes bytes else TooLong
+abbrev pub file_found : Option (List ℕ) → FileFound
+file_found None = Missing
+file_found (Some bytes) = if nat_le (length bytes) max_file_bytes then Bytes bytes else TooLong
 
-abbrev pub IsShort : Found → Type 0
+abbrev pub IsShort : FileFound → Type 0
 IsShort (Bytes bytes) = length bytes ≤ max_file_bytes
 IsShort _ = Unit {0}
 
 -- This is at the name, as far as the desk tells; bytes that are found are not too many in any case.
-abbrev pub Finds : DeskState → List ℕ → Found → Type 0
-Finds desk name found = IsShort found × IfSome desk.told (λ c. found_of (file_at c.files name) ≡ found)
+abbrev pub Finds : DeskState → List ℕ → FileFound → Type 0
+Finds desk name found =
+    IsShort found × IfSome desk.told (λ c. file_found (file_at c.files name) ≡ found)
 
 -- A load changes nothing. Its answer is what is at the name, unless it fails or runs out of memory.
 abbrev pub Loads : DeskState → DeskState → List ℕ → Result (Vec ℕ Global) LoadError → Type 0
-Loads old new name (Ok loaded) = Finds old name (Bytes loaded.items) × (new ≡ after_answer as_before old)
+Loads old new name (Ok loaded) =
+    Finds old name (Bytes loaded.items) × (new ≡ after_answer as_before old)
 Loads old new name (Err load.Missing) = Finds old name Missing × (new ≡ after_answer as_before old)
 Loads old new name (Err load.TooLong) = Finds old name TooLong × (new ≡ after_answer as_before old)
 Loads old new name (Err load.Failed) = new ≡ after_fault as_before old

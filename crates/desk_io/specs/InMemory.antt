@@ -8,11 +8,11 @@ use Rattle.desk_io.specs.declared.desk.LoadError.{LoadError}
 use Rattle.desk_io.specs.declared.desk.LoadError.TheVariants as load
 use Rattle.desk_io.specs.declared.desk.SinkError.{SinkError}
 use Rattle.desk_io.specs.declared.desk.SinkError.TheVariants as sink
-use Rattle.desk_io.specs.Desk.{Files, Contents, DeskState, counted, called, as_before, with_file, with_said}
+use Rattle.desk_io.specs.Desk.{Files, DeskContents, DeskState, counted, called, as_before, with_file, with_said}
 
 -- A desk in memory: its contents, the numbers of the calls that are to fail, from 1, and how many failed.
 pub record MemoryDesk : Type 0 where
-  pub contents : Contents
+  pub contents : DeskContents
   pub fails : List ℕ
   pub faults : ℕ
 
@@ -32,7 +32,13 @@ memory_desk_code =
 
 -- no files, nothing said, and no call made
 abbrev pub empty_desk : List ℕ → MemoryDesk
-empty_desk fails = record { contents = record { files = map.empty; said = []; calls = 0 }; fails = fails; faults = 0 }
+empty_desk fails =
+    record {
+      contents =
+          record { files = map.empty; said = []; calls = 0 };
+      fails = fails;
+      faults = 0;
+    }
 
 -- with these bytes in the file of this name
 abbrev pub after_put : List ℕ → List ℕ → MemoryDesk → MemoryDesk
@@ -47,13 +53,18 @@ abbrev pub fails_next : MemoryDesk → Bool
 fails_next d = list_any (λ n. n == counted d.contents.calls) d.fails
 
 -- a call more, which changed the contents so, and failed or not
-abbrev pub after_call : (Contents → Contents) → Bool → MemoryDesk → MemoryDesk
+abbrev pub after_call : (DeskContents → DeskContents) → Bool → MemoryDesk → MemoryDesk
 after_call change fails d =
-    record d { contents = called change d.contents; faults = if fails then counted d.faults else d.faults }
+    record d {
+      contents =
+          called change d.contents;
+      faults = if fails then counted d.faults else d.faults;
+    }
 
 -- a load fails exactly where it is to fail, and counts as a call, unless it runs out of memory
 abbrev pub LoadsInMemory : MemoryDesk → MemoryDesk → Result (Vec ℕ Global) LoadError → Type 0
-LoadsInMemory old new (Err load.Failed) = (fails_next old ≡ true) × (new ≡ after_call as_before true old)
+LoadsInMemory old new (Err load.Failed) =
+    (fails_next old ≡ true) × (new ≡ after_call as_before true old)
 LoadsInMemory old new (Err load.Memory) = (fails_next old ≡ false) × (new ≡ old)
 LoadsInMemory old new _ = (fails_next old ≡ false) × (new ≡ after_call as_before false old)
 
@@ -67,14 +78,17 @@ kept_of bytes fails = if fails then first_half bytes else bytes
 
 -- A save or a say does this with the bytes that are kept: all of them, or the first half where it is to fail. Where
 -- memory runs out nothing changes, the number of calls included.
-abbrev pub KeepsInMemory : (List ℕ → Contents → Contents) → MemoryDesk → MemoryDesk → List ℕ → Result (Unit {0}) SinkError → Type 0
+abbrev pub KeepsInMemory : (List ℕ → DeskContents → DeskContents) → MemoryDesk → MemoryDesk →
+    List ℕ →
+    Result (Unit {0}) SinkError → Type 0
 KeepsInMemory with_kept old new bytes (Ok _) =
     (fails_next old ≡ false) × (new ≡ after_call (with_kept bytes) false old)
 KeepsInMemory with_kept old new bytes (Err sink.Failed) =
     (fails_next old ≡ true) × (new ≡ after_call (with_kept (first_half bytes)) true old)
 KeepsInMemory with_kept old new bytes (Err sink.Memory) = new ≡ old
 
-abbrev pub SavesInMemory : MemoryDesk → MemoryDesk → List ℕ → List ℕ → Result (Unit {0}) SinkError → Type 0
+abbrev pub SavesInMemory : MemoryDesk → MemoryDesk → List ℕ → List ℕ → Result (Unit {0}) SinkError →
+    Type 0
 SavesInMemory old new name bytes result =
     KeepsInMemory (λ kept. with_file name (Some kept)) old new bytes result
 

@@ -6,12 +6,18 @@ use Rattle.desk_io.specs.InMemory.{MemoryDesk}
 use Rattle.desk_io.specs.declared.memory.MemDesk.TheInside.{Inside}
 
 -- a file's name and its bytes
-abbrev pub entry_of : String Global × Vec ℕ Global → List ℕ × List ℕ
-entry_of e = (string_bytes e.0, e.1.items)
+abbrev pub kept_file : String Global × Vec ℕ Global → List ℕ × List ℕ
+kept_file e = (string_bytes e.0, e.1.items)
 
 abbrev pub desk_of : Inside → MemoryDesk
 desk_of d = record {
-  contents = record { files = files.from_entries (map entry_of d.files.entries); said = d.said.items; calls = d.calls };
+  contents =
+      record {
+        files =
+            files.from_entries (map kept_file d.files.entries);
+        said = d.said.items;
+        calls = d.calls;
+      };
   fails = d.fails.items;
   faults = d.faults;
 }

@@ -9,7 +9,7 @@ use Rattle.desk_io.specs.declared.desk.LoadError.{LoadError}
 use Rattle.desk_io.specs.declared.desk.LoadError.TheVariants as load
 use Rattle.desk_io.specs.declared.desk.SinkError.{SinkError}
 use Rattle.desk_io.specs.declared.desk.SinkError.TheVariants as sink
-use Rattle.desk_io.specs.Desk.{DeskState, counted, found_of, max_file_bytes}
+use Rattle.desk_io.specs.Desk.{DeskState, counted, file_found, max_file_bytes}
 
 -- a desk that tells nothing but how many of its calls failed
 abbrev pub closed_desk : ℕ → DeskState
@@ -23,11 +23,13 @@ load_error _ = load.Failed
 
 -- a load finds the same in these bytes as in all that a reader has left, if that tells them
 abbrev pub FindsSame : Option (List ℕ) → List ℕ → Type 0
-FindsSame remaining bytes = IfSome remaining (λ all. found_of (Some bytes) ≡ found_of (Some all))
+FindsSame remaining bytes =
+    IfSome remaining (λ all. file_found (Some bytes) ≡ file_found (Some all))
 
 -- the answer of a load, after reading a file
 abbrev pub load_answer : Result (Vec ℕ Global) Error → Result (Vec ℕ Global) LoadError
-load_answer (Ok bytes) = if nat_le (length bytes.items) max_file_bytes then Ok bytes else Err load.TooLong
+load_answer (Ok bytes) =
+    if nat_le (length bytes.items) max_file_bytes then Ok bytes else Err load.TooLong
 load_answer (Err error) = Err (load_error (error_kind error))
 
 -- the answer of a save or a say, after writing: any error is a fault

@@ -8,7 +8,7 @@ use Rattle.std.proofs.lemmas.Nat.{div_below}
 use Rattle.tx_types.specs.Config.{blocks_of, slots_of}
 use Rattle.tx_types.specs.declared.config.BlockState.{BlockState}
 use Rattle.tx_types.specs.declared.config.BlockState.TheVariants.{Spare, Clean, Part, Shut}
-use Rattle.die_alloc.specs.BlockTable.{BlockTable, IsBlockTable, no_block, use_of, state_of, block_of, HasRoom, IsFull, with_use, with_slot, with_spare}
+use Rattle.die_alloc.specs.BlockTable.{BlockTable, IsBlockTable, no_block, use_of, block_state, block_of_slot, HasRoom, IsFull, with_use, with_slot, table_with_spare}
 
 -- the block that is named has what it is given
 pub use_of-with_use_same : (t : BlockTable) → IsBlockTable t → (block : ℕ) (s : BlockState) (n : ℕ) → block < blocks_of t.shape
@@ -21,35 +21,35 @@ pub use_of-with_use_other : (t : BlockTable) (block other : ℕ) (s : BlockState
 use_of-with_use_other t block other s n apart = get_or-set_other t.blocks block other _ no_block apart
 
 -- the block of a slot is one of the table
-pub block_within : (t : BlockTable) → IsBlockTable t → (at : ℕ) → at < slots_of t.shape → block_of t.shape at < blocks_of t.shape
+pub block_within : (t : BlockTable) → IsBlockTable t → (at : ℕ) → at < slots_of t.shape → block_of_slot t.shape at < blocks_of t.shape
 block_within t h at within =
     div_below at t.shape.pages_per_block (blocks_of t.shape) (omega (arith, h.numbers.pages_least)) (omega (arith, within, mul_comm t.shape.pages_per_block (blocks_of t.shape)))
 
 -- after a slot of it was used, a block has its slots used up to this one, and is shut where it has no other
 pub use_of-with_slot_same : (t : BlockTable) → IsBlockTable t → (at : ℕ) → at < slots_of t.shape
-    → use_of (with_slot t at) (block_of t.shape at)
+    → use_of (with_slot t at) (block_of_slot t.shape at)
     ≡ record { state = if at % t.shape.pages_per_block + 1 == t.shape.pages_per_block then Shut else Part; used = at % t.shape.pages_per_block + 1 }
-use_of-with_slot_same t h at within = use_of-with_use_same t h (block_of t.shape at) _ _ (block_within t h at within)
+use_of-with_slot_same t h at within = use_of-with_use_same t h (block_of_slot t.shape at) _ _ (block_within t h at within)
 
-pub use_of-with_slot_other : (t : BlockTable) (at other : ℕ) → other ≢ block_of t.shape at → use_of (with_slot t at) other ≡ use_of t other
-use_of-with_slot_other t at other apart = use_of-with_use_other t (block_of t.shape at) other _ _ apart
+pub use_of-with_slot_other : (t : BlockTable) (at other : ℕ) → other ≢ block_of_slot t.shape at → use_of (with_slot t at) other ≡ use_of t other
+use_of-with_slot_other t at other apart = use_of-with_use_other t (block_of_slot t.shape at) other _ _ apart
 
 -- the spare has no used slot
 pub use_of-with_spare_same : (t : BlockTable) → IsBlockTable t → (block : ℕ) → block < blocks_of t.shape
-    → use_of (with_spare t block) block ≡ record { state = Spare; used = 0 }
+    → use_of (table_with_spare t block) block ≡ record { state = Spare; used = 0 }
 use_of-with_spare_same t h block within =
     get_or-set_same (set t.blocks t.spare (record { state = Clean; used = 0 })) block _ no_block (rw (length-set, h.count) within)
 
 -- the block that was the spare before is clean
 pub use_of-with_spare_old : (t : BlockTable) → IsBlockTable t → (block : ℕ) → t.spare ≢ block
-    → use_of (with_spare t block) t.spare ≡ record { state = Clean; used = 0 }
+    → use_of (table_with_spare t block) t.spare ≡ record { state = Clean; used = 0 }
 use_of-with_spare_old t h block apart =
     get_or-set_other (set t.blocks t.spare (record { state = Clean; used = 0 })) block t.spare _ no_block apart
     ∙ use_of-with_use_same t h t.spare Clean 0 h.spare_within
 
 -- each other block has what it had
 pub use_of-with_spare_other : (t : BlockTable) (block other : ℕ) → other ≢ block → other ≢ t.spare
-    → use_of (with_spare t block) other ≡ use_of t other
+    → use_of (table_with_spare t block) other ≡ use_of t other
 use_of-with_spare_other t block other apart from_old =
     get_or-set_other (set t.blocks t.spare (record { state = Clean; used = 0 })) block other _ no_block apart
     ∙ use_of-with_use_other t t.spare other Clean 0 from_old
@@ -62,10 +62,10 @@ has_room_not_spare t h block within room is =
 
 -- where no block has room, each but the spare is shut
 pub shut_where_full : (t : BlockTable) → IsBlockTable t → IsFull t → (block : ℕ) → block < blocks_of t.shape → block ≢ t.spare
-    → state_of t block ≡ Shut
-shut_where_full t h full block within apart = by_state (state_of t block) refl
+    → block_state t block ≡ Shut
+shut_where_full t h full block within apart = by_state (block_state t block) refl
   where
-    by_state : (s : BlockState) → state_of t block ≡ s → s ≡ Shut
+    by_state : (s : BlockState) → block_state t block ≡ s → s ≡ Shut
     by_state Shut e = refl
     by_state Spare e = absurd (apart ((h.one_spare block within).0 e))
     by_state Clean e = absurd (full block within (inl e))

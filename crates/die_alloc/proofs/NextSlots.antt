@@ -6,7 +6,7 @@ use Rattle.std.proofs.Math.Nat.{mul_comm}
 use Rattle.std.proofs.lemmas.Bool.{cases_lt}
 use Rattle.std.proofs.lemmas.Nat.{div_below, div-add-mod', mod_below, mul-add-lt, div-mul-add, mod-mul-add}
 use Rattle.tx_types.specs.Config.{blocks_of}
-use Rattle.die_alloc.specs.BlockTable.{BlockTable, IsBlockTable, used_of, HasRoom, IsFull, IsFirstFree, block_of}
+use Rattle.die_alloc.specs.BlockTable.{BlockTable, IsBlockTable, used_of, HasRoom, IsFull, IsFirstFree, block_of_slot}
 use Rattle.die_alloc.specs.NextSlot.{first_answer, open_block, next_block, first_unused}
 use Rattle.die_alloc.proofs.FirstAnswers.{first_answer-append, answer_of_one, no_answer, option_or_some, option_or_none}
 use Rattle.die_alloc.proofs.OpenBlocks.{die_lies, open_block_has_room, no_open_block}
@@ -74,7 +74,7 @@ pub first_unused_is_free : (t : BlockTable) → IsBlockTable t → (block : ℕ)
     → IsFirstFree t (first_unused t block).0
 first_unused_is_free t h block within room =
     let left = room_left t h block within room in
-    let lies : block_of t.shape (first_unused t block).0 ≡ block = div-mul-add block t.shape.pages_per_block _ left in
+    let lies : block_of_slot t.shape (first_unused t block).0 ≡ block = div-mul-add block t.shape.pages_per_block _ left in
     let place = mod-mul-add block t.shape.pages_per_block _ left in
     record {
       free = record {

@@ -10,7 +10,7 @@ use Rattle.std.proofs.lemmas.List.Sums.{fails_before_first}
 use Rattle.std.proofs.lemmas.List.Quantifiers.{position-Some}
 use Rattle.tx_types.specs.declared.config.BlockState.{BlockState}
 use Rattle.tx_types.specs.declared.config.BlockState.TheVariants.{Spare, Clean, Part, Shut}
-use Rattle.die_alloc.specs.BlockTable.{BlockTable, state_of, no_block, HasRoom, IsBlockTable}
+use Rattle.die_alloc.specs.BlockTable.{BlockTable, block_state, no_block, HasRoom, IsBlockTable}
 use Rattle.die_alloc.proofs.FirstAnswers.{option_or_some, option_or_none}
 use Rattle.std.proofs.lemmas.Nat.{row_fits_turned}
 use Rattle.die_alloc.specs.NextSlot.{is_part, is_clean, lowest_block, open_block, die_blocks}
@@ -35,11 +35,11 @@ module _ (test : BlockState → Bool) (t : BlockTable) (die : ℕ) where
 
   -- the lowest block of a die that passes a test lies in the die and passes it
   pub lowest_passes : Lies → (block : ℕ) → lowest_block test t die ≡ Some block
-      → (die * t.shape.blocks_per_die ≤ block) × (block < die * t.shape.blocks_per_die + t.shape.blocks_per_die) × (test (state_of t block) ≡ true)
+      → (die * t.shape.blocks_per_die ≤ block) × (block < die * t.shape.blocks_per_die + t.shape.blocks_per_die) × (test (block_state t block) ≡ true)
   lowest_passes lies block h = from_place (position (λ b. test b.state) (die_blocks t die)) refl h
     where
       from_place : (o : Option ℕ) → position (λ b. test b.state) (die_blocks t die) ≡ o → option_map (λ k. die * t.shape.blocks_per_die + k) o ≡ Some block
-          → (die * t.shape.blocks_per_die ≤ block) × (block < die * t.shape.blocks_per_die + t.shape.blocks_per_die) × (test (state_of t block) ≡ true)
+          → (die * t.shape.blocks_per_die ≤ block) × (block < die * t.shape.blocks_per_die + t.shape.blocks_per_die) × (test (block_state t block) ≡ true)
       from_place None e g = cc
       from_place (Some k) e g =
           let found = position-Some (λ b. test b.state) (die_blocks t die) k no_block e in
@@ -49,10 +49,10 @@ module _ (test : BlockState → Bool) (t : BlockTable) (die : ℕ) where
 
   -- where there is none, no block of the die passes it
   pub none_passes : Lies → lowest_block test t die ≡ None
-      → (block : ℕ) → die * t.shape.blocks_per_die ≤ block → block < die * t.shape.blocks_per_die + t.shape.blocks_per_die → test (state_of t block) ≡ false
+      → (block : ℕ) → die * t.shape.blocks_per_die ≤ block → block < die * t.shape.blocks_per_die + t.shape.blocks_per_die → test (block_state t block) ≡ false
   none_passes lies h block low high = from_place (position (λ b. test b.state) (die_blocks t die)) refl h
     where
-      from_place : (o : Option ℕ) → position (λ b. test b.state) (die_blocks t die) ≡ o → option_map (λ k. die * t.shape.blocks_per_die + k) o ≡ None → test (state_of t block) ≡ false
+      from_place : (o : Option ℕ) → position (λ b. test b.state) (die_blocks t die) ≡ o → option_map (λ k. die * t.shape.blocks_per_die + k) o ≡ None → test (block_state t block) ≡ false
       from_place (Some k) e g = cc
       from_place None e g =
           let place = block - die * t.shape.blocks_per_die in

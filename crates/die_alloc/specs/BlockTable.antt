@@ -23,8 +23,8 @@ abbrev pub use_of : BlockTable → ℕ → BlockUse
 use_of t block = slice_index_or t.blocks block no_block
 
 -- what a block is kept for
-abbrev pub state_of : BlockTable → ℕ → BlockState
-state_of t block = (use_of t block).state
+abbrev pub block_state : BlockTable → ℕ → BlockState
+block_state t block = (use_of t block).state
 
 -- how many of its first slots are used
 abbrev pub used_of : BlockTable → ℕ → ℕ
@@ -43,51 +43,58 @@ pub record IsBlockTable (t : BlockTable) : Type 0 where
   pub count : length t.blocks ≡ blocks_of t.shape
   pub die : t.cursor < t.shape.dies
   pub spare_within : t.spare < blocks_of t.shape
-  pub one_spare : (block : ℕ) → block < blocks_of t.shape → (state_of t block ≡ Spare) ↔ (block ≡ t.spare)
-  pub bounds : (block : ℕ) → block < blocks_of t.shape → MayHave t.shape.pages_per_block (state_of t block) (used_of t block)
+  pub one_spare : (block : ℕ) → block < blocks_of t.shape → (block_state t block ≡ Spare) ↔
+      (block ≡ t.spare)
+  pub bounds : (block : ℕ) → block < blocks_of t.shape →
+      MayHave t.shape.pages_per_block (block_state t block) (used_of t block)
 
 -- a block has room where it is clean, or has a blank tail
 abbrev pub HasRoom : BlockTable → ℕ → Type 0
-HasRoom t block = (state_of t block ≡ Clean) ⊎ (state_of t block ≡ Part)
+HasRoom t block = (block_state t block ≡ Clean) ⊎ (block_state t block ≡ Part)
 
 -- no block has room
 abbrev pub IsFull : BlockTable → Type 0
 IsFull t = (block : ℕ) → block < blocks_of t.shape → HasRoom t block → ⊥
 
 -- the block that a slot lies in
-abbrev pub block_of : Shape → ℕ → ℕ
-block_of s at = at / s.pages_per_block
+abbrev pub block_of_slot : Shape → ℕ → ℕ
+block_of_slot s at = at / s.pages_per_block
 
 -- a slot is free: its block has room, and it comes after the used slots of the block
 pub record IsFree (t : BlockTable) (at : ℕ) : Type 0 where
   pub within : at < slots_of t.shape
-  pub room : HasRoom t (block_of t.shape at)
-  pub unused : used_of t (block_of t.shape at) ≤ at % t.shape.pages_per_block
+  pub room : HasRoom t (block_of_slot t.shape at)
+  pub unused : used_of t (block_of_slot t.shape at) ≤ at % t.shape.pages_per_block
 
 -- and it comes directly after them
 pub record IsFirstFree (t : BlockTable) (at : ℕ) : Type 0 where
   pub free : IsFree t at
-  pub first : at % t.shape.pages_per_block ≡ used_of t (block_of t.shape at)
+  pub first : at % t.shape.pages_per_block ≡ used_of t (block_of_slot t.shape at)
 
 -- the block has this state and this many used slots
 abbrev pub with_use : BlockTable → ℕ → BlockState → ℕ → BlockTable
-with_use t block its_state its_used = record t { blocks = slice_set t.blocks block (record { state = its_state; used = its_used }) }
+with_use t block its_state its_used =
+    record t { blocks = slice_set t.blocks block (record { state = its_state; used = its_used }) }
 
 -- the slots of its block up to this one are used
 abbrev pub with_slot : BlockTable → ℕ → BlockTable
 with_slot t at =
     let count = at % t.shape.pages_per_block + 1 in
-    with_use t (block_of t.shape at) (if count == t.shape.pages_per_block then Shut else Part) count
+    with_use t (block_of_slot t.shape at)
+    (if count == t.shape.pages_per_block then Shut else Part) count
 
 -- the block is the spare, and the one that was it before is clean
-abbrev pub with_spare : BlockTable → ℕ → BlockTable
-with_spare t block = record (with_use (with_use t t.spare Clean 0) block Spare 0) { spare = block }
+abbrev pub table_with_spare : BlockTable → ℕ → BlockTable
+table_with_spare t block =
+    record (with_use (with_use t t.spare Clean 0) block Spare 0) { spare = block }
 
 -- a table of clean blocks, of which the last is the spare
 abbrev pub fresh_table : Shape → BlockTable
 fresh_table s = record {
   shape = s;
-  blocks = slice_set (replicate (blocks_of s) (record { state = Clean; used = 0 })) (blocks_of s - 1) (record { state = Spare; used = 0 });
+  blocks =
+      slice_set (replicate (blocks_of s) (record { state = Clean; used = 0 })) (blocks_of s - 1)
+      (record { state = Spare; used = 0 });
   spare = blocks_of s - 1;
   cursor = 0;
 }

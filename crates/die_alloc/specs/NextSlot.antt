@@ -29,7 +29,9 @@ die_blocks t die = take t.shape.blocks_per_die (drop (die * t.shape.blocks_per_d
 
 -- the lowest block of a die whose state passes the test
 abbrev pub lowest_block : (BlockState → Bool) → BlockTable → ℕ → Option ℕ
-lowest_block test t die = option_map (λ k. die * t.shape.blocks_per_die + k) (position (λ b. test b.state) (die_blocks t die))
+lowest_block test t die =
+    option_map (λ k. die * t.shape.blocks_per_die + k)
+    (position (λ b. test b.state) (die_blocks t die))
 
 -- the block of a die that has room: the lowest one with a blank tail, else the lowest one that is clean
 unfoldable pub open_block : BlockTable → ℕ → Option ℕ

@@ -1,6 +1,6 @@
 ghost use Rattle.std.specs.Prelude.{◌≡◌, ◌≢◌, ◌-◌, ◌*◌, position, ◌/◌, ◌%◌, ◌<◌, ◌≤◌, ◌↔◌, IfOk, IfSome, IfNone, IsNone};
 ghost use Rattle.tx_types.specs.Config.{IsShape, slots_of, blocks_of};
-ghost use Rattle.die_alloc.specs.BlockTable.{IsBlockTable, MayHave, state_of, used_of, fresh_table, with_slot, with_use, with_spare, HasRoom, IsFree, IsFirstFree, IsFull};
+ghost use Rattle.die_alloc.specs.BlockTable.{IsBlockTable, MayHave, block_state, used_of, fresh_table, with_slot, with_use, table_with_spare, HasRoom, IsFree, IsFirstFree, IsFull};
 ghost use Rattle.die_alloc.specs.NextSlot.{next_slot, first_unused, next_block, open_block, after_next_slot, first_answer, is_part, is_clean};
 ghost use Rattle.std.specs.List.{range_with_len};
 
@@ -125,7 +125,7 @@ impl Blocks {
     /// What a block is kept for.
     pub fn state(&self, block: Block) -> BlockState
         requires { block.0 < blocks_of self.now.shape }
-        ensures state { result ≡ state_of self.now block.0 }
+        ensures state { result ≡ block_state self.now block.0 }
         ensures table { IsBlockTable self.now }
     {
         self.blocks[block.0 as usize].state
@@ -178,7 +178,7 @@ impl Blocks {
     /// Makes a block the spare. The one that was it before, where it is another block, is clean.
     pub fn make_spare(&mut self, block: Block)
         requires { block.0 < blocks_of self.old.shape }
-        ensures spare { self.new ≡ with_spare self.old block.0 }
+        ensures spare { self.new ≡ table_with_spare self.old block.0 }
         ensures table { IsBlockTable self.new }
     {
         self.blocks[self.spare.0 as usize] = BlockUse::CLEAN;

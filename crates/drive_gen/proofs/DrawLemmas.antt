@@ -1,22 +1,22 @@
 -- States of the generator, one after the other, and what is drawn from them.
 use Rattle.std.proofs.Common.{◌≡◌, ℕ, suc, ◌+◌, ◌∷◌, length, refl, add-one}
 use Rattle.std.proofs.lemmas.List.FromFn.{length-map-range_with_len}
-use Rattle.drive_gen.specs.Generator.{next_state, state_after}
+use Rattle.drive_gen.specs.Generator.{next_state, generator_after}
 use Rattle.drive_gen.specs.declared.kind.Kind.TheVariants as kind
-use Rattle.drive_gen.specs.Work.{aborted, drawn_batch, drawn_cut, drawn_kind, drawn_write, finished, page_count, state_behind, state_behind_all, transaction}
+use Rattle.drive_gen.specs.Work.{aborted, drawn_batch, drawn_cut, drawn_kind, drawn_write, written_at_once, page_count, state_behind, state_behind_all, transaction}
 use Rattle.tx_types.specs.declared.config.Config.{Config}
 
-next_is : (x k : ℕ) → next_state (state_after x k) ≡ state_after x (suc k)
-unfolding state_after
+next_is : (x k : ℕ) → next_state (generator_after x k) ≡ generator_after x (suc k)
+unfolding generator_after
 next_is x k = refl
 
 -- one draw more
-pub state_more : (x k j : ℕ) → k + 1 ≡ j → next_state (state_after x k) ≡ state_after x j
+pub state_more : (x k j : ℕ) → k + 1 ≡ j → next_state (generator_after x k) ≡ generator_after x j
 state_more x k j e = rw (← e, add-one) (next_is x k)
 
 -- the first draw
-pub state_first : (x : ℕ) → next_state x ≡ state_after x 1
-unfolding state_after
+pub state_first : (x : ℕ) → next_state x ≡ generator_after x 1
+unfolding generator_after
 state_first x = refl
 
 behind_is : (c : Config) (start i : ℕ) → state_behind c (state_behind_all c start i) ≡ state_behind_all c start (suc i)
@@ -35,18 +35,18 @@ behind_none c start = refl
 
 -- a cut is armed first
 pub kind_cut : (c : Config) (x tag : ℕ) → drawn_kind c x ≡ kind.Cut
-    → (transaction c x tag ≡ drawn_cut c x ∷ finished tag (drawn_batch c x)) × (state_behind c x ≡ state_after x (page_count c x + 5))
+    → (transaction c x tag ≡ drawn_cut c x ∷ written_at_once tag (drawn_batch c x)) × (state_behind c x ≡ generator_after x (page_count c x + 5))
 unfolding transaction state_behind
 kind_cut c x tag e = (rw e refl, rw e refl)
 
 -- it is aborted
 pub kind_abort : (c : Config) (x tag : ℕ) → drawn_kind c x ≡ kind.Abort
-    → (transaction c x tag ≡ aborted tag (drawn_batch c x) (length (drawn_batch c x).entries)) × (state_behind c x ≡ state_after x (page_count c x + 3))
+    → (transaction c x tag ≡ aborted tag (drawn_batch c x) (length (drawn_batch c x).entries)) × (state_behind c x ≡ generator_after x (page_count c x + 3))
 unfolding transaction state_behind
 kind_abort c x tag e = (rw (e, length-map-range_with_len (drawn_write c x) 0 (page_count c x)) refl, rw e refl)
 
 -- it is finished
 pub kind_finish : (c : Config) (x tag : ℕ) → drawn_kind c x ≡ kind.Finish
-    → (transaction c x tag ≡ finished tag (drawn_batch c x)) × (state_behind c x ≡ state_after x (page_count c x + 3))
+    → (transaction c x tag ≡ written_at_once tag (drawn_batch c x)) × (state_behind c x ≡ generator_after x (page_count c x + 3))
 unfolding transaction state_behind
 kind_finish c x tag e = (rw e refl, rw e refl)

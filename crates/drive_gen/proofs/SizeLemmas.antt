@@ -5,7 +5,7 @@ use Rattle.std.specs.Str.Lines.{strip_carriage_return}
 use Rattle.std.proofs.lemmas.Bool.{cases_lt}
 use Rattle.std.proofs.lemmas.List.{get_or_past, length-take}
 use Rattle.std.proofs.lemmas.List.Sums.{sum_by-cons, get_or-le-sum_by}
-use Rattle.host_protocol.specs.Lines.{lines_of, words_of, ended_parts, has_bytes, is_blank, is_line_feed}
+use Rattle.host_protocol.specs.Lines.{lines_of, words_of, ended_parts, has_bytes, is_space_or_tab, is_line_feed}
 
 -- the bytes of a part, and the one behind it
 abbrev pub size : List ℕ → ℕ
@@ -87,8 +87,8 @@ kept_size p (part ∷ parts) = kept_case part (p part) (filter p parts) parts (k
 words_size : (line : List ℕ) → sizes (words_of line) ≤ length line + 1
 unfolding words_of
 words_size line =
-    let all = split_size is_blank line in
-    let kept = kept_size has_bytes (slice_split is_blank line) in
+    let all = split_size is_space_or_tab line in
+    let kept = kept_size has_bytes (slice_split is_space_or_tab line) in
     omega arith
 
 word_case : (words : List (List ℕ)) (i n : ℕ) → sizes words ≤ n + 1 → (i < length words) ⊎ (length words ≤ i) → length (get_or words i []) ≤ n

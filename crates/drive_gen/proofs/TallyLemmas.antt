@@ -37,10 +37,6 @@ tally_more t line lines =
     (count_step (begins_with (codes "unknown")) t.unknown line lines)
     (step page_sum t.sum line lines)
 
--- no line more
-pub tally_none : (t : Tally) → plus t (tally_of []) ≡ t
-tally_none t = same (plus t (tally_of [])) t (add-zero t.done) (add-zero t.aborted) (add-zero t.cut) (add-zero t.refused) (add-zero t.unknown) (add-zero t.sum)
-
 -- no line before
 pub tally_begin : (t : Tally) → plus (tally_of []) t ≡ t
 tally_begin t = same (plus (tally_of []) t) t (zero-add t.done) (zero-add t.aborted) (zero-add t.cut) (zero-add t.refused) (zero-add t.unknown) (zero-add t.sum)
@@ -109,10 +105,3 @@ last_case (line ∷ lines) = refl
 
 pub last_begin : (lines : List (List ℕ)) → last_from [] lines ≡ last_stats lines
 last_begin lines = last_case (filter (begins_with (codes "stats")) lines)
-
-more_case : (v : Bool) (stats line : List ℕ) (found : List (List ℕ)) → unwrap_or (last_or (Some (cond v line stats)) found) [] ≡ unwrap_or (last_or (Some stats) (cond v (line ∷ found) found)) []
-more_case true stats line found = refl
-more_case false stats line found = refl
-
-pub last_more : (stats line : List ℕ) (lines : List (List ℕ)) → last_from (cond (begins_with (codes "stats") line) line stats) lines ≡ last_from stats (line ∷ lines)
-last_more stats line lines = more_case (begins_with (codes "stats") line) stats line (filter (begins_with (codes "stats")) lines)

@@ -10,10 +10,10 @@ abbrev pub high_bits : ℕ → ℕ → ℕ
 high_bits x m = x / 2 ^ 33 % m
 
 -- the state after so many draws from state x
-unfoldable pub state_after : ℕ → ℕ → ℕ
-state_after x zero = x
-state_after x (suc k) = next_state (state_after x k)
+unfoldable pub generator_after : ℕ → ℕ → ℕ
+generator_after x zero = x
+generator_after x (suc k) = next_state (generator_after x k)
 
 -- the k-th number that is drawn from state x, counted from 1, below m
 abbrev pub draw_at : ℕ → ℕ → ℕ → ℕ
-draw_at x k m = high_bits (state_after x k) m
+draw_at x k m = high_bits (generator_after x k) m

@@ -27,7 +27,8 @@ last_stats lines = unwrap_or (last_or None (filter (begins_with (codes "stats"))
 
 -- what a digit of the reply texts stands for: `0` to `9` are 48 to 57, and `a` to `f` are 97 to 102
 abbrev pub digit_value : ℕ → ℕ
-digit_value digit = if is_within 48 57 digit then digit - 48 else if is_within 97 102 digit then digit - 87 else 0
+digit_value digit =
+    if is_within 48 57 digit then digit - 48 else if is_within 97 102 digit then digit - 87 else 0
 
 -- the sum of the bytes that digits spell, two digits a byte, the high one first
 unfoldable pub sum_of_bytes : List ℕ → ℕ
@@ -50,7 +51,8 @@ protocol_word protocol.Bpcc = codes "bpcc"
 -- what was asked for
 abbrev pub asked_words : ℕ → ℕ → Protocol → ℕ → List (List ℕ)
 asked_words start count protocol commands =
-    codes "drive" ∷ protocol_word protocol ∷ codes "start" ∷ decimal start ∷ codes "count" ∷ decimal count ∷ codes "commands" ∷ decimal commands ∷ []
+    codes "drive" ∷ protocol_word protocol ∷ codes "start" ∷ decimal start ∷ codes "count"
+    ∷ decimal count ∷ codes "commands" ∷ decimal commands ∷ []
 
 -- the word of a kind of replies, and how many there were
 abbrev pub kind_words : List ℕ → List ℕ → List (List ℕ)
@@ -58,12 +60,15 @@ kind_words word replies = word ∷ decimal (lines_with word replies) ∷ []
 
 abbrev pub count_words : List ℕ → List (List ℕ)
 count_words replies =
-    kind_words (codes "done") replies ++ kind_words (codes "aborted") replies ++ kind_words (codes "cut") replies
+    kind_words (codes "done") replies ++ kind_words (codes "aborted") replies
+    ++ kind_words (codes "cut") replies
     ++ kind_words (codes "refused") replies ++ kind_words (codes "unknown") replies
 
 -- the numbers of the flash that the last line of the numbers of a device has
 abbrev pub flash_words : List ℕ → List (List ℕ)
-flash_words stats = codes "programs" ∷ word_or stats 8 (codes "0") ∷ codes "erases" ∷ word_or stats 10 (codes "0") ∷ []
+flash_words stats =
+    codes "programs" ∷ word_or stats 8 (codes "0") ∷ codes "erases" ∷ word_or stats 10 (codes "0")
+    ∷ []
 
 abbrev pub sum_words : ℕ → List (List ℕ)
 sum_words sum = codes "sum" ∷ decimal sum ∷ []
@@ -71,7 +76,8 @@ sum_words sum = codes "sum" ∷ decimal sum ∷ []
 -- what was asked for, what the replies count to, and what they tell of the flash and of the pages
 unfoldable pub summary_line : ℕ → ℕ → Protocol → ℕ → List ℕ → List ℕ
 summary_line start count protocol commands replies =
-    line_of (asked_words start count protocol commands ++ count_words replies ++ flash_words (last_stats (lines_of replies)) ++ sum_words (sum_of_pages replies))
+    line_of (asked_words start count protocol commands ++ count_words replies
+    ++ flash_words (last_stats (lines_of replies)) ++ sum_words (sum_of_pages replies))
 
 -- words with a space behind each
 abbrev pub spaced : List (List ℕ) → List ℕ

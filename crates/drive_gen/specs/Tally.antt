@@ -38,5 +38,6 @@ pub record IsCounted (t : Tally) : Type 0 where
 -- the words of the counts
 abbrev pub tally_words : Tally → List (List ℕ)
 tally_words t =
-    codes "done" ∷ decimal t.done ∷ codes "aborted" ∷ decimal t.aborted ∷ codes "cut" ∷ decimal t.cut ∷ codes "refused" ∷ decimal t.refused
+    codes "done" ∷ decimal t.done ∷ codes "aborted" ∷ decimal t.aborted ∷ codes "cut"
+    ∷ decimal t.cut ∷ codes "refused" ∷ decimal t.refused
     ∷ codes "unknown" ∷ decimal t.unknown ∷ []

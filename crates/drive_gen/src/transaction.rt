@@ -1,8 +1,8 @@
 ghost use Rattle.std.specs.Prelude.{◌≡◌, ◌<◌, ◌+◌, ◌%◌, ◌++◌, ◌∷◌, length, OnOk, IfOk};
 ghost use Rattle.tx_types.specs.Config.{IsConfig};
 ghost use Rattle.host_protocol.specs.declared.command.Command.TheVariants as command;
-ghost use Rattle.drive_gen.specs.Generator.{next_state, high_bits, state_after};
-ghost use Rattle.drive_gen.specs.Work.{aborted, drawn_batch, finished, most_pages};
+ghost use Rattle.drive_gen.specs.Generator.{next_state, high_bits, generator_after};
+ghost use Rattle.drive_gen.specs.Work.{aborted, drawn_batch, written_at_once, most_pages};
 ghost use Rattle.drive_gen.specs.Work.{outcome_of, page_count, state_behind, transaction};
 
 use crate::generator::Generator;
@@ -39,7 +39,7 @@ fn draw_batch(alloc: Global, config: Config, generator: &mut Generator) -> Resul
     requires { IsConfig config }
     ensures batch { IfOk result (λ b. b ≡ drawn_batch config generator.old.state) }
     ensures state { let draws = page_count config generator.old.state + 2 in
-        OnOk result (generator.new.state ≡ state_after generator.old.state draws) }
+        OnOk result (generator.new.state ≡ generator_after generator.old.state draws) }
 {
     let pages = draw_page_count(config, generator);
     let first = generator.draw(config.logical);
@@ -77,7 +77,7 @@ fn add_cut(
 ) -> Result<(), Memory>
     ensures commands { let count = 1 + high_bits (next_state generator.old.state) 4 in
         let outcome = outcome_of (high_bits (next_state (next_state generator.old.state)) 3) in
-        let commands = command.Cut count outcome ∷ finished tag batch in
+        let commands = command.Cut count outcome ∷ written_at_once tag batch in
         OnOk result (list.new.items ≡ list.old.items ++ commands) }
     ensures state { generator.new.state ≡ next_state (next_state generator.old.state) }
 {
@@ -114,7 +114,7 @@ fn add_abort(tag: u32, batch: Batch, list: &mut Vec<Command>) -> Result<(), Memo
 
 /// Adds a transaction that is finished.
 pub fn add_finish(tag: u32, batch: Batch, list: &mut Vec<Command>) -> Result<(), Memory>
-    ensures { OnOk result (list.new.items ≡ list.old.items ++ finished tag batch) }
+    ensures { OnOk result (list.new.items ≡ list.old.items ++ written_at_once tag batch) }
 {
     list.push(Command::Write { tag, batch })?;
     list.push(Command::Finish { tag })?;

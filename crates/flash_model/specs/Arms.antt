@@ -39,10 +39,12 @@ pub record ChangesTold (sets : Told → Told → Type 0) (old new : FlashState) 
   pub told : BothTell sets old.told new.told
 
 abbrev pub ArmsCut : FlashState → FlashState → ℕ → Outcome → Type 0
-ArmsCut old new count outcome = ChangesTold (SetsCut (record { count = count; outcome = outcome })) old new
+ArmsCut old new count outcome =
+    ChangesTold (SetsCut (record { count = count; outcome = outcome })) old new
 
 abbrev pub ArmsFault : FlashState → FlashState → ℕ → Outcome → Type 0
-ArmsFault old new count outcome = ChangesTold (SetsFault (record { count = count; outcome = outcome })) old new
+ArmsFault old new count outcome =
+    ChangesTold (SetsFault (record { count = count; outcome = outcome })) old new
 
 abbrev pub ArmsBadRead : FlashState → FlashState → ℕ → Type 0
 ArmsBadRead old new count = ChangesTold (SetsBadRead count) old new

@@ -2,6 +2,7 @@
 use Rattle.std.specs.Prelude.{◌≡◌, ℕ, ◌<◌, ◌≤◌, Bool, true, false, List, replicate, Option, None, Some, Result, IfOk, OnOk, OnErr, if◌then◌else◌}
 use Rattle.std.specs.Bool.{OnTrue, OnFalse}
 use Rattle.std.specs.Result.{is_err}
+use Rattle.tx_types.specs.Limits.{spare_bytes}
 use Rattle.flash_model.specs.declared.flash.Broken.{Broken}
 use Rattle.flash_model.specs.declared.flash.Seen.{Seen}
 use Rattle.flash_model.specs.declared.flash.Seen.TheVariants as seen
@@ -55,18 +56,20 @@ page_of n damaged = replicate n 0
 page_of n (complete bytes spare) = bytes
 
 abbrev pub spare_of : Contents → List ℕ
-spare_of blank = replicate 64 255
-spare_of damaged = replicate 64 0
+spare_of blank = replicate spare_bytes 255
+spare_of damaged = replicate spare_bytes 0
 spare_of (complete bytes spare) = spare
 
 -- the contents as a read shows them
-pub record Shows (page_bytes : ℕ) (contents : Contents) (how : Seen) (bytes spare : List ℕ) : Type 0 where
+pub record Shows (page_bytes : ℕ) (contents : Contents) (how : Seen)
+    (bytes spare : List ℕ) : Type 0 where
   pub how_it_reads : how ≡ seen_of contents
   pub its_page : bytes ≡ page_of page_bytes contents
   pub its_spare : spare ≡ spare_of contents
 
 -- a read changes no slot and no count of what was done, and counts itself where power is on
-pub record Reads (old new : FlashState) (at : ℕ) (bytes spare : List ℕ) (result : Result Seen Broken) : Type 0 where
+pub record Reads (old new : FlashState) (at : ℕ) (bytes spare : List ℕ)
+    (result : Result Seen Broken) : Type 0 where
   pub carries : Carries old new (is_err result)
   pub powered : OnOk result (old.live ≡ true)
   pub done : IfOk result (λ how. Shows old.shape.page_bytes (slot_at old.image at) how bytes spare)
@@ -76,14 +79,16 @@ pub record Reads (old new : FlashState) (at : ℕ) (bytes spare : List ℕ) (res
   pub reads : new.reads ≡ (if old.live then counted old.reads else old.reads)
 
 -- an operation is done, which needs power, or broken, and counts no read
-pub record Operates (old new : FlashState) (o : Operation) (result : Result (Unit {0}) Broken) : Type 0 where
+pub record Operates (old new : FlashState) (o : Operation)
+    (result : Result (Unit {0}) Broken) : Type 0 where
   pub carries : Carries old new (is_err result)
   pub powered : OnOk result (old.live ≡ true)
   pub done : OnOk result (Done old.shape (moment_of old) o (moment_of new))
   pub torn : OnErr result (Torn old.shape (moment_of old) o (moment_of new))
   pub reads : new.reads ≡ old.reads
 
-abbrev pub Programs : FlashState → FlashState → ℕ → List ℕ → List ℕ → Result (Unit {0}) Broken → Type 0
+abbrev pub Programs : FlashState → FlashState → ℕ → List ℕ → List ℕ → Result (Unit {0}) Broken →
+    Type 0
 Programs old new at bytes spare result = Operates old new (program at bytes spare) result
 
 abbrev pub Erases : FlashState → FlashState → ℕ → Result (Unit {0}) Broken → Type 0

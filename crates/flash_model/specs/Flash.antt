@@ -1,6 +1,7 @@
 -- What a flash is.
 use Rattle.std.specs.Prelude.{◌≡◌, ℕ, ◌+◌, ◌-◌, ◌^◌, min, Bool, true, List, length, slice_index_or, All, Option, IsSomeAnd}
 use Rattle.tx_types.specs.Config.{IsShape, slots_of}
+use Rattle.tx_types.specs.Limits.{spare_bytes}
 use Rattle.tx_types.specs.declared.config.Shape.{Shape}
 use Rattle.flash_model.specs.declared.outcome.Arm.{Arm}
 
@@ -43,9 +44,10 @@ counted n = counted_by 1 n
 abbrev pub slot_at : List Contents → ℕ → Contents
 slot_at image at = slice_index_or image at blank
 
--- a complete slot has a page of contents and 64 bytes of spare area
+-- a complete slot has a page of contents and a spare area
 abbrev pub IsWhole : ℕ → Contents → Type 0
-IsWhole page_bytes (complete bytes spare) = (length bytes ≡ page_bytes) × (length spare ≡ 64)
+IsWhole page_bytes (complete bytes spare) =
+    (length bytes ≡ page_bytes) × (length spare ≡ spare_bytes)
 IsWhole page_bytes blank = Unit {0}
 IsWhole page_bytes damaged = Unit {0}
 

@@ -1,6 +1,7 @@
 -- The operations that change a flash: what each needs, does, and leaves where it is broken.
 use Rattle.std.specs.Prelude.{◌≡◌, ℕ, ◌+◌, ◌*◌, ◌/◌, ◌<◌, ◌≤◌, List, ◌++◌, length, take, drop, replicate, slice_set}
 use Rattle.tx_types.specs.Config.{slots_of, blocks_of}
+use Rattle.tx_types.specs.Limits.{spare_bytes}
 use Rattle.tx_types.specs.declared.config.Shape.{Shape}
 use Rattle.flash_model.specs.declared.outcome.Outcome.{Outcome}
 use Rattle.flash_model.specs.declared.outcome.Outcome.TheVariants as outcome
@@ -31,7 +32,7 @@ pub record CanProgram (shape : Shape) (image : List Contents) (at : ℕ) : Type 
 -- what an operation needs: a slot that may be programmed, a page of contents and a spare area; a block that exists
 abbrev pub CanDo : Shape → List Contents → Operation → Type 0
 CanDo shape image (program at bytes spare) =
-    CanProgram shape image at × (length bytes ≡ shape.page_bytes) × (length spare ≡ 64)
+    CanProgram shape image at × (length bytes ≡ shape.page_bytes) × (length spare ≡ spare_bytes)
 CanDo shape image (erase block) = block < blocks_of shape
 
 -- the block in which an operation works

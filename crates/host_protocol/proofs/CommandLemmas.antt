@@ -8,9 +8,9 @@ use Rattle.std.proofs.lemmas.Option.{cond_some, option_and_then_some}
 use Rattle.flash_model.specs.declared.outcome.Outcome.{Outcome}
 use Rattle.flash_model.specs.declared.outcome.Outcome.TheVariants as outcome
 use Rattle.tx_types.specs.Batch.{PageWrite, Writes}
-use Rattle.host_protocol.specs.Commands.{IsCommand, AreOperands, IsWrite, IsArm, verb_of, outcome_word, entry_of, alone, Suits}
+use Rattle.host_protocol.specs.Commands.{IsCommand, AreOperands, AreWriteOperands, IsArm, verb_of, outcome_word, page_write_of, alone, Suits}
 use Rattle.host_protocol.specs.Numbers.{number_of, count_of, positive}
-use Rattle.host_protocol.specs.Verbs.{name_of}
+use Rattle.host_protocol.specs.Verbs.{word_of}
 use Rattle.host_protocol.specs.declared.command.Command.{Command}
 use Rattle.host_protocol.specs.declared.command.Command.TheVariants as command
 use Rattle.host_protocol.specs.declared.verb.Verb.{Verb}
@@ -21,7 +21,7 @@ abbrev key : List ℕ → ℕ
 key word = sum word
 
 -- verbs of one name are one
-pub same_verb : (v w : Verb) → name_of v ≡ name_of w → v ≡ w
+pub same_verb : (v w : Verb) → word_of v ≡ word_of w → v ≡ w
 same_verb verb.Read verb.Read h = refl
 same_verb verb.Write verb.Write h = refl
 same_verb verb.Step verb.Step h = refl
@@ -33,7 +33,7 @@ same_verb verb.Explain verb.Explain h = refl
 same_verb verb.Cut verb.Cut h = refl
 same_verb verb.Fault verb.Fault h = refl
 same_verb verb.BadRead verb.BadRead h = refl
-same_verb v w h = let keys : key (name_of v) ≡ key (name_of w) = ap key h in absurd (omega arith)
+same_verb v w h = let keys : key (word_of v) ≡ key (word_of w) = ap key h in absurd (omega arith)
 
 -- outcomes of one word are one
 same_outcome : (a b : Outcome) → outcome_word a ≡ outcome_word b → a ≡ b
@@ -58,13 +58,13 @@ same_writes a b sizes entries =
     ap Sized sizes ∙ ap Filled entries
 
 -- the words behind `write` are one tag and one batch
-pub same_write : (size : ℕ) (words : List (List ℕ)) (t u : ℕ) (a b : Writes) → IsWrite size words t a → IsWrite size words u b → (t ≡ u) × (a ≡ b)
+pub same_write : (size : ℕ) (words : List (List ℕ)) (t u : ℕ) (a b : Writes) → AreWriteOperands size words t a → AreWriteOperands size words u b → (t ≡ u) × (a ≡ b)
 same_write size words t u a b x y =
     let both = sym x.all ∙ y.all in
     let first : x.first ≡ y.first = cc in
     let others : x.others ≡ y.others = cc in
     let tags : Some t ≡ Some u = sym x.tagged ∙ (ap number_of first ∙ y.tagged) in
-    let entries : map Some a.entries ≡ map Some b.entries = sym x.each ∙ (ap (λ ws. map (entry_of size) ws) others ∙ y.each) in
+    let entries : map Some a.entries ≡ map Some b.entries = sym x.each ∙ (ap (λ ws. map (page_write_of size) ws) others ∙ y.each) in
     (cc, same_writes a b (x.size ∙ sym y.size) (same_somes a.entries b.entries entries))
 
 -- the words of an arm are one count and one outcome
@@ -95,7 +95,7 @@ same_operands size words c d e x y = absurd (cc)
 pub one_command : (size : ℕ) (line : List ℕ) (c d : Command) → IsCommand size line c → IsCommand size line d → c ≡ d
 one_command size line c d x y =
     let both = sym x.words ∙ y.words in
-    let names : name_of (verb_of c) ≡ name_of (verb_of d) = cc in
+    let names : word_of (verb_of c) ≡ word_of (verb_of d) = cc in
     let operands : x.operands ≡ y.operands = cc in
     same_operands size y.operands c d (same_verb (verb_of c) (verb_of d) names) (rw operands at x.follow) y.follow
 

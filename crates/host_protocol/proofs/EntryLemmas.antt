@@ -9,18 +9,18 @@ use Rattle.hex.specs.declared.error.FromHexError.{FromHexError}
 use Rattle.hex.specs.declared.error.FromHexError.TheVariants.{OutOfMemory, InvalidHexCharacter, OddLength, InvalidStringLength}
 use Rattle.host_protocol.specs.Reading.{Fails, error_of}
 use Rattle.tx_types.specs.Batch.{padded}
-use Rattle.host_protocol.specs.Commands.{contents_of, contents_from, entry_of, write_of, is_equals}
+use Rattle.host_protocol.specs.Commands.{page_contents, contents_from, page_write_of, write_of_texts, is_equals}
 use Rattle.host_protocol.proofs.PartLemmas.{parts, split_some, split_none}
 
 -- a word without an equals sign is no entry
-pub entry_none : (size : ℕ) (word : List ℕ) → position is_equals word ≡ None → entry_of size word ≡ None
-unfolding entry_of
+pub entry_none : (size : ℕ) (word : List ℕ) → position is_equals word ≡ None → page_write_of size word ≡ None
+unfolding page_write_of
 entry_none size word h = rw (split_none is_equals word h) refl
 
 -- nor is one with two
 pub entry_many : (size : ℕ) (word : List ℕ) (i j : ℕ) → position is_equals word ≡ Some i → position is_equals (drop (i + 1) word) ≡ Some j
-    → entry_of size word ≡ None
-unfolding entry_of
+    → page_write_of size word ≡ None
+unfolding page_write_of
 entry_many size word i j first second =
     let text = drop (i + 1) word in
     let more = parts is_equals (drop (j + 1) text) in
@@ -28,19 +28,19 @@ entry_many size word i j first second =
 
 -- one equals sign stands between the page and its contents
 pub entry_one : (size : ℕ) (word : List ℕ) (i : ℕ) → position is_equals word ≡ Some i → position is_equals (drop (i + 1) word) ≡ None
-    → entry_of size word ≡ write_of size (take i word) (drop (i + 1) word)
-unfolding entry_of
+    → page_write_of size word ≡ write_of_texts size (take i word) (drop (i + 1) word)
+unfolding page_write_of
 entry_one size word i first second =
     rw (split_some is_equals word i first, split_none is_equals (drop (i + 1) word) second) refl
 
-pub contents_dash : (size : ℕ) (text : List ℕ) → bytes_eq text (codes "-") ≡ true → contents_of size text ≡ Some (padded size [])
-unfolding contents_of
+pub contents_dash : (size : ℕ) (text : List ℕ) → bytes_eq text (codes "-") ≡ true → page_contents size text ≡ Some (padded size [])
+unfolding page_contents
 contents_dash size text h = rw h refl
 
 -- digits for one byte up to a whole page
 contents_hex : (size : ℕ) (text bytes : List ℕ) → bytes_eq text (codes "-") ≡ false → decode_of text ≡ Ok bytes
-    → contents_of size text ≡ contents_from size bytes
-unfolding contents_of
+    → page_contents size text ≡ contents_from size bytes
+unfolding page_contents
 contents_hex size text bytes other h = rw (other, h) refl
 
 within : (size : ℕ) (bytes : List ℕ) → 1 ≤ length bytes → length bytes ≤ size → contents_from size bytes ≡ Some (padded size bytes)
@@ -54,7 +54,7 @@ outside size bytes (inr more) =
 
 -- the digits of a page
 pub contents_ok : (size : ℕ) (text bytes : List ℕ) → bytes_eq text (codes "-") ≡ false → decode_of text ≡ Ok bytes
-    → length text ≢ 0 → length text / 2 ≤ size → contents_of size text ≡ Some (padded size bytes)
+    → length text ≢ 0 → length text / 2 ≤ size → page_contents size text ≡ Some (padded size bytes)
 contents_ok size text bytes other h some most =
     let twice : length text ≡ 2 * length bytes = (decode_of-ok text bytes h).2 in
     contents_hex size text bytes other h ∙ within size bytes (omega arith) (omega arith)
@@ -64,12 +64,12 @@ contents_length size text bytes h most =
     let twice : length text ≡ 2 * length bytes = (decode_of-ok text bytes h).2 in omega arith
 
 -- what is no digits
-contents_err : (size : ℕ) (text : List ℕ) (e : FromHexError) → bytes_eq text (codes "-") ≡ false → decode_of text ≡ Err e → contents_of size text ≡ None
-unfolding contents_of
+contents_err : (size : ℕ) (text : List ℕ) (e : FromHexError) → bytes_eq text (codes "-") ≡ false → decode_of text ≡ Err e → page_contents size text ≡ None
+unfolding page_contents
 contents_err size text e other h = rw (other, h) refl
 
 pub contents_fails : (size : ℕ) (text : List ℕ) (e : FromHexError) → bytes_eq text (codes "-") ≡ false → (e ≡ OutOfMemory) ⊎ (decode_of text ≡ Err e)
-    → Fails (error_of e) (contents_of size text)
+    → Fails (error_of e) (page_contents size text)
 contents_fails size text OutOfMemory other h = tt
 contents_fails size text e other (inl h) = absurd (cc)
 contents_fails size text (InvalidHexCharacter c i) other (inr h) = contents_err size text (InvalidHexCharacter c i) other h
@@ -77,12 +77,12 @@ contents_fails size text OddLength other (inr h) = contents_err size text OddLen
 contents_fails size text InvalidStringLength other (inr h) = contents_err size text InvalidStringLength other h
 
 by_decoding : (size : ℕ) (text : List ℕ) → bytes_eq text (codes "-") ≡ false → (length text ≡ 0) ⊎ (size < length text / 2)
-    → (r : Result (List ℕ) FromHexError) → decode_of text ≡ r → contents_of size text ≡ None
+    → (r : Result (List ℕ) FromHexError) → decode_of text ≡ r → page_contents size text ≡ None
 by_decoding size text other out (Ok bytes) h =
     let twice : length text ≡ 2 * length bytes = (decode_of-ok text bytes h).2 in
     contents_hex size text bytes other h ∙ outside size bytes (elim out [ inl none ↦ inl (omega arith) | inr more ↦ inr (omega arith) ])
 by_decoding size text other out (Err e) h = contents_err size text e other h
 
 -- no digits, or too many
-pub contents_out : (size : ℕ) (text : List ℕ) → bytes_eq text (codes "-") ≡ false → (length text ≡ 0) ⊎ (size < length text / 2) → contents_of size text ≡ None
+pub contents_out : (size : ℕ) (text : List ℕ) → bytes_eq text (codes "-") ≡ false → (length text ≡ 0) ⊎ (size < length text / 2) → page_contents size text ≡ None
 contents_out size text other out = by_decoding size text other out (decode_of text) refl

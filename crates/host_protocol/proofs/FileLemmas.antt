@@ -89,39 +89,39 @@ filter_more : (lines : List (List ℕ)) (line : List ℕ) → is_command_line li
 filter_more lines line h = filter-append is_command_line lines (line ∷ []) ∙ rw h refl
 
 -- a line, with the command that it has, if it has one
-pub add_line : (size : ℕ) (lines : List (List ℕ)) (line : List ℕ) (commands : List Command) (room : ℕ) (found : Option Command)
-    → IfNone found (is_command_line line ≡ false) → IfSome found (AddsCommand size line (length commands) room)
-    → room + sum_by entries_in commands ≡ MAX_ENTRIES → AreCommands size lines commands
+pub add_line : (size : ℕ) (lines : List (List ℕ)) (line : List ℕ) (commands : List Command) (entries_left : ℕ) (found : Option Command)
+    → IfNone found (is_command_line line ≡ false) → IfSome found (AddsCommand size line (length commands) entries_left)
+    → entries_left + sum_by entries_in commands ≡ MAX_ENTRIES → AreCommands size lines commands
     → AreCommands size (lines ++ line ∷ []) (commands ++ option_to_list found)
-add_line size lines line commands room None idle adds left good =
+add_line size lines line commands entries_left None idle adds left good =
     rw append-nil (record { each = rw (filter_idle lines line idle) good.each; most_commands = good.most_commands; most_entries = good.most_entries })
-add_line size lines line commands room (Some what) idle adds left good = record {
+add_line size lines line commands entries_left (Some what) idle adds left good = record {
   each = rw (filter_more lines line adds.asks) (zip_more (IsCommand size) (filter is_command_line lines) commands line what good.each adds.is);
   most_commands = let h = adds.one_more in omega (arith, length-append {A = Command});
   most_entries = let h = adds.within in rw (sum_by_push entries_in commands what) (omega arith);
 }
 
--- a last command without room passes a limit
-last_past : (size : ℕ) (line : List ℕ) (commands : List Command) (room : ℕ) → AddsNone size line (length commands) room
-    → room + sum_by entries_in commands ≡ MAX_ENTRIES → (back : List Command) → AllZip (IsCommand size) (line ∷ []) back
+-- a last command with more entries than are left passes a limit
+last_past : (size : ℕ) (line : List ℕ) (commands : List Command) (entries_left : ℕ) → AddsNone size line (length commands) entries_left
+    → entries_left + sum_by entries_in commands ≡ MAX_ENTRIES → (back : List Command) → AllZip (IsCommand size) (line ∷ []) back
     → length (commands ++ back) ≤ MAX_COMMANDS → sum_by entries_in (commands ++ back) ≤ MAX_ENTRIES → ⊥
-last_past size line commands room none left [] is most entries = absurd is
-last_past size line commands room none left (what ∷ []) is most entries =
+last_past size line commands entries_left none left [] is most entries = absurd is
+last_past size line commands entries_left none left (what ∷ []) is most entries =
     let fits : length commands < MAX_COMMANDS = omega (arith, length-append {A = Command}) in
     let past = none.past what is.0 fits in
     let sum = rw (sum_by_push entries_in commands what) at entries in
     omega arith
-last_past size line commands room none left (what ∷ more ∷ others) is most entries = absurd is.1
+last_past size line commands entries_left none left (what ∷ more ∷ others) is most entries = absurd is.1
 
--- a line that has no command with room
-pub add_none : (size : ℕ) (lines : List (List ℕ)) (line : List ℕ) (commands : List Command) (room : ℕ)
-    → AddsNone size line (length commands) room → room + sum_by entries_in commands ≡ MAX_ENTRIES → AreCommands size lines commands
+-- a line that has no command with as many entries as are left
+pub add_none : (size : ℕ) (lines : List (List ℕ)) (line : List ℕ) (commands : List Command) (entries_left : ℕ)
+    → AddsNone size line (length commands) entries_left → entries_left + sum_by entries_in commands ≡ MAX_ENTRIES → AreCommands size lines commands
     → (others : List Command) → AreCommands size (lines ++ line ∷ []) others → ⊥
-add_none size lines line commands room none left good others all =
+add_none size lines line commands entries_left none left good others all =
     let each = rw (filter_more lines line none.asks) at all.each in
     let parts = zip_front (IsCommand size) (filter is_command_line lines) (line ∷ []) others each in
     let before : parts.front ≡ commands = zip_same (IsCommand size) (one_command size) (filter is_command_line lines) parts.front commands parts.fronts good.each in
-    last_past size line commands room none left parts.back parts.backs (rw (parts.whole, before) at all.most_commands) (rw (parts.whole, before) at all.most_entries)
+    last_past size line commands entries_left none left parts.back parts.backs (rw (parts.whole, before) at all.most_commands) (rw (parts.whole, before) at all.most_entries)
 
 -- ---- the whole file
 
@@ -154,15 +154,15 @@ first_same size bytes m n a b = elim (cases_order m n) [
   | inr (inr more) ↦ absurd (b.bad (good_shorter size bytes n (m - 1) (omega arith) a.before))
 ]
 
--- a line without room behind good ones is the first bad one
-pub first_bad : (size : ℕ) (bytes : List ℕ) (i : ℕ) (line : List ℕ) (more : List (List ℕ)) (commands : List Command) (room : ℕ)
-    → Next (lines_of bytes) i line more → AddsNone size line (length commands) room → room + sum_by entries_in commands ≡ MAX_ENTRIES
+-- a line without a command that fits behind good ones is the first bad one
+pub first_bad : (size : ℕ) (bytes : List ℕ) (i : ℕ) (line : List ℕ) (more : List (List ℕ)) (commands : List Command) (entries_left : ℕ)
+    → Next (lines_of bytes) i line more → AddsNone size line (length commands) entries_left → entries_left + sum_by entries_in commands ≡ MAX_ENTRIES
     → AreCommands size (take i (lines_of bytes)) commands → IsFirstBad size bytes (i + 1)
-first_bad size bytes i line more commands room n none left good = record {
+first_bad size bytes i line more commands entries_left n none left good = record {
   least = omega arith;
   most = let within = n.within in omega arith;
   before = let back : i + 1 - 1 ≡ i = omega arith in rw back (commands, good);
-  bad = λ (others, all). add_none size (take i (lines_of bytes)) line commands room none left good others (rw n.front at all);
+  bad = λ (others, all). add_none size (take i (lines_of bytes)) line commands entries_left none left good others (rw n.front at all);
 }
 
 -- ---- where the reading ends

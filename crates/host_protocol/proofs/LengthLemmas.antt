@@ -4,7 +4,7 @@ use Rattle.std.specs.Fmt.{decimal}
 use Rattle.std.proofs.lemmas.Fmt.{length-decimal-le}
 use Rattle.hex.proofs.HexLemmas.{length-encode_with}
 use Rattle.hex.specs.Hex.{lower_digits}
-use Rattle.host_protocol.specs.Replies.{line_of, reply_words, text_of, IsLine, HasPage, max_line_bytes}
+use Rattle.host_protocol.specs.Replies.{line_of, reply_words, text_of, IsLine, HasPage, max_reply_bytes}
 use Rattle.host_protocol.specs.declared.reply.Reply.{Reply}
 use Rattle.host_protocol.specs.declared.reply.Reply.TheVariants as reply
 
@@ -21,7 +21,7 @@ line_short (word ∷ next ∷ words) h =
     let rest = line_short (next ∷ words) h.1 in
     omega (arith, length-append {A = ℕ})
 
-few : (words : List (List ℕ)) → AreShort words → length words ≤ 13 → length (line_of words) ≤ max_line_bytes
+few : (words : List (List ℕ)) → AreShort words → length words ≤ 13 → length (line_of words) ≤ max_reply_bytes
 few words h n = let line = line_short words h in omega arith
 
 -- numbers have at most 20 digits, and those of 32 bits at most 10
@@ -34,7 +34,7 @@ shorter n h = length-decimal-le 10 n (omega arith) (omega arith) (omega arith)
 short32 : (n : ℕ) → n < 2 ^ 32 → length (decimal n) ≤ 20
 short32 n h = short n (omega arith)
 
-pub short_text : (what : Reply) → IsLine what → HasPage what → length (text_of what) ≤ max_line_bytes
+pub short_text : (what : Reply) → IsLine what → HasPage what → length (text_of what) ≤ max_reply_bytes
 short_text (reply.Blank page) h p = few (reply_words (reply.Blank page)) (omega arith, (short32 page h, tt)) (omega arith)
 short_text (reply.Page page bytes) h p =
     let number = shorter page h.0 in

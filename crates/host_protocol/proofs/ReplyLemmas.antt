@@ -51,11 +51,11 @@ cut (c ∷ cs) xs (d ∷ ds) ys x y pa pb px py h =
     record { front = let f = rest.front in cc; at = rest.at; behind = rest.behind }
 
 -- a line and what is behind it
-pub record Told (ws vs : List (List ℕ)) (X Y : List ℕ) : Type 0 where
+pub record LineTold (ws vs : List (List ℕ)) (X Y : List ℕ) : Type 0 where
   words : ws ≡ vs
   behind : X ≡ Y
 
-pub line_tells : (ws vs : List (List ℕ)) (X Y : List ℕ) → ArePlain ws → ArePlain vs → line_of ws ++ X ≡ line_of vs ++ Y → Told ws vs X Y
+pub line_tells : (ws vs : List (List ℕ)) (X Y : List ℕ) → ArePlain ws → ArePlain vs → line_of ws ++ X ≡ line_of vs ++ Y → LineTold ws vs X Y
 line_tells [] vs X Y p q h = absurd p
 line_tells (w ∷ []) [] X Y p q h = absurd q
 line_tells (w ∷ u ∷ ws) [] X Y p q h = absurd q

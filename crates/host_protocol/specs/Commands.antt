@@ -10,7 +10,7 @@ use Rattle.hex.specs.Hex.{decode_of}
 use Rattle.tx_types.specs.Batch.{PageWrite, Writes, padded}
 use Rattle.host_protocol.specs.Lines.{words_of}
 use Rattle.host_protocol.specs.Numbers.{number_of, count_of}
-use Rattle.host_protocol.specs.Verbs.{name_of}
+use Rattle.host_protocol.specs.Verbs.{word_of}
 use Rattle.host_protocol.specs.declared.command.Command.{Command}
 use Rattle.host_protocol.specs.declared.command.Command.TheVariants as command
 use Rattle.host_protocol.specs.declared.verb.Verb.{Verb}
@@ -27,27 +27,31 @@ is_equals b = b == 61
 
 -- the contents of a page from one to all of its bytes, with zeros after them
 abbrev pub contents_from : ℕ → List ℕ → Option (List ℕ)
-contents_from page_bytes bytes = if nat_le 1 (length bytes) && nat_le (length bytes) page_bytes then Some (padded page_bytes bytes) else None
+contents_from page_bytes bytes =
+    if nat_le 1 (length bytes)
+    && nat_le (length bytes) page_bytes then Some (padded page_bytes bytes) else None
 
 -- the contents of a page, by their text: a dash for zeros, or hexadecimal digits
-unfoldable pub contents_of : ℕ → List ℕ → Option (List ℕ)
-contents_of page_bytes text =
+unfoldable pub page_contents : ℕ → List ℕ → Option (List ℕ)
+page_contents page_bytes text =
     if bytes_eq text (codes "-") then Some (padded page_bytes [])
     else option_and_then (contents_from page_bytes) (result_ok (decode_of text))
 
 -- a page and its contents, by their texts
-abbrev pub write_of : ℕ → List ℕ → List ℕ → Option PageWrite
-write_of page_bytes page text =
-    option_and_then (λ p. option_map (λ bytes. record { page = p; bytes = bytes }) (contents_of page_bytes text)) (number_of page)
+abbrev pub write_of_texts : ℕ → List ℕ → List ℕ → Option PageWrite
+write_of_texts page_bytes page text =
+    option_and_then
+    (λ p. option_map (λ bytes. record { page = p; bytes = bytes })
+    (page_contents page_bytes text)) (number_of page)
 
 -- an entry's two parts around its one equals sign
-abbrev pub entry_from : ℕ → List (List ℕ) → Option PageWrite
-entry_from page_bytes (page ∷ text ∷ []) = write_of page_bytes page text
-entry_from page_bytes _ = None
+abbrev pub page_write_from : ℕ → List (List ℕ) → Option PageWrite
+page_write_from page_bytes (page ∷ text ∷ []) = write_of_texts page_bytes page text
+page_write_from page_bytes _ = None
 
 -- the page and the contents that an entry gives
-unfoldable pub entry_of : ℕ → List ℕ → Option PageWrite
-entry_of page_bytes word = entry_from page_bytes (slice_split is_equals word)
+unfoldable pub page_write_of : ℕ → List ℕ → Option PageWrite
+page_write_of page_bytes word = page_write_from page_bytes (slice_split is_equals word)
 
 -- the number that the only word is
 abbrev pub alone : (List ℕ → Option ℕ) → List (List ℕ) → Option ℕ
@@ -61,13 +65,14 @@ pub record IsArm (words : List (List ℕ)) (count : ℕ) (what : Outcome) : Type
   pub counted : count_of first ≡ Some count
 
 -- a tag, and entries of pages of this many bytes
-pub record IsWrite (page_bytes : ℕ) (words : List (List ℕ)) (tag : ℕ) (batch : Writes) : Type 0 where
+pub record AreWriteOperands (page_bytes : ℕ) (words : List (List ℕ)) (tag : ℕ)
+    (batch : Writes) : Type 0 where
   pub first : List ℕ
   pub others : List (List ℕ)
   pub all : words ≡ first ∷ others
   pub tagged : number_of first ≡ Some tag
   pub size : batch.page_bytes ≡ page_bytes
-  pub each : map (entry_of page_bytes) others ≡ map Some batch.entries
+  pub each : map (page_write_of page_bytes) others ≡ map Some batch.entries
 
 -- which word the line of a command begins with
 abbrev pub verb_of : Command → Verb
@@ -86,7 +91,7 @@ verb_of (command.BadRead count) = verb.BadRead
 -- the words that follow it
 abbrev pub AreOperands : ℕ → List (List ℕ) → Command → Type 0
 AreOperands page_bytes words (command.Read page) = alone number_of words ≡ Some page
-AreOperands page_bytes words (command.Write tag batch) = IsWrite page_bytes words tag batch
+AreOperands page_bytes words (command.Write tag batch) = AreWriteOperands page_bytes words tag batch
 AreOperands page_bytes words (command.Step tag) = alone number_of words ≡ Some tag
 AreOperands page_bytes words (command.Finish tag) = alone number_of words ≡ Some tag
 AreOperands page_bytes words (command.Abort tag) = alone number_of words ≡ Some tag
@@ -100,7 +105,7 @@ AreOperands page_bytes words (command.BadRead count) = alone count_of words ≡ 
 -- the line is this command, for pages of this many bytes
 pub record IsCommand (page_bytes : ℕ) (line : List ℕ) (what : Command) : Type 0 where
   pub operands : List (List ℕ)
-  pub words : words_of line ≡ name_of (verb_of what) ∷ operands
+  pub words : words_of line ≡ word_of (verb_of what) ∷ operands
   pub follow : AreOperands page_bytes operands what
 
 -- the command suits a device with pages of this many bytes: so do its pages, and its count is at least 1

@@ -22,7 +22,8 @@ entries_in (command.Write tag batch) = length batch.entries
 entries_in _ = 0
 
 -- the lines are these commands, within the limits of a file
-pub record AreCommands (page_bytes : ℕ) (lines : List (List ℕ)) (commands : List Command) : Type 0 where
+pub record AreCommands (page_bytes : ℕ) (lines : List (List ℕ))
+    (commands : List Command) : Type 0 where
   pub each : AllZip (IsCommand page_bytes) (filter is_command_line lines) commands
   pub most_commands : length commands ≤ MAX_COMMANDS
   pub most_entries : sum_by entries_in commands ≤ MAX_ENTRIES
@@ -33,7 +34,8 @@ IsFile page_bytes bytes commands = AreCommands page_bytes (lines_of bytes) comma
 
 -- the first so many lines of the bytes are commands
 abbrev pub AreGood : ℕ → List ℕ → ℕ → Type 0
-AreGood page_bytes bytes n = (commands : List Command) × AreCommands page_bytes (take n (lines_of bytes)) commands
+AreGood page_bytes bytes n =
+    (commands : List Command) × AreCommands page_bytes (take n (lines_of bytes)) commands
 
 -- the line of this number, from 1, is the first with which the lines are no commands
 pub record IsFirstBad (page_bytes : ℕ) (bytes : List ℕ) (n : ℕ) : Type 0 where

@@ -7,8 +7,8 @@ abbrev pub is_line_feed : ℕ → Bool
 is_line_feed b = b == 10
 
 -- a space or a tab
-abbrev pub is_blank : ℕ → Bool
-is_blank b = b == 32 || b == 9
+abbrev pub is_space_or_tab : ℕ → Bool
+is_space_or_tab b = b == 32 || b == 9
 
 abbrev pub has_bytes : List ℕ → Bool
 has_bytes [] = false
@@ -26,4 +26,4 @@ lines_of bytes = map strip_carriage_return (ended_parts (slice_split is_line_fee
 
 -- the words of a line: its parts between blanks that have bytes
 unfoldable pub words_of : List ℕ → List (List ℕ)
-words_of line = filter has_bytes (slice_split is_blank line)
+words_of line = filter has_bytes (slice_split is_space_or_tab line)

@@ -14,7 +14,8 @@ value_of digits = fold (λ n digit. n * 10 + (digit - 48)) 0 digits
 -- one to ten decimal digits, for a number of 32 bits
 abbrev pub is_number : List ℕ → Bool
 is_number word =
-    nat_le 1 (length word) && nat_le (length word) 10 && list_all is_digit word && nat_le (value_of word) max_u32
+    nat_le 1 (length word) && nat_le (length word) 10 && list_all is_digit word
+    && nat_le (value_of word) max_u32
 
 -- the number that a word is, a page or a tag
 unfoldable pub number_of : List ℕ → Option ℕ

@@ -3,7 +3,7 @@ use Rattle.std.specs.Prelude.{◌≡◌, ◌<◌, ◌≤◌, true, ℕ, List, le
 use Rattle.hex.specs.declared.error.FromHexError.{FromHexError}
 use Rattle.hex.specs.declared.error.FromHexError.TheVariants.{OutOfMemory}
 use Rattle.tx_types.specs.Batch.{PageWrite, Writes}
-use Rattle.host_protocol.specs.Commands.{entry_of, verb_of, AreOperands, IsCommand, IsWrite}
+use Rattle.host_protocol.specs.Commands.{page_write_of, verb_of, AreOperands, IsCommand, AreWriteOperands}
 use Rattle.host_protocol.specs.Files.{entries_in, is_command_line, IsFirstBad}
 use Rattle.host_protocol.specs.declared.file.TheConstants.{MAX_COMMANDS}
 use Rattle.host_protocol.specs.declared.error.TextError.{TextError}
@@ -25,9 +25,9 @@ Fails Bad found = found ≡ None
 Fails Memory found = Unit {0}
 
 -- the answer, seen by a view, is what the grammar finds, unless memory ran out
-abbrev pub Gives : {X Y : Type 0} → (X → Y) → Result X LineError → Option Y → Type 0
-Gives view (Ok x) found = found ≡ Some (view x)
-Gives view (Err e) found = Fails e found
+abbrev pub AnswersAs : {X Y : Type 0} → (X → Y) → Result X LineError → Option Y → Type 0
+AnswersAs view (Ok x) found = found ≡ Some (view x)
+AnswersAs view (Err e) found = Fails e found
 
 -- a command that is no write
 abbrev pub IsPlain : Command → Type 0
@@ -41,47 +41,54 @@ MakesPlain verb words (Some what) =
 MakesPlain verb words None =
     (size : ℕ) (what : Command) → IsPlain what → verb ≡ verb_of what → ¬ AreOperands size words what
 
--- the words behind the command word make this command, which has room
+-- the words behind the command word make this command, with no more entries than are left
 abbrev pub MakesCommand : ℕ → Verb → List (List ℕ) → ℕ → Command → Type 0
-MakesCommand size verb words room what =
-    (verb ≡ verb_of what) × AreOperands size words what × (entries_in what ≤ room)
+MakesCommand size verb words entries_left what =
+    (verb ≡ verb_of what) × AreOperands size words what × (entries_in what ≤ entries_left)
 
--- each command that they make has no room
+-- each command that they make has more
 abbrev pub MakesNone : ℕ → Verb → List (List ℕ) → ℕ → Type 0
-MakesNone size verb words room =
-    (what : Command) → verb ≡ verb_of what → AreOperands size words what → room < entries_in what
+MakesNone size verb words entries_left =
+    (what : Command) → verb ≡ verb_of what → AreOperands size words what →
+    entries_left < entries_in what
 
--- the words are a tag and entries, which have room
-abbrev pub IsRoomyWrite : ℕ → List (List ℕ) → ℕ → ℕ → Writes → Type 0
-IsRoomyWrite size words room tag batch = IsWrite size words tag batch × (length batch.entries ≤ room)
+-- the words are a tag and entries, no more than are left
+abbrev pub IsWriteWithin : ℕ → List (List ℕ) → ℕ → ℕ → Writes → Type 0
+IsWriteWithin size words entries_left tag batch =
+    AreWriteOperands size words tag batch × (length batch.entries ≤ entries_left)
 
--- where they are a tag and entries, those have no room
-abbrev pub IsNoRoomyWrite : ℕ → List (List ℕ) → ℕ → Type 0
-IsNoRoomyWrite size words room =
-    (tag : ℕ) (batch : Writes) → IsWrite size words tag batch → room < length batch.entries
+-- where they are a tag and entries, those are more
+abbrev pub IsWritePast : ℕ → List (List ℕ) → ℕ → Type 0
+IsWritePast size words entries_left =
+    (tag : ℕ) (batch : Writes) → AreWriteOperands size words tag batch →
+    entries_left < length batch.entries
 
--- the words are these entries, which have room
+-- the words are these entries, no more than are left
 abbrev pub HasEntries : ℕ → List (List ℕ) → ℕ → Writes → Type 0
-HasEntries size words room batch =
-    (batch.page_bytes ≡ size) × (map (entry_of size) words ≡ map Some batch.entries) × (length batch.entries ≤ room)
+HasEntries size words entries_left batch =
+    (batch.page_bytes ≡ size) × (map (page_write_of size) words ≡ map Some batch.entries)
+    × (length batch.entries ≤ entries_left)
 
--- where they are entries, those have no room
+-- where they are entries, those are more
 abbrev pub HasNoEntries : ℕ → List (List ℕ) → ℕ → Type 0
-HasNoEntries size words room =
-    (writes : List PageWrite) → map (entry_of size) words ≡ map Some writes → room < length writes
+HasNoEntries size words entries_left =
+    (writes : List PageWrite) → map (page_write_of size) words ≡ map Some writes →
+    entries_left < length writes
 
--- the line is neither blank nor a comment, and is this command, which has room in the file
-pub record AddsCommand (size : ℕ) (line : List ℕ) (before room : ℕ) (what : Command) : Type 0 where
+-- the line is neither blank nor a comment, and is this command, with no more entries than are left to the file
+pub record AddsCommand (size : ℕ) (line : List ℕ) (before entries_left : ℕ)
+    (what : Command) : Type 0 where
   pub asks : is_command_line line ≡ true
   pub is : IsCommand size line what
   pub one_more : before < MAX_COMMANDS
-  pub within : entries_in what ≤ room
+  pub within : entries_in what ≤ entries_left
 
--- the line is neither blank nor a comment, and each command that it is has no room in the file
-pub record AddsNone (size : ℕ) (line : List ℕ) (before room : ℕ) : Type 0 where
+-- the line is neither blank nor a comment, and each command that it is has more entries, or comes after the last that
+-- a file may have
+pub record AddsNone (size : ℕ) (line : List ℕ) (before entries_left : ℕ) : Type 0 where
   pub asks : is_command_line line ≡ true
   pub past : (what : Command) → IsCommand size line what → before < MAX_COMMANDS →
-      room < entries_in what
+      entries_left < entries_in what
 
 -- where a file's reading ended
 abbrev pub EndsAt : ℕ → List ℕ → TextError → Type 0

@@ -34,7 +34,8 @@ abbrev pub reply_words : Reply → List (List ℕ)
 reply_words (reply.Blank page) = codes "blank" ∷ decimal page ∷ []
 reply_words (reply.Page page bytes) = page_words page bytes
 reply_words (reply.Opened tag pages) = codes "open" ∷ decimal tag ∷ decimal pages ∷ []
-reply_words (reply.Wrote tag done all) = codes "wrote" ∷ decimal tag ∷ decimal done ∷ decimal all ∷ []
+reply_words (reply.Wrote tag done all) =
+    codes "wrote" ∷ decimal tag ∷ decimal done ∷ decimal all ∷ []
 reply_words (reply.Done tag) = codes "done" ∷ decimal tag ∷ []
 reply_words (reply.Aborted tag) = codes "aborted" ∷ decimal tag ∷ []
 reply_words (reply.Late tag) = codes "late" ∷ decimal tag ∷ []
@@ -48,7 +49,8 @@ reply_words reply.RefusedEmpty = codes "refused" ∷ codes "empty" ∷ []
 reply_words (reply.RefusedRange page) = codes "refused" ∷ codes "range" ∷ decimal page ∷ []
 reply_words (reply.RefusedRepeated page) = codes "refused" ∷ codes "repeated" ∷ decimal page ∷ []
 reply_words (reply.RefusedTag tag) = codes "refused" ∷ codes "tag" ∷ decimal tag ∷ []
-reply_words (reply.RefusedOverlap page tag) = codes "refused" ∷ codes "overlap" ∷ decimal page ∷ decimal tag ∷ []
+reply_words (reply.RefusedOverlap page tag) =
+    codes "refused" ∷ codes "overlap" ∷ decimal page ∷ decimal tag ∷ []
 reply_words (reply.RefusedFull free) = codes "refused" ∷ codes "full" ∷ decimal free ∷ []
 reply_words (reply.RefusedSpent page) = codes "refused" ∷ codes "spent" ∷ decimal page ∷ []
 reply_words (reply.Stats s) = stats_words s
@@ -87,5 +89,5 @@ HasPage (reply.Page page bytes) = length bytes ≤ max_page_bytes
 HasPage what = Unit {0}
 
 -- the most bytes of a line with its line feed: that of a page with 4096 bytes and a number of ten digits
-abbrev pub max_line_bytes : ℕ
-max_line_bytes = 8209
+abbrev pub max_reply_bytes : ℕ
+max_reply_bytes = 8209

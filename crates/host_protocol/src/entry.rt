@@ -1,7 +1,7 @@
 ghost use Rattle.std.specs.Prelude.{◌≡◌, ◌≤◌, ℕ, length, position, IfOk, IfSome, IfNone};
 ghost use Rattle.tx_types.specs.Batch.{padded};
-ghost use Rattle.host_protocol.specs.Commands.{contents_of, entry_of, write_of, is_equals};
-ghost use Rattle.host_protocol.specs.Reading.{Gives};
+ghost use Rattle.host_protocol.specs.Commands.{page_contents, page_write_of, write_of_texts, is_equals};
+ghost use Rattle.host_protocol.specs.Reading.{AnswersAs};
 
 use crate::error::LineError;
 use crate::numbers::number;
@@ -9,8 +9,8 @@ use std::alloc::Global;
 
 /// The page and the bytes that an entry gives, without the zeros that fill the page.
 pub fn entry(alloc: Global, word: &[u8], page_bytes: u32) -> Result<(u32, Vec<u8>), LineError>
-    ensures entry { Gives (λ e. record { page = e.0; bytes = padded page_bytes e.1.items })
-        result (entry_of page_bytes word.now) }
+    ensures entry { AnswersAs (λ e. record { page = e.0; bytes = padded page_bytes e.1.items })
+        result (page_write_of page_bytes word.now) }
     ensures within { IfOk result (λ e. length e.1.items ≤ page_bytes) }
 {
     let (page, text) = around_equals(word).ok_or(LineError::Bad)?;
@@ -22,8 +22,8 @@ pub fn entry(alloc: Global, word: &[u8], page_bytes: u32) -> Result<(u32, Vec<u8
 /// The two parts of an entry around its one equals sign.
 fn around_equals(word: &[u8]) -> Option<(&[u8], &[u8])>
     ensures some { IfSome result (λ f. (size : ℕ) →
-        entry_of size word.now ≡ write_of size f.0.now f.1.now) }
-    ensures none { IfNone result ((size : ℕ) → entry_of size word.now ≡ None) }
+        page_write_of size word.now ≡ write_of_texts size f.0.now f.1.now) }
+    ensures none { IfNone result ((size : ℕ) → page_write_of size word.now ≡ None) }
 {
     let place = first_equals(word)?;
     let (page, text) = (&word[..place], &word[place + 1..]);
@@ -42,8 +42,8 @@ fn first_equals(word: &[u8]) -> Option<usize>
 
 /// The bytes of a page, by their text: none for a dash, else one to all of them by hexadecimal digits.
 fn contents(alloc: Global, text: &[u8], page_bytes: u32) -> Result<Vec<u8>, LineError>
-    ensures contents { Gives (λ v. padded page_bytes v.items)
-        result (contents_of page_bytes text.now) }
+    ensures contents { AnswersAs (λ v. padded page_bytes v.items)
+        result (page_contents page_bytes text.now) }
     ensures within { IfOk result (λ v. length v.items ≤ page_bytes) }
 {
     if text == b"-".as_slice() {

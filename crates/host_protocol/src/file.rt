@@ -38,13 +38,13 @@ pub fn parse(alloc: Global, bytes: &[u8], page_bytes: u32) -> Result<Vec<Command
         → MatchResult result (λ list. ⊥) (λ e. (e ≡ TextError.Line n) ⊎ (e ≡ TextError.Memory)) }
 {
     let mut commands = Vec::new(alloc);
-    let mut room = MAX_ENTRIES;
+    let mut entries_left = MAX_ENTRIES;
     let mut number = 0;
     let mut rest = bytes;
     while let Some((line, behind)) = first_line(rest) {
         number += 1;
-        match line_command(alloc, line, page_bytes, commands.len(), room) {
-            Ok(found) => keep(&mut commands, &mut room, found)?,
+        match line_command(alloc, line, page_bytes, commands.len(), entries_left) {
+            Ok(found) => keep(&mut commands, &mut entries_left, found)?,
             Err(e) => return Err(e.at(number)),
         }
         rest = behind;
@@ -52,16 +52,20 @@ pub fn parse(alloc: Global, bytes: &[u8], page_bytes: u32) -> Result<Vec<Command
     Ok(commands)
 }
 
-/// Keeps the command of a line, if it has one, and takes its entries from the room.
-fn keep(commands: &mut Vec<Command>, room: &mut usize, found: Option<Command>) -> Result<(), Memory>
-    requires { sum_by entries_in (option_to_list found) ≤ room.old }
+/// Keeps the command of a line, if it has one, and takes its entries from those that are left.
+fn keep(
+    commands: &mut Vec<Command>,
+    entries_left: &mut usize,
+    found: Option<Command>,
+) -> Result<(), Memory>
+    requires { sum_by entries_in (option_to_list found) ≤ entries_left.old }
     ensures commands { OnOk result
         (commands.new.items ≡ commands.old.items ++ option_to_list found) }
-    ensures room { OnOk result
-        (room.new + sum_by entries_in (option_to_list found) ≡ room.old) }
+    ensures entries_left { OnOk result
+        (entries_left.new + sum_by entries_in (option_to_list found) ≡ entries_left.old) }
 {
     if let Some(command) = found {
-        *room -= entry_count(&command);
+        *entries_left -= entry_count(&command);
         commands.push(command)?;
     }
     Ok(())

@@ -2,7 +2,7 @@
 ghost use Rattle.std.specs.Prelude.{◌≡◌, ◌≤◌, ℕ, List, length, flat_map};
 ghost use Rattle.std.specs.List.{AllByRecursion};
 ghost use Rattle.host_protocol.specs.Files.{IsFile, IsFirstBad};
-ghost use Rattle.host_protocol.specs.Replies.{text_of, IsLine, HasPage, max_line_bytes};
+ghost use Rattle.host_protocol.specs.Replies.{text_of, IsLine, HasPage, max_reply_bytes};
 ghost use Rattle.host_protocol.specs.declared.command.Command.{Command};
 ghost use Rattle.host_protocol.specs.declared.reply.Reply.{Reply};
 
@@ -26,5 +26,5 @@ pub fn lines_tell_replies()
 /// the pages of a device.
 pub fn lines_are_short()
     ensures { (what : Reply) → IsLine what → HasPage what →
-        length (text_of what) ≤ max_line_bytes }
+        length (text_of what) ≤ max_reply_bytes }
 {}

@@ -6,8 +6,8 @@ ghost use Rattle.host_protocol.specs.Reading.{
   AddsNone,
   HasEntries,
   HasNoEntries,
-  IsNoRoomyWrite,
-  IsRoomyWrite,
+  IsWritePast,
+  IsWriteWithin,
   MakesCommand,
   MakesNone,
   MakesPlain,
@@ -25,17 +25,18 @@ use std::alloc::Global;
 use tx_types::Batch;
 
 /// The command of a line, none for a blank line or a comment. There are `before` commands before
-/// it, and a write may have at most `room` entries.
+/// it, and a write may have at most `entries_left` entries.
 pub(crate) fn line_command(
     alloc: Global,
     line: &[u8],
     page_bytes: u32,
     before: usize,
-    room: usize,
+    entries_left: usize,
 ) -> Result<Option<Command>, LineError>
     ensures idle { IfOk result (λ found. IfNone found (is_command_line line.now ≡ false)) }
-    ensures command { IfOk result (λ found. IfSome found (AddsCommand page_bytes line.now before room)) }
-    ensures bad { IsErrOf result LineError.Bad → AddsNone page_bytes line.now before room }
+    ensures command { IfOk result
+        (λ found. IfSome found (AddsCommand page_bytes line.now before entries_left)) }
+    ensures bad { IsErrOf result LineError.Bad → AddsNone page_bytes line.now before entries_left }
 {
     let Some((word, words)) = first_word(line) else {
         return Ok(None);
@@ -47,23 +48,24 @@ pub(crate) fn line_command(
         return Err(LineError::Bad);
     }
     let verb = Verb::from_word(word).ok_or(LineError::Bad)?;
-    Ok(Some(command(alloc, verb, words, page_bytes, room)?))
+    Ok(Some(command(alloc, verb, words, page_bytes, entries_left)?))
 }
 
-/// The command of a verb and the words behind it. A write may have at most `room` entries.
+/// The command of a verb and the words behind it. A write may have at most `entries_left` entries.
 fn command(
     alloc: Global,
     verb: Verb,
     words: &[u8],
     page_bytes: u32,
-    room: usize,
+    entries_left: usize,
 ) -> Result<Command, LineError>
-    ensures ok { IfOk result (MakesCommand page_bytes verb (words_of words.now) room) }
-    ensures bad { IsErrOf result LineError.Bad → MakesNone page_bytes verb (words_of words.now) room }
+    ensures ok { IfOk result (MakesCommand page_bytes verb (words_of words.now) entries_left) }
+    ensures bad { IsErrOf result LineError.Bad →
+        MakesNone page_bytes verb (words_of words.now) entries_left }
 {
     match verb {
         Verb::Write => {
-            let (tag, batch) = write(alloc, words, page_bytes, room)?;
+            let (tag, batch) = write(alloc, words, page_bytes, entries_left)?;
             Ok(Command::Write { tag, batch })
         }
         _ => plain(verb, words).ok_or(LineError::Bad),
@@ -114,31 +116,39 @@ fn bare(words: &[u8], command: Command) -> Option<Command>
     Some(command)
 }
 
-/// The tag and the pages of a write, which may have at most `room` entries.
+/// The tag and the pages of a write, which may have at most `entries_left` entries.
 fn write(
     alloc: Global,
     words: &[u8],
     page_bytes: u32,
-    room: usize,
+    entries_left: usize,
 ) -> Result<(u32, Batch), LineError>
-    ensures ok { IfOk result (λ w. IsRoomyWrite page_bytes (words_of words.now) room w.0 w.1) }
-    ensures bad { IsErrOf result LineError.Bad → IsNoRoomyWrite page_bytes (words_of words.now) room }
+    ensures ok { IfOk result
+        (λ w. IsWriteWithin page_bytes (words_of words.now) entries_left w.0 w.1) }
+    ensures bad { IsErrOf result LineError.Bad →
+        IsWritePast page_bytes (words_of words.now) entries_left }
 {
     let (first, behind) = first_word(words).ok_or(LineError::Bad)?;
     let tag = number(first).ok_or(LineError::Bad)?;
-    let batch = entries(alloc, behind, page_bytes, room)?;
+    let batch = entries(alloc, behind, page_bytes, entries_left)?;
     Ok((tag, batch))
 }
 
-/// The pages of a write, by its entries, of which there may be at most `room`.
-fn entries(alloc: Global, words: &[u8], page_bytes: u32, room: usize) -> Result<Batch, LineError>
-    ensures ok { IfOk result (HasEntries page_bytes (words_of words.now) room) }
-    ensures bad { IsErrOf result LineError.Bad → HasNoEntries page_bytes (words_of words.now) room }
+/// The pages of a write, by its entries, of which there may be at most `entries_left`.
+fn entries(
+    alloc: Global,
+    words: &[u8],
+    page_bytes: u32,
+    entries_left: usize,
+) -> Result<Batch, LineError>
+    ensures ok { IfOk result (HasEntries page_bytes (words_of words.now) entries_left) }
+    ensures bad { IsErrOf result LineError.Bad →
+        HasNoEntries page_bytes (words_of words.now) entries_left }
 {
     let mut batch = Batch::new(alloc, page_bytes);
     let mut rest = words;
     while let Some((word, behind)) = first_word(rest) {
-        if batch.len() >= room {
+        if batch.len() >= entries_left {
             return Err(LineError::Bad);
         }
         let (page, bytes) = entry(alloc, word, page_bytes)?;

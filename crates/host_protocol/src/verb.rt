@@ -1,5 +1,5 @@
 ghost use Rattle.std.specs.Prelude.{◌≡◌, ◌≢◌, IfSome, IfNone};
-ghost use Rattle.host_protocol.specs.Verbs.{name_of};
+ghost use Rattle.host_protocol.specs.Verbs.{word_of};
 
 /// The word that a command line begins with.
 #[derive(Clone, Copy)]
@@ -20,8 +20,8 @@ pub enum Verb {
 impl Verb {
     /// The verb that a word is.
     pub fn from_word(word: &[u8]) -> Option<Verb>
-        ensures some { IfSome result (λ verb. word.now ≡ name_of verb) }
-        ensures none { IfNone result ((verb : Verb) → word.now ≢ name_of verb) }
+        ensures some { IfSome result (λ verb. word.now ≡ word_of verb) }
+        ensures none { IfNone result ((verb : Verb) → word.now ≢ word_of verb) }
     {
         match word {
             b"read" => Some(Verb::Read),

@@ -1,5 +1,5 @@
 ghost use Rattle.std.specs.Prelude.{◌≡◌, ◌<◌, [], ◌∷◌, length, not, position, IfSome, IfNone};
-ghost use Rattle.host_protocol.specs.Lines.{words_of, is_blank};
+ghost use Rattle.host_protocol.specs.Lines.{words_of, is_space_or_tab};
 
 /// The first word of a line, and what is behind it.
 pub fn first_word(line: &[u8]) -> Option<(&[u8], &[u8])>
@@ -16,14 +16,14 @@ pub fn first_word(line: &[u8]) -> Option<(&[u8], &[u8])>
 
 /// Where the first byte stands that is neither a space nor a tab.
 fn first_filled(line: &[u8]) -> Option<usize>
-    ensures { result ≡ position (λ b. not (is_blank b)) line.now }
+    ensures { result ≡ position (λ b. not (is_space_or_tab b)) line.now }
 {
     line.iter().position(|b| *b != b' ' && *b != b'\t')
 }
 
 /// Where the first space or tab stands.
 fn first_blank(line: &[u8]) -> Option<usize>
-    ensures { result ≡ position is_blank line.now }
+    ensures { result ≡ position is_space_or_tab line.now }
 {
     line.iter().position(|b| *b == b' ' || *b == b'\t')
 }

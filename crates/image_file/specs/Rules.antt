@@ -48,7 +48,8 @@ shape_in bytes = shape_of (config_in bytes)
 -- how a slot reads for which this byte stands
 abbrev pub seen_from : ℕ → Option Seen
 seen_from state =
-    if state == 0 then Some Blank else if state == 1 then Some Complete else if state == 2 then Some Damaged else None
+    if state == 0 then Some Blank else if state == 1 then Some Complete
+    else if state == 2 then Some Damaged else None
 
 -- the bytes of the states
 abbrev pub states_in : List ℕ → List ℕ
@@ -84,7 +85,9 @@ wrong_state states = position (λ state. is_none (seen_from state)) states
 
 -- the first slot, of this many bytes each, that does not have the bytes of how it reads
 abbrev pub wrong_bytes : ℕ → List Seen → List ℕ → Option ℕ
-wrong_bytes size seen cells = position (λ slot. not (is_filled slot.0 slot.1)) (zip seen (first_chunks size (length seen) cells))
+wrong_bytes size seen cells =
+    position (λ slot. not (is_filled slot.0 slot.1))
+    (zip seen (first_chunks size (length seen) cells))
 
 -- the refusal where a rule does not hold, and else that of the rules after it
 abbrev pub unless : Bool → ImageError → Option ImageError → Option ImageError
@@ -105,7 +108,8 @@ broken_states states = option_map (λ at. error.SlotState (record { 0 = at })) (
 
 -- the refusal of the first slot that does not have the bytes of how it reads
 abbrev pub broken_bytes : ℕ → List Seen → List ℕ → Option ImageError
-broken_bytes size seen cells = option_map (λ at. error.SlotBytes (record { 0 = at })) (wrong_bytes size seen cells)
+broken_bytes size seen cells =
+    option_map (λ at. error.SlotBytes (record { 0 = at })) (wrong_bytes size seen cells)
 
 -- the first rule of what is behind the header that is broken: all states are tried before any slot's bytes
 abbrev pub broken_slots : List ℕ → Option ImageError

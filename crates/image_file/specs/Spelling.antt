@@ -25,7 +25,8 @@ code_of Bpcc = 2
 -- the numbers of a header, in order
 abbrev pub numbers_of : Config → List ℕ
 numbers_of c =
-    code_of c.protocol ∷ c.page_bytes ∷ c.pages_per_block ∷ c.blocks_per_die ∷ c.dies ∷ c.logical ∷ c.pending ∷ []
+    code_of c.protocol ∷ c.page_bytes ∷ c.pages_per_block ∷ c.blocks_per_die ∷ c.dies ∷ c.logical
+    ∷ c.pending ∷ []
 
 -- magic, numbers of four bytes, and reserved bytes
 unfoldable pub header_of : Config → List ℕ
@@ -40,7 +41,8 @@ state_byte Damaged = 2
 -- the header, a byte for each slot that says how it reads, and for each slot its contents and its spare area
 unfoldable pub spelling : Config → List Contents → List ℕ
 spelling config image =
-    header_of config ++ map (λ slot. state_byte (seen_of slot)) image ++ flat_map (cell_of config.page_bytes) image
+    header_of config ++ map (λ slot. state_byte (seen_of slot)) image
+    ++ flat_map (cell_of config.page_bytes) image
 
 -- the configuration is one of a device, whose flash may have these slots
 pub record CanBeSpelled (config : Config) (image : List Contents) : Type 0 where

@@ -1,4 +1,5 @@
 ghost use Rattle.std.specs.Prelude.{◌≡◌, ◌*◌, ◌<◌, ◌≤◌, length, map, IfSome, None, Some, MatchResult};
+ghost use Rattle.tx_types.specs.Limits.{max_slots};
 ghost use Rattle.image_file.specs.Spelling.{state_byte};
 ghost use Rattle.image_file.specs.Rules.{seen_from, all_seen, is_filled, wrong_state, wrong_bytes, broken_states, IsRefusal};
 
@@ -10,7 +11,7 @@ use tx_types::Slot;
 
 /// How each slot reads, or the first slot whose state stands for nothing.
 pub(crate) fn read_states(alloc: Global, states: &[u8]) -> Result<Vec<Seen>, ImageError>
-    requires { length states.now ≤ 65536 }
+    requires { length states.now ≤ max_slots }
     ensures { MatchResult result
         (λ seen. (wrong_state states.now ≡ None) × (seen.items ≡ all_seen states.now))
         (IsRefusal (broken_states states.now)) }

@@ -22,12 +22,13 @@ due (Some arm) = if is_next arm.count then Some arm.outcome else None
 -- an arm once it has counted an operation: it is spent where it came due
 abbrev pub counted_down : Option Arm → Option Arm
 counted_down None = None
-counted_down (Some arm) = if is_next arm.count then None else Some (record arm { count = arm.count - 1 })
+counted_down (Some arm) =
+    if is_next arm.count then None else Some (record arm { count = arm.count - 1 })
 
 -- the same of the arm of a bad read
-abbrev pub is_due : Option ℕ → Bool
-is_due None = false
-is_due (Some count) = is_next count
+abbrev pub comes_due : Option ℕ → Bool
+comes_due None = false
+comes_due (Some count) = is_next count
 
 abbrev pub read_down : Option ℕ → Option ℕ
 read_down None = None
@@ -35,7 +36,8 @@ read_down (Some count) = if is_next count then None else Some (count - 1)
 
 -- both arms of operations count each one, also where the other comes due
 abbrev pub operation_down : Armed → Armed
-operation_down armed = record armed { cut = counted_down armed.cut; fault = counted_down armed.fault }
+operation_down armed =
+    record armed { cut = counted_down armed.cut; fault = counted_down armed.fault }
 
 -- The outcome with which the next program or erase is broken, none where it will be done. Where a cut and a fault come
 -- due the cut decides, and without power all stays as before.
@@ -64,7 +66,7 @@ operated s o = record (met s) {
 
 -- the next read is broken: it is the one that is to fail, or power is off
 abbrev pub is_read_broken : MemoryState → Bool
-is_read_broken s = not s.live || is_due s.armed.bad_read
+is_read_broken s = not s.live || comes_due s.armed.bad_read
 
 -- the flash after a read, which is counted while power is on
 abbrev pub after_read : MemoryState → MemoryState

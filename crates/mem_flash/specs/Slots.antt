@@ -1,6 +1,7 @@
 -- What two flat lists hold: one state a slot, and the bytes of all slots, one slot after another.
 use Rattle.std.specs.Prelude.{◌≡◌, ℕ, ◌+◌, ◌<◌, List, [], ◌∷◌, ◌++◌, length, take, drop, replicate, slice_index_or}
 use Rattle.std.specs.Fork.{slice_chunk}
+use Rattle.tx_types.specs.Limits.{spare_bytes}
 use Rattle.tx_types.specs.declared.config.Shape.{Shape}
 use Rattle.flash_model.specs.declared.flash.Seen.{Seen}
 use Rattle.flash_model.specs.declared.flash.Seen.TheVariants.{Blank, Damaged, Complete}
@@ -18,7 +19,7 @@ overwritten old from new = take from old ++ (new ++ drop (from + length new) old
 
 -- the bytes of a slot: a page of contents, and then its spare area
 abbrev pub cell_bytes : ℕ → ℕ
-cell_bytes page_bytes = page_bytes + 64
+cell_bytes page_bytes = page_bytes + spare_bytes
 
 -- the bytes that a slot with these contents shows
 abbrev pub cell_of : ℕ → Contents → List ℕ
@@ -53,4 +54,5 @@ IsFilled page_bytes Complete cell = Unit {0}
 abbrev pub AreFilled : ℕ → List Seen → List ℕ → Type 0
 AreFilled page_bytes states cells =
     (k : ℕ) → k < length states
-    → IsFilled page_bytes (slice_index_or states k Blank) (slice_chunk cells (cell_bytes page_bytes) k)
+    → IsFilled page_bytes (slice_index_or states k Blank)
+    (slice_chunk cells (cell_bytes page_bytes) k)

@@ -4,8 +4,9 @@ use Rattle.tx_types.specs.Config.{IsShape, slots_of}
 use Rattle.mem_flash.specs.Slots.{SlotImage, cell_bytes, image_of, AreFilled}
 use Rattle.mem_flash.specs.declared.slots.Slots.TheInside.{Inside}
 
-abbrev pub slots_in : Inside → SlotImage
-slots_in s = record { shape = s.shape; image = image_of s.shape.page_bytes s.seen.items s.cells.items }
+abbrev pub slots_inside : Inside → SlotImage
+slots_inside s =
+    record { shape = s.shape; image = image_of s.shape.page_bytes s.seen.items s.cells.items }
 
 -- there is one state for each slot, and the bytes of each, which fit how it reads
 pub record AreStored (s : Inside) : Type 0 where

@@ -17,5 +17,5 @@ memory_of f = record {
 }
 
 -- there is room for the contents and the spare area of a slot on each die
-abbrev pub HasRoom : Inside → Type 0
-HasRoom f = length f.room.items ≡ f.slots.shape.dies * cell_bytes f.slots.shape.page_bytes
+abbrev pub HasCellRoom : Inside → Type 0
+HasCellRoom f = length f.room.items ≡ f.slots.shape.dies * cell_bytes f.slots.shape.page_bytes

@@ -1,5 +1,5 @@
 ghost use Rattle.std.specs.Prelude.{◌≡◌};
-ghost use Rattle.mem_flash.specs.Breaking.{due, counted_down, is_due, read_down};
+ghost use Rattle.mem_flash.specs.Breaking.{due, counted_down, comes_due, read_down};
 
 use flash_model::{Arm, Outcome};
 
@@ -31,7 +31,7 @@ pub fn count_down(arm: &mut Option<Arm>) -> Option<Outcome>
 
 /// Counts a read. Tells whether it is the one that is to fail, and the arm is then spent.
 pub fn count_read(bad_read: &mut Option<u32>) -> bool
-    ensures due { result ≡ is_due bad_read.old }
+    ensures due { result ≡ comes_due bad_read.old }
     ensures left { bad_read.new ≡ read_down bad_read.old }
 {
     let Some(count) = *bad_read else {

@@ -2,6 +2,7 @@ ghost use Rattle.std.specs.Prelude.{◌≡◌, ◌+◌, ◌-◌, ◌*◌, ◌≤
 ghost use Rattle.std.specs.Fork.{slice_chunk};
 ghost use Rattle.mem_flash.specs.Slots.{cell_bytes, filler, overwritten};
 ghost use Rattle.tx_types.specs.Config.{IsShape};
+ghost use Rattle.tx_types.specs.Limits.{spare_bytes};
 
 use flash_model::{SPARE_BYTES, Seen};
 use tx_types::Shape;
@@ -36,7 +37,7 @@ pub fn cell_at(cells: &[u8], size: usize, at: usize) -> &[u8]
 
 /// Copies a slot's contents and its spare area out of its bytes.
 pub fn read_cell(cell: &[u8], into: &mut [u8], spare: &mut [u8; 64])
-    requires { length cell.now ≡ length into.old + 64 }
+    requires { length cell.now ≡ length into.old + spare_bytes }
     ensures page { into.new ≡ take (length into.old) cell.now }
     ensures spare { spare.new ≡ drop (length into.old) cell.now }
 {
@@ -47,7 +48,7 @@ pub fn read_cell(cell: &[u8], into: &mut [u8], spare: &mut [u8; 64])
 
 /// Writes a page of contents and its spare area, from an index of the bytes on.
 pub fn write_cell(cells: &mut [u8], from: usize, bytes: &[u8], spare: &[u8; 64])
-    requires { from + length bytes.now + 64 ≤ length cells.old }
+    requires { from + length bytes.now + spare_bytes ≤ length cells.old }
     ensures { cells.new ≡ overwritten cells.old from (bytes.now ++ spare.now) }
 {
     let middle = from + bytes.len();

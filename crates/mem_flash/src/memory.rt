@@ -1,6 +1,7 @@
 ghost use Rattle.std.specs.Prelude.{◌≡◌, ◌<◌, ◌≤◌, ◌+◌, ◌*◌, length, Some, true, IfOk, OnErr};
 ghost use Rattle.std.specs.Result.{is_err};
 ghost use Rattle.tx_types.specs.Config.{IsShape, slots_of, blocks_of};
+ghost use Rattle.tx_types.specs.Limits.{spare_bytes};
 ghost use Rattle.flash_model.specs.Flash.{slot_at, IsFlash};
 ghost use Rattle.flash_model.specs.Operations.{CanProgram, program, erase};
 ghost use Rattle.flash_model.specs.Calls.{Reads, Programs, Erases, seen_of};
@@ -38,11 +39,11 @@ impl Model for MemFlash {
 
     ghost Value = { MemoryState };
 
-    ghost use Rattle.mem_flash.specs.Standing.{memory_of, HasRoom};
+    ghost use Rattle.mem_flash.specs.Standing.{memory_of, HasCellRoom};
 
     ghost view = { memory_of };
 
-    ghost invariant = { HasRoom };
+    ghost invariant = { HasCellRoom };
 }
 
 impl MemFlash {
@@ -103,7 +104,7 @@ impl MemFlash {
         requires { at.0 < slots_of self.now.shape }
         ensures bytes { result.now
             ≡ cell_of self.now.shape.page_bytes (slot_at self.now.image at.0) }
-        ensures whole { length result.now ≡ self.now.shape.page_bytes + 64 }
+        ensures whole { length result.now ≡ self.now.shape.page_bytes + spare_bytes }
     {
         self.slots.cell(at)
     }

@@ -1,5 +1,6 @@
 ghost use Rattle.std.specs.Prelude.{◌≡◌, ◌≢◌, [], ◌<◌, ◌≤◌, ◌+◌, ◌*◌, length, replicate, slice_set};
 ghost use Rattle.tx_types.specs.Config.{IsShape, slots_of, blocks_of};
+ghost use Rattle.tx_types.specs.Limits.{spare_bytes};
 ghost use Rattle.flash_model.specs.Flash.{complete, slot_at, IsImage};
 ghost use Rattle.flash_model.specs.Operations.{program, erase, image_left};
 ghost use Rattle.flash_model.specs.Calls.{Shows, seen_of};
@@ -27,9 +28,9 @@ impl Model for Slots {
 
     ghost Value = { SlotImage };
 
-    ghost use Rattle.mem_flash.specs.SlotsInside.{slots_in, AreStored};
+    ghost use Rattle.mem_flash.specs.SlotsInside.{slots_inside, AreStored};
 
-    ghost view = { slots_in };
+    ghost view = { slots_inside };
 
     ghost invariant = { AreStored };
 }
@@ -69,7 +70,7 @@ impl Slots {
         requires { at.0 < slots_of self.now.shape }
         ensures bytes { result.now
             ≡ cell_of self.now.shape.page_bytes (slot_at self.now.image at.0) }
-        ensures whole { length result.now ≡ self.now.shape.page_bytes + 64 }
+        ensures whole { length result.now ≡ self.now.shape.page_bytes + spare_bytes }
     {
         cell_at(&self.cells, cell_bytes(self.shape), at.0 as usize)
     }

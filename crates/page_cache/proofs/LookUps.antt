@@ -8,7 +8,7 @@ use Rattle.std.proofs.lemmas.Bool.Decides.{nat_tests}
 use Rattle.std.proofs.lemmas.List.{take_all, take-map, length-map}
 use Rattle.lru.specs.LruCache as lru
 use Rattle.page_cache.specs.declared.entries.Key.{Key}
-use Rattle.page_cache.specs.CachedPages.{entry_of, without, promoted, kept}
+use Rattle.page_cache.specs.CachedPages.{cached_page, without_page, promoted, kept}
 use Rattle.page_cache.specs.Entries.{page_in, pages_in}
 use Rattle.page_cache.proofs.Pages.{length-without}
 
@@ -27,36 +27,36 @@ module _ (page version : ℕ) where
   abbrev is_key : Key → Bool
   is_key = same_key key
 
-  entry_of-map : (es : List Entry) → entry_of page version (map page_in es) ≡ option_map page_in (lookup_entry is_key es)
-  unfolding entry_of
-  entry_of-map [] = refl
-  entry_of-map (e ∷ es) =
-      elim (is_key e.0) as (λ b. cond b (Some (page_in e)) (entry_of page version (map page_in es)) ≡ option_map page_in (cond b (Some e) (lookup_entry is_key es)))
-      [ true ↦ refl | false ↦ entry_of-map es ]
+  cached_page-map : (es : List Entry) → cached_page page version (map page_in es) ≡ option_map page_in (lookup_entry is_key es)
+  unfolding cached_page
+  cached_page-map [] = refl
+  cached_page-map (e ∷ es) =
+      elim (is_key e.0) as (λ b. cond b (Some (page_in e)) (cached_page page version (map page_in es)) ≡ option_map page_in (cond b (Some e) (lookup_entry is_key es)))
+      [ true ↦ refl | false ↦ cached_page-map es ]
 
-  value_of-map : (es : List Entry) → option_map (λ e. e.bytes) (entry_of page version (map page_in es)) ≡ option_map (λ v. v.items) (lookup is_key es)
-  unfolding entry_of
+  value_of-map : (es : List Entry) → option_map (λ e. e.bytes) (cached_page page version (map page_in es)) ≡ option_map (λ v. v.items) (lookup is_key es)
+  unfolding cached_page
   value_of-map [] = refl
   value_of-map (e ∷ es) =
-      elim (is_key e.0) as (λ b. option_map (λ e. e.bytes) (cond b (Some (page_in e)) (entry_of page version (map page_in es))) ≡ option_map (λ v. v.items) (cond b (Some e.1) (lookup is_key es)))
+      elim (is_key e.0) as (λ b. option_map (λ e. e.bytes) (cond b (Some (page_in e)) (cached_page page version (map page_in es))) ≡ option_map (λ v. v.items) (cond b (Some e.1) (lookup is_key es)))
       [ true ↦ refl | false ↦ value_of-map es ]
 
-  is_some-map : (es : List Entry) → is_some (entry_of page version (map page_in es)) ≡ is_some (lookup is_key es)
-  unfolding entry_of
+  is_some-map : (es : List Entry) → is_some (cached_page page version (map page_in es)) ≡ is_some (lookup is_key es)
+  unfolding cached_page
   is_some-map [] = refl
   is_some-map (e ∷ es) =
-      elim (is_key e.0) as (λ b. is_some (cond b (Some (page_in e)) (entry_of page version (map page_in es))) ≡ is_some (cond b (Some e.1) (lookup is_key es)))
+      elim (is_key e.0) as (λ b. is_some (cond b (Some (page_in e)) (cached_page page version (map page_in es))) ≡ is_some (cond b (Some e.1) (lookup is_key es)))
       [ true ↦ refl | false ↦ is_some-map es ]
 
-  without-map : (es : List Entry) → without page version (map page_in es) ≡ map page_in (remove_entry is_key es)
-  unfolding without
+  without-map : (es : List Entry) → without_page page version (map page_in es) ≡ map page_in (remove_entry is_key es)
+  unfolding without_page
   without-map [] = refl
   without-map (e ∷ es) =
-      elim (is_key e.0) as (λ b. cond b (map page_in es) (page_in e ∷ without page version (map page_in es)) ≡ map page_in (cond b es (e ∷ remove_entry is_key es)))
+      elim (is_key e.0) as (λ b. cond b (map page_in es) (page_in e ∷ without_page page version (map page_in es)) ≡ map page_in (cond b es (e ∷ remove_entry is_key es)))
       [ true ↦ refl | false ↦ ap (λ l. page_in e ∷ l) (without-map es) ]
 
   promoted_as : (es : List Entry) (o : Option Entry)
-      → option_map_or (λ p. p ∷ without page version (map page_in es)) (option_map page_in o) (map page_in es)
+      → option_map_or (λ p. p ∷ without_page page version (map page_in es)) (option_map page_in o) (map page_in es)
       ≡ map page_in (option_map_or (λ e. e ∷ remove_entry is_key es) o es)
   promoted_as es None = refl
   promoted_as es (Some e) = ap (λ l. page_in e ∷ l) (without-map es)
@@ -80,32 +80,32 @@ module _ (page version : ℕ) where
   -- what a map of n + 1 entries has after a value was put
   put_as : (n : ℕ) (es : List Entry) (value : Vec ℕ Global) (o : Option Entry) → length es ≤ n + 1 → lookup_entry is_key es ≡ o
       → map page_in (option_map_or (λ e. (e.0, value) ∷ remove_entry is_key es) o ((key, value) ∷ take n es))
-      ≡ page_in (key, value) ∷ take n (without page version (map page_in es))
+      ≡ page_in (key, value) ∷ take n (without_page page version (map page_in es))
   put_as n es value None most h =
       rw (without-map es, nothing_out es h) (ap (λ l. page_in (key, value) ∷ l) (sym (take-map page_in n es)))
   put_as n es value (Some e) most h =
       let same = found_key es e h in
-      let there : entry_of page version (map page_in es) ≡ Some (page_in e) = rw (entry_of-map es, h) refl in
+      let there : cached_page page version (map page_in es) ≡ Some (page_in e) = rw (cached_page-map es, h) refl in
       let fewer = length-without page version (map page_in es) (page_in e) there in
-      let fits : length (without page version (map page_in es)) ≤ n = omega (arith, fewer, length-map es page_in) in
+      let fits : length (without_page page version (map page_in es)) ≤ n = omega (arith, fewer, length-map es page_in) in
       let it : page_in (e.0, value) ≡ page_in (key, value) = rw (same.0, same.1) refl in
-      rw (take_all n (without page version (map page_in es)) fits, without-map es) (ap (λ p. p ∷ map page_in (remove_entry is_key es)) it)
+      rw (take_all n (without_page page version (map page_in es)) fits, without-map es) (ap (λ p. p ∷ map page_in (remove_entry is_key es)) it)
 
   module _ (c : lru.LruCache Key (Vec ℕ Global)) where
     -- an entry is there where a look-up finds a value
-    pub is_some-pages_in : is_some (entry_of page version (pages_in c)) ≡ is_some (lookup is_key c.entries)
+    pub is_some-pages_in : is_some (cached_page page version (pages_in c)) ≡ is_some (lookup is_key c.entries)
     unfolding pages_in
     is_some-pages_in = is_some-map c.entries
 
     -- and has the bytes of the value
-    pub bytes-pages_in : option_map (λ e. e.bytes) (entry_of page version (pages_in c)) ≡ option_map (λ v. v.items) (lookup is_key c.entries)
+    pub bytes-pages_in : option_map (λ e. e.bytes) (cached_page page version (pages_in c)) ≡ option_map (λ v. v.items) (lookup is_key c.entries)
     unfolding pages_in
     bytes-pages_in = value_of-map c.entries
 
     -- a look-up brings the entry to the front
     pub promoted-pages_in : promoted page version (pages_in c) ≡ pages_in (lru.lru_cache (lru.promoted is_key c.entries) c.cap)
     unfolding pages_in promoted
-    promoted-pages_in = rw (entry_of-map c.entries) (promoted_as c.entries (lookup_entry is_key c.entries))
+    promoted-pages_in = rw (cached_page-map c.entries) (promoted_as c.entries (lookup_entry is_key c.entries))
 
     -- a value that is put in a map of 16 entries is a page that is kept
     pub kept-pages_in : (value : Vec ℕ Global) → c.cap ≡ 16 → length (pages_in c) ≤ 16

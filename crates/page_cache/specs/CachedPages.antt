@@ -15,32 +15,40 @@ pub record CachedPages : Type 0 where
   pub entries : List CachedPage
 
 -- whether an entry has as many bytes as a page
-abbrev pub is_whole : ℕ → CachedPage → Bool
-is_whole page_bytes e = length e.bytes == page_bytes
+abbrev pub has_page_size : ℕ → CachedPage → Bool
+has_page_size page_bytes e = length e.bytes == page_bytes
 
--- at most 16 pages are held, each whole
+-- the most pages that are held
+abbrev pub max_cached : ℕ
+max_cached = 16
+
+-- at most so many pages are held, each whole
 pub record IsPageCache (c : CachedPages) : Type 0 where
-  pub most : length c.entries ≤ 16
-  pub whole : IsTrue (list_all (is_whole c.page_bytes) c.entries)
+  pub most : length c.entries ≤ max_cached
+  pub whole : IsTrue (list_all (has_page_size c.page_bytes) c.entries)
 
 -- whether an entry is of this page at this version
 abbrev pub has_key : ℕ → ℕ → CachedPage → Bool
 has_key page version e = (page == e.page) && (version == e.version)
 
 -- the entry of a page at a version
-unfoldable pub entry_of : ℕ → ℕ → List CachedPage → Option CachedPage
-entry_of page version entries = find (has_key page version) entries
+unfoldable pub cached_page : ℕ → ℕ → List CachedPage → Option CachedPage
+cached_page page version entries = find (has_key page version) entries
 
 -- the entries without that of a page at a version
-unfoldable pub without : ℕ → ℕ → List CachedPage → List CachedPage
-without page version [] = []
-without page version (e ∷ es) = if has_key page version e then es else e ∷ without page version es
+unfoldable pub without_page : ℕ → ℕ → List CachedPage → List CachedPage
+without_page page version [] = []
+without_page page version (e ∷ es) =
+    if has_key page version e then es else e ∷ without_page page version es
 
 -- the entry of a page at a version comes to the front, if there is one
 unfoldable pub promoted : ℕ → ℕ → List CachedPage → List CachedPage
-promoted page version entries = option_map_or (λ e. e ∷ without page version entries) (entry_of page version entries) entries
+promoted page version entries =
+    option_map_or (λ e. e ∷ without_page page version entries)
+    (cached_page page version entries) entries
 
 -- a page at a version comes in front with these bytes, in place of its entry, and of 17 entries the last one goes
 unfoldable pub kept : ℕ → ℕ → List ℕ → List CachedPage → List CachedPage
 kept its_page its_version its_bytes entries =
-    take 16 (record { page = its_page; version = its_version; bytes = its_bytes } ∷ without its_page its_version entries)
+    take max_cached (record { page = its_page; version = its_version; bytes = its_bytes }
+    ∷ without_page its_page its_version entries)

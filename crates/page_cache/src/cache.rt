@@ -1,6 +1,6 @@
 ghost use Rattle.std.specs.Prelude.{◌≡◌, [], length, is_some, IfOk, OnOk, OnErr};
 ghost use Rattle.std.specs.Option.{option_map_or};
-ghost use Rattle.page_cache.specs.CachedPages.{IsPageCache, entry_of, promoted, kept};
+ghost use Rattle.page_cache.specs.CachedPages.{IsPageCache, cached_page, promoted, kept};
 
 use crate::entries::{Entries, bytes_of, promote, put};
 use lru::LruCache;
@@ -34,7 +34,7 @@ impl Model for PageCache {
 }
 
 impl PageCache {
-    /// A cache without entries, for pages of this many bytes.
+    /// A cache without entries, for pages of this many bytes. `Memory`: there is none for its table.
     #[tactic(auto, unfolding(crate::specs::Entries::pages_in))]
     pub fn new(alloc: Global, page_bytes: u32) -> Result<PageCache, Memory>
         ensures { IfOk result (λ c. c ≡ record { page_bytes = page_bytes; entries = [] }) }
@@ -47,16 +47,17 @@ impl PageCache {
         })
     }
 
-    /// Whether a page is held at a version. Its bytes are then copied, and its entry comes to the front.
+    /// Whether a page is held at a version. Its bytes, as many as a page has, are then copied into `into`, and its
+    /// entry comes to the front. Where it is not held the cache and `into` stay as they were.
     #[tactic(auto, using(crate::proofs::Pages::look_ups))]
     pub fn find(&mut self, page: u32, version: u64, into: &mut [u8]) -> bool
         requires { length into.old ≡ self.old.page_bytes }
-        ensures found { result ≡ is_some (entry_of page version self.old.entries) }
+        ensures found { result ≡ is_some (cached_page page version self.old.entries) }
         ensures front { self.new ≡ record self.old {
           entries = promoted page version self.old.entries;
         } }
         ensures bytes { into.new ≡
-            option_map_or (λ e. e.bytes) (entry_of page version self.old.entries) into.old }
+            option_map_or (λ e. e.bytes) (cached_page page version self.old.entries) into.old }
         ensures cache { IsPageCache self.new }
     {
         let Some(bytes) = bytes_of(&self.pages, page, version) else {
@@ -66,7 +67,7 @@ impl PageCache {
         promote(&mut self.pages, page, version)
     }
 
-    /// Puts a page at a version in front, with a copy of the bytes, in place of its entry if it has one.
+    /// Puts a page at a version in front, with a copy of the bytes of the whole page, in place of its entry if it has one.
     /// Where there would be more than 16 entries, the last one goes. Where there is no memory the cache
     /// stays as it was.
     #[tactic(auto, using(crate::proofs::Pages::puts))]

@@ -1,4 +1,4 @@
-//! The pages that were read last, kept under their page and version.
+//! A least recently used (LRU) cache of pages: those that were read last, each under its page and version.
 #![tactic(auto)]
 
 mod cache;

@@ -15,7 +15,7 @@ use Rattle.tx_types.specs.declared.record.Rec.{Rec}
 use Rattle.page_record.specs.declared.error.SpareError.{SpareError}
 use Rattle.page_record.specs.declared.error.SpareError.TheVariants as rule
 use Rattle.page_record.specs.Spelling.{mark, code_of, spelling, IsBack, CanBeSpelled}
-use Rattle.page_record.specs.Rules.{number_at, fields_of, are_zeros, is_version, is_back, is_area, holds, rules, first_broken, IsFirstBroken, record_of}
+use Rattle.page_record.specs.Rules.{number_at, fields_of, are_zeros, is_version, is_back, is_area, holds, rules, first_broken, IsFirstBrokenRule, record_of}
 use Rattle.page_record.proofs.Parts.{IsBytes, zeros, joined, next_two, length-range, tested, tests, number_at-w32, number_at-w64, number_at-below}
 
 -- the rule of each name holds
@@ -274,7 +274,7 @@ parts_of test (r ∷ rs) e h =
     ] in
     cases refl h
 
-pub first_broken-some : (p : Protocol) (bytes : List ℕ) (e : SpareError) → first_broken p bytes ≡ Some e → IsFirstBroken p bytes e
+pub first_broken-some : (p : Protocol) (bytes : List ℕ) (e : SpareError) → first_broken p bytes ≡ Some e → IsFirstBrokenRule p bytes e
 unfolding first_broken
 first_broken-some p bytes e h =
     let parts = parts_of (holds p bytes) rules e h in

@@ -40,20 +40,23 @@ holds protocol bytes rule.Mark = starts_with nat_eq bytes mark
 holds protocol bytes rule.Format = slice_index bytes 4 == 1
 holds protocol bytes rule.Protocol = slice_index bytes 5 == code_of protocol
 holds protocol bytes rule.Flags = are_zeros (slice_range bytes 6 8)
-holds protocol bytes rule.Version = is_version (number_at w64 16 bytes) && is_version (number_at w64 24 bytes)
+holds protocol bytes rule.Version =
+    is_version (number_at w64 16 bytes) && is_version (number_at w64 24 bytes)
 holds protocol bytes rule.Back = is_back protocol (number_at w64 16 bytes) (number_at w64 32 bytes)
 holds protocol bytes rule.Rest = are_zeros (slice_range bytes 40 spare_bytes)
 
 -- the rules, in the order in which they are tried
 abbrev pub rules : List SpareError
-rules = rule.Mark ∷ rule.Format ∷ rule.Protocol ∷ rule.Flags ∷ rule.Version ∷ rule.Back ∷ rule.Rest ∷ []
+rules =
+    rule.Mark ∷ rule.Format ∷ rule.Protocol ∷ rule.Flags ∷ rule.Version ∷ rule.Back ∷ rule.Rest ∷ []
 
 -- the first rule that the bytes break
 unfoldable pub first_broken : Protocol → List ℕ → Option SpareError
 first_broken protocol bytes = find (λ r. not (holds protocol bytes r)) rules
 
 -- the rule is broken, and each one before it holds
-pub record IsFirstBroken (protocol : Protocol) (bytes : List ℕ) (first : SpareError) : Type 0 where
+pub record IsFirstBrokenRule (protocol : Protocol) (bytes : List ℕ)
+    (first : SpareError) : Type 0 where
   pub before : List SpareError
   pub after : List SpareError
   pub in_order : rules ≡ before ++ first ∷ after
@@ -66,4 +69,5 @@ is_area bytes = (length bytes == spare_bytes) && list_all (λ b. nat_lt b 256) b
 
 -- the record of a spare area that breaks no rule
 unfoldable pub record_of : Protocol → List ℕ → Option Rec
-record_of protocol bytes = if is_area bytes && is_none (first_broken protocol bytes) then Some (fields_of bytes) else None
+record_of protocol bytes =
+    if is_area bytes && is_none (first_broken protocol bytes) then Some (fields_of bytes) else None

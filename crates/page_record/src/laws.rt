@@ -4,7 +4,7 @@ ghost use Rattle.tx_types.specs.declared.config.Protocol.{Protocol};
 ghost use Rattle.tx_types.specs.declared.record.Rec.{Rec};
 ghost use Rattle.page_record.specs.declared.error.SpareError.{SpareError};
 ghost use Rattle.page_record.specs.Spelling.{spelling, CanBeSpelled};
-ghost use Rattle.page_record.specs.Rules.{first_broken, is_area, record_of, IsFirstBroken};
+ghost use Rattle.page_record.specs.Rules.{first_broken, is_area, record_of, IsFirstBrokenRule};
 
 /// A spelling fills a spare area, and no two records have the same one.
 pub fn one_spelling()
@@ -26,5 +26,5 @@ pub fn spelled_records()
 /// The first rule that is broken is broken, and each rule that is tried before it holds.
 pub fn first_rule()
     ensures { (protocol : Protocol) (bytes : List ℕ) (rule : SpareError) →
-        first_broken protocol bytes ≡ Some rule → IsFirstBroken protocol bytes rule }
+        first_broken protocol bytes ≡ Some rule → IsFirstBrokenRule protocol bytes rule }
 {}

@@ -22,7 +22,8 @@ PartialWriteLeavesArray protocol =
     array_of protocol list' logical ≡ array_of protocol list logical
 
 -- the array takes all pages of a transaction at once
-pub record TakesTransaction (protocol : Protocol) (list list' : List Written) (logical : ℕ) (names : List Link) (w : Written) : Type 0 where
+pub record TakesTransaction (protocol : Protocol) (list list' : List Written) (logical : ℕ)
+    (names : List Link) (w : Written) : Type 0 where
   -- the page of the last record holds its bytes
   pub last : page_at protocol list' logical w.rec.page ≡ Some w.bytes
   -- each other page of the transaction holds the bytes of its record, which was present before

@@ -24,7 +24,8 @@ NothingMustGo protocol list logical r =
     All (λ f. must_go protocol list logical r.page r.version f.rec ≡ false) list
 
 -- a record that a transaction in progress asks for is added under a name that was absent
-pub record IsWrite (protocol : Protocol) (list list' : List Found) (logical : ℕ) (names : List Link) (f : Found) : Type 0 where
+pub record IsWrite (protocol : Protocol) (list list' : List Found) (logical : ℕ) (names : List Link)
+    (f : Found) : Type 0 where
   pub scanned : IsScanned list
   pub scanned' : IsScanned list'
   pub in_progress : InProgress protocol list logical names
@@ -61,7 +62,8 @@ OthersStay protocol list list' logical names =
     InProgress protocol list logical others → InProgress protocol list' logical others
 
 -- what a write leaves that does not complete its cycle
-pub record PartialWriteKeeps (protocol : Protocol) (list list' : List Found) (logical : ℕ) (names : List Link) : Type 0 where
+pub record PartialWriteKeeps (protocol : Protocol) (list list' : List Found) (logical : ℕ)
+    (names : List Link) : Type 0 where
   pub sound : IsSoundList protocol list' logical
   pub same_current : SameCurrent protocol list list' logical
   pub same_held : SameHeld protocol list list' logical
@@ -79,13 +81,16 @@ PartialWriteLaw protocol =
 
 -- a link to the page of this name, above the version that was current there
 abbrev pub IsOvertaken : List Found → ℕ → Link → Link → Type 0
-IsOvertaken list logical link name = (name.page ≡ link.page) × (cur Bpcc list logical link.page < link.version)
+IsOvertaken list logical link name =
+    (name.page ≡ link.page) × (cur Bpcc list logical link.page < link.version)
 
 -- which record is responsible for the loose record r once a transaction is whole
-pub record IsAnsweredAfter (list list' : List Found) (logical : ℕ) (names : List Link) (r : Rec) : Type 0 where
+pub record IsAnsweredAfter (list list' : List Found) (logical : ℕ) (names : List Link)
+    (r : Rec) : Type 0 where
   -- that of the transaction, where r links to one of its pages above the version that was current
   pub anew :
-      All (λ name. IsOvertaken list logical r.next name → responsible Bpcc list' logical r.next ≡ name.version) names
+      All (λ name. IsOvertaken list logical r.next name →
+      responsible Bpcc list' logical r.next ≡ name.version) names
   -- elsewhere the one of before
   pub still :
       All (λ name. IsOvertaken list logical r.next name → ⊥) names →
@@ -95,10 +100,12 @@ pub record IsAnsweredAfter (list list' : List Found) (logical : ℕ) (names : Li
 abbrev pub NewResponsible : Protocol → List Found → List Found → ℕ → List Link → Type 0
 NewResponsible Scc list list' logical names = Unit {0}
 NewResponsible Bpcc list list' logical names =
-    All (λ f. IsLoose Bpcc list' logical f.rec → IsAnsweredAfter list list' logical names f.rec) list'
+    All (λ f. IsLoose Bpcc list' logical f.rec →
+    IsAnsweredAfter list list' logical names f.rec) list'
 
 -- what a write leaves that completes its cycle
-pub record CompletingWriteKeeps (protocol : Protocol) (list list' : List Found) (logical : ℕ) (names : List Link) : Type 0 where
+pub record CompletingWriteKeeps (protocol : Protocol) (list list' : List Found) (logical : ℕ)
+    (names : List Link) : Type 0 where
   pub sound : IsSoundList protocol list' logical
   pub committed : All (λ name. cur protocol list' logical name.page ≡ name.version) names
   pub rises : All (λ name. cur protocol list logical name.page < name.version) names
@@ -132,7 +139,8 @@ pub record CopyKeeps (protocol : Protocol) (list list' : List Found) (logical : 
   pub same_current : SameCurrent protocol list list' logical
   pub same_held : SameHeld protocol list list' logical
   pub responsible : SameResponsible protocol list list' logical
-  pub in_progress : (names : List Link) → InProgress protocol list logical names → InProgress protocol list' logical names
+  pub in_progress : (names : List Link) → InProgress protocol list logical names →
+      InProgress protocol list' logical names
 
 abbrev pub CopyLaw : Protocol → Type 0
 CopyLaw protocol =
@@ -149,7 +157,8 @@ left keep list = filter (λ f. keep f.slot.0) list
 abbrev pub KeepsCounted : Protocol → List Found → ℕ → (ℕ → Bool) → Type 0
 KeepsCounted protocol list logical keep =
     All
-    (λ f. IsCurrent protocol list logical f.rec ⊎ (is_held protocol list logical (name_of f.rec) ≡ true) →
+    (λ f. IsCurrent protocol list logical f.rec
+    ⊎ (is_held protocol list logical (name_of f.rec) ≡ true) →
     is_present (left keep list) (name_of f.rec) ≡ true)
     list
 
@@ -157,9 +166,11 @@ KeepsCounted protocol list logical keep =
 pub record LossKeeps (protocol : Protocol) (list list' : List Found) (logical : ℕ) : Type 0 where
   pub sound : IsSoundList protocol list' logical
   pub same_current : SameCurrent protocol list list' logical
-  pub held : (name : Link) → is_held protocol list' logical name ≡ true → is_held protocol list logical name ≡ true
+  pub held : (name : Link) → is_held protocol list' logical name ≡ true →
+      is_held protocol list logical name ≡ true
   pub responsible : SameResponsible protocol list list' logical
-  pub in_progress : (names : List Link) → InProgress protocol list logical names → InProgress protocol list' logical names
+  pub in_progress : (names : List Link) → InProgress protocol list logical names →
+      InProgress protocol list' logical names
 
 abbrev pub LossLaw : Protocol → Type 0
 LossLaw protocol =

@@ -17,7 +17,8 @@ fallback Bpcc list page = back_of list (newest_name list page)
 -- the current version of a page, 0 for none
 abbrev pub cur : Protocol → List Found → ℕ → ℕ → ℕ
 cur protocol list logical page =
-    if is_committed (why protocol list logical page) then newest list page else fallback protocol list page
+    if is_committed (why protocol list logical page) then newest list page
+    else fallback protocol list page
 
 -- a record is current, loose or stale as its version is the current one of its page, or above it, or below
 abbrev pub IsCurrent : Protocol → List Found → ℕ → Rec → Type 0
@@ -40,7 +41,8 @@ must_go Bpcc list logical page below r = false
 -- the version of a record, at most `top`, that straddles this name, else 0
 abbrev pub straddling_upto : ℕ → Link → Rec → ℕ
 straddling_upto top name r =
-    if ((r.page == name.page) && straddles r name.version) && nat_le r.version top then r.version else 0
+    if ((r.page == name.page) && straddles r name.version) && nat_le r.version top then r.version
+    else 0
 
 -- the version of the record that is responsible for loose records which link to this name, 0 for none
 abbrev pub responsible : Protocol → List Found → ℕ → Link → ℕ

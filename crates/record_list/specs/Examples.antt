@@ -51,7 +51,8 @@ copied = found 1 0 1 0 1 0 ∷ found 5 0 1 0 1 0 ∷ found 9 0 1 0 1 0 ∷ []
 -- its home, by which block is the spare
 abbrev pub CopiedHome : Type 0
 CopiedHome =
-    (home shape (Some 0) copied (name 0 1) ≡ Some 5) × (home shape (Some 1) copied (name 0 1) ≡ Some 1)
+    (home shape (Some 0) copied (name 0 1) ≡ Some 5)
+    × (home shape (Some 1) copied (name 0 1) ≡ Some 1)
     × (home shape None copied (name 0 1) ≡ Some 1) × (home shape None copied (name 0 2) ≡ None)
 
 -- a loose record that links below a current version where nothing straddles

@@ -25,7 +25,8 @@ mentioned_at page r = max (version_of page r) (linked_at page r)
 -- whether a record mentions this page below a version, by either mention
 abbrev pub mentions_below : ℕ → ℕ → Rec → Bool
 mentions_below page below r =
-    ((r.page == page) && nat_lt r.version below) || ((r.next.page == page) && nat_lt r.next.version below)
+    ((r.page == page) && nat_lt r.version below)
+    || ((r.next.page == page) && nat_lt r.next.version below)
 
 -- the version of a record of this page that is below a version, else 0
 abbrev pub version_below : ℕ → ℕ → Rec → ℕ

@@ -20,21 +20,25 @@ PagesExist logical f = (f.rec.page < logical) × (f.rec.next.page < logical)
 
 -- law 2: it is equal to each earlier record of its name
 abbrev pub CopiesAgree : List Found → Found → Type 0
-CopiesAgree list f = All (λ g. g.slot.0 < f.slot.0 → name_of g.rec ≡ name_of f.rec → g.rec ≡ f.rec) list
+CopiesAgree list f =
+    All (λ g. g.slot.0 < f.slot.0 → name_of g.rec ≡ name_of f.rec → g.rec ≡ f.rec) list
 
 -- law 3: an earlier record with its link has its name
 abbrev pub LinksDiffer : List Found → Found → Type 0
-LinksDiffer list f = All (λ g. g.slot.0 < f.slot.0 → g.rec.next ≡ f.rec.next → name_of g.rec ≡ name_of f.rec) list
+LinksDiffer list f =
+    All (λ g. g.slot.0 < f.slot.0 → g.rec.next ≡ f.rec.next → name_of g.rec ≡ name_of f.rec) list
 
 -- the name of the current record of a page
 abbrev pub current_name : Protocol → List Found → ℕ → ℕ → Link
-current_name protocol list logical page = record { page = page; version = cur protocol list logical page }
+current_name protocol list logical page =
+    record { page = page; version = cur protocol list logical page }
 
 -- law 4: where it is the newest of its page, the current version of its page is 0 or present
 abbrev pub CurrentIsPresent : Protocol → List Found → ℕ → Found → Type 0
 CurrentIsPresent protocol list logical f =
     f.rec.version ≡ newest list f.rec.page →
-    (cur protocol list logical f.rec.page ≡ 0) ⊎ (is_present list (current_name protocol list logical f.rec.page) ≡ true)
+    (cur protocol list logical f.rec.page ≡ 0)
+    ⊎ (is_present list (current_name protocol list logical f.rec.page) ≡ true)
 
 -- law 5: where it is current, its link is not above the current version there, and under Back Pointer Cyclic Commit is
 -- not straddled
@@ -53,7 +57,8 @@ LooseIsShown Bpcc list logical f =
     IsLoose Bpcc list logical f.rec →
     (f.rec.back ≡ cur Bpcc list logical f.rec.page)
     × (f.rec.next.version ≢ cur Bpcc list logical f.rec.next.page)
-    × (f.rec.next.version < cur Bpcc list logical f.rec.next.page → responsible Bpcc list logical f.rec.next ≢ 0)
+    × (f.rec.next.version < cur Bpcc list logical f.rec.next.page →
+    responsible Bpcc list logical f.rec.next ≢ 0)
 
 -- the name that so many links lead to; an absent name leads no further
 abbrev pub follow : List Found → Link → ℕ → Link
@@ -64,7 +69,8 @@ follow list name (suc n) = follow list (link_of list name) n
 unfoldable pub LooseEnds : Protocol → List Found → ℕ → Found → Type 0
 LooseEnds Scc list logical f = Unit {0}
 LooseEnds Bpcc list logical f =
-    IsLoose Bpcc list logical f.rec → ((n : ℕ) × (is_present list (follow list f.rec.next n) ≡ false))
+    IsLoose Bpcc list logical f.rec →
+    ((n : ℕ) × (is_present list (follow list f.rec.next n) ≡ false))
 
 pub data Law : Type 0 where
   Pages Copies Links Present Counted Loose Ending : Law
@@ -93,7 +99,8 @@ abbrev pub IsSoundList : Protocol → List Found → ℕ → Type 0
 IsSoundList protocol list logical = (law : Law) → All (Keeps protocol list logical law) list
 
 -- the first law that is broken, and the slot that it names
-pub record IsLeastBreach (protocol : Protocol) (list : List Found) (logical : ℕ) (b : Breach) : Type 0 where
+pub record IsLeastBreach (protocol : Protocol) (list : List Found) (logical : ℕ)
+    (b : Breach) : Type 0 where
   pub law : Law
   pub is_its : number law ≡ b.law
   pub breaks : Any (λ f. (f.slot.0 ≡ b.slot.0) × (Keeps protocol list logical law f → ⊥)) list
@@ -102,4 +109,5 @@ pub record IsLeastBreach (protocol : Protocol) (list : List Found) (logical : �
 
 -- the first law that is broken with the slot that it names, nothing where the list is sound
 abbrev pub IsFirstBreach : Protocol → List Found → ℕ → Option Breach → Type 0
-IsFirstBreach protocol list logical breach = MatchOption breach (IsSoundList protocol list logical) (IsLeastBreach protocol list logical)
+IsFirstBreach protocol list logical breach =
+    MatchOption breach (IsSoundList protocol list logical) (IsLeastBreach protocol list logical)

@@ -34,14 +34,17 @@ IsAsked protocol list logical names r =
     (zip names (rounded names))
 
 -- the records of the transaction are as it asks, and every other record mentions its pages below its versions
-pub record IsBegun (protocol : Protocol) (list : List Found) (logical : ℕ) (names : List Link) : Type 0 where
+pub record IsBegun (protocol : Protocol) (list : List Found) (logical : ℕ)
+    (names : List Link) : Type 0 where
   pub transaction : IsTransaction logical names
   pub asked : All (λ f. IsAsked protocol list logical names f.rec) list
   pub others :
-      All (λ f. (Contains names (name_of f.rec) → ⊥) → All (λ name. mentioned_at name.page f.rec < name.version) names) list
+      All (λ f. (Contains names (name_of f.rec) → ⊥) →
+      All (λ name. mentioned_at name.page f.rec < name.version) names) list
 
 -- it is begun, and a name is absent
-pub record InProgress (protocol : Protocol) (list : List Found) (logical : ℕ) (names : List Link) : Type 0 where
+pub record InProgress (protocol : Protocol) (list : List Found) (logical : ℕ)
+    (names : List Link) : Type 0 where
   pub begun : IsBegun protocol list logical names
   pub absent : Any (λ name. is_present list name ≡ false) names
 

@@ -31,7 +31,8 @@ straddles r version = nat_lt r.back version && nat_lt version r.version
 
 -- the version of a record that straddles this name, else 0
 abbrev pub straddling_version : Link → Rec → ℕ
-straddling_version name r = if (r.page == name.page) && straddles r name.version then r.version else 0
+straddling_version name r =
+    if (r.page == name.page) && straddles r name.version then r.version else 0
 
 -- the greatest version that straddles this name, 0 for none
 abbrev pub straddling : List Found → Link → ℕ
@@ -40,7 +41,8 @@ straddling list name = greatest (straddling_version name) list
 -- what a link below the newest version of its page shows
 abbrev pub passed : Protocol → List Found → Link → Why
 passed Scc list link = Passed
-passed Bpcc list link = if straddling list link == 0 then Passed else Straddled (straddling list link)
+passed Bpcc list link =
+    if straddling list link == 0 then Passed else Straddled (straddling list link)
 
 -- a link to a version above, or below, the newest of its page
 abbrev pub is_ahead : List Found → Link → Bool

@@ -37,7 +37,8 @@ bytes_at list name = option_map (λ w. w.bytes) (find (λ w. has_name name w.rec
 
 -- what a page holds: the bytes of its current record, nothing where it has none
 abbrev pub page_at : Protocol → List Written → ℕ → ℕ → Option (List ℕ)
-page_at protocol list logical page = bytes_at list (current_name protocol (records_of list) logical page)
+page_at protocol list logical page =
+    bytes_at list (current_name protocol (records_of list) logical page)
 
 -- the array of pages that the list stands for
 abbrev pub array_of : Protocol → List Written → ℕ → List (Option (List ℕ))
@@ -45,7 +46,8 @@ array_of protocol list logical = map (page_at protocol list logical) (range_with
 
 -- law 2, in its part on bytes: each earlier record of its name has its bytes
 abbrev pub BytesAgree : List Written → Written → Type 0
-BytesAgree list w = All (λ v. v.slot.0 < w.slot.0 → name_of v.rec ≡ name_of w.rec → v.bytes ≡ w.bytes) list
+BytesAgree list w =
+    All (λ v. v.slot.0 < w.slot.0 → name_of v.rec ≡ name_of w.rec → v.bytes ≡ w.bytes) list
 
 -- a slot lies outside a block
 abbrev pub is_outside : Shape → ℕ → ℕ → Bool
@@ -53,7 +55,8 @@ is_outside shape block slot = not (slot / shape.pages_per_block == block)
 
 -- each current and each held record has a slot outside the block
 abbrev pub IsRemovable : Protocol → List Found → ℕ → Shape → ℕ → Type 0
-IsRemovable protocol list logical shape block = KeepsCounted protocol list logical (is_outside shape block)
+IsRemovable protocol list logical shape block =
+    KeepsCounted protocol list logical (is_outside shape block)
 
 -- whether a record is current, held or pinned
 abbrev pub is_wanted : Protocol → List Found → ℕ → List Link → Rec → Bool
@@ -71,37 +74,50 @@ IsDispensable protocol list logical pinned shape block =
     list
 
 -- law 8: some block is removable
-pub record HasRemovable (protocol : Protocol) (list : List Found) (logical : ℕ) (shape : Shape) : Type 0 where
+pub record HasRemovable (protocol : Protocol) (list : List Found) (logical : ℕ)
+    (shape : Shape) : Type 0 where
   pub block : ℕ
   pub exists : block < blocks_of shape
   pub removable : IsRemovable protocol list logical shape block
 
 -- laws 1 to 8 of the records and their bytes
-pub record IsSoundWritten (protocol : Protocol) (list : List Written) (logical : ℕ) (shape : Shape) : Type 0 where
+pub record IsSoundWritten (protocol : Protocol) (list : List Written) (logical : ℕ)
+    (shape : Shape) : Type 0 where
   pub records : IsSoundList protocol (records_of list) logical
   pub bytes : All (BytesAgree list) list
   pub removable : HasRemovable protocol (records_of list) logical shape
 
 -- a record keeps the law, bytes included
 abbrev pub KeepsWritten : Protocol → List Written → ℕ → Law → Written → Type 0
-KeepsWritten protocol list logical Pages w = Keeps protocol (records_of list) logical Pages (found_of w)
-KeepsWritten protocol list logical Copies w = Keeps protocol (records_of list) logical Copies (found_of w) × BytesAgree list w
-KeepsWritten protocol list logical Links w = Keeps protocol (records_of list) logical Links (found_of w)
-KeepsWritten protocol list logical Present w = Keeps protocol (records_of list) logical Present (found_of w)
-KeepsWritten protocol list logical Counted w = Keeps protocol (records_of list) logical Counted (found_of w)
-KeepsWritten protocol list logical Loose w = Keeps protocol (records_of list) logical Loose (found_of w)
-KeepsWritten protocol list logical Ending w = Keeps protocol (records_of list) logical Ending (found_of w)
+KeepsWritten protocol list logical Pages w =
+    Keeps protocol (records_of list) logical Pages (found_of w)
+KeepsWritten protocol list logical Copies w =
+    Keeps protocol (records_of list) logical Copies (found_of w) × BytesAgree list w
+KeepsWritten protocol list logical Links w =
+    Keeps protocol (records_of list) logical Links (found_of w)
+KeepsWritten protocol list logical Present w =
+    Keeps protocol (records_of list) logical Present (found_of w)
+KeepsWritten protocol list logical Counted w =
+    Keeps protocol (records_of list) logical Counted (found_of w)
+KeepsWritten protocol list logical Loose w =
+    Keeps protocol (records_of list) logical Loose (found_of w)
+KeepsWritten protocol list logical Ending w =
+    Keeps protocol (records_of list) logical Ending (found_of w)
 
 -- the first of laws 1 to 7 that is broken, and the slot that it names
-pub record IsFirstBroken (protocol : Protocol) (list : List Written) (logical : ℕ) (b : Breach) : Type 0 where
+pub record IsFirstBroken (protocol : Protocol) (list : List Written) (logical : ℕ)
+    (b : Breach) : Type 0 where
   pub law : Law
   pub is_its : number law ≡ b.law
-  pub breaks : Any (λ w. (w.slot.0 ≡ b.slot.0) × (KeepsWritten protocol list logical law w → ⊥)) list
-  pub earlier_laws : (l : Law) → number l < number law → All (KeepsWritten protocol list logical l) list
+  pub breaks : Any
+      (λ w. (w.slot.0 ≡ b.slot.0) × (KeepsWritten protocol list logical law w → ⊥)) list
+  pub earlier_laws : (l : Law) → number l < number law →
+      All (KeepsWritten protocol list logical l) list
   pub earlier_slots : All (λ w. w.slot.0 < b.slot.0 → KeepsWritten protocol list logical law w) list
 
 -- law 8 alone is broken; it names slot 0
-pub record IsUnremovable (protocol : Protocol) (list : List Written) (logical : ℕ) (shape : Shape) (b : Breach) : Type 0 where
+pub record IsUnremovable (protocol : Protocol) (list : List Written) (logical : ℕ) (shape : Shape)
+    (b : Breach) : Type 0 where
   pub law : b.law ≡ 8
   pub slot : b.slot.0 ≡ 0
   pub earlier_laws : (l : Law) → All (KeepsWritten protocol list logical l) list

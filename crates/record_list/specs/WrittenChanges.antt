@@ -16,10 +16,12 @@ WrittenPartialWriteLaw protocol =
     IsInserted list w list' →
     IsWrite protocol (records_of list) (records_of list') logical names (found_of w) →
     Any (λ name. is_present (records_of list') name ≡ false) names →
-    IsSoundWritten protocol list' logical shape × PartialWriteKeeps protocol (records_of list) (records_of list') logical names
+    IsSoundWritten protocol list' logical shape
+    × PartialWriteKeeps protocol (records_of list) (records_of list') logical names
 
 -- outside some block each current and each held record, and each record of the transaction, has a slot
-pub record HasRoomAround (protocol : Protocol) (list list' : List Found) (logical : ℕ) (shape : Shape) (names : List Link) : Type 0 where
+pub record HasRoomAround (protocol : Protocol) (list list' : List Found) (logical : ℕ)
+    (shape : Shape) (names : List Link) : Type 0 where
   pub block : ℕ
   pub exists : block < blocks_of shape
   pub removable : IsRemovable protocol list logical shape block
@@ -33,7 +35,8 @@ WrittenCompletingWriteLaw protocol =
     IsWrite protocol (records_of list) (records_of list') logical names (found_of w) →
     All (λ name. is_present (records_of list') name ≡ true) names →
     HasRoomAround protocol (records_of list) (records_of list') logical shape names →
-    IsSoundWritten protocol list' logical shape × CompletingWriteKeeps protocol (records_of list) (records_of list') logical names
+    IsSoundWritten protocol list' logical shape
+    × CompletingWriteKeeps protocol (records_of list) (records_of list') logical names
 
 abbrev pub WrittenCopyLaw : Protocol → Type 0
 WrittenCopyLaw protocol =
@@ -42,7 +45,8 @@ WrittenCopyLaw protocol =
     IsInserted list w list' →
     IsScanned (records_of list) → IsScanned (records_of list') →
     Any (λ v. (v.rec ≡ w.rec) × (v.bytes ≡ w.bytes)) list →
-    IsSoundWritten protocol list' logical shape × CopyKeeps protocol (records_of list) (records_of list') logical
+    IsSoundWritten protocol list' logical shape
+    × CopyKeeps protocol (records_of list) (records_of list') logical
 
 -- the records outside a block, with their bytes
 abbrev pub left_outside : Shape → ℕ → List Written → List Written

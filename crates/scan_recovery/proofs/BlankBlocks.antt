@@ -21,7 +21,7 @@ use Rattle.version_index.specs.Notes.{complete_at, complete_slots}
 use Rattle.version_index.proofs.Given.{given_from}
 use Rattle.version_index.proofs.Blocks.{in_it, inside_block}
 use Rattle.version_index.proofs.Scans.{numbered_complete}
-use Rattle.scan_recovery.specs.Opening.{reads_blank, slots_in, IsBlankBlock, HasNoBlankBlock, IsHighest, FindsHighest, IsChosenFrom, FindsSpare}
+use Rattle.scan_recovery.specs.Opening.{reads_blank, seen_in_block, IsBlankBlock, HasNoBlankBlock, IsHighest, FindsHighest, IsChosenFrom, FindsSpare}
 
 -- a slot that reads complete
 record ReadsComplete (slots : List Seen) (slot : ℕ) : Type 0 where
@@ -72,7 +72,7 @@ outside_blank shape slots block at some blank within reads = elim (cases_Bool (i
       let ends = inside_block shape.pages_per_block block at some (in_it shape block at inside) in
       let here = chunk_at slots shape.pages_per_block block at Blank ends.0 ends.1 in
       let there = length-chunk slots shape.pages_per_block block at ends.0 ends.1 within in
-      absurd (false≢true (sym (list_all_at reads_blank (slots_in shape slots block) (at - block * shape.pages_per_block) Blank there (ap reads_blank (here ∙ reads))) ∙ blank))
+      absurd (false≢true (sym (list_all_at reads_blank (seen_in_block shape slots block) (at - block * shape.pages_per_block) Blank there (ap reads_blank (here ∙ reads))) ∙ blank))
 ]
 
 pub blank_removable : (p : Protocol) (list : List Found) (logical : ℕ) (shape : Shape) (slots : List Seen) (block : ℕ) → 0 < shape.pages_per_block →

@@ -38,7 +38,7 @@ use Rattle.scan_recovery.specs.Reading.{ReadsAll}
 use Rattle.scan_recovery.specs.Scans.{IsScanOf}
 use Rattle.scan_recovery.specs.Opening.{IsOpenedFrom, IsBroken, IsOpened, IsChosenFrom, opening_table}
 use Rattle.scan_recovery.specs.Twins.{compared}
-use Rattle.scan_recovery.specs.Recovered.{IfUnsound, is_fault, reads_again, ReadsFor}
+use Rattle.scan_recovery.specs.Recovered.{IfUnsound, is_read_failure, reads_again, ReadsFor}
 use Rattle.scan_recovery.proofs.ReadingSteps.{reads_some_all}
 use Rattle.scan_recovery.proofs.LawTwo.{no_written, pages_hold}
 
@@ -218,10 +218,10 @@ module _ {T : Type 0} (p kept : Protocol) (rule : p ≡ kept) (logical : ℕ) (a
           (broken_image p logical a.shape a.image scan.reads copies (record { law = law; slot = slot }) (as_image (λ q l s. IsBroken q l logical s (record { law = law; slot = slot })) k))
       of_error error.Memory k = k
 
-  pub recovered_reads : ReadsAll a d (slots_of a.shape + 2 * compared (records_in p a.image)) → IfErr r (λ e. IfUnsound e (IsBroken kept list logical shape)) → is_fault r ≡ false → ReadsFor p a d r
+  pub recovered_reads : ReadsAll a d (slots_of a.shape + 2 * compared (records_in p a.image)) → IfErr r (λ e. IfUnsound e (IsBroken kept list logical shape)) → is_read_failure r ≡ false → ReadsFor p a d r
   recovered_reads read h fault = of_result r h fault
     where
-      of_result : (x : Result T RecoverError) → IfErr x (λ e. IfUnsound e (IsBroken kept list logical shape)) → is_fault x ≡ false → ReadsFor p a d x
+      of_result : (x : Result T RecoverError) → IfErr x (λ e. IfUnsound e (IsBroken kept list logical shape)) → is_read_failure x ≡ false → ReadsFor p a d x
       of_result (Ok x) k f = read
       of_result (Err error.Fault) k f = absurd (false≢true (sym f))
       of_result (Err (error.Unsound law slot)) k f =

@@ -13,7 +13,7 @@ use Rattle.flash_model.specs.declared.flash.Seen.{Seen}
 use Rattle.die_alloc.specs.declared.block_use.BlockUse.{BlockUse}
 use Rattle.die_alloc.specs.BlockTable.{BlockTable, IsBlockTable, no_block, use_of, with_use}
 use Rattle.die_alloc.proofs.Changes.{use_of-with_use_same, use_of-with_use_other}
-use Rattle.scan_recovery.specs.Opening.{slots_in, is_blank_block, used_in, use_in, opening_table, with_slots}
+use Rattle.scan_recovery.specs.Opening.{seen_in_block, reads_blank_block, used_in, use_in, opening_table, with_slots}
 use Rattle.scan_recovery.proofs.Used.{used_blank, used_some}
 
 -- what is kept of a block, by its parts
@@ -39,34 +39,34 @@ pub record IsOpenedTo (shape : Shape) (slots : List Seen) (spare at : ℕ) (t : 
 
 module _ (shape : Shape) (slots : List Seen) (spare : ℕ) where
   -- a block that is left as it was is as the slots have it
-  left_use : (at : ℕ) → (eqb (used_in (slots_in shape slots at)) 0 || eqb at spare) ≡ true → first_use spare at ≡ use_in shape slots spare at
+  left_use : (at : ℕ) → (eqb (used_in (seen_in_block shape slots at)) 0 || eqb at spare) ≡ true → first_use spare at ≡ use_in shape slots spare at
   left_use at test = elim (cases_Bool (eqb at spare)) [
     | inl same ↦
         ap (λ b. cond b (kept Spare 0) (kept Clean 0)) same
-        ∙ sym (ap (λ b. cond b (kept Spare 0) (cond (is_blank_block shape slots at) (kept Clean 0) (kept Shut (used_in (slots_in shape slots at))))) same)
+        ∙ sym (ap (λ b. cond b (kept Spare 0) (cond (reads_blank_block shape slots at) (kept Clean 0) (kept Shut (used_in (seen_in_block shape slots at))))) same)
     | inr other ↦
-        ap (λ b. cond b (kept Spare 0) (kept Clean 0)) other ∙ sym (clean_use other (cases_Bool (is_blank_block shape slots at)))
+        ap (λ b. cond b (kept Spare 0) (kept Clean 0)) other ∙ sym (clean_use other (cases_Bool (reads_blank_block shape slots at)))
   ]
     where
-      clean_use : eqb at spare ≡ false → (is_blank_block shape slots at ≡ true) ⊎ (is_blank_block shape slots at ≡ false) → use_in shape slots spare at ≡ kept Clean 0
+      clean_use : eqb at spare ≡ false → (reads_blank_block shape slots at ≡ true) ⊎ (reads_blank_block shape slots at ≡ false) → use_in shape slots spare at ≡ kept Clean 0
       clean_use other (inl blank) =
-          ap (λ b. cond b (kept Spare 0) (cond (is_blank_block shape slots at) (kept Clean 0) (kept Shut (used_in (slots_in shape slots at))))) other
-          ∙ ap (λ b. cond b (kept Clean 0) (kept Shut (used_in (slots_in shape slots at)))) blank
+          ap (λ b. cond b (kept Spare 0) (cond (reads_blank_block shape slots at) (kept Clean 0) (kept Shut (used_in (seen_in_block shape slots at))))) other
+          ∙ ap (λ b. cond b (kept Clean 0) (kept Shut (used_in (seen_in_block shape slots at)))) blank
       clean_use other (inr some) =
-          let used = used_some (slots_in shape slots at) some in
-          let none : used_in (slots_in shape slots at) ≡ 0 = eqb-true (used_in (slots_in shape slots at)) 0 (or_left_true (eqb (used_in (slots_in shape slots at)) 0) (eqb at spare) test other) in
+          let used = used_some (seen_in_block shape slots at) some in
+          let none : used_in (seen_in_block shape slots at) ≡ 0 = eqb-true (used_in (seen_in_block shape slots at)) 0 (or_left_true (eqb (used_in (seen_in_block shape slots at)) 0) (eqb at spare) test other) in
           absurd (omega arith)
 
   -- and one that is shut
-  shut_use : (at : ℕ) → (eqb (used_in (slots_in shape slots at)) 0 || eqb at spare) ≡ false → kept Shut (used_in (slots_in shape slots at)) ≡ use_in shape slots spare at
+  shut_use : (at : ℕ) → (eqb (used_in (seen_in_block shape slots at)) 0 || eqb at spare) ≡ false → kept Shut (used_in (seen_in_block shape slots at)) ≡ use_in shape slots spare at
   shut_use at test =
-      let parts = or_parts (eqb (used_in (slots_in shape slots at)) 0) (eqb at spare) test in
-      sym (ap (λ b. cond b (kept Spare 0) (cond (is_blank_block shape slots at) (kept Clean 0) (kept Shut (used_in (slots_in shape slots at))))) parts.1
-      ∙ ap (λ b. cond b (kept Clean 0) (kept Shut (used_in (slots_in shape slots at)))) (not_blank parts.0))
+      let parts = or_parts (eqb (used_in (seen_in_block shape slots at)) 0) (eqb at spare) test in
+      sym (ap (λ b. cond b (kept Spare 0) (cond (reads_blank_block shape slots at) (kept Clean 0) (kept Shut (used_in (seen_in_block shape slots at))))) parts.1
+      ∙ ap (λ b. cond b (kept Clean 0) (kept Shut (used_in (seen_in_block shape slots at)))) (not_blank parts.0))
     where
-      not_blank : eqb (used_in (slots_in shape slots at)) 0 ≡ false → is_blank_block shape slots at ≡ false
-      not_blank used = elim (cases_Bool (is_blank_block shape slots at)) [
-        | inl blank ↦ absurd (false≢true (sym used ∙ ap (λ n. eqb n 0) (used_blank (slots_in shape slots at) blank)))
+      not_blank : eqb (used_in (seen_in_block shape slots at)) 0 ≡ false → reads_blank_block shape slots at ≡ false
+      not_blank used = elim (cases_Bool (reads_blank_block shape slots at)) [
+        | inl blank ↦ absurd (false≢true (sym used ∙ ap (λ n. eqb n 0) (used_blank (seen_in_block shape slots at) blank)))
         | inr some ↦ some
       ]
 
@@ -78,30 +78,30 @@ module _ (shape : Shape) (slots : List Seen) (spare : ℕ) where
   ]
 
   pub opened_next : (at : ℕ) (t : BlockTable) → at < blocks_of shape → IsOpenedTo shape slots spare at t →
-      IsBlockTable (with_slots t at (slots_in shape slots at)) → IsOpenedTo shape slots spare (at + 1) (with_slots t at (slots_in shape slots at))
-  opened_next at t within h table = elim (cases_Bool (eqb (used_in (slots_in shape slots at)) 0 || eqb at t.spare)) [
-    | inl left ↦ subst (IsOpenedTo shape slots spare (at + 1)) (sym (ap (λ b. cond b t (with_use t at Shut (used_in (slots_in shape slots at)))) left)) (record {
+      IsBlockTable (with_slots t at (seen_in_block shape slots at)) → IsOpenedTo shape slots spare (at + 1) (with_slots t at (seen_in_block shape slots at))
+  opened_next at t within h table = elim (cases_Bool (eqb (used_in (seen_in_block shape slots at)) 0 || eqb at t.spare)) [
+    | inl left ↦ subst (IsOpenedTo shape slots spare (at + 1)) (sym (ap (λ b. cond b t (with_use t at Shut (used_in (seen_in_block shape slots at)))) left)) (record {
       table = h.table;
       its_shape = h.its_shape;
       its_spare = h.its_spare;
       its_cursor = h.its_cursor;
       done = λ k below. split (λ j. use_of t j ≡ use_in shape slots spare j) at k below (h.done k)
-          (h.others at (omega arith) within ∙ left_use at (subst (λ s. (eqb (used_in (slots_in shape slots at)) 0 || eqb at s) ≡ true) h.its_spare left));
+          (h.others at (omega arith) within ∙ left_use at (subst (λ s. (eqb (used_in (seen_in_block shape slots at)) 0 || eqb at s) ≡ true) h.its_spare left));
       others = λ k low inside. h.others k (omega arith) inside;
     })
     | inr shut ↦
-        let same = ap (λ b. cond b t (with_use t at Shut (used_in (slots_in shape slots at)))) shut in
+        let same = ap (λ b. cond b t (with_use t at Shut (used_in (seen_in_block shape slots at)))) shut in
         let here : at < blocks_of t.shape = subst (λ s. at < blocks_of s) (sym h.its_shape) within in
         subst (IsOpenedTo shape slots spare (at + 1)) (sym same) (record {
           table = subst IsBlockTable same table;
           its_shape = h.its_shape;
           its_spare = h.its_spare;
           its_cursor = h.its_cursor;
-          done = λ k below. split (λ j. use_of (with_use t at Shut (used_in (slots_in shape slots at))) j ≡ use_in shape slots spare j) at k below
-              (λ less. use_of-with_use_other t at k Shut (used_in (slots_in shape slots at)) (λ e. omega arith) ∙ h.done k less)
-              (use_of-with_use_same t h.table at Shut (used_in (slots_in shape slots at)) here
-              ∙ shut_use at (subst (λ s. (eqb (used_in (slots_in shape slots at)) 0 || eqb at s) ≡ false) h.its_spare shut));
-          others = λ k low inside. use_of-with_use_other t at k Shut (used_in (slots_in shape slots at)) (λ e. omega arith) ∙ h.others k (omega arith) inside;
+          done = λ k below. split (λ j. use_of (with_use t at Shut (used_in (seen_in_block shape slots at))) j ≡ use_in shape slots spare j) at k below
+              (λ less. use_of-with_use_other t at k Shut (used_in (seen_in_block shape slots at)) (λ e. omega arith) ∙ h.done k less)
+              (use_of-with_use_same t h.table at Shut (used_in (seen_in_block shape slots at)) here
+              ∙ shut_use at (subst (λ s. (eqb (used_in (seen_in_block shape slots at)) 0 || eqb at s) ≡ false) h.its_spare shut));
+          others = λ k low inside. use_of-with_use_other t at k Shut (used_in (seen_in_block shape slots at)) (λ e. omega arith) ∙ h.others k (omega arith) inside;
         })
   ]
 

@@ -33,12 +33,12 @@ abbrev pub seen_in : List Contents → List Seen
 seen_in image = map seen_of image
 
 -- how the slots of a block read
-abbrev pub slots_in : Shape → List Seen → ℕ → List Seen
-slots_in shape slots block = slice_chunk slots shape.pages_per_block block
+abbrev pub seen_in_block : Shape → List Seen → ℕ → List Seen
+seen_in_block shape slots block = slice_chunk slots shape.pages_per_block block
 
 -- whether all slots of a block are blank
-abbrev pub is_blank_block : Shape → List Seen → ℕ → Bool
-is_blank_block shape slots block = list_all reads_blank (slots_in shape slots block)
+abbrev pub reads_blank_block : Shape → List Seen → ℕ → Bool
+reads_blank_block shape slots block = list_all reads_blank (seen_in_block shape slots block)
 
 -- how many of the first slots are used: those up to the last one that is not blank
 unfoldable pub used_in : List Seen → ℕ
@@ -50,8 +50,8 @@ used_in (how ∷ rest) = if list_all reads_blank (how ∷ rest) then 0 else suc 
 abbrev pub use_in : Shape → List Seen → ℕ → ℕ → BlockUse
 use_in shape slots spare block =
     if block == spare then record { state = Spare; used = 0 }
-    else if is_blank_block shape slots block then record { state = Clean; used = 0 }
-    else record { state = Shut; used = used_in (slots_in shape slots block) }
+    else if reads_blank_block shape slots block then record { state = Clean; used = 0 }
+    else record { state = Shut; used = used_in (seen_in_block shape slots block) }
 
 -- the block table of slots that read so, with this spare
 abbrev pub opening_table : Shape → List Seen → ℕ → BlockTable
@@ -80,24 +80,27 @@ FindsHighest P blocks (Some block) = IsHighest P blocks block.0
 
 -- a block's slots are all blank
 abbrev pub IsBlankBlock : Shape → List Seen → ℕ → Type 0
-IsBlankBlock shape slots block = is_blank_block shape slots block ≡ true
+IsBlankBlock shape slots block = reads_blank_block shape slots block ≡ true
 
 abbrev pub HasNoBlankBlock : Shape → List Seen → Type 0
-HasNoBlankBlock shape slots = (block : ℕ) → block < blocks_of shape → IsBlankBlock shape slots block → ⊥
+HasNoBlankBlock shape slots =
+    (block : ℕ) → block < blocks_of shape → IsBlankBlock shape slots block → ⊥
 
 -- this is the block that becomes the spare, of slots that read so and hold these records: the highest one that is all
 -- blank, or, where there is none, the highest removable one
 abbrev pub IsChosenFrom : Protocol → ℕ → Shape → List Seen → List Found → ℕ → Type 0
 IsChosenFrom protocol logical shape slots list spare =
     IsHighest (IsBlankBlock shape slots) (blocks_of shape) spare
-    ⊎ (HasNoBlankBlock shape slots × IsHighest (IsRemovable protocol list logical shape) (blocks_of shape) spare)
+    ⊎ (HasNoBlankBlock shape slots
+    × IsHighest (IsRemovable protocol list logical shape) (blocks_of shape) spare)
 
 -- that block, nothing where there is none, and then no block is removable
 abbrev pub FindsSpare : Protocol → ℕ → Shape → List Seen → List Found → Option Block → Type 0
 FindsSpare protocol logical shape slots list None =
     HasRemovable protocol list logical shape → ⊥
 FindsSpare protocol logical shape slots list (Some spare) =
-    IsChosenFrom protocol logical shape slots list spare.0 × HasRemovable protocol list logical shape
+    IsChosenFrom protocol logical shape slots list spare.0
+    × HasRemovable protocol list logical shape
 
 -- the same of an image
 abbrev pub IsChosenSpare : Config → List Contents → ℕ → Type 0
@@ -117,7 +120,8 @@ opening_noted config image spare = record {
 
 -- what is noted of slots that read so and hold these records, and their block table
 pub record IsOpenedFrom
-    (config : Config) (slots : List Seen) (list : List Found) (noted : Noted) (table : BlockTable) : Type 0 where
+    (config : Config) (slots : List Seen) (list : List Found) (noted : Noted)
+    (table : BlockTable) : Type 0 where
   pub spare : ℕ
   pub chosen : IsChosenFrom config.protocol config.logical (shape_of config) slots list spare
   pub scan : Noted
@@ -133,7 +137,8 @@ IsBroken protocol list logical shape b =
     × (HasRemovable protocol list logical shape → ⊥))
 
 -- the tables of a device that was opened from this image
-pub record IsOpened (config : Config) (image : List Contents) (noted : Noted) (table : BlockTable) : Type 0 where
+pub record IsOpened (config : Config) (image : List Contents) (noted : Noted)
+    (table : BlockTable) : Type 0 where
   pub spare : ℕ
   pub chosen : IsChosenSpare config image spare
   pub noted_is : noted ≡ opening_noted config image spare

@@ -18,11 +18,11 @@ IfUnsound (error.Unsound law slot) P = P (record { law = law; slot = slot })
 IfUnsound error.Memory P = Unit {0}
 
 -- whether a read failed
-abbrev pub is_fault : {T : Type 0} → Result T RecoverError → Bool
-is_fault (Ok x) = false
-is_fault (Err error.Fault) = true
-is_fault (Err (error.Unsound law slot)) = false
-is_fault (Err error.Memory) = false
+abbrev pub is_read_failure : {T : Type 0} → Result T RecoverError → Bool
+is_read_failure (Ok x) = false
+is_read_failure (Err error.Fault) = true
+is_read_failure (Err (error.Unsound law slot)) = false
+is_read_failure (Err error.Memory) = false
 
 -- so many slots were read: all of them where no read failed and there was memory
 abbrev pub ReadsTo : {T : Type 0} → FlashState → FlashState → ℕ → Result T RecoverError → Type 0
@@ -42,10 +42,14 @@ reads_again list b =
 -- how many slots a recovery reads: each one once, and again those that law 2 compares
 abbrev pub reads_of : {T : Type 0} → Protocol → FlashState → Result T RecoverError → ℕ
 reads_of protocol old (Ok x) = slots_of old.shape + 2 * compared (records_in protocol old.image)
-reads_of protocol old (Err error.Fault) = slots_of old.shape + 2 * compared (records_in protocol old.image)
+reads_of protocol old (Err error.Fault) =
+    slots_of old.shape + 2 * compared (records_in protocol old.image)
 reads_of protocol old (Err (error.Unsound law slot)) =
-    slots_of old.shape + reads_again (records_in protocol old.image) (record { law = law; slot = slot })
-reads_of protocol old (Err error.Memory) = slots_of old.shape + 2 * compared (records_in protocol old.image)
+    slots_of old.shape + reads_again (records_in protocol old.image)
+    (record { law = law; slot = slot })
+reads_of protocol old (Err error.Memory) =
+    slots_of old.shape + 2 * compared (records_in protocol old.image)
 
-abbrev pub ReadsFor : {T : Type 0} → Protocol → FlashState → FlashState → Result T RecoverError → Type 0
+abbrev pub ReadsFor : {T : Type 0} → Protocol → FlashState → FlashState → Result T RecoverError →
+    Type 0
 ReadsFor protocol old new result = ReadsTo old new (reads_of protocol old result) result

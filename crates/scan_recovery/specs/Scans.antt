@@ -13,8 +13,10 @@ use Rattle.version_index.specs.Notes.{note_of}
 
 -- the record of a spare area whose pages exist; nothing where there is none
 abbrev pub IsKeptRecord : Protocol → ℕ → List ℕ → Option Rec → Type 0
-IsKeptRecord protocol logical spare None = IsSomeAnd (record_of protocol spare) (HasPages logical) → ⊥
-IsKeptRecord protocol logical spare (Some rec) = (record_of protocol spare ≡ Some rec) × HasPages logical rec
+IsKeptRecord protocol logical spare None =
+    IsSomeAnd (record_of protocol spare) (HasPages logical) → ⊥
+IsKeptRecord protocol logical spare (Some rec) =
+    (record_of protocol spare ≡ Some rec) × HasPages logical rec
 
 -- what is noted of a slot that keeps law 1; nothing where it breaks it
 abbrev pub IsNote : Protocol → ℕ → Contents → Option Note → Type 0
@@ -24,7 +26,8 @@ IsNote protocol logical contents (Some note) =
 
 -- each slot of an image keeps law 1; these are how its slots read, and its records
 pub record IsScanOf
-    (protocol : Protocol) (logical : ℕ) (image : List Contents) (slots : List Seen) (list : List Found) : Type 0 where
+    (protocol : Protocol) (logical : ℕ) (image : List Contents) (slots : List Seen)
+    (list : List Found) : Type 0 where
   pub reads : All (SlotReads protocol logical) image
   pub seen : slots ≡ map seen_of image
   pub records : list ≡ records_in protocol image

@@ -28,7 +28,8 @@ AgreesWithLowest page_bytes image list f =
 -- records are equal
 abbrev pub is_compared : List Found → Found → Bool
 is_compared list f =
-    option_map_or (λ g. is_equal g.rec f.rec && not (g.slot.0 == f.slot.0)) (lowest_of list f.rec) false
+    option_map_or (λ g. is_equal g.rec f.rec && not (g.slot.0 == f.slot.0))
+    (lowest_of list f.rec) false
 
 -- how many slots are compared with another one
 unfoldable pub compared : List Found → ℕ

@@ -6,7 +6,7 @@ ghost use Rattle.record_list.specs.Written.{HasRemovable};
 ghost use Rattle.die_alloc.specs.BlockTable.{IsBlockTable};
 ghost use Rattle.version_index.specs.Notes.{complete_slots};
 ghost use Rattle.scan_recovery.specs.Opening.{used_in, opening_table, with_slots, IsOpenedFrom, IsBroken};
-ghost use Rattle.scan_recovery.specs.Recovered.{IfUnsound, is_fault};
+ghost use Rattle.scan_recovery.specs.Recovered.{IfUnsound, is_read_failure};
 
 use crate::RecoverError;
 use crate::spare::{chosen_spare, is_blank, slots_in};
@@ -39,7 +39,7 @@ pub fn open_tables<R: CommitRule>(
         IsOpenedFrom config seen.now list.now opened.0 opened.1) }
     ensures unsound { IfErr result (λ e. IfUnsound e
         (IsBroken R.kept list.now config.logical shape)) }
-    ensures no_fault { is_fault result ≡ false }
+    ensures no_fault { is_read_failure result ≡ false }
 {
     if let Some(Breach { law, slot }) = R::audit(list, config.logical) {
         return Err(RecoverError::Unsound { law, slot });

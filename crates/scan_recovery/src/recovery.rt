@@ -7,7 +7,7 @@ ghost use Rattle.record_list.specs.SoundList.{Copies};
 ghost use Rattle.record_list.specs.Written.{KeepsWritten};
 ghost use Rattle.scan_recovery.specs.Scans.{IsScanOf};
 ghost use Rattle.scan_recovery.specs.Opening.{IsOpened};
-ghost use Rattle.scan_recovery.specs.Recovered.{IfUnsound, is_fault, ReadsFor};
+ghost use Rattle.scan_recovery.specs.Recovered.{IfUnsound, is_read_failure, ReadsFor};
 
 use crate::RecoverError;
 use crate::opening::open_tables;
@@ -54,7 +54,7 @@ pub fn recover<F: Flash, R: CommitRule>(
 
     // Nothing changes, and so many slots are read.
     ensures moment { moment_of (F.state flash.new) ≡ moment_of (F.state flash.old) }
-    ensures carries { Carries (F.state flash.old) (F.state flash.new) (is_fault result) }
+    ensures carries { Carries (F.state flash.old) (F.state flash.new) (is_read_failure result) }
     ensures reads { ReadsFor config.protocol (F.state flash.old) (F.state flash.new) result }
 {
     let scanned = sound_scan(alloc, flash, config)?;

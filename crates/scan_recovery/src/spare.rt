@@ -4,7 +4,7 @@ ghost use Rattle.tx_types.specs.Config.{IsShape, slots_of, blocks_of};
 ghost use Rattle.record_list.specs.Records.{IsScanned};
 ghost use Rattle.record_list.specs.SoundList.{OwnPageExists};
 ghost use Rattle.version_index.specs.Notes.{complete_slots};
-ghost use Rattle.scan_recovery.specs.Opening.{reads_blank, slots_in, IsBlankBlock, FindsHighest, FindsSpare};
+ghost use Rattle.scan_recovery.specs.Opening.{reads_blank, seen_in_block, IsBlankBlock, FindsHighest, FindsSpare};
 
 use crate::removable::highest_removable;
 use flash_model::Seen;
@@ -53,7 +53,7 @@ fn highest_blank(seen: &[Seen], shape: Shape) -> Option<Block>
 pub fn slots_in(seen: &[Seen], shape: Shape, block: Block) -> &[Seen]
     requires exists { block.0 < blocks_of shape }
     requires seen { length seen.now ≡ slots_of shape }
-    ensures slots { result.now ≡ slots_in shape seen.now block.0 }
+    ensures slots { result.now ≡ seen_in_block shape seen.now block.0 }
     ensures count { length result.now ≡ shape.pages_per_block }
 {
     let slots = shape.pages_per_block as usize;

@@ -6,7 +6,7 @@ use Rattle.std.proofs.lemmas.Bool.{or_parts, eqb-false}
 use Rattle.std.proofs.lemmas.List.Elements.{All-cons, All-nil}
 use Rattle.record_list.proofs.Names.{IsIn, all_from, all_at, pairs_cons}
 use Rattle.tx_types.specs.Batch.{PageWrite}
-use Rattle.tx_engine.specs.ArrayState.{Entry, has_tag, pages_in}
+use Rattle.tx_engine.specs.ArrayState.{Entry, has_tag, pending_pages}
 use Rattle.tx_engine.specs.Submit.{Limits, is_of, is_owner, or_else, first_refusal, empty, range, repeated, tag_used, overlap, free_of, spent_page, first_refusals}
 use Rattle.tx_engine.specs.declared.submit.SubmitError.{SubmitError}
 use Rattle.tx_engine.specs.declared.submit.SubmitError.TheVariants as refused
@@ -18,7 +18,7 @@ pub record IsAccepted (limits : Limits) (entries : List Entry) (tag : ℕ) (ws :
   pub distinct : AllPairs (λ v w. v.page ≢ w.page) ws
   pub unused : All (λ e. e.tag ≢ tag) entries
   pub unowned : All (λ w. All (λ e. All (λ v. v.page ≢ w.page) e.writes) entries) ws
-  pub room : length ws ≤ limits.pending - pages_in entries
+  pub room : length ws ≤ limits.pending - pending_pages entries
 
 both_none : (a b : Option SubmitError) → or_else a b ≡ None → (a ≡ None) × (b ≡ None)
 both_none None b h = (refl, h)
@@ -119,7 +119,7 @@ accepted limits entries tag ws h =
       unused = all_from (λ e. e.tag ≢ tag) entries (λ e i.
           eqb-false e.tag tag (any_none (has_tag tag) entries (none_cond (list_any (has_tag tag) entries) refused.Tag fourth.0) e i));
       unowned = none_owned entries ws fifth.0;
-      room = leb-true (length ws) (limits.pending - pages_in entries) (cond_none (nat_le (length ws) (free_of limits.pending entries)) (refused.Full (free_of limits.pending entries)) fifth.1);
+      room = leb-true (length ws) (limits.pending - pending_pages entries) (cond_none (nat_le (length ws) (free_of limits.pending entries)) (refused.Full (free_of limits.pending entries)) fifth.1);
     }
 
 -- and of one whose pages have versions left

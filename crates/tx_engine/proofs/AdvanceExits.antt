@@ -69,28 +69,10 @@ next_ready o plain due =
     cond_both (o.naming.there + 1 == length o.entry.writes) (with_mark (with_there o (o.naming.there + 1)) Whole) (with_there o (o.naming.there + 1)) IsReady
     (λ is. inl refl) (λ is. inr (plain, omega (arith, due)))
 
--- It goes on without the flash
-pub counts_advances : (s new : ArrayState) (tag : ℕ) (e : Entry) (p : Progress) → Counts s tag e p new → Advances s tag e (Ok p) new
-counts_advances s new tag e (progress.Wrote done all) h = h
-counts_advances s new tag e progress.Done h = inl h
-
-whole_writes : (m : Mark) (ws : List PageWrite) → m ≡ Whole → (if is_plain m then ws else []) ≡ []
-whole_writes Plain ws is = cc
-whole_writes Doubt ws is = cc
-whole_writes Whole ws is = refl
-
 plain_writes_all : (m : Mark) (ws : List PageWrite) → m ≡ Plain → (if is_plain m then ws else []) ≡ ws
 plain_writes_all Plain ws is = refl
 plain_writes_all Doubt ws is = cc
 plain_writes_all Whole ws is = cc
-
-nothing_rises : {F : Type 0} (old new : Standing F) → ((page : ℕ) → current_of new.noted page ≡ current_of old.noted page) → VersionsRise old new []
-nothing_rises old new same = record { rises = All-nil (λ (w : PageWrite). current_of old.noted w.page < current_of new.noted w.page); stays = λ page low others. same page }
-
-pub counts_rises : {F : Type 0} (old new : Standing F) (s s' : ArrayState) (tag : ℕ) (e : Entry) (p : Progress) → Counts s tag e p s' →
-    ((page : ℕ) → current_of new.noted page ≡ current_of old.noted page) → AdvanceRises old new e (Ok p)
-counts_rises old new s s' tag e (progress.Wrote done all) h same = nothing_rises old new same
-counts_rises old new s s' tag e progress.Done h same = subst (VersionsRise old new) (sym (whole_writes e.mark e.writes h.0)) (nothing_rises old new same)
 
 -- It goes on after its next page was written
 module _ (s mid new : ArrayState) (tag : ℕ) (e f : Entry) (plain : e.mark ≡ Plain) (pages : mid.pages ≡ put s.pages (next_writes e)) (entries : mid.entries ≡ with_entry tag f s.entries)

@@ -20,7 +20,7 @@ use Rattle.version_index.specs.declared.note.Note.TheVariants.{Blank}
 use Rattle.version_index.specs.Notes.{note_at}
 use Rattle.version_index.specs.Noted.{Noted, erased, needed_of, garbage_of, is_garbage_at, shut_or_part, is_blank, with_spare}
 use Rattle.version_index.proofs.NotedFacts.{spare_garbage, other_garbage}
-use Rattle.die_alloc.specs.BlockTable.{BlockTable, state_of}
+use Rattle.die_alloc.specs.BlockTable.{BlockTable, block_state}
 use Rattle.collector.specs.declared.unsure.Unsure.{Unsure}
 use Rattle.collector.specs.declared.unsure.Unsure.TheVariants as unsure
 use Rattle.collector.specs.Collecting.{slots_in, is_blank_block, is_noted_blank, cleaning, copies, collecting, needed_slots, noted_cleaned, collected, copied_from, exchanged, HasUnneeded}
@@ -62,25 +62,25 @@ not_needed state.Shut blank true e = cc
 not_needed state.Shut blank false e = refl
 
 module _ (n : Noted) (t : BlockTable) (spare : n.spare ≡ Some t.spare) (victim : ℕ) (is : IsVictim n t victim) where
-  some : 0 < garbage_of n victim (is_shut (state_of t victim))
+  some : 0 < garbage_of n victim (is_shut (block_state t victim))
   some = is.some
 
   -- the block with the most garbage is not the spare
   pub victim_apart : victim ≢ t.spare
   victim_apart same =
       let here : is_slot victim n.spare ≡ true = ap (is_slot victim) spare ∙ eq-eqb t.spare victim (sym same) in
-      let none = spare_garbage n victim (is_shut (state_of t victim)) here in
+      let none = spare_garbage n victim (is_shut (block_state t victim)) here in
       omega (arith, some, none)
 
   -- and has a slot that is not needed
   pub victim_unneeded : HasUnneeded n victim
   victim_unneeded = elim (cases_Bool (is_slot victim n.spare)) [
-    | inl here ↦ (let none = spare_garbage n victim (is_shut (state_of t victim)) here in absurd (omega (arith, some, none)))
+    | inl here ↦ (let none = spare_garbage n victim (is_shut (block_state t victim)) here in absurd (omega (arith, some, none)))
     | inr other ↦
-        (let counted = other_garbage n victim (is_shut (state_of t victim)) other in
-        let one = one_counted (is_garbage_at n (shut_or_part (is_shut (state_of t victim)))) (slots_in n victim) (omega (arith, some, counted)) in
+        (let counted = other_garbage n victim (is_shut (block_state t victim)) other in
+        let one = one_counted (is_garbage_at n (shut_or_part (is_shut (block_state t victim)))) (slots_in n victim) (omega (arith, some, counted)) in
         let k = contains_from (slots_in n victim) one.0 one.1 in
-        (k.0, one.0, k.1, k.2, not_needed (shut_or_part (is_shut (state_of t victim))) (is_blank (note_at n.notes one.0)) (needed_of n one.0) one.2))
+        (k.0, one.0, k.1, k.2, not_needed (shut_or_part (is_shut (block_state t victim))) (is_blank (note_at n.notes one.0)) (needed_of n one.0) one.2))
   ]
 
 copies_alike : (size : ℕ) (a b : List Contents) (to : ℕ) (list : List ℕ) → ((k : ℕ) → IsIn list k → slot_at a k ≡ slot_at b k) → copies size a to list ≡ copies size b to list

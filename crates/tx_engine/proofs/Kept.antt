@@ -23,7 +23,7 @@ use Rattle.collector.specs.declared.unsure.Unsure.{Unsure}
 use Rattle.collector.specs.declared.unsure.Unsure.TheVariants as unsure
 use Rattle.collector.specs.Matches.{Matches}
 use Rattle.collector.specs.Preserves.{Preserves, KeepsArray, IsThere}
-use Rattle.tx_engine.specs.ArrayState.{Entry, is_doubted, pages_in}
+use Rattle.tx_engine.specs.ArrayState.{Entry, is_doubted, pending_pages}
 use Rattle.tx_engine.specs.declared.mark.Mark.{Mark}
 use Rattle.tx_engine.specs.declared.mark.Mark.TheVariants.{Plain, Doubt, Whole}
 use Rattle.tx_engine.specs.Standing.{Naming, Stands, IsNamed, IsUnderWay, IsAsMarked, IsOpenAs, DoubtsAs, name_at, write_at, no_name}
@@ -49,7 +49,7 @@ pub record IsKept (s : FlashState) (n : Noted) (t : BlockTable) (u : Unsure) (o 
   pub doubt : DoubtsAs s.image n (entries_of o) (namings_of o) u
   pub tags : AllPairs (λ a b. a.entry.tag ≢ b.entry.tag) o.all
   pub apart : AllPairs (λ a b. ShareNoPage a.naming.names b.naming.names) o.all
-  pub few : pages_in (entries_of o) ≤ n.config.pending
+  pub few : pending_pages (entries_of o) ≤ n.config.pending
   pub pinned : (name : Link) → Contains (pinned_names n.pins) name ↔ Any (λ o. Contains o.naming.names name) o.all
 
 pub from_stands : {F : Type 0} (state : F → FlashState) (s : Stored F) (o : OpenTable) → Stands state (standing_in state s o) →
@@ -166,7 +166,7 @@ kept_still s s' n n' t t' u u' o law k not_own not_own' m' keep same = record {
   doubt = doubt_of s'.image n' (entries_of o) (namings_of o) u' not_own' (calm_of s.image n (entries_of o) (namings_of o) u not_own k.doubt);
   tags = k.tags;
   apart = k.apart;
-  few = subst (λ (c : Config). pages_in (entries_of o) ≤ c.pending) (sym keep.config) k.few;
+  few = subst (λ (c : Config). pending_pages (entries_of o) ≤ c.pending) (sym keep.config) k.few;
   pinned = λ name. subst (λ pins. Contains (pinned_names pins) name ↔ Any (λ o. Contains o.naming.names name) o.all) (sym keep.pins) (k.pinned name);
 }
 
@@ -186,9 +186,9 @@ map_map f g [] = refl
 map_map f g (x ∷ xs) = ap (λ ys. g (f x) ∷ ys) (map_map f g xs)
 
 pub pages_same : (all all' : List Opening) → map (λ o. o.entry.writes) all' ≡ map (λ o. o.entry.writes) all →
-    pages_in (map (λ o. o.entry) all') ≡ pages_in (map (λ o. o.entry) all)
+    pending_pages (map (λ o. o.entry) all') ≡ pending_pages (map (λ o. o.entry) all)
 pages_same all all' same =
-    let lengths : (os : List Opening) → sum (map (λ (ws : List PageWrite). length ws) (map (λ (o : Opening). o.entry.writes) os)) ≡ pages_in (map (λ o. o.entry) os) = λ os.
+    let lengths : (os : List Opening) → sum (map (λ (ws : List PageWrite). length ws) (map (λ (o : Opening). o.entry.writes) os)) ≡ pending_pages (map (λ o. o.entry) os) = λ os.
     ap sum (map_map (λ (o : Opening). o.entry.writes) (λ (ws : List PageWrite). length ws) os ∙ sym (map_map (λ (o : Opening). o.entry) (λ (e : Entry). length e.writes) os))
     ∙ sum-map (λ (e : Entry). length e.writes) (map (λ (o : Opening). o.entry) os) in
     sym (lengths all') ∙ ap (λ yss. sum (map (λ (ws : List PageWrite). length ws) yss)) same ∙ lengths all
@@ -217,7 +217,7 @@ kept_with s s' n n' t t' u u' o i new k within parts m' config pins others own d
           (subst (AllPairs (λ a b. a ≢ b)) (sym tags) (pairs_to (λ (x : Opening). x.entry.tag) (λ a b. a ≢ b) o.all no_opening k.tags));
       apart = pairs_from (λ (x : Opening). x.naming.names) ShareNoPage (slice_set o.all i new)
           (subst (AllPairs ShareNoPage) (sym names) (pairs_to (λ (x : Opening). x.naming.names) ShareNoPage o.all no_opening k.apart));
-      few = subst (λ (c : Config). pages_in (entries_of (with_opening o i new)) ≤ c.pending) (sym config)
+      few = subst (λ (c : Config). pending_pages (entries_of (with_opening o i new)) ≤ c.pending) (sym config)
           (subst (λ pages. pages ≤ n.config.pending) (sym (pages_same o.all (slice_set o.all i new) writes)) k.few);
       pinned = λ name.
           let to : Any (λ (x : Opening). Contains x.naming.names name) o.all → Any (λ (x : Opening). Contains x.naming.names name) (slice_set o.all i new) = λ a.

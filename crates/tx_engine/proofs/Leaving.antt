@@ -9,7 +9,7 @@ use Rattle.tx_engine.specs.ArrayState.{page_at}
 use Rattle.tx_engine.specs.Standing.{Standing, Stands}
 use Rattle.tx_engine.specs.OpenTable.{OpenTable, entries_of, namings_of}
 use Rattle.tx_engine.specs.Settling.{IsLeft}
-use Rattle.tx_engine.specs.Stored.{Stored, IsStored, Keeps}
+use Rattle.tx_engine.specs.Stored.{Stored, IsStored, KeepsStored}
 use Rattle.tx_engine.specs.Tables.{standing_in}
 use Rattle.tx_engine.proofs.Kept.{IsKept, IsNoOwn, from_stands, to_stands, kept_still, nothing_no_own}
 use Rattle.tx_engine.proofs.ExitsThen.{before_itself, exits_then}
@@ -17,7 +17,7 @@ use Rattle.tx_engine.proofs.KeptTwice.{Preserves-then}
 use Rattle.tx_engine.proofs.TableLaws.{IsStayLaw}
 
 module _ {F : Type 0} (state : F → FlashState) (S S' : Stored F) (O : OpenTable) (broken : Bool) (law : IsStayLaw S.noted.config.protocol) (h : Stands state (standing_in state S O))
-    (p : Protocol) (stored : IsStored state p S') (keep : Keeps state S S' broken) (sure : S.unsure ≡ unsure.Nothing) (others : IsNoOwn S'.unsure) where
+    (p : Protocol) (stored : IsStored state p S') (keep : KeepsStored state S S' broken) (sure : S.unsure ≡ unsure.Nothing) (others : IsNoOwn S'.unsure) where
   kept : IsKept (state S.flash) S.noted S.table S.unsure O
   kept = from_stands state S O h
 

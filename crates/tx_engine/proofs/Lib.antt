@@ -5,7 +5,6 @@ pub mod DevicesStand
 pub mod InDoubt
 pub mod Mounted
 pub mod OpenOnes
-pub mod OpeningStays
 pub mod OtherFlash
 pub mod PinNames
 pub mod Pushed

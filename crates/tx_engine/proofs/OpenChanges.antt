@@ -10,7 +10,7 @@ use Rattle.version_index.specs.Noted.{Noted}
 use Rattle.tx_engine.specs.OpenTable.{begun}
 use Rattle.tx_engine.specs.OpeningsIn.{opening_of, openings_in}
 use Rattle.tx_engine.specs.OpenTables.{table_of, IsKept}
-use Rattle.tx_engine.specs.PendingPages.{pages_of, write_of, HoldsPages, FreesPages}
+use Rattle.tx_engine.specs.PendingPages.{pages_held, write_held, HoldsPages, FreesPages}
 use Rattle.tx_engine.specs.declared.mark.Mark.TheVariants.{Plain}
 use Rattle.tx_engine.specs.declared.openings.Openings.TheInside.{Inside}
 use Rattle.tx_engine.specs.declared.pending.Opened.{Opened}
@@ -28,13 +28,13 @@ pub record IsTakenAway (t u : Inside) (k : ℕ) (x : Opened) : Type 0 where
   pub its : x ≡ get_or t.opened.items k x
   pub opened : u.opened.items ≡ remove t.opened.items k
   pub capacity : vec_capacity u.opened ≡ vec_capacity t.opened
-  pub freed : FreesPages t.pages u.pages t.rooms u.rooms (pages_of (take k t.opened.items)) x.pages
+  pub freed : FreesPages t.pages u.pages t.rooms u.rooms (pages_held (take k t.opened.items)) x.pages
 
 pub kept_after_removal : (t u : Inside) (k : ℕ) (x : Opened) → IsKept t → IsTakenAway t u k x → IsKept u
 kept_after_removal t u k x kept away =
     let os = t.opened.items in
     let ps = t.pages.items in
-    let first = pages_of (take k os) in
+    let first = pages_held (take k os) in
     let gone = map (λ (p : PendingPage). p.bytes) (take x.pages (drop first ps)) in
     let within = pages_within os k x away.within away.its in
     let fewer = sum_by-remove (λ (o : Opened). o.pages) os k x away.within in
@@ -46,7 +46,7 @@ kept_after_removal t u k x kept away =
     let rooms = ap length away.freed.freed ∙ length-append t.rooms.items gone in
     let many : length gone ≡ x.pages = length-map (take x.pages (drop first ps)) (λ (p : PendingPage). p.bytes)
     ∙ length-take-le x.pages (drop first ps) (omega (arith, length-drop first ps)) in
-    let sum = ap (λ os. pages_of os) away.opened in
+    let sum = ap (λ os. pages_held os) away.opened in
     record {
       few = rw away.pending kept.few;
       each = rw away.opened (All-append (λ (o : Opened). 0 < o.pages) (take k os) (drop (suc k) os)
@@ -71,7 +71,7 @@ table_after_removal t u k x kept away =
     let same = ap (λ (o : Opened). o.pages) away.its in
     rw (away.page_bytes, away.pending, away.opened, away.freed.left)
     (ap (λ all. as_table t.page_bytes t.pending all)
-    (openings_remove os ps k (pages_of (take k os)) x.pages x away.within (omega (arith, kept.sum)) refl same))
+    (openings_remove os ps k (pages_held (take k os)) x.pages x away.within (omega (arith, kept.sum)) refl same))
 
 -- one is opened: the parts of what is kept, before and after
 pub record IsTakenIn (n : Noted) (t u : Inside) (batch : Writes) (x : Opened) (held : List PendingPage) : Type 0 where
@@ -90,9 +90,9 @@ kept_after_opening n t u batch x held kept taken =
     let os = t.opened.items in
     let ps = t.pages.items in
     let h = taken.holds in
-    let many : length held ≡ length batch.entries = sym (length-map held write_of) ∙ ap length h.writes in
+    let many : length held ≡ length batch.entries = sym (length-map held write_held) ∙ ap length h.writes in
     let more = ap length h.behind ∙ length-append ps held in
-    let sum = ap (λ os. pages_of os) taken.opened ∙ sum_by_push (λ (o : Opened). o.pages) os x in
+    let sum = ap (λ os. pages_held os) taken.opened ∙ sum_by_push (λ (o : Opened). o.pages) os x in
     record {
       few = rw taken.pending kept.few;
       each = rw taken.opened (All-push (λ (o : Opened). 0 < o.pages) os x kept.each (omega (arith, taken.some, taken.count)));
@@ -110,7 +110,7 @@ pub table_after_opening : (n : Noted) (t u : Inside) (batch : Writes) (x : Opene
     table_of u ≡ record (table_of t) { all = openings_in t.opened.items t.pages.items ++ begun n x.tag batch.entries ∷ [] }
 table_after_opening n t u batch x held kept taken done there mark =
     let h = taken.holds in
-    let many : length held ≡ length batch.entries = sym (length-map held write_of) ∙ ap length h.writes in
+    let many : length held ≡ length batch.entries = sym (length-map held write_held) ∙ ap length h.writes in
     let its : opening_of x held ≡ begun n x.tag batch.entries = rw (h.writes, h.names, done, there, mark) refl in
     rw (taken.page_bytes, taken.pending, taken.opened, h.behind)
     (ap (λ all. as_table t.page_bytes t.pending all)

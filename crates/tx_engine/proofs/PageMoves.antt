@@ -7,13 +7,13 @@ use Rattle.std.proofs.lemmas.List.Elements.{All-push, All-pop}
 use Rattle.tx_types.specs.Batch.{Writes, entry_at, no_write}
 use Rattle.version_index.specs.Noted.{Noted}
 use Rattle.tx_engine.specs.OpenTable.{next_name}
-use Rattle.tx_engine.specs.PendingPages.{write_of}
+use Rattle.tx_engine.specs.PendingPages.{write_held}
 use Rattle.tx_engine.specs.declared.pending.PendingPage.{PendingPage}
 
 -- so many pages of a batch are taken in
 pub record HoldsFirst (n : Noted) (old new : Vec PendingPage Global) (rooms rooms' : Vec (Vec ℕ Global) Global) (batch : Writes) (count : ℕ) (held : List PendingPage) : Type 0 where
   pub behind : new.items ≡ old.items ++ held
-  pub writes : map write_of held ≡ take count batch.entries
+  pub writes : map write_held held ≡ take count batch.entries
   pub names : map (λ p. p.name) held ≡ map (next_name n) (take count batch.entries)
   pub whole : All (λ p. length p.bytes.items ≡ batch.page_bytes) held
   pub fewer : length rooms'.items + length held ≡ length rooms.items
@@ -67,10 +67,10 @@ holds_more n old pages pages' rooms rooms' rooms'' batch count held room p h lt 
     let pop = length-append rooms''.items (room ∷ []) in
     let less = ap length popped in
     let page = ap (λ x. x.page) name in
-    let written : write_of p ≡ entry_at batch count = rw (page, bytes) refl in
+    let written : write_held p ≡ entry_at batch count = rw (page, bytes) refl in
     record {
       behind = pushed ∙ ap (λ ps. ps ++ p ∷ []) h.behind ∙ append_assoc old.items held (p ∷ []);
-      writes = map_push write_of held p
+      writes = map_push write_held held p
           ∙ rw (h.writes, written) (sym (take_more batch.entries count no_write lt));
       names = map_push (λ p. p.name) held p
           ∙ rw (h.names, name) (sym (map_more (next_name n) batch.entries count no_write lt));

@@ -27,7 +27,7 @@ use Rattle.collector.specs.Preserves.{IsThere, Preserves}
 use Rattle.tx_engine.specs.OpenTable.{OpenTable}
 use Rattle.tx_engine.specs.Settling.{AddsOnly}
 use Rattle.tx_engine.specs.Standing.{Standing}
-use Rattle.tx_engine.specs.Stored.{Stored, Writes}
+use Rattle.tx_engine.specs.Stored.{Stored, WritesStored}
 use Rattle.tx_engine.specs.Tables.{standing_in}
 use Rattle.tx_engine.specs.Writing.{FindsSlot, WritesRecord}
 use Rattle.tx_engine.proofs.CostFacts.{none_to_go}
@@ -52,7 +52,7 @@ module _ {F : Type 0} (state : F → FlashState) (S S1 S2 S3 : Stored F) (O O' :
       (broken : Bool) → ((IsFull S1.table → ⊥) → (broken ≡ false) × (S2.flash ≡ S1.flash)) → (state S2.flash).shape ≡ (state S.flash).shape →
       block_to_go S1.noted name.page name.version ≡ None → FindsSlot S1.noted S1.table S2.noted S2.table at → name_of rec ≡ name → rec.next ≡ link →
       rec.back ≡ back_version S2.noted.config.protocol (found_in S2.noted.notes) S2.noted.config.logical rec.page →
-      at.0 < length (state S2.flash).image → Writes state S2 S3 at.0 rec bytes →
+      at.0 < length (state S2.flash).image → WritesStored state S2 S3 at.0 rec bytes →
       TreatsInTurn name.page name.version S.noted S.table S1.noted S1.table → FlashMoves (state S.flash) (state S2.flash) false →
       WritesRecord state (standing_in state S O) (standing_in state S3 O') name link bytes
   writes_record noted kept idle broken direct shape clear slot named linked back within w turns moves = record {
@@ -87,7 +87,7 @@ module _ {F : Type 0} (state : F → FlashState) (S S1 S2 S3 : Stored F) (O O' :
 
   -- of the names only its own is new
   pub adds_own : NotesWrites S2.noted.config.protocol → IsNoted S2.noted.config.protocol S2.noted → (u : Unsure) → Matches (state S2.flash) S2.noted S2.table u → IsFirstFree S2.table at.0 →
-      Preserves S.noted S1.noted → Preserves S1.noted S2.noted → name_of rec ≡ name → Writes state S2 S3 at.0 rec bytes → AddsOnly name S.noted S3.noted
+      Preserves S.noted S1.noted → Preserves S1.noted S2.noted → name_of rec ≡ name → WritesStored state S2 S3 at.0 rec bytes → AddsOnly name S.noted S3.noted
   adds_own notes noted u m free first second named w own here =
       elim ((notes.names S2.noted at.0 rec own noted (omega (arith, free.free.within, ap slots_of m.blocks, ap slots_of m.shape)) (m.free at.0 free.free)).0
       (subst (λ (m : Noted). IsThere m own) w.noted here)) [

@@ -6,7 +6,7 @@ use Rattle.std.proofs.lemmas.List.{drop_more, drop_all, length-drop}
 use Rattle.tx_types.specs.Batch.{PageWrite}
 use Rattle.tx_engine.specs.ArrayState.{Entry, has_tag}
 use Rattle.tx_engine.specs.OpeningsIn.{openings_in}
-use Rattle.tx_engine.specs.PendingPages.{pages_of, write_of}
+use Rattle.tx_engine.specs.PendingPages.{pages_held, write_held}
 use Rattle.tx_engine.specs.Submit.{is_of, is_owner, or_else, first_refusals, empty, tag_used, full, free_of, range, repeated, overlap}
 use Rattle.tx_engine.specs.declared.pending.Opened.{Opened}
 use Rattle.tx_engine.specs.declared.pending.PendingPage.{PendingPage}
@@ -15,7 +15,7 @@ use Rattle.tx_engine.specs.declared.submit.SubmitError.TheVariants as refused
 use Rattle.tx_engine.proofs.OpenPages.{pages_of-cons}
 
 -- a page among those that a transaction writes
-among_writes : (page : ℕ) (ps : List PendingPage) → list_any (is_of page) (map write_of ps) ≡ list_any (λ p. p.name.page == page) ps
+among_writes : (page : ℕ) (ps : List PendingPage) → list_any (is_of page) (map write_held ps) ≡ list_any (λ p. p.name.page == page) ps
 among_writes page [] = refl
 among_writes page (p ∷ ps) = ap (λ rest. (p.name.page == page) || rest) (among_writes page ps)
 
@@ -41,10 +41,10 @@ pub owner_nowhere : (page : ℕ) (os : List Opened) (ps : List PendingPage) (i :
 unfolding openings_in
 owner_nowhere page os ps i end = rw (drop_all i os end) refl
 
-pub pages_left : (os : List Opened) (ps : List PendingPage) (i : ℕ) (d : Opened) → i < length os → pages_of (drop i os) ≡ length ps →
-    ((get_or os i d).pages ≤ length ps) × (pages_of (drop (i + 1) os) ≡ length (drop (get_or os i d).pages ps))
+pub pages_left : (os : List Opened) (ps : List PendingPage) (i : ℕ) (d : Opened) → i < length os → pages_held (drop i os) ≡ length ps →
+    ((get_or os i d).pages ≤ length ps) × (pages_held (drop (i + 1) os) ≡ length (drop (get_or os i d).pages ps))
 pages_left os ps i d lt sum =
-    let next = ap (λ os. pages_of os) (drop_more os i d lt) ∙ pages_of-cons (get_or os i d) (drop (i + 1) os) in
+    let next = ap (λ os. pages_held os) (drop_more os i d lt) ∙ pages_of-cons (get_or os i d) (drop (i + 1) os) in
     (omega arith, omega (arith, length-drop (get_or os i d).pages ps))
 
 pub tag_among : (tag : ℕ) (os : List Opened) (ps : List PendingPage) →

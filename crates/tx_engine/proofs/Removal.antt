@@ -19,7 +19,7 @@ use Rattle.version_index.specs.Notes.{found_in}
 use Rattle.collector.specs.declared.unsure.Unsure.TheVariants as unsure
 use Rattle.collector.specs.Known.{array_known}
 use Rattle.collector.specs.Matches.{Matches}
-use Rattle.tx_engine.specs.ArrayState.{Entry, pages_in}
+use Rattle.tx_engine.specs.ArrayState.{Entry, pending_pages}
 use Rattle.tx_engine.specs.declared.mark.Mark.{Mark}
 use Rattle.tx_engine.specs.declared.mark.Mark.TheVariants.{Plain, Doubt, Whole}
 use Rattle.tx_engine.specs.Stored.{Stored}
@@ -94,13 +94,13 @@ beside_any P xs i d within h =
       )
     ]
 
-pub pages_by : (all : List Opening) → pages_in (map (λ o. o.entry) all) ≡ sum_by (λ o. length o.entry.writes) all
+pub pages_by : (all : List Opening) → pending_pages (map (λ o. o.entry) all) ≡ sum_by (λ o. length o.entry.writes) all
 pages_by all =
     sym (sum-map (λ (e : Entry). length e.writes) (map (λ (o : Opening). o.entry) all))
     ∙ ap sum (map_map (λ (o : Opening). o.entry) (λ (e : Entry). length e.writes) all)
     ∙ sum-map (λ (o : Opening). length o.entry.writes) all
 
-fewer_pages : (all : List Opening) (i : ℕ) → i < length all → pages_in (map (λ o. o.entry) (remove all i)) ≤ pages_in (map (λ o. o.entry) all)
+fewer_pages : (all : List Opening) (i : ℕ) → i < length all → pending_pages (map (λ o. o.entry) (remove all i)) ≤ pending_pages (map (λ o. o.entry) all)
 fewer_pages all i within =
     let f = λ (o : Opening). length o.entry.writes in
     let parts = sum_by-append f (take i all) (drop (suc i) all) in

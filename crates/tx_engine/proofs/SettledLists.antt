@@ -79,10 +79,7 @@ doubted_at (o ∷ os) (suc i) within others is =
     cond-false (is_doubted o.entry.mark) (o.entry.writes ++ doubted (entries_in os)) (doubted (entries_in os)) (others 0 (omega arith) (λ e. absurd (omega arith)))
     ∙ doubted_at os i (omega arith) (beside_rest o os i others) is
 
--- whether the image has another version of its first page
-pub is_moved : Noted → List Contents → Entry × Naming → Bool
-is_moved n image (e, x) = is_doubted e.mark && has_moved n image x.names
-
+-- whether the image has another version of the first page of a transaction in doubt
 abbrev pub any_moved : Noted → List Contents → List Opening → Bool
 any_moved n image all = list_any (λ (e, x). is_doubted e.mark && has_moved n image x.names) (zip (entries_in all) (namings_in all))
 

@@ -24,7 +24,7 @@ use Rattle.collector.specs.Known.{array_known}
 use Rattle.collector.specs.Matches.{Matches, CanTake, CanTakeOwn}
 use Rattle.collector.specs.Preserves.{Preserves, KeepsArray}
 use Rattle.collector.specs.Settling.{settlement, own_settled, Settlement}
-use Rattle.tx_engine.specs.ArrayState.{ArrayState, Entry, Pages, put, is_doubted, page_at, pages_in}
+use Rattle.tx_engine.specs.ArrayState.{ArrayState, Entry, Pages, put, is_doubted, page_at, pending_pages}
 use Rattle.tx_engine.specs.declared.mark.Mark.{Mark}
 use Rattle.tx_engine.specs.declared.mark.Mark.TheVariants.{Plain, Doubt, Whole}
 use Rattle.tx_engine.specs.Exits.{MentionsRise, settled_writes}
@@ -335,7 +335,7 @@ module _ (s : FlashState) (n m : Noted) (t t' : BlockTable) (u : Unsure) (o : Op
         doubt = calm_all o.all calm;
         tags = k.tags;
         apart = k.apart;
-        few = subst (λ (c : _). pages_in (entries_of o) ≤ c.pending) (sym keep.config) k.few;
+        few = subst (λ (c : _). pending_pages (entries_of o) ≤ c.pending) (sym keep.config) k.few;
         pinned = λ name. subst (λ pins. Contains (pinned_names pins) name ↔ Any (λ x. Contains x.naming.names name) o.all) (sym keep.pins) (k.pinned name);
       })
       (settled_calm false (entries_in o.all) (calm_all o.all calm)) refl

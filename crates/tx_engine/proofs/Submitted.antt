@@ -22,7 +22,7 @@ use Rattle.version_index.specs.Noted.{Noted, IsNextRecord, current_of, mention_o
 use Rattle.collector.specs.declared.unsure.Unsure.{Unsure}
 use Rattle.collector.specs.declared.unsure.Unsure.TheVariants as unsure
 use Rattle.collector.specs.Known.{array_known}
-use Rattle.tx_engine.specs.ArrayState.{Entry, is_doubted, pages_in, opening}
+use Rattle.tx_engine.specs.ArrayState.{Entry, is_doubted, pending_pages, opening}
 use Rattle.tx_engine.specs.declared.mark.Mark.{Mark}
 use Rattle.tx_engine.specs.declared.mark.Mark.TheVariants.{Plain, Doubt, Whole}
 use Rattle.tx_engine.specs.Naming.{with_pins}
@@ -250,7 +250,7 @@ module _ {F : Type 0} (state : F → FlashState) (p : Protocol) (s : Stored F) (
           (all_pairs_push (λ (a : Naming) (b : Naming). ShareNoPage a.names b.names) (namings_of t) the_opening.naming stands.apart (λ k d inside.
           all_from (λ a. All (λ b. a.page ≢ b.page) names) (get_or (namings_of t) k d).names (λ a i.
           all_from (λ b. a.page ≢ b.page) names (λ b j. apart_at k d inside a b i j))));
-      few = subst (λ es. pages_in es ≤ n.config.pending) (sym entries_are)
+      few = subst (λ es. pending_pages es ≤ n.config.pending) (sym entries_are)
           (omega (arith, sum_by_push (λ (e : Entry). length e.writes) (entries_of t) the_opening.entry, ok.room, ok.some, stands.few));
       pinned = λ name. subst (λ xs. Contains (pinned_names pins) name ↔ Any (λ x. Contains x.names name) xs) (sym namings_are) (pinned_now name);
     }

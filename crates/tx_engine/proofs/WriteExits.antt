@@ -28,7 +28,7 @@ use Rattle.tx_engine.specs.Exits.{Exits, VersionsRise}
 use Rattle.tx_engine.specs.Standing.{Standing, Stands, name_at, write_at}
 use Rattle.tx_engine.specs.OpenTable.{OpenTable, Opening, no_opening, opening_at, namings_of, with_opening, with_mark}
 use Rattle.tx_engine.specs.Settling.{with_next, is_at_last, next_writes, WritesNext, WriteFails}
-use Rattle.tx_engine.specs.Stored.{Stored, IsStored, Writes, WriteBreaks}
+use Rattle.tx_engine.specs.Stored.{Stored, IsStored, WritesStored, WriteBreaks}
 use Rattle.tx_engine.specs.Tables.{standing_in}
 use Rattle.tx_engine.proofs.ExitsThen.{NamedBefore, before_itself}
 use Rattle.tx_engine.proofs.ImageMoves.{KeepsNoted, image_array, image_under, image_opening}
@@ -70,7 +70,7 @@ module _ {F : Type 0} (state : F → FlashState) (S S' : Stored F) (O : OpenTabl
       stay name (subst (λ l. is_present l name ≡ true) (sym (settles.records old n S.table unsure.Nothing kept.matches tt refl)) there)
 
   -- Done
-  module _ (w : Writes state S S' at.0 rec bytes) where
+  module _ (w : WritesStored state S S' at.0 rec bytes) where
     stay : KeepsNoted n old.image new.image
     stay = keeps w.stay
 

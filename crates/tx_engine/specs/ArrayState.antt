@@ -60,5 +60,5 @@ with_entry tag new [] = []
 with_entry tag new (e ∷ es) = if has_tag tag e then new ∷ es else e ∷ with_entry tag new es
 
 -- the pages of all open transactions
-abbrev pub pages_in : List Entry → ℕ
-pages_in entries = sum_by (λ e. length e.writes) entries
+abbrev pub pending_pages : List Entry → ℕ
+pending_pages entries = sum_by (λ e. length e.writes) entries

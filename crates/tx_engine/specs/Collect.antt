@@ -1,7 +1,7 @@
 -- Collecting a block, and what a device tells of its array.
 use Rattle.std.specs.Prelude.{◌≡◌, ◌⊎◌, Bool, length, count_by, is_some, Result, Ok, Err}
 use Rattle.tx_types.specs.declared.stats.Stats.{Stats}
-use Rattle.tx_engine.specs.ArrayState.{ArrayState, pages_in}
+use Rattle.tx_engine.specs.ArrayState.{ArrayState, pending_pages}
 use Rattle.tx_engine.specs.Step.{settled}
 use Rattle.tx_engine.specs.declared.collect.Collected.{Collected}
 use Rattle.tx_engine.specs.declared.collect.Fault.{Fault}
@@ -18,4 +18,4 @@ Collects old new result = (there : Bool) × CollectsAs there old new result
 pub record TellsStats (s : ArrayState) (told : Stats) : Type 0 where
   pub written : told.written ≡ count_by is_some s.pages
   pub tags : told.tags ≡ length s.entries
-  pub pending : told.pending ≡ pages_in s.entries
+  pub pending : told.pending ≡ pending_pages s.entries

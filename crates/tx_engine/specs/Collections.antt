@@ -31,20 +31,24 @@ pub record CollectsNothing (old new : FlashState) (n n' : Noted) (t t' : BlockTa
   pub noted : n' ≡ noted_cleaned n t.spare
   pub table : t' ≡ t
 
-abbrev pub CollectsTables : FlashState → FlashState → Noted → Noted → BlockTable → BlockTable → Collected → Type 0
+abbrev pub CollectsTables : FlashState → FlashState → Noted → Noted → BlockTable → BlockTable →
+    Collected → Type 0
 CollectsTables old new n n' t t' One = CollectsOne old new n n' t t'
 CollectsTables old new n n' t t' Nothing = CollectsNothing old new n n' t t'
 
 -- a record is the newest of a page that an open transaction writes
 abbrev pub IsNewestOfOpen : Protocol → List Contents → List Entry → Rec → Type 0
 IsNewestOfOpen protocol image entries rec =
-    Any (λ e. Any (λ w. w.page ≡ rec.page) e.writes) entries × (rec.version ≡ newest (records_in protocol image) rec.page)
+    Any (λ e. Any (λ w. w.page ≡ rec.page) e.writes) entries
+    × (rec.version ≡ newest (records_in protocol image) rec.page)
 
 -- There is nothing to collect on a flash: no slot is damaged, no record stands in two slots, and each record is current, or held,
 -- or the newest of a page of an open transaction.
-pub record HasNothingToCollect (protocol : Protocol) (logical : ℕ) (image : List Contents) (entries : List Entry) : Type 0 where
+pub record HasNothingToCollect (protocol : Protocol) (logical : ℕ) (image : List Contents)
+    (entries : List Entry) : Type 0 where
   pub whole : All (λ contents. contents ≢ damaged) image
   pub once : AllPairs (λ f g. name_of f.rec ≢ name_of g.rec) (records_in protocol image)
   pub wanted : All (λ f. IsCurrent protocol (records_in protocol image) logical f.rec
-      ⊎ ((is_held protocol (records_in protocol image) logical (name_of f.rec) ≡ true) ⊎ IsNewestOfOpen protocol image entries f.rec))
+      ⊎ ((is_held protocol (records_in protocol image) logical (name_of f.rec) ≡ true)
+      ⊎ IsNewestOfOpen protocol image entries f.rec))
       (records_in protocol image)

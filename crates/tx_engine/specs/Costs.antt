@@ -10,14 +10,19 @@ use Rattle.tx_engine.specs.Writing.{next_of}
 
 -- The counts rise at most by one collection for each block that holds a record which must go, by one collection
 -- more, and by one program.
-pub record StepCosts {F : Type 0} (state : F → FlashState) (old new : Standing F) (name : Link) : Type 0 where
+pub record StepCosts {F : Type 0} (state : F → FlashState) (old new : Standing F)
+    (name : Link) : Type 0 where
   pub programs : (state new.flash).programs
-      ≤ (state old.flash).programs + (blocks_to_go old.noted name.page name.version + 1) * (old.config.pages_per_block - 1) + 1
-  pub erases : (state new.flash).erases ≤ (state old.flash).erases + 2 * (blocks_to_go old.noted name.page name.version + 1)
+      ≤ (state old.flash).programs + (blocks_to_go old.noted name.page name.version + 1) *
+      (old.config.pages_per_block - 1) + 1
+  pub erases : (state new.flash).erases ≤ (state old.flash).erases + 2 *
+      (blocks_to_go old.noted name.page name.version + 1)
   -- where nothing must go and a block has room, one program is all
   pub direct : blocks_to_go old.noted name.page name.version ≡ 0 → (IsFull old.table → ⊥) →
-      ((state new.flash).programs ≤ (state old.flash).programs + 1) × ((state new.flash).erases ≡ (state old.flash).erases)
+      ((state new.flash).programs ≤ (state old.flash).programs + 1)
+      × ((state new.flash).erases ≡ (state old.flash).erases)
 
 -- the costs of a step, by the tables that are known once the place was read whose contents were not known
 abbrev pub CostsStep : {F : Type 0} → (F → FlashState) → Standing F → Standing F → ℕ → Type 0
-CostsStep state old new tag = IfSome (next_of old tag) (StepCosts state (with_settlement state old) new)
+CostsStep state old new tag =
+    IfSome (next_of old tag) (StepCosts state (with_settlement state old) new)

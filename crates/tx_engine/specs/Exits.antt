@@ -25,12 +25,14 @@ use Rattle.tx_engine.specs.declared.collect.Fault.{Fault}
 -- whether the image has another version of the first of these pages than the one that is known
 abbrev pub has_moved : Noted → List Contents → List Link → Bool
 has_moved n image [] = false
-has_moved n image (name ∷ names) = not (current_in n.config.protocol n.config.logical image name.page == current_of n name.page)
+has_moved n image (name ∷ names) =
+    not (current_in n.config.protocol n.config.logical image name.page == current_of n name.page)
 
 -- whether the transaction in doubt is there: the image has another version of its first page than the one that is known
 abbrev pub is_there : {F : Type 0} → (F → FlashState) → Standing F → Bool
 is_there state s =
-    list_any (λ (e, x). is_doubted e.mark && has_moved s.noted (state s.flash).image x.names) (zip s.machine.entries s.namings)
+    list_any (λ (e, x). is_doubted e.mark && has_moved s.noted (state s.flash).image x.names)
+    (zip s.machine.entries s.namings)
 
 -- the writes that the array takes where the state settles
 abbrev pub settled_writes : Bool → ArrayState → List PageWrite
@@ -68,7 +70,8 @@ pub record VersionsRise {F : Type 0} (old new : Standing F) (taken : List PageWr
 
 -- the version at which an open transaction names a page
 abbrev pub IsNamedAt : List Naming → ℕ → ℕ → Type 0
-IsNamedAt namings page version = Any (λ x. Any (λ name. (name.page ≡ page) × (name.version ≡ version)) x.names) namings
+IsNamedAt namings page version =
+    Any (λ x. Any (λ name. (name.page ≡ page) × (name.version ≡ version)) x.names) namings
 
 -- a mention stays, or rises to the version at which an open transaction names the page
 abbrev pub MentionsRise : Noted → Noted → List Naming → Type 0
@@ -81,10 +84,12 @@ MentionsRise old new namings =
 abbrev pub SettlesOrNot : {F : Type 0} → Bool → Standing F → Standing F → Type 0
 SettlesOrNot there old new =
     ((new.machine.pages ≡ old.machine.pages) × VersionsRise old new [])
-    ⊎ ((new.machine.pages ≡ (settled there old.machine).pages) × VersionsRise old new (settled_writes there old.machine))
+    ⊎ ((new.machine.pages ≡ (settled there old.machine).pages)
+    × VersionsRise old new (settled_writes there old.machine))
 
 -- which versions rise in a step
-abbrev pub StepRises : {F : Type 0} → Bool → Standing F → Standing F → ℕ → Result Progress StepError → Type 0
+abbrev pub StepRises : {F : Type 0} → Bool → Standing F → Standing F → ℕ →
+    Result Progress StepError → Type 0
 StepRises there old new tag (Ok progress) =
     VersionsRise old new (settled_writes there old.machine
     ++ done_writes (entry_of tag (settled there old.machine).entries) (Ok progress))
@@ -92,12 +97,14 @@ StepRises there old new tag (Err failed.Unknown) = VersionsRise old new []
 StepRises there old new tag (Err failed.Fault) = SettlesOrNot there old new
 
 -- which versions rise in an abort: after a fault all is as before
-abbrev pub AbortRises : {F : Type 0} → Bool → Standing F → Standing F → Result Aborted StepError → Type 0
+abbrev pub AbortRises : {F : Type 0} → Bool → Standing F → Standing F → Result Aborted StepError →
+    Type 0
 AbortRises there old new (Ok aborted) = VersionsRise old new (settled_writes there old.machine)
 AbortRises there old new (Err e) = VersionsRise old new []
 
 -- which versions rise in a collection
-abbrev pub CollectRises : {F : Type 0} → Bool → Standing F → Standing F → Result Collected Fault → Type 0
+abbrev pub CollectRises : {F : Type 0} → Bool → Standing F → Standing F → Result Collected Fault →
+    Type 0
 CollectRises there old new (Ok collected) = VersionsRise old new (settled_writes there old.machine)
 CollectRises there old new (Err fault) = SettlesOrNot there old new
 
@@ -106,11 +113,13 @@ abbrev pub VersionsTell : {F : Type 0} → Standing F → Standing F → Type 0
 VersionsTell old new =
     (page : ℕ) → page < old.config.logical →
     (current_of old.noted page < current_of new.noted page)
-    ⊎ ((current_of new.noted page ≡ current_of old.noted page) × (page_at new.machine.pages page ≡ page_at old.machine.pages page))
+    ⊎ ((current_of new.noted page ≡ current_of old.noted page)
+    × (page_at new.machine.pages page ≡ page_at old.machine.pages page))
 
 -- What each call keeps that works on the flash: the configuration, what the flash carries over, the operations by which its
 -- moment moves, the mentions, and that no transaction is named anew.
-pub record Exits {F : Type 0} (state : F → FlashState) (old new : Standing F) (broken : Bool) : Type 0 where
+pub record Exits {F : Type 0} (state : F → FlashState) (old new : Standing F)
+    (broken : Bool) : Type 0 where
   pub config : new.config ≡ old.config
   pub moves : FlashMoves (state old.flash) (state new.flash) broken
   pub carries : Carries (state old.flash) (state new.flash) broken
@@ -120,11 +129,14 @@ pub record Exits {F : Type 0} (state : F → FlashState) (old new : Standing F) 
 
 -- the array of the image is the device's, or that with the pages of the transaction in doubt
 abbrev pub StandsFor : ArrayState → Pages → Type 0
-StandsFor s pages = (pages ≡ s.pages) ⊎ ((e : Entry) × Contains s.entries e × (e.mark ≡ Doubt) × (pages ≡ put s.pages e.writes))
+StandsFor s pages =
+    (pages ≡ s.pages)
+    ⊎ ((e : Entry) × Contains s.entries e × (e.mark ≡ Doubt) × (pages ≡ put s.pages e.writes))
 
 -- a page is mentioned in the image at most as the tables have it, or as an open transaction names it
 abbrev pub MentionsAtMost : Noted → List Naming → List Contents → Type 0
 MentionsAtMost n namings image =
     (page : ℕ) → page < n.config.logical →
     (mention (records_in n.config.protocol image) page ≤ mention_of n page)
-    ⊎ ((version : ℕ) × IsNamedAt namings page version × (mention (records_in n.config.protocol image) page ≤ version))
+    ⊎ ((version : ℕ) × IsNamedAt namings page version
+    × (mention (records_in n.config.protocol image) page ≤ version))

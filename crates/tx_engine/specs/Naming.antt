@@ -1,6 +1,7 @@
 -- The names that a transaction is opened with.
-use Rattle.std.specs.Prelude.{◌≡◌, ℕ, ◌^◌, nat_le, Bool, List, [], ◌∷◌, ◌++◌, map, slice_index, slice_set, Result, Ok, Err}
+use Rattle.std.specs.Prelude.{◌≡◌, ℕ, nat_le, Bool, List, [], ◌∷◌, ◌++◌, map, slice_index, slice_set, Result, Ok, Err}
 use Rattle.tx_types.specs.Batch.{PageWrite}
+use Rattle.tx_types.specs.Limits.{max_version}
 use Rattle.tx_types.specs.declared.record.Link.{Link}
 use Rattle.version_index.specs.Noted.{Noted}
 use Rattle.tx_engine.specs.OpenTable.{next_name}
@@ -9,7 +10,7 @@ use Rattle.tx_engine.specs.declared.submit.SubmitError.{SubmitError}
 
 -- the page has no version left
 abbrev pub is_spent : List ℕ → ℕ → Bool
-is_spent mentions page = nat_le (2 ^ 62) (slice_index mentions page)
+is_spent mentions page = nat_le max_version (slice_index mentions page)
 
 -- the pins with each of these pages pinned at its version, in place of an older one
 abbrev pub with_pins : List ℕ → List Link → List ℕ
@@ -17,8 +18,10 @@ with_pins pins [] = pins
 with_pins pins (name ∷ names) = with_pins (slice_set pins name.page name.version) names
 
 -- the names of the open transactions after a batch, which is named where it was opened
-abbrev pub named_after : Noted → List PageWrite → Result (Unit {0}) SubmitError → List Naming → List Naming
-named_after n writes (Ok u) namings = namings ++ record { names = map (next_name n) writes; there = 0 } ∷ []
+abbrev pub named_after : Noted → List PageWrite → Result (Unit {0}) SubmitError → List Naming →
+    List Naming
+named_after n writes (Ok u) namings =
+    namings ++ record { names = map (next_name n) writes; there = 0 } ∷ []
 named_after n writes (Err e) namings = namings
 
 -- only the array machine, the names and the pins may have changed

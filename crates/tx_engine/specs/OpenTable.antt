@@ -3,7 +3,7 @@ use Rattle.std.specs.Prelude.{◌≡◌, ℕ, ◌+◌, ◌≤◌, List, [], leng
 use Rattle.tx_types.specs.Batch.{PageWrite}
 use Rattle.tx_types.specs.declared.record.Link.{Link}
 use Rattle.version_index.specs.Noted.{Noted, mention_of}
-use Rattle.tx_engine.specs.ArrayState.{Entry, opening, pages_in}
+use Rattle.tx_engine.specs.ArrayState.{Entry, opening, pending_pages}
 use Rattle.tx_engine.specs.declared.mark.Mark.{Mark}
 use Rattle.tx_engine.specs.Standing.{Naming}
 
@@ -34,9 +34,10 @@ namings_of t = map (λ o. o.naming) t.all
 
 -- each transaction has a name for each page that it writes, each page is whole, and no more pages are pending than may be
 pub record IsOpenTable (t : OpenTable) : Type 0 where
-  pub named : All (λ o. map (λ name. name.page) o.naming.names ≡ map (λ w. w.page) o.entry.writes) t.all
+  pub named : All
+      (λ o. map (λ name. name.page) o.naming.names ≡ map (λ w. w.page) o.entry.writes) t.all
   pub whole : All (λ o. All (λ w. length w.bytes ≡ t.page_bytes) o.entry.writes) t.all
-  pub few : pages_in (entries_of t) ≤ t.pending
+  pub few : pending_pages (entries_of t) ≤ t.pending
 
 -- the name that a transaction which is opened now writes for a page: one version above its mention
 abbrev pub next_name : Noted → PageWrite → Link

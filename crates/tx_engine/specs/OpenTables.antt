@@ -1,8 +1,9 @@
 -- How the open transactions are kept: of each what it is, and the pages of all of them one behind another.
 use Rattle.std.specs.Prelude.{◌≡◌, ◌+◌, ◌<◌, ◌≤◌, length, vec_capacity, All}
+use Rattle.tx_types.specs.Limits.{max_pending}
 use Rattle.tx_engine.specs.OpenTable.{OpenTable}
 use Rattle.tx_engine.specs.OpeningsIn.{openings_in}
-use Rattle.tx_engine.specs.PendingPages.{pages_of}
+use Rattle.tx_engine.specs.PendingPages.{pages_held}
 use Rattle.tx_engine.specs.declared.openings.Openings.TheInside.{Inside}
 
 abbrev pub table_of : Inside → OpenTable
@@ -14,9 +15,9 @@ table_of t = record {
 
 -- each transaction has a page, each pending page belongs to one, and there is room for all that may be pending
 pub record IsKept (t : Inside) : Type 0 where
-  pub few : t.pending ≤ 256
+  pub few : t.pending ≤ max_pending
   pub each : All (λ o. 0 < o.pages) t.opened.items
-  pub sum : pages_of t.opened.items ≡ length t.pages.items
+  pub sum : pages_held t.opened.items ≡ length t.pages.items
   pub whole : All (λ p. length p.bytes.items ≡ t.page_bytes) t.pages.items
   pub rooms : length t.pages.items + length t.rooms.items ≡ t.pending
   pub sizes : All (λ r. length r.items ≡ t.page_bytes) t.rooms.items

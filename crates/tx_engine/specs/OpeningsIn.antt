@@ -1,14 +1,14 @@
 -- The open transactions in what is kept of them: each has the pages behind those of the transactions before it.
 use Rattle.std.specs.Prelude.{List, [], ◌∷◌, map, take, drop}
 use Rattle.tx_engine.specs.OpenTable.{Opening}
-use Rattle.tx_engine.specs.PendingPages.{write_of}
+use Rattle.tx_engine.specs.PendingPages.{write_held}
 use Rattle.tx_engine.specs.declared.pending.Opened.{Opened}
 use Rattle.tx_engine.specs.declared.pending.PendingPage.{PendingPage}
 
 -- the open transaction with these pages
 abbrev pub opening_of : Opened → List PendingPage → Opening
 opening_of o its = record {
-  entry = record { tag = o.tag; writes = map write_of its; done = o.done; mark = o.mark };
+  entry = record { tag = o.tag; writes = map write_held its; done = o.done; mark = o.mark };
   naming = record { names = map (λ p. p.name) its; there = o.there };
 }
 

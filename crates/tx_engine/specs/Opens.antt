@@ -23,7 +23,8 @@ abbrev pub mount_reads : Config → FlashState → ℕ
 mount_reads its s = slots_of s.shape + 2 * compared (records_in its.protocol s.image)
 
 -- The device stands for the array of the image, with nothing open. Its tables are those of the image.
-pub record Mounts {F : Type 0} (state : F → FlashState) (flash : F) (its : Config) (s : Standing F) : Type 0 where
+pub record Mounts {F : Type 0} (state : F → FlashState) (flash : F) (its : Config)
+    (s : Standing F) : Type 0 where
   pub config : s.config ≡ its
   pub machine : s.machine ≡ idle (array_in its.protocol its.logical (state flash).image)
   pub namings : s.namings ≡ []
@@ -39,21 +40,26 @@ FailsToMount state flash its new mount.Fault =
     (moment_of (state new) ≡ moment_of (state flash)) × Carries (state flash) (state new) true
 FailsToMount state flash its new (mount.Unsound law slot) =
     (moment_of (state new) ≡ moment_of (state flash)) × Carries (state flash) (state new) false
-    × IsLeastImageBreach its.protocol its.logical (shape_of its) (state flash).image (record { law = law; slot = slot })
+    × IsLeastImageBreach its.protocol its.logical (shape_of its) (state flash).image
+    (record { law = law; slot = slot })
 FailsToMount state flash its new mount.Memory =
     (moment_of (state new) ≡ moment_of (state flash)) × Carries (state flash) (state new) false
 
 -- How many slots were read of a flash that was not mounted: where its image is not sound, as many as tell so, and else no
 -- more than a mount reads.
 abbrev pub ReadsUnmounted : {F : Type 0} → (F → FlashState) → F → Config → F → MountError → Type 0
-ReadsUnmounted state flash its new mount.Fault = (state new).reads ≤ (state flash).reads + mount_reads its (state flash)
+ReadsUnmounted state flash its new mount.Fault =
+    (state new).reads ≤ (state flash).reads + mount_reads its (state flash)
 ReadsUnmounted state flash its new (mount.Unsound law slot) =
     (state new).reads ≡ read_more (slots_of (state flash).shape
-    + reads_again (records_in its.protocol (state flash).image) (record { law = law; slot = slot })) (state flash).reads
-ReadsUnmounted state flash its new mount.Memory = (state new).reads ≤ (state flash).reads + mount_reads its (state flash)
+    + reads_again (records_in its.protocol (state flash).image) (record { law = law; slot = slot }))
+    (state flash).reads
+ReadsUnmounted state flash its new mount.Memory =
+    (state new).reads ≤ (state flash).reads + mount_reads its (state flash)
 
 -- The tables are those of the image, which stays.
-pub record StoresOpened {F : Type 0} (state : F → FlashState) (flash : F) (its : Config) (s : Stored F) : Type 0 where
+pub record StoresOpened {F : Type 0} (state : F → FlashState) (flash : F) (its : Config)
+    (s : Stored F) : Type 0 where
   pub tables : IsOpened its (state flash).image s.noted s.table
   pub unsure : s.unsure ≡ unsure.Nothing
   pub moment : moment_of (state s.flash) ≡ moment_of (state flash)

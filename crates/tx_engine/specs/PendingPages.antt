@@ -7,17 +7,19 @@ use Rattle.tx_engine.specs.OpenTable.{next_name}
 use Rattle.tx_engine.specs.declared.pending.Opened.{Opened}
 use Rattle.tx_engine.specs.declared.pending.PendingPage.{PendingPage}
 
-abbrev pub write_of : PendingPage → PageWrite
-write_of p = record { page = p.name.page; bytes = p.bytes.items }
+abbrev pub write_held : PendingPage → PageWrite
+write_held p = record { page = p.name.page; bytes = p.bytes.items }
 
 -- how many pages these transactions have
-abbrev pub pages_of : List Opened → ℕ
-pages_of opened = sum_by (λ o. o.pages) opened
+abbrev pub pages_held : List Opened → ℕ
+pages_held opened = sum_by (λ o. o.pages) opened
 
 -- the pages of a batch came behind the others, each with its next name, in rooms that were free
-pub record HoldsPages (n : Noted) (old new : Vec PendingPage Global) (rooms rooms' : Vec (Vec ℕ Global) Global) (batch : Writes) (held : List PendingPage) : Type 0 where
+pub record HoldsPages (n : Noted) (old new : Vec PendingPage Global)
+    (rooms rooms' : Vec (Vec ℕ Global) Global) (batch : Writes)
+    (held : List PendingPage) : Type 0 where
   pub behind : new.items ≡ old.items ++ held
-  pub writes : map write_of held ≡ batch.entries
+  pub writes : map write_held held ≡ batch.entries
   pub names : map (λ p. p.name) held ≡ map (next_name n) batch.entries
   pub whole : All (λ p. length p.bytes.items ≡ batch.page_bytes) held
   pub fewer : length rooms'.items + length held ≡ length rooms.items
@@ -26,7 +28,8 @@ pub record HoldsPages (n : Noted) (old new : Vec PendingPage Global) (rooms room
   pub sizes : All (λ r. length r.items ≡ batch.page_bytes) rooms'.items
 
 -- so many pages went, from an index on, and their rooms are free
-pub record FreesPages (old new : Vec PendingPage Global) (rooms rooms' : Vec (Vec ℕ Global) Global) (first count : ℕ) : Type 0 where
+pub record FreesPages (old new : Vec PendingPage Global) (rooms rooms' : Vec (Vec ℕ Global) Global)
+    (first count : ℕ) : Type 0 where
   pub left : new.items ≡ take first old.items ++ drop (first + count) old.items
   pub freed : rooms'.items ≡ rooms.items ++ map (λ p. p.bytes) (take count (drop first old.items))
   pub capacity : vec_capacity new ≡ vec_capacity old

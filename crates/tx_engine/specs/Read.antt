@@ -18,10 +18,13 @@ use Rattle.tx_engine.specs.declared.read.ReadError.TheVariants as failed
 
 -- a read of a page answers as the array has it; only a page that is not blank may meet a fault
 abbrev pub ReadsPage : ℕ → Pages → ℕ → List ℕ → Result ReadAnswer ReadError → Type 0
-ReadsPage logical pages page bytes (Ok answer.Blank) = (page < logical) × (page_at pages page ≡ None)
-ReadsPage logical pages page bytes (Ok answer.Page) = (page < logical) × (page_at pages page ≡ Some bytes)
+ReadsPage logical pages page bytes (Ok answer.Blank) =
+    (page < logical) × (page_at pages page ≡ None)
+ReadsPage logical pages page bytes (Ok answer.Page) =
+    (page < logical) × (page_at pages page ≡ Some bytes)
 ReadsPage logical pages page bytes (Err failed.Range) = logical ≤ page
-ReadsPage logical pages page bytes (Err failed.Fault) = (page < logical) × IsSome (page_at pages page)
+ReadsPage logical pages page bytes (Err failed.Fault) =
+    (page < logical) × IsSome (page_at pages page)
 
 -- the slot from which a page is read, if it has a current record: the home of that, and, while it is not known whether a
 -- collected block was erased, its lowest slot outside that block
@@ -34,13 +37,16 @@ read_place n (unsure.VictimErase block) page = slot_off n block.0 (current_name_
 
 -- What a read of a page does to a flash and to the bytes of its room: nothing where the page is blank or there is
 -- no such page, and else one read of the slot in this place.
-abbrev pub ReadsFlash : {F : Type 0} → (F → FlashState) → Option ℕ → F → F → List ℕ → List ℕ → Result ReadAnswer ReadError → Type 0
+abbrev pub ReadsFlash : {F : Type 0} → (F → FlashState) → Option ℕ → F → F → List ℕ → List ℕ →
+    Result ReadAnswer ReadError → Type 0
 ReadsFlash state place old new before after (Ok answer.Blank) = (new ≡ old) × (after ≡ before)
 ReadsFlash state place old new before after (Ok answer.Page) =
-    (at : ℕ) × (place ≡ Some at) × (spare : List ℕ) × (how : Seen) × Reads (state old) (state new) at after spare (Ok how)
+    (at : ℕ) × (place ≡ Some at) × (spare : List ℕ) × (how : Seen)
+    × Reads (state old) (state new) at after spare (Ok how)
 ReadsFlash state place old new before after (Err failed.Range) = (new ≡ old) × (after ≡ before)
 ReadsFlash state place old new before after (Err failed.Fault) =
-    (at : ℕ) × (place ≡ Some at) × (spare : List ℕ) × (broken : Broken) × Reads (state old) (state new) at after spare (Err broken)
+    (at : ℕ) × (place ≡ Some at) × (spare : List ℕ) × (broken : Broken)
+    × Reads (state old) (state new) at after spare (Err broken)
 
 -- a slot shows the bytes that are known of a page
 pub record ShowsKnown (s : FlashState) (n : Noted) (page at : ℕ) : Type 0 where
@@ -49,9 +55,11 @@ pub record ShowsKnown (s : FlashState) (n : Noted) (page at : ℕ) : Type 0 wher
 
 -- A read of the current record of a page: its bytes, by one read of its place; a page without one is answered without the
 -- flash.
-abbrev pub ReadsKnown : {F : Type 0} → (F → FlashState) → Stored F → Stored F → ℕ → List ℕ → List ℕ → Result Bool Broken → Type 0
+abbrev pub ReadsKnown : {F : Type 0} → (F → FlashState) → Stored F → Stored F → ℕ → List ℕ →
+    List ℕ → Result Bool Broken → Type 0
 ReadsKnown state old new page before after (Ok false) =
-    (page_known old.noted (state old.flash).image page ≡ None) × (new.flash ≡ old.flash) × (after ≡ before)
+    (page_known old.noted (state old.flash).image page ≡ None) × (new.flash ≡ old.flash)
+    × (after ≡ before)
 ReadsKnown state old new page before after (Ok true) =
     (page_known old.noted (state old.flash).image page ≡ Some after)
     × ((at : ℕ) × (read_place old.noted old.unsure page ≡ Some at) × (spare : List ℕ) × (how : Seen)

@@ -26,7 +26,8 @@ settlement_of state s = settlement s.noted s.table (state s.flash).image s.unsur
 
 -- a device with the tables that are known then
 abbrev pub with_settlement : {F : Type 0} → (F → FlashState) → Standing F → Standing F
-with_settlement state s = record s { noted = (settlement_of state s).noted; table = (settlement_of state s).table }
+with_settlement state s =
+    record s { noted = (settlement_of state s).noted; table = (settlement_of state s).table }
 
 -- A device has the tables that are known then, save for what is pinned.
 pub record HasTables {F : Type 0} (found : Settlement) (s : Standing F) : Type 0 where
@@ -38,7 +39,8 @@ pub record HasTables {F : Type 0} (found : Settlement) (s : Standing F) : Type 0
 pub record StaysUnread {F : Type 0} (state : F → FlashState) (old new : Standing F) : Type 0 where
   pub stays : new ≡ record old { flash = new.flash }
   pub moment : moment_of (state new.flash) ≡ moment_of (state old.flash)
-  pub reads : ReadsAtMost (slots_read old.noted old.unsure) (state old.flash).reads (state new.flash).reads
+  pub reads : ReadsAtMost (slots_read old.noted old.unsure) (state old.flash).reads
+      (state new.flash).reads
 
 -- no record is noted of a name that had none, but for this name
 abbrev pub AddsOnly : Link → Noted → Noted → Type 0
@@ -62,11 +64,13 @@ pub record IsSettled {F : Type 0} (there : Bool) (old new : Standing F) : Type 0
   pub sure : new.unsure ≡ unsure.Nothing
 
 -- What making room leaves: the device stands for the same array, no version changed, and what is noted is kept.
-pub record IsLeft {F : Type 0} (state : F → FlashState) (old new : Standing F) (broken : Bool) : Type 0 where
+pub record IsLeft {F : Type 0} (state : F → FlashState) (old new : Standing F)
+    (broken : Bool) : Type 0 where
   pub stands : Stands state new
   pub machine : new.machine ≡ old.machine
   pub exits : Exits state old new broken
-  pub versions : (page : ℕ) → page < old.config.logical → current_of new.noted page ≡ current_of old.noted page
+  pub versions : (page : ℕ) → page < old.config.logical →
+      current_of new.noted page ≡ current_of old.noted page
   pub kept : Preserves old.noted new.noted
 
 -- whether the transaction writes its last page next
@@ -87,21 +91,27 @@ pub record WritesNext {F : Type 0} (old new : Standing F) (e : Entry) : Type 0 w
   pub rises : VersionsRise old new (next_writes e)
 
 -- It was not: the array is as it was, and the transaction may be in doubt where its last page was being written.
-pub record WriteFails {F : Type 0} (old new : Standing F) (before after : OpenTable) (at : ℕ) : Type 0 where
+pub record WriteFails {F : Type 0} (old new : Standing F) (before after : OpenTable)
+    (at : ℕ) : Type 0 where
   pub pages : new.machine.pages ≡ old.machine.pages
   pub rises : VersionsRise old new []
   pub kept : Preserves old.noted new.noted
   pub opens : (after ≡ before)
-      ⊎ (IsAtLast (opening_at before at).entry × (after ≡ with_opening before at (with_mark (opening_at before at) Doubt)))
+      ⊎ (IsAtLast (opening_at before at).entry
+      × (after ≡ with_opening before at (with_mark (opening_at before at) Doubt)))
 
 -- How an open transaction of a settled device goes on: it writes a page or is done, or a fault leaves it plain, or in doubt.
 abbrev pub Advances : ArrayState → ℕ → Entry → Result Progress Broken → ArrayState → Type 0
 Advances s tag e (Ok progress) new = GoesOn s tag e progress new
 Advances s tag e (Err broken) new =
-    (e.mark ≡ Plain) × ((new ≡ s) ⊎ (IsAtLast e × (new ≡ record s { entries = with_entry tag (record e { mark = Doubt }) s.entries })))
+    (e.mark ≡ Plain)
+    × ((new ≡ s) ⊎
+    (IsAtLast e ×
+    (new ≡ record s { entries = with_entry tag (record e { mark = Doubt }) s.entries })))
 
 -- which versions rise where it does: those of its pages where it is done and was not whole before
-abbrev pub AdvanceRises : {F : Type 0} → Standing F → Standing F → Entry → Result Progress Broken → Type 0
+abbrev pub AdvanceRises : {F : Type 0} → Standing F → Standing F → Entry → Result Progress Broken →
+    Type 0
 AdvanceRises old new e (Ok progress) = VersionsRise old new (done_writes (Some e) (Ok progress))
 AdvanceRises old new e (Err broken) = VersionsRise old new []
 
@@ -121,11 +131,13 @@ IsReady o = (o.entry.mark ≡ Whole) ⊎ ((o.entry.mark ≡ Plain) × (o.entry.d
 -- It goes on so: a page more is written, or it was whole and is done.
 abbrev pub Counts : ArrayState → ℕ → Entry → Progress → ArrayState → Type 0
 Counts s tag e (progress.Wrote done all) new = GoesOn s tag e (progress.Wrote done all) new
-Counts s tag e progress.Done new = (e.mark ≡ Whole) × (new ≡ record s { entries = without tag s.entries })
+Counts s tag e progress.Done new =
+    (e.mark ≡ Whole) × (new ≡ record s { entries = without tag s.entries })
 
 -- A collection that failed: the place could not be read; or the blocks are as they were known then, and what was noted then
 -- is kept.
 abbrev pub CollectFails : {F : Type 0} → (F → FlashState) → Standing F → Standing F → Type 0
 CollectFails state old new =
     StaysUnread state old new
-    ⊎ ((new.table ≡ (settlement_of state old).table) × Preserves (settlement_of state old).noted new.noted)
+    ⊎ ((new.table ≡ (settlement_of state old).table)
+    × Preserves (settlement_of state old).noted new.noted)

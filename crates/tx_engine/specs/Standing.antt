@@ -18,7 +18,7 @@ use Rattle.collector.specs.declared.unsure.Unsure.{Unsure}
 use Rattle.collector.specs.declared.unsure.Unsure.TheVariants as unsure
 use Rattle.collector.specs.Known.{array_known}
 use Rattle.collector.specs.Matches.{Matches}
-use Rattle.tx_engine.specs.ArrayState.{ArrayState, Entry, is_doubted, pages_in}
+use Rattle.tx_engine.specs.ArrayState.{ArrayState, Entry, is_doubted, pending_pages}
 use Rattle.tx_engine.specs.declared.mark.Mark.{Mark}
 use Rattle.tx_engine.specs.declared.mark.Mark.TheVariants.{Plain, Doubt, Whole}
 use Rattle.tx_engine.specs.Submit.{Limits}
@@ -68,8 +68,10 @@ pub record IsUnderWay (image : List Contents) (n : Noted) (e : Entry) (x : Namin
   pub least : e.done ≤ x.there
   pub most : x.there ≤ e.done + 1
   pub short : x.there < length x.names
-  pub noted : (k : ℕ) → k < length x.names → is_present (found_in n.notes) (name_at x k) ≡ nat_lt k x.there
-  pub bytes : (k : ℕ) → k < x.there → bytes_at (written_in n.config.protocol image) (name_at x k) ≡ Some (write_at e k).bytes
+  pub noted : (k : ℕ) → k < length x.names →
+      is_present (found_in n.notes) (name_at x k) ≡ nat_lt k x.there
+  pub bytes : (k : ℕ) → k < x.there →
+      bytes_at (written_in n.config.protocol image) (name_at x k) ≡ Some (write_at e k).bytes
 
 -- what is so of a transaction with this mark: one in doubt was writing its last page, and the names of a whole one are current
 abbrev pub IsAsMarked : List Contents → Noted → Entry → Naming → Mark → Type 0
@@ -83,7 +85,8 @@ pub record IsOpenAs (image : List Contents) (n : Noted) (e : Entry) (x : Naming)
 
 -- The record whose program was broken is the next one of an open transaction, which is in doubt exactly where it is its
 -- last. Where the slot is complete it has the bytes of the page.
-pub record IsOwn (image : List Contents) (n : Noted) (entries : List Entry) (namings : List Naming) (at : Slot) (rec : Rec) : Type 0 where
+pub record IsOwn (image : List Contents) (n : Noted) (entries : List Entry) (namings : List Naming)
+    (at : Slot) (rec : Rec) : Type 0 where
   pub place : ℕ
   pub entry : Entry
   pub naming : Naming
@@ -94,17 +97,21 @@ pub record IsOwn (image : List Contents) (n : Noted) (entries : List Entry) (nam
   pub next : IsNextRecord n rec
   pub its : next.names ≡ naming.names
   pub named : name_of rec ≡ name_at naming entry.done
-  pub bytes : (bytes spare : List ℕ) → slot_at image at.0 ≡ complete bytes spare → bytes ≡ (write_at entry entry.done).bytes
+  pub bytes : (bytes spare : List ℕ) → slot_at image at.0 ≡ complete bytes spare →
+      bytes ≡ (write_at entry entry.done).bytes
   pub doubt : is_doubted entry.mark ≡ (entry.done + 1 == length entry.writes)
-  pub others : (k : ℕ) (e : Entry) → k ≢ place → slice_get entries k ≡ Some e → is_doubted e.mark ≡ false
+  pub others : (k : ℕ) (e : Entry) → k ≢ place → slice_get entries k ≡ Some e →
+      is_doubted e.mark ≡ false
 
 -- which transaction is in doubt: at most one, whose last page was being programmed
 abbrev pub DoubtsAs : List Contents → Noted → List Entry → List Naming → Unsure → Type 0
 DoubtsAs image n entries namings (unsure.Own at rec) = IsOwn image n entries namings at rec
 DoubtsAs image n entries namings unsure.Nothing = All (λ e. is_doubted e.mark ≡ false) entries
-DoubtsAs image n entries namings (unsure.Copy from to) = All (λ e. is_doubted e.mark ≡ false) entries
+DoubtsAs image n entries namings (unsure.Copy from to) =
+    All (λ e. is_doubted e.mark ≡ false) entries
 DoubtsAs image n entries namings unsure.SpareErase = All (λ e. is_doubted e.mark ≡ false) entries
-DoubtsAs image n entries namings (unsure.VictimErase block) = All (λ e. is_doubted e.mark ≡ false) entries
+DoubtsAs image n entries namings (unsure.VictimErase block) =
+    All (λ e. is_doubted e.mark ≡ false) entries
 
 -- A device stands for its array: its tables match its flash, the array is the one that is known of it, and each open
 -- transaction is as it is marked. Their names, and no others, are pinned.
@@ -116,5 +123,6 @@ pub record Stands {F : Type 0} (state : F → FlashState) (s : Standing F) : Typ
   pub doubt : DoubtsAs (state s.flash).image s.noted s.machine.entries s.namings s.unsure
   pub tags : AllPairs (λ a b. a.tag ≢ b.tag) s.machine.entries
   pub apart : AllPairs (λ a b. ShareNoPage a.names b.names) s.namings
-  pub few : pages_in s.machine.entries ≤ s.config.pending
-  pub pinned : (name : Link) → Contains (pinned_names s.noted.pins) name ↔ Any (λ x. Contains x.names name) s.namings
+  pub few : pending_pages s.machine.entries ≤ s.config.pending
+  pub pinned : (name : Link) → Contains (pinned_names s.noted.pins) name ↔
+      Any (λ x. Contains x.names name) s.namings

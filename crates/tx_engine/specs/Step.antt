@@ -41,20 +41,24 @@ IsAtLast e = e.done + 1 ≡ length e.writes
 -- last page, with which the array takes all its pages at once.
 abbrev pub GoesOn : ArrayState → ℕ → Entry → Progress → ArrayState → Type 0
 GoesOn s tag e (progress.Wrote done all) new =
-    (e.mark ≡ Plain) × (e.done + 1 < length e.writes) × (done ≡ e.done + 1) × (all ≡ length e.writes)
+    (e.mark ≡ Plain) × (e.done + 1 < length e.writes) × (done ≡ e.done + 1)
+    × (all ≡ length e.writes)
     × (new ≡ record s { entries = with_entry tag (record e { done = e.done + 1 }) s.entries })
 GoesOn s tag e progress.Done new =
     ((e.mark ≡ Whole) × (new ≡ record s { entries = without tag s.entries }))
-    ⊎ ((e.mark ≡ Plain) × IsAtLast e × (new ≡ record { pages = put s.pages e.writes; entries = without tag s.entries }))
+    ⊎ ((e.mark ≡ Plain) × IsAtLast e
+    × (new ≡ record { pages = put s.pages e.writes; entries = without tag s.entries }))
 
 -- A fault leaves the state as before settling, or settled; and a transaction that was writing its last page
 -- may then be in doubt.
 abbrev pub FaultLeaves : ArrayState → ArrayState → ℕ → Entry → ArrayState → Type 0
 FaultLeaves old mid tag e new =
     (new ≡ old) ⊎ ((e.mark ≡ Plain) × ((new ≡ mid)
-    ⊎ (IsAtLast e × (new ≡ record mid { entries = with_entry tag (record e { mark = Doubt }) mid.entries }))))
+    ⊎ (IsAtLast e
+    × (new ≡ record mid { entries = with_entry tag (record e { mark = Doubt }) mid.entries }))))
 
-abbrev pub StepGives : ArrayState → ArrayState → ℕ → Entry → Result Progress StepError → ArrayState → Type 0
+abbrev pub StepGives : ArrayState → ArrayState → ℕ → Entry → Result Progress StepError →
+    ArrayState → Type 0
 StepGives old mid tag e (Ok progress) new = GoesOn mid tag e progress new
 StepGives old mid tag e (Err failed.Unknown) new = ⊥
 StepGives old mid tag e (Err failed.Fault) new = FaultLeaves old mid tag e new
@@ -68,9 +72,12 @@ StepsAs there old new tag result =
 abbrev pub Steps : ArrayState → ArrayState → ℕ → Result Progress StepError → Type 0
 Steps old new tag result = (there : Bool) × StepsAs there old new tag result
 
-abbrev pub AbortGives : ArrayState → ArrayState → ℕ → Entry → Result Aborted StepError → ArrayState → Type 0
-AbortGives old mid tag e (Ok aborted.Gone) new = (e.mark ≢ Whole) × (new ≡ record mid { entries = without tag mid.entries })
-AbortGives old mid tag e (Ok aborted.Late) new = (e.mark ≡ Whole) × (new ≡ record mid { entries = without tag mid.entries })
+abbrev pub AbortGives : ArrayState → ArrayState → ℕ → Entry → Result Aborted StepError →
+    ArrayState → Type 0
+AbortGives old mid tag e (Ok aborted.Gone) new =
+    (e.mark ≢ Whole) × (new ≡ record mid { entries = without tag mid.entries })
+AbortGives old mid tag e (Ok aborted.Late) new =
+    (e.mark ≡ Whole) × (new ≡ record mid { entries = without tag mid.entries })
 AbortGives old mid tag e (Err failed.Unknown) new = ⊥
 AbortGives old mid tag e (Err failed.Fault) new = new ≡ old
 
@@ -92,4 +99,5 @@ MayTake old Q new = (new ≡ old) ⊎ ((e : Entry) × Q e × (new ≡ put old e.
 -- transaction is open. What was in doubt may have been there, and then one of `Q`.
 abbrev pub CutLeaves : (Entry → Type 0) → ArrayState → ArrayState → Type 0
 CutLeaves Q old new =
-    (there : Bool) × MayTake (settled there old).pages (λ e. Contains old.entries e × Q e) new.pages × (new.entries ≡ [])
+    (there : Bool) × MayTake (settled there old).pages (λ e. Contains old.entries e × Q e) new.pages
+    × (new.entries ≡ [])

@@ -8,6 +8,7 @@ use Rattle.tx_engine.specs.declared.store.Store.TheInside.{Inside}
 abbrev pub stored_of : {F R : Type 0} → Inside F R → Stored F
 stored_of s = record { flash = s.flash; noted = s.index; table = s.blocks; unsure = s.unsure }
 
-pub record IsStoreKept {F R : Type 0} (state : F → FlashState) (protocol : Protocol) (s : Inside F R) : Type 0 where
+pub record IsStoreKept {F R : Type 0} (state : F → FlashState) (protocol : Protocol)
+    (s : Inside F R) : Type 0 where
   pub stored : IsStored state protocol (stored_of s)
   pub room : length s.room.items ≡ s.index.config.page_bytes

@@ -2,7 +2,7 @@
 use Rattle.std.specs.Prelude.{◌≡◌, ℕ, ◌-◌, ◌==◌, ◌++◌, Bool, List, [], ◌∷◌, length, nat_lt, nat_le, find, Option, option_map, None, Some, Result, Ok, Err, if◌then◌else◌}
 use Rattle.std.specs.List.{list_any}
 use Rattle.tx_types.specs.Batch.{PageWrite}
-use Rattle.tx_engine.specs.ArrayState.{ArrayState, Entry, has_tag, pages_in, opening}
+use Rattle.tx_engine.specs.ArrayState.{ArrayState, Entry, has_tag, pending_pages, opening}
 use Rattle.tx_engine.specs.declared.submit.SubmitError.{SubmitError}
 use Rattle.tx_engine.specs.declared.submit.SubmitError.TheVariants as refused
 
@@ -35,24 +35,28 @@ empty (w ∷ ws) = None
 
 -- the first page that is not below the number of logical pages
 abbrev pub range : ℕ → List PageWrite → Option SubmitError
-range logical = first_refusal (λ w. if nat_lt w.page logical then None else Some (refused.Range w.page))
+range logical =
+    first_refusal (λ w. if nat_lt w.page logical then None else Some (refused.Range w.page))
 
 -- the first page that stood earlier in the batch, where `earlier` are the writes before these
 abbrev pub repeated : List PageWrite → List PageWrite → Option SubmitError
 repeated earlier [] = None
 repeated earlier (w ∷ ws) =
-    if list_any (is_of w.page) earlier then Some (refused.Repeated w.page) else repeated (earlier ++ w ∷ []) ws
+    if list_any (is_of w.page) earlier then Some (refused.Repeated w.page)
+    else repeated (earlier ++ w ∷ []) ws
 
 abbrev pub tag_used : ℕ → List Entry → Option SubmitError
 tag_used tag entries = if list_any (has_tag tag) entries then Some refused.Tag else None
 
 -- the first page that belongs to an open transaction, and that transaction's tag
 abbrev pub overlap : List Entry → List PageWrite → Option SubmitError
-overlap entries = first_refusal (λ w. option_map (λ e. refused.Overlap w.page e.tag) (find (is_owner w.page) entries))
+overlap entries =
+    first_refusal
+    (λ w. option_map (λ e. refused.Overlap w.page e.tag) (find (is_owner w.page) entries))
 
 -- how many pages more may be pending
 abbrev pub free_of : ℕ → List Entry → ℕ
-free_of pending entries = pending - pages_in entries
+free_of pending entries = pending - pending_pages entries
 
 abbrev pub full : ℕ → List PageWrite → Option SubmitError
 full free writes = if nat_le (length writes) free then None else Some (refused.Full free)
@@ -65,7 +69,8 @@ spent_page spent = first_refusal (λ w. if spent w.page then Some (refused.Spent
 abbrev pub first_refusals : Limits → List Entry → ℕ → List PageWrite → Option SubmitError
 first_refusals limits entries tag writes =
     or_else (empty writes) (or_else (range limits.logical writes) (or_else (repeated [] writes)
-    (or_else (tag_used tag entries) (or_else (overlap entries writes) (full (free_of limits.pending entries) writes)))))
+    (or_else (tag_used tag entries)
+    (or_else (overlap entries writes) (full (free_of limits.pending entries) writes)))))
 
 -- the refusal of a batch, or none where it is opened
 abbrev pub refusal : Limits → (ℕ → Bool) → List Entry → ℕ → List PageWrite → Option SubmitError
@@ -83,6 +88,7 @@ opened None tag writes s = record s { entries = s.entries ++ opening tag writes 
 opened (Some e) tag writes s = s
 
 -- a transaction is submitted
-pub record Submits (limits : Limits) (spent : ℕ → Bool) (old new : ArrayState) (tag : ℕ) (writes : List PageWrite) (result : Result (Unit {0}) SubmitError) : Type 0 where
+pub record Submits (limits : Limits) (spent : ℕ → Bool) (old new : ArrayState) (tag : ℕ)
+    (writes : List PageWrite) (result : Result (Unit {0}) SubmitError) : Type 0 where
   pub answers : result ≡ answer (refusal limits spent old.entries tag writes)
   pub opens : new ≡ opened (refusal limits spent old.entries tag writes) tag writes old

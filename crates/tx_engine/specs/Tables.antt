@@ -23,7 +23,8 @@ standing_in state s t = record {
 abbrev pub standing_of : {F R : Type 0} → (F → FlashState) → Inside F R → Standing F
 standing_of state d = standing_in state d.store d.openings
 
-pub record IsStanding {F R : Type 0} (state : F → FlashState) (protocol : Protocol) (d : Inside F R) : Type 0 where
+pub record IsStanding {F R : Type 0} (state : F → FlashState) (protocol : Protocol)
+    (d : Inside F R) : Type 0 where
   pub stands : Stands state (standing_of state d)
   pub rule : d.store.noted.config.protocol ≡ protocol
   pub page_bytes : d.openings.page_bytes ≡ d.store.noted.config.page_bytes

@@ -24,13 +24,17 @@ taken tag e s = record { pages = put s.pages e.writes; entries = without tag s.e
 -- the answer to a step of the transaction that was found
 abbrev pub step_answer : Option Entry → Result Progress StepError
 step_answer None = Err failed.Unknown
-step_answer (Some e) = if has_more e then Ok (progress.Wrote (e.done + 1) (length e.writes)) else Ok progress.Done
+step_answer (Some e) =
+    if has_more e then Ok (progress.Wrote (e.done + 1) (length e.writes)) else Ok progress.Done
 
 -- and the state that it leaves
 abbrev pub stepped : Option Entry → ℕ → ArrayState → ArrayState
 stepped None tag s = s
 stepped (Some e) tag s =
-    if has_more e then record s { entries = with_entry tag (record e { done = e.done + 1 }) s.entries } else taken tag e s
+    if has_more e then record s {
+      entries =
+          with_entry tag (record e { done = e.done + 1 }) s.entries;
+    } else taken tag e s
 
 -- the answer to the last of the steps of a transaction, and the state that they leave
 abbrev pub finish_answer : Option Entry → Result Progress StepError

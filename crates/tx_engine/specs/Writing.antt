@@ -38,10 +38,12 @@ next_of s tag = option_map (λ (e, x). name_at x e.done) (open_of s tag)
 -- settle.
 pub record WritesNothing {F : Type 0} (state : F → FlashState) (old new : Standing F) : Type 0 where
   pub tables : HasTables (settlement_of state old) new
-  pub reads : (state new.flash).reads ≡ reads_after (slots_read old.noted old.unsure) (state old.flash).reads
+  pub reads : (state new.flash).reads
+      ≡ reads_after (slots_read old.noted old.unsure) (state old.flash).reads
 
 -- A slot is found for a record: where a block has room it is the next one, and else the next one after a collection.
-pub record FindsSlot (n : Noted) (t : BlockTable) (n' : Noted) (t' : BlockTable) (at : Slot) : Type 0 where
+pub record FindsSlot (n : Noted) (t : BlockTable) (n' : Noted) (t' : BlockTable)
+    (at : Slot) : Type 0 where
   pub direct : (IsFull t → ⊥) → (next_slot t ≡ Some at) × (n' ≡ n) × (t' ≡ after_next_slot t)
   pub collects : IsFull t → CollectsForRoom n t n' t' at
 
@@ -49,12 +51,14 @@ pub record FindsSlot (n : Noted) (t : BlockTable) (n' : Noted) (t' : BlockTable)
 -- nothing was done. Then a slot was found. There the record of this name was programmed, with this link and the bytes of its page,
 -- and it is noted there. That program came last. Where nothing had to go and a block had room, it is all that was done to the
 -- flash.
-pub record WritesRecord {F : Type 0} (state : F → FlashState) (known new : Standing F) (name link : Link) (bytes : List ℕ) : Type 0 where
+pub record WritesRecord {F : Type 0} (state : F → FlashState) (known new : Standing F)
+    (name link : Link) (bytes : List ℕ) : Type 0 where
   pub cleared : Noted
   pub cleared_table : BlockTable
   pub kept : Preserves known.noted cleared
   pub turns : TreatsInTurn name.page name.version known.noted known.table cleared cleared_table
-  pub idle : blocks_to_go known.noted name.page name.version ≡ 0 → (cleared ≡ known.noted) × (cleared_table ≡ known.table)
+  pub idle : blocks_to_go known.noted name.page name.version ≡ 0 →
+      (cleared ≡ known.noted) × (cleared_table ≡ known.table)
   pub clear : block_to_go cleared name.page name.version ≡ None
   pub open_noted : Noted
   pub open_table : BlockTable
@@ -63,26 +67,36 @@ pub record WritesRecord {F : Type 0} (state : F → FlashState) (known new : Sta
   pub rec : Rec
   pub named : name_of rec ≡ name
   pub linked : rec.next ≡ link
-  pub back : rec.back ≡ back_version open_noted.config.protocol (found_in open_noted.notes) open_noted.config.logical name.page
+  pub back : rec.back
+      ≡ back_version open_noted.config.protocol
+      (found_in open_noted.notes) open_noted.config.logical name.page
   pub before : Moment
   pub moves : Moves (state known.flash).shape (moment_of (state known.flash)) false before
-  pub direct : blocks_to_go known.noted name.page name.version ≡ 0 → (IsFull known.table → ⊥) → before ≡ moment_of (state known.flash)
+  pub direct : blocks_to_go known.noted name.page name.version ≡ 0 → (IsFull known.table → ⊥) →
+      before ≡ moment_of (state known.flash)
   pub does : Does (state known.flash).shape before
-      (program at.0 bytes (spelling open_noted.config.protocol rec) ∷ []) (moment_of (state new.flash))
-  pub image : slot_at (state new.flash).image at.0 ≡ complete bytes (spelling open_noted.config.protocol rec)
+      (program at.0 bytes (spelling open_noted.config.protocol rec) ∷ [])
+      (moment_of (state new.flash))
+  pub image : slot_at (state new.flash).image at.0
+      ≡ complete bytes (spelling open_noted.config.protocol rec)
   pub noted : new.noted ≡ record (programmed open_noted at.0 rec) { pins = new.noted.pins }
   pub table : new.table ≡ with_slot open_table at.0
 
 -- what a step did that answered, of a transaction with these names: the record of its next page was there, or was written
-pub record BringsPage {F : Type 0} (state : F → FlashState) (old new : Standing F) (e : Entry) (x : Naming) : Type 0 where
-  pub there : IsThere (settlement_of state old).noted (name_at x e.done) → WritesNothing state old new
+pub record BringsPage {F : Type 0} (state : F → FlashState) (old new : Standing F) (e : Entry)
+    (x : Naming) : Type 0 where
+  pub there : IsThere (settlement_of state old).noted (name_at x e.done) →
+      WritesNothing state old new
   pub absent : (IsThere (settlement_of state old).noted (name_at x e.done) → ⊥) →
-      WritesRecord state (with_settlement state old) new (name_at x e.done) (name_at x (link_place e))
+      WritesRecord state (with_settlement state old) new (name_at x e.done)
+      (name_at x (link_place e))
       (write_at e e.done).bytes
 
 -- Which records a step notes: that of its next page at most. Where it failed the place could not be read, or what was known
 -- then is kept, and no record is new.
-abbrev pub StepNotes : {F : Type 0} → (F → FlashState) → Standing F → Standing F → ℕ → Result Progress StepError → Type 0
+abbrev pub StepNotes : {F : Type 0} → (F → FlashState) → Standing F → Standing F → ℕ →
+    Result Progress StepError → Type 0
 StepNotes state old new tag (Ok progress) =
     IfSome (next_of old tag) (λ name. AddsOnly name (settlement_of state old).noted new.noted)
-StepNotes state old new tag (Err e) = StaysUnread state old new ⊎ Preserves (settlement_of state old).noted new.noted
+StepNotes state old new tag (Err e) =
+    StaysUnread state old new ⊎ Preserves (settlement_of state old).noted new.noted

@@ -37,11 +37,15 @@ pub fn devices_stand<F: Flash, R: CommitRule>()
     ensures sound { (s : Standing F) → Stands F.state s → s.config.protocol ≡ R.kept →
         IsSoundImage R.kept s.config.logical (F.state s.flash).shape (F.state s.flash).image }
     ensures known { (s : Standing F) → Stands F.state s → s.config.protocol ≡ R.kept →
-        IsSoundImage R.kept s.config.logical (F.state s.flash).shape (known_image s.noted s.table.spare s.unsure (F.state s.flash).image)
-        × (array_in R.kept s.config.logical (known_image s.noted s.table.spare s.unsure (F.state s.flash).image) ≡ s.machine.pages) }
+        IsSoundImage R.kept s.config.logical (F.state s.flash).shape
+        (known_image s.noted s.table.spare s.unsure (F.state s.flash).image)
+        × (array_in R.kept s.config.logical
+        (known_image s.noted s.table.spare s.unsure (F.state s.flash).image)
+        ≡ s.machine.pages) }
     ensures array { (s : Standing F) → Stands F.state s → s.config.protocol ≡ R.kept →
         StandsFor s.machine (array_in R.kept s.config.logical (F.state s.flash).image) }
-    ensures records { (s : Standing F) → Stands F.state s → s.config.protocol ≡ R.kept → s.unsure ≡ unsure.Nothing →
+    ensures records { (s : Standing F) → Stands F.state s → s.config.protocol ≡ R.kept →
+        s.unsure ≡ unsure.Nothing →
         (records_in R.kept (F.state s.flash).image ≡ found_in s.noted.notes)
         × (array_in R.kept s.config.logical (F.state s.flash).image ≡ s.machine.pages) }
     ensures mentions { (s : Standing F) → Stands F.state s → s.config.protocol ≡ R.kept →
@@ -62,7 +66,8 @@ pub fn cuts_leave<F: Flash, R: CommitRule>()
     ensures settled { (old new : Standing F) (there : Bool) →
         Stands F.state new → new.config.protocol ≡ R.kept →
         (new.machine ≡ old.machine) ⊎ (new.machine ≡ settled there old.machine) →
-        CutLeaves (λ e. ⊥) old.machine (idle (array_in R.kept new.config.logical (F.state new.flash).image)) }
+        CutLeaves (λ e. ⊥) old.machine
+        (idle (array_in R.kept new.config.logical (F.state new.flash).image)) }
 {
     devices_stand::<F, R>();
 }

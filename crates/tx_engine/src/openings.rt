@@ -1,7 +1,8 @@
-ghost use Rattle.std.specs.Prelude.{◌≡◌, ◌+◌, ◌^◌, ◌<◌, ◌≤◌, ◌∷◌, ◌++◌, [], length, remove, position, All, IfOk};
+ghost use Rattle.std.specs.Prelude.{◌≡◌, ◌+◌, ◌<◌, ◌≤◌, ◌∷◌, ◌++◌, [], length, remove, position, All, IfOk};
 ghost use Rattle.tx_types.specs.Config.{IsConfig};
+ghost use Rattle.tx_types.specs.Limits.{max_version};
 ghost use Rattle.version_index.specs.Noted.{mention_of};
-ghost use Rattle.tx_engine.specs.ArrayState.{pages_in, has_tag, is_doubted};
+ghost use Rattle.tx_engine.specs.ArrayState.{pending_pages, has_tag, is_doubted};
 ghost use Rattle.tx_engine.specs.OpenTable.{IsOpenTable, opening_at, entries_of, begun, with_opening, with_done, with_mark, with_there};
 ghost use Rattle.tx_engine.specs.Standing.{name_at, write_at};
 ghost use Rattle.tx_engine.specs.Submit.{first_refusals};
@@ -45,7 +46,11 @@ impl Openings {
     /// With no transaction open.
     pub fn new(alloc: Global, config: Config) -> Result<Openings, Memory>
         requires { IsConfig config }
-        ensures { IfOk result (λ o. o ≡ record { page_bytes = config.page_bytes; pending = config.pending; all = [] }) }
+        ensures { IfOk result (λ o. o ≡ record {
+          page_bytes = config.page_bytes;
+          pending = config.pending;
+          all = [];
+        }) }
     {
         let most = config.pending as usize;
         Ok(Openings {
@@ -67,7 +72,7 @@ impl Openings {
 
     /// The number of the pages of all open transactions.
     pub fn pending(&self) -> u32
-        ensures { result ≡ pages_in (entries_of self.now) }
+        ensures { result ≡ pending_pages (entries_of self.now) }
     {
         self.pages.len() as u32
     }
@@ -94,10 +99,10 @@ impl Openings {
     pub fn open<R: CommitRule>(&mut self, tag: u32, batch: &Batch, index: &Index<R>)
         requires pages { batch.now.page_bytes ≡ self.old.page_bytes }
         requires some { 0 < length batch.now.entries }
-        requires room { pages_in (entries_of self.old) + length batch.now.entries ≤ self.old.pending }
+        requires free { pending_pages (entries_of self.old) + length batch.now.entries ≤ self.old.pending }
         requires each { All (λ o. 0 < length o.entry.writes) self.old.all }
         requires range { All (λ w. w.page < index.now.config.logical) batch.now.entries }
-        requires unspent { All (λ w. mention_of index.now w.page < 2 ^ 62) batch.now.entries }
+        requires unspent { All (λ w. mention_of index.now w.page < max_version) batch.now.entries }
         ensures { self.new ≡ record self.old {
           all = self.old.all ++ begun index.now tag batch.now.entries ∷ [];
         } }

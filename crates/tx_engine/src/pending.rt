@@ -1,9 +1,10 @@
-ghost use Rattle.std.specs.Prelude.{◌≡◌, ◌+◌, ◌^◌, ◌<◌, ◌≤◌, ◌==◌, List, length, take, position, All, IfOk, vec_capacity};
+ghost use Rattle.std.specs.Prelude.{◌≡◌, ◌+◌, ◌<◌, ◌≤◌, ◌==◌, List, length, take, position, All, IfOk, vec_capacity};
 ghost use Rattle.tx_types.specs.Config.{IsConfig};
+ghost use Rattle.tx_types.specs.Limits.{max_version};
 ghost use Rattle.version_index.specs.Noted.{mention_of};
 ghost use Rattle.tx_engine.specs.ArrayState.{is_doubted};
 ghost use Rattle.tx_engine.specs.declared.pending.PendingPage.{PendingPage};
-ghost use Rattle.tx_engine.specs.PendingPages.{pages_of, HoldsPages, FreesPages};
+ghost use Rattle.tx_engine.specs.PendingPages.{pages_held, HoldsPages, FreesPages};
 
 use crate::Mark;
 use record_list::CommitRule;
@@ -37,7 +38,8 @@ pub fn rooms(alloc: Global, config: Config) -> Result<Vec<Vec<u8>>, Memory>
     requires { IsConfig config }
     ensures count { IfOk result (λ rooms. length rooms.items ≡ config.pending) }
     ensures capacity { IfOk result (λ rooms. config.pending ≤ vec_capacity rooms) }
-    ensures sizes { IfOk result (λ rooms. All (λ r. length r.items ≡ config.page_bytes) rooms.items) }
+    ensures sizes { IfOk result
+        (λ rooms. All (λ r. length r.items ≡ config.page_bytes) rooms.items) }
 {
     let mut rooms = Vec::with_capacity(alloc, config.pending as usize)?;
     for _ in 0..config.pending {
@@ -49,8 +51,8 @@ pub fn rooms(alloc: Global, config: Config) -> Result<Vec<Vec<u8>>, Memory>
 /// How many pages stand before those of the transaction at this index.
 pub fn pages_before(opened: &[Opened], at: usize) -> usize
     requires within { at ≤ length opened.now }
-    requires few { pages_of opened.now ≤ 256 }
-    ensures { result ≡ pages_of (take at opened.now) }
+    requires few { pages_held opened.now ≤ 256 }
+    ensures { result ≡ pages_held (take at opened.now) }
 {
     opened[..at].iter().map(|o| o.pages as usize).sum()
 }
@@ -88,8 +90,9 @@ pub fn hold_pages<R: CommitRule>(
     requires capacity { length pages.old.items + length rooms.old.items ≤ vec_capacity pages.old }
     requires sizes { All (λ r. length r.items ≡ batch.now.page_bytes) rooms.old.items }
     requires range { All (λ w. w.page < index.now.config.logical) batch.now.entries }
-    requires unspent { All (λ w. mention_of index.now w.page < 2 ^ 62) batch.now.entries }
-    ensures { (held : List PendingPage) × HoldsPages index.now pages.old pages.new rooms.old rooms.new batch.now held }
+    requires unspent { All (λ w. mention_of index.now w.page < max_version) batch.now.entries }
+    ensures { (held : List PendingPage)
+        × HoldsPages index.now pages.old pages.new rooms.old rooms.new batch.now held }
 {
     for i in 0..batch.len() {
         let mut bytes = rooms.pop().unwrap();

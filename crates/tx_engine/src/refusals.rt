@@ -1,7 +1,7 @@
 ghost use Rattle.std.specs.Prelude.{◌≡◌, ℕ, ◌≤◌, ◌==◌, ◌<◌, [], length, map, take, find, option_map};
 ghost use Rattle.std.specs.List.{list_any};
 ghost use Rattle.tx_engine.specs.OpeningsIn.{openings_in};
-ghost use Rattle.tx_engine.specs.PendingPages.{pages_of};
+ghost use Rattle.tx_engine.specs.PendingPages.{pages_held};
 ghost use Rattle.tx_engine.specs.Submit.{is_of, is_owner, or_else, empty, range, repeated, overlap, full};
 
 use crate::SubmitError;
@@ -71,7 +71,7 @@ pub fn is_tag_used(opened: &[Opened], tag: u32) -> bool
 
 /// The refusal of the first page of a batch that belongs to an open transaction.
 pub fn first_overlap(batch: &Batch, opened: &[Opened], pages: &[PendingPage]) -> Option<SubmitError>
-    requires { pages_of opened.now ≡ length pages.now }
+    requires { pages_held opened.now ≡ length pages.now }
     ensures { result ≡ overlap (map (λ o. o.entry) (openings_in opened.now pages.now))
         batch.now.entries }
 {
@@ -86,7 +86,7 @@ pub fn first_overlap(batch: &Batch, opened: &[Opened], pages: &[PendingPage]) ->
 
 /// The tag of the first open transaction that writes this page.
 fn owner(opened: &[Opened], pages: &[PendingPage], page: u32) -> Option<u32>
-    requires { pages_of opened.now ≡ length pages.now }
+    requires { pages_held opened.now ≡ length pages.now }
     ensures { result ≡ option_map (λ e. e.tag)
         (find (is_owner page) (map (λ o. o.entry) (openings_in opened.now pages.now))) }
 {

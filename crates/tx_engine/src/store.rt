@@ -26,7 +26,7 @@ ghost use Rattle.collector.specs.Victim.{garbage_in};
 ghost use Rattle.tx_engine.specs.Collections.{CollectsTables};
 ghost use Rattle.tx_engine.specs.Opens.{StoresOpened, FailsToMount, ReadsUnmounted};
 ghost use Rattle.tx_engine.specs.Read.{ReadsKnown, ShowsKnown, read_place};
-ghost use Rattle.tx_engine.specs.Stored.{IsStored, Keeps, Writes, WriteBreaks};
+ghost use Rattle.tx_engine.specs.Stored.{IsStored, KeepsStored, WritesStored, WriteBreaks};
 
 use crate::{Collected, MountError};
 use collector::{Settled, Unsure, clean_spare, victim};
@@ -237,7 +237,7 @@ impl<F: Flash, R: CommitRule> Store<F, R> {
     /// Makes the spare blank and collects the block with the most garbage, if there is any.
     pub fn collect(&mut self) -> Result<Collected, Broken>
         requires { self.old.unsure ≡ unsure.Nothing }
-        ensures keeps { Keeps F.state self.old self.new (is_err result) }
+        ensures keeps { KeepsStored F.state self.old self.new (is_err result) }
         ensures collects { IfOk result (CollectsTables
             (F.state self.old.flash) (F.state self.new.flash)
             self.old.noted self.new.noted self.old.table self.new.table) }
@@ -271,7 +271,7 @@ impl<F: Flash, R: CommitRule> Store<F, R> {
         requires nothing { self.old.unsure ≡ unsure.Nothing }
         requires next { (names : List Link)
             × IsNextName self.old.noted names (record { page = page; version = below }) }
-        ensures keeps { Keeps F.state self.old self.new (is_err result) }
+        ensures keeps { KeepsStored F.state self.old self.new (is_err result) }
         ensures cleared { OnOk result (block_to_go self.new.noted page below ≡ None) }
         ensures turns { OnOk result (TreatsInTurn page below
             self.old.noted self.old.table self.new.noted self.new.table) }
@@ -299,7 +299,7 @@ impl<F: Flash, R: CommitRule> Store<F, R> {
         requires nothing { self.old.unsure ≡ unsure.Nothing }
         requires next { (names : List Link) × (name : Link)
             × IsNextName self.old.noted names name }
-        ensures keeps { Keeps F.state self.old self.new (is_err result) }
+        ensures keeps { KeepsStored F.state self.old self.new (is_err result) }
         ensures free { IfOk result (λ at. IsFirstFree self.new.table at.0) }
         ensures sure { OnOk result (self.new.unsure ≡ unsure.Nothing) }
         ensures others { (at : Slot) (rec : Rec) → self.new.unsure ≡ unsure.Own at rec → ⊥ }
@@ -330,7 +330,7 @@ impl<F: Flash, R: CommitRule> Store<F, R> {
         requires own { CanTakeOwn self.old.noted self.old.table rec }
         requires spelled { CanBeSpelled self.old.noted.config.protocol rec }
         requires page { length bytes.now ≡ self.old.noted.config.page_bytes }
-        ensures written { OnOk result (Writes F.state self.old self.new at.0 rec bytes.now) }
+        ensures written { OnOk result (WritesStored F.state self.old self.new at.0 rec bytes.now) }
         ensures broken { OnErr result (WriteBreaks F.state self.old self.new at rec bytes.now) }
         ensures moves { FlashMoves (F.state self.old.flash) (F.state self.new.flash)
             (is_err result) }

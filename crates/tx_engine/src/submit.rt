@@ -1,4 +1,5 @@
-ghost use Rattle.std.specs.Prelude.{◌≡◌, ◌^◌, ◌<◌, map, All};
+ghost use Rattle.std.specs.Prelude.{◌≡◌, ◌<◌, map, All};
+ghost use Rattle.tx_types.specs.Limits.{max_version};
 ghost use Rattle.version_index.specs.Noted.{mention_of};
 ghost use Rattle.tx_engine.specs.Naming.{is_spent, with_pins, named_after, KeepsTables};
 ghost use Rattle.tx_engine.specs.OpenTable.{next_name};
@@ -51,7 +52,8 @@ impl<F: Flash, R: CommitRule> Store<F, R> {
     /// Pins each page of a batch one version above its greatest mention.
     fn pin_all(&mut self, batch: &Batch)
         requires range { All (λ w. w.page < self.old.noted.config.logical) batch.now.entries }
-        requires unspent { All (λ w. mention_of self.old.noted w.page < 2 ^ 62) batch.now.entries }
+        requires unspent { All (λ w. mention_of self.old.noted w.page < max_version)
+            batch.now.entries }
         ensures pinned { self.new ≡ record self.old {
           noted = record self.old.noted {
             pins = with_pins self.old.noted.pins (map (next_name self.old.noted) batch.now.entries);
@@ -77,7 +79,8 @@ impl<F: Flash, R: CommitRule> Device<F, R> {
         requires { batch.now.page_bytes ≡ self.old.config.page_bytes }
         ensures submits { Submits (limits_of self.old.config) (is_spent self.old.noted.mentions)
             self.old.machine self.new.machine tag batch.now.entries result }
-        ensures named { self.new.namings ≡ named_after self.old.noted batch.now.entries result self.old.namings }
+        ensures named { self.new.namings
+            ≡ named_after self.old.noted batch.now.entries result self.old.namings }
         // All else stays, but for the pins of what is opened.
         ensures keeps { KeepsTables self.old self.new }
     {

@@ -17,7 +17,7 @@ ghost use Rattle.tx_engine.specs.Exits.{Exits};
 ghost use Rattle.tx_engine.specs.OpenTable.{opening_at, with_opening, with_mark};
 ghost use Rattle.tx_engine.specs.Settling.{AddsOnly, IsLeft, WritesNext, WriteFails, is_at_last, link_place, with_next};
 ghost use Rattle.tx_engine.specs.Standing.{Stands, name_at, write_at};
-ghost use Rattle.tx_engine.specs.Stored.{IsStored, Writes, WriteBreaks};
+ghost use Rattle.tx_engine.specs.Stored.{IsStored, WritesStored, WriteBreaks};
 ghost use Rattle.tx_engine.specs.Tables.{standing_in};
 ghost use Rattle.tx_engine.specs.Writing.{FindsSlot, WritesRecord};
 
@@ -197,7 +197,7 @@ fn program<F: Flash, R: CommitRule>(
     ensures stored { IsStored F.state R.kept store.new }
     ensures written { OnOk result (
         let entry = (opening_at openings.now at).entry in
-        Writes F.state store.old store.new slot.0 rec (write_at entry entry.done).bytes) }
+        WritesStored F.state store.old store.new slot.0 rec (write_at entry entry.done).bytes) }
     ensures broken { OnErr result (
         let entry = (opening_at openings.now at).entry in
         WriteBreaks F.state store.old store.new slot rec (write_at entry entry.done).bytes) }

@@ -18,7 +18,10 @@ padded size bytes = bytes ++ replicate (size - length bytes) 0
 -- the writes and one more at the end
 abbrev pub with_entry : Writes → ℕ → List ℕ → Writes
 with_entry w page bytes =
-    record w { entries = w.entries ++ record { page = page; bytes = padded w.page_bytes bytes } ∷ [] }
+    record w {
+      entries =
+          w.entries ++ record { page = page; bytes = padded w.page_bytes bytes } ∷ [];
+    }
 
 -- what stands for the write at an index where there is none
 abbrev pub no_write : PageWrite

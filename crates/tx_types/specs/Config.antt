@@ -8,7 +8,15 @@ use Rattle.tx_types.specs.declared.config.ConfigError.TheVariants as rule
 
 -- the shape of a device's flash
 abbrev pub shape_of : Config → Shape
-shape_of c = record { page_bytes = c.page_bytes; pages_per_block = c.pages_per_block; blocks_per_die = c.blocks_per_die; dies = c.dies }
+shape_of c =
+    record {
+      page_bytes =
+          c.page_bytes;
+      pages_per_block =
+          c.pages_per_block;
+      blocks_per_die = c.blocks_per_die;
+      dies = c.dies;
+    }
 
 abbrev pub blocks_of : Shape → ℕ
 blocks_of s = s.blocks_per_die * s.dies
@@ -25,14 +33,17 @@ is_within low high n = nat_le low n && nat_le n high
 
 -- the rule of this name holds
 abbrev pub holds : Config → ConfigError → Bool
-holds c rule.Page = is_within page_unit max_page_bytes c.page_bytes && (c.page_bytes % page_unit == 0)
+holds c rule.Page =
+    is_within page_unit max_page_bytes c.page_bytes && (c.page_bytes % page_unit == 0)
 holds c rule.Pages = is_within min_pages_per_block max_pages_per_block c.pages_per_block
 holds c rule.Blocks = is_within 1 max_blocks_per_die c.blocks_per_die
 holds c rule.Dies = is_within 1 max_dies c.dies
-holds c rule.Slots = nat_le (slots_of (shape_of c)) max_slots && nat_le (image_bytes (shape_of c)) max_image_bytes
+holds c rule.Slots =
+    nat_le (slots_of (shape_of c)) max_slots && nat_le (image_bytes (shape_of c)) max_image_bytes
 holds c rule.Logical = nat_le 1 c.logical
 holds c rule.Pending = is_within 1 max_pending c.pending
-holds c rule.Space = nat_le (c.logical + c.pending + 1) ((blocks_of (shape_of c) - 1) * c.pages_per_block)
+holds c rule.Space =
+    nat_le (c.logical + c.pending + 1) ((blocks_of (shape_of c) - 1) * c.pages_per_block)
 
 -- the shape where this rule holds and those after it give it
 abbrev pub after_rule : Config → ConfigError → Result Shape ConfigError → Result Shape ConfigError
@@ -41,8 +52,10 @@ after_rule c rule rest = if holds c rule then rest else Err rule
 -- the shape, or the first rule that is broken
 abbrev pub checked : Config → Result Shape ConfigError
 checked c =
-    after_rule c rule.Page (after_rule c rule.Pages (after_rule c rule.Blocks (after_rule c rule.Dies
-    (after_rule c rule.Slots (after_rule c rule.Logical (after_rule c rule.Pending (after_rule c rule.Space
+    after_rule c rule.Page
+    (after_rule c rule.Pages (after_rule c rule.Blocks (after_rule c rule.Dies
+    (after_rule c rule.Slots
+    (after_rule c rule.Logical (after_rule c rule.Pending (after_rule c rule.Space
     (Ok (shape_of c)))))))))
 
 -- the bounds of a shape that passed the check

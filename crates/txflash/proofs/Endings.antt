@@ -1,14 +1,14 @@
 -- How a call of the program ends, and what follows for its status and the files.
 use Rattle.std.proofs.Common.{◌≡◌, ◌⊎◌, inl, inr, ℕ, zero, suc, List, [], ◌∷◌, take, Option, None, Some, Result, Ok, Err, refl, ap, sym, subst, ◌∙◌, arith}
 use Rattle.std.specs.Option.{option_map}
-use Rattle.desk_io.specs.Desk.{Contents, DeskState, Files, Rose, Says, as_before, called, counted, put, with_file, with_said}
+use Rattle.desk_io.specs.Desk.{DeskContents, DeskState, Files, Rose, Says, as_before, called, counted, files_with, with_file, with_said}
 use Rattle.desk_io.specs.declared.desk.SinkError.{SinkError}
 use Rattle.desk_io.specs.declared.desk.SinkError.TheVariants as sink
 use Rattle.txflash.specs.Fate.{Fate, status, refusal_line}
 use Rattle.txflash.specs.Gives.{Product, SavedFile, Gives}
 use Rattle.txflash.specs.Steps.{IsFate}
 use Rattle.txflash.specs.Stops.{Comes, Delivers, MemoryTold, Speaks, refused}
-use Rattle.txflash.specs.Top.{Decision, Ends, Decided, Faulted, Starved, IsExact, IsFaulted, Leaves, LeavesFiles, CallFails, FileFails, RunsOut, TellsFate, after_loads, after_save, after_text, files_in, loaded, saved}
+use Rattle.txflash.specs.Top.{Decision, EndsCall, Decided, Faulted, Starved, IsExact, IsFaulted, Leaves, LeavesFiles, CallFails, FileFails, RunsOut, TellsFate, after_loads, after_save, after_text, files_in, loaded, saved}
 use Rattle.txflash.specs.Words.{Asked, file_of}
 use Rattle.txflash.specs.declared.refusal.Refusal.{Refusal}
 use Rattle.txflash.specs.declared.refusal.Refusal.TheVariants as refusal
@@ -19,14 +19,14 @@ use Rattle.txflash.proofs.Saving.{fate_within, gives_saves, never_five, refusal_
 
 -- after a fate, what it gives is saved and said
 pub ends_delivered : (task : Option Asked) (old mid new : DeskState) (fate : Fate) (product : Product) (wanted answer : ℕ) →
-    Comes task old mid fate → Gives fate product → wanted ≡ status fate → Delivers mid new product wanted answer → Ends task old new answer
+    Comes task old mid fate → Gives fate product → wanted ≡ status fate → Delivers mid new product wanted answer → EndsCall task old new answer
 ends_delivered task old mid new fate product wanted answer (loads, is, at) gives same delivers =
     ending (subst (λ desk. Delivers desk new product wanted answer) at delivers)
   where
     it : Decision task old
     it = record { fate = fate; loads = loads; product = product; is_fate = is; gives = gives }
 
-    ending : Delivers (loaded old it) new product wanted answer → Ends task old new answer
+    ending : Delivers (loaded old it) new product wanted answer → EndsCall task old new answer
     ending (inl (inl (said, after))) = Decided it (said ∙ same) after
     ending (inl (inr (inl (mid, says, told)))) = Faulted told.0 (mid, inr (inr (it, says)), told.1)
     ending (inl (inr (inr told))) = Starved told.0 (saved old it, inr (it, refl), told.1)
@@ -63,20 +63,20 @@ faults_tried n mid new text (Err sink.Memory) rose says = let same = ap (λ (d :
 pub faulted : (task : Option Asked) (old new : DeskState) → IsFaulted task old new → Rose old.faults new.faults
 faulted task old new (mid, fails, (result, says)) = faults_tried old.faults mid new _ result (faults_call task old mid fails) says
 
-pub only_fault : (task : Option Asked) (old new : DeskState) (answer : ℕ) → Ends task old new answer → answer ≡ 5 → Rose old.faults new.faults
+pub only_fault : (task : Option Asked) (old new : DeskState) (answer : ℕ) → EndsCall task old new answer → answer ≡ 5 → Rose old.faults new.faults
 only_fault task old new answer (Decided it same said) five = absurd (never_five it.fate (sym five ∙ same))
 only_fault task old new answer (Faulted is faults) five = faulted task old new faults
 only_fault task old new answer (Starved six starves) five = absurd (omega arith)
 
 -- ---- each fate gives its status
 
-pub exact : (task : Option Asked) (old new : DeskState) (answer : ℕ) → Ends task old new answer → IsExact task old new answer
+pub exact : (task : Option Asked) (old new : DeskState) (answer : ℕ) → EndsCall task old new answer → IsExact task old new answer
 exact task old new answer ends = record {
   one_fate = λ a b m n tells is also. one_fate task old a b m n tells is also;
   fate_gives = gives ends;
 }
   where
-    gives : Ends task old new answer → (fate : Fate) (loads : ℕ) → IsFate task old fate loads → TellsFate task old →
+    gives : EndsCall task old new answer → (fate : Fate) (loads : ℕ) → IsFate task old fate loads → TellsFate task old →
         (Rose old.faults new.faults → ⊥) → (answer ≡ status fate) ⊎ (answer ≡ 6)
     gives (Decided it same said) fate loads is tells steady =
         inl (same ∙ ap status (one_fate task old it.fate fate it.loads loads tells it.is_fate is))
@@ -86,7 +86,7 @@ exact task old new answer ends = record {
 -- ---- which file changes
 
 -- a call that keeps the files keeps them
-same_files : (change : Contents → Contents) (told : Option Contents) → ((c : Contents) → (change c).files ≡ c.files) →
+same_files : (change : DeskContents → DeskContents) (told : Option DeskContents) → ((c : DeskContents) → (change c).files ≡ c.files) →
     option_map (λ c. c.files) (option_map (called change) told) ≡ option_map (λ c. c.files) told
 same_files change None keeps = refl
 same_files change (Some c) keeps = ap (λ f. Some f) (keeps c)
@@ -105,8 +105,8 @@ files_said old new text (Err sink.Failed) says = ap files_in says.1 ∙ same_fil
 files_said old new text (Err sink.Memory) says = ap files_in says
 
 -- a call that changes a file changes that one
-other_files : (name : List ℕ) (left : Option (List ℕ)) (told : Option Contents) →
-    option_map (λ c. c.files) (option_map (called (with_file name left)) told) ≡ option_map (λ files. put files name left) (option_map (λ c. c.files) told)
+other_files : (name : List ℕ) (left : Option (List ℕ)) (told : Option DeskContents) →
+    option_map (λ c. c.files) (option_map (called (with_file name left)) told) ≡ option_map (λ files. files_with files name left) (option_map (λ c. c.files) told)
 other_files name left None = refl
 other_files name left (Some c) = refl
 
@@ -134,10 +134,10 @@ saves_its task old it file e =
 
 -- so is the one that is changed
 leaves_file : (task : Option Asked) (old new : DeskState) (it : Decision task old) (file : SavedFile) (left : Option (List ℕ)) →
-    it.product.saved ≡ Some file → files_in new ≡ option_map (λ files. put files file.name left) (files_in (loaded old it)) →
+    it.product.saved ≡ Some file → files_in new ≡ option_map (λ files. files_with files file.name left) (files_in (loaded old it)) →
     Leaves (file_of task) (files_in old) (files_in new)
 leaves_file task old new it file left e changed =
-    rw (saves_its task old it file e) (inr (left, changed ∙ ap (option_map (λ files. put files file.name left)) (files_loads it.loads old)))
+    rw (saves_its task old it file e) (inr (left, changed ∙ ap (option_map (λ files. files_with files file.name left)) (files_loads it.loads old)))
 
 leaves_saved : (task : Option Asked) (old : DeskState) (it : Decision task old) → Leaves (file_of task) (files_in old) (files_in (saved old it))
 leaves_saved task old it = by_file it.product.saved refl
@@ -171,7 +171,7 @@ leaves_out task old new (inl (n, most, after)) =
 leaves_out task old new (inr (it, after)) =
     leaves_also (file_of task) (files_in old) (files_in (saved old it)) (files_in new) (leaves_saved task old it) (ap files_in after)
 
-others : (task : Option Asked) (old new : DeskState) (answer : ℕ) → Ends task old new answer → Leaves (file_of task) (files_in old) (files_in new)
+others : (task : Option Asked) (old new : DeskState) (answer : ℕ) → EndsCall task old new answer → Leaves (file_of task) (files_in old) (files_in new)
 others task old new answer (Decided it same said) =
     leaves_also (file_of task) (files_in old) (files_in (saved old it)) (files_in new) (leaves_saved task old it)
     (ap files_in said ∙ files_text it.product.text (saved old it))
@@ -188,7 +188,7 @@ unsaved task old it refused = by_file it.product.saved (gives_saves it.fate it.p
     by_file None e = files_loads it.loads old
     by_file (Some file) e = absurd (cc)
 
-refusals : (task : Option Asked) (old new : DeskState) (answer : ℕ) → Ends task old new answer →
+refusals : (task : Option Asked) (old new : DeskState) (answer : ℕ) → EndsCall task old new answer →
     (answer ≡ 0 → ⊥) → (answer ≡ 5 → ⊥) → (answer ≡ 6 → ⊥) → files_in new ≡ files_in old
 refusals task old new answer (Decided it same said) done five six =
     ap files_in said ∙ files_text it.product.text (saved old it) ∙ unsaved task old it (λ e. done (same ∙ e))
@@ -196,7 +196,7 @@ refusals task old new answer (Faulted is faults) done five six = absurd (five is
 refusals task old new answer (Starved is starves) done five six = absurd (six is)
 
 -- no file changes but the one that a task saves
-pub leaves_files : (task : Option Asked) (old new : DeskState) (answer : ℕ) → Ends task old new answer → LeavesFiles task old new answer
+pub leaves_files : (task : Option Asked) (old new : DeskState) (answer : ℕ) → EndsCall task old new answer → LeavesFiles task old new answer
 leaves_files task old new answer ends =
     record { others = others task old new answer ends; refused = refusals task old new answer ends }
 
@@ -215,13 +215,13 @@ refusal_gives (refusal.BadConfiguration rule) text e = record { saves_nothing = 
 -- the end after a refusal whose line is tried
 pub ends_refused : (task : Option Asked) (old mid new : DeskState) (r : Refusal) (text : List ℕ) (wanted answer : ℕ) →
     Comes task old mid (refused r) → text ≡ refusal_line (refused r) → wanted ≡ status (refused r) → Speaks mid new text wanted answer →
-    Ends task old new answer
+    EndsCall task old new answer
 ends_refused task old mid new r text wanted answer comes is_line same speaks =
     ends_delivered task old mid new (refused r) (record { saved = None; text = text }) wanted answer comes (refusal_gives r text is_line) same (inl speaks)
 
 -- the end after a refusal for whose line there was no memory
 pub ends_unsaid : (task : Option Asked) (old mid new : DeskState) (r : Refusal) (answer : ℕ) →
-    Comes task old mid (refused r) → MemoryTold mid new answer → Ends task old new answer
+    Comes task old mid (refused r) → MemoryTold mid new answer → EndsCall task old new answer
 ends_unsaid task old mid new r answer comes told =
     ends_delivered task old mid new (refused r) (record { saved = None; text = refusal_line (refused r) }) (status (refused r)) answer comes
     (refusal_gives r (refusal_line (refused r)) refl) refl (inr (inr told))

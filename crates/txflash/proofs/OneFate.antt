@@ -9,9 +9,9 @@ use Rattle.host_protocol.specs.declared.command.Command.{Command}
 use Rattle.host_protocol.proofs.FileLemmas.{file_bad, file_same, first_same}
 use Rattle.image_file.specs.declared.error.ImageError.{ImageError}
 use Rattle.desk_io.specs.Desk as found
-use Rattle.desk_io.specs.Desk.{Contents as Told, DeskState, Found, Finds, file_at, found_of}
+use Rattle.desk_io.specs.Desk.{DeskContents, DeskState, FileFound, Finds, file_at, file_found}
 use Rattle.txflash.specs.Fate.{Fate}
-use Rattle.txflash.specs.Steps.{AfterLoad, AfterOpening, AfterParsing, AfterReading, Explaining, IsFate, Loading, Opening, Opens, Parses, Parsing, Reading, Running, Trying}
+use Rattle.txflash.specs.Steps.{AfterLoad, AfterOpening, AfterParsing, AfterReading, Explaining, IsFate, Loading, OpensAndServes, Opens, Parses, Parsing, Reading, Running, Trying}
 use Rattle.txflash.specs.Top.{TellsFate}
 use Rattle.txflash.specs.Words.{Asked, Try, Format, Run, Explain, Drive}
 use Rattle.txflash.proofs.Sound.{breach_one, sound_unbroken}
@@ -19,8 +19,8 @@ use Rattle.txflash.proofs.Sound.{breach_one, sound_unbroken}
 -- ---- each step comes to one thing
 
 -- what is at a name, where the desk tells it
-one_found : (told : Option Told) (name : List ℕ) (a b : Found) → IsSome told →
-    IfSome told (λ c. found_of (file_at c.files name) ≡ a) → IfSome told (λ c. found_of (file_at c.files name) ≡ b) → a ≡ b
+one_found : (told : Option DeskContents) (name : List ℕ) (a b : FileFound) → IsSome told →
+    IfSome told (λ c. file_found (file_at c.files name) ≡ a) → IfSome told (λ c. file_found (file_at c.files name) ≡ b) → a ≡ b
 one_found None name a b tells h k = absurd (cc)
 one_found (Some c) name a b tells h k = sym h ∙ k
 
@@ -31,7 +31,7 @@ one_loading desk name next tells one a b m n h k =
     let same = one_found desk.told name h.0 k.0 tells h.1.1 k.1.1 in
     after k.0 (subst (λ found. AfterLoad name next found a m) same h.2) k.2
   where
-    after : (found : Found) → AfterLoad name next found a m → AfterLoad name next found b n → a ≡ b
+    after : (found : FileFound) → AfterLoad name next found a m → AfterLoad name next found b n → a ≡ b
     after found.Missing h k = h.0 ∙ sym k.0
     after found.TooLong h k = h.0 ∙ sym k.0
     after (found.Bytes bytes) h k = one bytes a b h.0 k.0 h.1 k.1
@@ -68,7 +68,7 @@ one_opened its image (Ok p) (Err b) h k = absurd (sound_unbroken its.protocol it
 one_opened its image (Err a) (Ok q) h k = absurd (sound_unbroken its.protocol its.logical (shape_of its) image a k h)
 one_opened its image (Err a) (Err b) h k = ap (λ b. Err b) (breach_one its.protocol its.logical (shape_of its) image a b h k)
 
-one_opening : (its : Config) (image : List Contents) (done : Fate) (a b : Fate) → Opening its image done a → Opening its image done b → a ≡ b
+one_opening : (its : Config) (image : List Contents) (done : Fate) (a b : Fate) → OpensAndServes its image done a → OpensAndServes its image done b → a ≡ b
 one_opening its image done a b h k =
     after k.0 (subst (λ opened. AfterOpening done opened a) (one_opened its image h.0 k.0 h.1 k.1) h.2) k.2
   where

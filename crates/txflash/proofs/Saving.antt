@@ -10,10 +10,10 @@ use Rattle.record_list.specs.declared.found.Breach.{Breach}
 use Rattle.host_protocol.specs.declared.command.Command.{Command}
 use Rattle.image_file.specs.declared.error.ImageError.{ImageError}
 use Rattle.desk_io.specs.Desk as found
-use Rattle.desk_io.specs.Desk.{DeskState, Found}
+use Rattle.desk_io.specs.Desk.{DeskState, FileFound}
 use Rattle.txflash.specs.Fate.{Fate, Tried, Formatted, Ran, Explained, Driven, BadWords, Missing, TooLong, BadImage, BadLine, Unsound, BadConfiguration, status}
 use Rattle.txflash.specs.Gives.{Product, Gives}
-use Rattle.txflash.specs.Steps.{AfterLoad, AfterOpening, AfterParsing, AfterReading, Explaining, IsFate, Loading, Opening, Parsing, Reading, Running, Trying, formatting}
+use Rattle.txflash.specs.Steps.{AfterLoad, AfterOpening, AfterParsing, AfterReading, Explaining, IsFate, Loading, OpensAndServes, Parsing, Reading, Running, Trying, formatting}
 use Rattle.txflash.specs.Words.{Asked, Try, Format, Run, Explain, Drive, file_of, files_of}
 
 -- the file that a fate saves
@@ -73,7 +73,7 @@ loading_all : (P : Fate → ℕ → Type 0) (desk : DeskState) (name : List ℕ)
     (fate : Fate) (loads : ℕ) → Loading desk name next fate loads → P fate loads
 loading_all P desk name next missing long leads fate loads (there, finds, h) = after there h
   where
-    after : (there : Found) → AfterLoad name next there fate loads → P fate loads
+    after : (there : FileFound) → AfterLoad name next there fate loads → P fate loads
     after found.Missing h = rw (h.0, h.1) missing
     after found.TooLong h = rw (h.0, h.1) long
     after (found.Bytes bytes) h = rw h.2 (leads bytes fate h.0 h.1)
@@ -97,7 +97,7 @@ parsing_all P page_bytes bytes next bad leads fate (parsed, parses, h) = after p
     after (Err n) h = rw h (bad n)
 
 opening_all : (P : Fate → Type 0) (its : Config) (image : List Contents) (done : Fate) → P done → ((b : Breach) → P (Unsound b)) →
-    (fate : Fate) → Opening its image done fate → P fate
+    (fate : Fate) → OpensAndServes its image done fate → P fate
 opening_all P its image done good bad fate (opened, opens, h) = after opened h
   where
     after : (opened : Result (Unit {0}) Breach) → AfterOpening done opened fate → P fate

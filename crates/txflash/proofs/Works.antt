@@ -4,7 +4,7 @@ use Rattle.std.specs.Prelude.{IfSome}
 use Rattle.std.specs.Option.{option_map}
 use Rattle.std.specs.Result.{IsErrAnd}
 use Rattle.desk_io.specs.Desk as found
-use Rattle.desk_io.specs.Desk.{Contents, DeskState, Found, Finds, IsShort, after_answer, as_before, called, file_at, found_of}
+use Rattle.desk_io.specs.Desk.{DeskContents, DeskState, FileFound, Finds, IsShort, after_answer, as_before, called, file_at, file_found}
 use Rattle.txflash.specs.Fate.{Fate, Missing, TooLong}
 use Rattle.txflash.specs.Steps.{IsFate}
 use Rattle.txflash.specs.Stops.{Fetches, StopsBy, Works, WorksTo, refused}
@@ -60,14 +60,14 @@ unfetched task old mid new n name stopped (Err x) same loaded most missing long 
     rw same (unfetched_by task old mid new n name stopped loaded most missing long h)
 
 -- a load changes no file
-found_before : (told : Option Contents) (name : List ℕ) (found : Found) →
-    IfSome (option_map (called as_before) told) (λ c. found_of (file_at c.files name) ≡ found) →
-    IfSome told (λ c. found_of (file_at c.files name) ≡ found)
+found_before : (told : Option DeskContents) (name : List ℕ) (found : FileFound) →
+    IfSome (option_map (called as_before) told) (λ c. file_found (file_at c.files name) ≡ found) →
+    IfSome told (λ c. file_found (file_at c.files name) ≡ found)
 found_before None name found h = h
 found_before (Some c) name found h = h
 
 -- what is found after a load was there before it
-pub finds_before : (old mid : DeskState) (name : List ℕ) (found : Found) → mid ≡ after_answer as_before old →
+pub finds_before : (old mid : DeskState) (name : List ℕ) (found : FileFound) → mid ≡ after_answer as_before old →
     Finds mid name found → Finds old name found
 finds_before old mid name found e h =
     let now : Finds (after_answer as_before old) name found = rw e at h in

@@ -15,7 +15,8 @@ use Rattle.image_file.specs.declared.error.ImageError.TheVariants as image
 pub data Fate : Type 0 where
   Tried : (commands : List Command) → Fate
   Formatted : (name : List ℕ) → (config : Config) → Fate
-  Ran : (name : List ℕ) → (config : Config) → (image : List Contents) → (commands : List Command) → Fate
+  Ran : (name : List ℕ) → (config : Config) → (image : List Contents) → (commands : List Command) →
+      Fate
   Explained : (config : Config) → (image : List Contents) → Fate
   Driven : (start count : ℕ) → (protocol : Protocol) → Fate
   BadWords : Fate
@@ -74,6 +75,7 @@ refusal_line (Missing name) = line (codes "no file " ++ name)
 refusal_line (TooLong name) = line (codes "file too long " ++ name)
 refusal_line (BadImage rule) = line (codes "bad image: " ++ image_words rule)
 refusal_line (BadLine n) = line (codes "bad line " ++ decimal n)
-refusal_line (Unsound breach) = line (codes "unsound law " ++ decimal breach.law ++ codes " slot " ++ decimal breach.slot.0)
+refusal_line (Unsound breach) =
+    line (codes "unsound law " ++ decimal breach.law ++ codes " slot " ++ decimal breach.slot.0)
 refusal_line (BadConfiguration rule) = line (codes "bad configuration: " ++ config_word rule)
 refusal_line _ = []

@@ -35,11 +35,13 @@ pub record IsFormatted (name : List ℕ) (its : Config) (p : Product) : Type 0 w
   pub bytes : List ℕ
   pub saves : p.saved ≡ Some (record { name = name; bytes = bytes })
   pub spelled : Spells bytes its (blank_image its)
-  pub said : p.text ≡ line (codes "formatted " ++ name ++ codes " " ++ decimal (slots_of (shape_of its)))
+  pub said : p.text
+      ≡ line (codes "formatted " ++ name ++ codes " " ++ decimal (slots_of (shape_of its)))
 
 -- the replies of a run from this image on, and the file of the image with which the run ends, under the same
 -- configuration
-pub record IsRan (name : List ℕ) (its : Config) (image : List Contents) (commands : List Command) (p : Product) : Type 0 where
+pub record IsRan (name : List ℕ) (its : Config) (image : List Contents) (commands : List Command)
+    (p : Product) : Type 0 where
   pub bytes : List ℕ
   pub saves : p.saved ≡ Some (record { name = name; bytes = bytes })
   pub left : List Contents
@@ -57,8 +59,10 @@ pub record IsDriven (start count : ℕ) (its : Protocol) (p : Product) : Type 0 
   pub saves_nothing : p.saved ≡ None
   pub left : List Contents
   pub replies : List ℕ
-  pub run : IsRun (default_config its) (blank_image (default_config its)) (generated start count (default_config its)) left replies
-  pub said : p.text ≡ summary_line start count its (length (generated start count (default_config its))) replies
+  pub run : IsRun (default_config its) (blank_image (default_config its))
+      (generated start count (default_config its)) left replies
+  pub said : p.text
+      ≡ summary_line start count its (length (generated start count (default_config its))) replies
 
 -- a line, and no file
 pub record IsRefused (text : List ℕ) (p : Product) : Type 0 where

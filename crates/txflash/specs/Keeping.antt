@@ -7,5 +7,5 @@ abbrev pub no_entry : ToldReply
 no_entry = record { text = []; moment = record { image = []; programs = 0; erases = 0 } }
 
 -- the reply at this place
-abbrev pub entry_at : List ToldReply → ℕ → ToldReply
-entry_at kept i = slice_index_or kept i no_entry
+abbrev pub reply_at : List ToldReply → ℕ → ToldReply
+reply_at kept i = slice_index_or kept i no_entry

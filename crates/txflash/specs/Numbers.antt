@@ -7,7 +7,8 @@ use Rattle.host_protocol.specs.Numbers.{is_digit, value_of, number_of}
 -- one to twenty decimal digits, for a number of 64 bits
 abbrev pub is_wide_number : List ℕ → Bool
 is_wide_number word =
-    nat_le 1 (length word) && nat_le (length word) 20 && list_all is_digit word && nat_le (value_of word) 18446744073709551615
+    nat_le 1 (length word) && nat_le (length word) 20 && list_all is_digit word
+    && nat_le (value_of word) 18446744073709551615
 
 -- the number that a word is, from which a list of commands is drawn
 unfoldable pub wide_number_of : List ℕ → Option ℕ

@@ -36,7 +36,8 @@ first_moment its_image = record { image = its_image; programs = 0; erases = 0 }
 -- The image is sound, and there is a run on a flash over these commands, from it on, with nothing counted. The run ends
 -- with that image, and the text is that of its replies. Among the replies to the first so many commands there are at
 -- most as many cuts and faults as were armed among these.
-pub record IsRun (its : Config) (image : List Contents) (commands : List Command) (left : List Contents) (text : List ℕ) : Type 0 where
+pub record IsRun (its : Config) (image : List Contents) (commands : List Command)
+    (left : List Contents) (text : List ℕ) : Type 0 where
   pub sound : IsSoundImage its.protocol its.logical (shape_of its) image
   pub replies : List Reply
   pub points : List Point
@@ -46,6 +47,7 @@ pub record IsRun (its : Config) (image : List Contents) (commands : List Command
   pub few : AreFew 0 0 commands replies
 
 -- the state of the array machine with which a run ends
-abbrev pub machine_left : {its : Config} {image : List Contents} {commands : List Command} {left : List Contents} {text : List ℕ} →
-    IsRun its image commands left text → ArrayState
-machine_left {its = its} {image = image} run = (last_state (opening_state its run.run.up (first_moment image)) run.points).machine
+abbrev pub machine_left : {its : Config} {image : List Contents} {commands : List Command}
+    {left : List Contents} {text : List ℕ} → IsRun its image commands left text → ArrayState
+machine_left {its = its} {image = image} run =
+    (last_state (opening_state its run.run.up (first_moment image)) run.points).machine

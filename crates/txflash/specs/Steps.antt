@@ -13,7 +13,7 @@ use Rattle.image_file.specs.Rules.{reading}
 use Rattle.image_file.specs.Spelling.{Spells}
 use Rattle.image_file.specs.declared.error.ImageError.{ImageError}
 use Rattle.desk_io.specs.Desk as found
-use Rattle.desk_io.specs.Desk.{DeskState, Found, Finds}
+use Rattle.desk_io.specs.Desk.{DeskState, FileFound, Finds}
 use Rattle.tx_types.specs.declared.config.Protocol.TheVariants.{Scc}
 use Rattle.txflash.specs.Fate.{Fate, Tried, Formatted, Ran, Explained, Driven, BadWords, Missing, TooLong, BadImage, BadLine, Unsound, BadConfiguration}
 use Rattle.txflash.specs.Runs.{default_config}
@@ -22,14 +22,16 @@ use Rattle.txflash.specs.Words.{Asked, Try, Format, Run, Explain, Drive}
 -- ---- loading
 
 -- by what is found at a name: the fate, after so many loads
-abbrev pub AfterLoad : List ℕ → (List ℕ → Fate → ℕ → Type 0) → Found → Fate → ℕ → Type 0
+abbrev pub AfterLoad : List ℕ → (List ℕ → Fate → ℕ → Type 0) → FileFound → Fate → ℕ → Type 0
 AfterLoad name next found.Missing fate loads = (fate ≡ Missing name) × (loads ≡ 1)
 AfterLoad name next found.TooLong fate loads = (fate ≡ TooLong name) × (loads ≡ 1)
-AfterLoad name next (found.Bytes bytes) fate loads = (more : ℕ) × next bytes fate more × (loads ≡ more + 1)
+AfterLoad name next (found.Bytes bytes) fate loads =
+    (more : ℕ) × next bytes fate more × (loads ≡ more + 1)
 
 -- the file of this name is loaded, and then comes what its bytes give
 abbrev pub Loading : DeskState → List ℕ → (List ℕ → Fate → ℕ → Type 0) → Fate → ℕ → Type 0
-Loading desk name next fate loads = (found : Found) × Finds desk name found × AfterLoad name next found fate loads
+Loading desk name next fate loads =
+    (found : FileFound) × Finds desk name found × AfterLoad name next found fate loads
 
 -- no file more is loaded
 abbrev pub WithoutLoad : (Fate → Type 0) → Fate → ℕ → Type 0
@@ -41,14 +43,16 @@ WithoutLoad comes fate loads = comes fate × (loads ≡ 0)
 abbrev pub ReadsImage : List ℕ → Result (Config × List Contents) ImageError → Type 0
 ReadsImage bytes read = (reading bytes ≡ read) × IfOk read (λ r. Spells bytes r.0 r.1)
 
-abbrev pub AfterReading : (Config → List Contents → Fate → Type 0) → Result (Config × List Contents) ImageError → Fate → Type 0
+abbrev pub AfterReading : (Config → List Contents → Fate → Type 0) →
+    Result (Config × List Contents) ImageError → Fate → Type 0
 AfterReading next (Ok read) fate = next read.0 read.1 fate
 AfterReading next (Err rule) fate = fate ≡ BadImage rule
 
 -- the bytes of an image file are read, and then comes what its device gives
 abbrev pub Reading : List ℕ → (Config → List Contents → Fate → Type 0) → Fate → Type 0
 Reading bytes next fate =
-    (read : Result (Config × List Contents) ImageError) × ReadsImage bytes read × AfterReading next read fate
+    (read : Result (Config × List Contents) ImageError) × ReadsImage bytes read
+    × AfterReading next read fate
 
 -- ---- parsing
 
@@ -64,34 +68,40 @@ AfterParsing next (Err n) fate = fate ≡ BadLine n
 -- the bytes of a command file are read, and then comes what the commands give
 abbrev pub Parsing : ℕ → List ℕ → (List Command → Fate → Type 0) → Fate → Type 0
 Parsing page_bytes bytes next fate =
-    (parsed : Result (List Command) ℕ) × Parses page_bytes bytes parsed × AfterParsing next parsed fate
+    (parsed : Result (List Command) ℕ) × Parses page_bytes bytes parsed
+    × AfterParsing next parsed fate
 
 -- ---- opening a device
 
 -- the image is sound, or this is the first law that it breaks
 abbrev pub Opens : Config → List Contents → Result (Unit {0}) Breach → Type 0
 Opens its image (Ok done) = IsSoundImage its.protocol its.logical (shape_of its) image
-Opens its image (Err breach) = IsLeastImageBreach its.protocol its.logical (shape_of its) image breach
+Opens its image (Err breach) =
+    IsLeastImageBreach its.protocol its.logical (shape_of its) image breach
 
 abbrev pub AfterOpening : Fate → Result (Unit {0}) Breach → Fate → Type 0
 AfterOpening done (Ok sound) fate = fate ≡ done
 AfterOpening done (Err breach) fate = fate ≡ Unsound breach
 
 -- the device of an image is opened, and then all is done
-abbrev pub Opening : Config → List Contents → Fate → Fate → Type 0
-Opening its image done fate = (opened : Result (Unit {0}) Breach) × Opens its image opened × AfterOpening done opened fate
+abbrev pub OpensAndServes : Config → List Contents → Fate → Fate → Type 0
+OpensAndServes its image done fate =
+    (opened : Result (Unit {0}) Breach) × Opens its image opened × AfterOpening done opened fate
 
 -- ---- the tasks, from the bytes of their files on
 
 abbrev pub Trying : List ℕ → Fate → Type 0
-Trying lines = Parsing (default_config Scc).page_bytes lines (λ commands fate. fate ≡ Tried commands)
+Trying lines =
+    Parsing (default_config Scc).page_bytes lines (λ commands fate. fate ≡ Tried commands)
 
 abbrev pub Running : List ℕ → List ℕ → List ℕ → Fate → Type 0
 Running name bytes lines =
-    Reading bytes (λ its image. Parsing its.page_bytes lines (λ commands. Opening its image (Ran name its image commands)))
+    Reading bytes
+    (λ its image. Parsing its.page_bytes lines
+    (λ commands. OpensAndServes its image (Ran name its image commands)))
 
 abbrev pub Explaining : List ℕ → Fate → Type 0
-Explaining bytes = Reading bytes (λ its image. Opening its image (Explained its image))
+Explaining bytes = Reading bytes (λ its image. OpensAndServes its image (Explained its image))
 
 -- a configuration is checked
 abbrev pub formatting : List ℕ → Config → Result Shape ConfigError → Fate
@@ -102,8 +112,11 @@ formatting name its (Err rule) = BadConfiguration rule
 abbrev pub IsFate : Option Asked → DeskState → Fate → ℕ → Type 0
 IsFate None desk = WithoutLoad (λ fate. fate ≡ BadWords)
 IsFate (Some (Try commands)) desk = Loading desk commands (λ lines. WithoutLoad (Trying lines))
-IsFate (Some (Format image its)) desk = WithoutLoad (λ fate. fate ≡ formatting image its (checked its))
+IsFate (Some (Format image its)) desk =
+    WithoutLoad (λ fate. fate ≡ formatting image its (checked its))
 IsFate (Some (Run image commands)) desk =
-    Loading desk image (λ bytes. Loading desk commands (λ lines. WithoutLoad (Running image bytes lines)))
+    Loading desk image
+    (λ bytes. Loading desk commands (λ lines. WithoutLoad (Running image bytes lines)))
 IsFate (Some (Explain image)) desk = Loading desk image (λ bytes. WithoutLoad (Explaining bytes))
-IsFate (Some (Drive start count protocol)) desk = WithoutLoad (λ fate. fate ≡ Driven start count protocol)
+IsFate (Some (Drive start count protocol)) desk =
+    WithoutLoad (λ fate. fate ≡ Driven start count protocol)

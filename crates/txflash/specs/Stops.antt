@@ -55,7 +55,8 @@ RefusesLine page_bytes bytes fate = (n : ℕ) × Parses page_bytes bytes (Err n)
 
 -- the image of a device breaks this law first
 abbrev pub RefusesDevice : Config → List Contents → Fate → Type 0
-RefusesDevice its image fate = (breach : Breach) × Opens its image (Err breach) × (fate ≡ Unsound breach)
+RefusesDevice its image fate =
+    (breach : Breach) × Opens its image (Err breach) × (fate ≡ Unsound breach)
 
 -- a step that asks nothing of the desk is refused so, or memory runs out
 abbrev pub StopsBy : (Fate → Type 0) → Stop → Type 0
@@ -65,12 +66,14 @@ StopsBy comes stop.Memory = Unit {0}
 
 -- work that asks nothing of the desk is done: it comes to such a fate, with what it gives
 abbrev pub WorksTo : (Fate → Type 0) → Result Outcome Stop → Type 0
-WorksTo comes (Ok outcome) = (fate : Fate) × comes fate × (status fate ≡ 0) × Gives fate (product_of outcome)
+WorksTo comes (Ok outcome) =
+    (fate : Fate) × comes fate × (status fate ≡ 0) × Gives fate (product_of outcome)
 WorksTo comes (Err stopped) = StopsBy comes stopped
 
 -- a load for a task: a file that is missing or too long is refused
 abbrev pub Fetches : DeskState → DeskState → List ℕ → Result (Vec ℕ Global) Stop → Type 0
-Fetches old new name (Ok bytes) = Finds old name (found.Bytes bytes.items) × (new ≡ after_answer as_before old)
+Fetches old new name (Ok bytes) =
+    Finds old name (found.Bytes bytes.items) × (new ≡ after_answer as_before old)
 Fetches old new name (Err (stop.Refused refusal)) =
     (new ≡ after_answer as_before old)
     × ((Finds old name found.Missing × (refused refusal ≡ Missing name))

@@ -1,7 +1,7 @@
 -- What the program answers, what it says and saves, and why.
 use Rattle.std.specs.Prelude.{◌≡◌, ◌⊎◌, ℕ, zero, suc, ◌<◌, ◌≤◌, List, [], ◌∷◌, codes, Option, None, Some, IsSome, Result, Err}
 use Rattle.std.specs.Option.{option_map}
-use Rattle.desk_io.specs.Desk.{DeskState, Files, Rose, Saves, Says, after_answer, after_fault, as_before, put, with_file, with_said}
+use Rattle.desk_io.specs.Desk.{DeskState, Files, Rose, Saves, Says, after_answer, after_fault, as_before, files_with, with_file, with_said}
 use Rattle.desk_io.specs.declared.desk.SinkError.{SinkError}
 use Rattle.desk_io.specs.declared.desk.SinkError.TheVariants as sink
 use Rattle.txflash.specs.Fate.{Fate, status, line}
@@ -49,7 +49,8 @@ saved desk it = after_save it.product.saved (loaded desk it)
 
 -- a load failed
 abbrev pub LoadFails : Option Asked → DeskState → DeskState → Type 0
-LoadFails task old new = (n : ℕ) × (n < files_of task) × (new ≡ after_fault as_before (after_loads n old))
+LoadFails task old new =
+    (n : ℕ) × (n < files_of task) × (new ≡ after_fault as_before (after_loads n old))
 
 -- the saving of this file failed, if there is one
 abbrev pub FileFails : Option SavedFile → DeskState → DeskState → Type 0
@@ -62,7 +63,8 @@ SaveFails task old new = (it : Decision task old) × FileFails it.product.saved 
 
 -- the saying of a fate's text failed, after what it gives was saved
 abbrev pub TextFails : Option Asked → DeskState → DeskState → Type 0
-TextFails task old new = (it : Decision task old) × Says (saved old it) new it.product.text (Err sink.Failed)
+TextFails task old new =
+    (it : Decision task old) × Says (saved old it) new it.product.text (Err sink.Failed)
 
 -- a call of the desk failed
 abbrev pub CallFails : Option Asked → DeskState → DeskState → Type 0
@@ -70,7 +72,8 @@ CallFails task old new = LoadFails task old new ⊎ (SaveFails task old new ⊎ 
 
 -- and then a line was tried
 abbrev pub IsFaulted : Option Asked → DeskState → DeskState → Type 0
-IsFaulted task old new = (mid : DeskState) × CallFails task old mid × Attempts mid new (line (codes "desk fault"))
+IsFaulted task old new =
+    (mid : DeskState) × CallFails task old mid × Attempts mid new (line (codes "desk fault"))
 
 -- Memory ran out before anything was saved and said, or after what a fate gives was saved, and before it was said.
 abbrev pub RunsOut : Option Asked → DeskState → DeskState → Type 0
@@ -80,15 +83,17 @@ RunsOut task old new =
 
 -- and then a line was tried
 abbrev pub IsStarved : Option Asked → DeskState → DeskState → Type 0
-IsStarved task old new = (mid : DeskState) × RunsOut task old mid × Attempts mid new (line (codes "no memory"))
+IsStarved task old new =
+    (mid : DeskState) × RunsOut task old mid × Attempts mid new (line (codes "no memory"))
 
 -- How a call of the program ends, with which status: a fate decided, what it gives was saved, and its text was said
 -- whole; or a call of the desk failed; or memory ran out.
-pub data Ends (task : Option Asked) (old new : DeskState) (answer : ℕ) : Type 0 where
-  Decided : (it : Decision task old) → answer ≡ status it.fate → new ≡ after_text it.product.text (saved old it) →
-      Ends task old new answer
-  Faulted : answer ≡ 5 → IsFaulted task old new → Ends task old new answer
-  Starved : answer ≡ 6 → IsStarved task old new → Ends task old new answer
+pub data EndsCall (task : Option Asked) (old new : DeskState) (answer : ℕ) : Type 0 where
+  Decided : (it : Decision task old) → answer ≡ status it.fate →
+      new ≡ after_text it.product.text (saved old it) →
+      EndsCall task old new answer
+  Faulted : answer ≡ 5 → IsFaulted task old new → EndsCall task old new answer
+  Starved : answer ≡ 6 → IsStarved task old new → EndsCall task old new answer
 
 -- ---- which status comes
 
@@ -99,7 +104,8 @@ TellsFate task desk = (files_of task ≡ 0) ⊎ IsSome desk.told
 -- Where the desk tells it, a task has one fate, which gives its status, unless the desk's count of faults rose or memory
 -- ran out.
 pub record IsExact (task : Option Asked) (old new : DeskState) (answer : ℕ) : Type 0 where
-  pub one_fate : (a b : Fate) (m n : ℕ) → TellsFate task old → IsFate task old a m → IsFate task old b n → a ≡ b
+  pub one_fate : (a b : Fate) (m n : ℕ) → TellsFate task old → IsFate task old a m →
+      IsFate task old b n → a ≡ b
   pub fate_gives : (fate : Fate) (loads : ℕ) → IsFate task old fate loads → TellsFate task old →
       (Rose old.faults new.faults → ⊥) → (answer ≡ status fate) ⊎ (answer ≡ 6)
 
@@ -112,7 +118,9 @@ files_in desk = option_map (λ c. c.files) desk.told
 -- these files, but for the one of this name
 abbrev pub Leaves : Option (List ℕ) → Option Files → Option Files → Type 0
 Leaves None old new = new ≡ old
-Leaves (Some name) old new = (new ≡ old) ⊎ ((left : Option (List ℕ)) × (new ≡ option_map (λ files. put files name left) old))
+Leaves (Some name) old new =
+    (new ≡ old) ⊎
+    ((left : Option (List ℕ)) × (new ≡ option_map (λ files. files_with files name left) old))
 
 -- No file changes but the one that a task saves; and none does where the status is a refusal.
 pub record LeavesFiles (task : Option Asked) (old new : DeskState) (answer : ℕ) : Type 0 where

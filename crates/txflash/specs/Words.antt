@@ -21,12 +21,13 @@ pub data Asked : Type 0 where
   Drive : (start count : ℕ) → (protocol : Protocol) → Asked
 
 -- a file's name has at least one byte
-abbrev pub name_of : List ℕ → Option (List ℕ)
-name_of word = if nat_lt 0 (length word) then Some word else None
+abbrev pub file_name : List ℕ → Option (List ℕ)
+file_name word = if nat_lt 0 (length word) then Some word else None
 
-abbrev pub protocol_of : List ℕ → Option Protocol
-protocol_of word =
-    if bytes_eq word (codes "scc") then Some Scc else if bytes_eq word (codes "bpcc") then Some Bpcc else None
+abbrev pub protocol_of_word : List ℕ → Option Protocol
+protocol_of_word word =
+    if bytes_eq word (codes "scc") then Some Scc else if bytes_eq word (codes "bpcc") then Some Bpcc
+    else None
 
 -- six numbers, which are those of a configuration in their order
 abbrev pub config_of : Protocol → List (List ℕ) → Option Config
@@ -41,34 +42,38 @@ config_of protocol (page ∷ pages ∷ blocks ∷ dies ∷ logical ∷ pending �
       logical = logical;
       pending = pending;
     })
-    (number_of pending)) (number_of logical)) (number_of dies)) (number_of blocks)) (number_of pages)) (number_of page)
+    (number_of pending)) (number_of logical)) (number_of dies)) (number_of blocks))
+    (number_of pages)) (number_of page)
 config_of protocol _ = None
 
 -- ---- the words behind the first one
 
 abbrev pub try_of : List (List ℕ) → Option Asked
-try_of (commands ∷ []) = option_map Try (name_of commands)
+try_of (commands ∷ []) = option_map Try (file_name commands)
 try_of _ = None
 
 abbrev pub format_of : List (List ℕ) → Option Asked
 format_of (image ∷ protocol ∷ numbers) =
     option_and_then
-    (λ image. option_and_then (λ protocol. option_map (Format image) (config_of protocol numbers)) (protocol_of protocol))
-    (name_of image)
+    (λ image. option_and_then (λ protocol. option_map (Format image) (config_of protocol numbers))
+    (protocol_of_word protocol))
+    (file_name image)
 format_of _ = None
 
 abbrev pub run_of : List (List ℕ) → Option Asked
-run_of (image ∷ commands ∷ []) = option_and_then (λ image. option_map (Run image) (name_of commands)) (name_of image)
+run_of (image ∷ commands ∷ []) =
+    option_and_then (λ image. option_map (Run image) (file_name commands)) (file_name image)
 run_of _ = None
 
 abbrev pub explain_of : List (List ℕ) → Option Asked
-explain_of (image ∷ []) = option_map Explain (name_of image)
+explain_of (image ∷ []) = option_map Explain (file_name image)
 explain_of _ = None
 
 abbrev pub drive_of : List (List ℕ) → Option Asked
 drive_of (start ∷ count ∷ protocol ∷ []) =
     option_and_then
-    (λ start. option_and_then (λ count. option_map (Drive start count) (protocol_of protocol)) (draws_of count))
+    (λ start. option_and_then (λ count. option_map (Drive start count) (protocol_of_word protocol))
+    (draws_of count))
     (wide_number_of start)
 drive_of _ = None
 

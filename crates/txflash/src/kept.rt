@@ -3,7 +3,7 @@ ghost use Rattle.std.specs.Prelude.{map, flat_map};
 ghost use Rattle.flash_model.specs.Flash.{IsWhole, complete, slot_at};
 ghost use Rattle.flash_model.specs.Calls.{seen_of};
 ghost use Rattle.mem_flash.specs.Slots.{cell_of};
-ghost use Rattle.txflash.specs.Keeping.{entry_at};
+ghost use Rattle.txflash.specs.Keeping.{reply_at};
 
 use cut_replay::Watch;
 use flash_model::{Flash, Seen};
@@ -63,7 +63,7 @@ impl Kept {
     /// The text of a reply.
     pub fn text(&self, i: usize) -> &[u8]
         requires { i < length self.now }
-        ensures { result.now ≡ (entry_at self.now i).text }
+        ensures { result.now ≡ (reply_at self.now i).text }
     {
         &self.entries[i].text
     }
@@ -71,7 +71,7 @@ impl Kept {
     /// How many slots the flash had.
     pub fn slots(&self, i: usize) -> u32
         requires { i < length self.now }
-        ensures { result ≡ length (entry_at self.now i).moment.image }
+        ensures { result ≡ length (reply_at self.now i).moment.image }
     {
         self.entries[i].flash.shape().slots()
     }
@@ -79,8 +79,8 @@ impl Kept {
     /// How a slot read when a reply was given.
     pub fn seen(&self, i: usize, at: Slot) -> Seen
         requires reply { i < length self.now }
-        requires slot { at.0 < length (entry_at self.now i).moment.image }
-        ensures { result ≡ seen_of (slot_at (entry_at self.now i).moment.image at.0) }
+        requires slot { at.0 < length (reply_at self.now i).moment.image }
+        ensures { result ≡ seen_of (slot_at (reply_at self.now i).moment.image at.0) }
     {
         let flash = &self.entries[i].flash;
         let _ = flash.shape();
@@ -91,12 +91,12 @@ impl Kept {
     /// 0x00 where it was damaged. It is as long as that of each complete slot.
     pub fn cell(&self, i: usize, at: Slot) -> &[u8]
         requires reply { i < length self.now }
-        requires slot { at.0 < length (entry_at self.now i).moment.image }
+        requires slot { at.0 < length (reply_at self.now i).moment.image }
         ensures shown { (page_bytes : ℕ) × ((result.now ≡
-            cell_of page_bytes (slot_at (entry_at self.now i).moment.image at.0))
-            × All (IsWhole page_bytes) (entry_at self.now i).moment.image) }
+            cell_of page_bytes (slot_at (reply_at self.now i).moment.image at.0))
+            × All (IsWhole page_bytes) (reply_at self.now i).moment.image) }
         ensures complete { (bytes spare : List ℕ)
-            → slot_at (entry_at self.now i).moment.image at.0 ≡ complete bytes spare
+            → slot_at (reply_at self.now i).moment.image at.0 ≡ complete bytes spare
             → result.now ≡ bytes ++ spare }
     {
         let flash = &self.entries[i].flash;
@@ -107,7 +107,7 @@ impl Kept {
     /// The number of programs that were done.
     pub fn programs(&self, i: usize) -> u64
         requires { i < length self.now }
-        ensures { result ≡ (entry_at self.now i).moment.programs }
+        ensures { result ≡ (reply_at self.now i).moment.programs }
     {
         self.entries[i].programs
     }
@@ -115,7 +115,7 @@ impl Kept {
     /// The number of erases that were done.
     pub fn erases(&self, i: usize) -> u64
         requires { i < length self.now }
-        ensures { result ≡ (entry_at self.now i).moment.erases }
+        ensures { result ≡ (reply_at self.now i).moment.erases }
     {
         self.entries[i].erases
     }

@@ -2,7 +2,7 @@ ghost use Rattle.std.specs.Prelude.{◌≡◌, codes};
 ghost use Rattle.desk_io.specs.Desk.{Rose};
 ghost use Rattle.txflash.specs.Fate.{line};
 ghost use Rattle.txflash.specs.Stops.{Delivers, FaultTold, MemoryTold, Speaks, Works, product_of};
-ghost use Rattle.txflash.specs.Top.{Ends, IsExact, LeavesFiles};
+ghost use Rattle.txflash.specs.Top.{EndsCall, IsExact, LeavesFiles};
 ghost use Rattle.txflash.specs.Words.{asked_by};
 
 use crate::outcome::{Outcome, Stop};
@@ -22,7 +22,7 @@ const _: () = prove!(host_protocol::MAX_FILE_BYTES == desk_io::MAX_FILE_BYTES);
 /// is no command, 5 for a fault of the desk, 6 for want of memory, 7 for an image that is not sound,
 /// 8 for numbers of no device, and 9 for a file that is too long.
 pub fn top<D: Desk>(alloc: Global, words: &[String], desk: &mut D) -> u8
-    ensures ends { Ends (asked_by words.now) (D.state desk.old) (D.state desk.new) result }
+    ensures ends { EndsCall (asked_by words.now) (D.state desk.old) (D.state desk.new) result }
     ensures exact { IsExact (asked_by words.now) (D.state desk.old) (D.state desk.new) result }
     ensures fault { result ≡ 5 → Rose (D.state desk.old).faults (D.state desk.new).faults }
     ensures files { LeavesFiles (asked_by words.now) (D.state desk.old) (D.state desk.new) result }
@@ -32,7 +32,7 @@ pub fn top<D: Desk>(alloc: Global, words: &[String], desk: &mut D) -> u8
 
 /// The same, by how it ends.
 fn run<D: Desk>(alloc: Global, words: &[String], desk: &mut D) -> u8
-    ensures { Ends (asked_by words.now) (D.state desk.old) (D.state desk.new) result }
+    ensures { EndsCall (asked_by words.now) (D.state desk.old) (D.state desk.new) result }
 {
     match work(alloc, words, desk) {
         Ok(outcome) => deliver(desk, &outcome),

@@ -1,6 +1,6 @@
 ghost use Rattle.std.specs.Prelude.{◌≡◌, map, string_bytes};
 ghost use Rattle.std.specs.Option.{option_map};
-ghost use Rattle.txflash.specs.Words.{asked_by, asked_of, config_of, name_of, protocol_of};
+ghost use Rattle.txflash.specs.Words.{asked_by, asked_of, config_of, file_name, protocol_of_word};
 ghost use Rattle.txflash.specs.Words.{drive_of, explain_of, format_of, run_of, try_of};
 
 use crate::numbers::{draws, wide_number};
@@ -111,14 +111,14 @@ fn to_drive(words: &[String]) -> Option<Task<'_>>
 
 /// The name of a file, which has at least one byte.
 fn name(word: &str) -> Option<&str>
-    ensures { option_map (λ n. n.now) result ≡ name_of word.now }
+    ensures { option_map (λ n. n.now) result ≡ file_name word.now }
 {
     if word.is_empty() { None } else { Some(word) }
 }
 
 /// The protocol of this name.
 fn protocol_named(word: &str) -> Option<Protocol>
-    ensures { result ≡ protocol_of word.now }
+    ensures { result ≡ protocol_of_word word.now }
 {
     match word {
         "scc" => Some(Protocol::Scc),

@@ -10,7 +10,7 @@ use Rattle.record_list.specs.declared.found.Verdict.TheVariants.{Committed, Unco
 use Rattle.record_list.specs.declared.found.Why.{Why}
 use Rattle.record_list.specs.declared.found.Why.TheVariants.{Cycle, Passed, Absent, Straddled}
 use Rattle.record_list.specs.Verdict.{verdict_of}
-use Rattle.verdict_report.specs.Lines.{after_spaces, FitTypes, IsReason, max_line_bytes}
+use Rattle.verdict_report.specs.Lines.{after_spaces, FitTypes, IsReason, max_report_line_bytes}
 use Rattle.verdict_report.specs.Report.{verdict_word, reason_words, link_word, more_words, most_links, walk_words, page_line}
 use Rattle.verdict_report.proofs.LineLemmas.{line_parts}
 
@@ -63,15 +63,15 @@ more_short count h = others_short (nat_lt most_links count) (count - most_links)
 -- seven parts and a line feed
 parts_short : (first a b c d e f : List ℕ) →
     length first ≤ 7 → length a ≤ 39 → length b ≤ 12 → length c ≤ 31 → length d ≤ 34 → length e ≤ 512 → length f ≤ 26 →
-    length ((first ++ (a ++ (b ++ (c ++ (d ++ (e ++ f)))))) ++ 10 ∷ []) ≤ max_line_bytes
+    length ((first ++ (a ++ (b ++ (c ++ (d ++ (e ++ f)))))) ++ 10 ∷ []) ≤ max_report_line_bytes
 parts_short first a b c d e f h0 h1 h2 h3 h4 h5 h6 = simp length-append (omega arith)
 
 pub line_short : (page version : ℕ) (reason : Why) (current : ℕ) (links : List Link) → FitTypes page version reason current links →
-    length (page_line page version reason current (walk_words links)) ≤ max_line_bytes
+    length (page_line page version reason current (walk_words links)) ≤ max_report_line_bytes
 line_short page version reason current links fit =
     let shown = map link_word (take most_links links) in
     let others = more_words (length links) in
-    subst (λ (text : List ℕ). length text ≤ max_line_bytes) (sym (line_parts page version reason current shown others))
+    subst (λ (text : List ℕ). length text ≤ max_report_line_bytes) (sym (line_parts page version reason current shown others))
     (parts_short (codes "verdict") (after_spaces (decimal page ∷ codes "newest" ∷ decimal version ∷ []))
     (after_spaces (verdict_word (verdict_of reason) ∷ [])) (after_spaces (reason_words reason))
     (after_spaces (codes "current" ∷ decimal current ∷ codes "walk" ∷ [])) (after_spaces shown) (after_spaces others)

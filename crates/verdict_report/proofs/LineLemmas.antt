@@ -13,7 +13,7 @@ use Rattle.record_list.specs.Current.{cur, fallback}
 use Rattle.verdict_report.specs.declared.walk.Walk.{Walk}
 use Rattle.verdict_report.specs.Walks.{links_of, why_at}
 use Rattle.verdict_report.specs.Report.{verdict_word, reason_words, link_word, more_words, walk_words, page_line, verdict_line}
-use Rattle.verdict_report.specs.Lines.{after_spaces, IsWalk, words_of}
+use Rattle.verdict_report.specs.Lines.{after_spaces, IsWalk, shown_words}
 use Rattle.verdict_report.proofs.WalkLemmas.{why_shown}
 
 -- words with a space between each two are the first and the others with a space before each
@@ -72,13 +72,13 @@ pub line_explained : (protocol : Protocol) (list : List Found) (logical page ver
     version ≡ newest list page → start ≡ newest_name list page → IsWalk walk (links_of list logical page) →
     reason ≡ why_at protocol list start walk.last →
     current ≡ cond (is_committed reason) (newest list page) (fallback protocol list page) →
-    page_line page version reason current (words_of walk) ≡ verdict_line protocol list logical page
+    page_line page version reason current (shown_words walk) ≡ verdict_line protocol list logical page
 line_explained protocol list logical page version start reason current walk ev es is er ec =
     let decided : reason ≡ why protocol list logical page =
     er ∙ ap (λ s. why_at protocol list s walk.last) es ∙ sym (why_shown protocol list logical page walk is) in
     let counts : current ≡ cur protocol list logical page =
     ec ∙ ap (λ r. cond (is_committed r) (newest list page) (fallback protocol list page)) decided in
-    let words : words_of walk ≡ walk_words (links_of list logical page) =
+    let words : shown_words walk ≡ walk_words (links_of list logical page) =
     ap₂ (λ links n. map link_word links ++ more_words n) is.shown is.count in
-    ap₂ (λ v r. page_line page v r current (words_of walk)) ev decided
+    ap₂ (λ v r. page_line page v r current (shown_words walk)) ev decided
     ∙ ap₂ (λ n ws. page_line page (newest list page) (why protocol list logical page) n ws) counts words

@@ -19,12 +19,12 @@ pub record IsWalk (walk : Walk) (links : List Link) : Type 0 where
   pub last : (none : Link) → slice_index_or links (length links - 1) none ≡ walk.last
 
 -- the words of its links
-abbrev pub words_of : Walk → List (List ℕ)
-words_of walk = map link_word walk.shown.items ++ more_words walk.count
+abbrev pub shown_words : Walk → List (List ℕ)
+shown_words walk = map link_word walk.shown.items ++ more_words walk.count
 
 -- the text of a line
 abbrev pub line_text : Line → List ℕ
-line_text line = page_line line.page line.newest line.why line.current (words_of line.walk)
+line_text line = page_line line.page line.newest line.why line.current (shown_words line.walk)
 
 -- the version in a reason is one of its type
 abbrev pub IsReason : Why → Type 0
@@ -32,7 +32,8 @@ IsReason (Straddled version) = version < 2 ^ 64
 IsReason reason = Unit {0}
 
 -- the numbers in the line of a page are those of their types
-pub record FitTypes (page version : ℕ) (reason : Why) (current : ℕ) (links : List Link) : Type 0 where
+pub record FitTypes (page version : ℕ) (reason : Why) (current : ℕ)
+    (links : List Link) : Type 0 where
   pub page_fits : page < 2 ^ 32
   pub version_fits : version < 2 ^ 64
   pub reason_fits : IsReason reason
@@ -41,5 +42,5 @@ pub record FitTypes (page version : ℕ) (reason : Why) (current : ℕ) (links :
   pub count_fits : length links < 2 ^ 64
 
 -- the most bytes of such a line with its line feed
-abbrev pub max_line_bytes : ℕ
-max_line_bytes = 662
+abbrev pub max_report_line_bytes : ℕ
+max_report_line_bytes = 662

@@ -6,7 +6,7 @@ ghost use Rattle.tx_types.specs.declared.config.Protocol.{Protocol};
 ghost use Rattle.record_list.specs.declared.found.Found.{Found};
 ghost use Rattle.record_list.specs.declared.found.Why.{Why};
 ghost use Rattle.verdict_report.specs.Walks.{links_of, IsDecidingWalk};
-ghost use Rattle.verdict_report.specs.Lines.{FitTypes, max_line_bytes};
+ghost use Rattle.verdict_report.specs.Lines.{FitTypes, max_report_line_bytes};
 ghost use Rattle.verdict_report.specs.Report.{has_record, page_line, pages, walk_words};
 ghost use Rattle.verdict_report.specs.Examples.{EmptyReport, StraddledReport, TwiceStraddledReport, EndlessReport};
 
@@ -28,7 +28,7 @@ pub fn pages_are_those_of_records()
 pub fn lines_are_short()
     ensures { (page version : ℕ) (reason : Why) (current : ℕ) (links : List Link) →
         FitTypes page version reason current links →
-        length (page_line page version reason current (walk_words links)) ≤ max_line_bytes }
+        length (page_line page version reason current (walk_words links)) ≤ max_report_line_bytes }
 {}
 
 /// The reports of a few records.

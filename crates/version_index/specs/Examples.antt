@@ -105,7 +105,8 @@ LeastSlots =
 -- a page of an image has the bytes of its current record, and one of which the record is aborted has none
 abbrev pub written : List Contents
 written =
-    complete (7 ∷ []) (spelling Scc (rec 0 1 0 1 0)) ∷ complete (8 ∷ []) (spelling Scc (rec 1 3 2 7 0)) ∷ blank ∷ []
+    complete (7 ∷ []) (spelling Scc (rec 0 1 0 1 0))
+    ∷ complete (8 ∷ []) (spelling Scc (rec 1 3 2 7 0)) ∷ blank ∷ []
 
 abbrev pub WrittenArray : Type 0
 WrittenArray = array_in Scc 3 written ≡ Some (7 ∷ []) ∷ None ∷ None ∷ []

@@ -39,14 +39,16 @@ BytesStay protocol image image' =
 
 -- the new record has its bytes
 abbrev pub BytesCome : Protocol → List Contents → Rec → List ℕ → Type 0
-BytesCome protocol image' rec bytes = bytes_at (written_in protocol image') (name_of rec) ≡ Some bytes
+BytesCome protocol image' rec bytes =
+    bytes_at (written_in protocol image') (name_of rec) ≡ Some bytes
 
 -- what the image with a record more keeps where a name of the transaction stays absent: its array too
 pub record KeepsPartial
     (protocol : Protocol) (logical : ℕ) (shape : Shape) (image image' : List Contents)
     (names : List Link) (rec : Rec) (bytes : List ℕ) : Type 0 where
   pub sound : IsSoundImage protocol logical shape image'
-  pub records : PartialWriteKeeps protocol (records_in protocol image) (records_in protocol image') logical names
+  pub records : PartialWriteKeeps protocol (records_in protocol image)
+      (records_in protocol image') logical names
   pub array : array_in protocol logical image' ≡ array_in protocol logical image
   pub old_bytes : BytesStay protocol image image'
   pub new_bytes : BytesCome protocol image' rec bytes
@@ -57,7 +59,8 @@ pub record KeepsCompleting
     (protocol : Protocol) (logical : ℕ) (shape : Shape) (image image' : List Contents)
     (names : List Link) (rec : Rec) (bytes : List ℕ) : Type 0 where
   pub sound : IsSoundImage protocol logical shape image'
-  pub records : CompletingWriteKeeps protocol (records_in protocol image) (records_in protocol image') logical names
+  pub records : CompletingWriteKeeps protocol (records_in protocol image)
+      (records_in protocol image') logical names
   pub taken : All (λ name.
       slice_index_or (array_in protocol logical image') name.page None
       ≡ bytes_at (written_in protocol image') name) names
@@ -68,7 +71,8 @@ pub record KeepsCompleting
   pub new_bytes : BytesCome protocol image' rec bytes
 
 -- what the image with a copy more keeps: it has no name that it had not
-pub record KeepsCopied (protocol : Protocol) (logical : ℕ) (shape : Shape) (image image' : List Contents) : Type 0 where
+pub record KeepsCopied (protocol : Protocol) (logical : ℕ) (shape : Shape)
+    (image image' : List Contents) : Type 0 where
   pub names : (name : Link) → is_present (records_in protocol image') name ≡ true →
       is_present (records_in protocol image) name ≡ true
   pub sound : IsSoundImage protocol logical shape image'
@@ -77,14 +81,16 @@ pub record KeepsCopied (protocol : Protocol) (logical : ℕ) (shape : Shape) (im
   pub bytes : BytesStay protocol image image'
 
 -- what the image without the records of a block keeps
-pub record KeepsLost (protocol : Protocol) (logical : ℕ) (shape : Shape) (image image' : List Contents) : Type 0 where
+pub record KeepsLost (protocol : Protocol) (logical : ℕ) (shape : Shape)
+    (image image' : List Contents) : Type 0 where
   pub sound : IsSoundImage protocol logical shape image'
   pub records : LossKeeps protocol (records_in protocol image) (records_in protocol image') logical
   pub array : array_in protocol logical image' ≡ array_in protocol logical image
   pub bytes : BytesStay protocol image' image
 
 -- a slot that was blank is damaged: the records are the same, with their bytes
-pub record KeepsDamaged (protocol : Protocol) (logical : ℕ) (shape : Shape) (image image' : List Contents) : Type 0 where
+pub record KeepsDamaged (protocol : Protocol) (logical : ℕ) (shape : Shape)
+    (image image' : List Contents) : Type 0 where
   pub sound : IsSoundImage protocol logical shape image'
   pub written : written_in protocol image' ≡ written_in protocol image
   pub array : array_in protocol logical image' ≡ array_in protocol logical image

@@ -15,18 +15,25 @@ use Rattle.version_index.specs.ImageChanges.{image_with, AsksFor, KeepsPartial, 
 
 abbrev pub ImagePartialLaw : Protocol → Type 0
 ImagePartialLaw protocol =
-    (logical : ℕ) (shape : Shape) (image : List Contents) (names : List Link) (at : ℕ) (bytes : List ℕ) (rec : Rec) →
+    (logical : ℕ) (shape : Shape) (image : List Contents) (names : List Link) (at : ℕ)
+    (bytes : List ℕ) (rec : Rec) →
     AsksFor protocol logical shape image names at rec →
-    Any (λ name. is_present (records_in protocol (image_with protocol image at bytes rec)) name ≡ false) names →
-    KeepsPartial protocol logical shape image (image_with protocol image at bytes rec) names rec bytes
+    Any (λ name. is_present (records_in protocol (image_with protocol image at bytes rec)) name
+    ≡ false) names →
+    KeepsPartial protocol logical shape image
+    (image_with protocol image at bytes rec) names rec bytes
 
 abbrev pub ImageCompletingLaw : Protocol → Type 0
 ImageCompletingLaw protocol =
-    (logical : ℕ) (shape : Shape) (image : List Contents) (names : List Link) (at : ℕ) (bytes : List ℕ) (rec : Rec) →
+    (logical : ℕ) (shape : Shape) (image : List Contents) (names : List Link) (at : ℕ)
+    (bytes : List ℕ) (rec : Rec) →
     AsksFor protocol logical shape image names at rec →
-    All (λ name. is_present (records_in protocol (image_with protocol image at bytes rec)) name ≡ true) names →
-    HasRoomAround protocol (records_in protocol image) (records_in protocol (image_with protocol image at bytes rec)) logical shape names →
-    KeepsCompleting protocol logical shape image (image_with protocol image at bytes rec) names rec bytes
+    All (λ name. is_present (records_in protocol (image_with protocol image at bytes rec)) name
+    ≡ true) names →
+    HasRoomAround protocol (records_in protocol image)
+    (records_in protocol (image_with protocol image at bytes rec)) logical shape names →
+    KeepsCompleting protocol logical shape image
+    (image_with protocol image at bytes rec) names rec bytes
 
 abbrev pub ImageCopyLaw : Protocol → Type 0
 ImageCopyLaw protocol =

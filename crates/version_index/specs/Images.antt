@@ -48,22 +48,26 @@ HasPages logical rec = (rec.page < logical) × (rec.next.page < logical)
 abbrev pub SlotReads : Protocol → ℕ → Contents → Type 0
 SlotReads protocol logical blank = Unit {0}
 SlotReads protocol logical damaged = Unit {0}
-SlotReads protocol logical (complete bytes spare) = IsSomeAnd (record_of protocol spare) (HasPages logical)
+SlotReads protocol logical (complete bytes spare) =
+    IsSomeAnd (record_of protocol spare) (HasPages logical)
 
 -- a sound image: law 1 holds at each slot, and the eight laws of its records
-pub record IsSoundImage (protocol : Protocol) (logical : ℕ) (shape : Shape) (image : List Contents) : Type 0 where
+pub record IsSoundImage (protocol : Protocol) (logical : ℕ) (shape : Shape)
+    (image : List Contents) : Type 0 where
   pub reads : All (SlotReads protocol logical) image
   pub written : IsSoundWritten protocol (written_in protocol image) logical shape
 
 -- law 1 is broken, first at this slot
-pub record IsFirstUnread (protocol : Protocol) (logical : ℕ) (image : List Contents) (b : Breach) : Type 0 where
+pub record IsFirstUnread (protocol : Protocol) (logical : ℕ) (image : List Contents)
+    (b : Breach) : Type 0 where
   pub law : b.law ≡ 1
   pub breaks : SlotReads protocol logical (slot_at image b.slot.0) → ⊥
   pub earlier_slots : (k : ℕ) → k < b.slot.0 → SlotReads protocol logical (slot_at image k)
 
 -- law 1 holds at each slot, and this is the first of the eight laws that the records break, and the slot that
 -- it names
-pub record IsFirstOfRecords (protocol : Protocol) (logical : ℕ) (shape : Shape) (image : List Contents) (b : Breach) : Type 0 where
+pub record IsFirstOfRecords (protocol : Protocol) (logical : ℕ) (shape : Shape)
+    (image : List Contents) (b : Breach) : Type 0 where
   pub reads : All (SlotReads protocol logical) image
   pub broken : IsLeastWrittenBreach protocol (written_in protocol image) logical shape b
 

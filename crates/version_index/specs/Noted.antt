@@ -198,7 +198,8 @@ pub record IsNoted (protocol : Protocol) (n : Noted) : Type 0 where
 
 -- what is noted of slots that read so and hold these records: nothing is pinned, there is no spare, and each
 -- page is mentioned as the records mention it
-pub record IsNotedFrom (its : Config) (seen : List Seen) (list : List Found) (n : Noted) : Type 0 where
+pub record IsNotedFrom (its : Config) (seen : List Seen) (list : List Found)
+    (n : Noted) : Type 0 where
   pub config : n.config ≡ its
   pub reads : map seen_as n.notes ≡ seen
   pub found : found_in n.notes ≡ list

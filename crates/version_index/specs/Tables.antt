@@ -21,4 +21,4 @@ pub record IsTabled {R : Type 0} (protocol : Protocol) (d : Inside R) : Type 0 w
   pub noted : IsNoted protocol (noted_of d)
   pub shape : d.shape ≡ shape_of d.config
   pub list : d.list.items ≡ found_in d.notes.items
-  pub room : length d.notes.items ≤ vec_capacity d.list
+  pub capacity : length d.notes.items ≤ vec_capacity d.list

@@ -54,10 +54,10 @@ pub fn first_mentions(alloc: Global, list: &[Found], logical: u32) -> Result<Vec
 
 /// Makes the list that of the noted records, in room that it has.
 pub fn recount(list: &mut Vec<Found>, notes: &[Note])
-    requires room { length notes.now ≤ vec_capacity list.old }
+    requires capacity { length notes.now ≤ vec_capacity list.old }
     requires slots { length notes.now ≤ 65536 }
     ensures list { list.new.items ≡ found_in notes.now }
-    ensures room { vec_capacity list.new ≡ vec_capacity list.old }
+    ensures capacity { vec_capacity list.new ≡ vec_capacity list.old }
 {
     list.clear();
     for (slot, note) in notes.iter().enumerate() {

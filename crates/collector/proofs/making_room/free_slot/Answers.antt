@@ -8,7 +8,7 @@ returns-in_err-make_room-clause-still_clear g c =
     clear_stays c.args.index.now c.make_room.new.index c.requires.matches.noted c.in_err-make_room.ensures.preserves c.in_err-make_room.ensures.records
 
 pub unreachable-requires : goal.unreachable-requires
-unreachable-requires g c = c.in_ok-make_room.ensures.room (c.in_default-next_slot.ensures.full.0 refl)
+unreachable-requires g c = c.in_ok-make_room.ensures.free (c.in_default-next_slot.ensures.full.0 refl)
 
 pub returns-clause-matches : goal.returns-clause-matches
 returns-clause-matches g c =

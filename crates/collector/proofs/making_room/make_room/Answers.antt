@@ -39,8 +39,8 @@ returns-clause-made g c =
     c.in_ok-clean_spare.ensures.noted c.in_ok-clean_spare.ensures.blocks c.in_ok-clean_spare.ensures.preserves _ _ _ _ c.collect.ensures.matches c.in-Some.chosen.0 c.in-Some.ensures
     c.collect.result c.collect.ensures.done c.collect.ensures.noted c.collect.ensures.blocks c.collect.ensures.records c.collect.ensures.costs
 
-pub returns-clause-room : goal.returns-clause-room
-returns-clause-room g c =
+pub returns-clause-free : goal.returns-clause-free
+returns-clause-free g c =
     has_room _ _ _ _ _ _ _ _ c.requires.nothing c.requires.matches c.in_ok-clean_spare.ensures.matches c.in_ok-clean_spare.ensures.sure
     c.in_ok-clean_spare.ensures.noted c.in_ok-clean_spare.ensures.blocks c.in_ok-clean_spare.ensures.preserves _ _ _ _ c.collect.ensures.matches c.in-Some.chosen.0 c.in-Some.ensures
     c.collect.result c.collect.ensures.done c.collect.ensures.noted c.collect.ensures.blocks c.collect.ensures.records c.collect.ensures.costs

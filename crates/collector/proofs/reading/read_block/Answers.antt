@@ -6,7 +6,7 @@ use Rattle.tx_types.specs.declared.config.Shape.{Shape}
 use Rattle.std.specs.List.{list_all, range_with_len}
 use Rattle.flash_model.specs.Flash.{slot_at}
 use Rattle.version_index.specs.Notes.{note_at}
-use Rattle.collector.specs.Collecting.{is_blank}
+use Rattle.collector.specs.Collecting.{is_blank_slot}
 use Rattle.collector.specs.Settling.{reads_alike, reads_as}
 use Rattle.collector.specs.Looking.{Looks}
 use Rattle.collector.proofs.BlockReadings.{read_none, read_broken, read_more, read_all, so_far_shape}
@@ -66,7 +66,7 @@ returns-clause-blank g c =
     let some : 0 < c.args.index.now.config.pages_per_block = (let b = c.requires.noted.bounds.shape.pages_least in omega arith) in
     let all = read_all c.args.index.now (g.F.Flash.state c.args.flash.now) (g.F.Flash.state c.loop-at.flash) _ c.loop-at.at _ _
     c.config-pages.result.pages_per_block (omega (arith, c.loop-at-test.false, c.loop-at.auto.at-end)) (omega (arith, some, same)) c.loop-at.invariant in
-    all.1 ∙ ap (λ k. list_all (λ slot. is_blank (slot_at (g.F.Flash.state c.args.flash.now).image slot)) (range_with_len (c.args.block.0 * k) k)) same
+    all.1 ∙ ap (λ k. list_all (λ slot. is_blank_slot (slot_at (g.F.Flash.state c.args.flash.now).image slot)) (range_with_len (c.args.block.0 * k) k)) same
 
 pub returns-clause-looks : goal.returns-clause-looks
 returns-clause-looks g c =

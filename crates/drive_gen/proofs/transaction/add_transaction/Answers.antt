@@ -1,6 +1,6 @@
 use Rattle.std.proofs.Common.{◌≡◌, ℕ, ◌+◌, ap, arith, refl, sym, ◌∙◌, Result, Ok, Err}
 use Rattle.std.specs.Result.{OnOk}
-use Rattle.drive_gen.specs.Generator.{high_bits, next_state, state_after}
+use Rattle.drive_gen.specs.Generator.{high_bits, next_state, generator_after}
 use Rattle.drive_gen.specs.Kinds.{kind_of}
 use Rattle.drive_gen.specs.declared.kind.Kind.{Kind}
 use Rattle.drive_gen.specs.declared.kind.Kind.TheVariants as kind
@@ -13,11 +13,11 @@ on_ok (Ok x) p = p
 on_ok (Err e) p = tt
 
 -- the state behind the draw of the kind
-third : (x n a b : ℕ) → a ≡ state_after x (n + 2) → b ≡ next_state a → b ≡ state_after x (n + 3)
+third : (x n a b : ℕ) → a ≡ generator_after x (n + 2) → b ≡ next_state a → b ≡ generator_after x (n + 3)
 third x n a b p q = q ∙ ap next_state p ∙ state_more x (n + 2) (n + 3) (omega arith)
 
 -- the kind that was drawn
-kind_is : (x n a : ℕ) (k : Kind) → a ≡ state_after x (n + 2) → k ≡ kind_of (high_bits (next_state a) 50) → kind_of (high_bits (state_after x (n + 3)) 50) ≡ k
+kind_is : (x n a : ℕ) (k : Kind) → a ≡ generator_after x (n + 2) → k ≡ kind_of (high_bits (next_state a) 50) → kind_of (high_bits (generator_after x (n + 3)) 50) ≡ k
 kind_is x n a k p q = sym (q ∙ ap (λ s. kind_of (high_bits s 50)) (third x n a (next_state a) p refl))
 
 pub returns-in-Cut-clause-commands : goal.returns-in-Cut-clause-commands
@@ -26,8 +26,8 @@ returns-in-Cut-clause-commands c =
     let n = page_count c.args.config x in
     let third = third x n c.draw_batch.new.generator.state c.draw.new.generator.state c.in_ok-batch.ensures.state c.in-Cut.ensures.state in
     let is = kind_cut c.args.config x c.args.tag (kind_is x n c.draw_batch.new.generator.state kind.Cut c.in_ok-batch.ensures.state c.in-Cut.ensures.kind) in
-    let four : next_state c.draw.new.generator.state ≡ state_after x (n + 4) = ap next_state third ∙ state_more x (n + 3) (n + 4) (omega arith) in
-    let five : next_state (state_after x (n + 4)) ≡ state_after x (n + 5) = state_more x (n + 4) (n + 5) (omega arith) in
+    let four : next_state c.draw.new.generator.state ≡ generator_after x (n + 4) = ap next_state third ∙ state_more x (n + 3) (n + 4) (omega arith) in
+    let five : next_state (generator_after x (n + 4)) ≡ generator_after x (n + 5) = state_more x (n + 4) (n + 5) (omega arith) in
     rw (is.0, ← c.in_ok-batch.ensures.batch) (rw (four, five) at c.add_cut.ensures.commands)
 
 pub returns-in-Cut-clause-state : goal.returns-in-Cut-clause-state
@@ -36,8 +36,8 @@ returns-in-Cut-clause-state c =
     let n = page_count c.args.config x in
     let third = third x n c.draw_batch.new.generator.state c.draw.new.generator.state c.in_ok-batch.ensures.state c.in-Cut.ensures.state in
     let is = kind_cut c.args.config x c.args.tag (kind_is x n c.draw_batch.new.generator.state kind.Cut c.in_ok-batch.ensures.state c.in-Cut.ensures.kind) in
-    let four : next_state c.draw.new.generator.state ≡ state_after x (n + 4) = ap next_state third ∙ state_more x (n + 3) (n + 4) (omega arith) in
-    let five : next_state (state_after x (n + 4)) ≡ state_after x (n + 5) = state_more x (n + 4) (n + 5) (omega arith) in
+    let four : next_state c.draw.new.generator.state ≡ generator_after x (n + 4) = ap next_state third ∙ state_more x (n + 3) (n + 4) (omega arith) in
+    let five : next_state (generator_after x (n + 4)) ≡ generator_after x (n + 5) = state_more x (n + 4) (n + 5) (omega arith) in
     rw is.1 (on_ok c.add_cut.result (c.add_cut.ensures.state ∙ ap next_state four ∙ five))
 
 pub returns-in-Abort-clause-commands : goal.returns-in-Abort-clause-commands

@@ -3,7 +3,7 @@ use Rattle.std.specs.List.{range_with_len}
 use Rattle.std.proofs.lemmas.List.FromFn.{map-range_with_len_more}
 use Rattle.tx_types.specs.Batch.{Writes}
 use Rattle.tx_types.specs.declared.config.Config.{Config}
-use Rattle.drive_gen.specs.Generator.{high_bits, next_state, state_after}
+use Rattle.drive_gen.specs.Generator.{high_bits, next_state, generator_after}
 use Rattle.drive_gen.specs.Work.{drawn_batch, drawn_write, page_count}
 use Rattle.drive_gen.proofs.DrawLemmas.{state_more, state_first}
 use Rattle.drive_gen.proofs.transaction.draw_batch.Goals as goal
@@ -16,7 +16,7 @@ batch_is b c x n p q r =
     ap (λ z. record { page_bytes = z; entries = b.entries }) p ∙ ap (λ z. record { page_bytes = c.page_bytes; entries = z }) whole
 
 -- the state behind two draws
-second : (x a b : ℕ) → a ≡ next_state x → b ≡ next_state a → b ≡ state_after x 2
+second : (x a b : ℕ) → a ≡ next_state x → b ≡ next_state a → b ≡ generator_after x 2
 second x a b p q = q ∙ ap next_state (p ∙ state_first x) ∙ state_more x 1 2 refl
 
 pub loop-k-init : goal.loop-k-init
@@ -31,13 +31,13 @@ loop-k-preserved c =
     let x = c.args.generator.now.state in
     let pages = c.args.config.logical in
     let counted = c.draw_page_count-pages.new.generator.state in
-    let next : next_state c.loop-k.generator.state ≡ state_after x (c.loop-k.k + 3) =
+    let next : next_state c.loop-k.generator.state ≡ generator_after x (c.loop-k.k + 3) =
     ap next_state c.loop-k.invariant.state ∙ state_more x (c.loop-k.k + 2) (c.loop-k.k + 3) (omega arith)
     in
-    let first : c.draw-first.result ≡ high_bits (state_after x 2) pages =
+    let first : c.draw-first.result ≡ high_bits (generator_after x 2) pages =
     c.draw-first.ensures.number ∙ ap (λ s. high_bits s pages) (second x counted (next_state counted) c.draw_page_count-pages.ensures.state refl)
     in
-    let byte : c.draw.result ≡ high_bits (state_after x (c.loop-k.k + 3)) 256 = c.draw.ensures.number ∙ ap (λ s. high_bits s 256) next in
+    let byte : c.draw.result ≡ high_bits (generator_after x (c.loop-k.k + 3)) 256 = c.draw.ensures.number ∙ ap (λ s. high_bits s 256) next in
     let one_more = map-range_with_len_more (drawn_write c.args.config x) 0 c.loop-k.k c.loop-k.k (omega arith) in
     record {
       size = rw (c.in_ok-add.ensures.ok) c.loop-k.invariant.size;

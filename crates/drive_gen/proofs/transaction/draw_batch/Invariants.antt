@@ -1,6 +1,6 @@
 use Rattle.std.proofs.Common.{◌≡◌, ◌+◌, map}
 use Rattle.std.specs.List.{range_with_len}
-use Rattle.drive_gen.specs.Generator.{state_after}
+use Rattle.drive_gen.specs.Generator.{generator_after}
 use Rattle.drive_gen.specs.Work.{drawn_write}
 use Rattle.drive_gen.proofs.transaction.draw_batch.Given as goal
 
@@ -8,5 +8,5 @@ abbrev pub invariant-loop-k : goal.invariant-loop-k
 invariant-loop-k l = record {
   size : l.batch.page_bytes ≡ l.config.page_bytes;
   entries : l.batch.entries ≡ map (drawn_write l.config l.fn.generator.state) (range_with_len 0 l.k);
-  state : l.generator.state ≡ state_after l.fn.generator.state (l.k + 2);
+  state : l.generator.state ≡ generator_after l.fn.generator.state (l.k + 2);
 }

@@ -9,7 +9,7 @@ abbrev pub invariant-loop-line : goal.invariant-loop-line
 invariant-loop-line l = record {
   lines : drop l.number (lines_of l.bytes) ≡ lines_of l.rest;
   good : AreCommands l.page_bytes (take l.number (lines_of l.bytes)) l.commands.items;
-  room : l.room + sum_by entries_in l.commands.items ≡ MAX_ENTRIES;
+  entries_left : l.entries_left + sum_by entries_in l.commands.items ≡ MAX_ENTRIES;
   short : l.number + length l.rest ≤ length l.bytes;
 }
 

@@ -1,13 +1,13 @@
 use Rattle.std.proofs.Common.{◌≡◌, ◌≤◌, length, map, ◌++◌, Some}
-use Rattle.host_protocol.specs.Commands.{entry_of}
+use Rattle.host_protocol.specs.Commands.{page_write_of}
 use Rattle.host_protocol.specs.Lines.{words_of}
 use Rattle.host_protocol.proofs.line.entries.Given as goal
 
 abbrev pub invariant-loop-word : goal.invariant-loop-word
 invariant-loop-word l = record {
   size : l.batch.page_bytes ≡ l.page_bytes;
-  read : map (entry_of l.page_bytes) (words_of l.words) ≡ map Some l.batch.entries ++ map (entry_of l.page_bytes) (words_of l.rest);
-  most : length l.batch.entries ≤ l.room;
+  read : map (page_write_of l.page_bytes) (words_of l.words) ≡ map Some l.batch.entries ++ map (page_write_of l.page_bytes) (words_of l.rest);
+  most : length l.batch.entries ≤ l.entries_left;
 }
 
 abbrev pub decreases-loop-word : goal.decreases-loop-word

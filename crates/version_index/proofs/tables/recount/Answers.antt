@@ -7,7 +7,7 @@ use Rattle.version_index.proofs.tables.recount.Goals as goal
 use Rattle.version_index.proofs.tables.recount.Goals.{in-Some, in_default}
 
 pub loop-slot-init : goal.loop-slot-init
-loop-slot-init c = record { list = c.clear.ensures.items ∙ sym found_in_nil; length = omega arith; room = c.clear.ensures.capacity }
+loop-slot-init c = record { list = c.clear.ensures.items ∙ sym found_in_nil; length = omega arith; capacity = c.clear.ensures.capacity }
 
 pub loop-slot-preserved : goal.loop-slot-preserved
 loop-slot-preserved c =
@@ -18,12 +18,12 @@ loop-slot-preserved c =
         list = ap (λ v. v.items) w.list-is ∙ w.push_reserved.ensures.items ∙ ap (λ l. l ++ w.in-Some.found ∷ []) so_far
             ∙ ap (λ o. found_in (take c.loop-slot.slot c.args.notes.now) ++ cons_option o []) (sym w.in-Some.is ∙ c.found_at.ensures) ∙ sym more;
         length = rw w.list-is (let h = c.loop-slot.invariant.length in omega (arith, w.push_reserved.ensures.len));
-        room = ap vec_capacity w.list-is ∙ w.push_reserved.ensures.capacity ∙ c.loop-slot.invariant.room;
+        capacity = ap vec_capacity w.list-is ∙ w.push_reserved.ensures.capacity ∙ c.loop-slot.invariant.capacity;
       }
       | in_default w ↦ record {
         list = ap (λ v. v.items) w.list-is ∙ so_far ∙ sym (append-nil (found_in (take c.loop-slot.slot c.args.notes.now)))
             ∙ ap (λ o. found_in (take c.loop-slot.slot c.args.notes.now) ++ cons_option o []) (sym w.in_default.is ∙ c.found_at.ensures) ∙ sym more;
         length = rw w.list-is (let h = c.loop-slot.invariant.length in omega arith);
-        room = ap vec_capacity w.list-is ∙ c.loop-slot.invariant.room;
+        capacity = ap vec_capacity w.list-is ∙ c.loop-slot.invariant.capacity;
       }
     ]

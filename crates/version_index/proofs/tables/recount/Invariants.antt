@@ -7,5 +7,5 @@ abbrev pub invariant-loop-slot : goal.invariant-loop-slot
 invariant-loop-slot l = record {
   list : l.list.items ≡ found_in (take l.slot l.notes);
   length : vec_len l.list ≤ l.slot;
-  room : vec_capacity l.list ≡ vec_capacity l.fn.list;
+  capacity : vec_capacity l.list ≡ vec_capacity l.fn.list;
 }

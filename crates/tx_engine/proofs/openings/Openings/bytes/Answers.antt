@@ -1,5 +1,5 @@
 use Rattle.std.proofs.Common.{◌≡◌, ◌+◌, length, take, ap, ◌∙◌, arith}
-use Rattle.tx_engine.specs.PendingPages.{pages_of}
+use Rattle.tx_engine.specs.PendingPages.{pages_held}
 use Rattle.tx_engine.specs.declared.pending.PendingPage.{PendingPage}
 use Rattle.tx_engine.proofs.OpenPages.{openings_length, page_of_opening}
 use Rattle.tx_engine.proofs.openings.Openings.bytes.Goals as goal
@@ -17,7 +17,7 @@ index-requires c =
     let os = c.self.inside.opened.items in
     let ps = c.self.inside.pages.items in
     let count = openings_length os ps in
-    let first : c.pages_before-first.result ≡ pages_of (take c.args.at os) = rw c.deref.ensures.value at c.pages_before-first.ensures in
+    let first : c.pages_before-first.result ≡ pages_held (take c.args.at os) = rw c.deref.ensures.value at c.pages_before-first.ensures in
     let its = rw (← first) at (page_of_opening os ps c.args.at c.args.place c.self.invariant.sum (omega arith) place) in
     omega (arith, its.within)
 
@@ -28,7 +28,7 @@ returns-clause-bytes c =
     let os = c.self.inside.opened.items in
     let ps = c.self.inside.pages.items in
     let count = openings_length os ps in
-    let first : c.pages_before-first.result ≡ pages_of (take c.args.at os) = rw c.deref.ensures.value at c.pages_before-first.ensures in
+    let first : c.pages_before-first.result ≡ pages_held (take c.args.at os) = rw c.deref.ensures.value at c.pages_before-first.ensures in
     let its = rw (← first) at (page_of_opening os ps c.args.at c.args.place c.self.invariant.sum (omega arith) place) in
     rw (← c.self.view_is) (c.deref-2.ensures.value ∙ its.bytes c.index.result.now c.index.ensures)
 
@@ -39,7 +39,7 @@ returns-clause-whole c =
     let os = c.self.inside.opened.items in
     let ps = c.self.inside.pages.items in
     let count = openings_length os ps in
-    let first : c.pages_before-first.result ≡ pages_of (take c.args.at os) = rw c.deref.ensures.value at c.pages_before-first.ensures in
+    let first : c.pages_before-first.result ≡ pages_held (take c.args.at os) = rw c.deref.ensures.value at c.pages_before-first.ensures in
     let its = rw (← first) at (page_of_opening os ps c.args.at c.args.place c.self.invariant.sum (omega arith) place) in
     let whole = c.self.invariant.whole (c.pages_before-first.result + c.args.place) c.index.result.now its.within in
     rw (← c.self.view_is)

@@ -1,5 +1,5 @@
 use Rattle.std.proofs.Common.{◌≡◌, take, arith}
-use Rattle.tx_engine.specs.PendingPages.{pages_of}
+use Rattle.tx_engine.specs.PendingPages.{pages_held}
 use Rattle.tx_engine.proofs.OpenPages.{openings_length, page_of_opening}
 use Rattle.tx_engine.proofs.openings.Openings.name.Goals as goal
 
@@ -16,7 +16,7 @@ index-requires c =
     let os = c.self.inside.opened.items in
     let ps = c.self.inside.pages.items in
     let count = openings_length os ps in
-    let first : c.pages_before-first.result ≡ pages_of (take c.args.at os) = rw c.deref.ensures.value at c.pages_before-first.ensures in
+    let first : c.pages_before-first.result ≡ pages_held (take c.args.at os) = rw c.deref.ensures.value at c.pages_before-first.ensures in
     let its = rw (← first) at (page_of_opening os ps c.args.at c.args.place c.self.invariant.sum (omega arith) place) in
     omega (arith, its.within)
 
@@ -27,6 +27,6 @@ returns c =
     let os = c.self.inside.opened.items in
     let ps = c.self.inside.pages.items in
     let count = openings_length os ps in
-    let first : c.pages_before-first.result ≡ pages_of (take c.args.at os) = rw c.deref.ensures.value at c.pages_before-first.ensures in
+    let first : c.pages_before-first.result ≡ pages_held (take c.args.at os) = rw c.deref.ensures.value at c.pages_before-first.ensures in
     let its = rw (← first) at (page_of_opening os ps c.args.at c.args.place c.self.invariant.sum (omega arith) place) in
     rw (← c.self.view_is) (its.name c.index.result.now c.index.ensures)

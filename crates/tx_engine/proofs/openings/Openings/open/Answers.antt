@@ -6,13 +6,13 @@ use Rattle.tx_engine.proofs.openings.Openings.open.Goals as goal
 
 pub hold_pages-requires-clause-room : goal.hold_pages-requires-clause-room
 hold_pages-requires-clause-room g c =
-    let room = rw (← c.self.view_is) at c.requires.room in
+    let room = rw (← c.self.view_is) at c.requires.free in
     let count = pages_of_openings c.self.inside.opened.items c.self.inside.pages.items c.self.invariant.sum in
     omega (arith, c.self.invariant.rooms)
 
 pub unwrap-requires : goal.unwrap-requires
 unwrap-requires g c =
-    let room = rw (← c.self.view_is) at c.requires.room in
+    let room = rw (← c.self.view_is) at c.requires.free in
     let count = pages_of_openings c.self.inside.opened.items c.self.inside.pages.items c.self.invariant.sum in
     let few = length-le-pages c.self.inside.opened.items c.self.invariant.each in
     c.push.ensures.succeeds (omega (arith, c.self.invariant.opened_capacity, c.self.invariant.sum))

@@ -1,5 +1,5 @@
 use Rattle.std.proofs.Common.{◌≡◌, take, refl, arith}
-use Rattle.tx_engine.specs.PendingPages.{pages_of}
+use Rattle.tx_engine.specs.PendingPages.{pages_held}
 use Rattle.tx_engine.proofs.OpenPages.{openings_length, pages_within}
 use Rattle.tx_engine.proofs.OpenChanges.{IsTakenAway, kept_after_removal, table_after_removal}
 use Rattle.tx_engine.proofs.openings.Openings.remove.Goals as goal
@@ -21,7 +21,7 @@ free_pages-requires-clause-within c =
     let at = rw (← c.self.view_is) at c.requires in
     let os = c.self.inside.opened.items in
     let count = openings_length os c.self.inside.pages.items in
-    let first : c.pages_before-first.result ≡ pages_of (take c.args.at os) = rw c.deref.ensures.value at c.pages_before-first.ensures in
+    let first : c.pages_before-first.result ≡ pages_held (take c.args.at os) = rw c.deref.ensures.value at c.pages_before-first.ensures in
     let within = pages_within os c.args.at c.remove-pages.result (omega arith) c.remove-pages.ensures.value in
     omega (arith, c.self.invariant.sum)
 
@@ -30,7 +30,7 @@ taken_away c =
     let at = rw (← c.self.view_is) at c.requires in
     let os = c.self.inside.opened.items in
     let count = openings_length os c.self.inside.pages.items in
-    let first : c.pages_before-first.result ≡ pages_of (take c.args.at os) = rw c.deref.ensures.value at c.pages_before-first.ensures in
+    let first : c.pages_before-first.result ≡ pages_held (take c.args.at os) = rw c.deref.ensures.value at c.pages_before-first.ensures in
     record {
       page_bytes = refl;
       pending = refl;

@@ -23,11 +23,11 @@ invariant_of-result g c =
           });
       shape = same;
       list = c.recount.ensures.list ∙ ap found_in c.deref.ensures.value;
-      room =
+      capacity =
           let notes = sym (length-map c.in_ok-notes.notes.items seen_as) ∙ ap length c.in_ok-notes.ensures.seen in
           let seen = c.requires.seen in
           let number = c.slots.ensures in
           let capacity = c.in_ok-all.ensures.capacity in
-          let stays = c.recount.ensures.room in
+          let stays = c.recount.ensures.capacity in
           omega arith;
     }

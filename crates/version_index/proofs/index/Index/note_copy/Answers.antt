@@ -23,5 +23,5 @@ invariant_of-self g c =
           (copied_noted _ (noted_of d) t.noted g.met.R.CommitRule.copy c.args.from.0 c.args.to.0 some exists was);
       shape = t.shape;
       list = c.recount.ensures.list ∙ ap found_in c.deref.ensures.value;
-      room = let room = t.room in let same = c.recount.ensures.room in let long = length-set d.notes.items c.args.to.0 c.index.result.now in omega arith;
+      capacity = let capacity = t.capacity in let same = c.recount.ensures.capacity in let long = length-set d.notes.items c.args.to.0 c.index.result.now in omega arith;
     }

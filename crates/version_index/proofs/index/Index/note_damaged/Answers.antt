@@ -17,5 +17,5 @@ invariant_of-self g c =
       noted = damaged_noted _ (noted_of d) t.noted c.args.at.0 exists was;
       shape = t.shape;
       list = c.recount.ensures.list ∙ ap found_in c.deref.ensures.value;
-      room = let room = t.room in let same = c.recount.ensures.room in let long = length-set d.notes.items c.args.at.0 note.Damaged in omega arith;
+      capacity = let capacity = t.capacity in let same = c.recount.ensures.capacity in let long = length-set d.notes.items c.args.at.0 note.Damaged in omega arith;
     }

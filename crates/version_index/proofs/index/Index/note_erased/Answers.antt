@@ -24,5 +24,5 @@ invariant_of-self g c =
           (ap (λ s. with_block_noted s d.notes.items c.args.block.0 note.Blank) (sym t.shape) ∙ sym c.note_block.ensures.notes) noted;
       shape = t.shape;
       list = c.recount.ensures.list ∙ ap found_in c.deref.ensures.value;
-      room = let room = t.room in let same = c.recount.ensures.room in let long = c.note_block.ensures.length in omega arith;
+      capacity = let capacity = t.capacity in let same = c.recount.ensures.capacity in let long = c.note_block.ensures.length in omega arith;
     }

@@ -27,5 +27,5 @@ invariant_of-self g c =
       noted = subst (λ m. IsNoted _ (record (noted_of d) { notes = set d.notes.items c.args.at.0 (note.Holds c.args.rec); mentions = m })) (sym c.raise.ensures) noted;
       shape = t.shape;
       list = c.recount.ensures.list ∙ ap found_in c.deref.ensures.value;
-      room = let room = t.room in let same = c.recount.ensures.room in let long = length-set d.notes.items c.args.at.0 (note.Holds c.args.rec) in omega arith;
+      capacity = let capacity = t.capacity in let same = c.recount.ensures.capacity in let long = length-set d.notes.items c.args.at.0 (note.Holds c.args.rec) in omega arith;
     }
