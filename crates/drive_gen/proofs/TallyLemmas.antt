@@ -1,5 +1,5 @@
 -- Counting line by line.
-use Rattle.std.proofs.Common.{◌≡◌, ℕ, ◌+◌, ◌*◌, ◌^◌, ◌<◌, ◌≤◌, Bool, true, false, cond, List, [], ◌∷◌, length, refl, arith, add-zero, zero-add, Some, None, unwrap_or, codes}
+use Rattle.std.proofs.Common.{◌≡◌, ℕ, ◌+◌, ◌*◌, ◌^◌, ◌<◌, ◌≤◌, Bool, true, false, cond, List, [], ◌∷◌, length, refl, arith, zero-add, Some, None, unwrap_or, codes}
 use Rattle.std.specs.List.{sum_by, count_by, filter, last_or}
 use Rattle.std.proofs.lemmas.List.Sums.{sum_by-cons, sum_by-le-sum_by}
 use Rattle.host_protocol.specs.Lines.{lines_of}

@@ -3,7 +3,6 @@ use Rattle.std.proofs.Common.{◌≡◌, ◌≢◌, ℕ, ◌+◌, ◌<◌, ◌�
 use Rattle.std.specs.Prelude.{if◌then◌else◌}
 use Rattle.std.specs.Result.{is_err}
 use Rattle.std.proofs.lemmas.Bool.{cases_eq, cond-true, cond-false, cond_both, eqb-false}
-use Rattle.std.proofs.lemmas.List.Elements.{All-nil}
 use Rattle.tx_types.specs.Batch.{PageWrite}
 use Rattle.flash_model.specs.Flash.{FlashState}
 use Rattle.flash_model.specs.declared.flash.Broken.{Broken}
