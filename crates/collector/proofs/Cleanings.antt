@@ -15,7 +15,6 @@ use Rattle.flash_model.specs.Moves.{Does, FlashMoves}
 use Rattle.flash_model.proofs.MoveLemmas.{same_moments, FlashMoves-operates}
 use Rattle.flash_model.proofs.ImageLemmas.{block_within}
 use Rattle.page_record.specs.Rules.{record_of}
-use Rattle.version_index.specs.declared.note.Note.{Note}
 use Rattle.version_index.specs.declared.note.Note.TheVariants.{Blank, Damaged, Holds}
 use Rattle.version_index.specs.Notes.{note_at, note_of, with_block_noted}
 use Rattle.version_index.specs.Noted.{Noted, erased, is_blank}
@@ -27,7 +26,7 @@ use Rattle.collector.specs.BreakingOff.{CleaningBreaks}
 use Rattle.collector.specs.Collecting.{is_blank_slot, is_blank_block, is_noted_blank, cleaning}
 use Rattle.collector.proofs.Calm.{noted_as_read}
 use Rattle.collector.proofs.NotesLeft.{note_at-in, note_at-out, length-noted}
-use Rattle.collector.proofs.Ranges.{all_range, range_same}
+use Rattle.collector.proofs.Ranges.{all_range, range_same, noted_blank}
 
 -- a slot that is noted as it reads is noted blank exactly where it is
 blank_as_noted : (p : Protocol) (contents : Contents) → is_blank (note_of p contents) ≡ is_blank_slot contents
@@ -77,11 +76,6 @@ module _ (s : FlashState) (n : Noted) (t : BlockTable) (u : Unsure) (nothing : u
         ]
       ] in
       ap (λ notes. record n { notes = notes }) (ext_get_or Blank n.notes notes' (sym (length-noted sh some n.notes m.noted.slots t.spare below Blank)) each)
-    where
-      noted_blank : (note : Note) → is_blank note ≡ true → note ≡ Blank
-      noted_blank Blank e = refl
-      noted_blank Damaged e = cc
-      noted_blank (Holds rec) e = cc
 
   -- else one erase is done
   module _ (s' : FlashState) (b : ℕ) (is : b ≡ t.spare) (r : Result (Unit {0}) Broken) (erases : Erases s s' b r) where

@@ -1,5 +1,5 @@
 -- The rounds of clearing: what is so between two rounds, and what a round leaves.
-use Rattle.std.proofs.Common.{◌≡◌, ℕ, ◌+◌, ◌^◌, ◌<◌, ◌≤◌, true, false, List, Some, refl, sym, ap, ◌∙◌, subst, inl, inr, arith}
+use Rattle.std.proofs.Common.{◌≡◌, ℕ, ◌+◌, ◌<◌, ◌≤◌, true, false, List, Some, refl, sym, ap, ◌∙◌, subst, inl, inr, arith}
 use Rattle.std.proofs.Math.Nat.{mul_comm}
 use Rattle.std.proofs.lemmas.Bool.{cases_eq}
 use Rattle.std.proofs.lemmas.Nat.{div_below}
@@ -13,7 +13,6 @@ use Rattle.flash_model.specs.Moves.{FlashMoves}
 use Rattle.flash_model.proofs.CallLemmas.{Carries-nothing, Carries-then}
 use Rattle.flash_model.proofs.MoveLemmas.{FlashMoves-nothing, FlashMoves-then}
 use Rattle.record_list.specs.Changes.{LossLaw}
-use Rattle.record_list.proofs.Names.{all_at, in_from}
 use Rattle.version_index.specs.declared.note.Note.TheVariants.{Blank}
 use Rattle.version_index.specs.Noted.{Noted, block_to_go, erased}
 use Rattle.version_index.proofs.FoundIn.{noted_from}
@@ -63,15 +62,6 @@ clears_none p page below s n t u nothing matches next = record {
 }
 
 module _ (p : Protocol) (page below : ℕ) (s0 s : FlashState) (n0 n : Noted) (t : BlockTable) (u : Unsure) (so : ClearsSoFar p page below s0 s n0 n t u) where
-  pub page_within : page < n.config.logical
-  page_within =
-      (all_at (λ (a : Link). (a.page < n.config.logical) × (1 ≤ a.version) × (a.version ≤ 2 ^ 62)) so.names (record { page = page; version = below })
-      so.next.in_progress.begun.transaction.in_range (in_from so.names (record { page = page; version = below }) so.next.named)).0
-
-  -- at the end the costs are those of the blocks that there were
-  pub costs_all : CostsAtMost n0.config.pages_per_block (blocks_to_go n0 page below) s0 s
-  costs_all = CostsAtMost-more n0.config.pages_per_block so.rounds (blocks_to_go n0 page below) s0 s (let low = so.left in omega arith) so.costs
-
   module _ (block : ℕ) (found : block_to_go n page below ≡ Some block) where
     from : GoesFrom n page below block
     from = going_some n page below block found

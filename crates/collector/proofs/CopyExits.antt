@@ -1,8 +1,8 @@
 -- A copy that was programmed in the spare, or whose program was broken: what matches then.
-use Rattle.std.proofs.Common.{◌≡◌, ◌≢◌, ◌⊎◌, ℕ, ◌/◌, ◌<◌, false, eq-eqb, eqb-true, List, length, set, Option, Some, None, Ok, Err, refl, sym, ap, ◌∙◌, subst, inl, inr, arith}
+use Rattle.std.proofs.Common.{◌≡◌, ◌≢◌, ◌⊎◌, ℕ, ◌/◌, ◌<◌, eqb-true, List, length, set, Option, Some, None, Ok, Err, refl, sym, ap, ◌∙◌, subst, inl, inr, arith}
 use Rattle.std.specs.Prelude.{◌==◌}
 use Rattle.std.specs.Option.{option_map_or}
-use Rattle.std.proofs.lemmas.Bool.{cases_Bool}
+use Rattle.std.proofs.lemmas.Bool.{cases_Bool, eqb-false}
 use Rattle.std.proofs.lemmas.List.{get_or-set_same, get_or-set_other, set-get_or}
 use Rattle.record_list.specs.Written.{bytes_at}
 use Rattle.tx_types.specs.Config.{shape_of, slots_of}
@@ -43,9 +43,6 @@ blank_noted p (complete bytes spare) e = absurd (never (record_of p spare) e)
     never : (o : Option Rec) → option_map_or Holds o Damaged ≡ Blank → ⊥
     never None e = cc
     never (Some rec) e = cc
-
-unequal : (a b : ℕ) → (a == b) ≡ false → a ≢ b
-unequal a b e same = let yes = eq-eqb a b same in cc
 
 module _ (s s' : FlashState) (n : Noted) (t : BlockTable) (m : Matches s n t unsure.Nothing) (written_copy : WrittenCopyLaw n.config.protocol)
     (from to : Slot) (rec : Rec) (bytes spare : List ℕ)
@@ -145,9 +142,9 @@ module _ (s s' : FlashState) (n : Noted) (t : BlockTable) (m : Matches s n t uns
               (get_or-set_same n.notes to.0 (note_at n.notes from.0) Blank long'
               ∙ noted_as_read s n t m from.0 (omega (arith, from_within, ap slots_of m.shape))
               ∙ ap (note_of p) reads ∙ ap (note_of p) (sym now.there))
-          | inr other ↦ get_or-set_other n.notes to.0 slot (note_at n.notes from.0) Blank (unequal slot to.0 other)
+          | inr other ↦ get_or-set_other n.notes to.0 slot (note_at n.notes from.0) Blank (eqb-false slot to.0 other)
               ∙ noted_as_read s n t m slot (omega (arith, within, ap slots_of same))
-              ∙ ap (note_of p) (sym (now.others slot (unequal slot to.0 other)))
+              ∙ ap (note_of p) (sym (now.others slot (eqb-false slot to.0 other)))
         ];
         place = tt;
         spared = copy_spared n m.noted law from.0 to.0 rec source long long' was noted t.spare m.spared;
@@ -168,7 +165,7 @@ module _ (s s' : FlashState) (n : Noted) (t : BlockTable) (m : Matches s n t uns
         blocks = m.blocks ∙ sym same;
         spare = m.spare;
         sure = λ slot within sure.
-            noted_as_read s n t m slot (omega (arith, within, ap slots_of same)) ∙ ap (note_of p) (sym (now.others slot (unequal slot to.0 sure)));
+            noted_as_read s n t m slot (omega (arith, within, ap slots_of same)) ∙ ap (note_of p) (sym (now.others slot (eqb-false slot to.0 sure)));
         place = (
           to_within,
           in_spare,

@@ -68,10 +68,6 @@ filter_parts p a k m n at is all pass =
     ∙ ap (λ l. filter p (range_with_len a k) ++ l)
     (cond-true (p at) (at ∷ filter p (range_with_len (at + 1) m)) (filter p (range_with_len (at + 1) m)) pass)
 
-pub length-more : {X : Type 0} (xs : List X) (x : X) → length (xs ++ x ∷ []) ≡ length xs + 1
-length-more [] x = refl
-length-more (y ∷ ys) x = let ih = length-more ys x in omega arith
-
 -- a number of a range
 pub in_range : (a n x : ℕ) → IsIn (range_with_len a n) x → (a ≤ x) × (x < a + n)
 in_range a zero x i = absurd i

@@ -4,7 +4,7 @@ use Rattle.std.specs.Prelude.{◌==◌}
 use Rattle.std.specs.List.{range_with_len}
 use Rattle.std.proofs.Math.Nat.{mul-le-mul_right}
 use Rattle.std.proofs.lemmas.Bool.{cases_Bool, cases_lt, cases_order, both_ways}
-use Rattle.std.proofs.lemmas.List.{get_or-set_same, get_or-set_other}
+use Rattle.std.proofs.lemmas.List.{get_or-set_same, get_or-set_other, length_push}
 use Rattle.std.proofs.lemmas.Nat.{div-mul-add}
 use Rattle.tx_types.specs.Config.{shape_of, slots_of, blocks_of}
 use Rattle.tx_types.specs.declared.config.Config.{Config}
@@ -32,7 +32,7 @@ use Rattle.collector.specs.Looking.{reads_after}
 use Rattle.collector.specs.Matches.{Matches, IsNextOfSpare}
 use Rattle.collector.specs.Preserves.{Preserves, KeepsArray}
 use Rattle.collector.specs.Collecting.{copy_program, copies, copied_from, needed_slots, CopyDone, CopiesDone, HasUnneeded}
-use Rattle.collector.proofs.CopyLists.{copied_more, copies_more, filter_passed, filter_taken, filter_fewer, length-more}
+use Rattle.collector.proofs.CopyLists.{copied_more, copies_more, filter_passed, filter_taken, filter_fewer}
 use Rattle.collector.proofs.Homes.{copy_needs}
 use Rattle.collector.proofs.Keeping.{preserves_then, preserves_same, keeps_array_then, keeps_array_same}
 use Rattle.collector.proofs.Looked.{reads_more}
@@ -289,7 +289,7 @@ module _ (p : Protocol) (n0 n : Noted) (s0 s : FlashState) (t : BlockTable) (u :
         moves = FlashMoves-then s0 s s' false h.carries.shape h.moves moves;
         carries = Carries-then s0 s s' false h.carries carries;
         within = omega (arith, h.within, low);
-        count = ap (λ k. k + 1) h.count ∙ sym (ap length so_far ∙ length-more (needed_before n0 first at) at);
+        count = ap (λ k. k + 1) h.count ∙ sym (ap length so_far ∙ length_push (needed_before n0 first at) at);
         does = does_now;
         noted = changed ∙ ap (λ k. copied n at k) to_at ∙ ap (λ k. copied k at (start + length (needed_before n0 first at))) h.noted
             ∙ sym (ap (copied_from n0 start) so_far ∙ copied_more n0 start (needed_before n0 first at) at);

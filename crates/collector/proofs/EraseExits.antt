@@ -1,7 +1,6 @@
 -- Erasing a block outside which each wanted record has a slot: what matches then, and where the erase was broken.
-use Rattle.std.proofs.Common.{◌≡◌, ◌≢◌, ℕ, ◌/◌, ◌<◌, ◌≤◌, Bool, true, false, not, eq-eqb, eqb-true, ◌%◌, List, Ok, Err, refl, sym, ap, ◌∙◌, subst, inl, inr, arith}
-use Rattle.std.specs.Prelude.{◌==◌}
-use Rattle.std.proofs.lemmas.Bool.{cases_Bool}
+use Rattle.std.proofs.Common.{◌≡◌, ◌≢◌, ℕ, ◌/◌, ◌<◌, ◌≤◌, true, false, not, eq-eqb, ◌%◌, List, Ok, Err, refl, sym, ap, ◌∙◌, subst, inl, inr, arith}
+use Rattle.std.proofs.lemmas.Bool.{cases_Bool, not-false}
 use Rattle.tx_types.specs.Config.{shape_of, slots_of, blocks_of}
 use Rattle.tx_types.specs.declared.config.Protocol.{Protocol}
 use Rattle.tx_types.specs.declared.config.Shape.{Shape}
@@ -9,7 +8,7 @@ use Rattle.flash_model.specs.declared.flash.Broken.{Broken}
 use Rattle.flash_model.specs.declared.outcome.Outcome.{Outcome}
 use Rattle.flash_model.specs.declared.outcome.Outcome.TheVariants as outcome
 use Rattle.flash_model.specs.Flash.{FlashState, IsFlash, IsImage, Contents, blank, damaged, slot_at}
-use Rattle.flash_model.specs.Calls.{Carries, Erases}
+use Rattle.flash_model.specs.Calls.{Erases}
 use Rattle.flash_model.specs.Operations.{erase, with_block, image_left}
 use Rattle.flash_model.proofs.ImageLemmas.{IsImage-with_block, slot_at-with_block_in, slot_at-with_block_out}
 use Rattle.record_list.specs.Changes.{LossLaw}
@@ -23,7 +22,7 @@ use Rattle.version_index.specs.Notes.{note_at, note_of, with_block_noted}
 use Rattle.version_index.specs.Noted.{Noted, IsNoted, erased, with_spare}
 use Rattle.version_index.proofs.ImageLaws.{image_loss_law}
 use Rattle.version_index.proofs.Blocks.{outside_it, in_it, inside_block}
-use Rattle.collector.proofs.NotesLeft.{note_at-in, note_at-out}
+use Rattle.collector.proofs.NotesLeft.{note_at-in}
 use Rattle.die_alloc.specs.BlockTable.{BlockTable, IsBlockTable, IsFree}
 use Rattle.collector.specs.declared.unsure.Unsure.TheVariants as unsure
 use Rattle.collector.specs.Matches.{Matches, CanSpare, IsNotedAt, IsErasing, IsFilledTo}
@@ -33,6 +32,7 @@ use Rattle.collector.proofs.Calm.{noted_as_read, image_can_lose}
 use Rattle.collector.proofs.Losing.{blocked, spared_still}
 use Rattle.collector.proofs.SpelledNotes.{calm_spelled}
 use Rattle.collector.proofs.Exchange.{free_away, free_before, tail_blank}
+use Rattle.collector.proofs.SettledBlocks.{out_of, noted_out}
 use Rattle.collector.specs.Collecting.{exchanged}
 use Rattle.die_alloc.specs.BlockTable.{table_with_spare}
 
@@ -75,31 +75,24 @@ module _ (s : FlashState) (n : Noted) (t : BlockTable) (m : Matches s n t unsure
     new_out : (slot : ℕ) → is_outside s.shape block slot ≡ true → slot_at image' slot ≡ slot_at s.image slot
     new_out slot e = slot_at-with_block_out s.shape s.image m.flash block below' contents slot (outside_it s.shape block slot e)
 
-    as_noted : (slot : ℕ) → is_outside (shape_of n.config) block slot ≡ is_outside s.shape block slot
-    as_noted slot = ap (λ sh. is_outside sh block slot) (sym m.shape)
-
     some_noted : 0 < n.config.pages_per_block
     some_noted = omega (arith, some, same_per)
 
     noted_in : (slot : ℕ) → is_outside s.shape block slot ≡ false → note_at notes' slot ≡ note
     noted_in slot e =
-        let here = inside_block n.config.pages_per_block block slot some_noted (in_it (shape_of n.config) block slot (as_noted slot ∙ e)) in
+        let here = inside_block n.config.pages_per_block block slot some_noted (in_it (shape_of n.config) block slot (ap (λ sh. is_outside sh block slot) (sym m.shape) ∙ e)) in
         note_at-in (shape_of n.config) some_noted n.notes m.noted.slots block below note slot here.0 here.1
-
-    noted_out : (slot : ℕ) → is_outside s.shape block slot ≡ true → note_at notes' slot ≡ note_at n.notes slot
-    noted_out slot e =
-        note_at-out (shape_of n.config) some_noted n.notes m.noted.slots block below note slot (outside_it (shape_of n.config) block slot (as_noted slot ∙ e))
 
     mirrors : (slot : ℕ) → slot < slots_of s.shape → note_at notes' slot ≡ note_of p (slot_at image' slot)
     mirrors slot within = elim (cases_Bool (is_outside s.shape block slot)) [
-      | inl out ↦ noted_out slot out ∙ noted_as_read s n t m slot within ∙ ap (note_of p) (sym (new_out slot out))
+      | inl out ↦ noted_out s n t unsure.Nothing m block below note slot out ∙ noted_as_read s n t m slot within ∙ ap (note_of p) (sym (new_out slot out))
       | inr ins ↦ noted_in slot ins ∙ fits ∙ ap (note_of p) (sym (new_in slot ins))
     ]
 
   -- a slot that was free is noted blank still
   free_still : (slot : ℕ) → IsFree t slot → note_at (with_block_noted (shape_of n.config) n.notes block Blank) slot ≡ Blank
   free_still slot free = elim (cases_Bool (is_outside s.shape block slot)) [
-    | inl out ↦ noted_out blank Blank refl slot out ∙ m.free slot free
+    | inl out ↦ noted_out s n t unsure.Nothing m block below Blank slot out ∙ m.free slot free
     | inr ins ↦ noted_in blank Blank refl slot ins
   ]
 
@@ -107,14 +100,6 @@ module _ (s : FlashState) (n : Noted) (t : BlockTable) (m : Matches s n t unsure
   pub array_stays : (contents : Contents) → KeepsLost p n.config.logical s.shape s.image (with_block s.shape s.image block contents) →
       KeepsArray p n.config.logical s.image (with_block s.shape s.image block contents)
   array_stays contents k = record { array = k.array; bytes = λ name h. sym (k.bytes name h) }
-
--- what stays of a flash that an erase was asked of
-record Asked (s s' : FlashState) (n : Noted) : Type 0 where
-  pub shape : s'.shape ≡ shape_of n.config
-  pub same : s'.shape ≡ s.shape
-
-asked : {broken : Bool} (s s' : FlashState) (n : Noted) (t : BlockTable) → Matches s n t unsure.Nothing → Carries s s' broken → Asked s s' n
-asked s s' n t m c = record { shape = c.shape ∙ m.shape; same = c.shape }
 
 module _ (s s' : FlashState) (n : Noted) (t : BlockTable) (m : Matches s n t unsure.Nothing)
     (loss : LossLaw n.config.protocol) (written_loss : WrittenLossLaw n.config.protocol)
@@ -192,20 +177,6 @@ module _ (s s' : FlashState) (n : Noted) (t : BlockTable) (m : Matches s n t uns
     erasing = inr (inl (λ slot within e. ap (λ i. slot_at i slot) is ∙ new_in s n t m loss written_loss block below spared damaged Damaged refl slot (in_block slot e)));
   }
 
--- a block that is not all to the spare's side: a slot outside a block is no slot of it
-not_unsure : (shape : Shape) (block slot : ℕ) → not (is_outside shape block slot) ≡ false → is_outside shape block slot ≡ true
-not_unsure shape block slot e = flipped (is_outside shape block slot) e
-  where
-    flipped : (b : Bool) → not b ≡ false → b ≡ true
-    flipped true e = refl
-    flipped false e = cc
-
-unequal : (a b : ℕ) → a ≢ b → not (a == b) ≡ true
-unequal a b apart = elim (cases_Bool (a == b)) [
-  | inl e ↦ absurd (apart (eqb-true a b e))
-  | inr e ↦ ap not e
-]
-
 module _ (s s' : FlashState) (n : Noted) (t : BlockTable) (m : Matches s n t unsure.Nothing)
     (loss : LossLaw n.config.protocol) (written_loss : WrittenLossLaw n.config.protocol) where
   pub spare_below : t.spare < blocks_of (shape_of n.config)
@@ -242,7 +213,7 @@ module _ (s s' : FlashState) (n : Noted) (t : BlockTable) (m : Matches s n t uns
         spare = m.spare;
         sure = λ slot within sure.
             noted_as_read s n t m slot (omega (arith, within, ap slots_of e.carries.shape))
-            ∙ ap (note_of n.config.protocol) (sym (torn.outside slot (not_unsure s.shape t.spare slot (ap (λ sh. not (is_outside sh t.spare slot)) (sym e.carries.shape) ∙ sure))));
+            ∙ ap (note_of n.config.protocol) (sym (torn.outside slot (not-false (is_outside s.shape t.spare slot) (ap (λ sh. not (is_outside sh t.spare slot)) (sym e.carries.shape) ∙ sure))));
         place = (torn.erasing, λ slot within here. calm_spelled s n t m slot within);
         spared = m.spared;
         victim = tt;
@@ -264,7 +235,7 @@ module _ (s s' : FlashState) (n : Noted) (t : BlockTable) (m : Matches s n t uns
         spare = m.spare;
         sure = λ slot within sure.
             noted_as_read s n t m slot (omega (arith, within, ap slots_of e.carries.shape))
-            ∙ ap (note_of n.config.protocol) (sym (torn.outside slot (not_unsure s.shape block.0 slot (ap (λ sh. not (is_outside sh block.0 slot)) (sym e.carries.shape) ∙ sure))));
+            ∙ ap (note_of n.config.protocol) (sym (torn.outside slot (not-false (is_outside s.shape block.0 slot) (ap (λ sh. not (is_outside sh block.0 slot)) (sym e.carries.shape) ∙ sure))));
         place = (below, other, torn.erasing, filled, λ slot within here. calm_spelled s n t m slot within);
         spared = m.spared;
         victim = spared;
@@ -295,8 +266,8 @@ module _ (s s' : FlashState) (n : Noted) (t : BlockTable) (m : Matches s n t uns
         free = λ slot free.
             let away = free_away t m.table block below_table other mid filled.0 slot free in
             let out : is_outside s.shape block slot ≡ true =
-            unequal (slot / s.shape.pages_per_block) block (λ e. away (ap (λ (x : Shape). slot / x.pages_per_block) m.blocks ∙ e)) in
-            noted_out s n t m loss written_loss block below spared blank Blank refl slot out
+            out_of s.shape block slot (λ e. away (ap (λ (x : Shape). slot / x.pages_per_block) m.blocks ∙ e)) in
+            noted_out s n t unsure.Nothing m block below Blank slot out
             ∙ (elim (free_before t m.table block below_table other mid filled.0 slot free) [
               | inl behind ↦ tail_blank n t.spare filled slot
                   (ap (λ k. slot / k) (sym same_per) ∙ behind.0) some

@@ -48,9 +48,6 @@ noted_reads p logical (complete bytes spare) h = holds_reads (record_of p spare)
 
 module _ (s : FlashState) (n : Noted) (t : BlockTable) (u : Unsure) (m : Matches s n t u) (block : ℕ) (below : block < blocks_of (shape_of n.config))
     (erasing : IsErasing s.image n block) where
-  per : ℕ
-  per = n.config.pages_per_block
-
   some : 0 < n.config.pages_per_block
   some = (let b = m.noted.bounds.shape.pages_least in omega arith)
 

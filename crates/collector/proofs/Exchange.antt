@@ -1,8 +1,8 @@
 -- A collected block that was erased, or lost, becomes the spare, and the old spare is open with its copies.
-use Rattle.std.proofs.Common.{◌≡◌, ◌≢◌, ◌⊎◌, ℕ, ◌+◌, ◌*◌, ◌/◌, ◌%◌, ◌<◌, ◌≤◌, false, eq-eqb, eqb-true, sym, ap, ◌∙◌, subst, inl, inr, arith}
+use Rattle.std.proofs.Common.{◌≡◌, ◌≢◌, ◌⊎◌, ℕ, ◌+◌, ◌*◌, ◌/◌, ◌%◌, ◌<◌, ◌≤◌, eqb-true, sym, ap, ◌∙◌, subst, inl, inr, arith}
 use Rattle.std.specs.Prelude.{◌==◌}
 use Rattle.std.proofs.Math.Nat.{div-add-mod, mul_comm, mod-lt}
-use Rattle.std.proofs.lemmas.Bool.{cases_Bool}
+use Rattle.std.proofs.lemmas.Bool.{cases_Bool, eqb-false}
 use Rattle.tx_types.specs.Config.{blocks_of}
 use Rattle.tx_types.specs.declared.config.BlockState.TheVariants.{Spare, Clean, Part}
 use Rattle.version_index.specs.declared.note.Note.TheVariants.{Blank}
@@ -69,16 +69,13 @@ module _ (t : BlockTable) (h : IsBlockTable t) (block : ℕ) (below : block < bl
     )
     | inr apart ↦
         (let away = free_away slot free in
-        let no_spare = unequal (block_of_slot t.shape slot) t.spare apart in
+        let no_spare = eqb-false (block_of_slot t.shape slot) t.spare apart in
         inr (record {
           within = free.within;
           room = room_other (block_of_slot t.shape slot) away no_spare free.room;
           unused = subst (λ u. u ≤ slot % t.shape.pages_per_block) (ap (λ (u : BlockUse). u.used) (use_other (block_of_slot t.shape slot) away no_spare)) free.unused;
         }))
   ]
-    where
-      unequal : (a b : ℕ) → (a == b) ≡ false → a ≢ b
-      unequal a b e same = let yes = eq-eqb a b same in cc
 
 -- in a block that is filled to a slot, those behind it are blank
 pub tail_blank : (n : Noted) (block : ℕ) (filled : IsFilledTo n block) (slot : ℕ) → slot / n.config.pages_per_block ≡ block → 0 < n.config.pages_per_block →

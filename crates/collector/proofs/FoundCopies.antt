@@ -1,5 +1,5 @@
 -- Looking for a copy, in its slot of the spare.
-use Rattle.std.proofs.Common.{◌≡◌, ◌≢◌, ℕ, ◌/◌, ◌<◌, IsSome, true, false, eqb-true, List, length, Ok, Result, refl, sym, ap, ◌∙◌, subst, inl, inr, arith}
+use Rattle.std.proofs.Common.{◌≡◌, ◌≢◌, ℕ, ◌/◌, ◌<◌, IsSome, true, eqb-true, List, length, Ok, Result, refl, sym, ap, ◌∙◌, subst, inl, inr, arith}
 use Rattle.std.specs.Prelude.{◌==◌}
 use Rattle.tx_types.specs.Config.{slots_of}
 use Rattle.tx_types.specs.declared.config.Protocol.{Protocol}
@@ -10,7 +10,7 @@ use Rattle.flash_model.specs.declared.flash.Seen.TheVariants as seen
 use Rattle.flash_model.specs.Flash.{FlashState, Contents, blank, damaged, complete, slot_at}
 use Rattle.flash_model.specs.Calls.{Reads, seen_of}
 use Rattle.record_list.specs.Changes.{CopyLaw}
-use Rattle.std.proofs.lemmas.Bool.{cases_Bool}
+use Rattle.std.proofs.lemmas.Bool.{ne_eqb}
 use Rattle.tx_types.specs.declared.config.Shape.{Shape}
 use Rattle.version_index.specs.declared.note.Note.TheVariants.{Blank, Damaged, Holds}
 use Rattle.version_index.specs.Notes.{note_at, note_of, rec_of}
@@ -27,6 +27,18 @@ use Rattle.die_alloc.proofs.Changes.{block_within, has_room_not_spare}
 use Rattle.collector.specs.declared.unsure.Unsure.TheVariants as unsure
 use Rattle.collector.specs.Matches.{Matches, IsNotedAt}
 use Rattle.collector.proofs.SettledExits.{matches_still, matches_surely, settled_slot, damaged_spared}
+
+-- a slot that reads as blank is blank
+pub is_blank : (contents : Contents) → seen.Blank ≡ seen_of contents → contents ≡ blank
+is_blank blank e = refl
+is_blank damaged e = cc
+is_blank (complete b x) e = cc
+
+-- and one that reads as damaged is damaged
+pub is_damaged : (contents : Contents) → seen.Damaged ≡ seen_of contents → contents ≡ damaged
+is_damaged blank e = cc
+is_damaged damaged e = refl
+is_damaged (complete b x) e = cc
 
 -- a damaged slot that was blank changes nothing of what is preserved
 pub damaged_preserves : (n : Noted) (at : ℕ) → at < length n.notes → note_at n.notes at ≡ Blank → Preserves n (damaged_at n at)
@@ -59,16 +71,6 @@ module _ (p : Protocol) (copy : CopyLaw p) (s s1 : FlashState) (n : Noted) (t : 
 
   reads_so : how ≡ seen_of (slot_at s1.image to.0)
   reads_so = done.done.how_it_reads ∙ ap (λ i. seen_of (slot_at i to.0)) (sym done.image)
-
-  is_blank : (contents : Contents) → seen.Blank ≡ seen_of contents → contents ≡ blank
-  is_blank blank e = refl
-  is_blank damaged e = cc
-  is_blank (complete b x) e = cc
-
-  is_damaged : (contents : Contents) → seen.Damaged ≡ seen_of contents → contents ≡ damaged
-  is_damaged blank e = cc
-  is_damaged damaged e = refl
-  is_damaged (complete b x) e = cc
 
   here : (slot : ℕ) → (slot == to.0) ≡ true → slot ≡ to.0
   here slot e = eqb-true slot to.0 e
@@ -115,9 +117,6 @@ module _ (p : Protocol) (copy : CopyLaw p) (s s1 : FlashState) (n : Noted) (t : 
   apart : from.0 ≢ to.0
   apart e = (let k : Holds (m.place.4).0 ≡ Blank = sym (m.place.4).1 ∙ ap (note_at n.notes) e ∙ was in cc)
 
-  unequal : (a b : ℕ) → a ≢ b → (a == b) ≡ false
-  unequal a b other = elim (cases_Bool (a == b)) [ inl e ↦ absurd (other (eqb-true a b e)) | inr e ↦ e ]
-
   same_there : how ≡ seen.Complete → slot_at s1.image to.0 ≡ slot_at s1.image from.0
   same_there e = elim m.place.5 [
     | inl none ↦ (let k : seen.Complete ≡ seen.Blank = sym e ∙ reads_so ∙ ap seen_of none in cc)
@@ -131,7 +130,7 @@ module _ (p : Protocol) (copy : CopyLaw p) (s s1 : FlashState) (n : Noted) (t : 
   -- the copy is there
   pub copy_found : (n' : Noted) → how ≡ seen.Complete → n' ≡ copied n from.0 to.0 → Matches s1 n' t unsure.Nothing
   copy_found n' e changed =
-      let noted_from = m.sure from.0 (omega (arith, m.place.3, ap slots_of m.shape)) (unequal from.0 to.0 apart) in
+      let noted_from = m.sure from.0 (omega (arith, m.place.3, ap slots_of m.shape)) (ne_eqb from.0 to.0 apart) in
       subst (λ k. Matches s1 k t unsure.Nothing) (sym changed)
       (settled_slot s1 n t t (unsure.Copy from to) m to.0 within here (note_at n.notes from.0) n.mentions noted'
       (noted_from ∙ ap (note_of n.config.protocol) (sym (same_there e))) m.table refl refl free_other

@@ -4,7 +4,7 @@ use Rattle.std.proofs.Common.{◌≡◌, ◌≢◌, ℕ, ◌<◌, Bool, true, fa
 use Rattle.std.specs.Prelude.{◌==◌}
 use Rattle.std.specs.List.{list_any}
 use Rattle.std.specs.Option.{option_map, option_or}
-use Rattle.std.proofs.lemmas.Bool.{cases_Bool, cond-true, cond-false, and_parts, and_from, both_ways, cond_both}
+use Rattle.std.proofs.lemmas.Bool.{cases_Bool, cond-true, cond-false, and_parts, and_from, both_ways, cond_both, and_right}
 use Rattle.tx_types.specs.Config.{shape_of, blocks_of}
 use Rattle.tx_types.specs.declared.config.Protocol.{Protocol}
 use Rattle.tx_types.specs.declared.config.Shape.{Shape}
@@ -108,14 +108,10 @@ module _ (n : Noted) (noted : IsNoted n.config.protocol n) (law : CopyLaw n.conf
   off : (slot : ℕ) (b : Bool) → is_outside (shape_of n.config) spare slot ≡ b → is_outside_spare (shape_of n.config) n.spare slot ≡ b
   off slot b e = ap (λ o. is_outside_spare (shape_of n.config) o slot) is_spare ∙ e
 
-  and_no : (a b : Bool) → b ≡ false → (a && b) ≡ false
-  and_no true b e = e
-  and_no false b e = refl
-
   off_same : (name : Link) → first_slot (stands_off (shape_of n.config) n.spare name) more ≡ first_slot (stands_off (shape_of n.config) n.spare name) old
   off_same name =
       first_inserted (stands_off (shape_of n.config) n.spare name) old more (found to rec) ins
-      (and_no (has_name name rec) (is_outside_spare (shape_of n.config) n.spare to) (off to false inside))
+      (and_right (has_name name rec) (is_outside_spare (shape_of n.config) n.spare to) (off to false inside))
 
   home_lists : (name : Link) → home (shape_of n.config) n.spare more name ≡ home (shape_of n.config) n.spare old name
   home_lists name = elim (cases_Bool (has_name name rec)) [

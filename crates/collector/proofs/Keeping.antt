@@ -36,7 +36,7 @@ preserves_then a b c ab bc =
     }
 
 -- a name has bytes exactly where it is present
-has_bytes : (list : List Written) (name : Link) → is_some (bytes_at list name) ≡ is_present (records_of list) name
+pub has_bytes : (list : List Written) (name : Link) → is_some (bytes_at list name) ≡ is_present (records_of list) name
 has_bytes [] name = refl
 has_bytes (w ∷ ws) name =
     first (has_name name w.rec) (find (λ v. has_name name v.rec) ws) (is_present (records_of ws) name) (has_bytes ws name)

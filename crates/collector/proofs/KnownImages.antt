@@ -1,9 +1,9 @@
 -- The known image: its notes are those of the tables, it is sound, and it stands for the array that is known.
-use Rattle.std.proofs.Common.{◌≡◌, ℕ, ◌+◌, ◌/◌, ◌<◌, Bool, true, false, not, eqb-true, List, length, replicate, Some, None, All, refl, sym, ap, ◌∙◌, subst, inl, inr, arith}
+use Rattle.std.proofs.Common.{◌≡◌, ℕ, ◌+◌, ◌/◌, ◌<◌, true, false, not, eqb-true, List, length, replicate, Some, None, All, refl, sym, ap, ◌∙◌, subst, inl, inr, arith}
 use Rattle.std.specs.Prelude.{◌==◌, IsSomeAnd}
 use Rattle.std.specs.List.{enumerate_from}
 use Rattle.std.specs.Option.{option_map_or}
-use Rattle.std.proofs.lemmas.Bool.{cases_Bool, cond-true, cond-false}
+use Rattle.std.proofs.lemmas.Bool.{cases_Bool, cond-true, cond-false, not-true}
 use Rattle.std.proofs.lemmas.Option.{same_Some}
 use Rattle.std.proofs.lemmas.List.{length-map, get_or-map, ext_get_or}
 use Rattle.std.proofs.lemmas.List.Elements.{All-from_get_or}
@@ -214,11 +214,7 @@ blank_none n at was slot here rec holds =
 in_place : (s : FlashState) (n : Noted) (t : BlockTable) (u : Unsure) → Matches s n t u → (block slot : ℕ) → not (is_outside s.shape block slot) ≡ true →
     slot / n.config.pages_per_block ≡ block
 in_place s n t u m block slot un =
-    in_it (shape_of n.config) block slot (ap (λ sh. is_outside sh block slot) (sym m.shape) ∙ true_not (is_outside s.shape block slot) un)
-  where
-    true_not : (b : Bool) → not b ≡ true → b ≡ false
-    true_not true h = cc
-    true_not false h = refl
+    in_it (shape_of n.config) block slot (ap (λ sh. is_outside sh block slot) (sym m.shape) ∙ not-true (is_outside s.shape block slot) un)
 
 -- the records of the unsure place can be spelled: it holds none, or is a block whose erase was broken
 pub unsure_spelled : (s : FlashState) (n : Noted) (t : BlockTable) (u : Unsure) → Matches s n t u → UnsureIsSpelled s n t u

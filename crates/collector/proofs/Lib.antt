@@ -24,7 +24,7 @@ pub mod FoundCopies
 pub mod Looked
 pub mod Keeping
 pub mod Homes
-mod CopyLists
+pub mod CopyLists
 mod Sparing
 mod CopyingBlocks
 mod Collections

@@ -12,7 +12,8 @@ use Rattle.record_list.proofs.Names.{IsIn}
 use Rattle.record_list.proofs.Held.{any_of}
 use Rattle.record_list.proofs.Wanted.{wanted_cases}
 use Rattle.version_index.specs.Notes.{found_in}
-use Rattle.version_index.specs.Noted.{Noted, needed_of, home_of, pinned_names}
+use Rattle.version_index.specs.Noted.{Noted, needed_of, home_of, pinned_names, IsNoted}
+use Rattle.version_index.proofs.Places.{one_in_slot}
 
 -- a slot that is needed is the home of a wanted record
 pub record IsHome (n : Noted) (at : ℕ) : Type 0 where
@@ -54,3 +55,7 @@ one_home n a b x y same = some_same a b (sym x.home ∙ ap (home_of n) same ∙ 
   where
     some_same : (a b : ℕ) → Some a ≡ Some b → a ≡ b
     some_same a b e = same_Some a b e
+
+-- the record of a home is the one that stands in the slot
+pub found_home : (n : Noted) → IsNoted n.config.protocol n → (f : Found) → IsIn (found_in n.notes) f → (x : IsHome n f.slot.0) → x.found ≡ f
+found_home n noted f i x = one_in_slot (found_in n.notes) x.found f noted.scanned.ascending x.is_in i x.slot

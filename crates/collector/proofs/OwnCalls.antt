@@ -8,7 +8,7 @@ use Rattle.tx_types.specs.declared.record.Rec.{Rec}
 use Rattle.flash_model.specs.declared.flash.Broken.{Broken}
 use Rattle.flash_model.specs.declared.flash.Seen.{Seen}
 use Rattle.flash_model.specs.declared.flash.Seen.TheVariants as seen
-use Rattle.flash_model.specs.Flash.{FlashState, Contents, blank, damaged, complete, slot_at, counted, counted_by}
+use Rattle.flash_model.specs.Flash.{FlashState, Contents, slot_at, counted, counted_by}
 use Rattle.flash_model.specs.Calls.{Reads, seen_of}
 use Rattle.flash_model.specs.Operations.{moment_of}
 use Rattle.flash_model.proofs.MoveLemmas.{same_moments}
@@ -18,10 +18,10 @@ use Rattle.version_index.specs.Noted.{Noted, programmed, damaged_at}
 use Rattle.version_index.proofs.NotedChanges.{damaged_noted, programmed_noted}
 use Rattle.die_alloc.specs.BlockTable.{BlockTable, IsBlockTable, with_slot}
 use Rattle.collector.specs.Preserves.{Preserves}
-use Rattle.collector.proofs.FoundCopies.{damaged_preserves}
+use Rattle.collector.proofs.FoundCopies.{damaged_preserves, is_blank, is_damaged}
 use Rattle.collector.specs.declared.unsure.Unsure.TheVariants as unsure
 use Rattle.collector.specs.Looking.{Looks}
-use Rattle.collector.specs.Matches.{Matches, CanTakeOwn, IsProgramming, SpellsRecord, IsNotedAt}
+use Rattle.collector.specs.Matches.{Matches, CanTakeOwn, SpellsRecord, IsNotedAt}
 use Rattle.collector.proofs.OwnExits.{own_there, own_damaged}
 use Rattle.collector.proofs.SettledExits.{matches_still, matches_surely}
 
@@ -63,23 +63,13 @@ module _ (p : Protocol) (partial : PartialWriteLaw p) (completing : CompletingWr
   reads_so : how ≡ seen_of (slot_at s1.image at.0)
   reads_so = done.done.how_it_reads ∙ ap (λ i. seen_of (slot_at i at.0)) (sym done.image)
 
-  is_blank : (contents : Contents) → IsProgramming s1.image at.0 (SpellsRecord n rec) → seen.Blank ≡ seen_of contents → contents ≡ blank
-  is_blank blank q e = refl
-  is_blank damaged q e = cc
-  is_blank (complete b x) q e = cc
-
-  is_damaged : (contents : Contents) → seen.Damaged ≡ seen_of contents → contents ≡ damaged
-  is_damaged blank e = cc
-  is_damaged damaged e = refl
-  is_damaged (complete b x) e = cc
-
   here : (slot : ℕ) → (slot == at.0) ≡ true → slot ≡ at.0
   here slot e = eqb-true slot at.0 e
 
   -- the slot is blank still
   pub own_missing : how ≡ seen.Blank → Matches s1 n t unsure.Nothing
   own_missing e =
-      let contents = is_blank (slot_at s1.image at.0) m.place.3 (sym e ∙ reads_so) in
+      let contents = is_blank (slot_at s1.image at.0) (sym e ∙ reads_so) in
       matches_surely s1 n t (unsure.Own at rec) m
       (λ slot within un. subst (λ k. IsNotedAt s1.image n k) (sym (here slot un)) (m.place.1 ∙ ap (note_of n.config.protocol) (sym contents)))
 

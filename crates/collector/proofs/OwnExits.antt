@@ -1,8 +1,6 @@
 -- A record of an open transaction that was programmed in a free slot, or whose program was broken, or which was found there:
 -- what matches then.
-use Rattle.std.proofs.Common.{◌≡◌, ◌≢◌, ℕ, ◌/◌, ◌<◌, true, not, eqb-true, List, refl, sym, ap, ◌∙◌, inl, inr, arith}
-use Rattle.std.specs.Prelude.{◌==◌}
-use Rattle.std.proofs.lemmas.Bool.{cases_Bool}
+use Rattle.std.proofs.Common.{◌≡◌, ℕ, ◌/◌, ◌<◌, true, List, refl, sym, ap, ◌∙◌, arith}
 use Rattle.tx_types.specs.Config.{shape_of, slots_of}
 use Rattle.tx_types.specs.declared.config.Protocol.{Protocol}
 use Rattle.tx_types.specs.declared.config.Shape.{Shape}
@@ -24,18 +22,13 @@ use Rattle.collector.specs.Known.{is_unsure}
 use Rattle.collector.specs.Matches.{Matches, CanTakeOwn}
 use Rattle.collector.proofs.SettledExits.{settled_slot, free_with_slot, damaged_spared}
 use Rattle.collector.proofs.Programming.{programmed_spared}
-
-out_from : (shape : Shape) (block slot : ℕ) → slot / shape.pages_per_block ≢ block → is_outside shape block slot ≡ true
-out_from shape block slot apart = elim (cases_Bool ((slot / shape.pages_per_block) == block)) [
-  | inl e ↦ absurd (apart (eqb-true (slot / shape.pages_per_block) block e))
-  | inr e ↦ ap not e
-]
+use Rattle.collector.proofs.SettledBlocks.{out_of}
 
 -- a free slot lies outside the spare
 pub free_out : (s : FlashState) (n : Noted) (t : BlockTable) (u : Unsure) → Matches s n t u → (slot : ℕ) → IsFree t slot → is_outside (shape_of n.config) t.spare slot ≡ true
 free_out s n t u m slot free =
     let apart = has_room_not_spare t m.table (block_of_slot t.shape slot) (block_within t m.table slot free.within) free.room in
-    out_from (shape_of n.config) t.spare slot (λ e. apart (ap (λ (x : Shape). slot / x.pages_per_block) (m.blocks ∙ m.shape) ∙ e))
+    out_of (shape_of n.config) t.spare slot (λ e. apart (ap (λ (x : Shape). slot / x.pages_per_block) (m.blocks ∙ m.shape) ∙ e))
 
 -- a slot of a record is noted as it reads
 holds_reads : (p : Protocol) (rec : Rec) (contents : Contents) → CanBeSpelled p rec → (bytes : List ℕ) → contents ≡ complete bytes (spelling p rec) → Holds rec ≡ note_of p contents

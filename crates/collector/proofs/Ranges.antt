@@ -1,5 +1,5 @@
 -- Tests of the numbers of a range.
-use Rattle.std.proofs.Common.{◌≡◌, ℕ, zero, suc, ◌+◌, ◌<◌, ◌≤◌, Bool, true, false, ◌&&◌, cond, count_by, refl, ap₂, subst, inl, inr, arith}
+use Rattle.std.proofs.Common.{◌≡◌, ℕ, zero, suc, ◌+◌, ◌<◌, ◌≤◌, Bool, true, false, ◌&&◌, cond, count_by, refl, ap₂, subst, inl, inr, arith, ap, ◌∙◌}
 use Rattle.std.specs.List.{range_with_len, list_all}
 use Rattle.std.proofs.lemmas.List.Sums.{sum_by-cons}
 use Rattle.version_index.specs.declared.note.Note.{Note}
@@ -7,7 +7,7 @@ use Rattle.version_index.specs.declared.note.Note.TheVariants.{Blank, Damaged, H
 use Rattle.version_index.specs.Notes.{seen_as}
 use Rattle.version_index.specs.Noted.{is_blank}
 use Rattle.collector.specs.Collecting.{reads_blank}
-use Rattle.std.proofs.lemmas.Bool.{cases_lt, and_parts, and_from, both_ways}
+use Rattle.std.proofs.lemmas.Bool.{cases_lt, and_parts, and_from, both_ways, cases_eq}
 
 -- each number passes where the whole range does
 pub all_range : (p : ℕ → Bool) (a n : ℕ) → list_all p (range_with_len a n) ≡ true → (k : ℕ) → a ≤ k → k < a + n → p k ≡ true
@@ -40,6 +40,12 @@ blank_seen Blank = refl
 blank_seen Damaged = refl
 blank_seen (Holds rec) = refl
 
+-- a note that passes the test is blank
+pub noted_blank : (note : Note) → is_blank note ≡ true → note ≡ Blank
+noted_blank Blank e = refl
+noted_blank Damaged e = cc
+noted_blank (Holds rec) e = cc
+
 -- two tests that agree on a range
 pub range_same : (p q : ℕ → Bool) (a n : ℕ) → ((k : ℕ) → a ≤ k → k < a + n → p k ≡ q k) → list_all p (range_with_len a n) ≡ list_all q (range_with_len a n)
 range_same p q a zero h = refl
@@ -49,3 +55,17 @@ range_same p q a (suc n) h =
 -- a count over a range, its first number apart
 pub count_first : (p : ℕ → Bool) (a n : ℕ) → count_by p (range_with_len a (suc n)) ≡ cond (p a) 1 0 + count_by p (range_with_len (a + 1) n)
 count_first p a n = sum_by-cons (λ k. cond (p k) 1 0) a (range_with_len (a + 1) n)
+
+-- where none of a range is counted, each fails
+pub none_in_range : (p : ℕ → Bool) (a n : ℕ) → count_by p (range_with_len a n) ≡ 0 → (k : ℕ) → a ≤ k → k < a + n → p k ≡ false
+none_in_range p a zero none k low high = absurd (omega arith)
+none_in_range p a (suc n) none k low high =
+    let first = count_first p a n in
+    elim (cases_eq k a) [
+      | inl here ↦ ap p here ∙ failed (p a) (omega arith)
+      | inr later ↦ none_in_range p (a + 1) n (omega arith) k (omega arith) (omega arith)
+    ]
+  where
+    failed : (b : Bool) → cond {A = ℕ} b 1 0 ≡ 0 → b ≡ false
+    failed true e = absurd (omega arith)
+    failed false e = refl

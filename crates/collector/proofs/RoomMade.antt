@@ -1,10 +1,10 @@
 -- Where no block has room and the spare is blank, some block has garbage; and once it was collected the old spare has room.
-use Rattle.std.proofs.Common.{◌≡◌, ◌≢◌, ◌⊎◌, ℕ, zero, suc, ◌+◌, ◌*◌, ◌/◌, ◌<◌, ◌≤◌, Bool, true, false, not, ◌||◌, eqb, eqb-true, eq-eqb, ne_eqb, List, zip, count_by, Contains, refl, sym, ap, ◌∙◌, subst, inl, inr, arith, if◌then◌else◌}
+use Rattle.std.proofs.Common.{◌≡◌, ◌≢◌, ◌⊎◌, ℕ, zero, suc, ◌+◌, ◌*◌, ◌/◌, ◌<◌, ◌≤◌, Bool, true, false, ◌||◌, eqb, eqb-true, eq-eqb, ne_eqb, List, zip, count_by, Contains, refl, sym, ap, ◌∙◌, subst, inl, inr, arith, if◌then◌else◌}
 use Rattle.std.specs.List.{range_with_len}
 use Rattle.std.proofs.Math.ListN.{length-set}
 use Rattle.std.proofs.Math.Nat.{mul_comm}
 use Rattle.std.proofs.lemmas.Nat.{div_below}
-use Rattle.std.proofs.lemmas.Bool.{cases_Bool, cases_lt, or_parts, false≢true}
+use Rattle.std.proofs.lemmas.Bool.{cases_Bool, or_parts, not-true, not-false}
 use Rattle.std.proofs.lemmas.List.{get_or-set_same}
 use Rattle.tx_types.specs.Config.{shape_of, slots_of, blocks_of}
 use Rattle.tx_types.specs.declared.config.Shape.{Shape}
@@ -21,8 +21,7 @@ use Rattle.record_list.proofs.Names.{IsIn, all_at, in_from}
 use Rattle.record_list.proofs.Progress.{underway_of, name_loose, absent_name}
 use Rattle.record_list.proofs.Rounds.{follows_of, follows_in}
 use Rattle.record_list.proofs.SoundNames.{sound_map}
-use Rattle.version_index.specs.declared.note.Note.{Note}
-use Rattle.version_index.specs.declared.note.Note.TheVariants.{Blank, Damaged, Holds}
+use Rattle.version_index.specs.declared.note.Note.TheVariants.{Blank}
 use Rattle.version_index.specs.Notes.{note_at, found_in}
 use Rattle.version_index.specs.Noted.{Noted, IsNoted, current_of, needed_of, garbage_of, is_garbage_at, shut_or_part, pinned_names, erased, is_blank}
 use Rattle.version_index.proofs.Blocks.{other_block, in_it, inside_block}
@@ -36,28 +35,9 @@ use Rattle.collector.specs.Going.{IsNextName, IsPinBeside}
 use Rattle.collector.specs.Matches.{Matches}
 use Rattle.collector.specs.Victim.{IsVictim, HasNoGarbage, is_shut}
 use Rattle.collector.proofs.GoingCounts.{one_of, has_unneeded, in_range}
-use Rattle.collector.proofs.Ranges.{count_first}
 use Rattle.collector.proofs.NotesLeft.{note_at-in}
-use Rattle.collector.proofs.Ranges.{all_range, range_all}
+use Rattle.collector.proofs.Ranges.{all_range, range_all, count_first, none_in_range, noted_blank}
 use Rattle.collector.proofs.Space.{IsFilled, slots_few}
-
-one_when : (b : Bool) → b ≡ true → one_of b ≡ 1
-one_when true e = refl
-one_when false e = absurd (false≢true e)
-
--- where none of a range is counted, each fails
-count_none : (p : ℕ → Bool) (a n : ℕ) → count_by p (range_with_len a n) ≡ 0 → (k : ℕ) → a ≤ k → k < a + n → p k ≡ false
-count_none p a zero e k low high = absurd (omega arith)
-count_none p a (suc n) e k low high = elim (cases_lt a k) [
-  | inl later ↦ count_none p (a + 1) n (omega (arith, count_first p a n)) k (omega arith) (omega arith)
-  | inr here ↦ elim (cases_Bool (p k)) [
-    | inl pass ↦ (
-        let same : k ≡ a = omega arith in
-        let one = one_when (p a) (ap p (sym same) ∙ pass) in
-        absurd (omega (arith, count_first p a n, one)))
-    | inr fail ↦ fail
-  ]
-]
 
 -- a number of a range that passes
 record PassesIn (p : ℕ → Bool) (a n : ℕ) : Type 0 where
@@ -79,24 +59,11 @@ count_some p a (suc n) h = elim (cases_Bool (p a)) [
       record { at = rest.at; low = omega arith; high = omega arith; passes = rest.passes })
 ]
 
-noted_blank : (note : Note) → is_blank note ≡ true → note ≡ Blank
-noted_blank Blank e = refl
-noted_blank Damaged e = absurd (false≢true e)
-noted_blank (Holds rec) e = absurd (false≢true e)
-
-not_off : (b : Bool) → not b ≡ false → b ≡ true
-not_off true e = refl
-not_off false e = absurd (false≢true (sym e))
-
-not_on : (b : Bool) → not b ≡ true → b ≡ false
-not_on true e = absurd (false≢true e)
-not_on false e = refl
-
 -- a garbage slot is not needed
 garbage_unneeded : (n : Noted) (shut : Bool) (slot : ℕ) → is_garbage_at n (shut_or_part shut) slot ≡ true → needed_of n slot ≡ false
-garbage_unneeded n true slot e = not_on (needed_of n slot) e
+garbage_unneeded n true slot e = not-true (needed_of n slot) e
 garbage_unneeded n false slot e =
-    (or_parts (is_blank (note_at n.notes slot)) (needed_of n slot) (not_on (is_blank (note_at n.notes slot) || needed_of n slot) e)).1
+    (or_parts (is_blank (note_at n.notes slot)) (needed_of n slot) (not-true (is_blank (note_at n.notes slot) || needed_of n slot) e)).1
 
 -- the slots of a block that is all blank
 pub blank_erased : (n : Noted) → IsNoted n.config.protocol n → (block : ℕ) → block < blocks_of (shape_of n.config) → is_noted_blank (erased n block) block ≡ true
@@ -169,7 +136,7 @@ module _ (s : FlashState) (n : Noted) (t : BlockTable) (m : Matches s n t unsure
         let zero : garbage_of n block true ≡ 0 = ap (λ q. garbage_of n block (is_shut q)) (sym shut) ∙ none block below in
         let count = sym (other_garbage n block true (not_its_spare block apart)) ∙ zero in
         let inside = inside_block per block slot some refl in
-        not_off (needed_of n slot) (count_none (is_garbage_at n (shut_or_part true)) (block * per) per count slot inside.0 inside.1)
+        not-false (needed_of n slot) (none_in_range (is_garbage_at n (shut_or_part true)) (block * per) per count slot inside.0 inside.1)
 
     pin_unanswered : (f : Found) → IsIn (found_in n.notes) f → IsPinBeside n names (name_of f.rec) →
         IsCurrent n.config.protocol (found_in n.notes) n.config.logical f.rec

@@ -1,7 +1,7 @@
 -- What matches once a block was read whose erase was broken: it is old, or each of its slots is blank, or damaged.
-use Rattle.std.proofs.Common.{◌≡◌, ◌≢◌, ℕ, ◌/◌, ◌%◌, ◌<◌, ◌≤◌, Bool, true, false, not, eqb-true, List, None, refl, sym, ap, ◌∙◌, subst, inl, inr, arith}
+use Rattle.std.proofs.Common.{◌≡◌, ◌≢◌, ℕ, ◌/◌, ◌%◌, ◌<◌, ◌≤◌, true, not, eqb-true, List, None, refl, sym, ap, ◌∙◌, subst, inl, inr, arith}
 use Rattle.std.specs.Prelude.{◌==◌}
-use Rattle.std.proofs.lemmas.Bool.{cases_Bool}
+use Rattle.std.proofs.lemmas.Bool.{cases_Bool, not_from_true}
 use Rattle.tx_types.specs.Config.{shape_of, slots_of, blocks_of}
 use Rattle.tx_types.specs.declared.config.Block.{Block}
 use Rattle.tx_types.specs.declared.config.Shape.{Shape}
@@ -22,19 +22,15 @@ use Rattle.collector.specs.Matches.{Matches, IsNotedAt, AllOfBlock, IsFilledTo}
 use Rattle.collector.proofs.Losing.{blocked, spared_still}
 use Rattle.collector.proofs.Exchange.{free_away, free_before, tail_blank}
 
-out_of : (shape : Shape) (block slot : ℕ) → slot / shape.pages_per_block ≢ block → is_outside shape block slot ≡ true
+-- a slot of another block is outside the block
+pub out_of : (shape : Shape) (block slot : ℕ) → slot / shape.pages_per_block ≢ block → is_outside shape block slot ≡ true
 out_of shape block slot apart = elim (cases_Bool ((slot / shape.pages_per_block) == block)) [
   | inl e ↦ absurd (apart (eqb-true (slot / shape.pages_per_block) block e))
   | inr e ↦ ap not e
 ]
 
-flip : (b : Bool) → b ≡ true → not b ≡ false
-flip b e = ap not e
-
 module _ (s : FlashState) (n : Noted) (t : BlockTable) (u : Unsure) (m : Matches s n t u) (block : ℕ) (below : block < blocks_of (shape_of n.config))
-    (contents : Contents) (note : Note) (fits : note ≡ note_of n.config.protocol contents)
-    (all : AllOfBlock n block (λ slot. slot_at s.image slot ≡ contents))
-    (other : (slot : ℕ) → slot < slots_of s.shape → is_outside s.shape block slot ≡ true → IsNotedAt s.image n slot) where
+    (note : Note) where
   some : 0 < n.config.pages_per_block
   some = (let b = m.noted.bounds.shape.pages_least in omega arith)
 
@@ -44,18 +40,21 @@ module _ (s : FlashState) (n : Noted) (t : BlockTable) (u : Unsure) (m : Matches
   abbrev notes' : List Note
   notes' = with_block_noted (shape_of n.config) n.notes block note
 
-  noted_out : (slot : ℕ) → is_outside s.shape block slot ≡ true → note_at notes' slot ≡ note_at n.notes slot
+  -- a slot outside the block is noted as before
+  pub noted_out : (slot : ℕ) → is_outside s.shape block slot ≡ true → note_at notes' slot ≡ note_at n.notes slot
   noted_out slot e = note_at-out (shape_of n.config) some n.notes m.noted.slots block below note slot (outside_it (shape_of n.config) block slot (as_noted slot ∙ e))
 
-  sure_blocked : (slot : ℕ) → slot < slots_of s.shape → IsNotedAt s.image (blocked n block note) slot
-  sure_blocked slot within = elim (cases_Bool (is_outside s.shape block slot)) [
-    | inl out ↦ noted_out slot out ∙ other slot within out
-    | inr ins ↦
-        (let here = in_it (shape_of n.config) block slot (as_noted slot ∙ ins) in
-        let place = inside_block n.config.pages_per_block block slot some here in
-        note_at-in (shape_of n.config) some n.notes m.noted.slots block below note slot place.0 place.1 ∙ fits
-        ∙ ap (note_of n.config.protocol) (sym (all slot (omega (arith, within, ap slots_of m.shape)) here)))
-  ]
+  module _ (contents : Contents) (fits : note ≡ note_of n.config.protocol contents) (all : AllOfBlock n block (λ slot. slot_at s.image slot ≡ contents))
+      (other : (slot : ℕ) → slot < slots_of s.shape → is_outside s.shape block slot ≡ true → IsNotedAt s.image n slot) where
+    sure_blocked : (slot : ℕ) → slot < slots_of s.shape → IsNotedAt s.image (blocked n block note) slot
+    sure_blocked slot within = elim (cases_Bool (is_outside s.shape block slot)) [
+      | inl out ↦ noted_out slot out ∙ other slot within out
+      | inr ins ↦
+          (let here = in_it (shape_of n.config) block slot (as_noted slot ∙ ins) in
+          let place = inside_block n.config.pages_per_block block slot some here in
+          note_at-in (shape_of n.config) some n.notes m.noted.slots block below note slot place.0 place.1 ∙ fits
+          ∙ ap (note_of n.config.protocol) (sym (all slot (omega (arith, within, ap slots_of m.shape)) here)))
+    ]
 
 -- the spare
 pub settled_spare : (s : FlashState) (n : Noted) (t : BlockTable) (m : Matches s n t unsure.SpareErase) (loss : LossLaw n.config.protocol)
@@ -65,7 +64,7 @@ pub settled_spare : (s : FlashState) (n : Noted) (t : BlockTable) (m : Matches s
 settled_spare s n t m loss contents note fits none all noted =
     let below : t.spare < blocks_of (shape_of n.config) = omega (arith, m.table.spare_within, ap blocks_of m.blocks, ap blocks_of m.shape) in
     let other : (slot : ℕ) → slot < slots_of s.shape → is_outside s.shape t.spare slot ≡ true → IsNotedAt s.image n slot =
-    λ slot within out. m.sure slot within (flip (is_outside s.shape t.spare slot) out) in
+    λ slot within out. m.sure slot within (not_from_true (is_outside s.shape t.spare slot) out) in
     record {
       shape = m.shape;
       flash = m.flash;
@@ -74,14 +73,14 @@ settled_spare s n t m loss contents note fits none all noted =
       table = m.table;
       blocks = m.blocks;
       spare = m.spare;
-      sure = λ slot within nothing. sure_blocked s n t unsure.SpareErase m t.spare below contents note fits all other slot within;
+      sure = λ slot within nothing. sure_blocked s n t unsure.SpareErase m t.spare below note contents fits all other slot within;
       place = tt;
       spared = spared_still n m.noted loss t.spare below m.spared note none;
       victim = tt;
       free = λ slot free.
           let apart = has_room_not_spare t m.table (block_of_slot t.shape slot) (block_within t m.table slot free.within) free.room in
           let out = out_of s.shape t.spare slot (λ e. apart (ap (λ (x : Shape). slot / x.pages_per_block) m.blocks ∙ e)) in
-          noted_out s n t unsure.SpareErase m t.spare below contents note fits all other slot out ∙ m.free slot free;
+          noted_out s n t unsure.SpareErase m t.spare below note slot out ∙ m.free slot free;
     }
 
 -- a collected block, which is the spare then
@@ -95,7 +94,7 @@ settled_victim s n t block m loss contents note fits none all filled below apart
     let same_per : t.shape.pages_per_block ≡ n.config.pages_per_block = ap (λ (x : Shape). x.pages_per_block) (m.blocks ∙ m.shape) in
     let some : 0 < n.config.pages_per_block = (let b = m.noted.bounds.shape.pages_least in omega arith) in
     let other : (slot : ℕ) → slot < slots_of s.shape → is_outside s.shape block.0 slot ≡ true → IsNotedAt s.image n slot =
-    λ slot within out. m.sure slot within (flip (is_outside s.shape block.0 slot) out) in
+    λ slot within out. m.sure slot within (not_from_true (is_outside s.shape block.0 slot) out) in
     record {
       shape = m.shape;
       flash = m.flash;
@@ -104,14 +103,14 @@ settled_victim s n t block m loss contents note fits none all filled below apart
       table = table;
       blocks = m.blocks;
       spare = refl;
-      sure = λ slot within nothing. sure_blocked s n t (unsure.VictimErase block) m block.0 below contents note fits all other slot within;
+      sure = λ slot within nothing. sure_blocked s n t (unsure.VictimErase block) m block.0 below note contents fits all other slot within;
       place = tt;
       spared = spared_still n m.noted loss block.0 below m.victim note none;
       victim = tt;
       free = λ slot free.
           let away = free_away t m.table block.0 below_table apart mid filled.0 slot free in
           let out = out_of s.shape block.0 slot (λ e. away (ap (λ (x : Shape). slot / x.pages_per_block) m.blocks ∙ e)) in
-          noted_out s n t (unsure.VictimErase block) m block.0 below contents note fits all other slot out
+          noted_out s n t (unsure.VictimErase block) m block.0 below note slot out
           ∙ (elim (free_before t m.table block.0 below_table apart mid filled.0 slot free) [
             | inl behind ↦ tail_blank n t.spare filled slot (ap (λ k. slot / k) (sym same_per) ∙ behind.0) some
                 (subst (λ k. filled.0 ≤ slot % k) same_per behind.1)

@@ -1,7 +1,7 @@
 -- What matches once the place was read that was not known.
-use Rattle.std.proofs.Common.{◌≡◌, ◌≢◌, ◌⊎◌, ℕ, ◌+◌, ◌%◌, ◌<◌, ◌≤◌, true, false, eq-eqb, eqb-true, List, length, set, Some, sym, ap, ◌∙◌, subst, inl, inr, arith}
+use Rattle.std.proofs.Common.{◌≡◌, ◌≢◌, ◌⊎◌, ℕ, ◌+◌, ◌%◌, ◌<◌, ◌≤◌, true, false, eqb-true, List, length, set, Some, sym, ap, ◌∙◌, subst, inl, inr, arith}
 use Rattle.std.specs.Prelude.{◌==◌}
-use Rattle.std.proofs.lemmas.Bool.{cases_Bool}
+use Rattle.std.proofs.lemmas.Bool.{cases_Bool, eqb-false}
 use Rattle.std.proofs.lemmas.List.{get_or-set_same, get_or-set_other}
 use Rattle.tx_types.specs.Config.{shape_of, slots_of}
 use Rattle.flash_model.specs.Flash.{FlashState, IsImage, slot_at}
@@ -66,9 +66,6 @@ pub damaged_spared : (n : Noted) (at block : ℕ) → at < length n.notes → no
 damaged_spared n at block within was spared =
     subst (λ l. IsDispensable n.config.protocol l n.config.logical (pinned_names n.pins) (shape_of n.config) block) (sym (found_in_damaged n.notes at within was)) spared
 
-unequal : (a b : ℕ) → (a == b) ≡ false → a ≢ b
-unequal a b e same = let yes = eq-eqb a b same in cc
-
 -- the one slot that was unsure is noted as it reads
 module _ (s : FlashState) (n : Noted) (t t' : BlockTable) (u : Unsure) (m : Matches s n t u) (at : ℕ) (within : at < slots_of s.shape)
     (only : (slot : ℕ) → is_unsure s.shape t.spare u slot ≡ true → slot ≡ at)
@@ -81,11 +78,11 @@ module _ (s : FlashState) (n : Noted) (t t' : BlockTable) (u : Unsure) (m : Matc
   sure_now slot low = elim (cases_Bool (slot == at)) [
     | inl here ↦ subst (λ k. note_at (set n.notes at note) k ≡ note_of n.config.protocol (slot_at s.image k)) (sym (eqb-true slot at here))
         (get_or-set_same n.notes at note Blank long ∙ reads)
-    | inr other ↦ get_or-set_other n.notes at slot note Blank (unequal slot at other) ∙ sure_other slot low (cases_Bool (is_unsure s.shape t.spare u slot)) other
+    | inr other ↦ get_or-set_other n.notes at slot note Blank (eqb-false slot at other) ∙ sure_other slot low (cases_Bool (is_unsure s.shape t.spare u slot)) other
   ]
     where
       sure_other : (slot : ℕ) → slot < slots_of s.shape → (is_unsure s.shape t.spare u slot ≡ true) ⊎ (is_unsure s.shape t.spare u slot ≡ false) → (slot == at) ≡ false → IsNotedAt s.image n slot
-      sure_other slot low (inl un) other = absurd (unequal slot at other (only slot un))
+      sure_other slot low (inl un) other = absurd (eqb-false slot at other (only slot un))
       sure_other slot low (inr sure) other = m.sure slot low sure
 
   pub settled_slot : IsBlockTable t' → t'.shape ≡ t.shape → t'.spare ≡ t.spare → ((slot : ℕ) → IsFree t' slot → IsFree t slot × (slot ≢ at)) →
@@ -109,7 +106,7 @@ module _ (s : FlashState) (n : Noted) (t t' : BlockTable) (u : Unsure) (m : Matc
 pub free_with_slot : (t : BlockTable) → IsBlockTable t → (at : ℕ) → IsFree t at → (slot : ℕ) → IsFree (with_slot t at) slot → IsFree t slot × (slot ≢ at)
 free_with_slot t h at free slot f = elim (cases_Bool (block_of_slot t.shape slot == block_of_slot t.shape at)) [
   | inr other ↦
-      (let apart = unequal (block_of_slot t.shape slot) (block_of_slot t.shape at) other in
+      (let apart = eqb-false (block_of_slot t.shape slot) (block_of_slot t.shape at) other in
       let same = use_of-with_slot_other t at (block_of_slot t.shape slot) apart in (
         record {
           within = f.within;

@@ -31,8 +31,7 @@ use Rattle.version_index.specs.declared.note.Note.TheVariants.{Blank, Holds}
 use Rattle.version_index.specs.Notes.{note_at, found_in}
 use Rattle.version_index.specs.Noted.{Noted, IsNoted, needed_of, home_of, pinned_names}
 use Rattle.version_index.proofs.FoundIn.{found, noted_from, noted_in}
-use Rattle.version_index.proofs.Places.{one_in_slot}
-use Rattle.collector.proofs.NeedFacts.{IsHome, home_needed}
+use Rattle.collector.proofs.NeedFacts.{IsHome, home_needed, found_home}
 
 -- a held name is at most the current version of its page
 pub held_low : (l : List Found) (n : ℕ) (name : Link) → is_held Bpcc l n name ≡ true → name.version ≤ cur Bpcc l n name.page
@@ -164,14 +163,11 @@ module _ (n : Noted) (spare : ℕ) (h : IsFilled n spare) where
       out true e holds = e
       out false e holds = (let none = sym (h.blank f.slot.0 e) ∙ holds in cc)
 
-  same_found : (f : Found) (i : IsIn list f) → (record_home f i).found ≡ f
-  same_found f i = let x = record_home f i in one_in_slot list x.found f h.noted.scanned.ascending x.is_in i x.slot
-
   -- so no record is loose and has a responsible one
   none_answered : n.config.protocol ≡ Bpcc → HasAnswered list logical → ⊥
   none_answered rule y =
       let x = record_home y.found y.is_in in
-      let same = same_found y.found y.is_in in
+      let same = found_home n h.noted y.found y.is_in x in
       elim x.wanted [
         | inl current ↦ current_not (subst (λ (f : Found). IsCurrent n.config.protocol list logical f.rec) same current)
         | inr (inl held) ↦

@@ -1,6 +1,5 @@
 -- The erase of the spare as a call: what it leaves where it is done, and where it is broken.
-use Rattle.std.proofs.Common.{◌≡◌, ◌<◌, Ok, Err, Result, refl, sym, ap, ◌∙◌, subst}
-use Rattle.tx_types.specs.Config.{shape_of, blocks_of}
+use Rattle.std.proofs.Common.{◌≡◌, Ok, Err, Result, refl, sym, ap, ◌∙◌, subst}
 use Rattle.tx_types.specs.declared.config.Block.{Block}
 use Rattle.tx_types.specs.declared.config.Protocol.{Protocol}
 use Rattle.flash_model.specs.declared.flash.Broken.{Broken}
@@ -9,7 +8,7 @@ use Rattle.flash_model.specs.Calls.{Erases}
 use Rattle.record_list.specs.Changes.{LossLaw}
 use Rattle.record_list.specs.WrittenChanges.{WrittenLossLaw}
 use Rattle.version_index.specs.declared.note.Note.TheVariants.{Blank}
-use Rattle.version_index.specs.Noted.{Noted, CanLose, erased}
+use Rattle.version_index.specs.Noted.{Noted, erased}
 use Rattle.version_index.proofs.NotedChanges.{block_noted}
 use Rattle.die_alloc.specs.BlockTable.{BlockTable}
 use Rattle.collector.specs.declared.unsure.Unsure.{Unsure}
@@ -34,13 +33,6 @@ module _ (p : Protocol) (loss : LossLaw p) (written_loss : WrittenLossLaw p) (s 
 
   e : Erases s s' t.spare r
   e = subst (λ k. Erases s s' k r) is erases
-
-  -- the spare can be lost
-  pub loses : CanLose n b.0
-  loses = subst (CanLose n) (sym is) (can_lose s n t m t.spare m.spared)
-
-  pub exists : b.0 < blocks_of (shape_of n.config)
-  exists = subst (λ k. k < blocks_of (shape_of n.config)) (sym is) (spare_below s s' n t m law written_law)
 
   module _ (x : Unit {0}) (ok : r ≡ Ok x) (n' : Noted) (noted : n' ≡ erased n b.0) where
     done : Erases s s' t.spare (Ok tt)

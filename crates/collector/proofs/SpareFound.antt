@@ -1,5 +1,6 @@
 -- Finding out whether the spare was erased.
-use Rattle.std.proofs.Common.{◌≡◌, ℕ, ◌<◌, Bool, true, false, not, refl, sym, ap, ◌∙◌, subst, arith}
+use Rattle.std.proofs.Common.{◌≡◌, ℕ, ◌<◌, Bool, true, false, refl, sym, ap, ◌∙◌, subst, arith}
+use Rattle.std.proofs.lemmas.Bool.{not-true}
 use Rattle.tx_types.specs.Config.{shape_of, slots_of, blocks_of}
 use Rattle.tx_types.specs.declared.config.Block.{Block}
 use Rattle.tx_types.specs.declared.config.Protocol.{Protocol}
@@ -25,10 +26,6 @@ use Rattle.collector.proofs.Losing.{preserves}
 use Rattle.collector.proofs.SettledBlocks.{settled_spare}
 use Rattle.collector.proofs.SettledExits.{matches_still, matches_surely}
 
-true_not : (b : Bool) → not b ≡ true → b ≡ false
-true_not true h = cc
-true_not false h = refl
-
 module _ (p : Protocol) (loss : LossLaw p) (s s1 : FlashState) (n : Noted) (t : BlockTable) (rule : n.config.protocol ≡ p)
     (matches : Matches s n t unsure.SpareErase) (b : Block) (is : b.0 ≡ t.spare) (count : ℕ) (looks : Looks s s1 count false) where
   image : s1.image ≡ s.image
@@ -46,12 +43,6 @@ module _ (p : Protocol) (loss : LossLaw p) (s s1 : FlashState) (n : Noted) (t : 
   can_be_lost : CanLose n t.spare
   can_be_lost = dispensable_removable n.config.protocol (found_in n.notes) n.config.logical (pinned_names n.pins) (shape_of n.config) t.spare m.spared
 
-  pub exists : b.0 < blocks_of (shape_of n.config)
-  exists = subst (λ k. k < blocks_of (shape_of n.config)) (sym is) below
-
-  pub loses : CanLose n b.0
-  loses = subst (CanLose n) (sym is) can_be_lost
-
   as_noted : (x : Bool) → block_reads_as_noted n s.image b.0 ≡ x → block_reads_as_noted n s1.image t.spare ≡ x
   as_noted x e = ap (λ i. block_reads_as_noted n i t.spare) image ∙ ap (block_reads_as_noted n s.image) (sym is) ∙ e
 
@@ -64,7 +55,7 @@ module _ (p : Protocol) (loss : LossLaw p) (s s1 : FlashState) (n : Noted) (t : 
       let all = noted_all s1 n t unsure.SpareErase m t.spare below m.place.0 (as_noted true e) in
       matches_surely s1 n t unsure.SpareErase m (λ slot within un.
       all slot (omega (arith, within, ap slots_of m.shape))
-      (in_it (shape_of n.config) t.spare slot (ap (λ sh. is_outside sh t.spare slot) (sym m.shape) ∙ true_not (is_outside s1.shape t.spare slot) un)))
+      (in_it (shape_of n.config) t.spare slot (ap (λ sh. is_outside sh t.spare slot) (sym m.shape) ∙ not-true (is_outside s1.shape t.spare slot) un)))
 
   -- it was
   pub found_blank : block_reads_as_noted n s.image b.0 ≡ false → is_blank_block n s.image b.0 ≡ true → (n' : Noted) → n' ≡ erased n b.0 → Matches s1 n' t unsure.Nothing

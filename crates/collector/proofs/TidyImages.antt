@@ -1,9 +1,7 @@
 -- Where nothing outside the spare is garbage, and the spare is blank, each record of the image is wanted, and stands once.
-use Rattle.std.proofs.Common.{◌≡◌, ◌≢◌, ◌⊎◌, ℕ, zero, suc, ◌+◌, ◌*◌, ◌/◌, ◌<◌, ◌≤◌, Bool, true, false, cond, count_by, List, length, get_or, All, AllPairs, Contains, refl, sym, ap, ◌∙◌, subst, inl, inr, arith}
-use Rattle.std.specs.List.{range_with_len}
+use Rattle.std.proofs.Common.{◌≡◌, ◌≢◌, ◌⊎◌, ℕ, ◌*◌, ◌/◌, ◌<◌, Bool, true, false, List, length, get_or, All, AllPairs, Contains, refl, sym, ap, ◌∙◌, subst, inl, inr, arith}
 use Rattle.std.proofs.lemmas.Bool.{cases_eq, ne_eqb}
 use Rattle.std.proofs.lemmas.List.Elements.{All-from_get_or}
-use Rattle.std.proofs.lemmas.List.Sums.{sum_by-cons}
 use Rattle.tx_types.specs.Config.{shape_of, slots_of, blocks_of}
 use Rattle.tx_types.specs.declared.config.Shape.{Shape}
 use Rattle.flash_model.specs.Flash.{FlashState, blank, damaged, slot_at}
@@ -18,7 +16,7 @@ use Rattle.version_index.specs.Noted.{Noted, needed_of, is_garbage_at, is_blank,
 use Rattle.version_index.proofs.Blocks.{inside_block}
 use Rattle.version_index.proofs.FoundIn.{noted_from}
 use Rattle.version_index.proofs.NotedFacts.{other_garbage}
-use Rattle.version_index.proofs.Places.{in_at, one_in_slot}
+use Rattle.version_index.proofs.Places.{in_at}
 use Rattle.die_alloc.specs.BlockTable.{BlockTable, block_state}
 use Rattle.die_alloc.proofs.Changes.{block_within}
 use Rattle.collector.specs.declared.unsure.Unsure.TheVariants as unsure
@@ -26,21 +24,8 @@ use Rattle.collector.specs.Matches.{Matches, AllOfBlock}
 use Rattle.collector.specs.Tidy.{IsTidy}
 use Rattle.collector.specs.Victim.{HasNoGarbage, is_shut}
 use Rattle.collector.proofs.Calm.{noted_as_read, same_records}
-use Rattle.collector.proofs.NeedFacts.{IsHome, home_needed, one_home}
-
--- in a range of which none passes, none passes
-none_in_range : (p : ℕ → Bool) (a n : ℕ) → count_by p (range_with_len a n) ≡ 0 → (k : ℕ) → a ≤ k → k < a + n → p k ≡ false
-none_in_range p a zero none k low high = absurd (omega arith)
-none_in_range p a (suc n) none k low high =
-    let first : count_by p (range_with_len a (suc n)) ≡ cond (p a) 1 0 + count_by p (range_with_len (a + 1) n) = sum_by-cons (λ j. cond (p j) 1 0) a (range_with_len (a + 1) n) in
-    elim (cases_eq k a) [
-      | inl here ↦ ap p here ∙ failed (p a) (omega arith)
-      | inr later ↦ none_in_range p (a + 1) n (omega arith) k (omega arith) (omega arith)
-    ]
-  where
-    failed : (b : Bool) → cond {A = ℕ} b 1 0 ≡ 0 → b ≡ false
-    failed true e = absurd (omega arith)
-    failed false e = refl
+use Rattle.collector.proofs.NeedFacts.{IsHome, home_needed, one_home, found_home}
+use Rattle.collector.proofs.Ranges.{none_in_range}
 
 -- a slot that is not blank and is no garbage is needed
 needed_full : (n : Noted) (shut : Bool) (slot : ℕ) → is_blank (note_at n.notes slot) ≡ false → is_garbage_at n (shut_or_part shut) slot ≡ false → needed_of n slot ≡ true
@@ -100,14 +85,11 @@ module _ (s : FlashState) (n : Noted) (t : BlockTable) (m : Matches s n t unsure
       let low = at.0 in
       home_full f.slot.0 (omega (arith, m.noted.slots)) (ap is_blank at.1)
 
-  same_found : (f : Found) (i : IsIn list f) → (record_home f i).found ≡ f
-  same_found f i = let x = record_home f i in one_in_slot list x.found f m.noted.scanned.ascending x.is_in i x.slot
-
   -- so one name has one slot
   one_slot : (f g : Found) → IsIn list f → IsIn list g → name_of f.rec ≡ name_of g.rec → f.slot.0 ≡ g.slot.0
   one_slot f g i j same =
       one_home n f.slot.0 g.slot.0 (record_home f i) (record_home g j)
-      (ap (λ (x : Found). name_of x.rec) (same_found f i) ∙ same ∙ sym (ap (λ (x : Found). name_of x.rec) (same_found g j)))
+      (ap (λ (x : Found). name_of x.rec) (found_home n m.noted f i (record_home f i)) ∙ same ∙ sym (ap (λ (x : Found). name_of x.rec) (found_home n m.noted g j (record_home g j))))
 
   once : AllPairs (λ f g. name_of f.rec ≢ name_of g.rec) list
   once i j d lt within same =
@@ -122,7 +104,7 @@ module _ (s : FlashState) (n : Noted) (t : BlockTable) (m : Matches s n t unsure
       ⊎ ((is_held n.config.protocol list n.config.logical (name_of f.rec) ≡ true) ⊎ Contains (pinned_names n.pins) (name_of f.rec))
   wanted f i =
       subst (λ (x : Found). IsCurrent n.config.protocol list n.config.logical x.rec
-      ⊎ ((is_held n.config.protocol list n.config.logical (name_of x.rec) ≡ true) ⊎ Contains (pinned_names n.pins) (name_of x.rec))) (same_found f i) (record_home f i).wanted
+      ⊎ ((is_held n.config.protocol list n.config.logical (name_of x.rec) ≡ true) ⊎ Contains (pinned_names n.pins) (name_of x.rec))) (found_home n m.noted f i (record_home f i)) (record_home f i).wanted
 
   abbrev WantedIn : List Found → Type 0
   WantedIn l = All (λ f. IsCurrent n.config.protocol l n.config.logical f.rec

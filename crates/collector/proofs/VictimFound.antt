@@ -1,5 +1,6 @@
 -- Finding out whether a collected block was erased.
-use Rattle.std.proofs.Common.{◌≡◌, ◌≢◌, ℕ, zero, suc, ◌+◌, ◌*◌, ◌<◌, ◌≤◌, Bool, true, false, not, cond, count_by, refl, sym, ap, ap₂, ◌∙◌, subst, None, arith}
+use Rattle.std.proofs.Common.{◌≡◌, ◌≢◌, ℕ, zero, suc, ◌+◌, ◌*◌, ◌<◌, ◌≤◌, Bool, true, false, cond, count_by, refl, sym, ap, ap₂, ◌∙◌, subst, None, arith}
+use Rattle.std.proofs.lemmas.Bool.{not-true}
 use Rattle.std.specs.List.{range_with_len}
 use Rattle.tx_types.specs.Config.{shape_of, slots_of, blocks_of}
 use Rattle.tx_types.specs.declared.config.Block.{Block}
@@ -28,10 +29,6 @@ use Rattle.collector.proofs.Ranges.{count_first}
 use Rattle.collector.proofs.SettledBlocks.{settled_victim}
 use Rattle.collector.proofs.SettledExits.{matches_still, matches_surely}
 use Rattle.collector.proofs.VictimCalls.{spare_noted, with_spare_preserves}
-
-true_not : (b : Bool) → not b ≡ true → b ≡ false
-true_not true h = cc
-true_not false h = refl
 
 -- a count over a range of which so many first numbers pass, and no others
 filled_count : (p : ℕ → Bool) (a n filled : ℕ) → filled ≤ n → ((k : ℕ) → k < filled → p (a + k) ≡ true) → ((k : ℕ) → filled ≤ k → k < n → p (a + k) ≡ false) →
@@ -88,7 +85,7 @@ module _ (p : Protocol) (loss : LossLaw p) (s s1 : FlashState) (n : Noted) (t : 
       let all = noted_all s1 n t (unsure.VictimErase b) m b.0 exists m.place.2 (as_noted true e) in
       matches_surely s1 n t (unsure.VictimErase b) m (λ slot within un.
       all slot (omega (arith, within, ap slots_of m.shape))
-      (in_it (shape_of n.config) b.0 slot (ap (λ sh. is_outside sh b.0 slot) (sym m.shape) ∙ true_not (is_outside s1.shape b.0 slot) un)))
+      (in_it (shape_of n.config) b.0 slot (ap (λ sh. is_outside sh b.0 slot) (sym m.shape) ∙ not-true (is_outside s1.shape b.0 slot) un)))
 
   module _ (contents : Contents) (note : Note) (fits : note ≡ note_of n.config.protocol contents) (none : rec_of note ≡ None)
       (mid n' : Noted) (noted : mid ≡ blocked n b.0 note) (changed : n' ≡ with_spare mid b.0)

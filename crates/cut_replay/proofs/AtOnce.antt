@@ -1,12 +1,12 @@
 -- What a command changes in the array: what settling takes, and all pages of one transaction or none.
-use Rattle.std.proofs.Common.{◌≡◌, ◌≢◌, ◌⊎◌, ℕ, ◌+◌, Bool, true, false, List, [], ◌∷◌, Contains, Option, Some, None, Result, Ok, Err, refl, sym, ap, ap₂, ◌∙◌, subst, inl, inr, All, eqb-true}
-use Rattle.std.specs.Prelude.{MatchOption, MatchBool}
+use Rattle.std.proofs.Common.{◌≡◌, ℕ, Bool, false, List, [], ◌∷◌, Option, Some, None, Result, Ok, Err, refl, sym, ap, ◌∙◌, inl, inr, All, eqb-true}
+use Rattle.std.specs.Prelude.{MatchOption}
 use Rattle.std.proofs.lemmas.List.Elements.{All-head, All-tail}
-use Rattle.record_list.proofs.Names.{contains_from, in_from}
+use Rattle.record_list.proofs.Names.{contains_from}
 use Rattle.tx_types.specs.Batch.{PageWrite}
-use Rattle.tx_engine.specs.ArrayState.{ArrayState, Entry, Pages, entry_of, is_doubted, put}
+use Rattle.tx_engine.specs.ArrayState.{ArrayState, Entry, Pages, entry_of, is_doubted}
 use Rattle.tx_engine.specs.Collect.{Collects}
-use Rattle.tx_engine.specs.Step.{Steps, StepGives, AbortGives, IsAtLast, MayTake, doubted, settled, settled_entry}
+use Rattle.tx_engine.specs.Step.{Steps, StepGives, AbortGives, IsAtLast, doubted, settled, settled_entry}
 use Rattle.tx_engine.specs.Submit.{Limits, opened, refusal}
 use Rattle.tx_engine.specs.declared.abort.Aborted.{Aborted}
 use Rattle.tx_engine.specs.declared.abort.Aborted.TheVariants as aborted
@@ -22,12 +22,9 @@ use Rattle.host_protocol.specs.declared.command.Command.{Command}
 use Rattle.host_protocol.specs.declared.command.Command.TheVariants as command
 use Rattle.host_protocol.specs.declared.reply.Reply.{Reply}
 use Rattle.host_protocol.specs.declared.reply.Reply.TheVariants as reply
-use Rattle.cut_replay.specs.Run.{RunState, Serves, DoesCommand, NotDone, IsCut, MayComplete, Finishes, ChangesAtOnce, IsDoneOrCut, is_arm, step_reply}
-use Rattle.cut_replay.proofs.Finishes.{Writes, found_writes, found_is_in, from_mid, sure_mark, sure_with, settled_sure}
-
--- the array comes from the settled one, with the pages of a transaction of this kind or not
-abbrev Comes : (Entry → Type 0) → ArrayState → Pages → Type 0
-Comes Q old pages = (there : Bool) × MayTake (settled there old).pages (λ e. Contains old.entries e × Q e) pages
+use Rattle.cut_replay.specs.Run.{RunState, Serves, DoesCommand, MayComplete, Finishes, ChangesAtOnce, IsDoneOrCut, step_reply}
+use Rattle.cut_replay.proofs.Finishes.{Comes, comes_before, found_writes, found_is_in, settled_sure}
+use Rattle.cut_replay.proofs.Ways.{each_way}
 
 comes_same : (Q : Entry → Type 0) (old new : ArrayState) → new ≡ old → Comes Q old new.pages
 comes_same Q old new same = (false, inl (ap (λ (s : ArrayState). s.pages) same))
@@ -80,30 +77,13 @@ IsFinished tag result e = (e.tag ≡ tag) × (result ≡ Ok progress.Done)
 last_comes : (old new : ArrayState) (tag : ℕ) (result : Result Progress StepError) → Steps old new tag result → Comes (IsFinished tag result) old new.pages
 last_comes old new tag result h = comes_weaker (IsCompleted tag result) (IsFinished tag result) old new.pages (λ e k. (k.0, k.2)) (step_comes old new tag result h)
 
--- what comes of the state after a step that wrote a page comes of the one before
-comes_before : (there : Bool) (old mid : ArrayState) (pages : Pages) (tag : ℕ) (result : Result Progress StepError) (e : Entry) → Writes there old mid tag e →
-    Comes (IsFinished tag result) mid pages → Comes (IsFinished tag result) old pages
-comes_before there old mid pages tag result e w h =
-    let sure : doubted mid.entries ≡ [] = ap (λ (s : ArrayState). doubted s.entries) w.new_is
-    ∙ sure_with there tag (record (settled_entry there e) { done = e.done + 1 }) old.entries (sure_mark there e.mark) in
-    let same_pages : (settled h.0 mid).pages ≡ (settled there old).pages = settled_sure h.0 mid sure ∙ ap (λ (s : ArrayState). s.pages) w.new_is in (
-      there,
-      elim h.1 [
-        | inl same ↦ inl (same ∙ same_pages)
-        | inr took ↦ (
-            let other = took.0 in
-            let from = from_mid there old mid tag e other w (in_from mid.entries other took.1.0) in
-            inr (from.0, (contains_from old.entries from.0 from.1, (from.2 ∙ took.1.1.0, took.1.1.1)), took.2 ∙ ap₂ put same_pages (sym from.3)))
-      ],
-    )
-
 finish_comes : (mids : List ArrayState) (old new : ArrayState) (tag : ℕ) (result : Result Progress StepError) → Finishes old mids new tag result → Comes (IsFinished tag result) old new.pages
 finish_comes [] old new tag (Ok (progress.Wrote done all)) h = absurd h
 finish_comes [] old new tag (Ok progress.Done) h = last_comes old new tag (Ok progress.Done) h
 finish_comes [] old new tag (Err e) h = last_comes old new tag (Err e) h
 finish_comes (mid ∷ mids) old new tag result h =
     let w = found_writes (entry_of tag old.entries) h.2.0 old mid tag h.0 h.1 (Ok (progress.Wrote h.0 h.1)) refl refl h.2.1 in
-    comes_before h.2.0 old mid new.pages tag result w.0 w.1 (finish_comes mids mid new tag result h.3)
+    comes_before (λ t. (t ≡ tag) × (result ≡ Ok progress.Done)) h.2.0 old mid new.pages tag w.0 w.1 (finish_comes mids mid new tag result h.3)
 
 -- ---- the other commands
 
@@ -151,21 +131,11 @@ does_comes limits spent (command.BadRead count) old r new h = absurd h
 machine_comes : (Q : Entry → Type 0) (old new : RunState) → new ≡ old → Comes Q old.machine new.machine.pages
 machine_comes Q old new same = comes_same Q old.machine new.machine (ap (λ (s : RunState). s.machine) same)
 
-served_comes : (limits : Limits) (spent : ℕ → Bool) (c : Command) (old : RunState) (r : Reply) (new : RunState) →
-    (NotDone old r new ⊎ ((DoesCommand limits spent c old.machine r new.machine × (new.up ≡ true)) ⊎ IsCut c old r new)) → ChangesAtOnce c r old.machine new.machine
-served_comes limits spent c old r new (inl h) = machine_comes _ old new h.2
-served_comes limits spent c old r new (inr (inl h)) = does_comes limits spent c old.machine r new.machine h.0
-served_comes limits spent c old r new (inr (inr h)) =
-    comes_weaker (MayComplete c) (IsTakenBy c r) old.machine new.machine.pages (λ e k. (k, inr h.0)) (h.2.0, h.2.1)
-
 pub serves_at_once : (limits : Limits) (spent : ℕ → Bool) (c : Command) (old : RunState) (r : Reply) (new : RunState) → Serves limits spent c old r new →
     ChangesAtOnce c r old.machine new.machine
-serves_at_once limits spent c old r new serves = matched (is_arm c) _ _ (λ h. machine_comes _ old new h.1) (served_comes limits spent c old r new) serves
-  where
-    matched : (b : Bool) (P Q : Type 0) → (P → ChangesAtOnce c r old.machine new.machine) → (Q → ChangesAtOnce c r old.machine new.machine) → MatchBool b P Q →
-        ChangesAtOnce c r old.machine new.machine
-    matched true P Q p q h = p h
-    matched false P Q p q h = q h
+serves_at_once limits spent c old r new serves =
+    each_way limits spent c old r new serves (λ h. machine_comes _ old new h.1) (λ h. machine_comes _ old new h.2) (λ h. does_comes limits spent c old.machine r new.machine h.0)
+    (λ h. comes_weaker (MayComplete c) (IsTakenBy c r) old.machine new.machine.pages (λ e k. (k, inr h.0)) (h.2.0, h.2.1))
 
 -- where nothing is in doubt, nothing is taken by settling
 none_doubted : (es : List Entry) → All (λ e. is_doubted e.mark ≡ false) es → doubted es ≡ []

@@ -2,7 +2,7 @@
 -- catches is there wholly or not at all.
 use Rattle.std.proofs.Common.{◌≡◌, ◌≢◌, ◌⊎◌, ℕ, ◌<◌, Bool, true, false, List, [], ◌∷◌, length, get_or, All, AllPairs, Contains, Option, Some, None, Result, Ok, Err, refl, sym, ap, ◌∙◌, subst, inl, inr, arith}
 use Rattle.std.specs.Prelude.{MatchOption}
-use Rattle.std.proofs.lemmas.List.Elements.{All-nil, All-push, All-head, All-tail, All-contains, Contains-get_or}
+use Rattle.std.proofs.lemmas.List.Elements.{All-nil, All-push, All-contains, Contains-get_or}
 use Rattle.std.proofs.lemmas.List.Quantifiers.{all_pairs_push}
 use Rattle.std.proofs.lemmas.List.FromFn.{length-map-range_with_len}
 use Rattle.record_list.proofs.Names.{IsIn, all_from, all_at, in_from}
@@ -16,7 +16,7 @@ use Rattle.tx_engine.specs.Standing.{limits_of}
 use Rattle.cut_replay.specs.FlashRun.{opening_state}
 use Rattle.tx_engine.specs.ArrayState.{ArrayState, Entry, Pages, entry_of, idle, is_doubted, opening, page_at, put, without}
 use Rattle.tx_engine.specs.Step.{Steps, StepGives, Aborts, AbortGives, settled, settled_entry}
-use Rattle.tx_engine.specs.Submit.{Limits, first_refusals, opened, or_else, refusal, spent_page}
+use Rattle.tx_engine.specs.Submit.{Limits, first_refusals, opened, or_else, spent_page}
 use Rattle.tx_engine.proofs.Accepting.{IsAccepted, accepted}
 use Rattle.tx_engine.specs.declared.mark.Mark.TheVariants.{Whole}
 use Rattle.tx_engine.specs.declared.abort.Aborted.{Aborted}
@@ -30,12 +30,12 @@ use Rattle.host_protocol.specs.declared.command.Command.{Command}
 use Rattle.host_protocol.specs.declared.command.Command.TheVariants as command
 use Rattle.host_protocol.specs.declared.reply.Reply.{Reply}
 use Rattle.host_protocol.specs.declared.reply.Reply.TheVariants as reply
-use Rattle.cut_replay.specs.Run.{Run, RunState, Serves, DoesCommand, NotDone, IsCut, MayComplete, Finishes, Acknowledges, Avoid, AllAvoid, EntriesAreApart, HasWhole, HasSame, IsConsistent, is_break, writes_in, seen_after, step_reply, abort_reply}
+use Rattle.cut_replay.specs.Run.{Run, RunState, Serves, DoesCommand, NotDone, IsCut, MayComplete, Finishes, Acknowledges, Avoid, AllAvoid, NoneOpens, EntriesAreApart, HasWhole, HasSame, IsConsistent, is_break, writes_in, opened_by, seen_after, step_reply, abort_reply}
 use Rattle.cut_replay.proofs.Finishes.{found_is_in, found_writes, settled_found, wrote_found}
 use Rattle.cut_replay.proofs.Unbroken.{unlike}
 use Rattle.cut_replay.proofs.Taking.{put_has}
 use Rattle.cut_replay.proofs.Apart.{WholeOrSame, SameOrApart, IsBeside, share_back, apart_two, other_same, same_then, whole_or_then, beside_then, beside_taken, beside_in, settled_sure_same, without_avoids}
-use Rattle.cut_replay.proofs.Changes.{Goes, goes_consistent, goes_settled, whole_kept, step_goes, cut_goes, serves_changes, run_stands}
+use Rattle.cut_replay.proofs.Changes.{Goes, goes_consistent, goes_settled, whole_kept, step_goes, cut_goes, serves_changes, none_first, none_later, run_stands}
 
 -- ---- consistent states
 
@@ -51,9 +51,9 @@ pub opening_length : (its : Config) (up : Bool) (from : Moment) → length (open
 unfolding array_in
 opening_length its up from = length-map-range_with_len (page_of its.protocol (written_in its.protocol from.image) its.logical) 0 its.logical
 
-none_first : (a b : Option SubmitError) → or_else a b ≡ None → a ≡ None
-none_first None b h = refl
-none_first (Some e) b h = cc
+no_first : (a b : Option SubmitError) → or_else a b ≡ None → a ≡ None
+no_first None b h = refl
+no_first (Some e) b h = cc
 
 -- a state that is consistent, and of an array of so many pages
 record IsSized (limits : Limits) (s : ArrayState) : Type 0 where
@@ -79,10 +79,6 @@ accepted_sized limits tag ws s h accepts =
       };
     }
 
-opened_sized : (limits : Limits) (spent : ℕ → Bool) (tag : ℕ) (ws : List PageWrite) (s : ArrayState) (o : Option SubmitError) → refusal limits spent s.entries tag ws ≡ o → IsSized limits s → IsSized limits (opened o tag ws s)
-opened_sized limits spent tag ws s None is h = accepted_sized limits tag ws s h (accepted limits s.entries tag ws (none_first (first_refusals limits s.entries tag ws) (spent_page spent ws) is))
-opened_sized limits spent tag ws s (Some e) is h = h
-
 goes_sized : (limits : Limits) (old new : ArrayState) → Goes old new → IsSized limits old → IsSized limits new
 goes_sized limits old new goes h = record { long = goes.long ∙ h.long; consistent = goes_consistent old new goes h.consistent }
 
@@ -91,7 +87,8 @@ serves_sized limits spent c old r new h serves = elim (serves_changes limits spe
   | inl goes ↦ goes_sized limits old.machine new.machine goes h
   | inr change ↦
       subst (λ (s : ArrayState). IsSized limits s) (sym change.opens)
-      (opened_sized limits spent change.tag (writes_in c) old.machine (refusal limits spent old.machine.entries change.tag (writes_in c)) refl h)
+      (accepted_sized limits change.tag (writes_in c) old.machine h (accepted limits old.machine.entries change.tag (writes_in c)
+      (no_first (first_refusals limits old.machine.entries change.tag (writes_in c)) (spent_page spent (writes_in c)) change.fine)))
 ]
 
 run_sized : (limits : Limits) (seen : ℕ → ℕ) (old : RunState) (cs : List Command) (rs : List Reply) (new : RunState) → Run limits seen old cs rs new → IsSized limits old.machine → IsSized limits new.machine
@@ -207,10 +204,10 @@ serves_done limits spent c old r new tag e ok serves told found = absurd told
 pub acknowledged_stays : (limits : Limits) (spent : ℕ → Bool) (c : Command) (old : RunState) (r : Reply) (mid : RunState) (tag : ℕ) (e : Entry)
     (seen : ℕ → ℕ) (cs : List Command) (rs : List Reply) (new : RunState) (pages : Pages) (w : PageWrite) →
     IsConsistent old.machine → Serves limits spent c old r mid → Acknowledges c r tag → entry_of tag old.machine.entries ≡ Some e → Run limits seen mid cs rs new → StandsFor new.machine pages →
-    Contains e.writes w → All (λ d. Avoid w.page (writes_in d)) cs → page_at pages w.page ≡ Some w.bytes
-acknowledged_stays limits spent c old r mid tag e seen cs rs new pages w ok serves told found run stands has avoid =
+    Contains e.writes w → NoneOpens w.page cs rs → page_at pages w.page ≡ Some w.bytes
+acknowledged_stays limits spent c old r mid tag e seen cs rs new pages w ok serves told found run stands has none =
     let done = serves_done limits spent c old r mid tag e ok serves told found in
-    run_stands limits seen mid cs rs new w.page pages run (All-contains (λ w. AllAvoid w.page mid.machine.entries) e.writes w done.1 has) avoid stands
+    run_stands limits seen mid cs rs new w.page pages run (All-contains (λ w. AllAvoid w.page mid.machine.entries) e.writes w done.1 has) none stands
     ∙ All-contains (λ w. page_at mid.machine.pages w.page ≡ Some w.bytes) e.writes w done.0 has
 
 -- ---- a transaction is in the array wholly or not at all
@@ -219,15 +216,14 @@ record IsAtomic (e : Entry) (old new : ArrayState) : Type 0 where
   atomic : WholeOrSame old.pages new.pages e
   beside : IsBeside new.pages new.entries e
 
-opened_atomic : (e : Entry) (o : Option SubmitError) (tag : ℕ) (ws : List PageWrite) (s : ArrayState) → IsBeside s.pages s.entries e → All (λ w. Avoid w.page ws) e.writes → IsAtomic e s (opened o tag ws s)
-opened_atomic e None tag ws s h avoid = record {
+opened_atomic : (e : Entry) (tag : ℕ) (ws : List PageWrite) (s : ArrayState) → IsBeside s.pages s.entries e → All (λ w. Avoid w.page ws) e.writes → IsAtomic e s (opened None tag ws s)
+opened_atomic e tag ws s h avoid = record {
   atomic = inr (λ k d lt. refl);
   beside = record { distinct = h.distinct; within = h.within; each = All-push (λ (f : Entry). SameOrApart e f.writes) s.entries (opening tag ws) h.each (inr avoid) };
 }
-opened_atomic e (Some refused) tag ws s h avoid = record { atomic = inr (λ k d lt. refl); beside = h }
 
 serves_atomic : (limits : Limits) (spent : ℕ → Bool) (c : Command) (old : RunState) (r : Reply) (new : RunState) (e : Entry) → IsBeside old.machine.pages old.machine.entries e →
-    All (λ w. Avoid w.page (writes_in c)) e.writes → Serves limits spent c old r new → IsAtomic e old.machine new.machine
+    All (λ w. Avoid w.page (opened_by c r)) e.writes → Serves limits spent c old r new → IsAtomic e old.machine new.machine
 serves_atomic limits spent c old r new e h avoid serves = elim (serves_changes limits spent c old r new serves) [
   | inl goes ↦
       record {
@@ -236,18 +232,18 @@ serves_atomic limits spent c old r new e h avoid serves = elim (serves_changes l
       }
   | inr change ↦
       subst (λ (s : ArrayState). IsAtomic e old.machine s) (sym change.opens)
-      (opened_atomic e (refusal limits spent old.machine.entries change.tag (writes_in c)) change.tag (writes_in c) old.machine h avoid)
+      (opened_atomic e change.tag (writes_in c) old.machine h (subst (λ (ws : List PageWrite). All (λ w. Avoid w.page ws) e.writes) change.told avoid))
 ]
 
 run_atomic : (limits : Limits) (seen : ℕ → ℕ) (old : RunState) (cs : List Command) (rs : List Reply) (new : RunState) (e : Entry) → IsBeside old.machine.pages old.machine.entries e →
-    All (λ w. All (λ d. Avoid w.page (writes_in d)) cs) e.writes → Run limits seen old cs rs new → IsAtomic e old.machine new.machine
-run_atomic limits seen old [] [] new e h avoid run =
+    All (λ w. NoneOpens w.page cs rs) e.writes → Run limits seen old cs rs new → IsAtomic e old.machine new.machine
+run_atomic limits seen old [] [] new e h none run =
     subst (λ (s : RunState). IsAtomic e old.machine s.machine) (sym run) (record { atomic = inr (λ k d lt. refl); beside = h })
-run_atomic limits seen old [] (r ∷ rs) new e h avoid run = absurd run
-run_atomic limits seen old (c ∷ cs) [] new e h avoid run = absurd run
-run_atomic limits seen old (c ∷ cs) (r ∷ rs) new e h avoid run =
-    let first = serves_atomic limits run.1 c old r run.0 e h (λ k d lt. All-head (λ x. Avoid (get_or e.writes k d).page (writes_in x)) c cs (avoid k d lt)) run.3 in
-    let rest = run_atomic limits (seen_after seen c r) run.0 cs rs new e first.beside (λ k d lt. All-tail (λ x. Avoid (get_or e.writes k d).page (writes_in x)) c cs (avoid k d lt)) run.4 in
+run_atomic limits seen old [] (r ∷ rs) new e h none run = absurd run
+run_atomic limits seen old (c ∷ cs) [] new e h none run = absurd run
+run_atomic limits seen old (c ∷ cs) (r ∷ rs) new e h none run =
+    let first = serves_atomic limits run.1 c old r run.0 e h (λ k d lt. none_first (get_or e.writes k d).page c cs r rs (none k d lt)) run.3 in
+    let rest = run_atomic limits (seen_after seen c r) run.0 cs rs new e first.beside (λ k d lt. none_later (get_or e.writes k d).page c cs r rs (none k d lt)) run.4 in
     record { atomic = whole_or_then old.machine.pages run.0.machine.pages new.machine.pages e first.atomic rest.atomic; beside = rest.beside }
 
 stands_atomic : (s : ArrayState) (pages : Pages) (e : Entry) → IsBeside s.pages s.entries e → StandsFor s pages → WholeOrSame s.pages pages e
@@ -256,10 +252,10 @@ stands_atomic s pages e h (inr (f, has, doubt, took)) =
     rw took (beside_taken s.pages s.entries e h f.writes (all_at (λ (x : Entry). SameOrApart e x.writes) s.entries f h.each (in_from s.entries f has)))
 
 pub transaction_atomic : (limits : Limits) (seen : ℕ → ℕ) (old : RunState) (cs : List Command) (rs : List Reply) (new : RunState) (pages : Pages) (e : Entry) →
-    IsConsistent old.machine → Contains old.machine.entries e → Run limits seen old cs rs new → StandsFor new.machine pages → All (λ w. All (λ d. Avoid w.page (writes_in d)) cs) e.writes →
+    IsConsistent old.machine → Contains old.machine.entries e → Run limits seen old cs rs new → StandsFor new.machine pages → All (λ w. NoneOpens w.page cs rs) e.writes →
     WholeOrSame old.machine.pages pages e
-transaction_atomic limits seen old cs rs new pages e ok has run stands avoid =
-    let is = run_atomic limits seen old cs rs new e (beside_in old.machine e ok (in_from old.machine.entries e has)) avoid run in
+transaction_atomic limits seen old cs rs new pages e ok has run stands none =
+    let is = run_atomic limits seen old cs rs new e (beside_in old.machine e ok (in_from old.machine.entries e has)) none run in
     whole_or_then old.machine.pages new.machine.pages pages e is.atomic (stands_atomic new.machine pages e is.beside stands)
 
 -- ---- a cut

@@ -1,6 +1,6 @@
 -- What a command changes in the array, and which transactions it leaves open.
-use Rattle.std.proofs.Common.{◌≡◌, ◌≢◌, ◌⊎◌, ℕ, Bool, true, false, List, [], ◌∷◌, length, All, AllPairs, Option, Some, None, Result, Ok, Err, refl, sym, ap, ◌∙◌, subst, inl, inr}
-use Rattle.std.specs.Prelude.{MatchOption, MatchBool}
+use Rattle.std.proofs.Common.{◌≡◌, ◌≢◌, ◌⊎◌, ℕ, Bool, true, false, cond, List, [], ◌∷◌, length, zip, All, AllPairs, Option, Some, None, Result, Ok, Err, refl, sym, ap, ◌∙◌, subst, inl, inr}
+use Rattle.std.specs.Prelude.{MatchOption}
 use Rattle.std.proofs.lemmas.List.Elements.{All-nil, All-head, All-tail, All-push}
 use Rattle.record_list.proofs.Names.{all_from, all_at, in_from}
 use Rattle.tx_types.specs.Batch.{PageWrite, Writes}
@@ -8,7 +8,7 @@ use Rattle.tx_engine.specs.ArrayState.{ArrayState, Entry, Pages, entry_of, openi
 use Rattle.tx_engine.specs.Collect.{Collects}
 use Rattle.tx_engine.specs.Exits.{StandsFor}
 use Rattle.tx_engine.specs.Step.{Steps, StepGives, AbortGives, CutLeaves, settled, settled_entry}
-use Rattle.tx_engine.specs.Submit.{Limits, opened, refusal}
+use Rattle.tx_engine.specs.Submit.{Limits, answer, opened, refusal}
 use Rattle.tx_engine.specs.declared.mark.Mark.TheVariants.{Whole}
 use Rattle.tx_engine.specs.declared.abort.Aborted.{Aborted}
 use Rattle.tx_engine.specs.declared.abort.Aborted.TheVariants as aborted
@@ -22,8 +22,9 @@ use Rattle.tx_engine.specs.declared.submit.SubmitError.{SubmitError}
 use Rattle.host_protocol.specs.declared.command.Command.{Command}
 use Rattle.host_protocol.specs.declared.command.Command.TheVariants as command
 use Rattle.host_protocol.specs.declared.reply.Reply.{Reply}
-use Rattle.cut_replay.specs.Run.{Run, RunState, Serves, DoesCommand, NotDone, IsCut, MayComplete, Finishes, is_arm, Avoid, AllAvoid, HasWhole, IsConsistent, writes_in, seen_after}
+use Rattle.cut_replay.specs.Run.{Run, RunState, Serves, DoesCommand, NotDone, IsCut, MayComplete, Finishes, is_opened, Avoid, AllAvoid, NoneOpens, HasWhole, IsConsistent, writes_in, opened_by, seen_after, submit_reply}
 use Rattle.cut_replay.proofs.Finishes.{found_is_in, settled_found}
+use Rattle.cut_replay.proofs.Ways.{each_way}
 use Rattle.cut_replay.proofs.Apart.{WholeOrSame, SameOrApart, IsBeside, whole_same, whole_or_then, beside_then, beside_taken, beside_settled, beside_in, settled_whole, all_without, all_with}
 use Rattle.cut_replay.proofs.Taking.{put_length, put_other, settled_other, settled_length, ArePart, part_none, part_same, part_then, part_settled, part_without, part_with, part_all, part_pairs, AreWithin, within_kept}
 
@@ -204,12 +205,10 @@ machine_same : (old new : RunState) → new ≡ old → Goes old.machine new.mac
 machine_same old new same = goes_nowhere old.machine new.machine (ap (λ (s : RunState). s.machine) same)
 
 -- of a command that opens nothing
-served_goes : (limits : Limits) (spent : ℕ → Bool) (c : Command) (old : RunState) (r : Reply) (new : RunState) →
-    (DoesCommand limits spent c old.machine r new.machine → Goes old.machine new.machine) →
-    (NotDone old r new ⊎ ((DoesCommand limits spent c old.machine r new.machine × (new.up ≡ true)) ⊎ IsCut c old r new)) → Goes old.machine new.machine
-served_goes limits spent c old r new does (inl h) = machine_same old new h.2
-served_goes limits spent c old r new does (inr (inl h)) = does h.0
-served_goes limits spent c old r new does (inr (inr h)) = cut_goes (MayComplete c) old.machine new.machine h.2
+serves_go : (limits : Limits) (spent : ℕ → Bool) (c : Command) (old : RunState) (r : Reply) (new : RunState) → is_write c ≡ false → Serves limits spent c old r new → Goes old.machine new.machine
+serves_go limits spent c old r new other serves =
+    each_way limits spent c old r new serves (λ h. machine_same old new h.1) (λ h. machine_same old new h.2) (λ h. does_goes limits spent c old.machine r new.machine other h.0)
+    (λ h. cut_goes (MayComplete c) old.machine new.machine h.2)
 
 -- the pages that it does not write stay, and no transaction comes to write them
 record Stay (page : ℕ) (old new : ArrayState) : Type 0 where
@@ -222,56 +221,66 @@ goes_stay page old new h goes = record {
   avoid = part_all (λ ws. Avoid page ws) new.entries old.entries goes.part h;
 }
 
-opened_stay : (page : ℕ) (o : Option SubmitError) (tag : ℕ) (ws : List PageWrite) (s : ArrayState) → AllAvoid page s.entries → Avoid page ws → Stay page s (opened o tag ws s)
-opened_stay page None tag ws s h avoid = record { same = refl; avoid = All-push (λ (e : Entry). Avoid page e.writes) s.entries (opening tag ws) h avoid }
-opened_stay page (Some e) tag ws s h avoid = record { same = refl; avoid = h }
+opened_stay : (page : ℕ) (tag : ℕ) (ws : List PageWrite) (s : ArrayState) → AllAvoid page s.entries → Avoid page ws → Stay page s (opened None tag ws s)
+opened_stay page tag ws s h avoid = record { same = refl; avoid = All-push (λ (e : Entry). Avoid page e.writes) s.entries (opening tag ws) h avoid }
 
-pub serves_go : (limits : Limits) (spent : ℕ → Bool) (c : Command) (old : RunState) (r : Reply) (new : RunState) → is_write c ≡ false → Serves limits spent c old r new → Goes old.machine new.machine
-serves_go limits spent c old r new other serves = match_goes (is_arm c) _ _ (λ h. machine_same old new h.1) (served_goes limits spent c old r new (does_goes limits spent c old.machine r new.machine other)) serves
-  where
-    match_goes : (b : Bool) (P Q : Type 0) → (P → Goes old.machine new.machine) → (Q → Goes old.machine new.machine) → MatchBool b P Q → Goes old.machine new.machine
-    match_goes true P Q p q h = p h
-    match_goes false P Q p q h = q h
-
--- or it opens the transaction that it writes, if that is not refused
-pub record Opens (limits : Limits) (spent : ℕ → Bool) (c : Command) (old new : ArrayState) : Type 0 where
+-- or it opens the transaction that it writes
+pub record Opens (limits : Limits) (spent : ℕ → Bool) (c : Command) (r : Reply) (old new : ArrayState) : Type 0 where
   pub tag : ℕ
-  pub opens : new ≡ opened (refusal limits spent old.entries tag (writes_in c)) tag (writes_in c) old
+  pub fine : refusal limits spent old.entries tag (writes_in c) ≡ None
+  pub told : opened_by c r ≡ writes_in c
+  pub opens : new ≡ opened None tag (writes_in c) old
+
+submitted_changes : (limits : Limits) (spent : ℕ → Bool) (tag : ℕ) (batch : Writes) (old : ArrayState) (r : Reply) (new : ArrayState) (result : Result (Unit {0}) SubmitError) (o : Option SubmitError) →
+    refusal limits spent old.entries tag batch.entries ≡ o → result ≡ answer o → r ≡ submit_reply tag (length batch.entries) result → new ≡ opened o tag batch.entries old →
+    Goes old new ⊎ Opens limits spent (command.Write tag batch) r old new
+submitted_changes limits spent tag batch old r new result None fine answers told opens =
+    let is : is_opened r ≡ true = ap is_opened (told ∙ ap (submit_reply tag (length batch.entries)) answers) in
+    inr (record { tag = tag; fine = fine; told = ap (λ b. cond b batch.entries []) is; opens = opens })
+submitted_changes limits spent tag batch old r new result (Some e) fine answers told opens = inl (goes_nowhere old new opens)
 
 written_changes : (limits : Limits) (spent : ℕ → Bool) (tag : ℕ) (batch : Writes) (old : RunState) (r : Reply) (new : RunState) →
     (NotDone old r new ⊎ ((DoesCommand limits spent (command.Write tag batch) old.machine r new.machine × (new.up ≡ true)) ⊎ IsCut (command.Write tag batch) old r new)) →
-    Goes old.machine new.machine ⊎ Opens limits spent (command.Write tag batch) old.machine new.machine
+    Goes old.machine new.machine ⊎ Opens limits spent (command.Write tag batch) r old.machine new.machine
 written_changes limits spent tag batch old r new (inl h) = inl (machine_same old new h.2)
-written_changes limits spent tag batch old r new (inr (inl h)) = inr (record { tag = tag; opens = h.0.1.opens })
+written_changes limits spent tag batch old r new (inr (inl h)) =
+    submitted_changes limits spent tag batch old.machine r new.machine h.0.0 (refusal limits spent old.machine.entries tag batch.entries) refl h.0.1.answers h.0.2 h.0.1.opens
 written_changes limits spent tag batch old r new (inr (inr h)) = absurd h.1
 
 pub serves_changes : (limits : Limits) (spent : ℕ → Bool) (c : Command) (old : RunState) (r : Reply) (new : RunState) → Serves limits spent c old r new →
-    Goes old.machine new.machine ⊎ Opens limits spent c old.machine new.machine
+    Goes old.machine new.machine ⊎ Opens limits spent c r old.machine new.machine
 serves_changes limits spent (command.Write tag batch) old r new serves = written_changes limits spent tag batch old r new serves
 serves_changes limits spent c old r new serves = inl (serves_go limits spent c old r new refl serves)
 
 serves_stay : (page : ℕ) (limits : Limits) (spent : ℕ → Bool) (c : Command) (old : RunState) (r : Reply) (new : RunState) →
-    AllAvoid page old.machine.entries → Avoid page (writes_in c) → Serves limits spent c old r new → Stay page old.machine new.machine
+    AllAvoid page old.machine.entries → Avoid page (opened_by c r) → Serves limits spent c old r new → Stay page old.machine new.machine
 serves_stay page limits spent c old r new h avoid serves = elim (serves_changes limits spent c old r new serves) [
   | inl goes ↦ goes_stay page old.machine new.machine h goes
   | inr change ↦
       subst (λ (s : ArrayState). Stay page old.machine s) (sym change.opens)
-      (opened_stay page (refusal limits spent old.machine.entries change.tag (writes_in c)) change.tag (writes_in c) old.machine h avoid)
+      (opened_stay page change.tag (writes_in c) old.machine h (subst (λ (ws : List PageWrite). Avoid page ws) change.told avoid))
 ]
 
+-- no write of the page is opened by the first command, nor by the others
+pub none_first : (page : ℕ) (c : Command) (cs : List Command) (r : Reply) (rs : List Reply) → NoneOpens page (c ∷ cs) (r ∷ rs) → Avoid page (opened_by c r)
+none_first page c cs r rs none = All-head (λ (x : Command × Reply). Avoid page (opened_by x.0 x.1)) (c, r) (zip cs rs) none
+
+pub none_later : (page : ℕ) (c : Command) (cs : List Command) (r : Reply) (rs : List Reply) → NoneOpens page (c ∷ cs) (r ∷ rs) → NoneOpens page cs rs
+none_later page c cs r rs none = All-tail (λ (x : Command × Reply). Avoid page (opened_by x.0 x.1)) (c, r) (zip cs rs) none
+
 run_stay : (limits : Limits) (seen : ℕ → ℕ) (old : RunState) (cs : List Command) (rs : List Reply) (new : RunState) (page : ℕ) → Run limits seen old cs rs new →
-    AllAvoid page old.machine.entries → All (λ c. Avoid page (writes_in c)) cs → Stay page old.machine new.machine
-run_stay limits seen old [] [] new page run h avoid = goes_stay page old.machine new.machine h (machine_same old new run)
-run_stay limits seen old [] (r ∷ rs) new page run h avoid = absurd run
-run_stay limits seen old (c ∷ cs) [] new page run h avoid = absurd run
-run_stay limits seen old (c ∷ cs) (r ∷ rs) new page run h avoid =
-    let first = serves_stay page limits run.1 c old r run.0 h (All-head (λ c. Avoid page (writes_in c)) c cs avoid) run.3 in
-    let rest = run_stay limits (seen_after seen c r) run.0 cs rs new page run.4 first.avoid (All-tail (λ c. Avoid page (writes_in c)) c cs avoid) in
+    AllAvoid page old.machine.entries → NoneOpens page cs rs → Stay page old.machine new.machine
+run_stay limits seen old [] [] new page run h none = goes_stay page old.machine new.machine h (machine_same old new run)
+run_stay limits seen old [] (r ∷ rs) new page run h none = absurd run
+run_stay limits seen old (c ∷ cs) [] new page run h none = absurd run
+run_stay limits seen old (c ∷ cs) (r ∷ rs) new page run h none =
+    let first = serves_stay page limits run.1 c old r run.0 h (none_first page c cs r rs none) run.3 in
+    let rest = run_stay limits (seen_after seen c r) run.0 cs rs new page run.4 first.avoid (none_later page c cs r rs none) in
     record { same = rest.same ∙ first.same; avoid = rest.avoid }
 
 pub run_stays : (limits : Limits) (seen : ℕ → ℕ) (old : RunState) (cs : List Command) (rs : List Reply) (new : RunState) (page : ℕ) → Run limits seen old cs rs new →
-    AllAvoid page old.machine.entries → All (λ c. Avoid page (writes_in c)) cs → page_at new.machine.pages page ≡ page_at old.machine.pages page
-run_stays limits seen old cs rs new page run h avoid = (run_stay limits seen old cs rs new page run h avoid).same
+    AllAvoid page old.machine.entries → NoneOpens page cs rs → page_at new.machine.pages page ≡ page_at old.machine.pages page
+run_stays limits seen old cs rs new page run h none = (run_stay limits seen old cs rs new page run h none).same
 
 -- an array that stands for the state has it too
 stands_same : (page : ℕ) (s : ArrayState) (pages : Pages) → AllAvoid page s.entries → StandsFor s pages → page_at pages page ≡ page_at s.pages page
@@ -280,6 +289,6 @@ stands_same page s pages h (inr (e, has, doubt, took)) =
     ap (λ p. page_at p page) took ∙ put_other page e.writes s.pages (all_at (λ (x : Entry). Avoid page x.writes) s.entries e h (in_from s.entries e has))
 
 pub run_stands : (limits : Limits) (seen : ℕ → ℕ) (old : RunState) (cs : List Command) (rs : List Reply) (new : RunState) (page : ℕ) (pages : Pages) → Run limits seen old cs rs new →
-    AllAvoid page old.machine.entries → All (λ c. Avoid page (writes_in c)) cs → StandsFor new.machine pages → page_at pages page ≡ page_at old.machine.pages page
-run_stands limits seen old cs rs new page pages run h avoid stands =
-    let stay = run_stay limits seen old cs rs new page run h avoid in stands_same page new.machine pages stay.avoid stands ∙ stay.same
+    AllAvoid page old.machine.entries → NoneOpens page cs rs → StandsFor new.machine pages → page_at pages page ≡ page_at old.machine.pages page
+run_stands limits seen old cs rs new page pages run h none stands =
+    let stay = run_stay limits seen old cs rs new page run h none in stands_same page new.machine pages stay.avoid stands ∙ stay.same

@@ -1,5 +1,5 @@
 -- Going on with a transaction up to its end.
-use Rattle.std.proofs.Common.{◌≡◌, ◌≢◌, ◌⊎◌, ℕ, ◌+◌, ◌-◌, ◌<◌, ◌≤◌, max, Bool, true, false, cond, List, [], ◌∷◌, length, map, Option, Some, None, Result, Ok, Err, refl, sym, ap, ap₂, ◌∙◌, subst, inl, inr, arith}
+use Rattle.std.proofs.Common.{◌≡◌, ◌≢◌, ◌⊎◌, ℕ, ◌+◌, ◌-◌, ◌<◌, ◌≤◌, max, Bool, true, false, cond, List, [], ◌∷◌, length, map, Contains, Option, Some, None, Result, Ok, Err, refl, sym, ap, ap₂, ◌∙◌, subst, inl, inr, arith}
 use Rattle.std.specs.Prelude.{MatchOption}
 use Rattle.tx_types.specs.declared.config.Config.{Config}
 use Rattle.tx_types.specs.Config.{shape_of}
@@ -10,10 +10,10 @@ use Rattle.flash_model.proofs.CallLemmas.{Carries-then}
 use Rattle.flash_model.proofs.MoveLemmas.{Moves-then}
 use Rattle.record_list.proofs.Names.{IsIn, contains_from, in_from}
 use Rattle.version_index.specs.Images.{array_in}
-use Rattle.tx_engine.specs.ArrayState.{ArrayState, Entry, entry_of, has_tag, is_doubted, put, with_entry, idle}
+use Rattle.tx_engine.specs.ArrayState.{ArrayState, Entry, Pages, entry_of, has_tag, is_doubted, put, with_entry, idle}
 use Rattle.tx_engine.specs.Exits.{VersionsTell}
 use Rattle.tx_engine.specs.Standing.{Standing}
-use Rattle.tx_engine.specs.Step.{Steps, StepGives, CutLeaves, IsAtLast, doubted, settled, settled_entry, settled_mark}
+use Rattle.tx_engine.specs.Step.{Steps, StepGives, CutLeaves, IsAtLast, MayTake, doubted, settled, settled_entry, settled_mark}
 use Rattle.tx_engine.specs.declared.mark.Mark.{Mark}
 use Rattle.tx_engine.specs.declared.mark.Mark.TheVariants.{Plain, Doubt, Whole}
 use Rattle.tx_engine.specs.declared.step.Progress.{Progress}
@@ -84,7 +84,7 @@ fewer_left old new there tag e w =
     let more = w.more in (omega (arith, now, before, more), omega (arith, now, more))
 
 -- nothing is in doubt
-pub sure_mark : (there : Bool) (m : Mark) → is_doubted (settled_mark there m) ≡ false
+sure_mark : (there : Bool) (m : Mark) → is_doubted (settled_mark there m) ≡ false
 sure_mark there Plain = refl
 sure_mark true Doubt = refl
 sure_mark false Doubt = refl
@@ -94,7 +94,7 @@ sure_settled : (there : Bool) (es : List Entry) → doubted (map (settled_entry 
 sure_settled there [] = refl
 sure_settled there (e ∷ es) = rw (sure_mark there e.mark) (sure_settled there es)
 
-pub sure_with : (there : Bool) (tag : ℕ) (new : Entry) (es : List Entry) → is_doubted new.mark ≡ false → doubted (with_entry tag new (map (settled_entry there) es)) ≡ []
+sure_with : (there : Bool) (tag : ℕ) (new : Entry) (es : List Entry) → is_doubted new.mark ≡ false → doubted (with_entry tag new (map (settled_entry there) es)) ≡ []
 sure_with there tag new [] is = refl
 sure_with there tag new (e ∷ es) is = elim (has_tag tag e) as (λ b. doubted (cond b (new ∷ map (settled_entry there) es) (settled_entry there e ∷ with_entry tag new (map (settled_entry there) es))) ≡ []) [
   | true ↦ rw is (sure_settled there es)
@@ -106,7 +106,7 @@ settled_sure true s is = ap (put s.pages) is
 settled_sure false s is = refl
 
 -- each of its transactions is one of before, with its tag and its pages
-abbrev pub IsFrom : List Entry → Entry → Type 0
+abbrev IsFrom : List Entry → Entry → Type 0
 IsFrom es e = (old : Entry) × IsIn es old × (old.tag ≡ e.tag) × (old.writes ≡ e.writes)
 
 from_more : (x : Entry) (es : List Entry) (e : Entry) → IsFrom es e → IsFrom (x ∷ es) e
@@ -137,7 +137,7 @@ pub found_is_in : (tag : ℕ) (es : List Entry) (e : Entry) → entry_of tag es 
 found_is_in tag [] e h = cc
 found_is_in tag (x ∷ es) e h = found_in_step tag x e es (has_tag tag x) (found_is_in tag es e) h
 
-pub from_mid : (there : Bool) (old mid : ArrayState) (tag : ℕ) (e other : Entry) → Writes there old mid tag e → IsIn mid.entries other → IsFrom old.entries other
+from_mid : (there : Bool) (old mid : ArrayState) (tag : ℕ) (e other : Entry) → Writes there old mid tag e → IsIn mid.entries other → IsFrom old.entries other
 from_mid there old mid tag e other w i =
     let next : Entry = record (settled_entry there e) { done = e.done + 1 } in
     elim (with_from there tag next other old.entries (subst (λ (s : ArrayState). IsIn s.entries other) w.new_is i)) [
@@ -145,25 +145,34 @@ from_mid there old mid tag e other w i =
       | inr from ↦ from
     ]
 
--- So what a power cut leaves of the state after the step it may leave of the one before.
+-- the array comes from the settled one, with the pages of a transaction of this kind or not
+abbrev pub Comes : (Entry → Type 0) → ArrayState → Pages → Type 0
+Comes Q old pages = (there : Bool) × MayTake (settled there old).pages (λ e. Contains old.entries e × Q e) pages
+
+-- So what comes of the state after the step comes of the one before, by transactions whose tags are of a kind.
+pub comes_before : (Q : ℕ → Type 0) (there : Bool) (old mid : ArrayState) (pages : Pages) (tag : ℕ) (e : Entry) → Writes there old mid tag e →
+    Comes (λ x. Q x.tag) mid pages → Comes (λ x. Q x.tag) old pages
+comes_before Q there old mid pages tag e w h =
+    let sure : doubted mid.entries ≡ [] = ap (λ (s : ArrayState). doubted s.entries) w.new_is
+    ∙ sure_with there tag (record (settled_entry there e) { done = e.done + 1 }) old.entries (sure_mark there e.mark) in
+    let same_pages : (settled h.0 mid).pages ≡ (settled there old).pages = settled_sure h.0 mid sure ∙ ap (λ (s : ArrayState). s.pages) w.new_is in (
+      there,
+      elim h.1 [
+        | inl same ↦ inl (same ∙ same_pages)
+        | inr took ↦ (
+            let other = took.0 in
+            let from = from_mid there old mid tag e other w (in_from mid.entries other took.1.0) in
+            inr (from.0, (contains_from old.entries from.0 from.1, subst Q (sym from.2) took.1.1), took.2 ∙ ap₂ put same_pages (sym from.3)))
+      ],
+    )
+
+-- and what a power cut leaves
 abbrev IsOf : ℕ → Entry → Type 0
 IsOf tag e = e.tag ≡ tag
 
 cut_before : (there : Bool) (old mid new : ArrayState) (tag : ℕ) (e : Entry) → Writes there old mid tag e → CutLeaves (IsOf tag) mid new → CutLeaves (IsOf tag) old new
 cut_before there old mid new tag e w h =
-    let sure : doubted mid.entries ≡ [] = ap (λ (s : ArrayState). doubted s.entries) w.new_is
-    ∙ sure_with there tag (record (settled_entry there e) { done = e.done + 1 }) old.entries (sure_mark there e.mark) in
-    let pages : (settled h.0 mid).pages ≡ (settled there old).pages = settled_sure h.0 mid sure ∙ ap (λ (s : ArrayState). s.pages) w.new_is in (
-      there,
-      elim h.1 [
-        | inl same ↦ inl (same ∙ pages)
-        | inr took ↦ (
-            let other = took.0 in
-            let from = from_mid there old mid tag e other w (in_from mid.entries other took.1.0) in
-            inr (from.0, (contains_from old.entries from.0 from.1, from.2 ∙ took.1.1), took.2 ∙ ap₂ put pages (sym from.3)))
-      ],
-      h.2,
-    )
+    let before = comes_before (λ t. t ≡ tag) there old mid new.pages tag e w (h.0, h.1) in (before.0, before.1, h.2)
 
 -- The last of the steps
 at_last : (tag : ℕ) (old new : ArrayState) → CutLeaves (λ e. (e.tag ≡ tag) × IsAtLast e) old new → CutLeaves (IsOf tag) old new

@@ -16,8 +16,10 @@ pub mod Runs
 pub mod Progress
 pub mod Begun
 pub mod Quiet
+pub mod Ways
 pub mod Taking
 pub mod Apart
 pub mod Changes
 pub mod AtOnce
 pub mod Atomic
+pub mod Closed

@@ -1,5 +1,5 @@
 -- What a list of commands does on the array machine, and the replies that it may give.
-use Rattle.std.specs.Prelude.{◌≡◌, ◌≢◌, ◌⊎◌, ℕ, ◌+◌, ◌-◌, ◌<◌, ◌≤◌, Bool, true, false, List, [], ◌∷◌, length, count_by, All, AllPairs, Contains, Option, None, Some, IsSome, Result, Ok, Err, MatchBool, if◌then◌else◌}
+use Rattle.std.specs.Prelude.{◌≡◌, ◌≢◌, ◌⊎◌, ℕ, ◌+◌, ◌-◌, ◌<◌, ◌≤◌, Bool, true, false, List, [], ◌∷◌, length, count_by, All, AllPairs, Contains, Option, None, Some, IsSome, Result, Ok, Err, MatchBool, zip, if◌then◌else◌}
 use Rattle.tx_types.specs.Batch.{PageWrite}
 use Rattle.tx_types.specs.Limits.{max_version}
 use Rattle.tx_types.specs.declared.stats.Stats.{Stats}
@@ -150,6 +150,10 @@ pub record RunState : Type 0 where
   pub machine : ArrayState
   pub up : Bool
 
+-- nothing is open while no device is mounted
+abbrev pub IsClosedUnmounted : RunState → Type 0
+IsClosedUnmounted s = s.up ≡ false → s.machine.entries ≡ []
+
 -- the device could not be mounted, and the command was not done
 abbrev pub NotDone : RunState → Reply → RunState → Type 0
 NotDone old r new = (old.up ≡ false) × ((r ≡ reply.Fault) ⊎ (r ≡ reply.Cut)) × (new ≡ old)
@@ -176,6 +180,10 @@ abbrev pub writes_in : Command → List PageWrite
 writes_in (command.Write tag batch) = batch.entries
 writes_in _ = []
 
+-- the pages of a write that was opened
+abbrev pub opened_by : Command → Reply → List PageWrite
+opened_by c r = if is_opened r then writes_in c else []
+
 -- none of these writes is of this page
 abbrev pub Avoid : ℕ → List PageWrite → Type 0
 Avoid page writes = All (λ w. w.page ≢ page) writes
@@ -183,6 +191,10 @@ Avoid page writes = All (λ w. w.page ≢ page) writes
 -- none of these transactions writes this page
 abbrev pub AllAvoid : ℕ → List Entry → Type 0
 AllAvoid page entries = All (λ e. Avoid page e.writes) entries
+
+-- of these commands, by their replies, none opened a write of this page
+abbrev pub NoneOpens : ℕ → List Command → List Reply → Type 0
+NoneOpens page cs rs = All (λ (x : Command × Reply). Avoid page (opened_by x.0 x.1)) (zip cs rs)
 
 -- no page is written by both of these transactions
 abbrev pub EntriesAreApart : Entry → Entry → Type 0
@@ -214,8 +226,8 @@ Acknowledges _ r tag = ⊥
 abbrev pub IsDoneOrCut : Reply → ℕ → Type 0
 IsDoneOrCut r tag = (r ≡ reply.Done tag) ⊎ (r ≡ reply.Cut)
 
--- The array after a command is the settled one, or that with all pages of an open transaction more: of one that the command
--- may complete, where it is answered as done or power was cut.
+-- The array after a command is the settled one, or that with all pages of an open transaction
+-- more: of one that the command may complete, where it is answered as done or power was cut.
 abbrev pub ChangesAtOnce : Command → Reply → ArrayState → ArrayState → Type 0
 ChangesAtOnce c r old new =
     (there : Bool)

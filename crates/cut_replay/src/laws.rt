@@ -15,10 +15,11 @@ ghost use Rattle.tx_engine.specs.declared.step.Progress.{Progress};
 ghost use Rattle.tx_engine.specs.declared.step.StepError.{StepError};
 ghost use Rattle.host_protocol.specs.declared.command.Command.{Command};
 ghost use Rattle.host_protocol.specs.declared.reply.Reply.{Reply};
+ghost use Rattle.host_protocol.specs.declared.reply.Reply.TheVariants.{Cut};
 ghost use Rattle.cut_replay.specs.Run.{Run, RunState, Serves, Finishes};
-ghost use Rattle.cut_replay.specs.Run.{pages_left, is_arm, is_break, writes_in};
-ghost use Rattle.cut_replay.specs.Run.{Avoid, AllAvoid, HasWhole, HasSame, IsConsistent};
-ghost use Rattle.cut_replay.specs.Run.{Acknowledges, IsCut, MayComplete};
+ghost use Rattle.cut_replay.specs.Run.{pages_left, is_arm, is_break};
+ghost use Rattle.cut_replay.specs.Run.{AllAvoid, NoneOpens, HasWhole, HasSame, IsConsistent};
+ghost use Rattle.cut_replay.specs.Run.{Acknowledges, IsCut, IsClosedUnmounted, MayComplete};
 ghost use Rattle.cut_replay.specs.Run.{ChangesAtOnce, IsDoneOrCut};
 ghost use Rattle.cut_replay.specs.FlashRun.{Point, IsFlashRun, mentions_in};
 ghost use Rattle.cut_replay.specs.FlashRun.{opening_state, last_state};
@@ -72,12 +73,13 @@ pub fn arrays_change_at_once()
         new.machine.pages ≡ old.machine.pages }
 {}
 
-/// A page that no open transaction and no command writes has what it had, over cuts and faults.
+/// A page that no open transaction writes has what it had, over cuts and faults, until a write of
+/// that page is opened.
 pub fn pages_change_by_writes()
     ensures { (limits : Limits) (seen : ℕ → ℕ)
         (old : RunState) (cs : List Command) (rs : List Reply) (new : RunState) (page : ℕ) →
         Run limits seen old cs rs new →
-        AllAvoid page old.machine.entries → All (λ c. Avoid page (writes_in c)) cs →
+        AllAvoid page old.machine.entries → NoneOpens page cs rs →
         page_at new.machine.pages page ≡ page_at old.machine.pages page }
 {}
 
@@ -94,9 +96,18 @@ pub fn consistent_runs()
         (length new.machine.pages ≡ limits.logical) × IsConsistent new.machine }
 {}
 
+/// Over cuts and faults nothing is open while no device is mounted.
+pub fn unmounted_runs()
+    ensures opening { (its : Config) (up : Bool) (from : Moment) →
+        IsClosedUnmounted (opening_state its up from) }
+    ensures run { (limits : Limits) (seen : ℕ → ℕ)
+        (old : RunState) (cs : List Command) (rs : List Reply) (new : RunState) →
+        Run limits seen old cs rs new → IsClosedUnmounted old → IsClosedUnmounted new }
+{}
+
 /// A transaction that is acknowledged, by `done` or `late`, is in the array from then on, and in
 /// each array that an image may have then: over cuts and faults each of its pages has what it wrote
-/// until a command writes that page again.
+/// until a write of that page is opened.
 pub fn acknowledged_transactions()
     ensures { (limits : Limits) (spent : ℕ → Bool)
         (c : Command) (old : RunState) (r : Reply) (mid : RunState) (tag : ℕ) (e : Entry)
@@ -106,26 +117,31 @@ pub fn acknowledged_transactions()
         Serves limits spent c old r mid → Acknowledges c r tag →
         entry_of tag old.machine.entries ≡ Some e →
         Run limits seen mid cs rs new → StandsFor new.machine pages →
-        Contains e.writes w → All (λ d. Avoid w.page (writes_in d)) cs →
+        Contains e.writes w → NoneOpens w.page cs rs →
         page_at pages w.page ≡ Some w.bytes }
 {}
 
-/// Over any commands, cuts and faults, as long as no command writes its pages, an open transaction
-/// is in the array, and in each array that an image may have then, wholly or not at all.
+/// Over any commands, cuts and faults, until a write of one of its pages is opened, an open
+/// transaction is in the array, and in each array that an image may have then, wholly or not at
+/// all.
 pub fn transactions_are_atomic()
     ensures { (limits : Limits) (seen : ℕ → ℕ)
         (old : RunState) (cs : List Command) (rs : List Reply) (new : RunState)
         (pages : Pages) (e : Entry) →
         IsConsistent old.machine → Contains old.machine.entries e →
         Run limits seen old cs rs new → StandsFor new.machine pages →
-        All (λ w. All (λ d. Avoid w.page (writes_in d)) cs) e.writes →
+        All (λ w. NoneOpens w.page cs rs) e.writes →
         HasWhole pages e ⊎ HasSame old.machine.pages pages e }
 {}
 
-/// After a cut nothing is open. A transaction that was open is in the array wholly or not at all: a
-/// whole one stays, and of one that was not in doubt, and whose last page was not being written,
-/// the pages are as they were.
+/// After the reply `cut` nothing is open, also where power was cut in the mount before the command.
+/// A transaction that was open is in the array wholly or not at all: a whole one stays, and of one
+/// that was not in doubt, and whose last page was not being written, the pages are as they were.
 pub fn cut_transactions()
+    ensures closed { (limits : Limits) (spent : ℕ → Bool)
+        (c : Command) (old : RunState) (r : Reply) (new : RunState) →
+        IsClosedUnmounted old → Serves limits spent c old r new → r ≡ Cut →
+        new.machine.entries ≡ [] }
     ensures none_open { (c : Command) (old : RunState) (r : Reply) (new : RunState) →
         IsCut c old r new → new.machine.entries ≡ [] }
     ensures atomic { (c : Command) (old : RunState) (r : Reply) (new : RunState) (e : Entry) →

@@ -25,8 +25,9 @@ use Rattle.tx_engine.specs.Tables.{standing_in}
 use Rattle.tx_engine.proofs.Kept.{from_stands}
 use Rattle.tx_engine.proofs.OpenList.{first_position, first_of_own, entry_first, entry_none, without_first, get_or_map}
 use Rattle.tx_engine.proofs.ExitsThen.{NamedBefore}
-use Rattle.tx_engine.proofs.Removal.{with_pins, current_pins, known_pins, all_remove}
+use Rattle.tx_engine.proofs.Removal.{current_pins, all_remove}
 use Rattle.tx_engine.proofs.Settlements.{position_none}
+use Rattle.tx_engine.proofs.Submitted.{repinned, array_aside}
 
 -- the entry of a tag, by its index
 pub entry_found : (tag : ℕ) (o : OpenTable) (i : ℕ) → position (λ o. has_tag tag o.entry) o.all ≡ Some i →
@@ -58,7 +59,7 @@ entry_settled there o o' i same within =
 module _ {F : Type 0} (state : F → FlashState) (S S' : Stored F) (O O' : OpenTable) (i : ℕ) (pins : S' ≡ record S { noted = record S.noted { pins = S'.noted.pins } })
     (gone : O' ≡ record O { all = remove O.all i }) where
   abbrev pub closed : Stored F
-  closed = record S { noted = with_pins S.noted S'.noted.pins }
+  closed = record S { noted = repinned S.noted S'.noted.pins }
 
   abbrev pub fewer : OpenTable
   fewer = record O { all = remove O.all i }
@@ -70,7 +71,7 @@ module _ {F : Type 0} (state : F → FlashState) (S S' : Stored F) (O O' : OpenT
       (standing_in state S' O').machine ≡ record (standing_in state S O).machine { entries = without tag (entries_of O) }
   closed_machine h within tag is =
       ap (λ (s : Standing F). s.machine) closed_is
-      ∙ ap₂ (λ (ps : List (Option (List ℕ))) (es : List Entry). record { pages = ps; entries = es }) (known_pins S.noted S'.noted.pins (state S.flash).image)
+      ∙ ap₂ (λ (ps : List (Option (List ℕ))) (es : List Entry). record { pages = ps; entries = es }) (array_aside S.noted S'.noted.pins (state S.flash).image)
       (sym (without_first (opening_at O i).entry.tag O.all i (first_of_own O.all i (from_stands state S O h).tags within))
       ∙ ap (λ t. without t (entries_of O)) (sym is))
 
@@ -90,7 +91,7 @@ module _ {F : Type 0} (state : F → FlashState) (S S' : Stored F) (O O' : OpenT
     config = refl;
     moves = FlashMoves-nothing (state S.flash) (state S.flash) false refl;
     carries = Carries-nothing (state S.flash);
-    versions = λ page low. inr (current_pins S.noted S'.noted.pins page, ap (λ (ps : List (Option (List ℕ))). page_at ps page) (known_pins S.noted S'.noted.pins (state S.flash).image));
+    versions = λ page low. inr (current_pins S.noted S'.noted.pins page, ap (λ (ps : List (Option (List ℕ))). page_at ps page) (array_aside S.noted S'.noted.pins (state S.flash).image));
     mentions = λ page low. inl refl;
     names = names_fewer;
   })

@@ -56,49 +56,46 @@ in_before [] y x i = absurd i
 in_before (z ∷ zs) y x (inl same) = inl same
 in_before (z ∷ zs) y x (inr i) = inr (in_before zs y x i)
 
-repeated_parts : (b : Bool) (e : SubmitError) (rest : Option SubmitError) → cond b (Some e) rest ≡ None → (b ≡ false) × (rest ≡ None)
-repeated_parts true e rest h = cc
-repeated_parts false e rest h = (refl, h)
+none_parts : {X : Type 0} (b : Bool) (e : X) (rest : Option X) → cond b (Some e) rest ≡ None → (b ≡ false) × (rest ≡ None)
+none_parts true e rest h = cc
+none_parts false e rest h = (refl, h)
 
 -- no page stood earlier
 none_earlier : (earlier ws : List PageWrite) → repeated earlier ws ≡ None → (v w : PageWrite) → IsIn earlier v → IsIn ws w → v.page ≢ w.page
 none_earlier earlier [] h v w i j = absurd j
 none_earlier earlier (x ∷ xs) h v w i (inl same) =
-    let parts = repeated_parts (list_any (is_of x.page) earlier) (refused.Repeated x.page) (repeated (earlier ++ x ∷ []) xs) h in
+    let parts = none_parts (list_any (is_of x.page) earlier) (refused.Repeated x.page) (repeated (earlier ++ x ∷ []) xs) h in
     λ e. eqb-false v.page x.page (any_none (is_of x.page) earlier parts.0 v i) (e ∙ ap (λ (y : PageWrite). y.page) (sym same))
 none_earlier earlier (x ∷ xs) h v w i (inr j) =
-    let parts = repeated_parts (list_any (is_of x.page) earlier) (refused.Repeated x.page) (repeated (earlier ++ x ∷ []) xs) h in
+    let parts = none_parts (list_any (is_of x.page) earlier) (refused.Repeated x.page) (repeated (earlier ++ x ∷ []) xs) h in
     none_earlier (earlier ++ x ∷ []) xs parts.1 v w (in_before earlier x v i) j
 
 none_repeated : (earlier ws : List PageWrite) → repeated earlier ws ≡ None → AllPairs (λ v w. v.page ≢ w.page) ws
 none_repeated earlier [] h = λ i j d less below. absurd (omega arith)
 none_repeated earlier (x ∷ xs) h =
-    let parts = repeated_parts (list_any (is_of x.page) earlier) (refused.Repeated x.page) (repeated (earlier ++ x ∷ []) xs) h in
+    let parts = none_parts (list_any (is_of x.page) earlier) (refused.Repeated x.page) (repeated (earlier ++ x ∷ []) xs) h in
     pairs_cons (λ (v : PageWrite) (w : PageWrite). v.page ≢ w.page) x xs
     (λ w i. none_earlier (earlier ++ x ∷ []) xs parts.1 x w (in_last earlier x) i)
     (none_repeated (earlier ++ x ∷ []) xs parts.1)
 
--- no open transaction has the page
-mapped_none : (f : Entry → SubmitError) (o : Option Entry) → option_map f o ≡ None → o ≡ None
-mapped_none f None h = refl
-mapped_none f (Some e) h = cc
+pub map_none : {X Y : Type 0} (f : X → Y) (o : Option X) → option_map f o ≡ None → o ≡ None
+map_none f None h = refl
+map_none f (Some x) h = cc
 
-found_parts : (b : Bool) (e : Entry) (rest : Option Entry) → cond b (Some e) rest ≡ None → (b ≡ false) × (rest ≡ None)
-found_parts true e rest h = cc
-found_parts false e rest h = (refl, h)
-
-none_found : (p : Entry → Bool) (es : List Entry) → find p es ≡ None → (e : Entry) → IsIn es e → p e ≡ false
+-- a test that finds nothing fails for each
+pub none_found : {X : Type 0} (p : X → Bool) (xs : List X) → find p xs ≡ None → (x : X) → IsIn xs x → p x ≡ false
 none_found p [] h e i = absurd i
-none_found p (x ∷ xs) h e (inl same) = ap p (sym same) ∙ (found_parts (p x) x (find p xs) h).0
-none_found p (x ∷ xs) h e (inr i) = none_found p xs (found_parts (p x) x (find p xs) h).1 e i
+none_found p (x ∷ xs) h e (inl same) = ap p (sym same) ∙ (none_parts (p x) x (find p xs) h).0
+none_found p (x ∷ xs) h e (inr i) = none_found p xs (none_parts (p x) x (find p xs) h).1 e i
 
+-- no open transaction has the page
 none_owned : (entries : List Entry) (ws : List PageWrite) → overlap entries ws ≡ None → All (λ w. All (λ e. All (λ v. v.page ≢ w.page) e.writes) entries) ws
 none_owned entries ws h =
     let refusals = none_refused (λ w. option_map (λ e. refused.Overlap w.page e.tag) (find (is_owner w.page) entries)) ws h in
     all_from (λ w. All (λ e. All (λ v. v.page ≢ w.page) e.writes) entries) ws (λ w i.
     all_from (λ e. All (λ v. v.page ≢ w.page) e.writes) entries (λ e j.
     all_from (λ v. v.page ≢ w.page) e.writes (λ v k.
-    let none = mapped_none (λ f. refused.Overlap w.page f.tag) (find (is_owner w.page) entries)
+    let none = map_none (λ f. refused.Overlap w.page f.tag) (find (is_owner w.page) entries)
     (all_at (λ w. option_map (λ e. refused.Overlap w.page e.tag) (find (is_owner w.page) entries) ≡ None) ws w refusals i) in
     eqb-false v.page w.page (any_none (is_of w.page) e.writes (none_found (is_owner w.page) entries none e j) v k))))
 

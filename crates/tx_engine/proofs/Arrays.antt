@@ -1,5 +1,5 @@
 -- An array by what it has at each page, and the array once it takes the writes of a transaction.
-use Rattle.std.proofs.Common.{◌≡◌, ◌≢◌, ℕ, ◌<◌, ◌==◌, cond, List, [], ◌∷◌, length, map, get_or, set, All, Option, Some, sym, ap, ◌∙◌, inl, inr, arith, eq-eqb, ne_eqb}
+use Rattle.std.proofs.Common.{◌≡◌, ◌≢◌, ℕ, ◌<◌, ◌==◌, cond, List, [], ◌∷◌, length, map, get_or, set, All, Option, Some, sym, ap, ◌∙◌, inl, inr, arith, eq-eqb, ne_eqb, None}
 use Rattle.std.specs.List.{range_with_len}
 use Rattle.std.proofs.lemmas.Bool.{cases_eq, cond-true, cond-false}
 use Rattle.std.proofs.lemmas.List.{length-map, length-set, get_or-map, get_or-set_same, get_or-set_other}
@@ -9,12 +9,7 @@ use Rattle.tx_types.specs.Batch.{PageWrite, no_write}
 use Rattle.tx_types.specs.declared.record.Link.{Link}
 use Rattle.tx_engine.specs.ArrayState.{put}
 use Rattle.tx_engine.specs.Standing.{no_name}
-
--- two arrays are one that have the same at each page
-pub same_pages : {X : Type 0} (f g : ℕ → X) (n : ℕ) → ((page : ℕ) → page < n → f page ≡ g page) → map f (range_with_len 0 n) ≡ map g (range_with_len 0 n)
-same_pages f g n h =
-    fill_by_all g (map f (range_with_len 0 n)) n (f 0) (length-map-range_with_len f 0 n)
-    (λ k within. get_or-map-range_with_len f 0 n k k (f 0) within (omega arith) ∙ h k within)
+use Rattle.collector.proofs.KnownArrays.{same_range}
 
 -- what an array has at a page
 pub at_page : {X : Type 0} (f : ℕ → X) (n page : ℕ) (d : X) → page < n → get_or (map f (range_with_len 0 n)) page d ≡ f page
@@ -45,7 +40,7 @@ pub put_is : (ws : List PageWrite) (old new : ℕ → Option (List ℕ)) (n : �
     All (λ w. new w.page ≡ Some w.bytes) ws →
     ((page : ℕ) → page < n → All (λ w. w.page ≢ page) ws → new page ≡ old page) →
     map new (range_with_len 0 n) ≡ put (map old (range_with_len 0 n)) ws
-put_is [] old new n takes stays = same_pages new old n (λ page within. stays page within (λ k d less. absurd (omega arith)))
+put_is [] old new n takes stays = same_range new old n None (λ page within. stays page within (λ k d less. absurd (omega arith)))
 put_is (w ∷ ws) old new n takes stays =
     put_is ws (with_page old w.page (Some w.bytes)) new n (All-tail (λ w. new w.page ≡ Some w.bytes) w ws takes)
     (λ page within others. elim (cases_eq page w.page) [

@@ -1,6 +1,5 @@
 -- The spare is made blank, and then the block with the most garbage is collected: what both calls do together.
-use Rattle.std.proofs.Common.{◌≡◌, ◌≢◌, ℕ, zero, suc, ◌+◌, ◌*◌, ◌/◌, ◌<◌, ◌≤◌, Bool, true, false, if◌then◌else◌, not, ◌||◌, List, [], ◌∷◌, ◌++◌, length, filter, count_by, Some, refl, sym, ap, ap₂, ◌∙◌, subst, inl, inr, arith, eq-eqb, append_assoc}
-use Rattle.std.specs.List.{range_with_len}
+use Rattle.std.proofs.Common.{◌≡◌, ◌≢◌, ℕ, ◌+◌, ◌*◌, ◌/◌, ◌<◌, Bool, true, false, if◌then◌else◌, not, ◌||◌, List, [], ◌∷◌, ◌++◌, length, filter, count_by, Some, refl, sym, ap, ◌∙◌, subst, inl, inr, arith, eq-eqb, append_assoc}
 use Rattle.std.proofs.lemmas.Bool.{cases_Bool, cond-true}
 use Rattle.std.proofs.lemmas.List.Sums.{length-filter}
 use Rattle.std.proofs.Math.Nat.{div-eq_of_lt-le}
@@ -8,9 +7,8 @@ use Rattle.tx_types.specs.Config.{shape_of, blocks_of}
 use Rattle.tx_types.specs.declared.config.Shape.{Shape}
 use Rattle.tx_types.specs.declared.config.BlockState.{BlockState}
 use Rattle.tx_types.specs.declared.config.BlockState.TheVariants as state
-use Rattle.flash_model.specs.Flash.{FlashState, Contents, slot_at}
-use Rattle.flash_model.specs.Calls.{page_of, spare_of}
-use Rattle.flash_model.specs.Operations.{Operation, program, erase, block_of, moment_of}
+use Rattle.flash_model.specs.Flash.{FlashState, slot_at}
+use Rattle.flash_model.specs.Operations.{Operation, erase, block_of, moment_of}
 use Rattle.flash_model.specs.Moves.{Does, StayOff}
 use Rattle.flash_model.proofs.ImageLemmas.{slot_at-does}
 use Rattle.flash_model.proofs.MoveLemmas.{Does-append}
@@ -29,6 +27,7 @@ use Rattle.collector.specs.Victim.{is_shut, IsVictim}
 use Rattle.collector.proofs.Cleanings.{blank_as_read, blank_is_erased}
 use Rattle.collector.proofs.NotesLeft.{note_at-in}
 use Rattle.collector.proofs.Ranges.{range_all}
+use Rattle.collector.proofs.CopyLists.{copies_same, in_range}
 use Rattle.tx_engine.specs.Collections.{CollectsOne}
 
 first_in : (list : List ℕ) → 0 < length list → (k : ℕ) × IsIn list k
@@ -83,23 +82,8 @@ module _ (n : Noted) (t : BlockTable) (spare : n.spare ≡ Some t.spare) (victim
         (k.0, one.0, k.1, k.2, not_needed (shut_or_part (is_shut (block_state t victim))) (is_blank (note_at n.notes one.0)) (needed_of n one.0) one.2))
   ]
 
-copies_alike : (size : ℕ) (a b : List Contents) (to : ℕ) (list : List ℕ) → ((k : ℕ) → IsIn list k → slot_at a k ≡ slot_at b k) → copies size a to list ≡ copies size b to list
-copies_alike size a b to [] same = refl
-copies_alike size a b to (from ∷ rest) same =
-    ap₂ (λ (x : Operation) (xs : List Operation). x ∷ xs)
-    (ap (λ c. program to (page_of size c) (spare_of c)) (same from (inl refl)))
-    (copies_alike size a b (to + 1) rest (λ k i. same k (inr i)))
-
-in_range : (a n k : ℕ) → IsIn (range_with_len a n) k → (a ≤ k) × (k < a + n)
-in_range a zero k i = absurd i
-in_range a (suc n) k (inl e) = (omega (arith, e), omega (arith, e))
-in_range a (suc n) k (inr i) = let rest = in_range (a + 1) n k i in (omega (arith, rest.0), omega (arith, rest.1))
-
 module _ (s s1 : FlashState) (n n1 : Noted) (t : BlockTable) (m : Matches s n t unsure.Nothing) (m1 : Matches s1 n1 t unsure.Nothing)
     (is : n1 ≡ erased n t.spare) (cleans : Does s.shape (moment_of s) (cleaning n s.image t.spare) (moment_of s1)) where
-  per : ℕ
-  per = n.config.pages_per_block
-
   some_pages : 0 < n.config.pages_per_block
   some_pages = (let b = m.noted.bounds.shape.pages_least in omega arith)
 
@@ -153,7 +137,7 @@ module _ (s s1 : FlashState) (n n1 : Noted) (t : BlockTable) (m : Matches s n t 
         ap (λ l. l ++ copies n1.config.page_bytes s1.image (t.spare * n1.config.pages_per_block) (needed_slots (noted_cleaned n1 t.spare) block) ++ erase block ∷ []) nothing_more
         ∙ ap (λ k. copies n1.config.page_bytes s1.image (t.spare * n1.config.pages_per_block) (needed_slots k block) ++ erase block ∷ [])
         (sym (blank_is_erased s1 n1 t unsure.Nothing refl m1 noted_blank))
-        ∙ ap (λ l. l ++ erase block ∷ []) (copies_alike n1.config.page_bytes s1.image s.image (t.spare * n1.config.pages_per_block) (needed_slots n1 block) same_needed)
+        ∙ ap (λ l. l ++ erase block ∷ []) (copies_same n1.config.page_bytes s1.image s.image (t.spare * n1.config.pages_per_block) (needed_slots n1 block) same_needed)
         ∙ ap (λ (k : Noted). copies k.config.page_bytes s.image (t.spare * k.config.pages_per_block) (needed_slots k block) ++ erase block ∷ []) is
 
     -- so both do what a collection does

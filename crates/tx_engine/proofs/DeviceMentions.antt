@@ -1,6 +1,5 @@
 -- At which versions the records of a device's flash mention its pages.
 use Rattle.std.proofs.Common.{◌≡◌, ◌≢◌, ◌⊎◌, ℕ, ◌<◌, ◌≤◌, ◌==◌, ◌^◌, max, List, length, get_or, Any, refl, sym, ap, ◌∙◌, subst, inl, inr, arith, eqb-true}
-use Rattle.std.specs.List.{zip}
 use Rattle.std.proofs.lemmas.Bool.{cases_lt}
 use Rattle.tx_types.specs.declared.config.Protocol.{Protocol}
 use Rattle.tx_types.specs.declared.config.Slot.{Slot}
@@ -8,12 +7,9 @@ use Rattle.tx_types.specs.declared.record.Link.{Link}
 use Rattle.tx_types.specs.declared.record.Rec.{Rec}
 use Rattle.flash_model.specs.Flash.{FlashState, Contents, blank, damaged, complete, slot_at}
 use Rattle.record_list.specs.Records.{mention, version_of, linked_at, name_of}
-use Rattle.record_list.specs.Transaction.{rounded, back_version}
-use Rattle.record_list.proofs.Names.{IsIn, in_from, all_at, contains_from, if_positive}
-use Rattle.record_list.proofs.Rounds.{follows_of, follows_in}
+use Rattle.record_list.proofs.Names.{IsIn, all_at, contains_from, if_positive}
 use Rattle.version_index.specs.Images.{records_in}
-use Rattle.version_index.specs.Notes.{found_in}
-use Rattle.version_index.specs.Noted.{Noted, IsNoted, IsNextRecord, programmed, mention_of}
+use Rattle.version_index.specs.Noted.{Noted, IsNoted, programmed, mention_of}
 use Rattle.version_index.proofs.Mentions.{raised_at}
 use Rattle.die_alloc.specs.BlockTable.{BlockTable}
 use Rattle.collector.specs.declared.unsure.Unsure.{Unsure}
@@ -27,18 +23,10 @@ use Rattle.tx_engine.specs.Standing.{Standing, Naming, Stands, DoubtsAs, IsOwn}
 use Rattle.tx_engine.proofs.OpenOnes.{any_got, can_take}
 use Rattle.tx_engine.proofs.DevicesStand.{no_record, spare_other}
 use Rattle.tx_engine.proofs.Tools.{Settles}
+use Rattle.tx_engine.proofs.Noting.{next_named}
 
 any_in : {X : Type 0} (P : X → Type 0) (xs : List X) (x : X) → IsIn xs x → P x → Any P xs
 any_in P xs x i h = let c = contains_from xs x i in (c.0, x, c.1, c.2, h)
-
--- the record that a transaction writes next links to one of its names
-next_named : (n : Noted) (rec : Rec) (next : IsNextRecord n rec) → IsIn next.names (name_of rec) × IsIn next.names rec.next
-next_named n rec next =
-    let i = in_from next.names (name_of rec) next.named in
-    let follows = follows_of next.names (name_of rec) i in
-    let asked = all_at (λ (name, after). name_of rec ≡ name → (rec.next ≡ after) × (rec.back ≡ back_version n.config.protocol (found_in n.notes) n.config.logical name.page))
-    (zip next.names (rounded next.names)) (name_of rec, follows.0) next.asked follows.1 refl in
-    (i, subst (IsIn next.names) (sym asked.0) (follows_in next.names (name_of rec) follows.0 follows.1).1)
 
 module _ (image : List Contents) (n : Noted) (entries : List Entry) (namings : List Naming) (at : Slot) (rec : Rec) (own : IsOwn image n entries namings at rec) where
   named_at : (name : Link) → IsIn own.next.names name → IsNamedAt namings name.page name.version

@@ -1,20 +1,14 @@
 -- What an image keeps of a device in which each name that is noted has the bytes that it had.
-use Rattle.std.proofs.Common.{◌≡◌, ◌≢◌, ℕ, ◌<◌, ◌≤◌, List, length, None, refl, sym, ap, ◌∙◌, inl, inr, arith}
+use Rattle.std.proofs.Common.{◌≡◌, ◌≢◌, ℕ, ◌<◌, List, length, refl, sym, ◌∙◌, inl, inr, arith}
 use Rattle.std.proofs.lemmas.Bool.{cases_eq, lt-ltb}
-use Rattle.tx_types.specs.declared.config.Protocol.{Protocol}
 use Rattle.tx_types.specs.declared.record.Link.{Link}
 use Rattle.flash_model.specs.Flash.{Contents}
-use Rattle.record_list.specs.Written.{found_of, bytes_at}
-use Rattle.record_list.proofs.Arrays.{has_bytes}
-use Rattle.record_list.proofs.Arrays.HasBytes.{there, nowhere}
+use Rattle.record_list.specs.Written.{bytes_at}
 use Rattle.record_list.proofs.LossCounted.{counted_present}
 use Rattle.record_list.proofs.SoundNames.{sound_map}
-use Rattle.record_list.proofs.Names.{all_at}
-use Rattle.record_list.proofs.WrittenLists.{in_records}
-use Rattle.version_index.specs.Images.{written_in, records_in}
+use Rattle.version_index.specs.Images.{written_in}
 use Rattle.version_index.specs.Notes.{found_in}
 use Rattle.version_index.specs.Noted.{Noted, IsNoted, current_of, current_name_of}
-use Rattle.version_index.proofs.ImageScans.{records_scanned}
 use Rattle.collector.specs.Known.{page_known, array_known}
 use Rattle.collector.specs.Preserves.{IsThere}
 use Rattle.tx_engine.specs.ArrayState.{Entry}
@@ -22,23 +16,14 @@ use Rattle.tx_engine.specs.declared.mark.Mark.{Mark}
 use Rattle.tx_engine.specs.declared.mark.Mark.TheVariants.{Plain, Doubt, Whole}
 use Rattle.tx_engine.specs.Standing.{Naming, IsUnderWay, IsAsMarked, name_at}
 use Rattle.tx_engine.specs.OpenTable.{Opening}
-use Rattle.tx_engine.proofs.Arrays.{same_pages}
 use Rattle.tx_engine.proofs.Kept.{IsOpening}
+use Rattle.collector.proofs.KnownArrays.{same_known}
+use Rattle.collector.proofs.KeptArrays.{none_at_zero}
 
 -- each name that is noted has the bytes that it had
 abbrev pub KeepsNoted : Noted → List Contents → List Contents → Type 0
 KeepsNoted n image image' =
     (name : Link) → IsThere n name → bytes_at (written_in n.config.protocol image') name ≡ bytes_at (written_in n.config.protocol image) name
-
--- no image has bytes at version 0
-zero_bytes : (p : Protocol) (image : List Contents) (name : Link) → name.version ≡ 0 → bytes_at (written_in p image) name ≡ None
-zero_bytes p image name zero = elim (has_bytes (written_in p image) name) [
-  | there w is_in named is ↦
-      (let versions = all_at (λ f. (1 ≤ f.rec.version) × (1 ≤ f.rec.next.version)) (records_in p image) (found_of w) (records_scanned p image).versions (in_records (written_in p image) w is_in) in
-      let same : w.rec.version ≡ name.version = ap (λ (a : Link). a.version) named in
-      absurd (omega (arith, versions.0)))
-  | nowhere is absent ↦ is
-]
 
 -- a page without a current version has no record of it, and else the record is noted
 pub current_noted : (n : Noted) → IsNoted n.config.protocol n → (page : ℕ) → current_of n page ≢ 0 → IsThere n (current_name_of n page)
@@ -50,14 +35,13 @@ current_noted n is page some =
 module _ (n : Noted) (image image' : List Contents) (stay : KeepsNoted n image image') where
   pub current_bytes : IsNoted n.config.protocol n → (page : ℕ) → page_known n image' page ≡ page_known n image page
   current_bytes is page = elim (cases_eq (current_of n page) 0) [
-    | inl zero ↦ zero_bytes n.config.protocol image' (current_name_of n page) zero ∙ sym (zero_bytes n.config.protocol image (current_name_of n page) zero)
+    | inl zero ↦ none_at_zero n.config.protocol image' (current_name_of n page) zero ∙ sym (none_at_zero n.config.protocol image (current_name_of n page) zero)
     | inr some ↦ stay (current_name_of n page) (current_noted n is page some)
   ]
 
   -- the array stays
   pub image_array : IsNoted n.config.protocol n → array_known n image' ≡ array_known n image
-  unfolding array_known
-  image_array is = same_pages (page_known n image') (page_known n image) n.config.logical (λ page within. current_bytes is page)
+  image_array is = same_known n n image image' refl (λ page within. current_bytes is page)
 
   pub image_under : (e : Entry) (x : Naming) → IsUnderWay image n e x → IsUnderWay image' n e x
   image_under e x w = record {

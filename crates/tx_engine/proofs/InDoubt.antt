@@ -1,7 +1,6 @@
 -- The record of an open transaction whose program was broken, and is there: the array takes the transaction where it is its
 -- last record, and else stays.
-use Rattle.std.proofs.Common.{◌≡◌, ◌≢◌, ℕ, ◌+◌, ◌<◌, ◌≤◌, true, false, List, length, map, get_or, All, Any, Some, refl, sym, ap, ◌∙◌, subst, inl, inr, arith}
-use Rattle.std.specs.List.{range_with_len}
+use Rattle.std.proofs.Common.{◌≡◌, ◌≢◌, ℕ, ◌+◌, ◌<◌, ◌≤◌, true, false, List, length, get_or, All, Any, Some, refl, sym, ap, ◌∙◌, subst, inl, inr, arith}
 use Rattle.std.proofs.lemmas.Bool.{cases_Bool, cases_lt, lt-ltb, le-ltb, both_ways}
 use Rattle.std.proofs.lemmas.List.Elements.{All-from_get_or, Contains-get_or}
 use Rattle.tx_types.specs.Config.{shape_of, slots_of}
@@ -26,9 +25,10 @@ use Rattle.die_alloc.specs.BlockTable.{BlockTable}
 use Rattle.collector.specs.declared.unsure.Unsure.{Unsure}
 use Rattle.collector.specs.Known.{page_known, array_known}
 use Rattle.collector.specs.Matches.{Matches}
+use Rattle.collector.proofs.KnownArrays.{same_known}
 use Rattle.tx_engine.specs.ArrayState.{Entry, put}
 use Rattle.tx_engine.specs.Standing.{Naming, IsNamed, IsUnderWay, name_at, write_at, no_name}
-use Rattle.tx_engine.proofs.Arrays.{same_pages, put_by_names, as_many_names}
+use Rattle.tx_engine.proofs.Arrays.{put_by_names, as_many_names}
 use Rattle.tx_engine.proofs.Tools.{NotesWrites}
 
 -- the bytes that a complete slot has are those of its record
@@ -50,10 +50,7 @@ known_page n n' image page config same =
 -- so is the array where all have
 pub known_array : (n n' : Noted) (image : List Contents) → n'.config ≡ n.config →
     ((page : ℕ) → page < n.config.logical → current_of n' page ≡ current_of n page) → array_known n' image ≡ array_known n image
-unfolding array_known
-known_array n n' image config same =
-    ap (λ (c : _). map (page_known n' image) (range_with_len 0 c.logical)) config
-    ∙ same_pages (page_known n' image) (page_known n image) n.config.logical (λ page within. known_page n n' image page config (same page within))
+known_array n n' image config same = same_known n n' image image config (λ page within. known_page n n' image page config (same page within))
 
 module _ (p : Protocol) (notes : NotesWrites p) (n : Noted) (is_noted : IsNoted p n) (rule : n.config.protocol ≡ p) (at : ℕ) (rec : Rec)
     (next : IsNextRecord n rec) (within : at < slots_of (shape_of n.config)) (was : note_at n.notes at ≡ Blank)

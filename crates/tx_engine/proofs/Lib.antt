@@ -6,7 +6,6 @@ pub mod InDoubt
 pub mod Mounted
 pub mod OpenOnes
 pub mod OtherFlash
-pub mod PinNames
 pub mod Pushed
 pub mod Accepting
 pub mod Submitted

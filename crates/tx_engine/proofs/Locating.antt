@@ -1,7 +1,7 @@
 -- The slot from which the current record of a page is read has the bytes that are known of the page.
-use Rattle.std.proofs.Common.{◌≡◌, ◌⊎◌, ℕ, ◌<◌, ◌≤◌, Bool, true, false, not, ◌&&◌, eqb, eqb-true, List, [], ◌∷◌, find, Option, Some, None, IsNone, IfSome, IfNone, IsSomeAnd, ◌↔◌, refl, sym, ap, ◌∙◌, subst, inl, inr, arith}
-use Rattle.std.specs.Option.{option_map, option_map_or, option_or}
-use Rattle.std.proofs.lemmas.Bool.{false≢true, cases_Bool, cond-true, cond-false, and_parts, and_from}
+use Rattle.std.proofs.Common.{◌≡◌, ◌⊎◌, ℕ, ◌<◌, ◌≤◌, Bool, true, false, ◌&&◌, eqb, eqb-true, List, [], ◌∷◌, find, Option, Some, None, IsNone, IfSome, IfNone, IsSomeAnd, ◌↔◌, refl, sym, ap, ◌∙◌, subst, inl, inr, arith}
+use Rattle.std.specs.Option.{option_map, option_or}
+use Rattle.std.proofs.lemmas.Bool.{false≢true, cases_Bool, cond-true, cond-false, and_parts, and_from, not_from_true}
 use Rattle.std.proofs.lemmas.Option.{none-some}
 use Rattle.tx_types.specs.declared.config.Block.{Block}
 use Rattle.tx_types.specs.declared.config.Protocol.{Protocol}
@@ -9,9 +9,8 @@ use Rattle.tx_types.specs.declared.config.Slot.{Slot}
 use Rattle.tx_types.specs.declared.record.Link.{Link}
 use Rattle.tx_types.specs.declared.record.Rec.{Rec}
 use Rattle.tx_types.specs.Config.{shape_of, slots_of}
-use Rattle.flash_model.specs.Flash.{FlashState, Contents, blank, damaged, complete, slot_at}
+use Rattle.flash_model.specs.Flash.{FlashState, slot_at}
 use Rattle.flash_model.specs.Calls.{page_of}
-use Rattle.page_record.specs.Rules.{record_of}
 use Rattle.record_list.specs.declared.found.Found.{Found}
 use Rattle.record_list.specs.Records.{name_of, has_name, is_present}
 use Rattle.record_list.specs.Changes.{left}
@@ -24,7 +23,7 @@ use Rattle.record_list.proofs.Arrays.{bytes_of, bytes_absent}
 use Rattle.version_index.specs.declared.note.Note.{Note}
 use Rattle.version_index.specs.declared.note.Note.TheVariants.{Blank, Damaged, Holds}
 use Rattle.version_index.specs.Images.{written_in}
-use Rattle.version_index.specs.Notes.{note_at, note_of, rec_of, found_in}
+use Rattle.version_index.specs.Notes.{note_at, rec_of, found_in}
 use Rattle.version_index.specs.Noted.{Noted, current_of, current_name_of, home_of, slot_off, HoldsName, pinned_names}
 use Rattle.version_index.proofs.FoundIn.{found, noted_in}
 use Rattle.version_index.proofs.HomeFacts.{first_stands}
@@ -35,23 +34,8 @@ use Rattle.collector.specs.declared.unsure.Unsure.{Unsure}
 use Rattle.collector.specs.declared.unsure.Unsure.TheVariants as unsure
 use Rattle.collector.specs.Known.{is_unsure, page_known}
 use Rattle.collector.specs.Matches.{Matches, CanSpare}
+use Rattle.collector.proofs.SpelledNotes.{noted_record}
 use Rattle.tx_engine.specs.Read.{ShowsKnown, read_place}
-
--- contents of which a record is noted have its bytes
-record HasRecord (p : Protocol) (contents : Contents) (rec : Rec) : Type 0 where
-  pub bytes : List ℕ
-  pub spare : List ℕ
-  pub is : contents ≡ complete bytes spare
-  pub spells : record_of p spare ≡ Some rec
-
-has_record : (p : Protocol) (contents : Contents) (note : Note) (rec : Rec) → note ≡ note_of p contents → rec_of note ≡ Some rec → HasRecord p contents rec
-has_record p blank note rec e holds = absurd (none-some rec (ap rec_of (sym e) ∙ holds))
-has_record p damaged note rec e holds = absurd (none-some rec (ap rec_of (sym e) ∙ holds))
-has_record p (complete bytes spare) note rec e holds = record { bytes = bytes; spare = spare; is = refl; spells = given (record_of p spare) (ap rec_of (sym e) ∙ holds) }
-  where
-    given : (o : Option Rec) → rec_of (option_map_or Holds o Damaged) ≡ Some rec → o ≡ Some rec
-    given None h = absurd (none-some rec h)
-    given (Some r) h = h
 
 holds_it : (note : Note) (rec : Rec) → rec_of note ≡ Some rec → note ≡ Holds rec
 holds_it Blank rec e = absurd (none-some rec e)
@@ -84,9 +68,6 @@ first_choice : (a b : Option ℕ) (at : ℕ) → (a ≡ None → ⊥) → option
 first_choice None b at some e = absurd (some refl)
 first_choice (Some x) b at some e = e
 
-flipped : (b : Bool) → b ≡ true → not b ≡ false
-flipped b e = ap not e
-
 module _ (s : FlashState) (n : Noted) (t : BlockTable) (u : Unsure) (m : Matches s n t u) (page : ℕ) where
   p : Protocol
   p = n.config.protocol
@@ -104,7 +85,7 @@ module _ (s : FlashState) (n : Noted) (t : BlockTable) (u : Unsure) (m : Matches
       of_record : (o : Option Rec) → rec_of (note_at n.notes at) ≡ o → IsSomeAnd o (λ rec. name_of rec ≡ name) → ShowsKnown s n page at
       of_record None e h = absurd h
       of_record (Some rec) e h =
-          let has = has_record n.config.protocol (slot_at s.image at) (note_at n.notes at) rec (m.sure at within sure) e in
+          let has = noted_record n.config.protocol rec (slot_at s.image at) (sym (holds_it (note_at n.notes at) rec e) ∙ m.sure at within sure) in
           let list = written_in n.config.protocol s.image in
           let there = read_slot n.config.protocol s.image at has.bytes has.spare rec (omega (arith, within, m.flash.slots)) has.is has.spells in
           let one = one_text list (records_scanned n.config.protocol s.image) m.sound.written.bytes in
@@ -190,7 +171,7 @@ home_sure s n t unsure.Nothing m page at holds home other = refl
 home_sure s n t (unsure.Own place rec) m page at holds home other = not_blank s n t (unsure.Own place rec) m page at place.0 holds m.place.1
 home_sure s n t (unsure.Copy from to) m page at holds home other = not_blank s n t (unsure.Copy from to) m page at to.0 holds m.place.2
 home_sure s n t unsure.SpareErase m page at holds home other =
-    flipped (is_outside s.shape t.spare at) (home_outside s n t unsure.SpareErase m page at home (current_there s n t unsure.SpareErase m page at holds))
+    not_from_true (is_outside s.shape t.spare at) (home_outside s n t unsure.SpareErase m page at home (current_there s n t unsure.SpareErase m page at holds))
 home_sure s n t (unsure.VictimErase block) m page at holds home other = absurd (other block refl)
 
 -- what an answer is that names the home of a page
@@ -211,7 +192,7 @@ located_off s n t block m page None lowest holds =
 located_off s n t block m page (Some at) lowest holds = (
   tt,
   shows_known s n t (unsure.VictimErase block) m page at.0 holds
-      (flipped (is_outside s.shape block.0 at.0) (off_outside s n t (unsure.VictimErase block) m page block.0 at.0 (sym lowest))),
+      (not_from_true (is_outside s.shape block.0 at.0) (off_outside s n t (unsure.VictimErase block) m page block.0 at.0 (sym lowest))),
 )
 
 -- none of the other places is a block that is being erased

@@ -1,6 +1,6 @@
 -- The next record of an open transaction is noted: the device stands for the array that takes its pages where the record is the
 -- last one, and else for the same array.
-use Rattle.std.proofs.Common.{◌≡◌, ◌≢◌, ◌⊎◌, ℕ, ◌+◌, ◌<◌, ◌==◌, List, [], length, map, get_or, All, AllPairs, Some, None, refl, sym, ap, ◌∙◌, subst, inl, inr, arith}
+use Rattle.std.proofs.Common.{◌≡◌, ◌≢◌, ◌⊎◌, ℕ, ◌+◌, ◌<◌, ◌==◌, List, [], length, map, get_or, All, AllPairs, Some, refl, sym, ap, ◌∙◌, subst, inl, inr, arith}
 use Rattle.std.specs.Prelude.{slice_set}
 use Rattle.std.proofs.lemmas.Bool.{cases_eq, cases_order, cond_both, eqb-false}
 use Rattle.std.proofs.lemmas.List.{length-map, length-set, get_or-set_same, get_or-set_other}
@@ -23,7 +23,7 @@ use Rattle.version_index.specs.Noted.{Noted, IsNoted, IsNextRecord, programmed, 
 use Rattle.die_alloc.specs.BlockTable.{BlockTable}
 use Rattle.collector.specs.declared.unsure.Unsure.{Unsure}
 use Rattle.collector.specs.declared.unsure.Unsure.TheVariants as unsure
-use Rattle.collector.specs.Known.{page_known, array_known}
+use Rattle.collector.specs.Known.{array_known}
 use Rattle.collector.specs.Matches.{Matches}
 use Rattle.tx_engine.specs.ArrayState.{put, page_at, is_doubted}
 use Rattle.tx_engine.specs.declared.mark.Mark.TheVariants.{Plain, Whole}
@@ -31,7 +31,7 @@ use Rattle.tx_engine.specs.Exits.{IsNamedAt}
 use Rattle.tx_engine.specs.Standing.{Naming, IsNamed, IsUnderWay, name_at, write_at, no_name}
 use Rattle.tx_engine.specs.OpenTable.{OpenTable, Opening, no_opening, opening_at, with_opening, with_mark, with_there}
 use Rattle.tx_engine.specs.Settling.{with_next}
-use Rattle.tx_engine.proofs.Arrays.{at_page, page_of_name, as_many_names}
+use Rattle.tx_engine.proofs.Arrays.{page_of_name, as_many_names}
 use Rattle.tx_engine.proofs.InDoubt.{known_page, partly_stays, partly_array, wholly_current, wholly_rises, wholly_elsewhere, wholly_array}
 use Rattle.tx_engine.proofs.ImageMoves.{KeepsNoted, current_bytes}
 use Rattle.tx_engine.proofs.Noting.{HasName, raised_mention, other_opening, next_opening}
@@ -40,6 +40,7 @@ use Rattle.tx_engine.proofs.SettledLists.{CalmBeside, calm_all}
 use Rattle.tx_engine.proofs.ExitsThen.{NamedBefore}
 use Rattle.tx_engine.proofs.OpenList.{get_or_map}
 use Rattle.tx_engine.proofs.Tools.{NotesWrites}
+use Rattle.tx_engine.proofs.OtherFlash.{known_at}
 
 -- a record is the next one of an open transaction, and its slot has its bytes
 pub record IsNextOf (p : Protocol) (n : Noted) (at : ℕ) (rec : Rec) (image : List Contents) (o : Opening) : Type 0 where
@@ -73,11 +74,6 @@ pub next_parts : (o : Opening) → HasSameParts o (with_next o)
 next_parts o =
     cond_both (o.naming.there + 1 == length o.entry.writes) (with_mark (with_there o (o.naming.there + 1)) Whole) (with_there o (o.naming.there + 1)) (HasSameParts o)
     (λ is. record { tag = refl; writes = refl; names = refl }) (λ is. record { tag = refl; writes = refl; names = refl })
-
--- what the array has at a page
-pub known_at : (n : Noted) (image : List Contents) (page : ℕ) → page < n.config.logical → page_at (array_known n image) page ≡ page_known n image page
-unfolding array_known
-known_at n image page within = at_page (page_known n image) n.config.logical page None within
 
 -- names stay where each opening has the names that it had
 pub names_before : (all all' : List Opening) → map (λ (o : Opening). o.naming.names) all' ≡ map (λ (o : Opening). o.naming.names) all →

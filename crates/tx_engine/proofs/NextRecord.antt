@@ -1,13 +1,12 @@
 -- The record that an open transaction writes next: it may be programmed once nothing must go before it.
-use Rattle.std.proofs.Common.{◌≡◌, ℕ, zero, suc, ◌+◌, ◌-◌, ◌*◌, ◌^◌, ◌<◌, ◌≤◌, ◌==◌, Bool, true, false, List, [], ◌∷◌, ◌++◌, length, map, get_or, All, Contains, Option, Some, None, refl, sym, ap, ap₂, ◌∙◌, subst, inl, inr, arith}
+use Rattle.std.proofs.Common.{◌≡◌, ℕ, zero, suc, ◌+◌, ◌-◌, ◌*◌, ◌^◌, ◌<◌, ◌≤◌, ◌==◌, true, false, List, [], ◌∷◌, ◌++◌, length, map, get_or, All, Contains, None, refl, sym, ap, ap₂, ◌∙◌, subst, inl, inr, arith}
 use Rattle.std.specs.Prelude.{Any, find, if◌then◌else◌}
 use Rattle.std.specs.List.{flat_map, sum, sum_by}
 use Rattle.std.proofs.lemmas.List.Sums.{sum-map}
-use Rattle.std.specs.Option.{option_map}
-use Rattle.std.proofs.lemmas.Bool.{cases_eq, cases_Bool, both_ways, cond-true, cond-false, le-ltb}
+use Rattle.std.proofs.lemmas.Bool.{cases_eq, both_ways, le-ltb}
 use Rattle.std.proofs.lemmas.List.{get_or_default}
 use Rattle.std.proofs.lemmas.List.Concat.{length-flat_map}
-use Rattle.std.proofs.lemmas.List.Elements.{All-nil, All-cons, All-contains, Contains-get_or}
+use Rattle.std.proofs.lemmas.List.Elements.{All-contains, Contains-get_or}
 use Rattle.std.proofs.Math.Nat.{mul-le-mul_right}
 use Rattle.tx_types.specs.Config.{shape_of, blocks_of}
 use Rattle.tx_types.specs.declared.config.Protocol.{Protocol}
@@ -21,7 +20,7 @@ use Rattle.record_list.specs.Records.{is_present, name_of, mentioned_at}
 use Rattle.record_list.specs.Changes.{NothingMustGo}
 use Rattle.record_list.specs.Current.{cur, must_go}
 use Rattle.record_list.specs.Transaction.{InProgress, ShareNoPage, back_version}
-use Rattle.record_list.proofs.Names.{IsIn, all_at, in_from, contains_from, found_named}
+use Rattle.record_list.proofs.Names.{IsIn, all_at, in_from, contains_from, found_named, all_from}
 use Rattle.record_list.proofs.Asking.{asked_at, rounded_at}
 use Rattle.record_list.proofs.Progress.{mention_parts}
 use Rattle.record_list.proofs.Rounds.{cases_in}
@@ -46,25 +45,15 @@ use Rattle.tx_engine.proofs.Noting.{next_has}
 use Rattle.tx_engine.proofs.PinnedNames.{pin_to, few_pinned}
 use Rattle.tx_engine.proofs.Removal.{pages_by}
 use Rattle.tx_engine.proofs.SettledLists.{calm_at}
-
--- a test that finds nothing
-find_none : {X : Type 0} (test : X → Bool) (xs : List X) → find test xs ≡ None → All (λ x. test x ≡ false) xs
-find_none test [] h = All-nil (λ x. test x ≡ false)
-find_none test (x ∷ xs) h = elim (cases_Bool (test x)) [
-  | inl is ↦ (let some = cond-true (test x) (Some x) (find test xs) is in let both = sym some ∙ h in cc)
-  | inr is ↦ All-cons (λ x. test x ≡ false) x xs is (find_none test xs (sym (cond-false (test x) (Some x) (find test xs) is) ∙ h))
-]
-
-map_none : {X Y : Type 0} (f : X → Y) (o : Option X) → option_map f o ≡ None → o ≡ None
-map_none f None h = refl
-map_none f (Some x) h = cc
+use Rattle.tx_engine.proofs.Accepting.{map_none, none_found}
 
 -- where no block is to go, no record must
 pub nothing_goes : (n : Noted) (rec : Rec) → block_to_go n rec.page rec.version ≡ None → NothingMustGo n.config.protocol (found_in n.notes) n.config.logical rec
 unfolding block_to_go
 nothing_goes n rec h =
     let test = λ (f : Found). must_go n.config.protocol (found_in n.notes) n.config.logical rec.page rec.version f.rec in
-    find_none test (found_in n.notes) (map_none (λ (f : Found). f.slot.0) (find test (found_in n.notes)) (map_none _ _ h))
+    all_from (λ f. test f ≡ false) (found_in n.notes)
+    (none_found test (found_in n.notes) (map_none (λ (f : Found). f.slot.0) (find test (found_in n.notes)) (map_none _ _ h)))
 
 -- the current version of its page is below an absent name of a transaction in progress
 pub current_below : (n : Noted) → IsNoted n.config.protocol n → (names : List Link) (name : Link) → InProgress n.config.protocol (found_in n.notes) n.config.logical names →

@@ -1,18 +1,14 @@
 -- A device stands as before where its flash has the shape and the image that it had.
-use Rattle.std.proofs.Common.{◌≡◌, ℕ, ◌<◌, Bool, true, false, List, None, IsSome, Result, Ok, Err, refl, sym, ap, ◌∙◌, subst, subst₂, arith}
+use Rattle.std.proofs.Common.{◌≡◌, ℕ, ◌<◌, Bool, true, false, List, None, IsSome, Result, Ok, Err, refl, sym, ap, ◌∙◌, subst}
 use Rattle.std.specs.List.{AllZip}
 use Rattle.tx_types.specs.declared.config.Protocol.{Protocol}
-use Rattle.tx_types.specs.Config.{slots_of}
 use Rattle.flash_model.specs.declared.flash.Broken.{Broken}
 use Rattle.flash_model.specs.declared.flash.Seen.{Seen}
 use Rattle.flash_model.specs.Calls.{Reads}
-use Rattle.flash_model.specs.Flash.{FlashState, Contents, IsImage}
-use Rattle.version_index.specs.Images.{IsSoundImage}
+use Rattle.flash_model.specs.Flash.{FlashState, Contents}
 use Rattle.version_index.specs.Noted.{Noted}
-use Rattle.die_alloc.specs.BlockTable.{BlockTable}
-use Rattle.collector.specs.declared.unsure.Unsure.{Unsure}
-use Rattle.collector.specs.Known.{is_unsure, page_known, array_known}
-use Rattle.collector.specs.Matches.{Matches, IsNotedAt, IsPlace}
+use Rattle.collector.specs.Known.{page_known, array_known}
+use Rattle.collector.proofs.SettledExits.{matches_still}
 use Rattle.tx_engine.specs.ArrayState.{page_at}
 use Rattle.tx_engine.specs.Read.{ReadsKnown, ReadsPage, ReadsFlash, read_place}
 use Rattle.tx_engine.specs.declared.read.ReadAnswer.{ReadAnswer}
@@ -27,31 +23,12 @@ use Rattle.tx_engine.specs.Tables.{IsStanding, standing_of}
 use Rattle.tx_engine.specs.declared.device.Device.TheInside.{Inside}
 use Rattle.tx_engine.proofs.Arrays.{at_page}
 
--- the tables match it
-pub matches_same : (s s' : FlashState) (n : Noted) (t : BlockTable) (u : Unsure) → s'.shape ≡ s.shape → s'.image ≡ s.image → Matches s n t u → Matches s' n t u
-matches_same s s' n t u shape image m = record {
-  shape = shape ∙ m.shape;
-  flash = subst₂ IsImage (sym shape) (sym image) m.flash;
-  sound = subst₂ (IsSoundImage n.config.protocol n.config.logical) (sym shape) (sym image) m.sound;
-  noted = m.noted;
-  table = m.table;
-  blocks = m.blocks ∙ sym shape;
-  spare = m.spare;
-  sure = λ slot within certain.
-      subst (λ im. IsNotedAt im n slot) (sym image)
-      (m.sure slot (omega (arith, within, ap slots_of shape)) (sym (ap (λ sh. is_unsure sh t.spare u slot) shape) ∙ certain));
-  place = subst (λ im. IsPlace im n t u) (sym image) m.place;
-  spared = m.spared;
-  victim = m.victim;
-  free = m.free;
-}
-
--- so a store whose flash was armed is kept
+-- a store whose flash was armed is kept
 pub armed_kept : {F R : Type 0} (state : F → FlashState) (protocol : Protocol) (s : StoreInside F R) (flash : F) → IsStoreKept state protocol s →
     state flash ≡ record (state s.flash) { told = (state flash).told } → IsStoreKept state protocol (record s { flash = flash })
 armed_kept state protocol s flash k stays = record {
   stored = record {
-    matches = matches_same (state s.flash) (state flash) s.index s.blocks s.unsure
+    matches = matches_still (state s.flash) (state flash) s.index s.blocks s.unsure
         (ap (λ f. f.shape) stays) (ap (λ f. f.image) stays) k.stored.matches;
     rule = k.stored.rule;
   };
@@ -63,7 +40,7 @@ pub read_kept : {F R : Type 0} (state : F → FlashState) (protocol : Protocol) 
     IsStoreKept state protocol s → Reads (state s.flash) (state flash) at bytes spare result → IsStoreKept state protocol (record s { flash = flash })
 read_kept state protocol s flash at bytes spare result k r = record {
   stored = record {
-    matches = matches_same (state s.flash) (state flash) s.index s.blocks s.unsure r.carries.shape r.image k.stored.matches;
+    matches = matches_still (state s.flash) (state flash) s.index s.blocks s.unsure r.carries.shape r.image k.stored.matches;
     rule = k.stored.rule;
   };
   room = k.room;
@@ -76,7 +53,7 @@ pub standing_same : {F R : Type 0} (state : F → FlashState) (protocol : Protoc
 standing_same {F} {R} state protocol d x h same shape image =
     let is : IsStanding state protocol (record d { store = record d.store { flash = x.flash } }) = record {
       stands = record {
-        matches = matches_same (state d.store.flash) (state x.flash) d.store.noted d.store.table d.store.unsure shape image h.stands.matches;
+        matches = matches_still (state d.store.flash) (state x.flash) d.store.noted d.store.table d.store.unsure shape image h.stands.matches;
         config = refl;
         array = refl;
         each = subst (λ im. AllZip (IsOpenAs im d.store.noted) (standing_of state d).machine.entries (standing_of state d).namings) (sym image) h.stands.each;

@@ -7,7 +7,7 @@ use Rattle.std.proofs.lemmas.List.Elements.{All-push, All-pop}
 use Rattle.tx_types.specs.Batch.{Writes, entry_at, no_write}
 use Rattle.version_index.specs.Noted.{Noted}
 use Rattle.tx_engine.specs.OpenTable.{next_name}
-use Rattle.tx_engine.specs.PendingPages.{write_held}
+use Rattle.tx_engine.specs.PendingPages.{write_held, FreesPages}
 use Rattle.tx_engine.specs.declared.pending.PendingPage.{PendingPage}
 
 -- so many pages of a batch are taken in
@@ -21,13 +21,6 @@ pub record HoldsFirst (n : Noted) (old new : Vec PendingPage Global) (rooms room
   pub capacity : vec_capacity old ≤ vec_capacity new
   pub rooms_capacity : vec_capacity rooms' ≡ vec_capacity rooms
   pub sizes : All (λ r. length r.items ≡ batch.page_bytes) rooms'.items
-
--- so many pages are taken away, from an index on
-pub record FreesFirst (old new : Vec PendingPage Global) (rooms rooms' : Vec (Vec ℕ Global) Global) (first count : ℕ) : Type 0 where
-  pub left : new.items ≡ take first old.items ++ drop (first + count) old.items
-  pub freed : rooms'.items ≡ rooms.items ++ map (λ p. p.bytes) (take count (drop first old.items))
-  pub capacity : vec_capacity new ≡ vec_capacity old
-  pub rooms_capacity : vec_capacity rooms ≤ vec_capacity rooms'
 
 -- one more is taken away
 pub cut_more : (ps : List PendingPage) (first count : ℕ) → first + count < length ps →
@@ -85,10 +78,10 @@ holds_more n old pages pages' rooms rooms' rooms'' batch count held room p h lt 
 -- one more page is taken away
 pub frees_more : (old pages pages' : Vec PendingPage Global) (rooms rooms' rooms'' : Vec (Vec ℕ Global) Global)
     (first count : ℕ) (p : PendingPage) →
-    FreesFirst old pages rooms rooms' first count → first + count < length old.items →
+    FreesPages old pages rooms rooms' first count → first + count < length old.items →
     p ≡ get_or pages.items first p → pages'.items ≡ remove pages.items first → vec_capacity pages' ≡ vec_capacity pages →
     rooms''.items ≡ rooms'.items ++ p.bytes ∷ [] → vec_capacity rooms' ≤ vec_capacity rooms'' →
-    FreesFirst old pages' rooms rooms'' first (count + 1)
+    FreesPages old pages' rooms rooms'' first (count + 1)
 frees_more old pages pages' rooms rooms' rooms'' first count p f lt is removed kept pushed wide =
     let inside : count < length (drop first old.items) = omega (arith, length-drop first old.items) in
     let its : get_or (drop first old.items) count p ≡ p = sym (cut_at old.items first count p lt) ∙ ap (λ ps. get_or ps first p) (sym f.left) ∙ sym is in

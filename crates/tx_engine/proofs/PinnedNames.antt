@@ -1,14 +1,16 @@
--- The names that are pinned, by the table of pins.
-use Rattle.std.proofs.Common.{◌≡◌, ◌≢◌, ◌⊎◌, ℕ, zero, suc, ◌+◌, ◌<◌, ◌≤◌, eqb, List, [], ◌∷◌, length, get_or, set, Contains, Option, Some, None, refl, sym, ap, ◌∙◌, subst, inl, inr, arith, eq-eqb, ne_eqb}
+-- The names that are pinned, by the table of pins, and once the names of a transaction are pinned too.
+use Rattle.std.proofs.Common.{◌≡◌, ◌≢◌, ◌⊎◌, ℕ, zero, suc, ◌+◌, ◌<◌, ◌≤◌, eqb, List, [], ◌∷◌, length, get_or, set, Contains, Option, Some, None, refl, sym, ap, ◌∙◌, subst, inl, inr, arith, eq-eqb, ne_eqb, All, AllPairs}
 use Rattle.std.specs.List.{cons_option}
 use Rattle.std.specs.Prelude.{◌↔◌}
 use Rattle.std.proofs.lemmas.Bool.{cases_eq, cond-true, cond-false}
 use Rattle.std.proofs.lemmas.List.{length-set, get_or-set_same, get_or-set_other}
 use Rattle.tx_types.specs.declared.record.Link.{Link}
-use Rattle.record_list.proofs.Names.{IsIn, in_from, contains_from, same_name}
+use Rattle.record_list.proofs.Names.{IsIn, in_from, contains_from, same_name, all_at, pairs_head, pairs_tail}
+use Rattle.record_list.proofs.Rounds.{cases_page}
 use Rattle.version_index.specs.Noted.{pinned_at, pinned_names}
 use Rattle.version_index.proofs.Given.{given}
 use Rattle.version_index.proofs.Pins.{numbered_pin}
+use Rattle.tx_engine.specs.Naming.{with_pins}
 
 -- a name is pinned
 pub record IsPin (pins : List ℕ) (name : Link) : Type 0 where
@@ -156,4 +158,60 @@ unpin_more before pins page_at place page is gone name = (
   (λ h.
       let old = (gone name).1 (h.0, λ k less. h.1 k (omega arith)) in
       pin_to (set pins page 0) name (unpinned_to pins page name (pin_of pins name old) (λ same. h.1 place (omega arith) (sym is ∙ sym same)))),
+)
+
+-- With names of distinct pages pinned too, each of them is pinned, and other pages as before.
+pub length_pins : (names : List Link) (pins : List ℕ) → length (with_pins pins names) ≡ length pins
+length_pins [] pins = refl
+length_pins (a ∷ rest) pins = length_pins rest (set pins a.page a.version) ∙ length-set pins a.page a.version
+
+pub other_pin : (names : List Link) (pins : List ℕ) (page : ℕ) → ((a : Link) → IsIn names a → a.page ≡ page → ⊥) → get_or (with_pins pins names) page 0 ≡ get_or pins page 0
+other_pin [] pins page none = refl
+other_pin (a ∷ rest) pins page none =
+    other_pin rest (set pins a.page a.version) page (λ b i. none b (inr i))
+    ∙ get_or-set_other pins a.page page a.version 0 (λ e. none a (inl refl) (sym e))
+
+pub own_pin : (names : List Link) (pins : List ℕ) → AllPairs (λ a b. a.page ≢ b.page) names → (a : Link) → IsIn names a → a.page < length pins →
+    get_or (with_pins pins names) a.page 0 ≡ a.version
+own_pin [] pins distinct a i within = absurd i
+own_pin (b ∷ rest) pins distinct a (inl same) within =
+    let first = pairs_head (λ (u : Link) (v : Link). u.page ≢ v.page) b rest in
+    other_pin rest (set pins b.page b.version) a.page (λ c j e. first c distinct j (ap (λ (u : Link). u.page) same ∙ sym e))
+    ∙ ap (λ (u : Link). get_or (set pins b.page b.version) u.page 0) (sym same)
+    ∙ get_or-set_same pins b.page b.version 0 (subst (λ k. k < length pins) (sym (ap (λ (u : Link). u.page) same)) within)
+    ∙ ap (λ (u : Link). u.version) same
+own_pin (b ∷ rest) pins distinct a (inr i) within =
+    own_pin rest (set pins b.page b.version) (pairs_tail (λ (u : Link) (v : Link). u.page ≢ v.page) b rest distinct) a i (omega (arith, within, length-set pins b.page b.version))
+
+-- the names that are pinned then
+pub pinned_then : (names : List Link) (pins : List ℕ) → AllPairs (λ a b. a.page ≢ b.page) names → All (λ a. (a.page < length pins) × (1 ≤ a.version)) names →
+    ((a b : Link) → Contains (pinned_names pins) a → IsIn names b → a.page ≢ b.page) →
+    (name : Link) → Contains (pinned_names (with_pins pins names)) name ↔ (Contains (pinned_names pins) name ⊎ IsIn names name)
+pinned_then names pins distinct range apart name = (
+  λ c. (let h = pin_of (with_pins pins names) name c in
+      elim (cases_page names name.page) [
+        | inl at ↦ (
+            let own = own_pin names pins distinct at.0 at.1 (all_at (λ (a : Link). (a.page < length pins) × (1 ≤ a.version)) names at.0 range at.1).0 in
+            let version : at.0.version ≡ name.version = sym own ∙ ap (λ k. get_or (with_pins pins names) k 0) at.2 ∙ h.version in
+            inr (subst (IsIn names) (same_name at.0 name at.2 version) at.1))
+        | inr none ↦ inl (pin_to pins name (record {
+          page = omega (arith, h.page, length_pins names pins);
+          version = sym (other_pin names pins name.page none) ∙ h.version;
+          some = h.some;
+        }))
+      ]),
+  λ either. elim either [
+    | inl c ↦ (let h = pin_of pins name c in
+        pin_to (with_pins pins names) name (record {
+          page = omega (arith, h.page, length_pins names pins);
+          version = other_pin names pins name.page (λ b i e. apart name b c i (sym e)) ∙ h.version;
+          some = h.some;
+        }))
+    | inr i ↦ (let range_at = all_at (λ (a : Link). (a.page < length pins) × (1 ≤ a.version)) names name range i in
+        pin_to (with_pins pins names) name (record {
+          page = omega (arith, range_at.0, length_pins names pins);
+          version = own_pin names pins distinct name i range_at.0;
+          some = λ zero. (let low = range_at.1 in omega (arith, zero));
+        }))
+  ],
 )

@@ -1,7 +1,6 @@
 -- A record that a transaction asks for is programmed in a free slot: what is left where the program is done, and where it is
 -- broken.
-use Rattle.std.proofs.Common.{◌≡◌, ◌≢◌, ℕ, ◌+◌, ◌*◌, ◌/◌, ◌%◌, ◌<◌, ◌≤◌, Bool, true, eq-eqb, List, length, set, Option, Some, None, refl, sym, ap, ◌∙◌, subst, inl, inr, arith}
-use Rattle.std.specs.Option.{option_map_or}
+use Rattle.std.proofs.Common.{◌≡◌, ◌≢◌, ℕ, ◌+◌, ◌*◌, ◌/◌, ◌%◌, ◌<◌, ◌≤◌, Bool, true, eq-eqb, List, length, set, None, refl, sym, ap, ◌∙◌, subst, inl, inr, arith}
 use Rattle.std.proofs.lemmas.List.{get_or-set_same, get_or-set_other}
 use Rattle.std.proofs.Math.Nat.{mod-add-div', div-eq_of_lt-le}
 use Rattle.tx_types.specs.Config.{shape_of, slots_of, blocks_of}
@@ -15,7 +14,6 @@ use Rattle.flash_model.specs.declared.outcome.Outcome.TheVariants as outcome
 use Rattle.flash_model.specs.Flash.{FlashState, Contents, IsImage, blank, damaged, complete, slot_at}
 use Rattle.flash_model.specs.Operations.{CanProgram, block_end, program, image_left}
 use Rattle.flash_model.proofs.ImageLemmas.{block_within}
-use Rattle.page_record.specs.Rules.{record_of}
 use Rattle.page_record.specs.Spelling.{CanBeSpelled, spelling}
 use Rattle.page_record.proofs.Spellings.{record_of-spelling}
 use Rattle.record_list.specs.declared.found.Found.{Found}
@@ -28,7 +26,6 @@ use Rattle.record_list.specs.Changes.{NothingMustGo}
 use Rattle.record_list.proofs.Names.{IsIn, all_at, all_from, contains_from, found_named, present_as, in_filter, from_filter}
 use Rattle.record_list.proofs.OneMore.{inserted_in, in_inserted, new_in}
 use Rattle.record_list.proofs.WrittenLists.{inserted_records}
-use Rattle.version_index.specs.declared.note.Note.TheVariants.{Blank, Damaged, Holds}
 use Rattle.version_index.specs.Images.{IsSoundImage, written_in, records_in}
 use Rattle.version_index.specs.ImageChanges.{image_with, AsksFor, BytesStay, BytesCome}
 use Rattle.version_index.specs.ImageLaws.{ImagePartialLaw, ImageCompletingLaw}
@@ -43,6 +40,7 @@ use Rattle.collector.specs.Matches.{Matches, CanTakeOwn, IsProgramming, SpellsRe
 use Rattle.collector.proofs.Calm.{same_records, image_can_lose}
 use Rattle.collector.proofs.OwnExits.{free_out}
 use Rattle.collector.proofs.Programming.{all, missing, are_there}
+use Rattle.collector.proofs.CopyExits.{blank_noted}
 
 -- the slots of a block after a free one are free
 later_free : (t : BlockTable) → IsBlockTable t → (at : ℕ) → IsFree t at → (k : ℕ) → at ≤ k → k < block_end t.shape at → IsFree t k
@@ -60,15 +58,6 @@ later_free t h at free k low high =
       unused = (let u = free.unused in subst (λ b. used_of t b ≤ k % per) (sym same) (omega (arith, u, rest)));
     }
 
-noted_blank : (p : Protocol) (contents : Contents) → note_of p contents ≡ Blank → contents ≡ blank
-noted_blank p blank e = refl
-noted_blank p damaged e = cc
-noted_blank p (complete bytes spare) e = never (record_of p spare) e
-  where
-    never : (o : Option Rec) → option_map_or Holds o Damaged ≡ Blank → complete bytes spare ≡ blank
-    never None h = cc
-    never (Some rec) h = cc
-
 -- a free slot may be programmed
 pub free_program : (s : FlashState) (n : Noted) (t : BlockTable) → Matches s n t unsure.Nothing → (at : ℕ) → IsFree t at → CanProgram s.shape s.image at
 free_program s n t m at free = record {
@@ -76,7 +65,7 @@ free_program s n t m at free = record {
   blank_on = λ k low high.
       let f = later_free t m.table at free k low (subst (λ (sh : Shape). k < block_end sh at) (sym m.blocks) high) in
       let within : k < slots_of s.shape = (let w = f.within in omega (arith, w, ap slots_of m.blocks)) in
-      noted_blank n.config.protocol (slot_at s.image k) (sym (m.sure k within refl) ∙ m.free k f);
+      blank_noted n.config.protocol (slot_at s.image k) (sym (m.sure k within refl) ∙ m.free k f);
 }
 
 module _ (s : FlashState) (n : Noted) (t : BlockTable) (m : Matches s n t unsure.Nothing) (at : Slot) (rec : Rec) (free : IsFree t at.0)
@@ -100,7 +89,7 @@ module _ (s : FlashState) (n : Noted) (t : BlockTable) (m : Matches s n t unsure
   within = (let w = free.within in omega (arith, w, ap slots_of m.blocks, m.flash.slots))
 
   blank_slot : slot_at s.image at.0 ≡ blank
-  blank_slot = noted_blank p (slot_at s.image at.0) (sym (m.sure at.0 (let w = free.within in omega (arith, w, ap slots_of m.blocks)) refl) ∙ m.free at.0 free)
+  blank_slot = blank_noted p (slot_at s.image at.0) (sym (m.sure at.0 (let w = free.within in omega (arith, w, ap slots_of m.blocks)) refl) ∙ m.free at.0 free)
 
   same : found_in n.notes ≡ old
   same = same_records s n t m

@@ -49,13 +49,7 @@ map_in f [] x i = absurd i
 map_in f (y ∷ ys) x (inl same) = inl (ap f same)
 map_in f (y ∷ ys) x (inr i) = inr (map_in f ys x i)
 
--- two lists of which each pair has something have one length
-pub zip_long : {A B : Type 0} (R : A → B → Type 0) (xs : List A) (ys : List B) → AllZip R xs ys → length xs ≡ length ys
-zip_long R [] [] all = refl
-zip_long R [] (y ∷ ys) all = absurd all
-zip_long R (x ∷ xs) [] all = absurd all
-zip_long R (x ∷ xs) (y ∷ ys) all = ap suc (zip_long R xs ys all.1)
-
+-- one pair more, of items of two types
 pub zip_push : {A B : Type 0} (R : A → B → Type 0) (xs : List A) (ys : List B) (x : A) (y : B) → AllZip R xs ys → R x y → AllZip R (xs ++ x ∷ []) (ys ++ y ∷ [])
 zip_push R [] [] x y all new = (new, tt)
 zip_push R [] (b ∷ bs) x y all new = absurd all

@@ -9,7 +9,7 @@ use Rattle.std.proofs.lemmas.List.Elements.{All-append, All-take, All-drop, All-
 use Rattle.std.proofs.lemmas.List.Quantifiers.{all_pairs_remove}
 use Rattle.std.proofs.lemmas.List.Sums.{sum-map, sum_by-append, sum_by-take-drop, sum_by-drop_more}
 use Rattle.tx_types.specs.declared.record.Link.{Link}
-use Rattle.flash_model.specs.Flash.{FlashState, Contents}
+use Rattle.flash_model.specs.Flash.{FlashState}
 use Rattle.record_list.specs.Transaction.{ShareNoPage}
 use Rattle.version_index.specs.Noted.{Noted, current_of, pinned_names, unpinned}
 use Rattle.die_alloc.specs.BlockTable.{BlockTable}
@@ -17,41 +17,23 @@ use Rattle.record_list.specs.Records.{name_of}
 use Rattle.record_list.proofs.Wanted.{wanted_cases, counted_wanted, pinned_wanted}
 use Rattle.version_index.specs.Notes.{found_in}
 use Rattle.collector.specs.declared.unsure.Unsure.TheVariants as unsure
-use Rattle.collector.specs.Known.{array_known}
 use Rattle.collector.specs.Matches.{Matches}
 use Rattle.tx_engine.specs.ArrayState.{Entry, pending_pages}
-use Rattle.tx_engine.specs.declared.mark.Mark.{Mark}
-use Rattle.tx_engine.specs.declared.mark.Mark.TheVariants.{Plain, Doubt, Whole}
 use Rattle.tx_engine.specs.Stored.{Stored}
 use Rattle.tx_engine.specs.Tables.{standing_in}
-use Rattle.tx_engine.specs.Standing.{Stands, Naming, IsAsMarked}
+use Rattle.tx_engine.specs.Standing.{Stands}
 use Rattle.tx_engine.specs.OpenTable.{OpenTable, Opening, no_opening, opening_at}
 use Rattle.tx_engine.proofs.Arrays.{as_many_names}
 use Rattle.tx_engine.proofs.Kept.{IsKept, IsOpening, IsCalm, map_map, from_stands, to_stands}
 use Rattle.tx_engine.proofs.SettledLists.{calm_at}
 use Rattle.tx_engine.proofs.NextNoted.{apart_at}
 use Rattle.tx_engine.proofs.PinnedNames.{IsPin, pin_of, pin_to}
+use Rattle.tx_engine.proofs.Submitted.{repinned, open_aside}
 
--- the tables with other pins
-abbrev pub with_pins : Noted → List ℕ → Noted
-with_pins n pins = record n { pins = pins }
-
-pub current_pins : (n : Noted) (pins : List ℕ) (page : ℕ) → current_of (with_pins n pins) page ≡ current_of n page
+-- the tables with other pins have the current versions that they had
+pub current_pins : (n : Noted) (pins : List ℕ) (page : ℕ) → current_of (repinned n pins) page ≡ current_of n page
 unfolding current_of
 current_pins n pins page = refl
-
-pub known_pins : (n : Noted) (pins : List ℕ) (image : List Contents) → array_known (with_pins n pins) image ≡ array_known n image
-unfolding array_known current_of
-known_pins n pins image = refl
-
-marked_pins : (image : List Contents) (n : Noted) (pins : List ℕ) (e : Entry) (x : Naming) (m : Mark) → IsAsMarked image n e x m → IsAsMarked image (with_pins n pins) e x m
-marked_pins image n pins e x Plain w = record { in_progress = w.in_progress; least = w.least; most = w.most; short = w.short; noted = w.noted; bytes = w.bytes }
-marked_pins image n pins e x Doubt w =
-    (record { in_progress = w.0.in_progress; least = w.0.least; most = w.0.most; short = w.0.short; noted = w.0.noted; bytes = w.0.bytes }, w.1)
-marked_pins image n pins e x Whole w = λ k d h. current_pins n pins (get_or x.names k d).page ∙ w k d h
-
-pub opening_pins : (image : List Contents) (n : Noted) (pins : List ℕ) (o : Opening) → IsOpening image n o → IsOpening image (with_pins n pins) o
-opening_pins image n pins o w = record { named = w.named; marked = marked_pins image n pins o.entry o.naming o.entry.mark w.marked }
 
 pub all_remove : {X : Type 0} (P : X → Type 0) (xs : List X) (i : ℕ) → All P xs → All P (remove xs i)
 all_remove P xs i h = All-append P (take i xs) (drop (suc i) xs) (All-take P i xs h) (All-drop P (suc i) xs h)
@@ -113,11 +95,11 @@ fewer_pages all i within =
 
 pub kept_without : (s : FlashState) (n : Noted) (t : BlockTable) (o : OpenTable) (i : ℕ) (pins : List ℕ) → IsKept s n t unsure.Nothing o → i < length o.all →
     ((name : Link) → IsPin pins name ↔ (IsPin n.pins name × All (λ (a : Link). a.page ≢ name.page) (opening_at o i).naming.names)) →
-    Matches s (with_pins n pins) t unsure.Nothing → IsKept s (with_pins n pins) t unsure.Nothing (record o { all = remove o.all i })
+    Matches s (repinned n pins) t unsure.Nothing → IsKept s (repinned n pins) t unsure.Nothing (record o { all = remove o.all i })
 kept_without s n t o i pins k within gone m' = record {
   matches = m';
-  each = all_remove (IsOpening s.image (with_pins n pins)) o.all i
-      (All-from_get_or (IsOpening s.image (with_pins n pins)) o.all no_opening (λ j inside. opening_pins s.image n pins (opening_at o j) (k.each j no_opening inside)));
+  each = all_remove (IsOpening s.image (repinned n pins)) o.all i
+      (All-from_get_or (IsOpening s.image (repinned n pins)) o.all no_opening (λ j inside. open_aside s.image n pins (opening_at o j).entry (opening_at o j).naming (k.each j no_opening inside)));
   doubt = All-map IsCalm (λ (x : Opening). x.entry) (remove o.all i)
       (all_remove (λ (x : Opening). IsCalm x.entry) o.all i (All-from_get_or (λ (x : Opening). IsCalm x.entry) o.all no_opening (calm_at o.all k.doubt)));
   tags = all_pairs_remove (λ a b. a.entry.tag ≢ b.entry.tag) o.all i within k.tags;
@@ -147,7 +129,7 @@ kept_without s n t o i pins k within gone m' = record {
 
 -- the tables match with fewer pins
 pub matches_pins : (s : FlashState) (n : Noted) (t : BlockTable) (pins : List ℕ) → Matches s n t unsure.Nothing → length pins ≡ length n.pins →
-    ((name : Link) → Contains (pinned_names pins) name → Contains (pinned_names n.pins) name) → Matches s (with_pins n pins) t unsure.Nothing
+    ((name : Link) → Contains (pinned_names pins) name → Contains (pinned_names n.pins) name) → Matches s (repinned n pins) t unsure.Nothing
 matches_pins s n t pins m long fewer = record {
   shape = m.shape;
   flash = m.flash;
@@ -214,4 +196,4 @@ module _ {F : Type 0} (state : F → FlashState) (S : Stored F) (O : OpenTable) 
       subst (λ (T : Stored F). Stands state (standing_in state T O')) (sym same)
       (subst (λ o. Stands state (standing_in state (record S { noted = record S.noted { pins = pins } }) o)) (sym opens)
       (to_stands state (record S { noted = record S.noted { pins = pins } }) (record O { all = remove O.all i })
-      (subst (λ u. IsKept (state S.flash) (with_pins S.noted pins) S.table u (record O { all = remove O.all i })) (sym sure) after)))
+      (subst (λ u. IsKept (state S.flash) (repinned S.noted pins) S.table u (record O { all = remove O.all i })) (sym sure) after)))

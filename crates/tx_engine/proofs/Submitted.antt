@@ -7,6 +7,7 @@ use Rattle.std.proofs.lemmas.List.Sums.{sum_by_push}
 use Rattle.std.proofs.lemmas.List.Elements.{All-push, All-contains, Contains-get_or, Contains-push}
 use Rattle.std.proofs.lemmas.List.Quantifiers.{all_pairs_push, Any-push}
 use Rattle.std.proofs.lemmas.Option.{slice_get-get_or}
+use Rattle.std.proofs.lemmas.Slice.Zip.{AllZip-long}
 use Rattle.tx_types.specs.Batch.{PageWrite}
 use Rattle.tx_types.specs.declared.config.Protocol.{Protocol}
 use Rattle.tx_types.specs.declared.record.Link.{Link}
@@ -31,10 +32,10 @@ use Rattle.tx_engine.specs.Standing.{Naming, Stands, DoubtsAs, IsOpenAs, IsNamed
 use Rattle.tx_engine.specs.Stored.{Stored, IsStored}
 use Rattle.tx_engine.specs.Tables.{IsStanding, standing_in}
 use Rattle.tx_engine.specs.declared.device.Device.TheInside.{Inside}
-use Rattle.tx_engine.proofs.PinNames.{pinned_then}
-use Rattle.tx_engine.proofs.Pushed.{got_before, got_push, any_before, any_push_cases, zip_weaker, zip_long, zip_push, in_map, map_in}
+use Rattle.tx_engine.proofs.Pushed.{got_before, got_push, any_before, any_push_cases, zip_weaker, zip_push, in_map, map_in}
 use Rattle.tx_engine.proofs.OpenOnes.{zip_at}
 use Rattle.tx_engine.proofs.Accepting.{IsAccepted}
+use Rattle.tx_engine.proofs.PinnedNames.{pinned_then}
 
 -- a name above all mentions of its page is absent
 pub above_mention : (l : List Found) (a : Link) → mention l a.page < a.version → is_present l a ≡ false
@@ -190,7 +191,7 @@ module _ {F : Type 0} (state : F → FlashState) (p : Protocol) (s : Stored F) (
 
   apart_at : (k : ℕ) (d : Naming) → k < length (namings_of t) → (a b : Link) → IsIn (get_or (namings_of t) k d).names a → IsIn names b → a.page ≢ b.page
   apart_at k d inside =
-      let long = zip_long (IsOpenAs image n) (entries_of t) (namings_of t) stands.each in
+      let long = AllZip-long (IsOpenAs image n) (entries_of t) (namings_of t) stands.each in
       let within : k < length (entries_of t) = omega arith in
       let e = get_or (entries_of t) k the_opening.entry in
       let o = zip_at (IsOpenAs image n) (entries_of t) (namings_of t) k e (get_or (namings_of t) k d) stands.each

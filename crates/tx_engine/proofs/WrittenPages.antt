@@ -4,14 +4,10 @@ use Rattle.std.specs.List.{range_with_len}
 use Rattle.std.proofs.lemmas.Bool.{cases_eq}
 use Rattle.std.proofs.lemmas.List.FromFn.{sum_by-map-range_with_len_more}
 use Rattle.tx_types.specs.declared.config.Protocol.{Protocol}
-use Rattle.tx_types.specs.declared.record.Link.{Link}
 use Rattle.flash_model.specs.Flash.{FlashState, Contents}
 use Rattle.record_list.specs.Current.{cur}
 use Rattle.record_list.specs.Records.{is_present}
-use Rattle.record_list.specs.Written.{Written, page_at, records_of, found_of, bytes_at}
-use Rattle.record_list.proofs.Names.{present_as}
-use Rattle.record_list.proofs.WrittenLists.{in_records}
-use Rattle.record_list.proofs.Arrays.{HasBytes, there, nowhere, has_bytes}
+use Rattle.record_list.specs.Written.{page_at, bytes_at}
 use Rattle.version_index.specs.Images.{array_in, written_in, records_in}
 use Rattle.version_index.specs.Notes.{found_in, notes_of}
 use Rattle.version_index.specs.Noted.{Noted, current_of, current_name_of}
@@ -21,6 +17,7 @@ use Rattle.die_alloc.specs.BlockTable.{BlockTable}
 use Rattle.collector.specs.declared.unsure.Unsure.{Unsure}
 use Rattle.collector.specs.Known.{known_image, page_known, array_known}
 use Rattle.collector.specs.Matches.{Matches}
+use Rattle.collector.proofs.Keeping.{has_bytes}
 use Rattle.tx_engine.proofs.Arrays.{at_page}
 use Rattle.tx_engine.proofs.OtherFlash.{known_at}
 
@@ -32,14 +29,6 @@ image_page : (p : Protocol) (logical : ℕ) (image : List Contents) (page : ℕ)
     get_or (array_in p logical image) page None ≡ page_at p (written_in p image) logical page
 unfolding array_in
 image_page p logical image page within = at_page (page_at p (written_in p image) logical) logical page None within
-
--- a name has bytes where it is present
-bytes_there : (l : List Written) (name : Link) → is_some (bytes_at l name) ≡ is_present (records_of l) name
-bytes_there l name = by (has_bytes l name)
-  where
-    by : HasBytes l name → is_some (bytes_at l name) ≡ is_present (records_of l) name
-    by (there w i named is) = ap is_some is ∙ sym (present_as (records_of l) (found_of w) name (in_records l w i) named)
-    by (nowhere is absent) = ap is_some is ∙ sym absent
 
 module _ (p : Protocol) (s : FlashState) (n : Noted) (t : BlockTable) (u : Unsure) (m : Matches s n t u) (rule : n.config.protocol ≡ p)
     (notes : notes_of p (known_image n t.spare u s.image) ≡ n.notes)
@@ -64,7 +53,7 @@ module _ (p : Protocol) (s : FlashState) (n : Noted) (t : BlockTable) (u : Unsur
 
   has_page : (page : ℕ) → page < n.config.logical → is_some (page_known n s.image page) ≡ is_present (found_in n.notes) (current_name_of n page)
   has_page page within =
-      ap is_some (page_is page within) ∙ bytes_there (written_in p known) (current_name_of n page)
+      ap is_some (page_is page within) ∙ has_bytes (written_in p known) (current_name_of n page)
       ∙ ap (λ l. is_present l (current_name_of n page)) same_records
 
   pub page_written : (page : ℕ) → page < n.config.logical → is_some (page_known n s.image page) ≡ has_version n page

@@ -1,5 +1,9 @@
 use Rattle.cut_replay.proofs.Atomic.{cut_whole_or_same, cut_whole, cut_others}
+use Rattle.cut_replay.proofs.Closed.{cut_closes}
 use Rattle.cut_replay.proofs.laws.cut_transactions.Goals as goal
+
+pub returns-clause-closed : goal.returns-clause-closed
+returns-clause-closed c = cut_closes
 
 pub returns-clause-none_open : goal.returns-clause-none_open
 returns-clause-none_open c = λ d old r new cut. cut.2.2
