@@ -65,7 +65,9 @@ impl MemDesk {
         }
     }
 
-    /// Puts a file there, in place of one of its name. This is no call of the desk.
+    /// Puts a file there, in place of one of its name. This is no call of the desk. It answers
+    /// `Memory` where there is no memory for a copy of the name and of the bytes; then nothing has
+    /// changed.
     pub fn put_file(&mut self, name: &str, bytes: &[u8]) -> Result<(), Memory>
         ensures ok { OnOk result (self.new ≡ after_put name.now bytes.now self.old) }
         ensures err { OnErr result (self.new ≡ self.old) }

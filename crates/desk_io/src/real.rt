@@ -157,6 +157,11 @@ impl<'a, R: Files + Print + AllocGlobal> Desk for RealDesk<'a, R> {
         loaded(read_file(self.rt, name), &mut self.faults)
     }
 
+    /// What is there and is no plain file that may be written is left to the system. Else the bytes
+    /// are written to a file NAME.saving beside it, which is then renamed. So each save fails while
+    /// a file stands at NAME.saving, which is left as it is; and so does each save of a name whose
+    /// file name has more than 248 bytes, since `.saving` makes it longer than the 255 bytes that a
+    /// file name may have.
     fn save(&mut self, name: &str, bytes: &[u8]) -> Result<(), SinkError> {
         let Ok(beside) = format!(in self.rt.alloc(); "{name}.saving") else {
             return Err(SinkError::Memory);

@@ -13,9 +13,8 @@ use Rattle.tx_types.specs.declared.config.Shape.{Shape}
 use Rattle.tx_types.specs.declared.memory.Memory.{Memory}
 use Rattle.tx_types.specs.Config.{slots_of}
 use Rattle.mem_flash.specs.Memory.{MemoryState, fresh}
-use Rattle.cut_replay.specs.Watching.{ToldReply}
-use Rattle.txflash.specs.Keeping.{reply_at, no_entry}
-use Rattle.txflash.specs.KeptEntries.{told_by}
+use Rattle.txflash.specs.Keeping.{KeptReply, reply_at, no_entry}
+use Rattle.txflash.specs.KeptEntries.{kept_by}
 use Rattle.txflash.specs.declared.kept.Entry.{Entry}
 use Rattle.mem_flash.specs.Slots.{AreFilled, IsFilled, cell_bytes, cell_of, contents_of, image_of}
 use Rattle.mem_flash.proofs.Chunks.{slice_chunk-suc}
@@ -92,12 +91,12 @@ copy_is n shape image seen cells (Err m) e g k whole h = h
 
 -- ---- the entries that are kept
 
-entry_told : (items : List Entry) (i : ℕ) (e : Entry) → i < length items → e ≡ get_or items i e → reply_at (map told_by items) i ≡ told_by e
-entry_told items i e within is = get_or-map told_by items i e no_entry within ∙ ap told_by (sym is)
+entry_kept : (items : List Entry) (i : ℕ) (e : Entry) → i < length items → e ≡ get_or items i e → reply_at (map kept_by items) i ≡ kept_by e
+entry_kept items i e within is = get_or-map kept_by items i e no_entry within ∙ ap kept_by (sym is)
 
 -- a moment has the slots of the flash that is kept
-pub slots_kept : (items : List Entry) (now : List ToldReply) (i : ℕ) (e : Entry) → map told_by items ≡ now → i < length now →
-    e ≡ get_or items i e → length e.flash.image ≡ slots_of e.flash.shape → length (reply_at now i).moment.image ≡ slots_of e.flash.shape
+pub slots_kept : (items : List Entry) (now : List KeptReply) (i : ℕ) (e : Entry) → map kept_by items ≡ now → i < length now →
+    e ≡ get_or items i e → length e.flash.image ≡ slots_of e.flash.shape → length (reply_at now i).told.moment.image ≡ slots_of e.flash.shape
 slots_kept items now i e view within is slots =
-    let short : i < length items = let same = ap length view in omega (arith, length-map items told_by) in
-    rw (← view, entry_told items i e short is) slots
+    let short : i < length items = let same = ap length view in omega (arith, length-map items kept_by) in
+    rw (← view, entry_kept items i e short is) slots

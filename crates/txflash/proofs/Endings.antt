@@ -5,33 +5,33 @@ use Rattle.desk_io.specs.Desk.{DeskContents, DeskState, Files, Rose, Says, as_be
 use Rattle.desk_io.specs.declared.desk.SinkError.{SinkError}
 use Rattle.desk_io.specs.declared.desk.SinkError.TheVariants as sink
 use Rattle.txflash.specs.Fate.{Fate, status, refusal_line}
-use Rattle.txflash.specs.Gives.{Product, SavedFile, Gives}
+use Rattle.txflash.specs.Gives.{Given, SavedFile, Gives}
 use Rattle.txflash.specs.Steps.{IsFate}
 use Rattle.txflash.specs.Stops.{Comes, Delivers, MemoryTold, Speaks, refused}
-use Rattle.txflash.specs.Top.{Decision, EndsCall, Decided, Faulted, Starved, IsExact, IsFaulted, Leaves, LeavesFiles, CallFails, FileFails, RunsOut, TellsFate, after_loads, after_save, after_text, files_in, loaded, saved}
+use Rattle.txflash.specs.Top.{Decision, EndsCall, Decided, Faulted, Starved, IsExact, IsFaulted, Leaves, LeavesFiles, CallFails, FileFails, RunsOut, TellsFate, after_loads, after_save, after_text, files_in, after_loading, after_saving}
 use Rattle.txflash.specs.Words.{Asked, file_of}
 use Rattle.txflash.specs.declared.refusal.Refusal.{Refusal}
 use Rattle.txflash.specs.declared.refusal.Refusal.TheVariants as refusal
 use Rattle.txflash.proofs.OneFate.{one_fate}
-use Rattle.txflash.proofs.Saving.{fate_within, gives_saves, never_five, refusal_saves, saver}
+use Rattle.txflash.proofs.Saving.{fate_saves, gives_saves, never_five, refusal_saves, saver}
 
 -- ---- the end after a fate
 
 -- after a fate, what it gives is saved and said
-pub ends_delivered : (task : Option Asked) (old mid new : DeskState) (fate : Fate) (product : Product) (wanted answer : ℕ) →
-    Comes task old mid fate → Gives fate product → wanted ≡ status fate → Delivers mid new product wanted answer → EndsCall task old new answer
-ends_delivered task old mid new fate product wanted answer (loads, is, at) gives same delivers =
-    ending (subst (λ desk. Delivers desk new product wanted answer) at delivers)
+pub ends_delivered : (task : Option Asked) (old mid new : DeskState) (fate : Fate) (given : Given) (wanted answer : ℕ) →
+    Comes task old mid fate → Gives fate given → wanted ≡ status fate → Delivers mid new given wanted answer → EndsCall task old new answer
+ends_delivered task old mid new fate given wanted answer (loads, is, at) gives same delivers =
+    ending (subst (λ desk. Delivers desk new given wanted answer) at delivers)
   where
     it : Decision task old
-    it = record { fate = fate; loads = loads; product = product; is_fate = is; gives = gives }
+    it = record { fate = fate; loads = loads; given = given; is_fate = is; gives = gives }
 
-    ending : Delivers (loaded old it) new product wanted answer → EndsCall task old new answer
+    ending : Delivers (after_loading old it) new given wanted answer → EndsCall task old new answer
     ending (inl (inl (said, after))) = Decided it (said ∙ same) after
     ending (inl (inr (inl (mid, says, told)))) = Faulted told.0 (mid, inr (inr (it, says)), told.1)
-    ending (inl (inr (inr told))) = Starved told.0 (saved old it, inr (it, refl), told.1)
+    ending (inl (inr (inr told))) = Starved told.0 (after_saving old it, inr (it, inr refl), told.1)
     ending (inr (inl (mid, fails, told))) = Faulted told.0 (mid, inr (inl (it, fails)), told.1)
-    ending (inr (inr told)) = Starved told.0 (loaded old it, inl (loads, (fate_within task old fate loads is).0, refl), told.1)
+    ending (inr (inr told)) = Starved told.0 (after_loading old it, inr (it, inl refl), told.1)
 
 -- ---- status 5 comes only where the count of faults rose
 
@@ -48,11 +48,11 @@ faults_file None old new fails = absurd fails
 faults_file (Some file) old new fails = ap (λ (d : DeskState). d.faults) fails.1
 
 faults_call : (task : Option Asked) (old new : DeskState) → CallFails task old new → new.faults ≡ counted old.faults
-faults_call task old new (inl (n, less, after)) = ap (λ (d : DeskState). d.faults) after ∙ ap counted (faults_loads n old)
+faults_call task old new (inl (n, less, came, after)) = ap (λ (d : DeskState). d.faults) after ∙ ap counted (faults_loads n old)
 faults_call task old new (inr (inl (it, fails))) =
-    faults_file it.product.saved (loaded old it) new fails ∙ ap counted (faults_loads it.loads old)
+    faults_file it.given.saved (after_loading old it) new fails ∙ ap counted (faults_loads it.loads old)
 faults_call task old new (inr (inr (it, fails))) =
-    ap (λ (d : DeskState). d.faults) fails.1 ∙ ap counted (faults_save it.product.saved (loaded old it) ∙ faults_loads it.loads old)
+    ap (λ (d : DeskState). d.faults) fails.1 ∙ ap counted (faults_save it.given.saved (after_loading old it) ∙ faults_loads it.loads old)
 
 faults_tried : (n : ℕ) (mid new : DeskState) (text : List ℕ) (result : Result (Unit {0}) SinkError) → mid.faults ≡ counted n →
     Says mid new text result → Rose n new.faults
@@ -123,75 +123,77 @@ leaves_also (Some name) old mid new (inl h) e = inl (e ∙ h)
 leaves_also (Some name) old mid new (inr (left, h)) e = inr (left, e ∙ h)
 
 -- the file that a fate gives is that of its task
-saves_its : (task : Option Asked) (old : DeskState) (it : Decision task old) (file : SavedFile) → it.product.saved ≡ Some file →
+saves_its : (task : Option Asked) (old : DeskState) (it : Decision task old) (file : SavedFile) → it.given.saved ≡ Some file →
     file_of task ≡ Some file.name
 saves_its task old it file e =
-    let named : Some file.name ≡ saver it.fate = sym (ap (option_map (λ f. f.name)) e) ∙ gives_saves it.fate it.product it.gives in
-    elim (fate_within task old it.fate it.loads it.is_fate).1 [
+    let named : Some file.name ≡ saver it.fate = sym (ap (option_map (λ f. f.name)) e) ∙ gives_saves it.fate it.given it.gives in
+    elim (fate_saves task old it.fate it.loads it.is_fate) [
       | inl none ↦ absurd (cc)
       | inr some ↦ sym (named ∙ some)
     ]
 
 -- so is the one that is changed
 leaves_file : (task : Option Asked) (old new : DeskState) (it : Decision task old) (file : SavedFile) (left : Option (List ℕ)) →
-    it.product.saved ≡ Some file → files_in new ≡ option_map (λ files. files_with files file.name left) (files_in (loaded old it)) →
+    it.given.saved ≡ Some file → files_in new ≡ option_map (λ files. files_with files file.name left) (files_in (after_loading old it)) →
     Leaves (file_of task) (files_in old) (files_in new)
 leaves_file task old new it file left e changed =
     rw (saves_its task old it file e) (inr (left, changed ∙ ap (option_map (λ files. files_with files file.name left)) (files_loads it.loads old)))
 
-leaves_saved : (task : Option Asked) (old : DeskState) (it : Decision task old) → Leaves (file_of task) (files_in old) (files_in (saved old it))
-leaves_saved task old it = by_file it.product.saved refl
+leaves_saved : (task : Option Asked) (old : DeskState) (it : Decision task old) → Leaves (file_of task) (files_in old) (files_in (after_saving old it))
+leaves_saved task old it = by_file it.given.saved refl
   where
-    by_file : (file : Option SavedFile) → it.product.saved ≡ file → Leaves (file_of task) (files_in old) (files_in (after_save file (loaded old it)))
-    by_file None e = leaves_same (file_of task) (files_in old) (files_in (loaded old it)) (files_loads it.loads old)
+    by_file : (file : Option SavedFile) → it.given.saved ≡ file → Leaves (file_of task) (files_in old) (files_in (after_save file (after_loading old it)))
+    by_file None e = leaves_same (file_of task) (files_in old) (files_in (after_loading old it)) (files_loads it.loads old)
     by_file (Some file) e =
-        leaves_file task old (after_save (Some file) (loaded old it)) it file (Some file.bytes) e (other_files file.name (Some file.bytes) (loaded old it).told)
+        leaves_file task old (after_save (Some file) (after_loading old it)) it file (Some file.bytes) e (other_files file.name (Some file.bytes) (after_loading old it).told)
 
-leaves_failed : (task : Option Asked) (old new : DeskState) (it : Decision task old) → FileFails it.product.saved (loaded old it) new →
+leaves_failed : (task : Option Asked) (old new : DeskState) (it : Decision task old) → FileFails it.given.saved (after_loading old it) new →
     Leaves (file_of task) (files_in old) (files_in new)
-leaves_failed task old new it fails = by_file it.product.saved refl fails
+leaves_failed task old new it fails = by_file it.given.saved refl fails
   where
-    by_file : (file : Option SavedFile) → it.product.saved ≡ file → FileFails file (loaded old it) new → Leaves (file_of task) (files_in old) (files_in new)
+    by_file : (file : Option SavedFile) → it.given.saved ≡ file → FileFails file (after_loading old it) new → Leaves (file_of task) (files_in old) (files_in new)
     by_file None e fails = absurd fails
     by_file (Some file) e fails =
-        leaves_file task old new it file fails.0 e (ap files_in fails.1 ∙ other_files file.name fails.0 (loaded old it).told)
+        leaves_file task old new it file fails.0 e (ap files_in fails.1 ∙ other_files file.name fails.0 (after_loading old it).told)
 
 leaves_call : (task : Option Asked) (old new : DeskState) → CallFails task old new → Leaves (file_of task) (files_in old) (files_in new)
-leaves_call task old new (inl (n, less, after)) =
+leaves_call task old new (inl (n, less, came, after)) =
     leaves_same (file_of task) (files_in old) (files_in new)
     (ap files_in after ∙ same_files as_before (after_loads n old).told (λ c. refl) ∙ files_loads n old)
 leaves_call task old new (inr (inl (it, fails))) = leaves_failed task old new it fails
 leaves_call task old new (inr (inr (it, fails))) =
-    leaves_also (file_of task) (files_in old) (files_in (saved old it)) (files_in new) (leaves_saved task old it)
-    (files_said (saved old it) new it.product.text (Err sink.Failed) fails)
+    leaves_also (file_of task) (files_in old) (files_in (after_saving old it)) (files_in new) (leaves_saved task old it)
+    (files_said (after_saving old it) new it.given.text (Err sink.Failed) fails)
 
 leaves_out : (task : Option Asked) (old new : DeskState) → RunsOut task old new → Leaves (file_of task) (files_in old) (files_in new)
-leaves_out task old new (inl (n, most, after)) =
+leaves_out task old new (inl (n, most, came, after)) =
     leaves_same (file_of task) (files_in old) (files_in new) (ap files_in after ∙ files_loads n old)
-leaves_out task old new (inr (it, after)) =
-    leaves_also (file_of task) (files_in old) (files_in (saved old it)) (files_in new) (leaves_saved task old it) (ap files_in after)
+leaves_out task old new (inr (it, inl after)) =
+    leaves_same (file_of task) (files_in old) (files_in new) (ap files_in after ∙ files_loads it.loads old)
+leaves_out task old new (inr (it, inr after)) =
+    leaves_also (file_of task) (files_in old) (files_in (after_saving old it)) (files_in new) (leaves_saved task old it) (ap files_in after)
 
 others : (task : Option Asked) (old new : DeskState) (answer : ℕ) → EndsCall task old new answer → Leaves (file_of task) (files_in old) (files_in new)
 others task old new answer (Decided it same said) =
-    leaves_also (file_of task) (files_in old) (files_in (saved old it)) (files_in new) (leaves_saved task old it)
-    (ap files_in said ∙ files_text it.product.text (saved old it))
+    leaves_also (file_of task) (files_in old) (files_in (after_saving old it)) (files_in new) (leaves_saved task old it)
+    (ap files_in said ∙ files_text it.given.text (after_saving old it))
 others task old new answer (Faulted five (mid, fails, (result, says))) =
     leaves_also (file_of task) (files_in old) (files_in mid) (files_in new) (leaves_call task old mid fails) (files_said mid new _ result says)
 others task old new answer (Starved six (mid, out, (result, says))) =
     leaves_also (file_of task) (files_in old) (files_in mid) (files_in new) (leaves_out task old mid out) (files_said mid new _ result says)
 
 -- a refusal saves nothing
-unsaved : (task : Option Asked) (old : DeskState) (it : Decision task old) → (status it.fate ≡ 0 → ⊥) → files_in (saved old it) ≡ files_in old
-unsaved task old it refused = by_file it.product.saved (gives_saves it.fate it.product it.gives ∙ refusal_saves it.fate refused)
+unsaved : (task : Option Asked) (old : DeskState) (it : Decision task old) → (status it.fate ≡ 0 → ⊥) → files_in (after_saving old it) ≡ files_in old
+unsaved task old it refused = by_file it.given.saved (gives_saves it.fate it.given it.gives ∙ refusal_saves it.fate refused)
   where
-    by_file : (file : Option SavedFile) → option_map (λ f. f.name) file ≡ None → files_in (after_save file (loaded old it)) ≡ files_in old
+    by_file : (file : Option SavedFile) → option_map (λ f. f.name) file ≡ None → files_in (after_save file (after_loading old it)) ≡ files_in old
     by_file None e = files_loads it.loads old
     by_file (Some file) e = absurd (cc)
 
 refusals : (task : Option Asked) (old new : DeskState) (answer : ℕ) → EndsCall task old new answer →
     (answer ≡ 0 → ⊥) → (answer ≡ 5 → ⊥) → (answer ≡ 6 → ⊥) → files_in new ≡ files_in old
 refusals task old new answer (Decided it same said) done five six =
-    ap files_in said ∙ files_text it.product.text (saved old it) ∙ unsaved task old it (λ e. done (same ∙ e))
+    ap files_in said ∙ files_text it.given.text (after_saving old it) ∙ unsaved task old it (λ e. done (same ∙ e))
 refusals task old new answer (Faulted is faults) done five six = absurd (five is)
 refusals task old new answer (Starved is starves) done five six = absurd (six is)
 

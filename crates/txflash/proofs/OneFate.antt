@@ -1,5 +1,5 @@
 -- A task has one fate.
-use Rattle.std.proofs.Common.{◌≡◌, inl, inr, ℕ, List, Option, None, Some, Result, Ok, Err, refl, sym, ap, subst, ◌∙◌, arith}
+use Rattle.std.proofs.Common.{◌≡◌, inl, inr, ℕ, List, Option, None, Some, Result, Ok, Err, refl, sym, ap, subst, ◌∙◌}
 use Rattle.std.specs.Prelude.{IfSome, IsSome}
 use Rattle.tx_types.specs.declared.config.Config.{Config}
 use Rattle.tx_types.specs.Config.{shape_of}
@@ -94,13 +94,13 @@ pub one_fate : (task : Option Asked) (desk : DeskState) (a b : Fate) (m n : ℕ)
 one_fate None desk a b m n tells h k = h.0 ∙ sym k.0
 one_fate (Some (Format image its)) desk a b m n tells h k = h.0 ∙ sym k.0
 one_fate (Some (Drive start count protocol)) desk a b m n tells h k = h.0 ∙ sym k.0
-one_fate (Some (Try commands)) desk a b m n (inl none) h k = absurd (omega arith)
+one_fate (Some (Try commands)) desk a b m n (inl none) h k = absurd (cc)
 one_fate (Some (Try commands)) desk a b m n (inr tells) h k =
     one_loading desk commands _ tells (λ lines a b m n h k. one_try lines a b h.0 k.0) a b m n h k
-one_fate (Some (Explain image)) desk a b m n (inl none) h k = absurd (omega arith)
+one_fate (Some (Explain image)) desk a b m n (inl none) h k = absurd (cc)
 one_fate (Some (Explain image)) desk a b m n (inr tells) h k =
     one_loading desk image _ tells (λ bytes a b m n h k. one_explanation bytes a b h.0 k.0) a b m n h k
-one_fate (Some (Run image commands)) desk a b m n (inl none) h k = absurd (omega arith)
+one_fate (Some (Run image commands)) desk a b m n (inl none) h k = absurd (cc)
 one_fate (Some (Run image commands)) desk a b m n (inr tells) h k =
     one_loading desk image _ tells
     (λ bytes. one_loading desk commands _ tells (λ lines a b m n h k. one_run image bytes lines a b h.0 k.0)) a b m n h k

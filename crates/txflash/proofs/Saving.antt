@@ -1,5 +1,5 @@
--- How many files the fate of a task comes after, and which file it saves.
-use Rattle.std.proofs.Common.{◌≡◌, ◌⊎◌, inl, inr, ℕ, ◌+◌, ◌≤◌, List, Option, None, Some, Result, Ok, Err, refl, ap, arith}
+-- Which file the fate of a task saves.
+use Rattle.std.proofs.Common.{◌≡◌, ◌⊎◌, inl, inr, ℕ, List, Option, None, Some, Result, Ok, Err, refl, ap, arith}
 use Rattle.std.specs.Option.{option_map}
 use Rattle.tx_types.specs.declared.config.Config.{Config}
 use Rattle.tx_types.specs.declared.config.ConfigError.{ConfigError}
@@ -12,9 +12,9 @@ use Rattle.image_file.specs.declared.error.ImageError.{ImageError}
 use Rattle.desk_io.specs.Desk as found
 use Rattle.desk_io.specs.Desk.{DeskState, FileFound}
 use Rattle.txflash.specs.Fate.{Fate, Tried, Formatted, Ran, Explained, Driven, BadWords, Missing, TooLong, BadImage, BadLine, Unsound, BadConfiguration, status}
-use Rattle.txflash.specs.Gives.{Product, Gives}
+use Rattle.txflash.specs.Gives.{Given, Gives}
 use Rattle.txflash.specs.Steps.{AfterLoad, AfterOpening, AfterParsing, AfterReading, Explaining, IsFate, Loading, OpensAndServes, Parsing, Reading, Running, Trying, formatting}
-use Rattle.txflash.specs.Words.{Asked, Try, Format, Run, Explain, Drive, file_of, files_of}
+use Rattle.txflash.specs.Words.{Asked, Try, Format, Run, Explain, Drive, file_of}
 
 -- the file that a fate saves
 abbrev pub saver : Fate → Option (List ℕ)
@@ -22,7 +22,7 @@ saver (Formatted name its) = Some name
 saver (Ran name its image commands) = Some name
 saver _ = None
 
-pub gives_saves : (fate : Fate) (p : Product) → Gives fate p → option_map (λ file. file.name) p.saved ≡ saver fate
+pub gives_saves : (fate : Fate) (p : Given) → Gives fate p → option_map (λ file. file.name) p.saved ≡ saver fate
 gives_saves (Tried commands) p h = ap (option_map (λ file. file.name)) h.saves_nothing
 gives_saves (Formatted name its) p h = ap (option_map (λ file. file.name)) h.saves
 gives_saves (Ran name its image commands) p h = ap (option_map (λ file. file.name)) h.saves
@@ -68,15 +68,15 @@ never_five (BadConfiguration rule) e = absurd (omega arith)
 
 -- ---- what holds of each fate to which a step may lead
 
-loading_all : (P : Fate → ℕ → Type 0) (desk : DeskState) (name : List ℕ) (next : List ℕ → Fate → ℕ → Type 0) →
-    P (Missing name) 1 → P (TooLong name) 1 → ((bytes : List ℕ) (fate : Fate) (more : ℕ) → next bytes fate more → P fate (more + 1)) →
-    (fate : Fate) (loads : ℕ) → Loading desk name next fate loads → P fate loads
+loading_all : (P : Fate → Type 0) (desk : DeskState) (name : List ℕ) (next : List ℕ → Fate → ℕ → Type 0) →
+    P (Missing name) → P (TooLong name) → ((bytes : List ℕ) (fate : Fate) (more : ℕ) → next bytes fate more → P fate) →
+    (fate : Fate) (loads : ℕ) → Loading desk name next fate loads → P fate
 loading_all P desk name next missing long leads fate loads (there, finds, h) = after there h
   where
-    after : (there : FileFound) → AfterLoad name next there fate loads → P fate loads
-    after found.Missing h = rw (h.0, h.1) missing
-    after found.TooLong h = rw (h.0, h.1) long
-    after (found.Bytes bytes) h = rw h.2 (leads bytes fate h.0 h.1)
+    after : (there : FileFound) → AfterLoad name next there fate loads → P fate
+    after found.Missing h = rw h.0 missing
+    after found.TooLong h = rw h.0 long
+    after (found.Bytes bytes) h = leads bytes fate h.0 h.1
 
 reading_all : (P : Fate → Type 0) (bytes : List ℕ) (next : Config → List Contents → Fate → Type 0) →
     ((rule : ImageError) → P (BadImage rule)) → ((its : Config) (image : List Contents) (fate : Fate) → next its image fate → P fate) →
@@ -128,19 +128,16 @@ format_saves : (name : List ℕ) (its : Config) (check : Result Shape ConfigErro
 format_saves name its (Ok shape) = inr refl
 format_saves name its (Err rule) = inl refl
 
--- it comes after no more loads than the task names files, and saves no other file than that of the task
-pub fate_within : (task : Option Asked) (desk : DeskState) (fate : Fate) (loads : ℕ) → IsFate task desk fate loads →
-    (loads ≤ files_of task) × SavesAtMost (file_of task) fate
-fate_within None desk fate loads h = (omega (arith, h.1), rw h.0 (inl refl))
-fate_within (Some (Format image its)) desk fate loads h = (omega (arith, h.1), rw h.0 (format_saves image its (checked its)))
-fate_within (Some (Drive start count protocol)) desk fate loads h = (omega (arith, h.1), rw h.0 (inl refl))
-fate_within (Some (Try commands)) desk fate loads h =
-    loading_all (λ fate loads. (loads ≤ 1) × SavesAtMost None fate) desk commands _ (omega arith, inl refl) (omega arith, inl refl)
-    (λ lines fate more h. (omega (arith, h.1), try_saves lines fate h.0)) fate loads h
-fate_within (Some (Explain image)) desk fate loads h =
-    loading_all (λ fate loads. (loads ≤ 1) × SavesAtMost None fate) desk image _ (omega arith, inl refl) (omega arith, inl refl)
-    (λ bytes fate more h. (omega (arith, h.1), explanation_saves bytes fate h.0)) fate loads h
-fate_within (Some (Run image commands)) desk fate loads h =
-    loading_all (λ fate loads. (loads ≤ 2) × SavesAtMost (Some image) fate) desk image _ (omega arith, inl refl) (omega arith, inl refl)
-    (λ bytes. loading_all (λ fate loads. (loads + 1 ≤ 2) × SavesAtMost (Some image) fate) desk commands _ (omega arith, inl refl) (omega arith, inl refl)
-    (λ lines fate more h. (omega (arith, h.1), run_saves image bytes lines fate h.0))) fate loads h
+-- it saves no other file than that of the task
+pub fate_saves : (task : Option Asked) (desk : DeskState) (fate : Fate) (loads : ℕ) → IsFate task desk fate loads → SavesAtMost (file_of task) fate
+fate_saves None desk fate loads h = rw h.0 (inl refl)
+fate_saves (Some (Format image its)) desk fate loads h = rw h.0 (format_saves image its (checked its))
+fate_saves (Some (Drive start count protocol)) desk fate loads h = rw h.0 (inl refl)
+fate_saves (Some (Try commands)) desk fate loads h =
+    loading_all (SavesAtMost None) desk commands _ (inl refl) (inl refl) (λ lines fate more h. try_saves lines fate h.0) fate loads h
+fate_saves (Some (Explain image)) desk fate loads h =
+    loading_all (SavesAtMost None) desk image _ (inl refl) (inl refl) (λ bytes fate more h. explanation_saves bytes fate h.0) fate loads h
+fate_saves (Some (Run image commands)) desk fate loads h =
+    loading_all (SavesAtMost (Some image)) desk image _ (inl refl) (inl refl)
+    (λ bytes. loading_all (SavesAtMost (Some image)) desk commands _ (inl refl) (inl refl)
+    (λ lines fate more h. run_saves image bytes lines fate h.0)) fate loads h

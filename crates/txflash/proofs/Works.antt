@@ -1,18 +1,19 @@
 -- How the work of a task ends, from its parts.
-use Rattle.std.proofs.Common.{◌≡◌, inl, inr, ℕ, suc, ◌<◌, ◌≤◌, List, Option, None, Some, Result, Ok, Err, ap, ◌∙◌, arith}
-use Rattle.std.specs.Prelude.{IfSome}
+use Rattle.std.proofs.Common.{◌≡◌, inl, inr, ℕ, suc, ◌<◌, ◌≤◌, List, [], ◌∷◌, length, Option, None, Some, Result, Ok, Err, ap, ◌∙◌, arith}
+use Rattle.std.specs.Prelude.{All, IfSome}
 use Rattle.std.specs.Option.{option_map}
 use Rattle.std.specs.Result.{IsErrAnd}
+use Rattle.std.proofs.lemmas.List.Elements.{All-cons, All-nil}
 use Rattle.desk_io.specs.Desk as found
 use Rattle.desk_io.specs.Desk.{DeskContents, DeskState, FileFound, Finds, IsShort, after_answer, as_before, called, file_at, file_found}
 use Rattle.txflash.specs.Fate.{Fate, Missing, TooLong}
 use Rattle.txflash.specs.Steps.{IsFate}
 use Rattle.txflash.specs.Stops.{Fetches, StopsBy, Works, WorksTo, refused}
-use Rattle.txflash.specs.Top.{after_loads}
+use Rattle.txflash.specs.Top.{CameThrough, FindsBytes, after_loads}
 use Rattle.txflash.specs.Words.{Asked, files_of}
-use Rattle.txflash.specs.declared.outcome.Outcome.{Outcome}
-use Rattle.txflash.specs.declared.outcome.Stop.{Stop}
-use Rattle.txflash.specs.declared.outcome.Stop.TheVariants as stop
+use Rattle.txflash.specs.declared.product.Product.{Product}
+use Rattle.txflash.specs.declared.product.Stop.{Stop}
+use Rattle.txflash.specs.declared.product.Stop.TheVariants as stop
 
 -- a step that is refused in one way is refused in another
 pub stops_by : (P Q : Fate → Type 0) → ((fate : Fate) → P fate → Q fate) → (stopped : Stop) → StopsBy P stopped → StopsBy Q stopped
@@ -21,43 +22,43 @@ stops_by P Q leads stop.Fault h = h
 stops_by P Q leads stop.Memory h = h
 
 -- the work stops where a step does
-pub stopped : (P Q : Fate → Type 0) (result : Result Outcome Stop) (e : Stop) → IsErrAnd result (λ x. x ≡ e) →
+pub stopped : (P Q : Fate → Type 0) (result : Result Product Stop) (e : Stop) → IsErrAnd result (λ x. x ≡ e) →
     ((fate : Fate) → P fate → Q fate) → StopsBy P e → WorksTo Q result
-stopped P Q (Ok outcome) e same leads h = absurd same
+stopped P Q (Ok product) e same leads h = absurd same
 stopped P Q (Err x) e same leads h = stops_by P Q leads x (rw same h)
 
 -- after its loads, the work of a task comes to what its last part comes to
-pub works : (task : Option Asked) (old new : DeskState) (n : ℕ) (comes : Fate → Type 0) (result : Result Outcome Stop) →
-    new ≡ after_loads n old → n ≤ files_of task → ((fate : Fate) → comes fate → IsFate task old fate n) →
-    WorksTo comes result → Works task old new result
-works task old new n comes (Ok outcome) loaded most leads h = (h.0, (n, leads h.0 h.1, loaded), h.2, h.3)
-works task old new n comes (Err (stop.Refused refusal)) loaded most leads h = (n, leads (refused refusal) h, loaded)
-works task old new n comes (Err stop.Fault) loaded most leads h = absurd h
-works task old new n comes (Err stop.Memory) loaded most leads h = (n, most, loaded)
+pub works : (task : Option Asked) (old new : DeskState) (n : ℕ) (comes : Fate → Type 0) (result : Result Product Stop) →
+    new ≡ after_loads n old → n ≤ length (files_of task) → CameThrough task old n →
+    ((fate : Fate) → comes fate → IsFate task old fate n) → WorksTo comes result → Works task old new result
+works task old new n comes (Ok product) loaded most came leads h = (h.0, (n, leads h.0 h.1, loaded), h.2, h.3)
+works task old new n comes (Err (stop.Refused refusal)) loaded most came leads h = (n, leads (refused refusal) h, loaded)
+works task old new n comes (Err stop.Fault) loaded most came leads h = absurd h
+works task old new n comes (Err stop.Memory) loaded most came leads h = (n, most, came, loaded)
 
 -- the work of a task ends where a load gives no bytes
 unfetched_by : (task : Option Asked) (old mid new : DeskState) (n : ℕ) (name : List ℕ) (stopped : Stop) →
-    mid ≡ after_loads n old → n < files_of task →
+    mid ≡ after_loads n old → n < length (files_of task) → CameThrough task old n →
     (Finds mid name found.Missing → IsFate task old (Missing name) (suc n)) →
     (Finds mid name found.TooLong → IsFate task old (TooLong name) (suc n)) →
     Fetches mid new name (Err stopped) → Works task old new (Err stopped)
-unfetched_by task old mid new n name (stop.Refused refusal) loaded most missing long h =
+unfetched_by task old mid new n name (stop.Refused refusal) loaded most came missing long h =
     let after : new ≡ after_loads (suc n) old = h.0 ∙ ap (after_answer as_before) loaded in
     elim h.1 [
       | inl none ↦ (suc n, rw none.1 (missing none.0), after)
       | inr much ↦ (suc n, rw much.1 (long much.0), after)
     ]
-unfetched_by task old mid new n name stop.Fault loaded most missing long h = (n, most, rw (← loaded) h)
-unfetched_by task old mid new n name stop.Memory loaded most missing long h = (n, omega arith, h ∙ loaded)
+unfetched_by task old mid new n name stop.Fault loaded most came missing long h = (n, most, came, rw (← loaded) h)
+unfetched_by task old mid new n name stop.Memory loaded most came missing long h = (n, omega arith, came, h ∙ loaded)
 
-pub unfetched : (task : Option Asked) (old mid new : DeskState) (n : ℕ) (name : List ℕ) (stopped : Stop) (result : Result Outcome Stop) →
-    IsErrAnd result (λ x. x ≡ stopped) → mid ≡ after_loads n old → n < files_of task →
+pub unfetched : (task : Option Asked) (old mid new : DeskState) (n : ℕ) (name : List ℕ) (stopped : Stop) (result : Result Product Stop) →
+    IsErrAnd result (λ x. x ≡ stopped) → mid ≡ after_loads n old → n < length (files_of task) → CameThrough task old n →
     (Finds mid name found.Missing → IsFate task old (Missing name) (suc n)) →
     (Finds mid name found.TooLong → IsFate task old (TooLong name) (suc n)) →
     Fetches mid new name (Err stopped) → Works task old new result
-unfetched task old mid new n name stopped (Ok outcome) same loaded most missing long h = absurd same
-unfetched task old mid new n name stopped (Err x) same loaded most missing long h =
-    rw same (unfetched_by task old mid new n name stopped loaded most missing long h)
+unfetched task old mid new n name stopped (Ok product) same loaded most came missing long h = absurd same
+unfetched task old mid new n name stopped (Err x) same loaded most came missing long h =
+    rw same (unfetched_by task old mid new n name stopped loaded most came missing long h)
 
 -- a load changes no file
 found_before : (told : Option DeskContents) (name : List ℕ) (found : FileFound) →
@@ -72,3 +73,12 @@ pub finds_before : (old mid : DeskState) (name : List ℕ) (found : FileFound) �
 finds_before old mid name found e h =
     let now : Finds (after_answer as_before old) name found = rw e at h in
     (now.0, found_before old.told name found now.1)
+
+-- ---- the loads that found bytes
+
+pub found_none : (desk : DeskState) → All (FindsBytes desk) []
+found_none desk = All-nil (FindsBytes desk)
+
+pub found_more : (desk : DeskState) (name bytes : List ℕ) (names : List (List ℕ)) → Finds desk name (found.Bytes bytes) →
+    All (FindsBytes desk) names → All (FindsBytes desk) (name ∷ names)
+found_more desk name bytes names finds rest = All-cons (FindsBytes desk) name names (bytes, finds) rest

@@ -20,18 +20,19 @@ pub record SavedFile : Type 0 where
   pub name : List ℕ
   pub bytes : List ℕ
 
-pub record Product : Type 0 where
+-- what is saved, and what is said then
+pub record Given : Type 0 where
   pub saved : Option SavedFile
   pub text : List ℕ
 
 -- the replies of a run on a fresh default device
-pub record IsTried (commands : List Command) (p : Product) : Type 0 where
+pub record IsTried (commands : List Command) (p : Given) : Type 0 where
   pub saves_nothing : p.saved ≡ None
   pub left : List Contents
   pub run : IsRun (default_config Scc) (blank_image (default_config Scc)) commands left p.text
 
 -- the file of a blank image, and a line with the number of its slots
-pub record IsFormatted (name : List ℕ) (its : Config) (p : Product) : Type 0 where
+pub record IsFormatted (name : List ℕ) (its : Config) (p : Given) : Type 0 where
   pub bytes : List ℕ
   pub saves : p.saved ≡ Some (record { name = name; bytes = bytes })
   pub spelled : Spells bytes its (blank_image its)
@@ -41,7 +42,7 @@ pub record IsFormatted (name : List ℕ) (its : Config) (p : Product) : Type 0 w
 -- the replies of a run from this image on, and the file of the image with which the run ends, under the same
 -- configuration
 pub record IsRan (name : List ℕ) (its : Config) (image : List Contents) (commands : List Command)
-    (p : Product) : Type 0 where
+    (p : Given) : Type 0 where
   pub bytes : List ℕ
   pub saves : p.saved ≡ Some (record { name = name; bytes = bytes })
   pub left : List Contents
@@ -49,31 +50,32 @@ pub record IsRan (name : List ℕ) (its : Config) (image : List Contents) (comma
   pub spelled : Spells bytes its left
 
 -- the report on the records of this image, which is sound
-pub record IsExplained (its : Config) (image : List Contents) (p : Product) : Type 0 where
+pub record IsExplained (its : Config) (image : List Contents) (p : Given) : Type 0 where
   pub saves_nothing : p.saved ≡ None
   pub sound : IsSoundImage its.protocol its.logical (shape_of its) image
   pub said : p.text ≡ report its.protocol (records_in its.protocol image) its.logical
 
 -- the summary of the replies of a run over the commands that are drawn, on a fresh default device of this protocol
-pub record IsDriven (start count : ℕ) (its : Protocol) (p : Product) : Type 0 where
+pub record IsDriven (start count : ℕ) (protocol : Protocol) (p : Given) : Type 0 where
   pub saves_nothing : p.saved ≡ None
   pub left : List Contents
   pub replies : List ℕ
-  pub run : IsRun (default_config its) (blank_image (default_config its))
-      (generated start count (default_config its)) left replies
+  pub run : IsRun (default_config protocol) (blank_image (default_config protocol))
+      (generated start count (default_config protocol)) left replies
   pub said : p.text
-      ≡ summary_line start count its (length (generated start count (default_config its))) replies
+      ≡ summary_line start count protocol
+      (length (generated start count (default_config protocol))) replies
 
 -- a line, and no file
-pub record IsRefused (text : List ℕ) (p : Product) : Type 0 where
+pub record IsRefused (text : List ℕ) (p : Given) : Type 0 where
   pub saves_nothing : p.saved ≡ None
   pub said : p.text ≡ text
 
 -- what a fate gives
-abbrev pub Gives : Fate → Product → Type 0
+abbrev pub Gives : Fate → Given → Type 0
 Gives (Tried commands) p = IsTried commands p
 Gives (Formatted name its) p = IsFormatted name its p
 Gives (Ran name its image commands) p = IsRan name its image commands p
 Gives (Explained its image) p = IsExplained its image p
-Gives (Driven start count its) p = IsDriven start count its p
+Gives (Driven start count protocol) p = IsDriven start count protocol p
 Gives refused p = IsRefused (refusal_line refused) p

@@ -1,17 +1,20 @@
 -- How the replies of a run are kept.
 use Rattle.std.specs.Prelude.{List, map}
-use Rattle.cut_replay.specs.Watching.{ToldReply}
+use Rattle.txflash.specs.Keeping.{KeptReply}
 use Rattle.txflash.specs.declared.kept.Entry.{Entry}
 use Rattle.txflash.specs.declared.kept.Kept.TheInside.{Inside}
 
-abbrev pub told_by : Entry → ToldReply
-told_by e =
-    record {
-      text =
-          e.text.items;
-      moment =
-          record { image = e.flash.image; programs = e.programs; erases = e.erases };
-    }
+abbrev pub kept_by : Entry → KeptReply
+kept_by e = record {
+  told =
+      record {
+        text =
+            e.text.items;
+        moment =
+            record { image = e.flash.image; programs = e.programs; erases = e.erases };
+      };
+  page_bytes = e.flash.shape.page_bytes;
+}
 
-abbrev pub told_in : Inside → List ToldReply
-told_in k = map told_by k.entries.items
+abbrev pub kept_in : Inside → List KeptReply
+kept_in k = map kept_by k.entries.items

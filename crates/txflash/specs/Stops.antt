@@ -1,5 +1,5 @@
 -- How the steps of the work end, and how the work stops before its end.
-use Rattle.std.specs.Prelude.{◌≡◌, ◌⊎◌, ℕ, ◌≤◌, List, codes, Option, Result, Ok, Err, Vec}
+use Rattle.std.specs.Prelude.{◌≡◌, ◌⊎◌, ℕ, List, codes, Option, Result, Ok, Err, Vec}
 use Rattle.std.specs.Global.{Global}
 use Rattle.std.specs.Option.{option_map}
 use Rattle.tx_types.specs.declared.config.Config.{Config}
@@ -10,18 +10,18 @@ use Rattle.desk_io.specs.Desk as found
 use Rattle.desk_io.specs.Desk.{DeskState, Finds, Says, after_answer, after_fault, as_before}
 use Rattle.desk_io.specs.declared.desk.SinkError.TheVariants as sink
 use Rattle.txflash.specs.Fate.{Fate, BadWords, Missing, TooLong, BadImage, BadLine, Unsound, BadConfiguration, line, status}
-use Rattle.txflash.specs.Gives.{Product, SavedFile, Gives}
+use Rattle.txflash.specs.Gives.{Given, SavedFile, Gives}
 use Rattle.txflash.specs.Steps.{IsFate, ReadsImage, Parses, Opens}
-use Rattle.txflash.specs.Top.{LoadFails, FileFails, Attempts, after_loads, after_save, after_text}
-use Rattle.txflash.specs.Words.{Asked, files_of}
+use Rattle.txflash.specs.Top.{LoadFails, WorkRunsOut, FileFails, Attempts, after_loads, after_save, after_text}
+use Rattle.txflash.specs.Words.{Asked}
 use Rattle.txflash.specs.declared.refusal.Refusal.{Refusal}
 use Rattle.txflash.specs.declared.refusal.Refusal.TheVariants as refusal
-use Rattle.txflash.specs.declared.outcome.Stop.{Stop}
-use Rattle.txflash.specs.declared.outcome.Stop.TheVariants as stop
-use Rattle.txflash.specs.declared.outcome.Text.{Text}
-use Rattle.txflash.specs.declared.outcome.Text.TheVariants as text
-use Rattle.txflash.specs.declared.outcome.File.{File}
-use Rattle.txflash.specs.declared.outcome.Outcome.{Outcome}
+use Rattle.txflash.specs.declared.product.Stop.{Stop}
+use Rattle.txflash.specs.declared.product.Stop.TheVariants as stop
+use Rattle.txflash.specs.declared.product.Text.{Text}
+use Rattle.txflash.specs.declared.product.Text.TheVariants as text
+use Rattle.txflash.specs.declared.product.File.{File}
+use Rattle.txflash.specs.declared.product.Product.{Product}
 
 -- the fate that a refusal is
 abbrev pub refused : Refusal → Fate
@@ -36,14 +36,14 @@ refused (refusal.BadConfiguration rule) = BadConfiguration rule
 -- the bytes of a text
 abbrev pub bytes_of : Text → List ℕ
 bytes_of (text.Replies lines) = lines
-bytes_of (text.Line bytes) = bytes.items
+bytes_of (text.Other bytes) = bytes.items
 
 abbrev pub file_saved : File → SavedFile
 file_saved f = record { name = f.name.now; bytes = f.bytes.items }
 
--- what an outcome of the work stands for
-abbrev pub product_of : Outcome → Product
-product_of o = record { saved = option_map file_saved o.saved; text = bytes_of o.text }
+-- what a product of the work stands for
+abbrev pub given_of : Product → Given
+given_of p = record { saved = option_map file_saved p.saved; text = bytes_of p.text }
 
 -- the bytes of an image file break this rule first
 abbrev pub RefusesImage : List ℕ → Fate → Type 0
@@ -65,9 +65,9 @@ StopsBy comes stop.Fault = ⊥
 StopsBy comes stop.Memory = Unit {0}
 
 -- work that asks nothing of the desk is done: it comes to such a fate, with what it gives
-abbrev pub WorksTo : (Fate → Type 0) → Result Outcome Stop → Type 0
-WorksTo comes (Ok outcome) =
-    (fate : Fate) × comes fate × (status fate ≡ 0) × Gives fate (product_of outcome)
+abbrev pub WorksTo : (Fate → Type 0) → Result Product Stop → Type 0
+WorksTo comes (Ok product) =
+    (fate : Fate) × comes fate × (status fate ≡ 0) × Gives fate (given_of product)
 WorksTo comes (Err stopped) = StopsBy comes stopped
 
 -- a load for a task: a file that is missing or too long is refused
@@ -86,12 +86,12 @@ abbrev pub Comes : Option Asked → DeskState → DeskState → Fate → Type 0
 Comes task old new fate = (loads : ℕ) × IsFate task old fate loads × (new ≡ after_loads loads old)
 
 -- the work for a task gives what its fate gives, or stops
-abbrev pub Works : Option Asked → DeskState → DeskState → Result Outcome Stop → Type 0
-Works task old new (Ok outcome) =
-    (fate : Fate) × Comes task old new fate × (status fate ≡ 0) × Gives fate (product_of outcome)
+abbrev pub Works : Option Asked → DeskState → DeskState → Result Product Stop → Type 0
+Works task old new (Ok product) =
+    (fate : Fate) × Comes task old new fate × (status fate ≡ 0) × Gives fate (given_of product)
 Works task old new (Err (stop.Refused refusal)) = Comes task old new (refused refusal)
 Works task old new (Err stop.Fault) = LoadFails task old new
-Works task old new (Err stop.Memory) = (n : ℕ) × (n ≤ files_of task) × (new ≡ after_loads n old)
+Works task old new (Err stop.Memory) = WorkRunsOut task old new
 
 -- a line was tried after a fault, or for want of memory
 abbrev pub FaultTold : DeskState → DeskState → ℕ → Type 0
@@ -108,7 +108,7 @@ Speaks old new text status answer =
     ⊎ MemoryTold old new answer)
 
 -- A file was saved, if there is one, and then a text was said; or the saving failed, or memory ran out.
-abbrev pub Delivers : DeskState → DeskState → Product → ℕ → ℕ → Type 0
+abbrev pub Delivers : DeskState → DeskState → Given → ℕ → ℕ → Type 0
 Delivers old new p status answer =
     Speaks (after_save p.saved old) new p.text status answer
     ⊎ (((mid : DeskState) × FileFails p.saved old mid × FaultTold mid new answer)

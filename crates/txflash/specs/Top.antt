@@ -1,11 +1,11 @@
 -- What the program answers, what it says and saves, and why.
-use Rattle.std.specs.Prelude.{◌≡◌, ◌⊎◌, ℕ, zero, suc, ◌<◌, ◌≤◌, List, [], ◌∷◌, codes, Option, None, Some, IsSome, Result, Err}
+use Rattle.std.specs.Prelude.{◌≡◌, ◌⊎◌, ℕ, zero, suc, ◌<◌, ◌≤◌, List, [], ◌∷◌, All, length, take, codes, Option, None, Some, IsSome, Result, Err}
 use Rattle.std.specs.Option.{option_map}
-use Rattle.desk_io.specs.Desk.{DeskState, Files, Rose, Saves, Says, after_answer, after_fault, as_before, files_with, with_file, with_said}
+use Rattle.desk_io.specs.Desk.{Bytes, DeskState, Files, Finds, Rose, Saves, Says, after_answer, after_fault, as_before, files_with, with_file, with_said}
 use Rattle.desk_io.specs.declared.desk.SinkError.{SinkError}
 use Rattle.desk_io.specs.declared.desk.SinkError.TheVariants as sink
 use Rattle.txflash.specs.Fate.{Fate, status, line}
-use Rattle.txflash.specs.Gives.{Product, SavedFile, Gives}
+use Rattle.txflash.specs.Gives.{Given, SavedFile, Gives}
 use Rattle.txflash.specs.Steps.{IsFate}
 use Rattle.txflash.specs.Words.{Asked, files_of, file_of}
 
@@ -34,23 +34,41 @@ Attempts old new text = (result : Result (Unit {0}) SinkError) × Says old new t
 pub record Decision (task : Option Asked) (desk : DeskState) : Type 0 where
   pub fate : Fate
   pub loads : ℕ
-  pub product : Product
+  pub given : Given
   pub is_fate : IsFate task desk fate loads
-  pub gives : Gives fate product
+  pub gives : Gives fate given
 
 -- the desk before the saving, and before the saying, of what a decision gives
-abbrev pub loaded : {task : Option Asked} → (desk : DeskState) → Decision task desk → DeskState
-loaded desk it = after_loads it.loads desk
+abbrev pub after_loading : {task : Option Asked} → (desk : DeskState) → Decision task desk →
+    DeskState
+after_loading desk it = after_loads it.loads desk
 
-abbrev pub saved : {task : Option Asked} → (desk : DeskState) → Decision task desk → DeskState
-saved desk it = after_save it.product.saved (loaded desk it)
+abbrev pub after_saving : {task : Option Asked} → (desk : DeskState) → Decision task desk →
+    DeskState
+after_saving desk it = after_save it.given.saved (after_loading desk it)
 
--- ---- how a call fails
+-- ---- how far the work of a task came before it was decided
 
--- a load failed
+-- a load finds bytes at this name
+abbrev pub FindsBytes : DeskState → List ℕ → Type 0
+FindsBytes desk name = (bytes : List ℕ) × Finds desk name (Bytes bytes)
+
+-- so many loads of a task were made, which found the bytes of its first files
+abbrev pub CameThrough : Option Asked → DeskState → ℕ → Type 0
+CameThrough task desk n = All (FindsBytes desk) (take n (files_of task))
+
+-- a load failed, and those before it found bytes
 abbrev pub LoadFails : Option Asked → DeskState → DeskState → Type 0
 LoadFails task old new =
-    (n : ℕ) × (n < files_of task) × (new ≡ after_fault as_before (after_loads n old))
+    (n : ℕ) × (n < length (files_of task)) × CameThrough task old n
+    × (new ≡ after_fault as_before (after_loads n old))
+
+-- memory ran out, in a load or after all loads, and those before found bytes
+abbrev pub WorkRunsOut : Option Asked → DeskState → DeskState → Type 0
+WorkRunsOut task old new =
+    (n : ℕ) × (n ≤ length (files_of task)) × CameThrough task old n × (new ≡ after_loads n old)
+
+-- ---- how a call fails
 
 -- the saving of this file failed, if there is one
 abbrev pub FileFails : Option SavedFile → DeskState → DeskState → Type 0
@@ -59,12 +77,13 @@ FileFails (Some file) old new = Saves old new file.name file.bytes (Err sink.Fai
 
 -- the saving of what a fate gives failed
 abbrev pub SaveFails : Option Asked → DeskState → DeskState → Type 0
-SaveFails task old new = (it : Decision task old) × FileFails it.product.saved (loaded old it) new
+SaveFails task old new =
+    (it : Decision task old) × FileFails it.given.saved (after_loading old it) new
 
 -- the saying of a fate's text failed, after what it gives was saved
 abbrev pub TextFails : Option Asked → DeskState → DeskState → Type 0
 TextFails task old new =
-    (it : Decision task old) × Says (saved old it) new it.product.text (Err sink.Failed)
+    (it : Decision task old) × Says (after_saving old it) new it.given.text (Err sink.Failed)
 
 -- a call of the desk failed
 abbrev pub CallFails : Option Asked → DeskState → DeskState → Type 0
@@ -75,11 +94,11 @@ abbrev pub IsFaulted : Option Asked → DeskState → DeskState → Type 0
 IsFaulted task old new =
     (mid : DeskState) × CallFails task old mid × Attempts mid new (line (codes "desk fault"))
 
--- Memory ran out before anything was saved and said, or after what a fate gives was saved, and before it was said.
+-- Memory ran out before a fate was decided; or after that, before what it gives was saved, or before it was said.
 abbrev pub RunsOut : Option Asked → DeskState → DeskState → Type 0
 RunsOut task old new =
-    ((n : ℕ) × (n ≤ files_of task) × (new ≡ after_loads n old))
-    ⊎ ((it : Decision task old) × (new ≡ saved old it))
+    WorkRunsOut task old new
+    ⊎ ((it : Decision task old) × ((new ≡ after_loading old it) ⊎ (new ≡ after_saving old it)))
 
 -- and then a line was tried
 abbrev pub IsStarved : Option Asked → DeskState → DeskState → Type 0
@@ -90,7 +109,7 @@ IsStarved task old new =
 -- whole; or a call of the desk failed; or memory ran out.
 pub data EndsCall (task : Option Asked) (old new : DeskState) (answer : ℕ) : Type 0 where
   Decided : (it : Decision task old) → answer ≡ status it.fate →
-      new ≡ after_text it.product.text (saved old it) →
+      new ≡ after_text it.given.text (after_saving old it) →
       EndsCall task old new answer
   Faulted : answer ≡ 5 → IsFaulted task old new → EndsCall task old new answer
   Starved : answer ≡ 6 → IsStarved task old new → EndsCall task old new answer
@@ -99,7 +118,7 @@ pub data EndsCall (task : Option Asked) (old new : DeskState) (answer : ℕ) : T
 
 -- the desk tells what the fate of a task hangs on: its files, where the task loads any
 abbrev pub TellsFate : Option Asked → DeskState → Type 0
-TellsFate task desk = (files_of task ≡ 0) ⊎ IsSome desk.told
+TellsFate task desk = (files_of task ≡ []) ⊎ IsSome desk.told
 
 -- Where the desk tells it, a task has one fate, which gives its status, unless the desk's count of faults rose or memory
 -- ran out.

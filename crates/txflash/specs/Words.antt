@@ -95,14 +95,14 @@ asked (verb ∷ words) = behind verb words
 abbrev pub asked_by : List (String Global) → Option Asked
 asked_by words = asked (map string_bytes words)
 
--- how many files a task loads
-abbrev pub files_of : Option Asked → ℕ
-files_of None = 0
-files_of (Some (Try commands)) = 1
-files_of (Some (Format image config)) = 0
-files_of (Some (Run image commands)) = 2
-files_of (Some (Explain image)) = 1
-files_of (Some (Drive start count protocol)) = 0
+-- the files that a task loads, in their order
+abbrev pub files_of : Option Asked → List (List ℕ)
+files_of None = []
+files_of (Some (Try commands)) = commands ∷ []
+files_of (Some (Format image config)) = []
+files_of (Some (Run image commands)) = image ∷ commands ∷ []
+files_of (Some (Explain image)) = image ∷ []
+files_of (Some (Drive start count protocol)) = []
 
 -- the file that a task saves
 abbrev pub file_of : Option Asked → Option (List ℕ)

@@ -11,7 +11,7 @@ ghost use Rattle.txflash.specs.Runs.{IsRun, blank_image, default_config};
 ghost use Rattle.txflash.specs.Steps.{ReadsImage};
 ghost use Rattle.txflash.specs.Stops.{RefusesDevice, RefusesImage, RefusesLine, StopsBy};
 
-use crate::outcome::Stop;
+use crate::product::Stop;
 use crate::refusal::Refusal;
 use bpcc_commit::Bpcc;
 use cut_replay::{Lines, ServeError, serve};
@@ -28,7 +28,7 @@ use verdict_report::explain;
 
 /// What serving commands leaves.
 #[derive(Drop)]
-pub struct Session {
+pub struct ServedFlash {
     pub flash: MemFlash,
     pub replies: Lines,
 }
@@ -96,7 +96,7 @@ pub fn served(
     flash: MemFlash,
     config: Config,
     list: &[Command],
-) -> Result<Session, Stop<'static>>
+) -> Result<ServedFlash, Stop<'static>>
     requires check { checked config ≡ Ok (shape_of config) }
     requires fresh { flash ≡ fresh (shape_of config) flash.image }
     requires suits { All (Suits config.page_bytes) list.now }
@@ -116,7 +116,7 @@ fn served_by<R: CommitRule>(
     flash: MemFlash,
     config: Config,
     list: &[Command],
-) -> Result<Session, Stop<'static>>
+) -> Result<ServedFlash, Stop<'static>>
     requires check { checked config ≡ Ok (shape_of config) }
     requires rule { config.protocol ≡ R.kept }
     requires fresh { flash ≡ fresh (shape_of config) flash.image }
@@ -128,7 +128,7 @@ fn served_by<R: CommitRule>(
     let mut replies = Lines::new(alloc);
     let (flash, done) = serve::<MemFlash, R, Lines>(alloc, flash, config, list, &mut replies);
     match done {
-        Ok(()) => Ok(Session { flash, replies }),
+        Ok(()) => Ok(ServedFlash { flash, replies }),
         Err(ServeError::Unsound { law, slot }) => {
             Err(Stop::Refused(Refusal::Unsound { law, slot }))
         }

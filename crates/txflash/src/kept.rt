@@ -1,9 +1,13 @@
-ghost use Rattle.std.specs.Prelude.{◌≡◌, ◌<◌, ◌++◌, ℕ, List, [], All, Some, IfOk, length};
+ghost use Rattle.std.specs.Prelude.{◌≡◌, ◌<◌, ◌++◌, [], ◌∷◌, Some, IfOk, OnOk, OnErr, length};
 ghost use Rattle.std.specs.Prelude.{map, flat_map};
-ghost use Rattle.flash_model.specs.Flash.{IsWhole, complete, slot_at};
+ghost use Rattle.flash_model.specs.Flash.{slot_at};
 ghost use Rattle.flash_model.specs.Calls.{seen_of};
+ghost use Rattle.flash_model.specs.Operations.{moment_of};
+ghost use Rattle.mem_flash.specs.Memory.{state_of};
 ghost use Rattle.mem_flash.specs.Slots.{cell_of};
-ghost use Rattle.txflash.specs.Keeping.{reply_at};
+ghost use Rattle.host_protocol.specs.Replies.{text_of};
+ghost use Rattle.cut_replay.specs.Watching.{Grew};
+ghost use Rattle.txflash.specs.Keeping.{kept_of, reply_at, texts_in, told_in};
 
 use cut_replay::Watch;
 use flash_model::{Flash, Seen};
@@ -24,7 +28,7 @@ struct Entry {
 }
 
 /// The replies of a run, each with a copy of what the flash was when it was given. It is seen as
-/// the list of their texts and moments.
+/// the list of their texts and moments, with the bytes of a page of each flash.
 #[derive(Drop)]
 pub struct Kept {
     alloc: Global,
@@ -33,13 +37,13 @@ pub struct Kept {
 
 impl Model for Kept {
     ghost use Rattle.std.specs.Prelude.{List};
-    ghost use Rattle.cut_replay.specs.Watching.{ToldReply};
+    ghost use Rattle.txflash.specs.Keeping.{KeptReply};
 
-    ghost Value = { List ToldReply };
+    ghost Value = { List KeptReply };
 
-    ghost use Rattle.txflash.specs.KeptEntries.{told_in};
+    ghost use Rattle.txflash.specs.KeptEntries.{kept_in};
 
-    ghost view = { told_in };
+    ghost view = { kept_in };
 }
 
 impl Kept {
@@ -63,7 +67,7 @@ impl Kept {
     /// The text of a reply.
     pub fn text(&self, i: usize) -> &[u8]
         requires { i < length self.now }
-        ensures { result.now ≡ (reply_at self.now i).text }
+        ensures { result.now ≡ (reply_at self.now i).told.text }
     {
         &self.entries[i].text
     }
@@ -71,7 +75,7 @@ impl Kept {
     /// How many slots the flash had.
     pub fn slots(&self, i: usize) -> u32
         requires { i < length self.now }
-        ensures { result ≡ length (reply_at self.now i).moment.image }
+        ensures { result ≡ length (reply_at self.now i).told.moment.image }
     {
         self.entries[i].flash.shape().slots()
     }
@@ -79,25 +83,21 @@ impl Kept {
     /// How a slot read when a reply was given.
     pub fn seen(&self, i: usize, at: Slot) -> Seen
         requires reply { i < length self.now }
-        requires slot { at.0 < length (reply_at self.now i).moment.image }
-        ensures { result ≡ seen_of (slot_at (reply_at self.now i).moment.image at.0) }
+        requires slot { at.0 < length (reply_at self.now i).told.moment.image }
+        ensures { result ≡ seen_of (slot_at (reply_at self.now i).told.moment.image at.0) }
     {
         let flash = &self.entries[i].flash;
         let _ = flash.shape();
         flash.seen(at)
     }
 
-    /// The contents of a slot and then its spare area: all 0xff where the slot was blank, and all
-    /// 0x00 where it was damaged. It is as long as that of each complete slot.
+    /// The contents of a slot, which are a page, and then its spare area: all 0xff where the slot
+    /// was blank, and all 0x00 where it was damaged.
     pub fn cell(&self, i: usize, at: Slot) -> &[u8]
         requires reply { i < length self.now }
-        requires slot { at.0 < length (reply_at self.now i).moment.image }
-        ensures shown { (page_bytes : ℕ) × ((result.now ≡
-            cell_of page_bytes (slot_at (reply_at self.now i).moment.image at.0))
-            × All (IsWhole page_bytes) (reply_at self.now i).moment.image) }
-        ensures complete { (bytes spare : List ℕ)
-            → slot_at (reply_at self.now i).moment.image at.0 ≡ complete bytes spare
-            → result.now ≡ bytes ++ spare }
+        requires slot { at.0 < length (reply_at self.now i).told.moment.image }
+        ensures { result.now ≡ cell_of (reply_at self.now i).page_bytes
+            (slot_at (reply_at self.now i).told.moment.image at.0) }
     {
         let flash = &self.entries[i].flash;
         let _ = flash.shape();
@@ -107,7 +107,7 @@ impl Kept {
     /// The number of programs that were done.
     pub fn programs(&self, i: usize) -> u64
         requires { i < length self.now }
-        ensures { result ≡ (reply_at self.now i).moment.programs }
+        ensures { result ≡ (reply_at self.now i).told.moment.programs }
     {
         self.entries[i].programs
     }
@@ -115,18 +115,28 @@ impl Kept {
     /// The number of erases that were done.
     pub fn erases(&self, i: usize) -> u64
         requires { i < length self.now }
-        ensures { result ≡ (reply_at self.now i).moment.erases }
+        ensures { result ≡ (reply_at self.now i).told.moment.erases }
     {
         self.entries[i].erases
     }
 }
 
 impl Watch<MemFlash> for Kept {
-    ghost text = { λ k. Some (flat_map (λ t. t.text) k) };
+    ghost text = { λ k. Some (texts_in k) };
 
-    ghost kept = { λ k. Some k };
+    ghost kept = { λ k. Some (told_in k) };
 
-    fn tell(&mut self, flash: &MemFlash, reply: &Reply) -> Result<(), Memory> {
+    fn tell(&mut self, flash: &MemFlash, reply: &Reply) -> Result<(), Memory>
+        ensures text { OnOk result (
+            Grew (Some (texts_in self.old)) (Some (texts_in self.new)) (text_of reply.now)) }
+        ensures kept { OnOk result (Grew (Some (told_in self.old)) (Some (told_in self.new))
+            (record { text = text_of reply.now; moment = moment_of (state_of flash.now) } ∷ [])) }
+        ensures err { OnErr result ((Some (texts_in self.new) ≡ Some (texts_in self.old))
+            × (Some (told_in self.new) ≡ Some (told_in self.old))) }
+        ensures exact { OnOk result (
+            self.new ≡ self.old ++ (kept_of (state_of flash.now) reply.now ∷ [])) }
+        ensures same { OnErr result (self.new ≡ self.old) }
+    {
         let mut text = Vec::new(self.alloc);
         reply_text(self.alloc, reply, &mut text)?;
         let entry = Entry {
@@ -140,9 +150,10 @@ impl Watch<MemFlash> for Kept {
     }
 }
 
-/// A flash with the same slots.
+/// A flash of the same shape with the same slots.
 fn copied(alloc: Global, flash: &MemFlash) -> Result<MemFlash, Memory>
-    ensures { IfOk result (λ copy. copy.image ≡ flash.now.image) }
+    ensures shape { IfOk result (λ copy. copy.shape ≡ flash.now.shape) }
+    ensures slots { IfOk result (λ copy. copy.image ≡ flash.now.image) }
 {
     let seen = states(alloc, flash)?;
     let cells = cells(alloc, flash)?;

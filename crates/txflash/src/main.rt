@@ -8,7 +8,7 @@ mod devices;
 mod kept;
 mod laws;
 mod numbers;
-mod outcome;
+mod product;
 mod refusal;
 mod tasks;
 #[cfg(test)]

@@ -4,9 +4,10 @@ ghost use Rattle.txflash.specs.Numbers.{wide_number_of, draws_of};
 use host_protocol::number;
 
 /// The most transactions that may be drawn.
-const MAX_DRAWS: u32 = 100000;
+pub const MAX_DRAWS: u32 = 100000;
 
-/// The number that a word is: one to twenty decimal digits, for a number of 64 bits.
+/// The number that a word is: one to twenty decimal digits, for a number of 64 bits. It is none for
+/// any other word, and for a number above 18446744073709551615.
 #[tactic(auto, unfolding(crate::specs::Numbers::wide_number_of))]
 pub fn wide_number(word: &[u8]) -> Option<u64>
     ensures { result ≡ wide_number_of word.now }
@@ -24,7 +25,8 @@ pub fn wide_number(word: &[u8]) -> Option<u64>
     u64::try_from(value).ok()
 }
 
-/// The number of transactions that a word is.
+/// The number of transactions that a word is. It is none for a word that is no number, and for a
+/// number above 100000.
 pub fn draws(word: &[u8]) -> Option<u32>
     ensures { result ≡ draws_of word.now }
 {

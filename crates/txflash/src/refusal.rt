@@ -43,7 +43,7 @@ impl Refusal<'_> {
         }
     }
 
-    /// The line that it says.
+    /// The line that it says. It answers `AllocError` where there is no memory for it.
     pub fn line(&self, alloc: Global) -> Result<String, AllocError>
         ensures { IfOk result (λ line. string_bytes line ≡ refusal_line (refused self.now)) }
     {

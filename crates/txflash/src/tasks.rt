@@ -8,9 +8,9 @@ ghost use Rattle.txflash.specs.Words.{Drive, Explain, Format, Run, Try};
 ghost use Rattle.tx_types.specs.Config.{checked};
 
 use crate::devices::{
-    Session, blank_flash, default_config, explained, read_commands, read_device, served,
+    ServedFlash, blank_flash, default_config, explained, read_commands, read_device, served,
 };
-use crate::outcome::{File, Outcome, Stop, Text};
+use crate::product::{File, Product, Stop, Text};
 use crate::refusal::Refusal;
 use desk_io::{Desk, LoadError};
 use drive_gen::{commands, summary};
@@ -23,7 +23,7 @@ pub fn to_try<'a, D: Desk>(
     alloc: Global,
     name: &'a str,
     desk: &mut D,
-) -> Result<Outcome<'a>, Stop<'a>>
+) -> Result<Product<'a>, Stop<'a>>
     ensures { Works (Some (Try name.now)) (D.state desk.old) (D.state desk.new) result }
 {
     let lines = fetch(name, desk)?;
@@ -36,7 +36,7 @@ pub fn to_run<'a, D: Desk>(
     image: &'a str,
     script: &'a str,
     desk: &mut D,
-) -> Result<Outcome<'a>, Stop<'a>>
+) -> Result<Product<'a>, Stop<'a>>
     ensures { Works (Some (Run image.now script.now)) (D.state desk.old) (D.state desk.new) result }
 {
     let bytes = fetch(image, desk)?;
@@ -49,7 +49,7 @@ pub fn to_explain<'a, D: Desk>(
     alloc: Global,
     image: &'a str,
     desk: &mut D,
-) -> Result<Outcome<'a>, Stop<'a>>
+) -> Result<Product<'a>, Stop<'a>>
     ensures { Works (Some (Explain image.now)) (D.state desk.old) (D.state desk.new) result }
 {
     let bytes = fetch(image, desk)?;
@@ -69,15 +69,15 @@ fn fetch<'a, D: Desk>(name: &'a str, desk: &mut D) -> Result<Vec<u8>, Stop<'a>>
 }
 
 /// What a try gives, from the bytes of its commands on.
-fn tried<'a>(alloc: Global, lines: &[u8]) -> Result<Outcome<'a>, Stop<'a>>
+fn tried<'a>(alloc: Global, lines: &[u8]) -> Result<Product<'a>, Stop<'a>>
     requires { length lines.now ≤ max_file_bytes }
     ensures { WorksTo (Trying lines.now) result }
 {
     let config = default_config(Protocol::Scc);
     let list = read_commands(alloc, lines, config.page_bytes)?;
     let flash = blank_flash(alloc, config)?;
-    let Session { replies, .. } = served(alloc, flash, config, &list)?;
-    Ok(Outcome {
+    let ServedFlash { replies, .. } = served(alloc, flash, config, &list)?;
+    Ok(Product {
         saved: None,
         text: Text::Replies(replies),
     })
@@ -89,34 +89,34 @@ fn ran<'a>(
     name: &'a str,
     bytes: &[u8],
     lines: &[u8],
-) -> Result<Outcome<'a>, Stop<'a>>
+) -> Result<Product<'a>, Stop<'a>>
     requires { length lines.now ≤ max_file_bytes }
     ensures { WorksTo (Running name.now bytes.now lines.now) result }
 {
     let (config, flash) = read_device(alloc, bytes)?;
     let list = read_commands(alloc, lines, config.page_bytes)?;
-    let Session { flash, replies } = served(alloc, flash, config, &list)?;
+    let ServedFlash { flash, replies } = served(alloc, flash, config, &list)?;
     let saved = write_image(alloc, &config, &flash)?;
-    Ok(Outcome {
+    Ok(Product {
         saved: Some(File { name, bytes: saved }),
         text: Text::Replies(replies),
     })
 }
 
 /// What an explanation gives, from the bytes of its image on.
-fn reported<'a>(alloc: Global, bytes: &[u8]) -> Result<Outcome<'a>, Stop<'a>>
+fn reported<'a>(alloc: Global, bytes: &[u8]) -> Result<Product<'a>, Stop<'a>>
     ensures { WorksTo (Explaining bytes.now) result }
 {
     let (config, flash) = read_device(alloc, bytes)?;
     let report = explained(alloc, flash, config)?;
-    Ok(Outcome {
+    Ok(Product {
         saved: None,
-        text: Text::Line(report),
+        text: Text::Other(report),
     })
 }
 
 /// The image of a blank device, and a line that says so.
-pub fn formatted<'a>(alloc: Global, name: &'a str, config: Config) -> Result<Outcome<'a>, Stop<'a>>
+pub fn formatted<'a>(alloc: Global, name: &'a str, config: Config) -> Result<Product<'a>, Stop<'a>>
     ensures { WorksTo (λ fate. fate ≡ formatting name.now config (checked config)) result }
 {
     let shape = match config.check() {
@@ -126,9 +126,9 @@ pub fn formatted<'a>(alloc: Global, name: &'a str, config: Config) -> Result<Out
     let flash = blank_flash(alloc, config)?;
     let bytes = write_image(alloc, &config, &flash)?;
     let line = formatted_line(alloc, name, shape.slots())?;
-    Ok(Outcome {
+    Ok(Product {
         saved: Some(File { name, bytes }),
-        text: Text::Line(line),
+        text: Text::Other(line),
     })
 }
 
@@ -147,13 +147,13 @@ pub fn driven<'a>(
     start: u64,
     count: u32,
     protocol: Protocol,
-) -> Result<Outcome<'a>, Stop<'a>>
+) -> Result<Product<'a>, Stop<'a>>
     ensures { WorksTo (λ fate. fate ≡ Driven start count protocol) result }
 {
     let config = default_config(protocol);
     let list = commands(alloc, start, count, config)?;
     let flash = blank_flash(alloc, config)?;
-    let Session { replies, .. } = served(alloc, flash, config, &list)?;
+    let ServedFlash { replies, .. } = served(alloc, flash, config, &list)?;
     let mut line = Vec::new(alloc);
     summary(
         alloc,
@@ -164,8 +164,8 @@ pub fn driven<'a>(
         replies.as_slice(),
         &mut line,
     )?;
-    Ok(Outcome {
+    Ok(Product {
         saved: None,
-        text: Text::Line(line),
+        text: Text::Other(line),
     })
 }

@@ -8,6 +8,7 @@ mod images;
 mod manual;
 mod moves;
 mod rows;
+mod starved;
 mod worlds;
 
 use crate::top::top;

@@ -1,11 +1,11 @@
 ghost use Rattle.std.specs.Prelude.{◌≡◌, codes};
 ghost use Rattle.desk_io.specs.Desk.{Rose};
 ghost use Rattle.txflash.specs.Fate.{line};
-ghost use Rattle.txflash.specs.Stops.{Delivers, FaultTold, MemoryTold, Speaks, Works, product_of};
+ghost use Rattle.txflash.specs.Stops.{Delivers, FaultTold, MemoryTold, Speaks, Works, given_of};
 ghost use Rattle.txflash.specs.Top.{EndsCall, IsExact, LeavesFiles};
 ghost use Rattle.txflash.specs.Words.{asked_by};
 
-use crate::outcome::{Outcome, Stop};
+use crate::product::{Product, Stop};
 use crate::refusal::Refusal;
 use crate::tasks::{driven, formatted, to_explain, to_run, to_try};
 use crate::words::{Task, asked};
@@ -16,6 +16,8 @@ use std::alloc::Global;
 const _: () = prove!(host_protocol::MAX_COMMANDS == 65536 && host_protocol::MAX_ENTRIES == 262144);
 
 const _: () = prove!(host_protocol::MAX_FILE_BYTES == desk_io::MAX_FILE_BYTES);
+
+const _: () = prove!(crate::numbers::MAX_DRAWS == 100000);
 
 /// Does what the words ask for, and answers the status: 0 where it is done, 1 for words that are not
 /// in the table, 2 for a file that is missing, 3 for bytes that are no image file, 4 for a line that
@@ -35,7 +37,7 @@ fn run<D: Desk>(alloc: Global, words: &[String], desk: &mut D) -> u8
     ensures { EndsCall (asked_by words.now) (D.state desk.old) (D.state desk.new) result }
 {
     match work(alloc, words, desk) {
-        Ok(outcome) => deliver(desk, &outcome),
+        Ok(product) => deliver(desk, &product),
         Err(Stop::Refused(refusal)) => match refusal.line(alloc) {
             Ok(line) => say(desk, line.as_bytes(), refusal.status()),
             Err(_) => no_memory(desk),
@@ -50,7 +52,7 @@ fn work<'a, D: Desk>(
     alloc: Global,
     words: &'a [String],
     desk: &mut D,
-) -> Result<Outcome<'a>, Stop<'a>>
+) -> Result<Product<'a>, Stop<'a>>
     ensures { Works (asked_by words.now) (D.state desk.old) (D.state desk.new) result }
 {
     match asked(words) {
@@ -70,17 +72,17 @@ fn work<'a, D: Desk>(
 }
 
 /// Saves a file, if there is one, and then says a text. The status is 0 where that is done.
-fn deliver<D: Desk>(desk: &mut D, outcome: &Outcome) -> u8
-    ensures { Delivers (D.state desk.old) (D.state desk.new) (product_of outcome.now) 0 result }
+fn deliver<D: Desk>(desk: &mut D, product: &Product) -> u8
+    ensures { Delivers (D.state desk.old) (D.state desk.new) (given_of product.now) 0 result }
 {
-    if let Some(file) = &outcome.saved {
+    if let Some(file) = &product.saved {
         match desk.save(file.name, &file.bytes) {
             Ok(()) => {}
             Err(SinkError::Failed) => return desk_fault(desk),
             Err(SinkError::Memory) => return no_memory(desk),
         }
     }
-    say(desk, outcome.text.as_slice(), 0)
+    say(desk, product.text.as_slice(), 0)
 }
 
 /// Says a text, if there is one, and answers the status.

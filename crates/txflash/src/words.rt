@@ -42,16 +42,16 @@ pub fn asked(words: &[String]) -> Option<Task<'_>>
 {
     let (verb, rest) = words.split_first()?;
     match verb.as_str() {
-        "try" => to_try(rest),
-        "format" => to_format(rest),
-        "run" => to_run(rest),
-        "explain" => to_explain(rest),
-        "drive" => to_drive(rest),
+        "try" => asked_to_try(rest),
+        "format" => asked_to_format(rest),
+        "run" => asked_to_run(rest),
+        "explain" => asked_to_explain(rest),
+        "drive" => asked_to_drive(rest),
         _ => None,
     }
 }
 
-fn to_try(words: &[String]) -> Option<Task<'_>>
+fn asked_to_try(words: &[String]) -> Option<Task<'_>>
     ensures { option_map asked_of result ≡ try_of (map string_bytes words.now) }
 {
     let [commands] = words else {
@@ -62,7 +62,7 @@ fn to_try(words: &[String]) -> Option<Task<'_>>
     })
 }
 
-fn to_format(words: &[String]) -> Option<Task<'_>>
+fn asked_to_format(words: &[String]) -> Option<Task<'_>>
     ensures { option_map asked_of result ≡ format_of (map string_bytes words.now) }
 {
     let [image, protocol, numbers @ ..] = words else {
@@ -73,7 +73,7 @@ fn to_format(words: &[String]) -> Option<Task<'_>>
     Some(Task::Format { image, config })
 }
 
-fn to_run(words: &[String]) -> Option<Task<'_>>
+fn asked_to_run(words: &[String]) -> Option<Task<'_>>
     ensures { option_map asked_of result ≡ run_of (map string_bytes words.now) }
 {
     let [image, commands] = words else {
@@ -85,7 +85,7 @@ fn to_run(words: &[String]) -> Option<Task<'_>>
     })
 }
 
-fn to_explain(words: &[String]) -> Option<Task<'_>>
+fn asked_to_explain(words: &[String]) -> Option<Task<'_>>
     ensures { option_map asked_of result ≡ explain_of (map string_bytes words.now) }
 {
     let [image] = words else {
@@ -96,7 +96,7 @@ fn to_explain(words: &[String]) -> Option<Task<'_>>
     })
 }
 
-fn to_drive(words: &[String]) -> Option<Task<'_>>
+fn asked_to_drive(words: &[String]) -> Option<Task<'_>>
     ensures { option_map asked_of result ≡ drive_of (map string_bytes words.now) }
 {
     let [start, count, protocol] = words else {

@@ -43,6 +43,7 @@ const CALLS: &str = "\
     3;bad image: length;run short.img bad.txt\n\
     3;bad image: short;run c.txt bad.txt\n\
     4;bad line 4;run d.img bad.txt\n\
+    4;bad line 1;run d.img d.img\n\
     2;no file no.txt;try no.txt\n\
     4;bad line 4;try bad.txt\n\
     9;file too long long.txt;try long.txt\n\
@@ -164,52 +165,74 @@ fn formats_devices(rt: HostRuntime) -> Result<(), Fail> {
     Ok(())
 }
 
-/// Words, the numbers of the calls of the desk that fail, what is said, and what of the new image
-/// is in the file afterwards: nothing of it, its first half, or all.
-type Failing = (&'static [&'static str], &'static [u32], &'static str, Kept);
-
+/// What of the new image is in the file afterwards: nothing of it, its first half, or all.
 #[derive(Clone, Copy)]
-enum Kept {
+pub enum Left {
     Old,
     Half,
     New,
 }
 
+/// A desk with an image of a default device and commands for it, on which these calls fail.
+pub fn filled_desk(alloc: Global, image: &[u8], fails: &[u32]) -> Result<MemDesk, Fail> {
+    let mut desk = MemDesk::new(alloc, fails.to_vec(alloc)?);
+    desk.put_file("d.img", image)?;
+    desk.put_file("c.txt", b"write 1 0=41\nfinish 1\nread 0\n")?;
+    Ok(desk)
+}
+
+/// The image that a run of these commands saves.
+pub fn image_after(alloc: Global, image: &[u8]) -> Result<Vec<u8>, Fail> {
+    let mut desk = filled_desk(alloc, image, &[])?;
+    call(alloc, &RUN, &mut desk)?;
+    Ok(desk.file("d.img").unwrap_or(b"").to_vec(alloc)?)
+}
+
+/// Words, the numbers of the calls of the desk that fail, what is said, and what of the new image
+/// is left.
+type Failing = (&'static [&'static str], &'static [u32], &'static str, Left);
+
 /// A failed call says the first half of its bytes.
-const FAILING: [Failing; 13] = [
-    (&RUN, &[1], "desk fault;", Kept::Old),
-    (&RUN, &[2], "desk fault;", Kept::Old),
-    (&RUN, &[3], "desk fault;", Kept::Half),
+const FAILING: [Failing; 14] = [
+    (&RUN, &[1], "desk fault;", Left::Old),
+    (&RUN, &[2], "desk fault;", Left::Old),
+    (&RUN, &[3], "desk fault;", Left::Half),
     (
         &RUN,
         &[4],
         "open 1 1; done 1; page 0 41000desk fault;",
-        Kept::New,
+        Left::New,
     ),
     (
         &RUN,
         &[4, 5],
         "open 1 1; done 1; page 0 41000desk ",
-        Kept::New,
+        Left::New,
     ),
-    (&RUN, &[1, 2], "desk ", Kept::Old),
-    (&RUN, &[3, 4], "desk ", Kept::Half),
-    (&["try", "c.txt"], &[1], "desk fault;", Kept::Old),
+    (&RUN, &[1, 2], "desk ", Left::Old),
+    (&RUN, &[3, 4], "desk ", Left::Half),
+    (&["try", "c.txt"], &[1], "desk fault;", Left::Old),
     (
         &["try", "c.txt"],
         &[2],
         "open 1 1; done 1; page 0 41000desk fault;",
-        Kept::Old,
+        Left::Old,
     ),
-    (&["explain", "d.img"], &[1], "desk fault;", Kept::Old),
-    (&["explain", "d.img"], &[2], "explaidesk fault;", Kept::Old),
+    (&["explain", "d.img"], &[1], "desk fault;", Left::Old),
+    (&["explain", "d.img"], &[2], "explaidesk fault;", Left::Old),
+    (
+        &["drive", "1", "0", "scc"],
+        &[1],
+        "drive scc start 1 count 0 commands 61 done 20 aborted 0desk fault;",
+        Left::Old,
+    ),
     (
         &["drive", "1", "0", "both"],
         &[1],
         "bad wdesk fault;",
-        Kept::Old,
+        Left::Old,
     ),
-    (&["try", "no.txt"], &[2], "no filedesk fault;", Kept::Old),
+    (&["try", "no.txt"], &[2], "no filedesk fault;", Left::Old),
 ];
 
 /// The bytes of a text that has a semicolon at the end of each line.
@@ -236,23 +259,16 @@ fn cut_lines(alloc: Global, text: &str) -> Result<Vec<u8>, Fail> {
 fn each_call_of_the_desk_may_fail(rt: HostRuntime) -> Result<(), Fail> {
     let alloc = rt.alloc();
     let image = default_image(alloc, 1)?;
-    let commands = b"write 1 0=41\nfinish 1\nread 0\n";
-    let mut served = desk(alloc);
-    served.put_file("d.img", &image)?;
-    served.put_file("c.txt", commands)?;
-    assert_eq!(rt; call(alloc, &RUN, &mut served)?, 0);
-    let new = served.file("d.img").unwrap_or(b"").to_vec(alloc)?;
+    let new = image_after(alloc, &image)?;
     assert!(rt; new != image);
-    for (words, fails, said, kept) in FAILING {
-        let mut desk = MemDesk::new(alloc, fails.to_vec(alloc)?);
-        desk.put_file("d.img", &image)?;
-        desk.put_file("c.txt", commands)?;
+    for (words, fails, said, left) in FAILING {
+        let mut desk = filled_desk(alloc, &image, fails)?;
         assert_eq!(rt; call(alloc, words, &mut desk)?, 5, "after {said}");
         assert_eq!(rt; desk.said(), cut_lines(alloc, said)?.as_slice());
-        let left = match kept {
-            Kept::Old => Some(image.as_slice()),
-            Kept::Half => new.get(..1328),
-            Kept::New => Some(new.as_slice()),
+        let left = match left {
+            Left::Old => Some(image.as_slice()),
+            Left::Half => new.get(..1328),
+            Left::New => Some(new.as_slice()),
         };
         assert_eq!(rt; desk.file("d.img"), left, "after {said}");
     }

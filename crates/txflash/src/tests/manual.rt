@@ -142,7 +142,7 @@ stats
 ];
 
 /// The calls, one after the other, and what is said.
-const CALLS: [(&str, &str); 12] = [
+const CALLS: [(&str, &str); 13] = [
     (
         "try examples/first.txt",
         "\
@@ -287,6 +287,14 @@ cut
 page 0 5a000000000000000000000000000000
 page 1 41000000000000000000000000000000
 stats written 2 open 0 pending 0 programs 1 erases 0 garbage 22
+",
+    ),
+    (
+        "explain disk.img",
+        "\
+verdict 0 newest 3 committed cycle current 3 walk 1:4 0:3
+verdict 1 newest 4 committed cycle current 4 walk 0:3 1:4
+explained 2
 ",
     ),
 ];

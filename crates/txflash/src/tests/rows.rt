@@ -12,9 +12,10 @@ use std::test::Fail;
 use tx_types::{Protocol, Slot};
 
 /// Commands for a fresh default device, and the replies to them.
-const TRIED: [(&str, &str); 31] = [
+const TRIED: [(&str, &str); 32] = [
     ("", ""),
     ("read 19; read 20", "blank 19; refused range 20"),
+    ("write 1 20=41; finish 1", "refused range 20; unknown 1"),
     (
         "write 1 0=41; finish 1; read 0",
         "open 1 1; done 1; page 0 41..",
@@ -146,6 +147,8 @@ const TRIED: [(&str, &str); 31] = [
     ),
 ];
 
+/// Want of memory is free in the clauses, so none refuses `top_always_six`, a program that answers
+/// status 6 whatever it is asked for. This test does.
 #[test]
 fn says_the_replies_of_a_try(rt: HostRuntime) -> Result<(), Fail> {
     for (commands, replies) in TRIED {
@@ -309,6 +312,9 @@ fn digits_of(alloc: Global, bytes: &[u8]) -> Result<Vec<u8>, Fail> {
     Ok(digits)
 }
 
+/// The slots of the flash are as each reply says when it is given. So this refuses
+/// `replies_from_kept_array`, a serve that answers from an array of its own and writes the flash
+/// later.
 #[test]
 fn keeps_what_the_flash_was_at_each_reply(rt: HostRuntime) -> Result<(), Fail> {
     let alloc = rt.alloc();

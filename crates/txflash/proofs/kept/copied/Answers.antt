@@ -13,7 +13,7 @@ from_slots-requires-clause-filled c =
     let whole = c.shape.ensures.whole in
     rw (c.shape.ensures.shape, c.in_ok-cells.ensures, c.in_ok-seen.ensures) (are_filled c.args.flash.now.shape.page_bytes c.args.flash.now.image whole.whole)
 
-pub returns : goal.returns
-returns c =
+pub returns-clause-slots : goal.returns-clause-slots
+returns-clause-slots c =
     copy_is c.args.flash.now.shape.page_bytes c.shape.result c.args.flash.now.image c.in_ok-seen.seen.items c.in_ok-cells.cells.items c.from_slots.result
     (ap (λ (s : Shape). s.page_bytes) c.shape.ensures.shape) c.in_ok-seen.ensures c.in_ok-cells.ensures c.shape.ensures.whole.whole c.from_slots.ensures

@@ -1,8 +1,8 @@
-use Rattle.std.proofs.Common.{refl, arith, Some}
+use Rattle.std.proofs.Common.{[], refl, arith, Some}
 use Rattle.desk_io.specs.Desk.{Bytes, Missing, TooLong}
 use Rattle.txflash.specs.Steps.{Explaining}
 use Rattle.txflash.specs.Words.{Explain}
-use Rattle.txflash.proofs.Works.{unfetched, works}
+use Rattle.txflash.proofs.Works.{found_more, found_none, unfetched, works}
 use Rattle.txflash.proofs.tasks.to_explain.Goals as goal
 
 pub returns-in_err-bytes : goal.returns-in_err-bytes
@@ -10,13 +10,15 @@ returns-in_err-bytes g c =
     let old = g.D.Desk.state c.args.desk.now in
     let new = g.D.Desk.state c.fetch.new.desk in
     unfetched (Some (Explain c.args.image.now)) old old new 0 c.args.image.now c.in_err-bytes.field-0.0 c.from_residual.result
-    c.from_residual.ensures.1 refl (omega arith)
+    c.from_residual.ensures.1 refl (omega arith) (found_none old)
     (λ found. (Missing, found, (refl, refl))) (λ found. (TooLong, found, (refl, refl))) c.in_err-bytes.ensures
 
 pub returns : goal.returns
 returns g c =
     let fetched = c.in_ok-bytes.ensures in
     let reported = rw c.deref.ensures.value at c.reported.ensures in
-    works (Some (Explain c.args.image.now)) (g.D.Desk.state c.args.desk.now) (g.D.Desk.state c.fetch.new.desk) 1
+    let old = g.D.Desk.state c.args.desk.now in
+    works (Some (Explain c.args.image.now)) old (g.D.Desk.state c.fetch.new.desk) 1
     (Explaining c.in_ok-bytes.bytes.items) c.reported.result fetched.1 (omega arith)
+    (found_more old c.args.image.now c.in_ok-bytes.bytes.items [] fetched.0 (found_none old))
     (λ fate h. (Bytes c.in_ok-bytes.bytes.items, fetched.0, (0, (h, refl), refl))) reported

@@ -1,8 +1,8 @@
-use Rattle.std.proofs.Common.{refl, ap, arith, Some, ◌∙◌}
+use Rattle.std.proofs.Common.{[], ◌∷◌, refl, ap, arith, Some, ◌∙◌}
 use Rattle.desk_io.specs.Desk.{Bytes, Missing, TooLong, after_answer, as_before}
 use Rattle.txflash.specs.Steps.{Running}
 use Rattle.txflash.specs.Words.{Run}
-use Rattle.txflash.proofs.Works.{finds_before, unfetched, works}
+use Rattle.txflash.proofs.Works.{finds_before, found_more, found_none, unfetched, works}
 use Rattle.txflash.proofs.tasks.to_run.Goals as goal
 
 pub returns-in_err-bytes : goal.returns-in_err-bytes
@@ -10,7 +10,7 @@ returns-in_err-bytes g c =
     let old = g.D.Desk.state c.args.desk.now in
     let new = g.D.Desk.state c.fetch.new.desk in
     unfetched (Some (Run c.args.image.now c.args.script.now)) old old new 0 c.args.image.now c.in_err-bytes.field-0.0 c.from_residual.result
-    c.from_residual.ensures.1 refl (omega arith)
+    c.from_residual.ensures.1 refl (omega arith) (found_none old)
     (λ found. (Missing, found, (refl, refl))) (λ found. (TooLong, found, (refl, refl))) c.in_err-bytes.ensures
 
 pub returns-in_err-lines : goal.returns-in_err-lines
@@ -21,6 +21,7 @@ returns-in_err-lines g c =
     let image = c.in_ok-bytes.ensures in
     unfetched (Some (Run c.args.image.now c.args.script.now)) old mid new 1 c.args.script.now c.in_err-lines.field-0.0 c.from_residual-in_err-lines.result
     c.from_residual-in_err-lines.ensures.1 image.1 (omega arith)
+    (found_more old c.args.image.now c.in_ok-bytes.bytes.items [] image.0 (found_none old))
     (λ found. (
       Bytes c.in_ok-bytes.bytes.items,
       image.0,
@@ -43,10 +44,8 @@ returns g c =
     let bytes = c.in_ok-bytes.bytes.items in
     let lines = c.in_ok-lines.lines.items in
     let ran = rw (c.deref.ensures.value, c.deref-2.ensures.value) at c.ran.ensures in
+    let script = finds_before old mid c.args.script.now (Bytes lines) image.1 commands.0 in
     works (Some (Run c.args.image.now c.args.script.now)) old new 2
     (Running c.args.image.now bytes lines) c.ran.result (commands.1 ∙ ap (after_answer as_before) image.1) (omega arith)
-    (λ fate h. (
-      Bytes bytes,
-      image.0,
-      (1, (Bytes lines, finds_before old mid c.args.script.now (Bytes lines) image.1 commands.0, (0, (h, refl), refl)), refl),
-    )) ran
+    (found_more old c.args.image.now bytes (c.args.script.now ∷ []) image.0 (found_more old c.args.script.now lines [] script (found_none old)))
+    (λ fate h. (Bytes bytes, image.0, (1, (Bytes lines, script, (0, (h, refl), refl)), refl))) ran

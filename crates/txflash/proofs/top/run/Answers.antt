@@ -1,5 +1,5 @@
 use Rattle.std.proofs.Common.{sym}
-use Rattle.txflash.specs.Stops.{product_of}
+use Rattle.txflash.specs.Stops.{given_of}
 use Rattle.txflash.specs.Words.{asked_by}
 use Rattle.txflash.proofs.Endings.{ends_delivered, ends_refused, ends_unsaid}
 use Rattle.txflash.proofs.top.run.Goals as goal
@@ -8,7 +8,7 @@ pub returns-in-Ok : goal.returns-in-Ok
 returns-in-Ok g c =
     let work = c.in-Ok.ensures in
     ends_delivered (asked_by c.args.words.now) (g.D.Desk.state c.args.desk.now) (g.D.Desk.state c.work.new.desk) (g.D.Desk.state c.deliver.new.desk)
-    work.0 (product_of c.in-Ok.outcome) 0 c.deliver.result work.1 work.3 (sym work.2) c.deliver.ensures
+    work.0 (given_of c.in-Ok.product) 0 c.deliver.result work.1 work.3 (sym work.2) c.deliver.ensures
 
 pub returns-in-Ok-line : goal.returns-in-Ok-line
 returns-in-Ok-line g c =

@@ -1,7 +1,7 @@
 use Rattle.std.proofs.Common.{◌≡◌, refl, arith, Some}
 use Rattle.txflash.specs.Fate.{Fate, Driven}
 use Rattle.txflash.specs.Words.{Drive}
-use Rattle.txflash.proofs.Works.{works}
+use Rattle.txflash.proofs.Works.{found_none, works}
 use Rattle.txflash.proofs.top.work.Goals as goal
 
 pub returns-in-Some-Drive : goal.returns-in-Some-Drive
@@ -12,5 +12,5 @@ returns-in-Some-Drive g c =
     let protocol = c.in-Some-Drive.protocol in
     let desk = g.D.Desk.state c.args.desk.now in
     let done = works (Some (Drive start count protocol)) desk desk 0 (λ (fate : Fate). fate ≡ Driven start count protocol) c.driven.result
-    refl (omega arith) (λ fate h. (h, refl)) c.driven.ensures in
+    refl (omega arith) (found_none desk) (λ fate h. (h, refl)) c.driven.ensures in
     rw (← asks) done

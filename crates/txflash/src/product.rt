@@ -1,6 +1,6 @@
 ghost use Rattle.std.specs.Prelude.{◌≡◌};
 ghost use Rattle.txflash.specs.Stops.{bytes_of};
-ghost use Rattle.txflash.specs.declared.outcome.Stop.TheVariants as stop;
+ghost use Rattle.txflash.specs.declared.product.Stop.TheVariants as stop;
 
 use crate::refusal::Refusal;
 use cut_replay::Lines;
@@ -13,7 +13,7 @@ pub enum Text {
     /// The lines of replies.
     Replies(Lines),
     /// Another text.
-    Line(Vec<u8>),
+    Other(Vec<u8>),
 }
 
 impl Text {
@@ -23,7 +23,7 @@ impl Text {
     {
         match self {
             Text::Replies(lines) => lines.as_slice(),
-            Text::Line(bytes) => bytes,
+            Text::Other(bytes) => bytes,
         }
     }
 }
@@ -37,7 +37,7 @@ pub struct File<'a> {
 
 /// What the work gives: a file that is saved, if there is one, and what is said then.
 #[derive(Drop)]
-pub struct Outcome<'a> {
+pub struct Product<'a> {
     pub saved: Option<File<'a>>,
     pub text: Text,
 }
