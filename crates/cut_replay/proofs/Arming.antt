@@ -1,5 +1,5 @@
 -- Commands that set an arm.
-use Rattle.std.proofs.Common.{◌≡◌, ℕ, ◌≤◌, Bool, true, false, ◌||◌, List, Option, Some, None, Ok, refl, sym, ap, ◌∙◌, subst, inr, arith}
+use Rattle.std.proofs.Common.{◌≡◌, ◌⊎◌, ℕ, ◌≤◌, Bool, true, false, ◌||◌, List, Option, Some, None, Ok, refl, sym, ap, ◌∙◌, subst, inr, arith}
 use Rattle.std.specs.Prelude.{MatchBool, IfSome}
 use Rattle.std.proofs.lemmas.List.Elements.{All-weaker}
 use Rattle.tx_types.specs.declared.config.Config.{Config}
@@ -95,6 +95,12 @@ armed_stands state its kept sets c seen faulted (session.Unmounted e) (session.U
       mentions = λ page lt. subst (λ (m : Moment). mention (records_in its.protocol m.image) page ≤ seen page) (sym moment) (stands.mentions page lt);
     }
 
+armed_faults : {F R : Type 0} (state : F → FlashState) (kept : Protocol) (sets : Told → Told → Type 0) (old new : Session F R) → SetsArm state kept sets old new → (state (flash_in new)).faults ≡ (state (flash_in old)).faults
+armed_faults state kept sets (session.Mounted s) (session.Mounted t) h = ap (λ (x : FlashState). x.faults) h.changes.stays
+armed_faults state kept sets (session.Mounted s) (session.Unmounted f) h = absurd h
+armed_faults state kept sets (session.Unmounted e) (session.Mounted t) h = absurd h
+armed_faults state kept sets (session.Unmounted e) (session.Unmounted f) h = ap (λ (x : FlashState). x.faults) h.stays
+
 same_told : (a : Option Told) → BothTell NoMore a a
 same_told None = tt
 same_told (Some x) = (omega arith, omega arith)
@@ -109,7 +115,7 @@ armed_point state its kept sets entries seen faulted (session.Unmounted e) (sess
 armed_point {F = F} {R = R} state its kept sets entries seen faulted (session.Unmounted e) (session.Unmounted f) h fits stands =
     let after : Session F R = session.Unmounted e in
     subst (λ (p : Point). IsPoint its p) (sym (same_point {R = R} state its kept sets after (session.Unmounted f) h))
-    (mounted_point {R = R} state its e after (record { moment = refl; shape = refl; told = same_told (state e).told }) stands.sound)
+    (mounted_point {R = R} state its e after (record { moment = refl; shape = refl; later = omega arith; told = same_told (state e).told }) stands.sound)
 
 armed_serves_flash : (its : Config) (spent : ℕ → Bool) (faulted : Bool) (c : Command) (old new : Point) → is_arm c ≡ true → new ≡ old → ServesFlash its spent faulted c old reply.Armed new
 armed_serves_flash its spent faulted c old new arm same = subst (λ b. MatchBool b ((reply.Armed ≡ reply.Armed) × (new ≡ old)) (Cases its spent faulted c old reply.Armed new)) (sym arm) (refl, same)
@@ -132,8 +138,10 @@ armed_serves state its kept sets entries c old new arming fits h = record {
     stands = armed_stands state its kept sets c seen faulted old new h stands;
   };
   kept = inr (armed_moment state kept sets old new h);
+  unsound = λ unsound. subst (λ b. MatchBool b (reply.Armed ≡ reply.Armed) ((reply.Armed ≡ reply.Fault) ⊎ (reply.Armed ≡ reply.Cut))) (sym arming.arm) refl;
   spends = weaker_told sets (IsSpentBy c reply.Armed) arming.spent (state (flash_in old)).told (state (flash_in new)).told (armed_told state kept sets old new h);
   set = then_told sets (IsSet c) arming.set (state (flash_in old)).told (state (flash_in new)).told (armed_told state kept sets old new h);
+  faults = armed_faults state kept sets old new h;
 }
 
 -- and the session fits still

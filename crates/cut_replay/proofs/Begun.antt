@@ -1,20 +1,21 @@
 -- The session that serving begins with.
 use Rattle.std.proofs.Common.{◌≡◌, Bool, true, false, List, [], Option, Some, None, Result, Ok, Err, refl, ap, ap₂, inl, inr, arith}
-use Rattle.std.specs.Prelude.{IfOk}
+use Rattle.std.specs.Prelude.{IfOk, IsSomeAnd}
 use Rattle.tx_types.specs.declared.config.Config.{Config}
 use Rattle.tx_types.specs.Config.{checked}
 use Rattle.tx_types.specs.declared.config.Shape.{Shape}
 use Rattle.page_cache.specs.CachedPages.{CachedPage}
 use Rattle.flash_model.specs.Flash.{FlashState, Told}
-use Rattle.flash_model.specs.Calls.{BothTell, NoMore}
+use Rattle.flash_model.specs.Calls.{BothTell, NoMore, Spends}
 use Rattle.flash_model.specs.Operations.{Moment, moment_of}
 use Rattle.tx_engine.specs.ArrayState.{ArrayState}
 use Rattle.cut_replay.specs.FlashRun.{mentions_in, opening_point}
+use Rattle.cut_replay.specs.Bounds.{BeginsUnbroken, CountsBreaks}
 use Rattle.cut_replay.specs.Sessions.{flash_in, point_of, IsSoundFlash, IsSoundOrSame, Fits, Mounted, Unmounted}
 use Rattle.cut_replay.specs.Beginning.{Begins}
 use Rattle.host_protocol.specs.declared.command.Command.{Command}
-use Rattle.cut_replay.specs.Mounted.{MomentStays}
-use Rattle.cut_replay.specs.Served.{Watched, ServesSound, RefusesUnsound}
+use Rattle.cut_replay.specs.Mounted.{MomentStays, StaysQuiet}
+use Rattle.cut_replay.specs.Served.{Watched, ServesSound, ServesUnsound, CountsTold, RefusesUnsound}
 use Rattle.cut_replay.specs.declared.serving.ServeError.{ServeError}
 use Rattle.cut_replay.specs.declared.serving.ServeError.TheVariants as failed
 use Rattle.cut_replay.specs.declared.session.Session.{Session}
@@ -23,6 +24,7 @@ use Rattle.cut_replay.specs.declared.session.Ended.{Ended}
 use Rattle.cut_replay.proofs.Mountings.{mounted_stands, mounted_leaves, mounted_still}
 use Rattle.cut_replay.proofs.Mountings.{sound_unbroken}
 use Rattle.cut_replay.proofs.Progress.{served_none, all_served}
+use Rattle.cut_replay.proofs.Runs.{grew_none, least_none, counts_later}
 
 -- at the opening point
 begun_point : {F R : Type 0} (state : F → FlashState) (its : Config) (flash : F) (s : Session F R) → Mounted state its flash s → (up : Bool) × (point_of state its s ≡ opening_point its up (moment_of (state flash)))
@@ -34,23 +36,50 @@ begun_told : {F R : Type 0} (state : F → FlashState) (its : Config) (flash : F
 begun_told state its flash (session.Mounted s) h = h.still.told
 begun_told state its flash (session.Unmounted new) h = h.still.told
 
-begun : {F R : Type 0} (state : F → FlashState) (its : Config) (flash : F) (s : Session F R) → Mounted state its flash s → IsSoundFlash its (state flash) → Begins state its (state flash) s
-begun state its flash s h sound =
+-- no fault was counted, unless the first mount met one
+pub none_counted : (s : FlashState) → CountsBreaks [] s s
+none_counted s = record { least = least_none s.faults s.faults (omega arith); quiet = λ unbroken all. refl }
+
+none_spent : (a b : Option Told) (live : Bool) → IsSomeAnd a (λ told. (told.cuts ≡ 0) × (told.breaks ≡ 0)) → BothTell (Spends live) a b → ⊥
+none_spent None b live none h = absurd none
+none_spent (Some x) None live none h = h
+none_spent (Some x) (Some y) true none h = let most = none.1 in omega (arith, h, most)
+none_spent (Some x) (Some y) false none h = let most = none.0 in omega (arith, h, most)
+
+first_unbroken : (old new : FlashState) → old.live ≡ true → BeginsUnbroken old → BothTell (Spends new.live) old.told new.told → ⊥
+first_unbroken old new on (inl off) h = cc
+first_unbroken old new on (inr steady) h = none_spent old.told new.told new.live steady.none h
+
+begun_faults : {F R : Type 0} (state : F → FlashState) (its : Config) (flash : F) (s : Session F R) → (state flash).live ≡ true → Mounted state its flash s → CountsBreaks [] (state flash) (state (flash_in s))
+begun_faults state its flash (session.Mounted s) on h = record {
+  least = least_none (state flash).faults (state s.flash).faults h.still.later;
+  quiet = λ unbroken all. h.quiet;
+}
+begun_faults state its flash (session.Unmounted new) on h = record {
+  least = least_none (state flash).faults (state new).faults h.still.later;
+  quiet = λ unbroken all. absurd (first_unbroken (state flash) (state new) on unbroken h.spends);
+}
+
+begun : {F R : Type 0} (state : F → FlashState) (its : Config) (flash : F) (s : Session F R) → (state flash).live ≡ true → Mounted state its flash s → IsSoundFlash its (state flash) → Begins state its (state flash) s
+begun state its flash s on h sound =
     let at = begun_point state its flash s h in
     record {
+      sound = sound;
       up = at.0;
       point = at.1;
       stands = mounted_stands state its flash (mentions_in its (moment_of (state flash))) false s (mounted_leaves state its flash s h) sound (λ page lt. omega arith);
       told = begun_told state its flash s h;
+      faults = begun_faults state its flash s on h;
     }
 
 -- the same of each result
 abbrev Results : (F R : Type 0) → Type 0
 Results F R = Result (Session F R) (Ended F)
 
-pub begin_begins : {F R : Type 0} (state : F → FlashState) (its : Config) (flash : F) (result : Results F R) → IfOk result (Mounted state its flash) → IsSoundFlash its (state flash) → IfOk result (Begins state its (state flash))
-begin_begins state its flash (Ok s) h sound = begun state its flash s h sound
-begin_begins state its flash (Err e) h sound = tt
+pub begin_begins : {F R : Type 0} (state : F → FlashState) (its : Config) (flash : F) (result : Results F R) → (state flash).live ≡ true → IfOk result (Mounted state its flash) → IsSoundFlash its (state flash) →
+    IfOk result (Begins state its (state flash))
+begin_begins state its flash (Ok s) on h sound = begun state its flash s on h sound
+begin_begins state its flash (Err e) on h sound = tt
 
 -- a flash without power, which is not mounted
 same_told : (a : Option Told) → BothTell NoMore a a
@@ -59,22 +88,24 @@ same_told (Some x) = (omega arith, omega arith)
 
 pub dead_begins : {F : Type 0} (R : Type 0) (state : F → FlashState) (its : Config) (flash : F) → IsSoundFlash its (state flash) → Begins {R = R} state its (state flash) (session.Unmounted flash)
 dead_begins R state its flash sound = record {
+  sound = sound;
   up = false;
   point = refl;
   stands = record { sound = sound; mentions = λ page lt. omega arith };
   told = same_told (state flash).told;
+  faults = none_counted (state flash);
 }
 
 -- nothing was served, for want of memory
-nothing_served : {F : Type 0} (R : Type 0) (state : F → FlashState) (its : Config) (list : List Command) (flash new : F) (w : Watched) → IsSoundFlash its (state flash) → MomentStays (state flash) (state new) →
+nothing_served : {F : Type 0} (R : Type 0) (state : F → FlashState) (its : Config) (list : List Command) (flash new : F) (w : Watched) → IsSoundFlash its (state flash) → StaysQuiet (state flash) (state new) →
     ServesSound its list (state flash) (state new) w w (Err failed.Memory)
 nothing_served {F = F} R state its list flash new w sound still =
     let old : Session F R = session.Unmounted flash in
-    (0, omega arith, inl (all_served {R = R} state its (state flash) [] old (state new) w w (served_none {R = R} state its (state flash) old w (dead_begins R state its flash sound)) still.moment still.told))
+    (0, omega arith, inl (all_served {R = R} state its (state flash) [] old (state new) w w (served_none {R = R} state its (state flash) old w (dead_begins R state its flash sound)) still.still.moment still.still.told still.quiet))
 
 pub rooms_ended : {F : Type 0} (R : Type 0) (state : F → FlashState) (its : Config) (list : List Command) (flash : F) (w : Watched) → IsSoundFlash its (state flash) →
     ServesSound its list (state flash) (state flash) w w (Err failed.Memory)
-rooms_ended R state its list flash w sound = nothing_served R state its list flash flash w sound (record { moment = refl; shape = refl; told = same_told (state flash).told })
+rooms_ended R state its list flash w sound = nothing_served R state its list flash flash w sound (record { still = record { moment = refl; shape = refl; later = omega arith; told = same_told (state flash).told }; quiet = refl })
 
 pub begin_ended : {F : Type 0} (R : Type 0) (state : F → FlashState) (its : Config) (list : List Command) (flash new : F) (why : ServeError) (w : Watched) → IsSoundFlash its (state flash) → Unmounted state its flash new why →
     ServesSound its list (state flash) (state new) w w (Err why)
@@ -97,11 +128,45 @@ pub begun_kept : {F R : Type 0} (state : F → FlashState) (its : Config) (flash
 begun_kept state its flash (Ok s) h = inr (mounted_still state its flash s (mounted_leaves state its flash s h)).moment
 begun_kept state its flash (Err e) h = tt
 
+pub begin_faults : {F R : Type 0} (state : F → FlashState) (its : Config) (flash : F) (result : Results F R) → (state flash).live ≡ true → IfOk result (Mounted state its flash) →
+    IfOk result (λ s. CountsBreaks [] (state flash) (state (flash_in s)))
+begin_faults state its flash (Ok s) on h = begun_faults state its flash s on h
+begin_faults state its flash (Err e) on h = tt
+
 pub begin_refused : {F : Type 0} (state : F → FlashState) (its : Config) (flash new : F) (why : ServeError) → Unmounted state its flash new why →
     RefusesUnsound its (state flash) (state new) (Err why)
-begin_refused state its flash new (failed.Unsound law slot) h = (h.0.moment, h.1)
-begin_refused state its flash new failed.Memory h = inr h.moment
+begin_refused state its flash new (failed.Unsound law slot) h = (h.0.still.moment, h.1)
+begin_refused state its flash new failed.Memory h = inr h.still.moment
+
+-- of an image that is not sound
+ended_as : (init final : FlashState) (why : ServeError) → StaysQuiet init final → CountsTold [] init final (Err why)
+ended_as init final (failed.Unsound law slot) still = counts_later [] init init final (none_counted init) still.quiet
+ended_as init final failed.Memory still = tt
+
+pub unsound_ended : (init final : FlashState) (list : List Command) (w : Watched) (why : ServeError) → StaysQuiet init final → ServesUnsound list init final w w (Err why)
+unsound_ended init final list w why still = record {
+  told = 0;
+  replies = [];
+  unmounted = tt;
+  all = tt;
+  still = still.still.moment;
+  text = grew_none w.text;
+  kept = grew_none w.kept;
+  faults = ended_as init final why still;
+}
+
+pub unsound_unserved : (init : FlashState) (list : List Command) (w : Watched) → ServesUnsound list init init w w (Err failed.Memory)
+unsound_unserved init list w =
+    unsound_ended init init list w failed.Memory (record { still = record { moment = refl; shape = refl; later = omega arith; told = same_told init.told }; quiet = refl })
+
+unmounted_quiet : {F : Type 0} (state : F → FlashState) (its : Config) (flash new : F) (why : ServeError) → Unmounted state its flash new why → StaysQuiet (state flash) (state new)
+unmounted_quiet state its flash new (failed.Unsound law slot) h = h.0
+unmounted_quiet state its flash new failed.Memory h = h
+
+pub begin_unsound : {F : Type 0} (state : F → FlashState) (its : Config) (list : List Command) (flash new : F) (why : ServeError) (w : Watched) → Unmounted state its flash new why →
+    ServesUnsound list (state flash) (state new) w w (Err why)
+begin_unsound state its list flash new why w h = unsound_ended (state flash) (state new) list w why (unmounted_quiet state its flash new why h)
 
 pub begin_shape : {F : Type 0} (state : F → FlashState) (its : Config) (flash new : F) (why : ServeError) → Unmounted state its flash new why → (state new).shape ≡ (state flash).shape
-begin_shape state its flash new (failed.Unsound law slot) h = h.0.shape
-begin_shape state its flash new failed.Memory h = h.shape
+begin_shape state its flash new (failed.Unsound law slot) h = h.0.still.shape
+begin_shape state its flash new failed.Memory h = h.still.shape

@@ -8,7 +8,7 @@ use Rattle.tx_types.specs.declared.config.Protocol.{Protocol}
 use Rattle.tx_types.specs.declared.config.Shape.{Shape}
 use Rattle.tx_types.specs.Config.{checked, shape_of}
 use Rattle.flash_model.specs.Flash.{FlashState, Told}
-use Rattle.flash_model.specs.Calls.{BothTell, NoMore, Spends, Carries}
+use Rattle.flash_model.specs.Calls.{BothTell, NoMore, Rose, Spends, Carries}
 use Rattle.flash_model.specs.Moves.{Moves}
 use Rattle.flash_model.specs.Operations.{Moment, moment_of}
 use Rattle.record_list.specs.Records.{mention}
@@ -22,11 +22,11 @@ use Rattle.tx_engine.specs.Step.{CutLeaves}
 use Rattle.host_protocol.specs.declared.command.Command.{Command}
 use Rattle.host_protocol.specs.declared.reply.Reply.{Reply}
 use Rattle.host_protocol.specs.declared.reply.Reply.TheVariants as reply
-use Rattle.cut_replay.specs.Run.{IsCut, MayComplete, MayBeSpent, NotDone, is_arm, seen_after}
+use Rattle.cut_replay.specs.Run.{IsCut, MayComplete, MayBeSpent, NotDone, is_arm, is_break, seen_after}
 use Rattle.cut_replay.specs.FlashRun.{Point, IsPoint, IsDone, MovesBy, ServesFlash, is_fault}
-use Rattle.cut_replay.specs.Bounds.{is_cut}
-use Rattle.cut_replay.specs.Mounted.{point_at, IsSeen, IsCached, HoldsAlways, ServesHere}
-use Rattle.cut_replay.specs.Sessions.{flash_in, point_of, IsSoundFlash, Fits, FitsMounted, StandsMounted, IsSpentBy, ServesIn, ServesSession, EndsServing, Mounted, Unmounted, MountsAgain, Follows}
+use Rattle.cut_replay.specs.Bounds.{is_cut, CountsBreak}
+use Rattle.cut_replay.specs.Mounted.{point_at, IsSeen, IsCached, CachesCommand, HoldsAlways, ServesHere}
+use Rattle.cut_replay.specs.Sessions.{flash_in, point_of, IsSoundFlash, Fits, FitsMounted, StandsMounted, IsSpentBy, ServesIn, ServesSession, EndsServing, Mounted, Unmounted, MountsAgain, Follows, CachesServed, CachesSession}
 use Rattle.cut_replay.specs.declared.serving.ServeError.{ServeError}
 use Rattle.cut_replay.specs.declared.serving.ServeError.TheVariants as failed
 use Rattle.cut_replay.specs.declared.session.Session.{Session}
@@ -142,6 +142,23 @@ cut_spends c old new after on off carries more =
     let spent : BothTell (Spends false) old.told new.told = subst (λ (b : Bool). BothTell (Spends b) old.told new.told) off (carries.spends on) in
     spends_before c reply.Cut old.told new.told after (spends_cut c old.told new.told carries.no_more spent) more
 
+-- what the flash counts
+break_is : (r : Reply) → is_cut r ≡ false → is_break r ≡ is_fault r
+break_is reply.Cut h = cc
+break_is reply.Fault h = refl
+break_is _ h = refl
+
+by_fault : (broken : Bool) (old new : FlashState) → Carries old new broken → MatchBool broken (Rose old.faults new.faults) (new.faults ≡ old.faults)
+by_fault true old new h = h.cause
+by_fault false old new h = h.quiet
+
+live_counts : (r : Reply) (old new : FlashState) → is_cut r ≡ false → Carries old new (is_fault r) → CountsBreak r old.faults new.faults
+live_counts r old new whole carries =
+    subst (λ b. MatchBool b (Rose old.faults new.faults) (new.faults ≡ old.faults)) (sym (break_is r whole)) (by_fault (is_fault r) old new carries)
+
+rose_later : (a b d : ℕ) → Rose a b → b ≤ d → Rose a d
+rose_later a b d h le = omega (arith, h, le)
+
 -- The whole of it
 abbrev Sessions : (F R : Type 0) → Type 0
 Sessions F R = Result (Session F R × Reply) (Ended F)
@@ -158,6 +175,7 @@ EndsAfter F R state its c s result = IfErr result (λ e. EndsServing {R = R} sta
 -- what is known of a command that was done
 pub record WasDone {F : Type 0} (state : F → FlashState) (its : Config) (c : Command) (s t : Standing F) (r : Reply) (entries : List CachedPage) : Type 0 where
   pub config : s.config ≡ its
+  pub sound : IsSoundFlash its (state s.flash)
   pub no_arm : is_arm c ≡ false
   pub on : (state s.flash).live ≡ true
   pub here : ServesHere state c s t r
@@ -209,9 +227,11 @@ went_serves : {F R : Type 0} (state : F → FlashState) (c : Command) (s t : Sta
     ServesSession {R = R} state s.config c (session.Mounted s) r (session.Mounted t)
 went_serves state c s t r entries w on = record {
   in_run = λ seen faulted stands. done_in state s.config.protocol c s t r seen faulted w.no_arm w.here w.always stands;
-  kept = inl (sound_here state c s t r entries w);
+  kept = inl (w.sound, sound_here state c s t r entries w);
+  unsound = λ unsound. absurd (unsound w.sound);
   spends = live_spends c r (state s.flash) (state t.flash) w.here.whole w.on on w.here.carries;
   set = sets_none c w.no_arm (state t.flash).told;
+  faults = live_counts r (state s.flash) (state t.flash) w.here.whole w.here.carries;
 }
 
 -- the command met a fault, where power is off
@@ -232,9 +252,11 @@ cut_serves state c s t r entries after w off leaves =
     let here = faulted_here state s.config c s t r entries w off in
     record {
       in_run = λ seen faulted stands. cut_in state s.config.protocol c s t after seen faulted w.no_arm here w.always stands leaves;
-      kept = inl (sound_again state s.config t.flash after (sound_here state c s t r entries w) leaves);
+      kept = inl (w.sound, sound_again state s.config t.flash after (sound_here state c s t r entries w) leaves);
+      unsound = λ unsound. absurd (unsound w.sound);
       spends = cut_spends c (state s.flash) (state t.flash) (state (flash_in after)).told w.on off here.carries (mounted_still state s.config t.flash after leaves).told;
       set = sets_none c w.no_arm (state (flash_in after)).told;
+      faults = rose_later (state s.flash).faults (state t.flash).faults (state (flash_in after)).faults here.carries.cause (mounted_still state s.config t.flash after leaves).later;
     }
 
 again_serves : {F R : Type 0} (state : F → FlashState) (c : Command) (s t : Standing F) (r : Reply) (entries : List CachedPage) (result : Sessions F R) → WasDone state s.config c s t r entries →
@@ -250,8 +272,8 @@ again_ends R state c s t r entries flash (failed.Unsound law slot) w off h =
     absurd (sound_unbroken s.config (state t.flash).image (record { law = law; slot = slot }) (sound_here state c s t r entries w) h.1)
 again_ends {F = F} R state c s t r entries flash failed.Memory w off h =
     let after : Session F R = session.Unmounted flash in
-    let serves = cut_serves {R = R} state c s t r entries after w off h in
-    record { cause = inr (serves.in_run, serves.spends); shape = h.shape ∙ w.here.carries.shape; kept = serves.kept }
+    let serves = cut_serves {R = R} state c s t r entries after w off h.still in
+    record { cause = inr (serves.in_run, serves.spends, serves.faults); shape = h.still.shape ∙ w.here.carries.shape; kept = serves.kept }
 
 again_ends_all : {F R : Type 0} (state : F → FlashState) (c : Command) (s t : Standing F) (r : Reply) (entries : List CachedPage) (result : Sessions F R) → WasDone state s.config c s t r entries →
     (state t.flash).live ≡ false → MountsAgain state s.config t result → EndsAfter F R state s.config c s result
@@ -286,10 +308,48 @@ follows_size state its t r result before after follows = elim (cases_Bool (state
   | inr off ↦ ap (λ (x : CachedPages). x.page_bytes) (follows.was_cut off).1
 ]
 
+-- what is in the cache
+emptied : (before mid after : CachedPages) → mid.page_bytes ≡ before.page_bytes → after ≡ record mid { entries = [] } → after ≡ record before { entries = [] }
+emptied before mid after same is = is ∙ ap (λ n. let c : CachedPages = record { page_bytes = n; entries = [] } in c) same
+
+cut_caches : {F R : Type 0} (state : F → FlashState) (c : Command) (s : Standing F) (new : Session F R) (before after : CachedPages) → after ≡ record before { entries = [] } → CachesServed state c s reply.Cut new before after
+cut_caches state c s (session.Mounted t) before after h = h
+cut_caches state c s (session.Unmounted flash) before after h = h
+
+abbrev CachesAfter : (F R : Type 0) → (F → FlashState) → Config → Command → Standing F → CachedPages → CachedPages → Sessions F R → Type 0
+CachesAfter F R state its c s before after result = IfOk result (λ done. CachesSession state its c (session.Mounted s) done.1 done.0 before after)
+
+no_arm_caches : {F R : Type 0} (state : F → FlashState) (its : Config) (c : Command) (s : Standing F) (r : Reply) (new : Session F R) (before after : CachedPages) → is_arm c ≡ false → CachesServed state c s r new before after →
+    CachesSession state its c (session.Mounted s) r new before after
+no_arm_caches state its c s r new before after no_arm h = subst (λ b. MatchBool b (after ≡ before) (CachesServed state c s r new before after)) (sym no_arm) h
+
+again_caches : {F R : Type 0} (state : F → FlashState) (its : Config) (c : Command) (s t : Standing F) (before after : CachedPages) (result : Sessions F R) → is_arm c ≡ false → after ≡ record before { entries = [] } →
+    MountsAgain state its t result → CachesAfter F R state its c s before after result
+again_caches {R = R} state its c s t before after (Ok done) no_arm empty h =
+    no_arm_caches {R = R} state its c s done.1 done.0 before after no_arm
+    (subst (λ (q : Reply). CachesServed state c s q done.0 before after) (sym h.1) (cut_caches state c s done.0 before after empty))
+again_caches state its c s t before after (Err e) no_arm empty h = tt
+
+pub caches_after : {F R : Type 0} (state : F → FlashState) (its : Config) (c : Command) (s t : Standing F) (r : Reply) (result : Sessions F R) (before mid after : CachedPages) → is_arm c ≡ false → is_cut r ≡ false →
+    CachesCommand state c s t before mid → mid.page_bytes ≡ before.page_bytes → Follows state its t r result mid after → CachesAfter F R state its c s before after result
+caches_after {F = F} {R = R} state its c s t r result before mid after no_arm whole caches size follows = elim (cases_Bool (state t.flash).live) [
+  | inl on ↦ (
+      let went = follows.went_on on in
+      let up : Session F R = session.Mounted t in
+      let here : CachesCommand state c s t before after = subst (λ (x : CachedPages). CachesCommand state c s t before x) (sym went.1) caches in
+      subst (λ (x : Sessions F R). CachesAfter F R state its c s before after x) (sym went.0)
+      (no_arm_caches {R = R} state its c s r up before after no_arm
+      (subst (λ b. MatchBool b (after ≡ record before { entries = [] }) (CachesCommand state c s t before after)) (sym whole) here)))
+  | inr off ↦ (
+      let cut = follows.was_cut off in
+      again_caches state its c s t before after result no_arm (emptied before mid after size cut.1) cut.0)
+]
+
 pub was_done : {F : Type 0} (state : F → FlashState) (its : Config) (kept : Protocol) (c : Command) (s t : Standing F) (r : Reply) (before entries : List CachedPage) → its.protocol ≡ kept →
     FitsMounted state its before s → is_arm c ≡ false → ServesHere state c s t r → IsCached t entries → HoldsAlways state kept t → WasDone state its c s t r entries
 was_done state its kept c s t r before entries rule fits no_arm here cached always = record {
   config = fits.config;
+  sound = subst (λ (x : Config). IsSoundImage x.protocol x.logical (shape_of x) (state s.flash).image) fits.config fits.always.sound;
   no_arm = no_arm;
   on = fits.live;
   here = here;

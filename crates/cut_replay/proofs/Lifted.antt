@@ -1,11 +1,11 @@
 -- A command that mounts the device first.
-use Rattle.std.proofs.Common.{◌≡◌, ◌⊎◌, ℕ, ◌≤◌, Bool, true, false, Result, Ok, Err, refl, sym, ap, ◌∙◌, subst, inl, inr}
+use Rattle.std.proofs.Common.{◌≡◌, ◌⊎◌, ℕ, ◌≤◌, Bool, true, false, [], Result, Ok, Err, refl, sym, ap, ◌∙◌, subst, inl, inr, arith}
 use Rattle.std.specs.Prelude.{MatchBool, IfOk, IfErr}
 use Rattle.tx_types.specs.declared.config.Config.{Config}
 use Rattle.tx_types.specs.declared.config.Shape.{Shape}
 use Rattle.tx_types.specs.Config.{checked, shape_of}
 use Rattle.flash_model.specs.Flash.{FlashState}
-use Rattle.flash_model.specs.Calls.{BothTell, Spends}
+use Rattle.flash_model.specs.Calls.{BothTell, Rose, Spends}
 use Rattle.flash_model.specs.Operations.{Moment, moment_of}
 use Rattle.record_list.specs.Records.{mention}
 use Rattle.version_index.specs.Images.{IsSoundImage, records_in}
@@ -17,8 +17,10 @@ use Rattle.host_protocol.specs.declared.reply.Reply.{Reply}
 use Rattle.host_protocol.specs.declared.reply.Reply.TheVariants as reply
 use Rattle.cut_replay.specs.Run.{DoesCommand, IsCut, MayBeCut, MayComplete, NotDone, is_arm, seen_after}
 use Rattle.cut_replay.specs.FlashRun.{Point, IsDone, MovesBy, ServesFlash, Tells, HasErased, opening_point}
-use Rattle.cut_replay.specs.Mounted.{point_at, MomentStays}
-use Rattle.cut_replay.specs.Sessions.{flash_in, point_of, StandsMounted, StandsUnmounted, IsSpentBy, ServesIn, ServesSession, IsSoundOrSame, EndsServing, EndsFor, MountsIn, MeetsFault, Mounted, Unmounted}
+use Rattle.cut_replay.specs.Bounds.{CountsBreak}
+use Rattle.cut_replay.specs.Mounted.{point_at, MomentStays, StaysQuiet}
+use Rattle.page_cache.specs.CachedPages.{CachedPages}
+use Rattle.cut_replay.specs.Sessions.{flash_in, point_of, StandsMounted, StandsUnmounted, IsSpentBy, ServesIn, ServesSession, IsSoundOrSame, EndsServing, EndsFor, MountsIn, MeetsFault, Mounted, Unmounted, CachesServed, CachesFrom, CachesSession}
 use Rattle.cut_replay.specs.declared.serving.ServeError.{ServeError}
 use Rattle.cut_replay.specs.declared.serving.ServeError.TheVariants as failed
 use Rattle.cut_replay.specs.declared.session.Ended.{Ended}
@@ -83,7 +85,7 @@ lifted_run {F = F} {R = R} state its flash t c r new no_arm mounts h seen faulte
 
 -- from another flash with the same moment
 sound_or_same_from : (its : Config) (a b new : FlashState) → moment_of b ≡ moment_of a → IsSoundOrSame its b new → IsSoundOrSame its a new
-sound_or_same_from its a b new same (inl sound) = inl sound
+sound_or_same_from its a b new same (inl sound) = inl (subst (λ (m : Moment). IsSoundImage its.protocol its.logical (shape_of its) m.image) same sound.0, sound.1)
 sound_or_same_from its a b new same (inr is) = inr (is ∙ same)
 
 pub lifted_serves : {F R : Type 0} (state : F → FlashState) (its : Config) (flash : F) (t : Standing F) (c : Command) (r : Reply) (new : Session F R) → is_arm c ≡ false → MountsIn state its flash t →
@@ -91,20 +93,31 @@ pub lifted_serves : {F R : Type 0} (state : F → FlashState) (its : Config) (fl
 lifted_serves state its flash t c r new no_arm mounts h = record {
   in_run = lifted_run state its flash t c r new no_arm mounts h.in_run;
   kept = sound_or_same_from its (state flash) (state t.flash) (state (flash_in new)) mounts.still.moment h.kept;
+  unsound = λ unsound. h.unsound (λ sound. unsound (subst (λ (m : Moment). IsSoundImage its.protocol its.logical (shape_of its) m.image) mounts.still.moment sound));
   spends = spends_after c r (state flash).told (state t.flash).told (state (flash_in new)).told mounts.still.told h.spends;
   set = h.set;
+  faults = subst (λ n. CountsBreak r n (state (flash_in new)).faults) mounts.quiet h.faults;
 }
 
 still_then : (a b d : FlashState) → MomentStays a b → MomentStays b d → MomentStays a d
-still_then a b d ab bd = record { moment = bd.moment ∙ ab.moment; shape = bd.shape ∙ ab.shape; told = no_more_then a.told b.told d.told ab.told bd.told }
+still_then a b d ab bd = record {
+  moment = bd.moment ∙ ab.moment;
+  shape = bd.shape ∙ ab.shape;
+  later = omega (arith, ab.later, bd.later);
+  told = no_more_then a.told b.told d.told ab.told bd.told;
+}
 
 lifted_cause : {F : Type 0} (R : Type 0) (state : F → FlashState) (its : Config) (flash : F) (t : Standing F) (c : Command) (new : F) (why : ServeError) → is_arm c ≡ false → MountsIn state its flash t →
     EndsFor {R = R} state its c (session.Mounted t) new why → EndsFor {R = R} state its c (session.Unmounted flash) new why
 lifted_cause R state its flash t c new (failed.Unsound law slot) no_arm mounts h = absurd h
-lifted_cause R state its flash t c new failed.Memory no_arm mounts (inl still) = inl (still_then (state flash) (state t.flash) (state new) mounts.still still)
+lifted_cause R state its flash t c new failed.Memory no_arm mounts (inl still) = inl (record { still = still_then (state flash) (state t.flash) (state new) mounts.still still.still; quiet = still.quiet ∙ mounts.quiet })
 lifted_cause {F = F} R state its flash t c new failed.Memory no_arm mounts (inr cut) =
     let after : Session F R = session.Unmounted new in
-    inr (lifted_run {R = R} state its flash t c reply.Cut after no_arm mounts cut.0, spends_after c reply.Cut (state flash).told (state t.flash).told (state new).told mounts.still.told cut.1)
+    inr (
+      lifted_run {R = R} state its flash t c reply.Cut after no_arm mounts cut.0,
+      spends_after c reply.Cut (state flash).told (state t.flash).told (state new).told mounts.still.told cut.1,
+      subst (λ n. Rose n (state new).faults) mounts.quiet cut.2,
+    )
 
 pub lifted_ends : {F : Type 0} (R : Type 0) (state : F → FlashState) (its : Config) (flash : F) (t : Standing F) (c : Command) (new : F) (why : ServeError) → is_arm c ≡ false → MountsIn state its flash t →
     EndsServing {R = R} state its c (session.Mounted t) new why → EndsServing {R = R} state its c (session.Unmounted flash) new why
@@ -117,8 +130,8 @@ lifted_ends R state its flash t c new why no_arm mounts h = record {
 -- The device was not mounted
 pub unmounted_ends : {F : Type 0} (R : Type 0) (state : F → FlashState) (its : Config) (c : Command) (flash new : F) (why : ServeError) → Unmounted state its flash new why →
     EndsServing {R = R} state its c (session.Unmounted flash) new why
-unmounted_ends R state its c flash new (failed.Unsound law slot) h = record { cause = (h.0.moment, h.1); shape = h.0.shape; kept = inr h.0.moment }
-unmounted_ends R state its c flash new failed.Memory h = record { cause = inl h; shape = h.shape; kept = inr h.moment }
+unmounted_ends R state its c flash new (failed.Unsound law slot) h = record { cause = h; shape = h.0.still.shape; kept = inr h.0.still.moment }
+unmounted_ends R state its c flash new failed.Memory h = record { cause = inl h; shape = h.still.shape; kept = inr h.still.moment }
 
 abbrev IsFaultOrCut : FlashState → Reply → Type 0
 IsFaultOrCut s r = ((r ≡ reply.Fault) × (s.live ≡ true)) ⊎ ((r ≡ reply.Cut) × (s.live ≡ false))
@@ -132,6 +145,10 @@ not_done_spends c old new r (inl is) h =
     subst (λ q. BothTell (IsSpentBy c q) old.told new.told) (sym is.0) (spends_fault c old.told new.told h.still.told (subst (λ (b : Bool). BothTell (Spends b) old.told new.told) is.1 h.spends))
 not_done_spends c old new r (inr is) h =
     subst (λ q. BothTell (IsSpentBy c q) old.told new.told) (sym is.0) (spends_cut c old.told new.told h.still.told (subst (λ (b : Bool). BothTell (Spends b) old.told new.told) is.1 h.spends))
+
+not_done_counts : (s : FlashState) (r : Reply) (before now : ℕ) → IsFaultOrCut s r → Rose before now → CountsBreak r before now
+not_done_counts s r before now (inl is) h = subst (λ q. CountsBreak q before now) (sym is.0) h
+not_done_counts s r before now (inr is) h = subst (λ q. CountsBreak q before now) (sym is.0) h
 
 not_opened : (s : FlashState) (c : Command) (seen : ℕ → ℕ) (r : Reply) (page : ℕ) → IsFaultOrCut s r → seen_after seen c r page ≡ seen page
 not_opened s c seen r page (inl is) = ap (λ q. seen_after seen c q page) is.0
@@ -156,8 +173,10 @@ not_done_serves {F = F} R state its c flash new r no_arm h is =
         };
       };
       kept = inr h.still.moment;
+      unsound = λ unsound. subst (λ b. MatchBool b (r ≡ reply.Armed) ((r ≡ reply.Fault) ⊎ (r ≡ reply.Cut))) (sym no_arm) (not_done_reply (state new) r is);
       spends = not_done_spends c (state flash) (state new) r is h;
       set = sets_none c no_arm (state new).told;
+      faults = not_done_counts (state new) r (state flash).faults (state new).faults is h.rose;
     }
 
 pub unmounted_check : (its : Config) (old new : FlashState) → checked its ≡ Ok old.shape → MomentStays old new → checked its ≡ Ok new.shape
@@ -169,6 +188,26 @@ is_mounted state its flash s t h is = subst (λ x. Mounted state its flash x) is
 
 pub is_unmounted : {F R : Type 0} (state : F → FlashState) (its : Config) (flash : F) (s : Session F R) (new : F) → Mounted state its flash s → s ≡ session.Unmounted new → MeetsFault (state flash) (state new)
 is_unmounted state its flash s new h is = subst (λ x. Mounted state its flash x) is h
+
+-- and what is in the cache
+lifted_from : {F R : Type 0} (state : F → FlashState) (its : Config) (flash : F) (t : Standing F) (c : Command) (r : Reply) (new : Session F R) (before mid after : CachedPages) → MountsIn state its flash t →
+    mid ≡ record before { entries = [] } → CachesServed state c t r new mid after → CachesFrom state its c (session.Unmounted flash) r new before after
+lifted_from {R = R} state its flash t c r (session.Mounted u) before mid after mounts empty h =
+    let up : Session _ R = session.Mounted u in
+    (t, mounts, subst (λ (x : CachedPages). CachesServed state c t r up x after) empty h)
+lifted_from state its flash t c r (session.Unmounted new) before mid after mounts empty h = h ∙ ap (λ (x : CachedPages). record x { entries = [] }) empty
+
+lifted_caches : {F R : Type 0} (state : F → FlashState) (its : Config) (flash : F) (t : Standing F) (c : Command) (r : Reply) (new : Session F R) (before mid after : CachedPages) → is_arm c ≡ false → MountsIn state its flash t →
+    mid ≡ record before { entries = [] } → CachesSession state its c (session.Mounted t) r new mid after → CachesSession state its c (session.Unmounted flash) r new before after
+lifted_caches {R = R} state its flash t c r new before mid after no_arm mounts empty h =
+    let old : Session _ R = session.Unmounted flash in
+    let here : CachesServed state c t r new mid after = subst (λ b. MatchBool b (after ≡ mid) (CachesServed state c t r new mid after)) no_arm h in
+    subst (λ b. MatchBool b (after ≡ before) (CachesFrom state its c old r new before after)) (sym no_arm) (lifted_from state its flash t c r new before mid after mounts empty here)
+
+pub unmounted_caches : {F : Type 0} (R : Type 0) (state : F → FlashState) (its : Config) (flash new : F) (c : Command) (r : Reply) (before after : CachedPages) → is_arm c ≡ false → after ≡ record before { entries = [] } →
+    CachesSession {R = R} state its c (session.Unmounted flash) r (session.Unmounted new) before after
+unmounted_caches R state its flash new c r before after no_arm empty =
+    subst (λ b. MatchBool b (after ≡ before) (after ≡ record before { entries = [] })) (sym no_arm) empty
 
 -- the same of each result
 abbrev Results : (F R : Type 0) → Type 0
@@ -183,3 +222,9 @@ pub lifted_error : {F R : Type 0} (state : F → FlashState) (its : Config) (fla
     IfErr result (λ e. EndsServing {R = R} state its c (session.Mounted t) e.flash e.why) → IfErr result (λ e. EndsServing {R = R} state its c (session.Unmounted flash) e.flash e.why)
 lifted_error state its flash t c (Ok done) no_arm mounts h = tt
 lifted_error {R = R} state its flash t c (Err e) no_arm mounts h = lifted_ends R state its flash t c e.flash e.why no_arm mounts h
+
+pub lifted_cache : {F R : Type 0} (state : F → FlashState) (its : Config) (flash : F) (t : Standing F) (c : Command) (result : Results F R) (before mid after : CachedPages) → is_arm c ≡ false → MountsIn state its flash t →
+    mid ≡ record before { entries = [] } → IfOk result (λ done. CachesSession {R = R} state its c (session.Mounted t) done.1 done.0 mid after) →
+    IfOk result (λ done. CachesSession {R = R} state its c (session.Unmounted flash) done.1 done.0 before after)
+lifted_cache {R = R} state its flash t c (Ok done) before mid after no_arm mounts empty h = lifted_caches {R = R} state its flash t c done.1 done.0 before mid after no_arm mounts empty h
+lifted_cache state its flash t c (Err e) before mid after no_arm mounts empty h = tt

@@ -1,12 +1,12 @@
 -- Mounting a flash on which power was turned on.
-use Rattle.std.proofs.Common.{◌≡◌, ℕ, Bool, true, false, List, sym, ap, ◌∙◌, subst}
+use Rattle.std.proofs.Common.{◌≡◌, ℕ, ◌≤◌, Bool, true, false, List, sym, ap, ◌∙◌, subst}
 use Rattle.tx_types.specs.declared.config.Config.{Config}
 use Rattle.tx_types.specs.declared.config.Protocol.{Protocol}
 use Rattle.tx_types.specs.declared.config.Slot.{Slot}
 use Rattle.tx_types.specs.Config.{shape_of}
 use Rattle.flash_model.specs.Flash.{FlashState, Contents}
 use Rattle.flash_model.specs.Arms.{TurnsOn}
-use Rattle.flash_model.specs.Calls.{Carries, BothTell, NoMore, Spends}
+use Rattle.flash_model.specs.Calls.{Carries, BothTell, NoMore, Rose, Spends}
 use Rattle.flash_model.specs.Operations.{moment_of}
 use Rattle.version_index.specs.Images.{IsLeastImageBreach, array_in}
 use Rattle.scan_recovery.specs.Opening.{IsOpened}
@@ -14,7 +14,7 @@ use Rattle.tx_engine.specs.ArrayState.{idle}
 use Rattle.tx_engine.specs.Standing.{Standing}
 use Rattle.tx_engine.specs.Opens.{Mounts, FailsToMount}
 use Rattle.tx_engine.specs.declared.mount.MountError.TheVariants as mount
-use Rattle.cut_replay.specs.Mounted.{HoldsAlways, MomentStays}
+use Rattle.cut_replay.specs.Mounted.{HoldsAlways, MomentStays, StaysQuiet}
 use Rattle.cut_replay.specs.Sessions.{MountsIn, MeetsFault, Unmounted}
 use Rattle.cut_replay.specs.declared.serving.ServeError.TheVariants as failed
 
@@ -26,7 +26,14 @@ pub powered_still : (old on new : FlashState) (broken : Bool) → TurnsOn old on
 powered_still old on new broken turned moment carries = record {
   moment = moment ∙ ap moment_of turned;
   shape = carries.shape ∙ ap (λ (s : FlashState). s.shape) turned;
+  later = subst (λ (s : FlashState). s.faults ≤ new.faults) turned carries.later;
   told = subst (λ (s : FlashState). BothTell NoMore s.told new.told) turned carries.no_more;
+}
+
+powered_quiet : (old on new : FlashState) → TurnsOn old on → moment_of new ≡ moment_of on → Carries on new false → StaysQuiet old new
+powered_quiet old on new turned moment carries = record {
+  still = powered_still old on new false turned moment carries;
+  quiet = carries.quiet ∙ ap (λ (s : FlashState). s.faults) turned;
 }
 
 pub powered_live : (old on : FlashState) → TurnsOn old on → on.live ≡ true
@@ -44,6 +51,7 @@ powered_mounts state its kept old on s rule turned mounts always =
       unsure = mounts.unsure;
       tables = subst (λ (x : List Contents). IsOpened its x s.noted s.table) image mounts.tables;
       still = powered_still (state old) (state on) (state s.flash) false turned mounts.moment mounts.carries;
+      quiet = mounts.carries.quiet ∙ ap (λ (x : FlashState). x.faults) turned;
       always = subst (λ (p : Protocol). HoldsAlways state p s) (sym rule) always;
     }
 
@@ -51,6 +59,7 @@ powered_mounts state its kept old on s rule turned mounts always =
 pub powered_faults : {F : Type 0} (state : F → FlashState) (its : Config) (old on new : F) → TurnsOn (state old) (state on) → FailsToMount state on its new mount.Fault → MeetsFault (state old) (state new)
 powered_faults state its old on new turned fails = record {
   still = powered_still (state old) (state on) (state new) true turned fails.0 fails.1;
+  rose = subst (λ (s : FlashState). Rose s.faults (state new).faults) turned fails.1.cause;
   spends = subst (λ (s : FlashState). BothTell (Spends (state new).live) s.told (state new).told) turned (fails.1.spends (powered_live (state old) (state on) turned));
 }
 
@@ -58,9 +67,9 @@ powered_faults state its old on new turned fails = record {
 pub powered_unsound : {F : Type 0} (state : F → FlashState) (its : Config) (old on new : F) (law : ℕ) (slot : Slot) → TurnsOn (state old) (state on) → FailsToMount state on its new (mount.Unsound law slot) →
     Unmounted state its old new (failed.Unsound law slot)
 powered_unsound state its old on new law slot turned fails = (
-  powered_still (state old) (state on) (state new) false turned fails.0 fails.1,
+  powered_quiet (state old) (state on) (state new) turned fails.0 fails.1,
   subst (λ (s : FlashState). IsLeastImageBreach its.protocol its.logical (shape_of its) s.image (record { law = law; slot = slot })) turned fails.2,
 )
 
 pub powered_full : {F : Type 0} (state : F → FlashState) (its : Config) (old on new : F) → TurnsOn (state old) (state on) → FailsToMount state on its new mount.Memory → Unmounted state its old new failed.Memory
-powered_full state its old on new turned fails = powered_still (state old) (state on) (state new) false turned fails.0 fails.1
+powered_full state its old on new turned fails = powered_quiet (state old) (state on) (state new) turned fails.0 fails.1

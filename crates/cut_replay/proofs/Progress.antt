@@ -1,8 +1,11 @@
 -- A session that has served the first commands of a list.
 use Rattle.std.proofs.Common.{◌≡◌, ℕ, ◌+◌, ◌<◌, ◌≤◌, Bool, true, false, List, [], ◌∷◌, ◌++◌, length, take, Option, Some, None, Result, Ok, Err, refl, sym, ap, ◌∙◌, subst, inl, inr, arith, get_or}
 use Rattle.std.specs.Prelude.{IfSome, OnOk, OnErr}
+use Rattle.std.specs.Prelude.{map}
+use Rattle.std.specs.List.{AllZip}
 use Rattle.std.specs.Result.{is_err}
-use Rattle.std.proofs.lemmas.List.{take_more, take_all, length-take-le}
+use Rattle.std.proofs.lemmas.Slice.Zip.{all_zipped_more}
+use Rattle.std.proofs.lemmas.List.{take_more, take_all, length-take-le, map-append}
 use Rattle.tx_types.specs.declared.config.Config.{Config}
 use Rattle.tx_types.specs.declared.config.Slot.{Slot}
 use Rattle.tx_types.specs.declared.memory.Memory.{Memory}
@@ -16,18 +19,18 @@ use Rattle.host_protocol.specs.declared.reply.Reply.{Reply}
 use Rattle.host_protocol.specs.declared.reply.Reply.TheVariants as reply
 use Rattle.host_protocol.specs.Replies.{text_of}
 use Rattle.cut_replay.specs.Run.{seen_after}
-use Rattle.cut_replay.specs.FlashRun.{Point, FlashRun, ServesFlash, opening_point, mentions_in, last_moment}
+use Rattle.cut_replay.specs.FlashRun.{Point, IsPoint, FlashRun, ServesFlash, opening_point, mentions_in, last_moment}
 use Rattle.cut_replay.specs.Watching.{ToldReply, Grew, text_of_all, replies_told}
-use Rattle.cut_replay.specs.Bounds.{SpendsTold, LastIsSet}
-use Rattle.cut_replay.specs.Served.{Watched, ServesRun, ServesSound, RefusesUnsound}
-use Rattle.cut_replay.specs.Sessions.{flash_in, point_of, StandsAt, ServesIn, ServesSession, EndsServing, EndsFor, EndsForMemory, Refuses, IsSpentBy, IsSoundOrSame}
+use Rattle.cut_replay.specs.Bounds.{SpendsTold, LastIsSet, CountsBreak, CountsBreaks}
+use Rattle.cut_replay.specs.Served.{Watched, ServesRun, ServesSound, ServesUnsound, CountsTold, RefusesUnsound}
+use Rattle.cut_replay.specs.Sessions.{flash_in, point_of, IsSoundFlash, StandsAt, ServesIn, ServesSession, EndsServing, EndsFor, EndsForMemory, Refuses, IsSpentBy, IsSoundOrSame, RepliesUnmounted}
 use Rattle.cut_replay.specs.Beginning.{Begins}
 use Rattle.cut_replay.specs.declared.serving.ServeError.{ServeError}
 use Rattle.cut_replay.specs.declared.serving.ServeError.TheVariants as failed
 use Rattle.cut_replay.specs.declared.session.Session.{Session}
 use Rattle.cut_replay.specs.declared.session.Session.TheVariants as session
 use Rattle.cut_replay.proofs.Mountings.{sound_unbroken}
-use Rattle.cut_replay.proofs.Runs.{last_point, seen_through, faulted_through, run_more, last_more, seen_more, faulted_more, last_moment_is, run_lengths, take_whole, take_front, grew_none, grew_more, text_more, told_more, spends_nothing, spends_more, spends_later, last_sets, none_sets}
+use Rattle.cut_replay.proofs.Runs.{last_point, seen_through, faulted_through, run_more, last_more, seen_more, faulted_more, last_moment_is, run_lengths, take_whole, take_front, grew_none, grew_more, text_more, told_more, spends_nothing, spends_more, spends_later, counts_more, counts_later, last_sets, none_sets}
 
 -- the moment of a session is that of its flash
 pub point_moment : {F R : Type 0} (state : F → FlashState) (its : Config) (s : Session F R) → (point_of state its s).moment ≡ moment_of (state (flash_in s))
@@ -37,10 +40,12 @@ point_moment state its (session.Unmounted flash) = refl
 -- a run over commands that leads to this session
 pub record Runs {F R : Type 0} (state : F → FlashState) (its : Config) (init : FlashState) (cs : List Command) (rs : List Reply) (ps : List Point) (s : Session F R) : Type 0 where
   pub up : Bool
+  pub first : IsPoint its (opening_point its up (moment_of init))
   pub run : FlashRun its (mentions_in its (moment_of init)) false (opening_point its up (moment_of init)) cs rs ps
   pub last : point_of state its s ≡ last_point (opening_point its up (moment_of init)) ps
   pub stands : StandsAt state its (seen_through (mentions_in its (moment_of init)) cs rs) (faulted_through false rs) s
   pub spends : SpendsTold cs rs init.told (state (flash_in s)).told
+  pub faults : CountsBreaks rs init (state (flash_in s))
 
 -- and its replies were told
 pub record HasServed {F R : Type 0} (state : F → FlashState) (its : Config) (init : FlashState) (cs : List Command) (s : Session F R) (before after : Watched) : Type 0 where
@@ -56,7 +61,15 @@ pub served_none : {F R : Type 0} (state : F → FlashState) (its : Config) (init
 served_none state its init s w h = record {
   replies = [];
   points = [];
-  runs = record { up = h.up; run = tt; last = h.point; stands = h.stands; spends = spends_nothing init.told (state (flash_in s)).told h.told };
+  runs = record {
+    up = h.up;
+    first = record { sound = h.sound; array = inl refl };
+    run = tt;
+    last = h.point;
+    stands = h.stands;
+    spends = spends_nothing init.told (state (flash_in s)).told h.told;
+    faults = h.faults;
+  };
   text = grew_none w.text;
   kept = grew_none w.kept;
   set = none_sets (state (flash_in s)).told;
@@ -66,8 +79,8 @@ served_none state its init s w h = record {
 pub runs_more : {F R : Type 0} (state : F → FlashState) (its : Config) (init : FlashState) (cs : List Command) (rs : List Reply) (ps : List Point) (c : Command) (r : Reply) (s t : Session F R) →
     Runs state its init cs rs ps s →
     ((seen : ℕ → ℕ) → (faulted : Bool) → StandsAt state its seen faulted s → ServesIn state its seen faulted c s r t) → BothTell (IsSpentBy c r) (state (flash_in s)).told (state (flash_in t)).told →
-    Runs state its init (cs ++ c ∷ []) (rs ++ r ∷ []) (ps ++ point_of state its t ∷ []) t
-runs_more state its init cs rs ps c r s t h served spends =
+    CountsBreak r (state (flash_in s)).faults (state (flash_in t)).faults → Runs state its init (cs ++ c ∷ []) (rs ++ r ∷ []) (ps ++ point_of state its t ∷ []) t
+runs_more state its init cs rs ps c r s t h served spends faults =
     let seen = mentions_in its (moment_of init) in
     let old = opening_point its h.up (moment_of init) in
     let p = point_of state its t in
@@ -75,12 +88,14 @@ runs_more state its init cs rs ps c r s t h served spends =
     let same = run_lengths its seen false old cs rs ps h.run in
     record {
       up = h.up;
+      first = h.first;
       run = run_more its seen false old cs rs ps c r p h.run
           ((one.spent, one.may, subst (λ (q : Point). ServesFlash its one.spent (faulted_through false rs) c q r p) h.last one.serves), one.point);
       last = sym (last_more old ps p);
       stands = subst (λ (f : ℕ → ℕ). StandsAt state its f (faulted_through false (rs ++ r ∷ [])) t) (sym (seen_more seen cs rs c r same.0))
           (subst (λ (b : Bool). StandsAt state its (seen_after (seen_through seen cs rs) c r) b t) (sym (faulted_more false rs r)) one.stands);
       spends = spends_more cs rs c r init.told (state (flash_in s)).told (state (flash_in t)).told same.0 h.spends spends;
+      faults = counts_more rs r init (state (flash_in s)) (state (flash_in t)) h.faults faults;
     }
 
 -- which was told
@@ -93,7 +108,7 @@ served_more state its init cs c r s t a b d h serves text kept =
     record {
       replies = h.replies ++ r ∷ [];
       points = h.points ++ p ∷ [];
-      runs = runs_more state its init cs h.replies h.points c r s t h.runs serves.in_run serves.spends;
+      runs = runs_more state its init cs h.replies h.points c r s t h.runs serves.in_run serves.spends serves.faults;
       text = subst (λ (x : List ℕ). Grew a.text d.text x) (sym (text_more h.replies r)) (grew_more a.text b.text d.text (text_of_all h.replies) (text_of r) h.text text);
       kept = subst (λ (x : List ToldReply). Grew a.kept d.kept x) (sym (told_more h.replies h.points r p (same.0 ∙ sym same.1)))
           (grew_more a.kept b.kept d.kept (replies_told h.replies h.points) (record { text = text_of r; moment = p.moment } ∷ []) h.kept
@@ -108,41 +123,43 @@ run_parts state its init cs rs ps s final h same =
     same ∙ sym (point_moment state its s) ∙ ap (λ (p : Point). p.moment) h.last ∙ last_moment_is (opening_point its h.up (moment_of init)) ps
 
 pub all_served : {F R : Type 0} (state : F → FlashState) (its : Config) (init : FlashState) (cs : List Command) (s : Session F R) (final : FlashState) (a b : Watched) → HasServed state its init cs s a b →
-    moment_of final ≡ moment_of (state (flash_in s)) → BothTell NoMore (state (flash_in s)).told final.told → ServesRun its cs (length cs) init final a b
-all_served state its init cs s final a b h same no_more =
+    moment_of final ≡ moment_of (state (flash_in s)) → BothTell NoMore (state (flash_in s)).told final.told → final.faults ≡ (state (flash_in s)).faults → ServesRun its cs (length cs) init final a b
+all_served state its init cs s final a b h same no_more quiet =
     let lengths = run_lengths its (mentions_in its (moment_of init)) false (opening_point its h.runs.up (moment_of init)) cs h.replies h.points h.runs.run in
     let replies = take_whole (length cs) h.replies lengths.0 in
     let points = take_whole (length cs) h.points lengths.1 in
     record {
       replies = h.replies;
       points = h.points;
-      run = record { up = h.runs.up; runs = h.runs.run };
+      run = record { up = h.runs.up; first = h.runs.first; runs = h.runs.run };
       last = run_parts state its init cs h.replies h.points s final h.runs same;
       text = subst (λ (x : List Reply). Grew a.text b.text (text_of_all x)) (sym replies) h.text;
       kept = subst (λ (x : List Reply). Grew a.kept b.kept (replies_told x (take (length cs) h.points))) (sym replies)
           (subst (λ (x : List Point). Grew a.kept b.kept (replies_told h.replies x)) (sym points) h.kept);
       spends = spends_later cs h.replies init.told (state (flash_in s)).told final.told h.runs.spends no_more;
+      faults = counts_later h.replies init (state (flash_in s)) final h.runs.faults quiet;
     }
 
 -- where one command more was served whose reply was not told
 pub one_untold : {F R : Type 0} (state : F → FlashState) (its : Config) (init : FlashState) (cs : List Command) (c : Command) (r : Reply) (s t : Session F R) (a b d : Watched) → HasServed state its init cs s a b →
     ((seen : ℕ → ℕ) → (faulted : Bool) → StandsAt state its seen faulted s → ServesIn state its seen faulted c s r t) → BothTell (IsSpentBy c r) (state (flash_in s)).told (state (flash_in t)).told →
-    d.text ≡ b.text → d.kept ≡ b.kept → ServesRun its (cs ++ c ∷ []) (length cs) init (state (flash_in t)) a d
-one_untold state its init cs c r s t a b d h served spends text kept =
+    CountsBreak r (state (flash_in s)).faults (state (flash_in t)).faults → d.text ≡ b.text → d.kept ≡ b.kept → ServesRun its (cs ++ c ∷ []) (length cs) init (state (flash_in t)) a d
+one_untold state its init cs c r s t a b d h served spends faults text kept =
     let lengths = run_lengths its (mentions_in its (moment_of init)) false (opening_point its h.runs.up (moment_of init)) cs h.replies h.points h.runs.run in
     let p = point_of state its t in
-    let runs = runs_more state its init cs h.replies h.points c r s t h.runs served spends in
+    let runs = runs_more state its init cs h.replies h.points c r s t h.runs served spends faults in
     let replies = take_front (length cs) h.replies r lengths.0 in
     let points = take_front (length cs) h.points p lengths.1 in
     record {
       replies = h.replies ++ r ∷ [];
       points = h.points ++ p ∷ [];
-      run = record { up = runs.up; runs = runs.run };
+      run = record { up = runs.up; first = runs.first; runs = runs.run };
       last = run_parts state its init (cs ++ c ∷ []) (h.replies ++ r ∷ []) (h.points ++ p ∷ []) t (state (flash_in t)) runs refl;
       text = subst (λ (x : List Reply). Grew a.text d.text (text_of_all x)) (sym replies) (subst (λ (o : Option (List ℕ)). Grew a.text o (text_of_all h.replies)) (sym text) h.text);
       kept = subst (λ (x : List Reply). Grew a.kept d.kept (replies_told x (take (length cs) (h.points ++ p ∷ [])))) (sym replies)
           (subst (λ (x : List Point). Grew a.kept d.kept (replies_told h.replies x)) (sym points) (subst (λ (o : Option (List ToldReply)). Grew a.kept o (replies_told h.replies h.points)) (sym kept) h.kept));
       spends = runs.spends;
+      faults = runs.faults;
     }
 
 -- The next command of a list
@@ -160,7 +177,7 @@ ended_for_memory state its init list at c s flash a b lt read h (inl still) =
       at,
       omega arith,
       inl (subst (λ n. ServesRun its (take at list) n init (state flash) a b) count
-          (all_served state its init (take at list) s (state flash) a b h still.moment still.told)),
+          (all_served state its init (take at list) s (state flash) a b h still.still.moment still.still.told still.quiet)),
     )
 ended_for_memory {F = F} {R = R} state its init list at c s flash a b lt read h (inr cut) =
     let after : Session F R = session.Unmounted flash in
@@ -169,7 +186,7 @@ ended_for_memory {F = F} {R = R} state its init list at c s flash a b lt read h 
       omega arith,
       inr (subst (λ n. ServesRun its (take (at + 1) list) n init (state flash) a b) count
           (subst (λ (cs : List Command). ServesRun its cs (length (take at list)) init (state flash) a b) (sym (next_of list at c lt read))
-          (one_untold {R = R} state its init (take at list) c reply.Cut s after a b b h cut.0 cut.1 refl refl))),
+          (one_untold {R = R} state its init (take at list) c reply.Cut s after a b b h cut.0 cut.1 cut.2 refl refl))),
     )
 
 -- a session that stands has no image that is refused
@@ -193,7 +210,7 @@ untold_in state its init list at c r s t flash a b d lt read h serves is text ke
       inr (subst (λ n. ServesRun its (take (at + 1) list) n init (state flash) a d) count
           (subst (λ (cs : List Command). ServesRun its cs (length (take at list)) init (state flash) a d) (sym (next_of list at c lt read))
           (subst (λ x. ServesRun its (take at list ++ c ∷ []) (length (take at list)) init (state x) a d) (sym is)
-          (one_untold state its init (take at list) c r s t a b d h serves.in_run serves.spends text kept)))),
+          (one_untold state its init (take at list) c r s t a b d h serves.in_run serves.spends serves.faults text kept)))),
     )
 
 -- all was served
@@ -207,26 +224,99 @@ served_to_the_end state its init list at s flash a b ge h is =
     let whole : take at list ≡ list = take_all at list ge in
     let end = subst (λ (cs : List Command). HasServed state its init cs s a b) whole h in
     subst (λ x. ServesSound its list init (state x) a b (Ok tt)) (sym is)
-    (all_served state its init list s (state (flash_in s)) a b end refl (no_more_same (state (flash_in s)).told), end.set)
+    (all_served state its init list s (state (flash_in s)) a b end refl (no_more_same (state (flash_in s)).told) refl, end.set)
 
 -- Of the flash that was handed in
 pub kept_more : (its : Config) (init old new : FlashState) → IsSoundOrSame its init old → IsSoundOrSame its old new → IsSoundOrSame its init new
-kept_more its init old new h (inl sound) = inl sound
-kept_more its init old new (inl sound) (inr same) = inl (subst (λ (m : Moment). IsSoundImage its.protocol its.logical (shape_of its) m.image) (sym same) sound)
+kept_more its init old new (inl sound) (inl after) = inl (sound.0, after.1)
+kept_more its init old new (inr was) (inl sound) = inl (subst (λ (m : Moment). IsSoundImage its.protocol its.logical (shape_of its) m.image) was sound.0, sound.1)
+kept_more its init old new (inl sound) (inr same) = inl (sound.0, subst (λ (m : Moment). IsSoundImage its.protocol its.logical (shape_of its) m.image) (sym same) sound.1)
 kept_more its init old new (inr was) (inr same) = inr (same ∙ was)
 
 refused_for : {F R : Type 0} (state : F → FlashState) (its : Config) (init : FlashState) (c : Command) (s : Session F R) (flash : F) (law : ℕ) (slot : Slot) → IsSoundOrSame its init (state (flash_in s)) →
     EndsFor state its c s flash (failed.Unsound law slot) → RefusesUnsound its init (state flash) (Err (failed.Unsound law slot))
 refused_for state its init c (session.Mounted s) flash law slot kept ends = absurd ends
 refused_for state its init c (session.Unmounted old) flash law slot (inl sound) ends =
-    absurd (sound_unbroken its (state old).image (record { law = law; slot = slot }) sound ends.1)
+    absurd (sound_unbroken its (state old).image (record { law = law; slot = slot }) sound.1 ends.1)
 refused_for state its init c (session.Unmounted old) flash law slot (inr same) ends =
-    (ends.0 ∙ same, subst (λ (m : Moment). IsLeastImageBreach its.protocol its.logical (shape_of its) m.image (record { law = law; slot = slot })) same ends.1)
+    (ends.0.still.moment ∙ same, subst (λ (m : Moment). IsLeastImageBreach its.protocol its.logical (shape_of its) m.image (record { law = law; slot = slot })) same ends.1)
 
 pub refused_in : {F R : Type 0} (state : F → FlashState) (its : Config) (init : FlashState) (c : Command) (s : Session F R) (flash : F) (why : ServeError) → IsSoundOrSame its init (state (flash_in s)) → EndsServing state its c s flash why →
     RefusesUnsound its init (state flash) (Err why)
 refused_in state its init c s flash failed.Memory kept ends = kept_more its init (state (flash_in s)) (state flash) kept ends.kept
 refused_in state its init c s flash (failed.Unsound law slot) kept ends = refused_for state its init c s flash law slot kept ends.cause
+
+-- While the image is not sound no command is done
+pub moment_stays : (its : Config) (init old new : FlashState) → (IsSoundFlash its init → ⊥) → moment_of old ≡ moment_of init → IsSoundOrSame its old new → moment_of new ≡ moment_of init
+moment_stays its init old new unsound was (inl sound) = absurd (unsound (subst (λ (m : Moment). IsSoundImage its.protocol its.logical (shape_of its) m.image) was sound.0))
+moment_stays its init old new unsound was (inr same) = same ∙ was
+
+abbrev pub told_at : Moment → Reply → ToldReply
+told_at at r = record { text = text_of r; moment = at }
+
+pub record StaysUnmounted (cs : List Command) (init now : FlashState) (before after : Watched) : Type 0 where
+  pub replies : List Reply
+  pub unmounted : AllZip RepliesUnmounted cs replies
+  pub still : moment_of now ≡ moment_of init
+  pub text : Grew before.text after.text (text_of_all replies)
+  pub kept : Grew before.kept after.kept (map (told_at (moment_of init)) replies)
+  pub faults : CountsBreaks replies init now
+
+pub unmounted_none : (init now : FlashState) (w : Watched) → moment_of now ≡ moment_of init → CountsBreaks [] init now → StaysUnmounted [] init now w w
+unmounted_none init now w same faults = record { replies = []; unmounted = tt; still = same; text = grew_none w.text; kept = grew_none w.kept; faults = faults }
+
+pub unmounted_more : {F R : Type 0} (state : F → FlashState) (its : Config) (init : FlashState) (cs : List Command) (c : Command) (r : Reply) (s t : Session F R) (a b d : Watched) → (IsSoundFlash its init → ⊥) →
+    StaysUnmounted cs init (state (flash_in s)) a b → ServesSession state its c s r t → Grew b.text d.text (text_of r) → Grew b.kept d.kept (told_at (moment_of (state (flash_in t))) r ∷ []) →
+    StaysUnmounted (cs ++ c ∷ []) init (state (flash_in t)) a d
+unmounted_more state its init cs c r s t a b d unsound h serves text kept =
+    let still = moment_stays its init (state (flash_in s)) (state (flash_in t)) unsound h.still serves.kept in
+    let here : IsSoundFlash its (state (flash_in s)) → ⊥ = λ sound. unsound (subst (λ (m : Moment). IsSoundImage its.protocol its.logical (shape_of its) m.image) h.still sound) in
+    record {
+      replies = h.replies ++ r ∷ [];
+      unmounted = all_zipped_more RepliesUnmounted cs h.replies c r h.unmounted (serves.unsound here);
+      still = still;
+      text = subst (λ (x : List ℕ). Grew a.text d.text x) (sym (text_more h.replies r)) (grew_more a.text b.text d.text (text_of_all h.replies) (text_of r) h.text text);
+      kept = subst (λ (x : List ToldReply). Grew a.kept d.kept x) (sym (map-append (told_at (moment_of init)) h.replies (r ∷ [])))
+          (grew_more a.kept b.kept d.kept (map (told_at (moment_of init)) h.replies) (told_at (moment_of init) r ∷ []) h.kept
+          (subst (λ (m : Moment). Grew b.kept d.kept (told_at m r ∷ [])) still kept));
+      faults = counts_more h.replies r init (state (flash_in s)) (state (flash_in t)) h.faults serves.faults;
+    }
+
+-- and what serving comes to then
+pub unmounted_in : (init now final : FlashState) (list : List Command) (at : ℕ) (a b d : Watched) (why : ServeError) → (h : StaysUnmounted (take at list) init now a b) → moment_of final ≡ moment_of init →
+    d.text ≡ b.text → d.kept ≡ b.kept → CountsTold h.replies init final (Err why) → ServesUnsound list init final a d (Err why)
+unmounted_in init now final list at a b d why h same text kept faults = record {
+  told = at;
+  replies = h.replies;
+  unmounted = h.unmounted;
+  all = tt;
+  still = same;
+  text = subst (λ (o : Option (List ℕ)). Grew a.text o (text_of_all h.replies)) (sym text) h.text;
+  kept = subst (λ (o : Option (List ToldReply)). Grew a.kept o (map (told_at (moment_of init)) h.replies)) (sym kept) h.kept;
+  faults = faults;
+}
+
+refused_counts : {F R : Type 0} (state : F → FlashState) (its : Config) (init : FlashState) (rs : List Reply) (s : Session F R) (flash : F) (law : ℕ) (slot : Slot) → CountsBreaks rs init (state (flash_in s)) →
+    Refuses state its s flash law slot → CountsBreaks rs init (state flash)
+refused_counts state its init rs (session.Mounted s) flash law slot h ends = absurd ends
+refused_counts state its init rs (session.Unmounted old) flash law slot h ends = counts_later rs init (state old) (state flash) h ends.0.quiet
+
+pub ended_counts : {F R : Type 0} (state : F → FlashState) (its : Config) (init : FlashState) (rs : List Reply) (c : Command) (s : Session F R) (flash : F) (why : ServeError) → CountsBreaks rs init (state (flash_in s)) →
+    EndsServing state its c s flash why → CountsTold rs init (state flash) (Err why)
+ended_counts state its init rs c s flash failed.Memory h ends = tt
+ended_counts state its init rs c s flash (failed.Unsound law slot) h ends = refused_counts state its init rs s flash law slot h ends.cause
+
+pub unmounted_to_the_end : (init now : FlashState) (list : List Command) (at : ℕ) (a b : Watched) → length list ≤ at → StaysUnmounted (take at list) init now a b → ServesUnsound list init now a b (Ok tt)
+unmounted_to_the_end init now list at a b ge h = record {
+  told = length list;
+  replies = h.replies;
+  unmounted = subst (λ (cs : List Command). AllZip RepliesUnmounted cs h.replies) (take_all at list ge ∙ sym (take_all (length list) list (omega arith))) h.unmounted;
+  all = refl;
+  still = h.still;
+  text = h.text;
+  kept = h.kept;
+  faults = h.faults;
+}
 
 -- what holds of an answer that was given, and of none
 pub on_ok : (P : Type 0) (r : Result (Unit {0}) Memory) → is_err r ≡ false → OnOk r P → P

@@ -1,21 +1,22 @@
 -- A run on a flash goes on by one command.
-use Rattle.std.proofs.Common.{◌≡◌, ℕ, zero, suc, ◌+◌, ◌≤◌, Bool, ◌||◌, List, [], ◌∷◌, ◌++◌, length, take, Option, Some, None, refl, sym, ap, ◌∙◌, subst, inl, inr, arith, append-nil, append_assoc, length-append}
-use Rattle.std.specs.Prelude.{count_by, IfSome, if◌then◌else◌}
+use Rattle.std.proofs.Common.{◌≡◌, ℕ, zero, suc, ◌+◌, ◌≤◌, Bool, true, false, ◌||◌, List, [], ◌∷◌, ◌++◌, length, take, Option, Some, None, refl, sym, ap, ◌∙◌, subst, inl, inr, arith, append-nil, append_assoc, length-append}
+use Rattle.std.specs.Prelude.{All, count_by, IfSome, MatchBool, if◌then◌else◌}
 use Rattle.std.specs.List.{flat_map}
 use Rattle.std.proofs.lemmas.Grind.{flat_map-append}
-use Rattle.std.proofs.lemmas.Bool.{cases_lt}
+use Rattle.std.proofs.lemmas.Bool.{cases_lt, cases_Bool}
 use Rattle.std.proofs.lemmas.List.{take_all, take-append-le}
 use Rattle.std.proofs.lemmas.List.Sums.{sum_by_push}
 use Rattle.tx_types.specs.declared.config.Config.{Config}
-use Rattle.flash_model.specs.Flash.{Told}
-use Rattle.flash_model.specs.Calls.{BothTell, NoMore}
+use Rattle.flash_model.specs.Flash.{FlashState, Told, counted_by}
+use Rattle.flash_model.specs.Calls.{BothTell, NoMore, Rose}
 use Rattle.host_protocol.specs.declared.command.Command.{Command}
 use Rattle.host_protocol.specs.declared.reply.Reply.{Reply}
 use Rattle.host_protocol.specs.Replies.{text_of}
-use Rattle.cut_replay.specs.Run.{MayBeSpent, seen_after}
+use Rattle.tx_engine.proofs.ExitsThen.{all_left, all_right}
+use Rattle.cut_replay.specs.Run.{MayBeSpent, is_break, seen_after}
 use Rattle.cut_replay.specs.FlashRun.{Point, IsPoint, FlashRun, ServesFlash, is_fault, last_moment}
 use Rattle.cut_replay.specs.Watching.{Grew, text_of_all, replies_told}
-use Rattle.cut_replay.specs.Bounds.{AreSpent, SpendsTold, is_cut, arms_cut, arms_fault, IsSet, LastIsSet}
+use Rattle.cut_replay.specs.Bounds.{AreSpent, SpendsTold, is_cut, arms_cut, arms_fault, IsSet, LastIsSet, CountsBreak, CountsBreaks}
 use Rattle.cut_replay.specs.Sessions.{IsSpentBy}
 use Rattle.cut_replay.proofs.Spending.{both_tell}
 use Rattle.cut_replay.proofs.Arming.{weaker_told}
@@ -167,6 +168,38 @@ spends_more cs rs c r a b d same = both_tell (AreSpent cs rs) (IsSpentBy c r) (A
 
 pub spends_later : (cs : List Command) (rs : List Reply) (a b d : Option Told) → SpendsTold cs rs a b → BothTell NoMore b d → SpendsTold cs rs a d
 spends_later cs rs a b d = both_tell (AreSpent cs rs) NoMore (AreSpent cs rs) (spent_later cs rs) a b d
+
+-- How many faults were counted
+rose_more : (k a b d : ℕ) → counted_by k a ≤ b → Rose b d → counted_by (k + 1) a ≤ d
+rose_more k a b d h rose = omega (arith, h, rose)
+
+pub least_none : (a b : ℕ) → a ≤ b → counted_by 0 a ≤ b
+least_none a b le = omega (arith, le)
+
+pub counts_more : (rs : List Reply) (r : Reply) (x y z : FlashState) → CountsBreaks rs x y → CountsBreak r y.faults z.faults → CountsBreaks (rs ++ r ∷ []) x z
+counts_more rs r x y z h one = elim (cases_Bool (is_break r)) [
+  | inl broken ↦ (
+      let rose : Rose y.faults z.faults = subst (λ b. MatchBool b (Rose y.faults z.faults) (z.faults ≡ y.faults)) broken one in
+      let more : count_by is_break (rs ++ r ∷ []) ≡ count_by is_break rs + 1 = count_push is_break rs r ∙ ap (λ (b : Bool). count_by is_break rs + (if b then 1 else 0)) broken in
+      record {
+        least = subst (λ n. counted_by n x.faults ≤ z.faults) (sym more) (rose_more (count_by is_break rs) x.faults y.faults z.faults h.least rose);
+        quiet = λ unbroken all. (let not : is_break r ≡ false = all_right (λ q. is_break q ≡ false) rs (r ∷ []) all 0 r (omega arith) in absurd cc);
+      })
+  | inr whole ↦ (
+      let same : z.faults ≡ y.faults = subst (λ b. MatchBool b (Rose y.faults z.faults) (z.faults ≡ y.faults)) whole one in
+      let more : count_by is_break (rs ++ r ∷ []) ≡ count_by is_break rs + 0 = count_push is_break rs r ∙ ap (λ (b : Bool). count_by is_break rs + (if b then 1 else 0)) whole in
+      let none : count_by is_break (rs ++ r ∷ []) ≡ count_by is_break rs = omega (arith, more) in
+      record {
+        least = subst (λ n. counted_by n x.faults ≤ z.faults) (sym none) (subst (λ n. counted_by (count_by is_break rs) x.faults ≤ n) (sym same) h.least);
+        quiet = λ unbroken all. same ∙ h.quiet unbroken (all_left (λ q. is_break q ≡ false) rs (r ∷ []) all);
+      })
+]
+
+pub counts_later : (rs : List Reply) (x y z : FlashState) → CountsBreaks rs x y → z.faults ≡ y.faults → CountsBreaks rs x z
+counts_later rs x y z h same = record {
+  least = subst (λ n. counted_by (count_by is_break rs) x.faults ≤ n) (sym same) h.least;
+  quiet = λ unbroken all. same ∙ h.quiet unbroken all;
+}
 
 -- The last arm
 pub last_set : (cs : List Command) (c : Command) (told : Told) → IsSet c told → LastIsSet (cs ++ c ∷ []) told

@@ -1,17 +1,21 @@
 -- How a session begins that serves a list of commands.
-use Rattle.std.specs.Prelude.{◌≡◌, Bool, false}
+use Rattle.std.specs.Prelude.{◌≡◌, Bool, false, []}
 use Rattle.tx_types.specs.declared.config.Config.{Config}
 use Rattle.flash_model.specs.Flash.{FlashState}
 use Rattle.flash_model.specs.Calls.{BothTell, NoMore}
 use Rattle.flash_model.specs.Operations.{moment_of}
 use Rattle.cut_replay.specs.FlashRun.{mentions_in, opening_point}
-use Rattle.cut_replay.specs.Sessions.{point_of, flash_in, StandsAt}
+use Rattle.cut_replay.specs.Bounds.{CountsBreaks}
+use Rattle.cut_replay.specs.Sessions.{point_of, flash_in, IsSoundFlash, StandsAt}
 use Rattle.cut_replay.specs.declared.session.Session.{Session}
 
--- it is at the opening point of a flash, mounted or not, and no more is to come
+-- It is at the opening point of a flash whose image is sound, mounted or not. No more is to come, and no fault was counted,
+-- unless the first mount met one.
 pub record Begins {F R : Type 0}
     (state : F → FlashState) (its : Config) (init : FlashState) (s : Session F R) : Type 0 where
+  pub sound : IsSoundFlash its init
   pub up : Bool
   pub point : point_of state its s ≡ opening_point its up (moment_of init)
   pub stands : StandsAt state its (mentions_in its (moment_of init)) false s
   pub told : BothTell NoMore init.told (state (flash_in s)).told
+  pub faults : CountsBreaks [] init (state (flash_in s))

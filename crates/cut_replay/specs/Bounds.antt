@@ -1,11 +1,12 @@
--- How many cuts and faults a run has: no more than were to come and were armed.
-use Rattle.std.specs.Prelude.{◌≡◌, ℕ, ◌+◌, ◌≤◌, Bool, true, false, List, [], ◌∷◌, take, count_by, Option, Some}
-use Rattle.flash_model.specs.Flash.{Told}
-use Rattle.flash_model.specs.Calls.{BothTell}
+-- How many cuts and faults a run has: no more than were to come and were armed, and no more than the flash counts.
+use Rattle.std.specs.Prelude.{◌≡◌, ◌⊎◌, ℕ, ◌+◌, ◌≤◌, Bool, true, false, List, [], ◌∷◌, take, count_by, All, Option, Some, MatchBool}
+use Rattle.flash_model.specs.Flash.{FlashState, Told, IsSteady, counted_by}
+use Rattle.flash_model.specs.Calls.{BothTell, Rose}
 use Rattle.host_protocol.specs.declared.command.Command.{Command}
 use Rattle.host_protocol.specs.declared.command.Command.TheVariants as command
 use Rattle.host_protocol.specs.declared.reply.Reply.{Reply}
 use Rattle.host_protocol.specs.declared.reply.Reply.TheVariants as reply
+use Rattle.cut_replay.specs.Run.{is_break}
 use Rattle.cut_replay.specs.FlashRun.{is_fault}
 
 abbrev pub is_cut : Reply → Bool
@@ -38,6 +39,20 @@ pub record AreSpent (cs : List Command) (rs : List Reply) (old new : Told) : Typ
 -- where a flash tells what is to come, so many cuts and faults were met
 abbrev pub SpendsTold : List Command → List Reply → Option Told → Option Told → Type 0
 SpendsTold cs rs old new = BothTell (AreSpent cs rs) old new
+
+-- the count of faults rose where a break is told, and else is as it was
+abbrev pub CountsBreak : Reply → ℕ → ℕ → Type 0
+CountsBreak r before now = MatchBool (is_break r) (Rose before now) (now ≡ before)
+
+-- nothing breaks before the first command: power is off, so that nothing is mounted before it, or no break is to come
+abbrev pub BeginsUnbroken : FlashState → Type 0
+BeginsUnbroken s = (s.live ≡ false) ⊎ IsSteady s
+
+-- At least as many faults were counted as breaks were told. Where none was told, and nothing breaks before the first
+-- command, none was counted.
+pub record CountsBreaks (rs : List Reply) (old new : FlashState) : Type 0 where
+  pub least : counted_by (count_by is_break rs) old.faults ≤ new.faults
+  pub quiet : BeginsUnbroken old → All (λ r. is_break r ≡ false) rs → new.faults ≡ old.faults
 
 -- where the last command is an arm, a flash that tells its arms has it set
 abbrev pub IsSet : Command → Told → Type 0

@@ -113,10 +113,11 @@ opening_point its its_up its_moment = record {
 abbrev pub mentions_in : Config → Moment → ℕ → ℕ
 mentions_in its m page = mention (records_in its.protocol m.image) page
 
--- a run on a flash from this moment on, and the moment where it ends
+-- a run on a flash from this moment on, whose image is sound
 pub record IsFlashRun (its : Config) (from : Moment) (cs : List Command) (rs : List Reply)
     (ps : List Point) : Type 0 where
   pub up : Bool
+  pub first : IsPoint its (opening_point its up from)
   pub runs : FlashRun its (mentions_in its from) false (opening_point its up from) cs rs ps
 
 abbrev pub last_moment : Moment → List Point → Moment

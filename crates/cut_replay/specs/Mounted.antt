@@ -100,11 +100,17 @@ pub record ServesHere {F : Type 0}
   pub cut : is_fault r ≡ true → MayHaveCut state c old new
   pub whole : is_cut r ≡ false
 
--- moment and shape stay, and no more is to come
+-- moment and shape stay, the count of faults does not fall, and no more is to come
 pub record MomentStays (old new : FlashState) : Type 0 where
   pub moment : moment_of new ≡ moment_of old
   pub shape : new.shape ≡ old.shape
+  pub later : old.faults ≤ new.faults
   pub told : BothTell NoMore old.told new.told
+
+-- and no fault was counted
+pub record StaysQuiet (old new : FlashState) : Type 0 where
+  pub still : MomentStays old new
+  pub quiet : new.faults ≡ old.faults
 
 -- whether a page is held in the cache at its current version
 abbrev pub is_cached : {F : Type 0} → Standing F → List CachedPage → ℕ → Bool

@@ -1,5 +1,6 @@
 -- What serving a list of commands comes to.
-use Rattle.std.specs.Prelude.{◌≡◌, ◌⊎◌, ℕ, ◌+◌, ◌≤◌, List, length, take, Option, IfSome, Result, Ok, Err}
+use Rattle.std.specs.Prelude.{◌≡◌, ◌⊎◌, ℕ, ◌+◌, ◌≤◌, List, length, take, map, Option, IfSome, OnOk, Result, Ok, Err}
+use Rattle.std.specs.List.{AllZip}
 use Rattle.tx_types.specs.declared.config.Config.{Config}
 use Rattle.tx_types.specs.Config.{shape_of}
 use Rattle.flash_model.specs.Flash.{FlashState}
@@ -9,8 +10,9 @@ use Rattle.host_protocol.specs.declared.command.Command.{Command}
 use Rattle.host_protocol.specs.declared.reply.Reply.{Reply}
 use Rattle.cut_replay.specs.FlashRun.{Point, IsFlashRun, last_moment}
 use Rattle.cut_replay.specs.Watching.{ToldReply, Grew, text_of_all, replies_told}
-use Rattle.cut_replay.specs.Bounds.{SpendsTold, LastIsSet}
-use Rattle.cut_replay.specs.Sessions.{IsSoundOrSame}
+use Rattle.cut_replay.specs.Bounds.{SpendsTold, LastIsSet, CountsBreaks}
+use Rattle.host_protocol.specs.Replies.{text_of}
+use Rattle.cut_replay.specs.Sessions.{IsSoundOrSame, RepliesUnmounted}
 use Rattle.cut_replay.specs.declared.serving.ServeError.{ServeError}
 use Rattle.cut_replay.specs.declared.serving.ServeError.TheVariants as failed
 
@@ -31,6 +33,7 @@ pub record ServesRun
   pub text : Grew before.text after.text (text_of_all (take told replies))
   pub kept : Grew before.kept after.kept (replies_told (take told replies) (take told points))
   pub spends : SpendsTold cs replies old.told new.told
+  pub faults : CountsBreaks replies old new
 
 -- what serving comes to where the image handed in was sound
 abbrev pub ServesSound : Config → List Command → FlashState → FlashState → Watched → Watched →
@@ -43,9 +46,29 @@ ServesSound its cs old new before after (Err failed.Memory) =
     ⊎ ServesRun its (take (told + 1) cs) told old new before after)
 ServesSound its cs old new before after (Err (failed.Unsound law slot)) = ⊥
 
+-- the breaks that were told were counted, unless memory ran out
+abbrev pub CountsTold : List Reply → FlashState → FlashState → Result (Unit {0}) ServeError → Type 0
+CountsTold replies old new (Err failed.Memory) = Unit {0}
+CountsTold replies old new _ = CountsBreaks replies old new
+
+-- What serving comes to where the image handed in was not sound: no command is done, and nothing is written. The first so
+-- many commands were answered, all of them where nothing is wrong, and this was told, each reply with the moment handed in.
+pub record ServesUnsound
+    (cs : List Command) (old new : FlashState) (before after : Watched)
+    (result : Result (Unit {0}) ServeError) : Type 0 where
+  pub told : ℕ
+  pub replies : List Reply
+  pub unmounted : AllZip RepliesUnmounted (take told cs) replies
+  pub all : OnOk result (told ≡ length cs)
+  pub still : moment_of new ≡ moment_of old
+  pub text : Grew before.text after.text (text_of_all replies)
+  pub kept : Grew before.kept after.kept
+      (map (λ r. record { text = text_of r; moment = moment_of old }) replies)
+  pub faults : CountsTold replies old new result
+
 -- What serving comes to whatever the image was. A flash that is refused has the moment that it had when it was handed in,
 -- and its image is not sound: the first law that it breaks, and the slot that the law names. Any other flash comes back
--- with a sound image, or with that moment.
+-- with a sound image, where its image was sound, or with that moment.
 abbrev pub RefusesUnsound : Config → FlashState → FlashState → Result (Unit {0}) ServeError → Type 0
 RefusesUnsound its old new (Err (failed.Unsound law slot)) =
     (moment_of new ≡ moment_of old)

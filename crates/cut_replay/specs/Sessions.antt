@@ -1,12 +1,12 @@
 -- A flash on which commands are served, with its device while that is mounted.
 use Rattle.std.specs.Prelude.{◌≡◌, ◌⊎◌, ◌<◌, ◌≤◌, ◌+◌, ℕ, Bool, true, false, ◌||◌, List, [], IfSome, Result, Ok, Err}
-use Rattle.std.specs.Prelude.{if◌then◌else◌}
+use Rattle.std.specs.Prelude.{MatchBool, if◌then◌else◌}
 use Rattle.tx_types.specs.declared.config.Config.{Config}
 use Rattle.tx_types.specs.declared.config.Protocol.{Protocol}
 use Rattle.tx_types.specs.declared.config.Slot.{Slot}
 use Rattle.tx_types.specs.Config.{checked, shape_of}
 use Rattle.flash_model.specs.Flash.{FlashState, Told}
-use Rattle.flash_model.specs.Calls.{BothTell, Spends}
+use Rattle.flash_model.specs.Calls.{BothTell, Rose, Spends}
 use Rattle.flash_model.specs.Arms.{ChangesTold}
 use Rattle.flash_model.specs.Operations.{moment_of}
 use Rattle.record_list.specs.Records.{mention}
@@ -19,10 +19,10 @@ use Rattle.tx_engine.specs.Standing.{Standing}
 use Rattle.host_protocol.specs.declared.command.Command.{Command}
 use Rattle.host_protocol.specs.declared.reply.Reply.{Reply}
 use Rattle.host_protocol.specs.declared.reply.Reply.TheVariants as reply
-use Rattle.cut_replay.specs.Run.{MayBeSpent, seen_after}
+use Rattle.cut_replay.specs.Run.{MayBeSpent, is_arm, seen_after}
 use Rattle.cut_replay.specs.FlashRun.{Point, IsPoint, ServesFlash, is_fault, opening_point}
-use Rattle.cut_replay.specs.Bounds.{is_cut, arms_cut, arms_fault, IsSet}
-use Rattle.cut_replay.specs.Mounted.{point_at, IsSeen, IsCached, MomentStays, HoldsAlways}
+use Rattle.cut_replay.specs.Bounds.{is_cut, arms_cut, arms_fault, IsSet, CountsBreak}
+use Rattle.cut_replay.specs.Mounted.{point_at, IsSeen, IsCached, CachesCommand, MomentStays, StaysQuiet, HoldsAlways}
 use Rattle.cut_replay.specs.declared.session.Session.{Session}
 use Rattle.cut_replay.specs.declared.session.Session.TheVariants as session
 use Rattle.cut_replay.specs.declared.session.Ended.{Ended}
@@ -91,9 +91,15 @@ pub record ServesIn {F R : Type 0}
   pub point : IsPoint its (point_of state its new)
   pub stands : StandsAt state its (seen_after seen c r) (faulted || is_fault r) new
 
--- the image is sound, or nothing was written: the moment is the same
+-- the image was sound and is sound, or nothing was written: the moment is the same
 abbrev pub IsSoundOrSame : Config → FlashState → FlashState → Type 0
-IsSoundOrSame its old new = IsSoundFlash its new ⊎ (moment_of new ≡ moment_of old)
+IsSoundOrSame its old new =
+    (IsSoundFlash its old × IsSoundFlash its new) ⊎ (moment_of new ≡ moment_of old)
+
+-- the reply to a command where the device can't be mounted
+abbrev pub RepliesUnmounted : Command → Reply → Type 0
+RepliesUnmounted c r =
+    MatchBool (is_arm c) (r ≡ reply.Armed) ((r ≡ reply.Fault) ⊎ (r ≡ reply.Cut))
 
 -- What serving a command comes to, whatever the image is.
 pub record ServesSession {F R : Type 0}
@@ -102,15 +108,17 @@ pub record ServesSession {F R : Type 0}
   pub in_run : (seen : ℕ → ℕ) → (faulted : Bool) → StandsAt state its seen faulted old →
       ServesIn state its seen faulted c old r new
   pub kept : IsSoundOrSame its (state (flash_in old)) (state (flash_in new))
+  pub unsound : (IsSoundFlash its (state (flash_in old)) → ⊥) → RepliesUnmounted c r
   pub spends : BothTell (IsSpentBy c r) (state (flash_in old)).told (state (flash_in new)).told
   pub set : IfSome (state (flash_in new)).told (IsSet c)
+  pub faults : CountsBreak r (state (flash_in old)).faults (state (flash_in new)).faults
 
 -- The flash was refused: it was never mounted, and its image is not sound.
 abbrev pub Refuses : {F R : Type 0} → (F → FlashState) → Config → Session F R → F → ℕ → Slot →
     Type 0
 Refuses state its (session.Mounted s) flash law slot = ⊥
 Refuses state its (session.Unmounted old) flash law slot =
-    (moment_of (state flash) ≡ moment_of (state old))
+    StaysQuiet (state old) (state flash)
     × IsLeastImageBreach its.protocol its.logical (shape_of its) (state old).image
     (record { law = law; slot = slot })
 
@@ -118,10 +126,11 @@ Refuses state its (session.Unmounted old) flash law slot =
 abbrev pub EndsForMemory : {F R : Type 0} → (F → FlashState) → Config → Command → Session F R → F →
     Type 0
 EndsForMemory state its c old flash =
-    MomentStays (state (flash_in old)) (state flash)
+    StaysQuiet (state (flash_in old)) (state flash)
     ⊎ (((seen : ℕ → ℕ) → (faulted : Bool) → StandsAt state its seen faulted old →
     ServesIn state its seen faulted c old reply.Cut (session.Unmounted flash))
-    × BothTell (IsSpentBy c reply.Cut) (state (flash_in old)).told (state flash).told)
+    × BothTell (IsSpentBy c reply.Cut) (state (flash_in old)).told (state flash).told
+    × Rose (state (flash_in old)).faults (state flash).faults)
 
 -- Why no more commands are served.
 abbrev pub EndsFor : {F R : Type 0} → (F → FlashState) → Config → Command → Session F R → F →
@@ -147,10 +156,12 @@ pub record MountsIn {F : Type 0} (state : F → FlashState) (its : Config) (flas
   pub unsure : s.unsure ≡ unsure.Nothing
   pub tables : IsOpened its (state flash).image s.noted s.table
   pub still : MomentStays (state flash) (state s.flash)
+  pub quiet : (state s.flash).faults ≡ (state flash).faults
   pub always : HoldsAlways state its.protocol s
 
 pub record MeetsFault (old new : FlashState) : Type 0 where
   pub still : MomentStays old new
+  pub rose : Rose old.faults new.faults
   pub spends : BothTell (Spends new.live) old.told new.told
 
 abbrev pub Mounted : {F R : Type 0} → (F → FlashState) → Config → F → Session F R → Type 0
@@ -160,10 +171,38 @@ Mounted state its flash (session.Unmounted new) = MeetsFault (state flash) (stat
 -- and why no device was mounted
 abbrev pub Unmounted : {F : Type 0} → (F → FlashState) → Config → F → F → ServeError → Type 0
 Unmounted state its flash new (failed.Unsound law slot) =
-    MomentStays (state flash) (state new)
+    StaysQuiet (state flash) (state new)
     × IsLeastImageBreach its.protocol its.logical (shape_of its) (state flash).image
     (record { law = law; slot = slot })
-Unmounted state its flash new failed.Memory = MomentStays (state flash) (state new)
+Unmounted state its flash new failed.Memory = StaysQuiet (state flash) (state new)
+
+-- What a command that is no arm does to the cache: on a device that is mounted still, without a cut, what it does there;
+-- and else nothing is held.
+abbrev pub CachesServed : {F R : Type 0} → (F → FlashState) → Command → Standing F → Reply →
+    Session F R → CachedPages → CachedPages → Type 0
+CachesServed state c s r (session.Mounted t) before after =
+    MatchBool (is_cut r) (after ≡ record before { entries = [] })
+    (CachesCommand state c s t before after)
+CachesServed state c s r (session.Unmounted flash) before after =
+    after ≡ record before { entries = [] }
+
+-- and where the device is mounted first: it begins with an empty cache
+abbrev pub CachesFrom : {F R : Type 0} → (F → FlashState) → Config → Command → Session F R → Reply →
+    Session F R → CachedPages → CachedPages → Type 0
+CachesFrom state its c (session.Mounted s) r new before after =
+    CachesServed state c s r new before after
+CachesFrom {F = F} {R = R} state its c (session.Unmounted flash) r (session.Mounted t) before
+    after =
+    (s : Standing F) × MountsIn state its flash s
+    × CachesServed {R = R} state c s r (session.Mounted t) (record before { entries = [] }) after
+CachesFrom state its c (session.Unmounted flash) r (session.Unmounted new) before after =
+    after ≡ record before { entries = [] }
+
+-- what a command does to the cache; an arm does nothing
+abbrev pub CachesSession : {F R : Type 0} → (F → FlashState) → Config → Command → Session F R →
+    Reply → Session F R → CachedPages → CachedPages → Type 0
+CachesSession state its c old r new before after =
+    MatchBool (is_arm c) (after ≡ before) (CachesFrom state its c old r new before after)
 
 -- an arm of the flash is set, and all else of the session stays
 pub record SetsArmHere {F : Type 0}

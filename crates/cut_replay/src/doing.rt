@@ -1,6 +1,6 @@
 ghost use Rattle.std.specs.Prelude.{◌≡◌, false, length, IfOk, OnErr};
 ghost use Rattle.host_protocol.specs.Commands.{Suits};
-ghost use Rattle.cut_replay.specs.Mounted.{HoldsAlways, IsCached, MomentStays, ServesHere};
+ghost use Rattle.cut_replay.specs.Mounted.{HoldsAlways, IsCached, StaysQuiet, ServesHere};
 ghost use Rattle.cut_replay.specs.Mounted.{CachesCommand};
 ghost use Rattle.cut_replay.specs.Run.{is_arm};
 
@@ -31,7 +31,7 @@ pub fn done<F: Flash, R: CommitRule>(
     requires cached { IsCached device.old cache.old.entries }
     requires always { HoldsAlways F.state R.kept device.old }
     ensures ok { IfOk result (λ r. ServesHere F.state command.now device.old device.new r) }
-    ensures err { OnErr result (MomentStays (F.state device.old.flash) (F.state device.new.flash)) }
+    ensures err { OnErr result (StaysQuiet (F.state device.old.flash) (F.state device.new.flash)) }
     ensures caches { CachesCommand F.state command.now device.old device.new cache.old cache.new }
     ensures size { cache.new.page_bytes ≡ cache.old.page_bytes }
     ensures cached { IsCached device.new cache.new.entries }

@@ -3,7 +3,7 @@ ghost use Rattle.flash_model.specs.Operations.{moment_of};
 ghost use Rattle.flash_model.specs.Calls.{Carries};
 ghost use Rattle.tx_engine.specs.ArrayState.{page_at};
 ghost use Rattle.tx_engine.specs.Read.{ReadsPage, is_read_fault};
-ghost use Rattle.cut_replay.specs.Mounted.{HoldsAlways, IsCached, MomentStays, ServesHere};
+ghost use Rattle.cut_replay.specs.Mounted.{HoldsAlways, IsCached, StaysQuiet, ServesHere};
 ghost use Rattle.cut_replay.specs.Mounted.{ReadsThrough, is_cached, brought_forward};
 ghost use Rattle.cut_replay.specs.Mounted.{KeepsPage, CachesRead, CachesPage, ReadsOnce};
 ghost use Rattle.cut_replay.specs.Run.{read_reply};
@@ -30,7 +30,7 @@ pub fn read<F: Flash, R: CommitRule>(
     requires cached { IsCached device.old cache.old.entries }
     requires always { HoldsAlways F.state R.kept device.old }
     ensures ok { IfOk result (ServesHere F.state (Command.Read page) device.old device.new) }
-    ensures err { OnErr result (MomentStays (F.state device.old.flash) (F.state device.new.flash)) }
+    ensures err { OnErr result (StaysQuiet (F.state device.old.flash) (F.state device.new.flash)) }
     ensures once { ReadsOnce F.state device.old device.new cache.old.entries page }
     ensures keeps { CachesPage device.old cache.old cache.new page }
     ensures size { cache.new.page_bytes ≡ cache.old.page_bytes }

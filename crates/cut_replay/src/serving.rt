@@ -1,13 +1,15 @@
-ghost use Rattle.std.specs.Prelude.{◌≡◌, Ok, false, length, OnOk, IfOk, IfErr, All};
+ghost use Rattle.std.specs.Prelude.{◌≡◌, Ok, false, [], length, OnOk, IfOk, IfErr, All};
+ghost use Rattle.flash_model.specs.Operations.{moment_of};
 ghost use Rattle.tx_types.specs.Config.{checked};
 ghost use Rattle.flash_model.specs.Flash.{FlashState, IsSteady};
 ghost use Rattle.host_protocol.specs.Commands.{Suits};
 ghost use Rattle.cut_replay.specs.Run.{is_arm};
+ghost use Rattle.cut_replay.specs.Bounds.{CountsBreaks};
 ghost use Rattle.cut_replay.specs.Mounted.{IsCached};
 ghost use Rattle.cut_replay.specs.Sessions.{flash_in, Fits, ServesSession, EndsServing, Unmounted};
-ghost use Rattle.cut_replay.specs.Sessions.{IsSoundFlash, IsSoundOrSame};
+ghost use Rattle.cut_replay.specs.Sessions.{IsSoundFlash, IsSoundOrSame, CachesSession};
 ghost use Rattle.cut_replay.specs.Beginning.{Begins};
-ghost use Rattle.cut_replay.specs.Served.{ServesSound, RefusesUnsound};
+ghost use Rattle.cut_replay.specs.Served.{ServesSound, ServesUnsound, RefusesUnsound};
 
 use crate::Watch;
 use crate::doing::done;
@@ -27,7 +29,8 @@ pub enum ServeError {
     /// The image that was handed in is not sound: the first law that it breaks, and the slot that
     /// the law names.
     Unsound { law: u8, slot: Slot },
-    /// There was no memory.
+    /// There was no memory. The last command may have been done and its reply not told: the flash
+    /// is as that command left it.
     Memory,
 }
 
@@ -49,6 +52,8 @@ fn serve_mounted<F: Power, R: CommitRule>(
     ensures fits { IfOk result (λ done. Fits {R = R} F.state config cache.new.entries done.0) }
     ensures serves { IfOk result (λ done.
         ServesSession F.state config command.now (Session.Mounted device) done.1 done.0) }
+    ensures caches { IfOk result (λ done. CachesSession F.state config command.now
+        (Session.Mounted device) done.1 done.0 cache.old cache.new) }
     ensures ends { IfErr result (λ e.
         EndsServing {R = R} F.state config command.now (Session.Mounted device) e.flash e.why) }
     ensures size { cache.new.page_bytes ≡ cache.old.page_bytes }
@@ -80,6 +85,8 @@ fn serve_unmounted<F: Power, R: CommitRule>(
     ensures fits { IfOk result (λ done. Fits {R = R} F.state config cache.new.entries done.0) }
     ensures serves { IfOk result (λ done.
         ServesSession F.state config command.now (Session.Unmounted flash) done.1 done.0) }
+    ensures caches { IfOk result (λ done. CachesSession F.state config command.now
+        (Session.Unmounted flash) done.1 done.0 cache.old cache.new) }
     ensures ends { IfErr result (λ e.
         EndsServing {R = R} F.state config command.now (Session.Unmounted flash) e.flash e.why) }
     ensures size { cache.new.page_bytes ≡ cache.old.page_bytes }
@@ -108,6 +115,8 @@ fn serve_one<F: Power + Arms, R: CommitRule>(
     ensures fits { IfOk result (λ done. Fits {R = R} F.state config cache.new.entries done.0) }
     ensures serves { IfOk result (λ done.
         ServesSession F.state config command.now session done.1 done.0) }
+    ensures caches { IfOk result (λ done. CachesSession F.state config command.now
+        session done.1 done.0 cache.old cache.new) }
     ensures ends { IfErr result (λ e.
         EndsServing {R = R} F.state config command.now session e.flash e.why) }
     ensures size { cache.new.page_bytes ≡ cache.old.page_bytes }
@@ -150,6 +159,12 @@ fn serve_all<F: Power + Arms, R: CommitRule, W: Watch<F>>(
     ensures refuses { (init : FlashState) →
         IsSoundOrSame config init (F.state (flash_in session)) →
         RefusesUnsound config init (F.state result.0) result.1 }
+    ensures unsound { (init : FlashState) → (IsSoundFlash config init → ⊥) →
+        moment_of (F.state (flash_in session)) ≡ moment_of init →
+        CountsBreaks [] init (F.state (flash_in session)) →
+        ServesUnsound list.now init (F.state result.0)
+        (record { text = W.text out.old; kept = W.kept out.old })
+        (record { text = W.text out.new; kept = W.kept out.new }) result.1 }
     ensures shape { checked config ≡ Ok (F.state result.0).shape }
 {
     for command in list {
@@ -191,6 +206,8 @@ fn begin<F: Power, R: CommitRule>(
         IfOk result (Begins F.state config (F.state flash)) }
     ensures kept { IfOk result (λ s.
         IsSoundOrSame config (F.state flash) (F.state (flash_in s))) }
+    ensures faults { IfOk result (λ s.
+        CountsBreaks [] (F.state flash) (F.state (flash_in s))) }
     ensures failed { IfErr result (λ e. Unmounted F.state config flash e.flash e.why) }
     ensures size { cache.new.page_bytes ≡ cache.old.page_bytes }
 {
@@ -204,18 +221,24 @@ fn begin<F: Power, R: CommitRule>(
 /// Serves the commands in order on the device of a flash, and tells each reply at the end of its
 /// command. A flash with power is mounted first.
 ///
+/// The check of the configuration gives the shape of the flash, and its protocol is that of `R`.
+/// Each batch that is written has pages of `page_bytes`, and each arm counts from 1.
+///
 /// - Cuts: where power is cut in a command, its reply is `Cut`. Power is turned on and the flash is
 ///   mounted again before this is told. All open transactions are gone.
 /// - Faults: where a command meets a fault and power stays on, its reply is `Fault`, and the device
-///   goes on.
+///   goes on. The flash counts at least as many faults as such replies, `Cut` included. Where none is
+///   told it counts none, but for one in the mount at the beginning, which is not told.
 /// - Mounts: where a mount meets a fault, the flash stays unmounted. Each command after that, other
 ///   than an arm, turns power on and mounts first. Where that mount meets a fault, the command is
 ///   not done, and its reply is `Fault`, or `Cut` where power is off.
 /// - Cache: a page that was read is kept, unless memory ran out, and is read again without the
 ///   flash while it is held and current. Each mount begins with an empty cache.
 /// - `Unsound` comes only from a mount before the first one that succeeded. The flash then comes
-///   back with its image and its counts of programs and erases.
-/// - `Memory` ends the run before a command, or in it. The replies before it were told.
+///   back with its image and its counts of programs and erases. Nothing was told before but `Armed`,
+///   `Fault` and `Cut`.
+/// - `Memory` ends the run before a command, in it, or where its reply is to be told. The replies
+///   before it were told.
 pub fn serve<F: Power + Arms, R: CommitRule, W: Watch<F>>(
     alloc: Global,
     flash: F,
@@ -233,6 +256,10 @@ pub fn serve<F: Power + Arms, R: CommitRule, W: Watch<F>>(
         (record { text = W.text out.old; kept = W.kept out.old })
         (record { text = W.text out.new; kept = W.kept out.new }) result.1 }
     ensures refuses { RefusesUnsound config (F.state flash) (F.state result.0) result.1 }
+    ensures unsound { (IsSoundFlash config (F.state flash) → ⊥) →
+        ServesUnsound list.now (F.state flash) (F.state result.0)
+        (record { text = W.text out.old; kept = W.kept out.old })
+        (record { text = W.text out.new; kept = W.kept out.new }) result.1 }
     ensures shape { (F.state result.0).shape ≡ (F.state flash).shape }
 {
     let Ok((mut cache, mut room)) = rooms(alloc, config.page_bytes) else {

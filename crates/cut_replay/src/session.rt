@@ -13,7 +13,7 @@ use tx_engine::Device;
 pub enum Session<F: Flash, R: CommitRule> {
     /// With its device.
     Mounted(Device<F, R>),
-    /// Alone: its device could not be mounted.
+    /// Alone: its device could not be mounted, or the flash had no power at the beginning.
     Unmounted(F),
 }
 

@@ -66,6 +66,13 @@ fn reads_fail_in_the_mount_after_a_cut_and_in_the_next(rt: HostRuntime) -> Resul
     let mut lines = Lines::new(rt.alloc());
     served(rt.alloc(), commands, &mut lines)?;
     assert_eq!(rt; lines.as_slice(), replies.as_slice());
+    // The read of a page that was never written meets no fault of its own: the device is not
+    // mounted when it comes.
+    let commands = b"write 1 0=41\nfinish 1\nwrite 2 1=42\ncut 1 none\nbadread 5\nfinish 2\n\
+        badread 1\nread 1\nread 0\nread 1\n";
+    let mut lines = Lines::new(rt.alloc());
+    served(rt.alloc(), commands, &mut lines)?;
+    assert_eq!(rt; lines.as_slice(), replies.as_slice());
     Ok(())
 }
 

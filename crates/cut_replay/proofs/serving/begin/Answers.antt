@@ -1,8 +1,15 @@
-use Rattle.cut_replay.proofs.Begun.{begin_begins, begun_kept}
+use Rattle.std.proofs.Common.{sym, ◌∙◌}
+use Rattle.cut_replay.proofs.Begun.{begin_begins, begin_faults, begun_kept, none_counted}
 use Rattle.cut_replay.proofs.serving.begin.Goals as goal
 
 pub returns-then-live-clause-begins : goal.returns-then-live-clause-begins
-returns-then-live-clause-begins g c = λ sound. begin_begins g.F.Flash.state c.args.config c.args.flash c.mount.result c.mount.ensures.mounted sound
+returns-then-live-clause-begins g c = λ sound. begin_begins g.F.Flash.state c.args.config c.args.flash c.mount.result (sym c.live.ensures ∙ c.if-live.true) c.mount.ensures.mounted sound
+
+pub returns-then-live-clause-faults : goal.returns-then-live-clause-faults
+returns-then-live-clause-faults g c = begin_faults g.F.Flash.state c.args.config c.args.flash c.mount.result (sym c.live.ensures ∙ c.if-live.true) c.mount.ensures.mounted
+
+pub returns-else-live-clause-faults : goal.returns-else-live-clause-faults
+returns-else-live-clause-faults g c = none_counted (g.F.Flash.state c.args.flash)
 
 pub returns-then-live-clause-kept : goal.returns-then-live-clause-kept
 returns-then-live-clause-kept g c = begun_kept g.F.Flash.state c.args.config c.args.flash c.mount.result c.mount.ensures.mounted

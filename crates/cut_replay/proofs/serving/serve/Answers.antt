@@ -1,4 +1,7 @@
-use Rattle.cut_replay.proofs.Begun.{rooms_ended, begin_ended, begin_refused, begin_shape, same_shape}
+use Rattle.std.proofs.Common.{refl}
+use Rattle.cut_replay.specs.Sessions.{flash_in}
+use Rattle.cut_replay.proofs.Progress.{moment_stays}
+use Rattle.cut_replay.proofs.Begun.{rooms_ended, begin_ended, begin_refused, begin_shape, same_shape, unsound_unserved, begin_unsound}
 use Rattle.cut_replay.proofs.serving.serve.Goals as goal
 
 pub returns-in_default-clause-serves : goal.returns-in_default-clause-serves
@@ -10,6 +13,22 @@ returns-in-Ok-begin-clause-serves g c = λ sound. c.serve_all.ensures.serves (g.
 
 pub returns-in-Ok-begin-clause-refuses : goal.returns-in-Ok-begin-clause-refuses
 returns-in-Ok-begin-clause-refuses g c = c.serve_all.ensures.refuses (g.F.Flash.state c.args.flash) c.in-Ok-begin.ensures.kept
+
+pub returns-in_default-clause-unsound : goal.returns-in_default-clause-unsound
+returns-in_default-clause-unsound g c = λ unsound.
+    unsound_unserved (g.F.Flash.state c.args.flash) c.args.list.now (record { text = g.W.Watch.text c.args.out.now; kept = g.W.Watch.kept c.args.out.now })
+
+pub returns-in-Ok-begin-clause-unsound : goal.returns-in-Ok-begin-clause-unsound
+returns-in-Ok-begin-clause-unsound g c = λ unsound.
+    let init = g.F.Flash.state c.args.flash in
+    c.serve_all.ensures.unsound init unsound
+    (moment_stays c.args.config init init (g.F.Flash.state (flash_in c.in-Ok-begin.session)) unsound refl c.in-Ok-begin.ensures.kept)
+    c.in-Ok-begin.ensures.faults
+
+pub returns-clause-unsound : goal.returns-clause-unsound
+returns-clause-unsound g c = λ unsound.
+    begin_unsound g.F.Flash.state c.args.config c.args.list.now c.args.flash c.in-Err.ended.flash c.in-Err.ended.why
+    (record { text = g.W.Watch.text c.args.out.now; kept = g.W.Watch.kept c.args.out.now }) c.in-Err.ensures.failed
 
 pub returns-clause-serves : goal.returns-clause-serves
 returns-clause-serves g c = λ sound.

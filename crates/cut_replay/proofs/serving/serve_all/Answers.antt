@@ -1,13 +1,14 @@
-use Rattle.std.proofs.Common.{◌≡◌, Ok, sym, ap, subst, ◌∙◌, List, [], ◌∷◌, take}
+use Rattle.std.proofs.Common.{◌≡◌, Ok, Err, refl, sym, ap, subst, ◌∙◌, List, [], ◌∷◌, take}
 use Rattle.tx_types.specs.declared.config.Shape.{Shape}
 use Rattle.tx_types.specs.Config.{checked}
 use Rattle.host_protocol.specs.Replies.{text_of}
 use Rattle.host_protocol.specs.declared.command.Command.{Command}
 use Rattle.flash_model.specs.Operations.{moment_of}
-use Rattle.cut_replay.specs.Served.{Watched}
+use Rattle.cut_replay.specs.Served.{Watched, ServesUnsound}
+use Rattle.cut_replay.specs.declared.serving.ServeError.TheVariants as failed
 use Rattle.cut_replay.specs.Sessions.{flash_in, IsSoundOrSame}
 use Rattle.cut_replay.specs.Watching.{Grew}
-use Rattle.cut_replay.proofs.Progress.{HasServed, served_none, served_more, next_of, ended_in, untold_in, served_to_the_end, kept_more, refused_in, on_ok, on_err}
+use Rattle.cut_replay.proofs.Progress.{HasServed, StaysUnmounted, moment_stays, unmounted_none, unmounted_more, unmounted_in, ended_counts, unmounted_to_the_end, served_none, served_more, next_of, ended_in, untold_in, served_to_the_end, kept_more, refused_in, on_ok, on_err}
 use Rattle.cut_replay.proofs.Begun.{fits_shape}
 use Rattle.cut_replay.proofs.serving.serve_all.Goals as goal
 
@@ -18,6 +19,7 @@ loop-command-init g c = record {
   room = c.requires.room;
   served = λ init begins. served_none g.F.Flash.state c.args.config init c.args.session (record { text = g.W.Watch.text c.args.out.now; kept = g.W.Watch.kept c.args.out.now }) begins;
   kept = λ init kept. kept;
+  unsound = λ init unsound same counted. unmounted_none init (g.F.Flash.state (flash_in c.args.session)) (record { text = g.W.Watch.text c.args.out.now; kept = g.W.Watch.kept c.args.out.now }) same counted;
 }
 
 pub returns-then-is_err-clause-serves : goal.returns-then-is_err-clause-serves
@@ -84,7 +86,45 @@ loop-command-preserved g c =
           (subst (λ flash. Grew between.kept after.kept (record { text = text_of c.in-Ok.reply; moment = moment_of (state flash) } ∷ [])) c.flash.ensures kept));
       kept = λ init kept. kept_more its init (state (flash_in c.loop-command.session)) (state (flash_in c.in-Ok.next))
           (c.loop-command.invariant.kept init kept) c.in-Ok.ensures.serves.kept;
+      unsound = λ init unsound same counted.
+          let text = on_ok _ c.tell.result told c.tell.ensures.text in
+          let kept = on_ok _ c.tell.result told c.tell.ensures.kept in
+          subst (λ (cs : List Command). StaysUnmounted cs init (state (flash_in c.in-Ok.next)) before after) (sym (next_of list at command c.loop-command-test.true c.command-item.is))
+          (unmounted_more state its init (take at list) command c.in-Ok.reply c.loop-command.session c.in-Ok.next before between after unsound (c.loop-command.invariant.unsound init unsound same counted) c.in-Ok.ensures.serves text
+          (subst (λ flash. Grew between.kept after.kept (record { text = text_of c.in-Ok.reply; moment = moment_of (state flash) } ∷ [])) c.flash.ensures kept));
     }
+
+pub returns-then-is_err-clause-unsound : goal.returns-then-is_err-clause-unsound
+returns-then-is_err-clause-unsound g c = λ init unsound same counted.
+    let none = on_err _ c.tell.result (sym c.is_err.ensures.value ∙ c.if-is_err.true) c.tell.ensures.err in
+    let state = g.F.Flash.state in
+    let stays = c.loop-command.invariant.unsound init unsound same counted in
+    unmounted_in init (state (flash_in c.loop-command.session)) (state c.close.result) c.args.list.now c.loop-command.command-index
+    (record { text = g.W.Watch.text c.args.out.now; kept = g.W.Watch.kept c.args.out.now })
+    (record { text = g.W.Watch.text c.loop-command.out; kept = g.W.Watch.kept c.loop-command.out })
+    (record { text = g.W.Watch.text c.tell.new.self; kept = g.W.Watch.kept c.tell.new.self }) failed.Memory stays
+    (subst (λ flash. moment_of (state flash) ≡ moment_of init) (sym c.close.ensures)
+    (moment_stays c.args.config init (state (flash_in c.loop-command.session)) (state (flash_in c.in-Ok.next)) unsound stays.still c.in-Ok.ensures.serves.kept))
+    none.0 none.1 tt
+
+pub returns-in-Err-clause-unsound : goal.returns-in-Err-clause-unsound
+returns-in-Err-clause-unsound g c = λ init unsound same counted.
+    let state = g.F.Flash.state in
+    let stays = c.loop-command.invariant.unsound init unsound same counted in
+    let between : Watched = record { text = g.W.Watch.text c.loop-command.out; kept = g.W.Watch.kept c.loop-command.out } in
+    unmounted_in init (state (flash_in c.loop-command.session)) (state c.in-Err.ended.flash) c.args.list.now c.loop-command.command-index
+    (record { text = g.W.Watch.text c.args.out.now; kept = g.W.Watch.kept c.args.out.now }) between between c.in-Err.ended.why stays
+    (moment_stays c.args.config init (state (flash_in c.loop-command.session)) (state c.in-Err.ended.flash) unsound stays.still c.in-Err.ensures.ends.kept)
+    refl refl
+    (ended_counts state c.args.config init stays.replies c.command-item.result c.loop-command.session c.in-Err.ended.flash c.in-Err.ended.why stays.faults c.in-Err.ensures.ends)
+
+pub returns-clause-unsound : goal.returns-clause-unsound
+returns-clause-unsound g c = λ init unsound same counted.
+    let before : Watched = record { text = g.W.Watch.text c.args.out.now; kept = g.W.Watch.kept c.args.out.now } in
+    let after : Watched = record { text = g.W.Watch.text c.loop-command.out; kept = g.W.Watch.kept c.loop-command.out } in
+    subst (λ flash. ServesUnsound c.args.list.now init (g.F.Flash.state flash) before after (Ok tt)) (sym c.close-2.ensures)
+    (unmounted_to_the_end init (g.F.Flash.state (flash_in c.loop-command.session)) c.args.list.now c.loop-command.command-index before after
+    c.loop-command-test.false (c.loop-command.invariant.unsound init unsound same counted))
 
 pub returns-clause-serves : goal.returns-clause-serves
 returns-clause-serves g c = λ init begins.

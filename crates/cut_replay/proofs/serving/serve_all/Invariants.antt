@@ -1,8 +1,10 @@
-use Rattle.std.proofs.Common.{◌≡◌, take, length}
+use Rattle.std.proofs.Common.{◌≡◌, [], take, length}
 use Rattle.flash_model.specs.Flash.{FlashState}
-use Rattle.cut_replay.specs.Sessions.{flash_in, Fits, IsSoundOrSame}
+use Rattle.flash_model.specs.Operations.{moment_of}
+use Rattle.cut_replay.specs.Sessions.{flash_in, Fits, IsSoundFlash, IsSoundOrSame}
+use Rattle.cut_replay.specs.Bounds.{CountsBreaks}
 use Rattle.cut_replay.specs.Beginning.{Begins}
-use Rattle.cut_replay.proofs.Progress.{HasServed}
+use Rattle.cut_replay.proofs.Progress.{HasServed, StaysUnmounted}
 use Rattle.cut_replay.proofs.serving.serve_all.Given as goal
 
 abbrev pub invariant-loop-command : goal.invariant-loop-command
@@ -15,4 +17,8 @@ invariant-loop-command g l = record {
       (record { text = g.W.Watch.text l.initial.out; kept = g.W.Watch.kept l.initial.out }) (record { text = g.W.Watch.text l.out; kept = g.W.Watch.kept l.out });
   kept : (init : FlashState) → IsSoundOrSame l.config init (g.F.Flash.state (flash_in l.initial.session)) →
       IsSoundOrSame l.config init (g.F.Flash.state (flash_in l.session));
+  unsound : (init : FlashState) → (IsSoundFlash l.config init → ⊥) → moment_of (g.F.Flash.state (flash_in l.initial.session)) ≡ moment_of init →
+      CountsBreaks [] init (g.F.Flash.state (flash_in l.initial.session)) →
+      StaysUnmounted (take l.command-index l.list) init (g.F.Flash.state (flash_in l.session))
+      (record { text = g.W.Watch.text l.initial.out; kept = g.W.Watch.kept l.initial.out }) (record { text = g.W.Watch.text l.out; kept = g.W.Watch.kept l.out });
 }

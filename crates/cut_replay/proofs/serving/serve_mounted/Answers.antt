@@ -1,5 +1,5 @@
 use Rattle.std.proofs.Common.{◌∙◌}
-use Rattle.cut_replay.proofs.Followed.{was_done, after_check, fits_after, serves_after, follows_size}
+use Rattle.cut_replay.proofs.Followed.{was_done, after_check, fits_after, serves_after, caches_after, follows_size}
 use Rattle.cut_replay.proofs.serving.serve_mounted.Goals as goal
 
 pub followed-requires-clause-check : goal.followed-requires-clause-check
@@ -37,3 +37,8 @@ returns-in-Ok-clause-ends g c =
 pub returns-in-Ok-clause-size : goal.returns-in-Ok-clause-size
 returns-in-Ok-clause-size g c =
     follows_size g.F.Flash.state c.args.config c.done.new.device c.in-Ok.reply c.followed.result c.done.new.cache c.followed.new.cache c.followed.ensures ∙ c.done.ensures.size
+
+pub returns-in-Ok-clause-caches : goal.returns-in-Ok-clause-caches
+returns-in-Ok-clause-caches g c =
+    caches_after g.F.Flash.state c.args.config c.args.command.now c.args.device c.done.new.device c.in-Ok.reply c.followed.result c.args.cache.now c.done.new.cache c.followed.new.cache
+    c.requires.no_arm c.in-Ok.ensures.ok.whole c.done.ensures.caches c.done.ensures.size c.followed.ensures
