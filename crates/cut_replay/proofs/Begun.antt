@@ -14,7 +14,7 @@ use Rattle.cut_replay.specs.Bounds.{BeginsUnbroken, CountsBreaks}
 use Rattle.cut_replay.specs.Sessions.{flash_in, point_of, IsSoundFlash, IsSoundOrSame, Fits, Mounted, Unmounted}
 use Rattle.cut_replay.specs.Beginning.{Begins}
 use Rattle.host_protocol.specs.declared.command.Command.{Command}
-use Rattle.cut_replay.specs.Mounted.{MomentStays, StaysQuiet}
+use Rattle.cut_replay.specs.Mounted.{StaysQuiet}
 use Rattle.cut_replay.specs.Served.{Watched, ServesSound, ServesUnsound, CountsTold, RefusesUnsound}
 use Rattle.cut_replay.specs.declared.serving.ServeError.{ServeError}
 use Rattle.cut_replay.specs.declared.serving.ServeError.TheVariants as failed

@@ -18,7 +18,7 @@ use Rattle.host_protocol.specs.declared.reply.Reply.TheVariants as reply
 use Rattle.cut_replay.specs.Run.{DoesCommand, IsCut, MayBeCut, MayComplete, NotDone, is_arm, seen_after}
 use Rattle.cut_replay.specs.FlashRun.{Point, IsDone, MovesBy, ServesFlash, Tells, HasErased, opening_point}
 use Rattle.cut_replay.specs.Bounds.{CountsBreak}
-use Rattle.cut_replay.specs.Mounted.{point_at, MomentStays, StaysQuiet}
+use Rattle.cut_replay.specs.Mounted.{point_at, MomentStays}
 use Rattle.page_cache.specs.CachedPages.{CachedPages}
 use Rattle.cut_replay.specs.Sessions.{flash_in, point_of, StandsMounted, StandsUnmounted, IsSpentBy, ServesIn, ServesSession, IsSoundOrSame, EndsServing, EndsFor, MountsIn, MeetsFault, Mounted, Unmounted, CachesServed, CachesFrom, CachesSession}
 use Rattle.cut_replay.specs.declared.serving.ServeError.{ServeError}
