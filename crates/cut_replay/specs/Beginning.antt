@@ -9,8 +9,8 @@ use Rattle.cut_replay.specs.Bounds.{CountsBreaks}
 use Rattle.cut_replay.specs.Sessions.{point_of, flash_in, IsSoundFlash, StandsAt}
 use Rattle.cut_replay.specs.declared.session.Session.{Session}
 
--- It is at the opening point of a flash whose image is sound, mounted or not. No more is to come, and no fault was counted,
--- unless the first mount met one.
+-- It is at the opening point of a flash whose image is sound, mounted or not. No more is to come.
+-- No fault was counted where nothing breaks before the first command; else that count did not fall.
 pub record Begins {F R : Type 0}
     (state : F → FlashState) (its : Config) (init : FlashState) (s : Session F R) : Type 0 where
   pub sound : IsSoundFlash its init

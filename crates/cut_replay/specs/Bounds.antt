@@ -1,4 +1,5 @@
--- How many cuts and faults a run has: no more than were to come and were armed, and no more than the flash counts.
+-- How many cuts and faults a run has: no more than were to come and were armed, and no more than
+-- the flash counts.
 use Rattle.std.specs.Prelude.{◌≡◌, ◌⊎◌, ℕ, ◌+◌, ◌≤◌, Bool, true, false, List, [], ◌∷◌, take, count_by, All, Option, Some, MatchBool}
 use Rattle.flash_model.specs.Flash.{FlashState, Told, IsSteady, counted_by}
 use Rattle.flash_model.specs.Calls.{BothTell, Rose}
@@ -22,8 +23,8 @@ arms_fault (command.Fault count what) = true
 arms_fault (command.BadRead count) = true
 arms_fault _ = false
 
--- among the replies to the first so many commands there are at most as many cuts and faults as were to come and were
--- armed among these
+-- among the replies to the first so many commands there are at most as many cuts and faults as were
+-- to come and were armed among these
 abbrev pub AreFew : ℕ → ℕ → List Command → List Reply → Type 0
 AreFew cuts breaks cs rs =
     (j : ℕ) →
@@ -40,16 +41,17 @@ pub record AreSpent (cs : List Command) (rs : List Reply) (old new : Told) : Typ
 abbrev pub SpendsTold : List Command → List Reply → Option Told → Option Told → Type 0
 SpendsTold cs rs old new = BothTell (AreSpent cs rs) old new
 
--- the count of faults rose where a break is told, and else is as it was
+-- the count of faults rose, or stood at its end, where a break is told, and else is as it was
 abbrev pub CountsBreak : Reply → ℕ → ℕ → Type 0
 CountsBreak r before now = MatchBool (is_break r) (Rose before now) (now ≡ before)
 
--- nothing breaks before the first command: power is off, so that nothing is mounted before it, or no break is to come
+-- nothing breaks before the first command: power is off, so that nothing is mounted before it, or
+-- the flash is live and tells that no break is to come
 abbrev pub BeginsUnbroken : FlashState → Type 0
 BeginsUnbroken s = (s.live ≡ false) ⊎ IsSteady s
 
--- At least as many faults were counted as breaks were told. Where none was told, and nothing breaks before the first
--- command, none was counted.
+-- The count of faults rose at least by the number of breaks among the replies, up to the end of its
+-- type. Where none is a break, and nothing breaks before the first command, it is as it was.
 pub record CountsBreaks (rs : List Reply) (old new : FlashState) : Type 0 where
   pub least : counted_by (count_by is_break rs) old.faults ≤ new.faults
   pub quiet : BeginsUnbroken old → All (λ r. is_break r ≡ false) rs → new.faults ≡ old.faults

@@ -1,5 +1,5 @@
--- A run on a flash: a run of the array machine in which each state has a moment, which is what the flash was when the reply was
--- given.
+-- A run on a flash: a run of the array machine in which each state has a moment, which is what the
+-- flash was when the reply was given.
 use Rattle.std.specs.Prelude.{◌≡◌, ◌⊎◌, ℕ, ◌||◌, Bool, true, false, List, [], ◌∷◌, Any, MatchBool}
 use Rattle.tx_types.specs.declared.config.Config.{Config}
 use Rattle.tx_types.specs.Config.{shape_of}
@@ -23,7 +23,8 @@ pub record Point : Type 0 where
   pub state : RunState
   pub moment : Moment
 
--- the image of a point is sound, and its array is that of the machine, or that with the pages of the transaction in doubt
+-- the image of a point is sound, and its array is that of the machine, or that with the pages of
+-- the transaction in doubt
 pub record IsPoint (its : Config) (p : Point) : Type 0 where
   pub sound : IsSoundImage its.protocol its.logical (shape_of its) p.moment.image
   pub array : StandsFor p.state.machine (array_in its.protocol its.logical p.moment.image)
@@ -42,8 +43,8 @@ is_still (command.Cut count what) = true
 is_still (command.Fault count what) = true
 is_still (command.BadRead count) = true
 
--- the moment comes from the one before by operations, of which the last may be broken where power is cut or a fault is met; by
--- none where the command asks for none
+-- the moment comes from the one before by operations, of which the last may be broken where power
+-- is cut or a fault is met; by none where the command asks for none
 pub record MovesBy (its : Config) (c : Command) (r : Reply) (old new : Moment) : Type 0 where
   pub moves : Moves (shape_of its) old (is_break r) new
   pub still : is_still c ≡ true → new ≡ old
@@ -57,8 +58,8 @@ abbrev pub HasErased : Config → Moment → Moment → Type 0
 HasErased its old new =
     (done : List Operation) × Does (shape_of its) old done new × Any IsErase done
 
--- What a reply tells of the flash: the counts; the report on the records, where no fault was met before; that a block was
--- erased; that there is nothing to collect.
+-- What a reply tells of the flash: the counts; the report on the records, where no fault was met
+-- before; that a block was erased; that there is nothing to collect.
 abbrev pub Tells : Config → Bool → Point → Reply → Point → Type 0
 Tells its faulted old (reply.Stats told) new =
     (told.programs ≡ new.moment.programs) × (told.erases ≡ new.moment.erases)
@@ -90,8 +91,8 @@ abbrev pub is_fault : Reply → Bool
 is_fault reply.Fault = true
 is_fault _ = false
 
--- A run over a list of commands: one reply and one point for each. `seen` is at least the greatest mention of each page on the
--- flash, and `faulted` says whether a fault was met before.
+-- A run over a list of commands: one reply and one point for each. `seen` is at least the greatest
+-- mention of each page on the flash, and `faulted` says whether a fault was met before.
 abbrev pub FlashRun : Config → (ℕ → ℕ) → Bool → Point → List Command → List Reply → List Point →
     Type 0
 FlashRun its seen faulted old [] [] [] = Unit {0}

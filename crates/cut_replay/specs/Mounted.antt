@@ -40,7 +40,8 @@ pub record IsSeen {F : Type 0} (seen : ℕ → ℕ) (s : Standing F) : Type 0 wh
   pub mentions : (page : ℕ) → mention_of s.noted page ≤ seen page
   pub names : (page version : ℕ) → IsNamedAt s.namings page version → version ≤ seen page
 
--- a cached page is at its current version at most, and where it is at that, its bytes are those of the array
+-- a cached page is at its current version at most, and where it is at that, its bytes are those of
+-- the array
 pub record IsCachedAs {F : Type 0} (s : Standing F) (e : CachedPage) : Type 0 where
   pub exists : e.page < s.config.logical
   pub least : e.version ≤ current_of s.noted e.page
@@ -50,8 +51,8 @@ pub record IsCachedAs {F : Type 0} (s : Standing F) (e : CachedPage) : Type 0 wh
 abbrev pub IsCached : {F : Type 0} → Standing F → List CachedPage → Type 0
 IsCached s entries = All (IsCachedAs s) entries
 
--- What holds of a device at every moment: of its flash, and of what a power cut leaves that was met in a call which led
--- here.
+-- What holds of a device at every moment: of its flash, and of what a power cut leaves that was met
+-- in a call which led here.
 pub record HoldsAlways {F : Type 0} (state : F → FlashState) (protocol : Protocol)
     (s : Standing F) : Type 0 where
   pub rule : s.config.protocol ≡ protocol
@@ -117,7 +118,8 @@ abbrev pub is_cached : {F : Type 0} → Standing F → List CachedPage → ℕ �
 is_cached s entries page =
     nat_lt page s.config.logical && is_some (cached_page page (current_of s.noted page) entries)
 
--- A read of a page that is held is answered, and leaves the device and its flash; any other is a read of the device.
+-- A read of a page that is held is answered, and leaves the device and its flash; any other is a
+-- read of the device.
 abbrev pub ReadsThrough : {F : Type 0} → (F → FlashState) → Standing F → Standing F →
     List CachedPage → ℕ →
     List ℕ → List ℕ → Result ReadAnswer ReadError → Type 0
@@ -142,8 +144,8 @@ abbrev pub KeepsPage : {F : Type 0} → Standing F → CachedPages → CachedPag
 KeepsPage s before after page bytes (Ok u) = after ≡ with_page s page bytes before
 KeepsPage s before after page bytes (Err e) = after ≡ before
 
--- What a read leaves in the cache: a page that was held comes to the front; a page that was read is kept, unless memory
--- ran out.
+-- What a read leaves in the cache: a page that was held comes to the front; a page that was read is
+-- kept, unless memory ran out.
 abbrev pub CachesRead : {F : Type 0} → Standing F → CachedPages → CachedPages → ℕ → List ℕ →
     Result ReadAnswer ReadError → Result (Unit {0}) Memory → Type 0
 CachesRead s before after page bytes (Ok answer.Page) memory =
@@ -157,7 +159,7 @@ takes_read s entries page =
     nat_lt page s.config.logical && is_some (page_at s.machine.pages page)
     && not (is_cached s entries page)
 
--- a read takes one read of a flash that is live where it takes one, and else none
+-- on a live flash a read of a page that takes one is one read, and any other is none
 abbrev pub ReadsOnce : {F : Type 0} → (F → FlashState) → Standing F → Standing F → List CachedPage →
     ℕ → Type 0
 ReadsOnce state old new entries page =
@@ -165,7 +167,8 @@ ReadsOnce state old new entries page =
     (if takes_read old entries page then counted (state old.flash).reads
     else (state old.flash).reads)
 
--- a page that is held comes to the front; of another one the bytes of the array are kept, or nothing changes
+-- a page that is held comes to the front; of another one the bytes of the array are kept, or
+-- nothing changes
 abbrev pub CachesPage : {F : Type 0} → Standing F → CachedPages → CachedPages → ℕ → Type 0
 CachesPage s before after page =
     MatchBool (is_cached s before.entries page) (after ≡ brought_forward s page before)

@@ -92,7 +92,8 @@ collect_reply (Err fault) = reply.Fault
 abbrev pub TellsReport : Reply → Type 0
 TellsReport r = (text : List ℕ) × (r ≡ reply.Report text)
 
--- A command is done on a mounted device, whose power is not cut: its reply, and the state that it leaves.
+-- A command is done on a mounted device, whose power is not cut: its reply, and the state that it
+-- leaves.
 abbrev pub DoesCommand : Limits → (ℕ → Bool) → Command → ArrayState → Reply → ArrayState → Type 0
 DoesCommand limits spent (command.Read page) old r new =
     (bytes : List ℕ) × (result : Result ReadAnswer ReadError)
@@ -208,7 +209,8 @@ HasWhole pages e = All (λ w. page_at pages w.page ≡ Some w.bytes) e.writes
 abbrev pub HasSame : Pages → Pages → Entry → Type 0
 HasSame old new e = All (λ w. page_at new w.page ≡ page_at old w.page) e.writes
 
--- The open transactions write no page twice, and only pages of the array, which has all that a whole one writes.
+-- The open transactions write no page twice, and only pages of the array, which has all that a
+-- whole one writes.
 pub record IsConsistent (s : ArrayState) : Type 0 where
   pub distinct : All (λ e. AllPairs (λ v w. v.page ≢ w.page) e.writes) s.entries
   pub apart : AllPairs EntriesAreApart s.entries
@@ -239,8 +241,8 @@ abbrev pub seen_after : (ℕ → ℕ) → Command → Reply → ℕ → ℕ
 seen_after seen c r page =
     if is_opened r then seen page + count_by (is_of page) (writes_in c) else seen page
 
--- A run over a list of commands: one reply for each, from this state to that. `seen` is at least the greatest
--- mention of each page on the flash.
+-- A run over a list of commands: one reply for each, from this state to that. `seen` is at least
+-- the greatest mention of each page on the flash.
 abbrev pub Run : Limits → (ℕ → ℕ) → RunState → List Command → List Reply → RunState → Type 0
 Run limits seen old [] [] new = new ≡ old
 Run limits seen old (c ∷ cs) (r ∷ rs) new =

@@ -16,13 +16,14 @@ use Rattle.cut_replay.specs.Sessions.{IsSoundOrSame, RepliesUnmounted}
 use Rattle.cut_replay.specs.declared.serving.ServeError.{ServeError}
 use Rattle.cut_replay.specs.declared.serving.ServeError.TheVariants as failed
 
--- what a watch has been told: the text of the replies, and each with its moment, where it tells these
+-- what a watch has been told: the text of the replies, and each with its moment, where it tells
+-- these
 pub record Watched : Type 0 where
   pub text : Option (List ℕ)
   pub kept : Option (List ToldReply)
 
--- There is one run on the flash over these commands. Its last moment is that of the flash that comes back. Of its
--- replies the first so many were told, each with its moment.
+-- There is one run on the flash over these commands. Its last moment is that of the flash that
+-- comes back. Of its replies the first so many were told, each with its moment.
 pub record ServesRun
     (its : Config) (cs : List Command) (told : ℕ) (old new : FlashState)
     (before after : Watched) : Type 0 where
@@ -46,13 +47,14 @@ ServesSound its cs old new before after (Err failed.Memory) =
     ⊎ ServesRun its (take (told + 1) cs) told old new before after)
 ServesSound its cs old new before after (Err (failed.Unsound law slot)) = ⊥
 
--- the breaks that were told were counted, unless memory ran out
+-- the breaks that were told were counted; where memory ran out nothing is said of the count
 abbrev pub CountsTold : List Reply → FlashState → FlashState → Result (Unit {0}) ServeError → Type 0
 CountsTold replies old new (Err failed.Memory) = Unit {0}
 CountsTold replies old new _ = CountsBreaks replies old new
 
--- What serving comes to where the image handed in was not sound: no command is done, and nothing is written. The first so
--- many commands were answered, all of them where nothing is wrong, and this was told, each reply with the moment handed in.
+-- What serving comes to where the image handed in was not sound: no command is done, and nothing is
+-- written. The first so many commands were answered, all of them where the answer is Ok, and this
+-- was told, each reply with the moment handed in.
 pub record ServesUnsound
     (cs : List Command) (old new : FlashState) (before after : Watched)
     (result : Result (Unit {0}) ServeError) : Type 0 where
@@ -66,9 +68,10 @@ pub record ServesUnsound
       (map (λ r. record { text = text_of r; moment = moment_of old }) replies)
   pub faults : CountsTold replies old new result
 
--- What serving comes to whatever the image was. A flash that is refused has the moment that it had when it was handed in,
--- and its image is not sound: the first law that it breaks, and the slot that the law names. Any other flash comes back
--- with a sound image, where its image was sound, or with that moment.
+-- What serving comes to whatever the image was. A flash that is refused has the moment that it had
+-- when it was handed in, and its image is not sound: the first law that it breaks, and the slot
+-- that the law names. Any other flash comes back with a sound image, where its image was sound, or
+-- with that moment.
 abbrev pub RefusesUnsound : Config → FlashState → FlashState → Result (Unit {0}) ServeError → Type 0
 RefusesUnsound its old new (Err (failed.Unsound law slot)) =
     (moment_of new ≡ moment_of old)

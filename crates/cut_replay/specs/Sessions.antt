@@ -43,7 +43,8 @@ point_of state its (session.Unmounted flash) = opening_point its false (moment_o
 abbrev pub IsSoundFlash : Config → FlashState → Type 0
 IsSoundFlash its s = IsSoundImage its.protocol its.logical (shape_of its) s.image
 
--- a mounted device is live, with what holds of it at every moment, and the cache holds nothing that is out of date
+-- a mounted device is live, with what holds of it at every moment, and the cache holds nothing that
+-- is out of date
 pub record FitsMounted {F : Type 0}
     (state : F → FlashState) (its : Config) (cache : List CachedPage)
     (s : Standing F) : Type 0 where
@@ -176,8 +177,8 @@ Unmounted state its flash new (failed.Unsound law slot) =
     (record { law = law; slot = slot })
 Unmounted state its flash new failed.Memory = StaysQuiet (state flash) (state new)
 
--- What a command that is no arm does to the cache: on a device that is mounted still, without a cut, what it does there;
--- and else nothing is held.
+-- What a command that is no arm does to the cache: on a device that is mounted still, without a
+-- cut, what it does there; and else nothing is held.
 abbrev pub CachesServed : {F R : Type 0} → (F → FlashState) → Command → Standing F → Reply →
     Session F R → CachedPages → CachedPages → Type 0
 CachesServed state c s r (session.Mounted t) before after =
@@ -221,7 +222,8 @@ SetsArm state kept sets (session.Unmounted old) (session.Unmounted new) =
 SetsArm state kept sets (session.Mounted old) (session.Unmounted new) = ⊥
 SetsArm state kept sets (session.Unmounted old) (session.Mounted new) = ⊥
 
--- What comes of a call of a device: nothing more where it is live still, and else a mount of its flash.
+-- What comes of a call of a device: nothing more where it is live still, and else a mount of its
+-- flash.
 abbrev pub MountsAgain : {F R : Type 0} → (F → FlashState) → Config → Standing F →
     Result (Session F R × Reply) (Ended F) → Type 0
 MountsAgain state its s (Ok done) = Mounted state its s.flash done.0 × (done.1 ≡ reply.Cut)

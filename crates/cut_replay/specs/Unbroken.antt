@@ -1,5 +1,6 @@
--- A run in which power is not cut and nothing fails: its states, and its replies but for what `collect`, `stats` and `explain`
--- tell of the flash, are functions of the commands and of the pages that are spent at each.
+-- A run in which power is not cut and nothing fails: its states, and its replies but for what
+-- `collect`, `stats` and `explain` tell of the flash, are functions of the commands and of the
+-- pages that are spent at each.
 use Rattle.std.specs.Prelude.{◌≡◌, ◌⊎◌, ℕ, ◌+◌, ◌<◌, Bool, List, [], ◌∷◌, length, count_by, sum_by, nat_lt, Option, None, Some, IsSome, if◌then◌else◌}
 use Rattle.tx_types.specs.Limits.{max_version}
 use Rattle.tx_types.specs.declared.stats.Stats.{Stats}
@@ -18,8 +19,8 @@ abbrev pub page_reply : ℕ → Option (List ℕ) → Reply
 page_reply page None = reply.Blank page
 page_reply page (Some bytes) = reply.Page page bytes
 
--- The reply to a command. Whether a block was collected, some of the numbers of the device and the report are not
--- functions of the array; all else is.
+-- The reply to a command. Whether a block was collected, some of the numbers of the device and the
+-- report are not functions of the array; all else is.
 abbrev pub IsReply : Limits → (ℕ → Bool) → Command → ArrayState → Reply → Type 0
 IsReply limits spent (command.Read page) s r =
     r ≡ (if nat_lt page limits.logical then page_reply page (page_at s.pages page)
@@ -49,7 +50,8 @@ state_after limits spent (command.Finish tag) s = finished (entry_of tag s.entri
 state_after limits spent (command.Abort tag) s = aborted_from (entry_of tag s.entries) tag s
 state_after limits spent _ s = s
 
--- the commands on this state, with the pages that are spent at each and their replies, leave that state
+-- the commands on this state, with the pages that are spent at each and their replies, leave that
+-- state
 abbrev pub UnbrokenRun : Limits → List (ℕ → Bool) → ArrayState → List Command → List Reply →
     ArrayState → Type 0
 UnbrokenRun limits [] old [] [] new = new ≡ old
@@ -58,7 +60,8 @@ UnbrokenRun limits (spent ∷ spents) old (c ∷ cs) (r ∷ rs) new =
     × UnbrokenRun limits spents (state_after limits spent c old) cs rs new
 UnbrokenRun limits _ old _ _ new = ⊥
 
--- each of these may be the pages that are spent at its command, where `seen` is at least the greatest mention of each page
+-- each of these may be the pages that are spent at its command, where `seen` is at least the
+-- greatest mention of each page
 abbrev pub AreMaybeSpent : (ℕ → ℕ) → List Command → List Reply → List (ℕ → Bool) → Type 0
 AreMaybeSpent seen [] [] [] = Unit {0}
 AreMaybeSpent seen (c ∷ cs) (r ∷ rs) (spent ∷ spents) =

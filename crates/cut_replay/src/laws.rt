@@ -59,8 +59,8 @@ pub fn finishes_end()
 
 /// Whatever a command is answered, the array changes by whole transactions alone: by that in doubt,
 /// where it turns out to be there, and then by one that the command was to complete, where the
-/// answer is `done`, or power was cut. Any other command leaves the array, where nothing is in
-/// doubt.
+/// answer is `done`, or power was cut. Where nothing is in doubt, a command that is answered otherwise
+/// leaves the array.
 pub fn arrays_change_at_once()
     ensures at_once { (limits : Limits) (spent : ℕ → Bool)
         (c : Command) (old : RunState) (r : Reply) (new : RunState) →
@@ -136,7 +136,8 @@ pub fn transactions_are_atomic()
 
 /// After the reply `cut` nothing is open, also where power was cut in the mount before the command.
 /// A transaction that was open is in the array wholly or not at all: a whole one stays, and of one
-/// that was not in doubt, and whose last page was not being written, the pages are as they were.
+/// that was not in doubt, and that the command could not complete (by a `finish` of it, or a `step`
+/// of it at its last page), the pages are as they were.
 pub fn cut_transactions()
     ensures closed { (limits : Limits) (spent : ℕ → Bool)
         (c : Command) (old : RunState) (r : Reply) (new : RunState) →

@@ -224,16 +224,18 @@ fn begin<F: Power, R: CommitRule>(
 /// The check of the configuration gives the shape of the flash, and its protocol is that of `R`.
 /// Each batch that is written has pages of `page_bytes`, and each arm counts from 1.
 ///
-/// - Cuts: where power is cut in a command, its reply is `Cut`. Power is turned on and the flash is
-///   mounted again before this is told. All open transactions are gone.
+/// - Cuts: where power is cut in a command, its reply is `Cut`. Power is turned on and a mount is
+///   tried before this is told (no clause here says when). All open transactions are gone.
 /// - Faults: where a command meets a fault and power stays on, its reply is `Fault`, and the device
 ///   goes on. The flash counts at least as many faults as such replies, `Cut` included. Where none is
-///   told it counts none, but for one in the mount at the beginning, which is not told.
+///   told, and the flash had no power at the beginning or told that no break was to come, it counts
+///   none. Else the mount at the beginning may meet one, which is not told.
 /// - Mounts: where a mount meets a fault, the flash stays unmounted. Each command after that, other
 ///   than an arm, turns power on and mounts first. Where that mount meets a fault, the command is
 ///   not done, and its reply is `Fault`, or `Cut` where power is off.
-/// - Cache: a page that was read is kept, unless memory ran out, and is read again without the
-///   flash while it is held and current. Each mount begins with an empty cache.
+/// - Cache (said by the calls inside, and by no clause here): a page that was read is kept, unless
+///   memory ran out, and is read again without the flash while it is held and current. Each mount
+///   begins with an empty cache.
 /// - `Unsound` comes only from a mount before the first one that succeeded. The flash then comes
 ///   back with its image and its counts of programs and erases. Nothing was told before but `Armed`,
 ///   `Fault` and `Cut`.

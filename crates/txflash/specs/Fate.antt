@@ -1,4 +1,5 @@
--- What becomes of a call of the program: its fate, with a status, and the line that is said where it is a refusal.
+-- What becomes of a call of the program: its fate, with a status, and the line that is said where
+-- it is a refusal.
 use Rattle.std.specs.Prelude.{ℕ, List, [], ◌∷◌, ◌++◌, codes}
 use Rattle.std.specs.Fmt.{decimal}
 use Rattle.tx_types.specs.declared.config.Config.{Config}

@@ -39,8 +39,8 @@ pub record IsFormatted (name : List ℕ) (its : Config) (p : Given) : Type 0 whe
   pub said : p.text
       ≡ line (codes "formatted " ++ name ++ codes " " ++ decimal (slots_of (shape_of its)))
 
--- the replies of a run from this image on, and the file of the image with which the run ends, under the same
--- configuration
+-- the replies of a run from this image on, and the file of the image with which the run ends, under
+-- the same configuration
 pub record IsRan (name : List ℕ) (its : Config) (image : List Contents) (commands : List Command)
     (p : Given) : Type 0 where
   pub bytes : List ℕ
@@ -55,7 +55,8 @@ pub record IsExplained (its : Config) (image : List Contents) (p : Given) : Type
   pub sound : IsSoundImage its.protocol its.logical (shape_of its) image
   pub said : p.text ≡ report its.protocol (records_in its.protocol image) its.logical
 
--- the summary of the replies of a run over the commands that are drawn, on a fresh default device of this protocol
+-- the summary of the replies of a run over the commands that are drawn, on a fresh default device
+-- of this protocol
 pub record IsDriven (start count : ℕ) (protocol : Protocol) (p : Given) : Type 0 where
   pub saves_nothing : p.saved ≡ None
   pub left : List Contents

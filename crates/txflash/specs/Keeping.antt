@@ -1,4 +1,5 @@
--- The replies that are kept of a run, each with its moment and with how long a page of the flash was.
+-- The replies that are kept of a run, each with its moment and with how long a page of the flash
+-- was.
 use Rattle.std.specs.Prelude.{ℕ, List, [], flat_map, map, slice_index_or}
 use Rattle.flash_model.specs.Flash.{FlashState}
 use Rattle.flash_model.specs.Operations.{moment_of}

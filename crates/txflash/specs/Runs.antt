@@ -1,4 +1,5 @@
--- Serving commands on a device from an image on, on a flash that breaks only where the commands arm it.
+-- Serving commands on a device from an image on, on a flash that breaks only where the commands arm
+-- it.
 use Rattle.std.specs.Prelude.{◌≡◌, ℕ, List, replicate}
 use Rattle.tx_types.specs.declared.config.Config.{Config}
 use Rattle.tx_types.specs.declared.config.Protocol.{Protocol}
@@ -33,9 +34,9 @@ blank_image its = replicate (slots_of (shape_of its)) blank
 abbrev pub first_moment : List Contents → Moment
 first_moment its_image = record { image = its_image; programs = 0; erases = 0 }
 
--- The image is sound, and there is a run on a flash over these commands, from it on, with nothing counted. The run ends
--- with that image, and the text is that of its replies. Among the replies to the first so many commands there are at
--- most as many cuts and faults as were armed among these.
+-- The image is sound, and there is a run on a flash over these commands, from it on, with nothing
+-- counted. The run ends with that image, and the text is that of its replies. Among the replies to
+-- the first so many commands there are at most as many cuts and faults as were armed among these.
 pub record IsRun (its : Config) (image : List Contents) (commands : List Command)
     (left : List Contents) (text : List ℕ) : Type 0 where
   pub sound : IsSoundImage its.protocol its.logical (shape_of its) image

@@ -1,4 +1,5 @@
--- The steps of the work, what each comes to, and so the fate of a task. The first step that fails decides.
+-- The steps of the work, what each comes to, and so the fate of a task. The first step that fails
+-- decides.
 use Rattle.std.specs.Prelude.{◌≡◌, ℕ, ◌+◌, List, Option, None, Some, Result, Ok, Err, IfOk}
 use Rattle.tx_types.specs.declared.config.Config.{Config}
 use Rattle.tx_types.specs.declared.config.ConfigError.{ConfigError}
@@ -39,7 +40,8 @@ WithoutLoad comes fate loads = comes fate × (loads ≡ 0)
 
 -- ---- reading an image
 
--- the bytes are the spelling of this configuration and this image, or this is the first rule that they break
+-- the bytes are the spelling of this configuration and this image, or this is the first rule that
+-- they break
 abbrev pub ReadsImage : List ℕ → Result (Config × List Contents) ImageError → Type 0
 ReadsImage bytes read = (reading bytes ≡ read) × IfOk read (λ r. Spells bytes r.0 r.1)
 

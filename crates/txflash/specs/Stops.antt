@@ -107,7 +107,8 @@ Speaks old new text status answer =
     ⊎ (((mid : DeskState) × Says old mid text (Err sink.Failed) × FaultTold mid new answer)
     ⊎ MemoryTold old new answer)
 
--- A file was saved, if there is one, and then a text was said; or the saving failed, or memory ran out.
+-- A file was saved, if there is one, and then a text was said; or the saving failed, or memory ran
+-- out.
 abbrev pub Delivers : DeskState → DeskState → Given → ℕ → ℕ → Type 0
 Delivers old new p status answer =
     Speaks (after_save p.saved old) new p.text status answer

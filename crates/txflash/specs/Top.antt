@@ -94,7 +94,8 @@ abbrev pub IsFaulted : Option Asked → DeskState → DeskState → Type 0
 IsFaulted task old new =
     (mid : DeskState) × CallFails task old mid × Attempts mid new (line (codes "desk fault"))
 
--- Memory ran out before a fate was decided; or after that, before what it gives was saved, or before it was said.
+-- Memory ran out before a fate was decided; or after that, before what it gives was saved, or
+-- before it was said.
 abbrev pub RunsOut : Option Asked → DeskState → DeskState → Type 0
 RunsOut task old new =
     WorkRunsOut task old new
@@ -105,8 +106,8 @@ abbrev pub IsStarved : Option Asked → DeskState → DeskState → Type 0
 IsStarved task old new =
     (mid : DeskState) × RunsOut task old mid × Attempts mid new (line (codes "no memory"))
 
--- How a call of the program ends, with which status: a fate decided, what it gives was saved, and its text was said
--- whole; or a call of the desk failed; or memory ran out.
+-- How a call of the program ends, with which status: a fate decided, what it gives was saved, and
+-- its text was said whole; or a call of the desk failed; or memory ran out.
 pub data EndsCall (task : Option Asked) (old new : DeskState) (answer : ℕ) : Type 0 where
   Decided : (it : Decision task old) → answer ≡ status it.fate →
       new ≡ after_text it.given.text (after_saving old it) →
@@ -120,8 +121,8 @@ pub data EndsCall (task : Option Asked) (old new : DeskState) (answer : ℕ) : T
 abbrev pub TellsFate : Option Asked → DeskState → Type 0
 TellsFate task desk = (files_of task ≡ []) ⊎ IsSome desk.told
 
--- Where the desk tells it, a task has one fate, which gives its status, unless the desk's count of faults rose or memory
--- ran out.
+-- Where the desk tells it, a task has one fate, which gives its status, unless the desk's count of
+-- faults rose or memory ran out.
 pub record IsExact (task : Option Asked) (old new : DeskState) (answer : ℕ) : Type 0 where
   pub one_fate : (a b : Fate) (m n : ℕ) → TellsFate task old → IsFate task old a m →
       IsFate task old b n → a ≡ b

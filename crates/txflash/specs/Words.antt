@@ -11,8 +11,9 @@ use Rattle.txflash.specs.Numbers.{wide_number_of, draws_of}
 use Rattle.txflash.specs.declared.words.Task.{Task}
 use Rattle.txflash.specs.declared.words.Task.TheVariants as task
 
--- A task of the program, with the names of its files: to try commands on a fresh device, to write a blank image, to run
--- commands on an image, to report on an image, to drive a fresh device by commands that are drawn.
+-- A task of the program, with the names of its files: to try commands on a fresh device, to write a
+-- blank image, to run commands on an image, to report on an image, to drive a fresh device by
+-- commands that are drawn.
 pub data Asked : Type 0 where
   Try : (commands : List ℕ) → Asked
   Format : (image : List ℕ) → (config : Config) → Asked

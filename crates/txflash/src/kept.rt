@@ -28,7 +28,7 @@ struct Entry {
 }
 
 /// The replies of a run, each with a copy of what the flash was when it was given. It is seen as
-/// the list of their texts and moments, with the bytes of a page of each flash.
+/// the list of their texts and moments, with how many bytes a page of each flash has.
 #[derive(Drop)]
 pub struct Kept {
     alloc: Global,

@@ -147,8 +147,8 @@ const TRIED: [(&str, &str); 32] = [
     ),
 ];
 
-/// Want of memory is free in the clauses, so none refuses `top_always_six`, a program that answers
-/// status 6 whatever it is asked for. This test does.
+/// Want of memory is free in the clauses, so none refuses the wrong body `top_always_six`, a program
+/// that answers status 6 whatever it is asked for. This test does.
 #[test]
 fn says_the_replies_of_a_try(rt: HostRuntime) -> Result<(), Fail> {
     for (commands, replies) in TRIED {
@@ -312,7 +312,7 @@ fn digits_of(alloc: Global, bytes: &[u8]) -> Result<Vec<u8>, Fail> {
     Ok(digits)
 }
 
-/// The slots of the flash are as each reply says when it is given. So this refuses
+/// The slots of the flash are as each reply says when it is given. So this refuses the wrong body
 /// `replies_from_kept_array`, a serve that answers from an array of its own and writes the flash
 /// later.
 #[test]
