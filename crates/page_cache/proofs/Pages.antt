@@ -99,6 +99,12 @@ module _ (page version : ℕ) where
         | false ↦ λ t. size_found es size bytes (rw t at is) parts.1
       ]) refl
 
+  -- a page that was kept is found, with its bytes
+  pub cached_page-kept : (its_bytes : List ℕ) (es : List CachedPage)
+      → cached_page page version (kept page version its_bytes es) ≡ Some (record { page = page; version = version; bytes = its_bytes })
+  unfolding kept cached_page
+  cached_page-kept its_bytes es = grind (arith, nat_tests)
+
 pub ruleset look_ups = (promoted-missing, length-promoted, list_all-promoted, size_found)
 
 pub ruleset puts = (length-kept, list_all-kept)

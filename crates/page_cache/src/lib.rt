@@ -3,7 +3,9 @@
 
 mod cache;
 mod entries;
+mod laws;
 #[cfg(test)]
 mod tests;
 
 pub use cache::PageCache;
+pub use laws::kept_pages_are_found;
