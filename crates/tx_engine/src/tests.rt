@@ -1,9 +1,5 @@
-mod array;
 mod calls;
 mod devices;
 mod doubts;
-mod failing;
 mod full;
-mod history;
 mod rows;
-mod sweep;
