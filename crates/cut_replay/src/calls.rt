@@ -124,7 +124,7 @@ pub fn report<F: Flash, R: CommitRule>(
     ensures { IfOk result (λ r. ServesHere F.state Command.Explain device.now device.now r) }
 {
     let logical = held_always(device).logical;
-    let found = device.found(alloc)?;
+    let found = device.found()?;
     let mut text = Vec::new(alloc);
     explain::<R>(alloc, &found, logical, &mut text)?;
     let mut bytes = Bytes::new(alloc);

@@ -23,11 +23,12 @@ abbrev pub files_with : Files → List ℕ → Option (List ℕ) → Files
 files_with files name (Some bytes) = map.insert files name bytes
 files_with files name None = map.remove files name
 
--- What a desk tells: its files, all bytes that were said on it, and how many calls were made of it. A call that ran
--- out of memory counts as none.
+-- What a desk tells: its files, all bytes that were said on it, how many calls it was asked for, and how many of these
+-- it made. A call that runs out of memory is asked for and not made.
 pub record DeskContents : Type 0 where
   pub files : Files
   pub said : List ℕ
+  pub asked : ℕ
   pub calls : ℕ
 
 -- A desk: what it tells, if it does, and how many of its calls failed.
@@ -55,9 +56,14 @@ with_said bytes c = record c { said = c.said ++ bytes }
 abbrev pub as_before : DeskContents → DeskContents
 as_before c = c
 
--- a call more, which changed the contents so
+-- a call more was asked for
+abbrev pub once_asked : DeskContents → DeskContents
+once_asked c = record c { asked = counted c.asked }
+
+-- a call more was asked for and made, which changed the contents so
 abbrev pub called : (DeskContents → DeskContents) → DeskContents → DeskContents
-called change c = record (change c) { calls = counted (change c).calls }
+called change c =
+    record (change c) { asked = counted (change c).asked; calls = counted (change c).calls }
 
 -- the desk after a call that did not fail and changed its contents so
 abbrev pub after_answer : (DeskContents → DeskContents) → DeskState → DeskState
@@ -67,6 +73,10 @@ after_answer change desk = record desk { told = option_map (called change) desk.
 abbrev pub after_fault : (DeskContents → DeskContents) → DeskState → DeskState
 after_fault change desk =
     record { told = option_map (called change) desk.told; faults = counted desk.faults }
+
+-- the desk after a call that ran out of memory: it was asked for, and nothing else has changed
+abbrev pub after_memory : DeskState → DeskState
+after_memory desk = record desk { told = option_map once_asked desk.told }
 
 -- the most bytes of a file that is loaded
 abbrev pub max_file_bytes : ℕ
@@ -91,24 +101,24 @@ abbrev pub Finds : DeskState → List ℕ → FileFound → Type 0
 Finds desk name found =
     IsShort found × IfSome desk.told (λ c. file_found (file_at c.files name) ≡ found)
 
--- A load changes nothing. Its answer is what is at the name, unless it fails or runs out of memory.
+-- A load changes no file and no text. Its answer is what is at the name, unless it fails or runs out of memory.
 abbrev pub Loads : DeskState → DeskState → List ℕ → Result (Vec ℕ Global) LoadError → Type 0
 Loads old new name (Ok loaded) =
     Finds old name (Bytes loaded.items) × (new ≡ after_answer as_before old)
 Loads old new name (Err load.Missing) = Finds old name Missing × (new ≡ after_answer as_before old)
 Loads old new name (Err load.TooLong) = Finds old name TooLong × (new ≡ after_answer as_before old)
 Loads old new name (Err load.Failed) = new ≡ after_fault as_before old
-Loads old new name (Err load.Memory) = new ≡ old
+Loads old new name (Err load.Memory) = new ≡ after_memory old
 
 -- A save puts the bytes there. After a failure the file is gone or has any bytes.
 abbrev pub Saves : DeskState → DeskState → List ℕ → List ℕ → Result (Unit {0}) SinkError → Type 0
 Saves old new name bytes (Ok _) = new ≡ after_answer (with_file name (Some bytes)) old
 Saves old new name bytes (Err sink.Failed) =
     (left : Option (List ℕ)) × (new ≡ after_fault (with_file name left) old)
-Saves old new name bytes (Err sink.Memory) = new ≡ old
+Saves old new name bytes (Err sink.Memory) = new ≡ after_memory old
 
 -- A say appends the bytes. After a failure any first part of them was said.
 abbrev pub Says : DeskState → DeskState → List ℕ → Result (Unit {0}) SinkError → Type 0
 Says old new bytes (Ok _) = new ≡ after_answer (with_said bytes) old
 Says old new bytes (Err sink.Failed) = (n : ℕ) × (new ≡ after_fault (with_said (take n bytes)) old)
-Says old new bytes (Err sink.Memory) = new ≡ old
+Says old new bytes (Err sink.Memory) = new ≡ after_memory old

@@ -8,7 +8,7 @@ use Rattle.desk_io.specs.declared.desk.LoadError.{LoadError}
 use Rattle.desk_io.specs.declared.desk.LoadError.TheVariants as load
 use Rattle.desk_io.specs.declared.desk.SinkError.{SinkError}
 use Rattle.desk_io.specs.declared.desk.SinkError.TheVariants as sink
-use Rattle.desk_io.specs.Desk.{Files, DeskContents, DeskState, counted, called, as_before, with_file, with_said}
+use Rattle.desk_io.specs.Desk.{Files, DeskContents, DeskState, counted, called, once_asked, as_before, with_file, with_said}
 
 -- A desk in memory: its contents, the numbers of the calls that are to fail, from 1, and how many failed.
 pub record MemoryDesk : Type 0 where
@@ -19,14 +19,18 @@ pub record MemoryDesk : Type 0 where
 -- it is stored as the tuple of its fields
 abbrev pub memory_desk_code : Coded MemoryDesk
 memory_desk_code =
-    code_by (Files × (List ℕ × (ℕ × (List ℕ × ℕ))))
+    code_by (Files × (List ℕ × (ℕ × (ℕ × (List ℕ × ℕ)))))
     (coded× (map.code (coded_list coded_ℕ) (coded_list coded_ℕ))
-    (coded× (coded_list coded_ℕ) (coded× coded_ℕ (coded× (coded_list coded_ℕ) coded_ℕ))))
-    (λ d. (d.contents.files, (d.contents.said, (d.contents.calls, (d.fails, d.faults)))))
+    (coded× (coded_list coded_ℕ)
+    (coded× coded_ℕ (coded× coded_ℕ (coded× (coded_list coded_ℕ) coded_ℕ)))))
+    (λ d. (
+      d.contents.files,
+      (d.contents.said, (d.contents.asked, (d.contents.calls, (d.fails, d.faults)))),
+    ))
     (λ p. record {
-      contents = record { files = p.0; said = p.1.0; calls = p.1.1.0 };
-      fails = p.1.1.1.0;
-      faults = p.1.1.1.1;
+      contents = record { files = p.0; said = p.1.0; asked = p.1.1.0; calls = p.1.1.1.0 };
+      fails = p.1.1.1.1.0;
+      faults = p.1.1.1.1.1;
     })
     (λ _. refl)
 
@@ -35,7 +39,7 @@ abbrev pub empty_desk : List ℕ → MemoryDesk
 empty_desk fails =
     record {
       contents =
-          record { files = map.empty; said = []; calls = 0 };
+          record { files = map.empty; said = []; asked = 0; calls = 0 };
       fails = fails;
       faults = 0;
     }
@@ -61,11 +65,15 @@ after_call change fails d =
       faults = if fails then counted d.faults else d.faults;
     }
 
+-- a call ran out of memory: it was asked for, and nothing else has changed
+abbrev pub after_starving : MemoryDesk → MemoryDesk
+after_starving d = record d { contents = once_asked d.contents }
+
 -- a load fails exactly where it is to fail, and counts as a call, unless it runs out of memory
 abbrev pub LoadsInMemory : MemoryDesk → MemoryDesk → Result (Vec ℕ Global) LoadError → Type 0
 LoadsInMemory old new (Err load.Failed) =
     (fails_next old ≡ true) × (new ≡ after_call as_before true old)
-LoadsInMemory old new (Err load.Memory) = (fails_next old ≡ false) × (new ≡ old)
+LoadsInMemory old new (Err load.Memory) = (fails_next old ≡ false) × (new ≡ after_starving old)
 LoadsInMemory old new _ = (fails_next old ≡ false) × (new ≡ after_call as_before false old)
 
 -- the first half of the bytes, rounded down
@@ -77,7 +85,7 @@ abbrev pub kept_of : List ℕ → Bool → List ℕ
 kept_of bytes fails = if fails then first_half bytes else bytes
 
 -- A save or a say does this with the bytes that are kept: all of them, or the first half where it is to fail. Where
--- memory runs out nothing changes, the number of calls included.
+-- memory runs out nothing changes, the number of calls included, but how many were asked for.
 abbrev pub KeepsInMemory : (List ℕ → DeskContents → DeskContents) → MemoryDesk → MemoryDesk →
     List ℕ →
     Result (Unit {0}) SinkError → Type 0
@@ -85,7 +93,7 @@ KeepsInMemory with_kept old new bytes (Ok _) =
     (fails_next old ≡ false) × (new ≡ after_call (with_kept bytes) false old)
 KeepsInMemory with_kept old new bytes (Err sink.Failed) =
     (fails_next old ≡ true) × (new ≡ after_call (with_kept (first_half bytes)) true old)
-KeepsInMemory with_kept old new bytes (Err sink.Memory) = new ≡ old
+KeepsInMemory with_kept old new bytes (Err sink.Memory) = new ≡ after_starving old
 
 abbrev pub SavesInMemory : MemoryDesk → MemoryDesk → List ℕ → List ℕ → Result (Unit {0}) SinkError →
     Type 0

@@ -16,6 +16,7 @@ desk_of d = record {
         files =
             files.from_entries (map kept_file d.files.entries);
         said = d.said.items;
+        asked = d.asked;
         calls = d.calls;
       };
   fails = d.fails.items;

@@ -32,10 +32,20 @@ load_answer (Ok bytes) =
     if nat_le (length bytes.items) max_file_bytes then Ok bytes else Err load.TooLong
 load_answer (Err error) = Err (load_error (error_kind error))
 
--- the answer of a save or a say, after writing: any error is a fault
-abbrev pub sink_answer : Result (Unit {0}) Error → Result (Unit {0}) SinkError
-sink_answer (Ok done) = Ok done
-sink_answer (Err error) = Err sink.Failed
+-- the answer of a say, after writing: any error is a fault
+abbrev pub say_answer : Result (Unit {0}) Error → Result (Unit {0}) SinkError
+say_answer (Ok done) = Ok done
+say_answer (Err error) = Err sink.Failed
+
+-- why a file was not saved, by the kind of the error
+abbrev pub save_error : ErrorKind → SinkError
+save_error kind.OutOfMemory = sink.Memory
+save_error _ = sink.Failed
+
+-- the answer of a save, after writing
+abbrev pub save_answer : Result (Unit {0}) Error → Result (Unit {0}) SinkError
+save_answer (Ok done) = Ok done
+save_answer (Err error) = Err (save_error (error_kind error))
 
 -- a load that failed is counted, and so is a save or a say
 abbrev pub load_faults : Result (Vec ℕ Global) LoadError → ℕ → ℕ

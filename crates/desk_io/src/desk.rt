@@ -22,14 +22,14 @@ pub enum SinkError {
     /// The desk met a fault. The file that was to be saved is not known, or any first part of the
     /// bytes was said.
     Failed,
-    /// There was no memory. Nothing has changed.
+    /// There was no memory. No file and no text has changed.
     Memory,
 }
 
 /// Files that are loaded and saved by their names, and a place where bytes are said.
 pub trait Desk {
-    /// What the desk is: what it tells of its files and of what was said on it, if it does, and how
-    /// many of its calls failed.
+    /// What the desk is: what it tells of its files, of what was said on it and of the calls that it
+    /// was asked for, if it does, and how many of its calls failed.
     ghost state: { Self → DeskState };
 
     /// The bytes of a file, of which there are at most `MAX_FILE_BYTES`.

@@ -1,9 +1,11 @@
 //! A desk: files that are loaded and saved by their names, and a place where bytes are said.
 #![tactic(auto)]
 
+mod beside;
 mod desk;
 mod memory;
 mod real;
+mod saving;
 #[cfg(test)]
 mod tests;
 

@@ -1,7 +1,7 @@
 ghost use Rattle.std.specs.Prelude.{◌≡◌, if◌then◌else◌, IfOk, OnOk, OnErr, Ok, Err};
 ghost use Rattle.std.specs.Option.{option_copied};
 ghost use Rattle.desk_io.specs.Desk.{Loads, Saves, Says, counted, file_at, as_before, with_file};
-ghost use Rattle.desk_io.specs.InMemory.{open_desk, empty_desk, fails_next, after_put, after_call, kept_of, LoadsInMemory, SavesInMemory, SaysInMemory};
+ghost use Rattle.desk_io.specs.InMemory.{open_desk, empty_desk, fails_next, after_put, after_call, after_starving, kept_of, LoadsInMemory, SavesInMemory, SaysInMemory};
 
 use crate::{Desk, LoadError, MAX_FILE_BYTES, SinkError};
 use std::alloc::{AllocError, AllocFailed, Global};
@@ -32,6 +32,8 @@ pub struct MemDesk {
     said: Vec<u8>,
     /// The numbers of the calls that are to fail, from 1.
     fails: Vec<u32>,
+    /// How many calls were asked for.
+    asked: u64,
     /// How many calls were made.
     calls: u64,
     /// How many of them failed.
@@ -60,6 +62,7 @@ impl MemDesk {
             files: BTreeMap::new(alloc),
             said: Vec::new(alloc),
             fails,
+            asked: 0,
             calls: 0,
             faults: 0,
         }
@@ -105,10 +108,18 @@ impl MemDesk {
     fn count(&mut self, fails: bool)
         ensures { self.new ≡ after_call as_before fails self.old }
     {
+        self.asked = self.asked.saturating_add(1);
         self.calls = self.calls.saturating_add(1);
         if fails {
             self.faults = self.faults.saturating_add(1);
         }
+    }
+
+    /// Counts a call that was asked for and ran out of memory.
+    fn starve(&mut self)
+        ensures { self.new ≡ after_starving self.old }
+    {
+        self.asked = self.asked.saturating_add(1);
     }
 
     /// The answer of a save or a say that kept what it was to keep, which counts as a call.
@@ -165,6 +176,7 @@ impl Desk for MemDesk {
             return Err(LoadError::TooLong);
         }
         let Ok(loaded) = copied(self.alloc, bytes) else {
+            self.starve();
             return Err(LoadError::Memory);
         };
         self.count(false);
@@ -177,6 +189,7 @@ impl Desk for MemDesk {
     {
         let fails = self.fails_next();
         let Ok(()) = self.put_file(name, kept(bytes, fails)) else {
+            self.starve();
             return Err(SinkError::Memory);
         };
         self.answer(fails)
@@ -188,6 +201,7 @@ impl Desk for MemDesk {
     {
         let fails = self.fails_next();
         let Ok(()) = self.said.extend_from_slice(kept(bytes, fails)) else {
+            self.starve();
             return Err(SinkError::Memory);
         };
         self.answer(fails)

@@ -2,11 +2,11 @@ ghost use Rattle.std.specs.Prelude.{◌≡◌, Err, IfSome, OnOk, IsSome};
 ghost use Rattle.desk_io.specs.Desk.{after_fault, as_before, file_at};
 
 use crate::{Desk, LoadError, MemDesk, RealDesk, SinkError};
-use faulty::Faulty;
 use std::fs;
 use std::test::Fail;
 
-mod faulty;
+mod recording;
+mod saves;
 
 /// The length of a file, on any desk.
 fn length_on<D: Desk>(desk: &mut D, name: &str) -> Result<usize, LoadError>
@@ -65,13 +65,6 @@ fn real_files_are_loaded_and_saved(rt: HostRuntime) -> Result<(), Fail> {
 
     assert_eq!(rt; length_on(&mut desk, name), Ok(6));
 
-    // What stands where the new file would be written is not touched, nor is the old file then.
-    let beside = "folder_of_the_desk_test/file.saving";
-    fs::write(&rt, beside, b"another's")?;
-    assert_eq!(rt; desk.save(name, b"new"), Err(SinkError::Failed));
-    assert_eq!(rt; desk.load(name)?.as_slice(), b"others".as_slice());
-    assert_eq!(rt; desk.load(beside)?.as_slice(), b"another's".as_slice());
-
     // A folder in place of a file, a folder that is not there, and a device that is full.
     assert_eq!(rt; desk.load(folder).err(), Some(LoadError::Failed));
     assert_eq!(rt; desk.save(folder, b"some bytes"), Err(SinkError::Failed));
@@ -87,36 +80,6 @@ fn real_files_are_loaded_and_saved(rt: HostRuntime) -> Result<(), Fail> {
     // A file without an end.
     assert_eq!(rt; desk.load("/dev/zero").err(), Some(LoadError::TooLong));
     desk.say(b"")?;
-    fs::remove_dir_all(&rt, folder)?;
-    Ok(())
-}
-
-#[test]
-fn a_faulty_system_leaves_the_old_file(rt: HostRuntime) -> Result<(), Fail> {
-    let folder = "folder_of_the_faulty_test";
-    let _ = fs::remove_dir_all(&rt, folder);
-    fs::create_dir(&rt, folder)?;
-    let name = "folder_of_the_faulty_test/file";
-    fs::write(&rt, name, b"old")?;
-
-    // The output is closed, and the new file does not come to its name: it is removed.
-    let system = Faulty(&rt);
-    let mut desk = RealDesk::new(&system);
-    assert_eq!(rt; desk.say(b"some bytes"), Err(SinkError::Failed));
-    assert_eq!(rt; desk.save(name, b"new"), Err(SinkError::Failed));
-    assert_eq!(rt; desk.load(name)?.as_slice(), b"old".as_slice());
-    assert_eq!(rt;
-        fs::exists(&rt, "folder_of_the_faulty_test/file.saving")?,
-        false
-    );
-    assert_eq!(rt;
-        desk.save("folder_of_the_faulty_test/none", b"new"),
-        Err(SinkError::Failed)
-    );
-    assert_eq!(rt;
-        desk.load("folder_of_the_faulty_test/none").err(),
-        Some(LoadError::Missing)
-    );
     fs::remove_dir_all(&rt, folder)?;
     Ok(())
 }

@@ -43,6 +43,7 @@ use version_index::Index;
 /// A flash with the tables that match it. Whatever breaks, they match.
 #[derive(Drop)]
 pub struct Store<F: Flash, R: CommitRule> {
+    alloc: Global,
     pub(crate) flash: F,
     pub(crate) index: Index<R>,
     pub(crate) blocks: Blocks,
@@ -78,6 +79,7 @@ impl<F: Flash, R: CommitRule> Store<F, R> {
         };
         match recover(alloc, &mut flash, config) {
             Ok((index, blocks)) => Ok(Store {
+                alloc,
                 flash,
                 index,
                 blocks,
@@ -152,11 +154,11 @@ impl<F: Flash, R: CommitRule> Store<F, R> {
     }
 
     /// The noted records, in the order of their slots.
-    pub fn found(&self, alloc: Global) -> Result<Vec<Found>, Memory>
+    pub fn found(&self) -> Result<Vec<Found>, Memory>
         ensures { IfOk result (λ list. list.items ≡ found_in self.now.noted.notes) }
     {
         let slots = self.flash.shape().slots();
-        let mut list = Vec::with_capacity(alloc, slots as usize)?;
+        let mut list = Vec::with_capacity(self.alloc, slots as usize)?;
         for at in 0..slots {
             let at = Slot(at);
             if let Some(rec) = self.index.rec(at) {

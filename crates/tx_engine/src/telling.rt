@@ -11,7 +11,6 @@ use crate::Device;
 use crate::store::Store;
 use flash_model::Flash;
 use record_list::{CommitRule, Found};
-use std::alloc::Global;
 use tx_types::{Memory, Stats};
 
 impl<F: Flash, R: CommitRule> Store<F, R> {
@@ -60,9 +59,9 @@ impl<F: Flash, R: CommitRule> Device<F, R> {
     }
 
     /// The records that are noted, in the order of their slots.
-    pub fn found(&self, alloc: Global) -> Result<Vec<Found>, Memory>
+    pub fn found(&self) -> Result<Vec<Found>, Memory>
         ensures { IfOk result (λ list. list.items ≡ found_in self.now.noted.notes) }
     {
-        self.store.found(alloc)
+        self.store.found()
     }
 }

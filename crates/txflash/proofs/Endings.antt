@@ -1,15 +1,15 @@
 -- How a call of the program ends, and what follows for its status and the files.
-use Rattle.std.proofs.Common.{◌≡◌, ◌⊎◌, inl, inr, ℕ, zero, suc, List, [], ◌∷◌, take, Option, None, Some, Result, Ok, Err, refl, ap, sym, subst, ◌∙◌, arith}
+use Rattle.std.proofs.Common.{◌≡◌, ◌≢◌, ◌⊎◌, inl, inr, ℕ, zero, suc, List, [], ◌∷◌, length, take, Option, None, Some, Result, Ok, Err, refl, ap, sym, subst, ◌∙◌, arith}
 use Rattle.std.specs.Option.{option_map}
-use Rattle.desk_io.specs.Desk.{DeskContents, DeskState, Files, Rose, Says, as_before, called, counted, files_with, with_file, with_said}
+use Rattle.desk_io.specs.Desk.{DeskContents, DeskState, Files, Rose, Says, as_before, called, counted, after_memory, once_asked, files_with, with_file, with_said}
 use Rattle.desk_io.specs.declared.desk.SinkError.{SinkError}
 use Rattle.desk_io.specs.declared.desk.SinkError.TheVariants as sink
 use Rattle.txflash.specs.Fate.{Fate, status, refusal_line}
 use Rattle.txflash.specs.Gives.{Given, SavedFile, Gives}
 use Rattle.txflash.specs.Steps.{IsFate}
 use Rattle.txflash.specs.Stops.{Comes, Delivers, MemoryTold, Speaks, refused}
-use Rattle.txflash.specs.Top.{Decision, EndsCall, Decided, Faulted, Starved, IsExact, IsFaulted, Leaves, LeavesFiles, CallFails, FileFails, RunsOut, TellsFate, after_loads, after_save, after_text, files_in, after_loading, after_saving}
-use Rattle.txflash.specs.Words.{Asked, file_of}
+use Rattle.txflash.specs.Top.{Decision, EndsCall, Decided, Faulted, Starved, IsExact, IsFaulted, Leaves, LeavesFiles, CallFails, FileStops, RunsOut, TellsFate, after_loads, after_save, after_text, files_in, after_loading, after_saving}
+use Rattle.txflash.specs.Words.{Asked, file_of, files_of}
 use Rattle.txflash.specs.declared.refusal.Refusal.{Refusal}
 use Rattle.txflash.specs.declared.refusal.Refusal.TheVariants as refusal
 use Rattle.txflash.proofs.OneFate.{one_fate}
@@ -29,9 +29,9 @@ ends_delivered task old mid new fate given wanted answer (loads, is, at) gives s
     ending : Delivers (after_loading old it) new given wanted answer → EndsCall task old new answer
     ending (inl (inl (said, after))) = Decided it (said ∙ same) after
     ending (inl (inr (inl (mid, says, told)))) = Faulted told.0 (mid, inr (inr (it, says)), told.1)
-    ending (inl (inr (inr told))) = Starved told.0 (after_saving old it, inr (it, inr refl), told.1)
+    ending (inl (inr (inr (mid, starves, told)))) = Starved told.0 (mid, inr (inr (it, starves)), told.1)
     ending (inr (inl (mid, fails, told))) = Faulted told.0 (mid, inr (inl (it, fails)), told.1)
-    ending (inr (inr told)) = Starved told.0 (after_loading old it, inr (it, inl refl), told.1)
+    ending (inr (inr (mid, starves, told))) = Starved told.0 (mid, inr (inl (it, starves)), told.1)
 
 -- ---- status 5 comes only where the count of faults rose
 
@@ -43,7 +43,7 @@ faults_save : (file : Option SavedFile) (desk : DeskState) → (after_save file 
 faults_save None desk = refl
 faults_save (Some file) desk = refl
 
-faults_file : (file : Option SavedFile) (old new : DeskState) → FileFails file old new → new.faults ≡ counted old.faults
+faults_file : (file : Option SavedFile) (old new : DeskState) → FileStops sink.Failed file old new → new.faults ≡ counted old.faults
 faults_file None old new fails = absurd fails
 faults_file (Some file) old new fails = ap (λ (d : DeskState). d.faults) fails.1
 
@@ -52,7 +52,7 @@ faults_call task old new (inl (n, less, came, after)) = ap (λ (d : DeskState). 
 faults_call task old new (inr (inl (it, fails))) =
     faults_file it.given.saved (after_loading old it) new fails ∙ ap counted (faults_loads it.loads old)
 faults_call task old new (inr (inr (it, fails))) =
-    ap (λ (d : DeskState). d.faults) fails.1 ∙ ap counted (faults_save it.given.saved (after_loading old it) ∙ faults_loads it.loads old)
+    ap (λ (d : DeskState). d.faults) fails.1.1 ∙ ap counted (faults_save it.given.saved (after_loading old it) ∙ faults_loads it.loads old)
 
 faults_tried : (n : ℕ) (mid new : DeskState) (text : List ℕ) (result : Result (Unit {0}) SinkError) → mid.faults ≡ counted n →
     Says mid new text result → Rose n new.faults
@@ -99,10 +99,18 @@ files_text : (text : List ℕ) (desk : DeskState) → files_in (after_text text 
 files_text [] desk = refl
 files_text (c ∷ cs) desk = same_files (with_said (c ∷ cs)) desk.told (λ c. refl)
 
+-- a call that runs out of memory keeps the files
+files_asked : (desk : DeskState) → files_in (after_memory desk) ≡ files_in desk
+files_asked desk = by_told desk.told
+  where
+    by_told : (told : Option DeskContents) → option_map (λ c. c.files) (option_map once_asked told) ≡ option_map (λ c. c.files) told
+    by_told None = refl
+    by_told (Some c) = refl
+
 files_said : (old new : DeskState) (text : List ℕ) (result : Result (Unit {0}) SinkError) → Says old new text result → files_in new ≡ files_in old
 files_said old new text (Ok done) says = ap files_in says ∙ same_files (with_said text) old.told (λ c. refl)
 files_said old new text (Err sink.Failed) says = ap files_in says.1 ∙ same_files (with_said (take says.0 text)) old.told (λ c. refl)
-files_said old new text (Err sink.Memory) says = ap files_in says
+files_said old new text (Err sink.Memory) says = ap files_in says ∙ files_asked old
 
 -- a call that changes a file changes that one
 other_files : (name : List ℕ) (left : Option (List ℕ)) (told : Option DeskContents) →
@@ -147,11 +155,11 @@ leaves_saved task old it = by_file it.given.saved refl
     by_file (Some file) e =
         leaves_file task old (after_save (Some file) (after_loading old it)) it file (Some file.bytes) e (other_files file.name (Some file.bytes) (after_loading old it).told)
 
-leaves_failed : (task : Option Asked) (old new : DeskState) (it : Decision task old) → FileFails it.given.saved (after_loading old it) new →
+leaves_failed : (task : Option Asked) (old new : DeskState) (it : Decision task old) → FileStops sink.Failed it.given.saved (after_loading old it) new →
     Leaves (file_of task) (files_in old) (files_in new)
 leaves_failed task old new it fails = by_file it.given.saved refl fails
   where
-    by_file : (file : Option SavedFile) → it.given.saved ≡ file → FileFails file (after_loading old it) new → Leaves (file_of task) (files_in old) (files_in new)
+    by_file : (file : Option SavedFile) → it.given.saved ≡ file → FileStops sink.Failed file (after_loading old it) new → Leaves (file_of task) (files_in old) (files_in new)
     by_file None e fails = absurd fails
     by_file (Some file) e fails =
         leaves_file task old new it file fails.0 e (ap files_in fails.1 ∙ other_files file.name fails.0 (after_loading old it).told)
@@ -163,15 +171,24 @@ leaves_call task old new (inl (n, less, came, after)) =
 leaves_call task old new (inr (inl (it, fails))) = leaves_failed task old new it fails
 leaves_call task old new (inr (inr (it, fails))) =
     leaves_also (file_of task) (files_in old) (files_in (after_saving old it)) (files_in new) (leaves_saved task old it)
-    (files_said (after_saving old it) new it.given.text (Err sink.Failed) fails)
+    (files_said (after_saving old it) new it.given.text (Err sink.Failed) fails.1)
 
 leaves_out : (task : Option Asked) (old new : DeskState) → RunsOut task old new → Leaves (file_of task) (files_in old) (files_in new)
-leaves_out task old new (inl (n, most, came, after)) =
-    leaves_same (file_of task) (files_in old) (files_in new) (ap files_in after ∙ files_loads n old)
-leaves_out task old new (inr (it, inl after)) =
+leaves_out task old new (inl (inl (inl (n, less, came, after)))) =
+    leaves_same (file_of task) (files_in old) (files_in new) (ap files_in after ∙ files_asked (after_loads n old) ∙ files_loads n old)
+leaves_out task old new (inl (inl (inr (came, after)))) =
+    leaves_same (file_of task) (files_in old) (files_in new) (ap files_in after ∙ files_loads (length (files_of task)) old)
+leaves_out task old new (inl (inr (it, refused, after))) =
     leaves_same (file_of task) (files_in old) (files_in new) (ap files_in after ∙ files_loads it.loads old)
-leaves_out task old new (inr (it, inr after)) =
-    leaves_also (file_of task) (files_in old) (files_in (after_saving old it)) (files_in new) (leaves_saved task old it) (ap files_in after)
+leaves_out task old new (inr (inl (it, starves))) =
+    leaves_same (file_of task) (files_in old) (files_in new) (unsaved_file it.given.saved starves ∙ files_loads it.loads old)
+  where
+    unsaved_file : (file : Option SavedFile) → FileStops sink.Memory file (after_loading old it) new → files_in new ≡ files_in (after_loading old it)
+    unsaved_file None starves = absurd starves
+    unsaved_file (Some file) starves = ap files_in starves ∙ files_asked (after_loading old it)
+leaves_out task old new (inr (inr (it, starves))) =
+    leaves_also (file_of task) (files_in old) (files_in (after_saving old it)) (files_in new) (leaves_saved task old it)
+    (files_said (after_saving old it) new it.given.text (Err sink.Memory) starves.1)
 
 others : (task : Option Asked) (old new : DeskState) (answer : ℕ) → EndsCall task old new answer → Leaves (file_of task) (files_in old) (files_in new)
 others task old new answer (Decided it same said) =
@@ -224,6 +241,23 @@ ends_refused task old mid new r text wanted answer comes is_line same speaks =
 -- the end after a refusal for whose line there was no memory
 pub ends_unsaid : (task : Option Asked) (old mid new : DeskState) (r : Refusal) (answer : ℕ) →
     Comes task old mid (refused r) → MemoryTold mid new answer → EndsCall task old new answer
-ends_unsaid task old mid new r answer comes told =
-    ends_delivered task old mid new (refused r) (record { saved = None; text = refusal_line (refused r) }) (status (refused r)) answer comes
-    (refusal_gives r (refusal_line (refused r)) refl) refl (inr (inr told))
+ends_unsaid task old mid new r answer (loads, is, at) told =
+    Starved told.0 (mid, inl (inr (it, never_done r, at)), told.1)
+  where
+    it : Decision task old
+    it = record {
+      fate = refused r;
+      loads = loads;
+      given = record { saved = None; text = refusal_line (refused r) };
+      is_fate = is;
+      gives = refusal_gives r (refusal_line (refused r)) refl;
+    }
+
+    never_done : (r : Refusal) → status (refused r) ≢ 0
+    never_done refusal.BadWords e = absurd (omega arith)
+    never_done (refusal.Missing name) e = absurd (omega arith)
+    never_done (refusal.TooLong name) e = absurd (omega arith)
+    never_done (refusal.BadImage rule) e = absurd (omega arith)
+    never_done (refusal.BadLine n) e = absurd (omega arith)
+    never_done (refusal.Unsound law slot) e = absurd (omega arith)
+    never_done (refusal.BadConfiguration rule) e = absurd (omega arith)

@@ -5,7 +5,7 @@ use Rattle.std.specs.Option.{option_map}
 use Rattle.std.specs.Result.{IsErrAnd}
 use Rattle.std.proofs.lemmas.List.Elements.{All-cons, All-nil}
 use Rattle.desk_io.specs.Desk as found
-use Rattle.desk_io.specs.Desk.{DeskContents, DeskState, FileFound, Finds, IsShort, after_answer, as_before, called, file_at, file_found}
+use Rattle.desk_io.specs.Desk.{DeskContents, DeskState, FileFound, Finds, IsShort, after_answer, after_memory, as_before, called, file_at, file_found}
 use Rattle.txflash.specs.Fate.{Fate, Missing, TooLong}
 use Rattle.txflash.specs.Steps.{IsFate}
 use Rattle.txflash.specs.Stops.{Fetches, StopsBy, Works, WorksTo, refused}
@@ -29,12 +29,13 @@ stopped P Q (Err x) e same leads h = stops_by P Q leads x (rw same h)
 
 -- after its loads, the work of a task comes to what its last part comes to
 pub works : (task : Option Asked) (old new : DeskState) (n : ℕ) (comes : Fate → Type 0) (result : Result Product Stop) →
-    new ≡ after_loads n old → n ≤ length (files_of task) → CameThrough task old n →
+    new ≡ after_loads n old → n ≡ length (files_of task) → CameThrough task old n →
     ((fate : Fate) → comes fate → IsFate task old fate n) → WorksTo comes result → Works task old new result
-works task old new n comes (Ok product) loaded most came leads h = (h.0, (n, leads h.0 h.1, loaded), h.2, h.3)
-works task old new n comes (Err (stop.Refused refusal)) loaded most came leads h = (n, leads (refused refusal) h, loaded)
-works task old new n comes (Err stop.Fault) loaded most came leads h = absurd h
-works task old new n comes (Err stop.Memory) loaded most came leads h = (n, most, came, loaded)
+works task old new n comes (Ok product) loaded all came leads h = (h.0, (n, leads h.0 h.1, loaded), h.2, h.3)
+works task old new n comes (Err (stop.Refused refusal)) loaded all came leads h = (n, leads (refused refusal) h, loaded)
+works task old new n comes (Err stop.Fault) loaded all came leads h = absurd h
+works task old new n comes (Err stop.Memory) loaded all came leads h =
+    inr (rw all at came, rw all at loaded)
 
 -- the work of a task ends where a load gives no bytes
 unfetched_by : (task : Option Asked) (old mid new : DeskState) (n : ℕ) (name : List ℕ) (stopped : Stop) →
@@ -49,7 +50,7 @@ unfetched_by task old mid new n name (stop.Refused refusal) loaded most came mis
       | inr much ↦ (suc n, rw much.1 (long much.0), after)
     ]
 unfetched_by task old mid new n name stop.Fault loaded most came missing long h = (n, most, came, rw (← loaded) h)
-unfetched_by task old mid new n name stop.Memory loaded most came missing long h = (n, omega arith, came, h ∙ loaded)
+unfetched_by task old mid new n name stop.Memory loaded most came missing long h = inl (n, most, came, h ∙ ap after_memory loaded)
 
 pub unfetched : (task : Option Asked) (old mid new : DeskState) (n : ℕ) (name : List ℕ) (stopped : Stop) (result : Result Product Stop) →
     IsErrAnd result (λ x. x ≡ stopped) → mid ≡ after_loads n old → n < length (files_of task) → CameThrough task old n →

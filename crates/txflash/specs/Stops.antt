@@ -7,12 +7,12 @@ use Rattle.flash_model.specs.Flash.{Contents}
 use Rattle.record_list.specs.declared.found.Breach.{Breach}
 use Rattle.image_file.specs.declared.error.ImageError.{ImageError}
 use Rattle.desk_io.specs.Desk as found
-use Rattle.desk_io.specs.Desk.{DeskState, Finds, Says, after_answer, after_fault, as_before}
+use Rattle.desk_io.specs.Desk.{DeskState, Finds, after_answer, after_fault, after_memory, as_before}
 use Rattle.desk_io.specs.declared.desk.SinkError.TheVariants as sink
 use Rattle.txflash.specs.Fate.{Fate, BadWords, Missing, TooLong, BadImage, BadLine, Unsound, BadConfiguration, line, status}
 use Rattle.txflash.specs.Gives.{Given, SavedFile, Gives}
 use Rattle.txflash.specs.Steps.{IsFate, ReadsImage, Parses, Opens}
-use Rattle.txflash.specs.Top.{LoadFails, WorkRunsOut, FileFails, Attempts, after_loads, after_save, after_text}
+use Rattle.txflash.specs.Top.{LoadFails, WorkRunsOut, FileStops, TextStops, Attempts, after_loads, after_save, after_text}
 use Rattle.txflash.specs.Words.{Asked}
 use Rattle.txflash.specs.declared.refusal.Refusal.{Refusal}
 use Rattle.txflash.specs.declared.refusal.Refusal.TheVariants as refusal
@@ -79,7 +79,7 @@ Fetches old new name (Err (stop.Refused refusal)) =
     × ((Finds old name found.Missing × (refused refusal ≡ Missing name))
     ⊎ (Finds old name found.TooLong × (refused refusal ≡ TooLong name)))
 Fetches old new name (Err stop.Fault) = new ≡ after_fault as_before old
-Fetches old new name (Err stop.Memory) = new ≡ old
+Fetches old new name (Err stop.Memory) = new ≡ after_memory old
 
 -- a fate decides, and its loads were made
 abbrev pub Comes : Option Asked → DeskState → DeskState → Fate → Type 0
@@ -104,13 +104,13 @@ MemoryTold old new answer = (answer ≡ 6) × Attempts old new (line (codes "no 
 abbrev pub Speaks : DeskState → DeskState → List ℕ → ℕ → ℕ → Type 0
 Speaks old new text status answer =
     ((answer ≡ status) × (new ≡ after_text text old))
-    ⊎ (((mid : DeskState) × Says old mid text (Err sink.Failed) × FaultTold mid new answer)
-    ⊎ MemoryTold old new answer)
+    ⊎ (((mid : DeskState) × TextStops sink.Failed text old mid × FaultTold mid new answer)
+    ⊎ ((mid : DeskState) × TextStops sink.Memory text old mid × MemoryTold mid new answer))
 
 -- A file was saved, if there is one, and then a text was said; or the saving failed, or memory ran
 -- out.
 abbrev pub Delivers : DeskState → DeskState → Given → ℕ → ℕ → Type 0
 Delivers old new p status answer =
     Speaks (after_save p.saved old) new p.text status answer
-    ⊎ (((mid : DeskState) × FileFails p.saved old mid × FaultTold mid new answer)
-    ⊎ MemoryTold old new answer)
+    ⊎ (((mid : DeskState) × FileStops sink.Failed p.saved old mid × FaultTold mid new answer)
+    ⊎ ((mid : DeskState) × FileStops sink.Memory p.saved old mid × MemoryTold mid new answer))

@@ -1,7 +1,7 @@
 -- What the program answers, what it says and saves, and why.
-use Rattle.std.specs.Prelude.{◌≡◌, ◌⊎◌, ℕ, zero, suc, ◌<◌, ◌≤◌, List, [], ◌∷◌, All, length, take, codes, Option, None, Some, IsSome, Result, Err}
+use Rattle.std.specs.Prelude.{◌≡◌, ◌≢◌, ◌⊎◌, ℕ, zero, suc, ◌<◌, List, [], ◌∷◌, All, length, take, codes, Option, None, Some, IsSome, Result, Err}
 use Rattle.std.specs.Option.{option_map}
-use Rattle.desk_io.specs.Desk.{Bytes, DeskState, Files, Finds, Rose, Saves, Says, after_answer, after_fault, as_before, files_with, with_file, with_said}
+use Rattle.desk_io.specs.Desk.{Bytes, DeskState, Files, Finds, Rose, Saves, Says, after_answer, after_fault, after_memory, as_before, files_with, with_file, with_said}
 use Rattle.desk_io.specs.declared.desk.SinkError.{SinkError}
 use Rattle.desk_io.specs.declared.desk.SinkError.TheVariants as sink
 use Rattle.txflash.specs.Fate.{Fate, status, line}
@@ -63,43 +63,61 @@ LoadFails task old new =
     (n : ℕ) × (n < length (files_of task)) × CameThrough task old n
     × (new ≡ after_fault as_before (after_loads n old))
 
--- memory ran out, in a load or after all loads, and those before found bytes
+-- memory ran out in a load, and those before it found bytes
+abbrev pub LoadStarves : Option Asked → DeskState → DeskState → Type 0
+LoadStarves task old new =
+    (n : ℕ) × (n < length (files_of task)) × CameThrough task old n
+    × (new ≡ after_memory (after_loads n old))
+
+-- memory ran out in a load, or after all loads, which found bytes
 abbrev pub WorkRunsOut : Option Asked → DeskState → DeskState → Type 0
 WorkRunsOut task old new =
-    (n : ℕ) × (n ≤ length (files_of task)) × CameThrough task old n × (new ≡ after_loads n old)
+    LoadStarves task old new
+    ⊎ (CameThrough task old (length (files_of task))
+    × (new ≡ after_loads (length (files_of task)) old))
 
 -- ---- how a call fails
 
--- the saving of this file failed, if there is one
-abbrev pub FileFails : Option SavedFile → DeskState → DeskState → Type 0
-FileFails None old new = ⊥
-FileFails (Some file) old new = Saves old new file.name file.bytes (Err sink.Failed)
+-- the saving of this file was answered by an error, if there is a file
+abbrev pub FileStops : SinkError → Option SavedFile → DeskState → DeskState → Type 0
+FileStops error None old new = ⊥
+FileStops error (Some file) old new = Saves old new file.name file.bytes (Err error)
 
--- the saving of what a fate gives failed
-abbrev pub SaveFails : Option Asked → DeskState → DeskState → Type 0
-SaveFails task old new =
-    (it : Decision task old) × FileFails it.given.saved (after_loading old it) new
+-- the saying of this text was answered by an error, if there is a text
+abbrev pub TextStops : SinkError → List ℕ → DeskState → DeskState → Type 0
+TextStops error text old new = (text ≢ []) × Says old new text (Err error)
 
--- the saying of a fate's text failed, after what it gives was saved
-abbrev pub TextFails : Option Asked → DeskState → DeskState → Type 0
-TextFails task old new =
-    (it : Decision task old) × Says (after_saving old it) new it.given.text (Err sink.Failed)
+-- the saving of what a fate gives was answered by an error
+abbrev pub SaveStops : SinkError → (task : Option Asked) → DeskState → DeskState → Type 0
+SaveStops error task old new =
+    (it : Decision task old) × FileStops error it.given.saved (after_loading old it) new
+
+-- the saying of a fate's text was answered by an error, after what the fate gives was saved
+abbrev pub SayStops : SinkError → (task : Option Asked) → DeskState → DeskState → Type 0
+SayStops error task old new =
+    (it : Decision task old) × TextStops error it.given.text (after_saving old it) new
 
 -- a call of the desk failed
 abbrev pub CallFails : Option Asked → DeskState → DeskState → Type 0
-CallFails task old new = LoadFails task old new ⊎ (SaveFails task old new ⊎ TextFails task old new)
+CallFails task old new =
+    LoadFails task old new ⊎ (SaveStops sink.Failed task old new ⊎ SayStops sink.Failed task old new)
 
 -- and then a line was tried
 abbrev pub IsFaulted : Option Asked → DeskState → DeskState → Type 0
 IsFaulted task old new =
     (mid : DeskState) × CallFails task old mid × Attempts mid new (line (codes "desk fault"))
 
--- Memory ran out before a fate was decided; or after that, before what it gives was saved, or
--- before it was said.
+-- there was no memory for the line of a refusal
+abbrev pub LineStarves : Option Asked → DeskState → DeskState → Type 0
+LineStarves task old new =
+    (it : Decision task old) × (status it.fate ≢ 0) × (new ≡ after_loading old it)
+
+-- Memory ran out before a fate was decided, or for its line, or in the saving of what it gives, or
+-- in the saying.
 abbrev pub RunsOut : Option Asked → DeskState → DeskState → Type 0
 RunsOut task old new =
-    WorkRunsOut task old new
-    ⊎ ((it : Decision task old) × ((new ≡ after_loading old it) ⊎ (new ≡ after_saving old it)))
+    (WorkRunsOut task old new ⊎ LineStarves task old new)
+    ⊎ (SaveStops sink.Memory task old new ⊎ SayStops sink.Memory task old new)
 
 -- and then a line was tried
 abbrev pub IsStarved : Option Asked → DeskState → DeskState → Type 0

@@ -170,7 +170,7 @@ fn explained_by<R: CommitRule>(
     let device = opened::<R>(alloc, flash, config)?;
     devices_stand::<MemFlash, R>();
     let _ = device.config();
-    let found = device.found(alloc)?;
+    let found = device.found()?;
     let mut text = Vec::new(alloc);
     explain::<R>(alloc, &found, config.logical, &mut text)?;
     Ok(text)

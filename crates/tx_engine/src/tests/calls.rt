@@ -182,7 +182,7 @@ fn found_text<F: Flash, R: CommitRule>(
     device: &Device<F, R>,
 ) -> Result<String, Fail> {
     let mut text = String::from_str(alloc, "records")?;
-    for found in device.found(alloc)? {
+    for found in device.found()? {
         let (slot, page, version) = (found.slot.0, found.rec.page, found.rec.version);
         text.push_str(format!(in alloc; " {slot}:{page}.{version}")?.as_str())?;
     }

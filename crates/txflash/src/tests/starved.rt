@@ -1,6 +1,6 @@
 //! The status where there is no memory.
 ghost use Rattle.std.specs.Prelude.{◌≡◌};
-ghost use Rattle.desk_io.specs.InMemory.{open_desk};
+ghost use Rattle.desk_io.specs.System.{closed_desk};
 
 use super::causes::{Left, filled_desk, image_after};
 use super::images::default_image;
@@ -27,7 +27,7 @@ impl StarvedDesk {
 }
 
 impl Desk for StarvedDesk {
-    ghost state = { λ d. open_desk d.desk };
+    ghost state = { λ d. closed_desk d.desk.faults };
 
     fn load(&mut self, name: &str) -> Result<Vec<u8>, LoadError> {
         if self.is_starved() {
