@@ -10,7 +10,7 @@ use Rattle.tx_types.specs.declared.config.Shape.{Shape}
 use Rattle.flash_model.specs.declared.flash.Broken.{Broken}
 use Rattle.flash_model.specs.Flash.{FlashState, slot_at}
 use Rattle.flash_model.specs.Calls.{Erases}
-use Rattle.flash_model.specs.Operations.{Moment, Operation, erase, block_of, moment_of, after, CanDo}
+use Rattle.flash_model.specs.Operations.{Moment, Operation, erase, WorksIn, moment_of, after, CanDo}
 use Rattle.flash_model.specs.Moves.{Does, FlashMoves, StayOff}
 use Rattle.flash_model.proofs.ImageLemmas.{block_within, slot_at-does}
 use Rattle.flash_model.proofs.MoveLemmas.{same_moments, Does-append, FlashMoves-operates}
@@ -75,9 +75,9 @@ module _ (p : Protocol) (loss : LossLaw p) (s0 : FlashState) (n0 : Noted) (t : B
         ap (λ (x : Shape). k / x.pages_per_block) m.shape ∙ ap (λ q. q / n0.config.pages_per_block) its
         ∙ div-mul-add block n0.config.pages_per_block (k - block * n0.config.pages_per_block) (omega (arith, place.0, place.1)) in
         cond_both (is_blank_block n0 s0.image t.spare) [] (erase t.spare ∷ []) (StayOff s0.shape (k / s0.shape.pages_per_block))
-        (λ e. all_from (λ o. block_of s0.shape o ≢ k / s0.shape.pages_per_block) [] (λ o j. absurd j))
-        (λ e. all_from (λ o. block_of s0.shape o ≢ k / s0.shape.pages_per_block) (erase t.spare ∷ []) (λ o j. elim j [
-          | inl same ↦ λ q. apart (sym there ∙ sym q ∙ ap (block_of s0.shape) (sym same))
+        (λ e. all_from (λ o. WorksIn s0.shape o (k / s0.shape.pages_per_block) → ⊥) [] (λ o j. absurd j))
+        (λ e. all_from (λ o. WorksIn s0.shape o (k / s0.shape.pages_per_block) → ⊥) (erase t.spare ∷ []) (λ o j. elim j [
+          | inl same ↦ λ q. apart (sym there ∙ sym (subst (λ o'. WorksIn s0.shape o' (k / s0.shape.pages_per_block)) (sym same) q))
           | inr none ↦ absurd none
         ]))
 

@@ -190,7 +190,7 @@ module _ (p : Protocol) (copy : CopyLaw p) (written_copy : WrittenCopyLaw p) (s 
       copy_array_torn =
           subst (λ q. KeepsArray q n.config.logical s.image s2.image) rule
           (subst (λ i. KeepsArray n.config.protocol n.config.logical i s2.image) done.image
-          (left_torn s1 s2 n t m1 written_law from to noted.rec bytes spare exists next.within next.in_spare noted.is was source1 can same torn.torn.outcome torn.torn.image).array)
+          (left_torn s1 s2 n t m1 written_law from to noted.rec bytes spare exists next.within next.in_spare noted.is was source1 can same torn.torn.left.0 torn.torn.left.1).array)
 
       pub copy_moves_torn : FlashMoves s s2 true
       copy_moves_torn = subst (λ q. FlashMoves s s2 (is_err q)) err copy_moves

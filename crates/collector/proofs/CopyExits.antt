@@ -155,7 +155,7 @@ module _ (s s' : FlashState) (n : Noted) (t : BlockTable) (m : Matches s n t uns
   -- the program of the copy was broken
   pub copy_torn : (b : Broken) → Programs s s' to.0 bytes spare (Err b) → from.0 ≢ to.0 → Matches s' n t (unsure.Copy from to)
   copy_torn b e apart =
-      let now = left_torn e.torn.outcome e.torn.image in
+      let now = left_torn e.torn.left.0 e.torn.left.1 in
       record {
         shape = same ∙ m.shape;
         flash = now.flash;

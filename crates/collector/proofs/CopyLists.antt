@@ -90,6 +90,9 @@ fewer p (x ∷ xs) y (inr i) fail =
     let ih = fewer p xs y i fail in
     cond_both (p x) (x ∷ filter p xs) (filter p xs) (λ l. length l < length (x ∷ xs)) (λ e. omega (arith, ih)) (λ e. omega (arith, ih))
 
+pub filter_most : (p : ℕ → Bool) (a n : ℕ) → length (filter p (range_with_len a n)) ≤ n
+filter_most p a n = subst (λ k. length (filter p (range_with_len a n)) ≤ k) (length-range_with_len a n) (few p (range_with_len a n))
+
 pub filter_fewer : (p : ℕ → Bool) (a n : ℕ) → Any (λ k. p k ≡ false) (range_with_len a n) → length (filter p (range_with_len a n)) < n
 filter_fewer p a n any =
     let less = fewer p (range_with_len a n) any.1 (in_from (range_with_len a n) any.1 (any.0, any.2, any.3)) any.4 in

@@ -32,7 +32,7 @@ use Rattle.collector.specs.Looking.{reads_after}
 use Rattle.collector.specs.Matches.{Matches, IsNextOfSpare}
 use Rattle.collector.specs.Preserves.{Preserves, KeepsArray}
 use Rattle.collector.specs.Collecting.{copy_program, copies, copied_from, needed_slots, CopyDone, CopiesDone, HasUnneeded}
-use Rattle.collector.proofs.CopyLists.{copied_more, copies_more, filter_passed, filter_taken, filter_fewer}
+use Rattle.collector.proofs.CopyLists.{copied_more, copies_more, filter_passed, filter_taken, filter_most, filter_fewer}
 use Rattle.collector.proofs.Homes.{copy_needs}
 use Rattle.collector.proofs.Keeping.{preserves_then, preserves_same, keeps_array_then, keeps_array_same}
 use Rattle.collector.proofs.Looked.{reads_more}
@@ -312,7 +312,7 @@ module _ (p : Protocol) (n0 n : Noted) (s0 s : FlashState) (t : BlockTable) (u :
 module _ (p : Protocol) (n0 n : Noted) (s0 s : FlashState) (t : BlockTable) (u : Unsure) (first start at used block : ℕ)
     (h : CopiedSoFar p n0 n s0 s t u first start at used)
     (block_is : first ≡ block * n0.config.pages_per_block) (spare_is : start ≡ t.spare * n0.config.pages_per_block)
-    (end : at ≡ first + n0.config.pages_per_block) (apart : block ≢ t.spare) (unneeded : HasUnneeded n0 block) where
+    (end : at ≡ first + n0.config.pages_per_block) (apart : block ≢ t.spare) where
   abbrev pages : ℕ
   pages = n0.config.pages_per_block
 
@@ -330,8 +330,12 @@ module _ (p : Protocol) (n0 n : Noted) (s0 s : FlashState) (t : BlockTable) (u :
   count_is : used ≡ length (needed_slots n0 block)
   count_is = h.count ∙ ap length all_needed
 
-  fewer_slots : used < pages
-  fewer_slots = (let less = filter_fewer (needed_of n0) (block * pages) pages unneeded in omega (arith, less, count_is))
+  no_more_slots : used ≤ pages
+  no_more_slots = (let most = filter_most (needed_of n0) (block * pages) pages in omega (arith, most, count_is))
+
+  -- and fewer where one is not needed
+  pub fewer_slots : HasUnneeded n0 block → used < pages
+  fewer_slots unneeded = (let less = filter_fewer (needed_of n0) (block * pages) pages unneeded in omega (arith, less, count_is))
 
   start_is : t.spare * n.config.pages_per_block ≡ start
   start_is = ap (λ k. t.spare * k) pages_are ∙ sym spare_is
@@ -346,7 +350,7 @@ module _ (p : Protocol) (n0 n : Noted) (s0 s : FlashState) (t : BlockTable) (u :
       let c = h.there slot (omega (arith, low, block_is)) (omega (arith, high, block_is, end)) (sym (h.needs slot away) ∙ needed) in
       let below : t.spare < blocks_of (shape_of n.config) = omega (arith, h.matches.table.spare_within, ap blocks_of h.matches.blocks, ap blocks_of h.matches.shape) in
       let room = block_within (shape_of n.config) t.spare below in
-      let lt : c.0 < n.config.pages_per_block = omega (arith, c.1, fewer_slots, pages_are) in
+      let lt : c.0 < n.config.pages_per_block = omega (arith, c.1, no_more_slots, pages_are) in
       let its : start + c.0 ≡ t.spare * n.config.pages_per_block + c.0 = ap (λ k. k + c.0) (sym start_is) in (
         start + c.0,
         omega (arith, its, lt, room, h.matches.noted.slots),
@@ -361,7 +365,7 @@ module _ (p : Protocol) (n0 n : Noted) (s0 s : FlashState) (t : BlockTable) (u :
         (subst (λ l. Does s0.shape (moment_of s0) (copies n0.config.page_bytes s0.image start l) (moment_of s)) all_needed h.does);
     noted = h.noted ∙ ap (copied_from n0 start) all_needed ∙ ap (λ k. copied_from n0 k (needed_slots n0 block)) spare_is;
     filled = record {
-      within = omega (arith, fewer_slots, pages_are);
+      within = omega (arith, no_more_slots, pages_are);
       records = λ k lt. (let r = h.records k lt in (r.0, ap (λ q. note_at n.notes (q + k)) start_is ∙ r.1));
       tail = λ k from before. ap (λ q. note_at n.notes (q + k)) start_is ∙ h.tail (start + k) (omega (arith, from)) (omega (arith, before, pages_are));
     };

@@ -8,7 +8,6 @@ use Rattle.flash_model.specs.declared.flash.Broken.{Broken}
 use Rattle.flash_model.specs.declared.outcome.Outcome.{Outcome}
 use Rattle.flash_model.specs.declared.outcome.Outcome.TheVariants as outcome
 use Rattle.flash_model.specs.Flash.{FlashState, IsFlash, IsImage, Contents, blank, damaged, slot_at}
-use Rattle.flash_model.specs.Calls.{Erases}
 use Rattle.flash_model.specs.Operations.{erase, with_block, image_left}
 use Rattle.flash_model.proofs.ImageLemmas.{IsImage-with_block, slot_at-with_block_in, slot_at-with_block_out}
 use Rattle.record_list.specs.Changes.{LossLaw}
@@ -28,6 +27,7 @@ use Rattle.collector.specs.declared.unsure.Unsure.TheVariants as unsure
 use Rattle.collector.specs.Matches.{Matches, CanSpare, IsNotedAt, IsErasing, IsFilledTo}
 use Rattle.tx_types.specs.declared.config.Block.{Block}
 use Rattle.collector.specs.Preserves.{KeepsArray}
+use Rattle.collector.proofs.Emptying.{Empties}
 use Rattle.collector.proofs.Calm.{noted_as_read, image_can_lose}
 use Rattle.collector.proofs.Losing.{blocked, spared_still}
 use Rattle.collector.proofs.SpelledNotes.{calm_spelled}
@@ -183,16 +183,16 @@ module _ (s s' : FlashState) (n : Noted) (t : BlockTable) (m : Matches s n t uns
   spare_below = omega (arith, m.table.spare_within, ap blocks_of m.blocks, ap blocks_of m.shape)
 
   -- the spare was erased
-  pub spare_erased : Erases s s' t.spare (Ok tt) → IsNoted n.config.protocol (erased n t.spare) → Matches s' (erased n t.spare) t unsure.Nothing
+  pub spare_erased : Empties s s' t.spare (Ok tt) → IsNoted n.config.protocol (erased n t.spare) → Matches s' (erased n t.spare) t unsure.Nothing
   spare_erased e noted = record {
-    shape = e.carries.shape ∙ m.shape;
-    flash = flash_erased s s' n t m loss written_loss t.spare spare_below m.spared e.carries.shape e.done.image;
-    sound = sound_erased s s' n t m loss written_loss t.spare spare_below m.spared e.carries.shape e.done.image;
+    shape = e.shape ∙ m.shape;
+    flash = flash_erased s s' n t m loss written_loss t.spare spare_below m.spared e.shape e.done;
+    sound = sound_erased s s' n t m loss written_loss t.spare spare_below m.spared e.shape e.done;
     noted = noted;
     table = m.table;
-    blocks = m.blocks ∙ sym e.carries.shape;
+    blocks = m.blocks ∙ sym e.shape;
     spare = m.spare;
-    sure = λ slot within sure. mirrors_erased s s' n t m loss written_loss t.spare spare_below m.spared e.carries.shape e.done.image slot within;
+    sure = λ slot within sure. mirrors_erased s s' n t m loss written_loss t.spare spare_below m.spared e.shape e.done slot within;
     place = tt;
     spared = spared_still n m.noted loss t.spare spare_below m.spared Blank refl;
     victim = tt;
@@ -200,20 +200,20 @@ module _ (s s' : FlashState) (n : Noted) (t : BlockTable) (m : Matches s n t uns
   }
 
   -- the erase of the spare was broken
-  pub spare_torn : (b : Broken) → Erases s s' t.spare (Err b) → Matches s' n t unsure.SpareErase
+  pub spare_torn : (b : Broken) → Empties s s' t.spare (Err b) → Matches s' n t unsure.SpareErase
   spare_torn b e =
-      let torn = left_torn s s' n t m loss written_loss t.spare spare_below m.spared e.carries.shape e.torn.outcome e.torn.image in
+      let torn = left_torn s s' n t m loss written_loss t.spare spare_below m.spared e.shape e.torn.0 e.torn.1 in
       record {
-        shape = e.carries.shape ∙ m.shape;
+        shape = e.shape ∙ m.shape;
         flash = torn.flash;
         sound = torn.sound;
         noted = m.noted;
         table = m.table;
-        blocks = m.blocks ∙ sym e.carries.shape;
+        blocks = m.blocks ∙ sym e.shape;
         spare = m.spare;
         sure = λ slot within sure.
-            noted_as_read s n t m slot (omega (arith, within, ap slots_of e.carries.shape))
-            ∙ ap (note_of n.config.protocol) (sym (torn.outside slot (not-false (is_outside s.shape t.spare slot) (ap (λ sh. not (is_outside sh t.spare slot)) (sym e.carries.shape) ∙ sure))));
+            noted_as_read s n t m slot (omega (arith, within, ap slots_of e.shape))
+            ∙ ap (note_of n.config.protocol) (sym (torn.outside slot (not-false (is_outside s.shape t.spare slot) (ap (λ sh. not (is_outside sh t.spare slot)) (sym e.shape) ∙ sure))));
         place = (torn.erasing, λ slot within here. calm_spelled s n t m slot within);
         spared = m.spared;
         victim = tt;
@@ -222,20 +222,20 @@ module _ (s s' : FlashState) (n : Noted) (t : BlockTable) (m : Matches s n t uns
 
   -- the erase of a collected block was broken
   pub victim_torn : (block : Block) → block.0 < blocks_of (shape_of n.config) → block.0 ≢ t.spare → CanSpare n block.0 → IsFilledTo n t.spare →
-      (b : Broken) → Erases s s' block.0 (Err b) → Matches s' n t (unsure.VictimErase block)
+      (b : Broken) → Empties s s' block.0 (Err b) → Matches s' n t (unsure.VictimErase block)
   victim_torn block below other spared filled b e =
-      let torn = left_torn s s' n t m loss written_loss block.0 below spared e.carries.shape e.torn.outcome e.torn.image in
+      let torn = left_torn s s' n t m loss written_loss block.0 below spared e.shape e.torn.0 e.torn.1 in
       record {
-        shape = e.carries.shape ∙ m.shape;
+        shape = e.shape ∙ m.shape;
         flash = torn.flash;
         sound = torn.sound;
         noted = m.noted;
         table = m.table;
-        blocks = m.blocks ∙ sym e.carries.shape;
+        blocks = m.blocks ∙ sym e.shape;
         spare = m.spare;
         sure = λ slot within sure.
-            noted_as_read s n t m slot (omega (arith, within, ap slots_of e.carries.shape))
-            ∙ ap (note_of n.config.protocol) (sym (torn.outside slot (not-false (is_outside s.shape block.0 slot) (ap (λ sh. not (is_outside sh block.0 slot)) (sym e.carries.shape) ∙ sure))));
+            noted_as_read s n t m slot (omega (arith, within, ap slots_of e.shape))
+            ∙ ap (note_of n.config.protocol) (sym (torn.outside slot (not-false (is_outside s.shape block.0 slot) (ap (λ sh. not (is_outside sh block.0 slot)) (sym e.shape) ∙ sure))));
         place = (below, other, torn.erasing, filled, λ slot within here. calm_spelled s n t m slot within);
         spared = m.spared;
         victim = spared;
@@ -244,7 +244,7 @@ module _ (s s' : FlashState) (n : Noted) (t : BlockTable) (m : Matches s n t uns
 
   -- the collected block was erased: it is the spare, and the old one has its copies
   pub victim_erased : (block : ℕ) → block < blocks_of (shape_of n.config) → block ≢ t.spare → CanSpare n block → (filled : IsFilledTo n t.spare) →
-      Erases s s' block (Ok tt) → IsNoted n.config.protocol (with_spare (erased n block) block) →
+      Empties s s' block (Ok tt) → IsNoted n.config.protocol (with_spare (erased n block) block) →
       IsBlockTable (table_with_spare t block) → IsBlockTable (exchanged t block filled.0) →
       Matches s' (with_spare (erased n block) block) (exchanged t block filled.0) unsure.Nothing
   victim_erased block below other spared filled e noted mid table =
@@ -252,14 +252,14 @@ module _ (s s' : FlashState) (n : Noted) (t : BlockTable) (m : Matches s n t uns
       let same_per : t.shape.pages_per_block ≡ n.config.pages_per_block = ap (λ (x : Shape). x.pages_per_block) (m.blocks ∙ m.shape) in
       let some : 0 < n.config.pages_per_block = (let b = m.noted.bounds.shape.pages_least in omega arith) in
       record {
-        shape = e.carries.shape ∙ m.shape;
-        flash = flash_erased s s' n t m loss written_loss block below spared e.carries.shape e.done.image;
-        sound = sound_erased s s' n t m loss written_loss block below spared e.carries.shape e.done.image;
+        shape = e.shape ∙ m.shape;
+        flash = flash_erased s s' n t m loss written_loss block below spared e.shape e.done;
+        sound = sound_erased s s' n t m loss written_loss block below spared e.shape e.done;
         noted = noted;
         table = table;
-        blocks = m.blocks ∙ sym e.carries.shape;
+        blocks = m.blocks ∙ sym e.shape;
         spare = refl;
-        sure = λ slot within sure. mirrors_erased s s' n t m loss written_loss block below spared e.carries.shape e.done.image slot within;
+        sure = λ slot within sure. mirrors_erased s s' n t m loss written_loss block below spared e.shape e.done slot within;
         place = tt;
         spared = spared_still n m.noted loss block below spared Blank refl;
         victim = tt;

@@ -28,15 +28,15 @@ module _ (t : BlockTable) (h : IsBlockTable t) (block : ℕ) (below : block < bl
 
   use_block : use_of after block ≡ record { state = Spare; used = 0 }
   use_block =
-      use_of-with_use_other (table_with_spare t block) t.spare block (open_state used) used other
+      use_of-with_use_other (table_with_spare t block) t.spare block (open_state t.shape.pages_per_block used) used other
       ∙ use_of-with_spare_same t h block below
 
-  use_old : use_of after t.spare ≡ record { state = open_state used; used = used }
-  use_old = use_of-with_use_same (table_with_spare t block) mid t.spare (open_state used) used h.spare_within
+  use_old : use_of after t.spare ≡ record { state = open_state t.shape.pages_per_block used; used = used }
+  use_old = use_of-with_use_same (table_with_spare t block) mid t.spare (open_state t.shape.pages_per_block used) used h.spare_within
 
   use_other : (b : ℕ) → b ≢ block → b ≢ t.spare → use_of after b ≡ use_of t b
   use_other b away apart =
-      use_of-with_use_other (table_with_spare t block) t.spare b (open_state used) used apart
+      use_of-with_use_other (table_with_spare t block) t.spare b (open_state t.shape.pages_per_block used) used apart
       ∙ use_of-with_spare_other t block b away apart
 
   no_room : HasRoom after block → (Spare ≡ Clean) ⊎ (Spare ≡ Part)

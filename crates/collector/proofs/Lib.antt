@@ -2,6 +2,7 @@ pub mod NotesLeft
 pub mod NothingGoes
 pub mod Calm
 pub mod Losing
+pub mod Emptying
 pub mod EraseExits
 pub mod Exchange
 pub mod CopyNotes

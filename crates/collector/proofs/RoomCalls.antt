@@ -9,7 +9,7 @@ use Rattle.flash_model.specs.declared.flash.Broken.{Broken}
 use Rattle.flash_model.specs.Flash.{FlashState, Contents}
 use Rattle.flash_model.specs.Operations.{moment_of}
 use Rattle.flash_model.specs.Moves.{Does}
-use Rattle.version_index.specs.Noted.{Noted, erased, with_spare}
+use Rattle.version_index.specs.Noted.{Noted, needed_of, erased, with_spare}
 use Rattle.die_alloc.specs.BlockTable.{BlockTable, IsBlockTable, IsFull}
 use Rattle.collector.specs.declared.unsure.Unsure.{Unsure}
 use Rattle.collector.specs.declared.unsure.Unsure.TheVariants as unsure
@@ -22,31 +22,29 @@ use Rattle.collector.proofs.Chains.{HasNoNewRecord-then}
 use Rattle.collector.proofs.Keeping.{keeps_array_then}
 use Rattle.collector.proofs.Cleanings.{blank_as_read, blank_is_erased}
 use Rattle.collector.proofs.CollectedNotes.{erased_no_new}
+use Rattle.collector.proofs.CopyLists.{filter_fewer}
 use Rattle.collector.proofs.NextNames.{next_stays}
-use Rattle.collector.proofs.RoomMade.{blank_erased, spare_within, victim_apart, victim_unneeded, some_garbage, HasRoomMade, room_made}
+use Rattle.collector.proofs.RoomMade.{blank_erased, spare_within, victim_apart, victim_unneeded, some_garbage, room_made}
 use Rattle.collector.proofs.RoundCosts.{copies_most, erases_once}
 
 -- the slots that are copied
 abbrev moves : Noted → ℕ → ℕ → ℕ
 moves n spare block = length (needed_slots (noted_cleaned n spare) block)
 
-module _ (s s' : FlashState) (n n' : Noted) (t t' : BlockTable) (u u' : Unsure) (m : Matches s n t u) (m' : Matches s' n' t' u') (block : ℕ) where
+module _ (s s' : FlashState) (n n' : Noted) (t t' : BlockTable) (u : Unsure) (m : Matches s n t u) (block : ℕ)
+    (few : moves n t.spare block < n.config.pages_per_block) where
   -- a collection leaves room in the old spare
-  leaves_room : t' ≡ exchanged t block (moves n t.spare block) → HasRoomMade t block (moves n t.spare block)
-  leaves_room table = room_made t m.table block (moves n t.spare block) (subst IsBlockTable table m'.table)
-
-  few_moves : t' ≡ exchanged t block (moves n t.spare block) → moves n t.spare block < n.config.pages_per_block
-  few_moves table = subst (λ (k : Shape). moves n t.spare block < k.pages_per_block) (m.blocks ∙ m.shape) (leaves_room table).few
-
   pub room_left : t' ≡ exchanged t block (moves n t.spare block) → IsFull t' → ⊥
-  room_left table full = (leaves_room table).room (subst IsFull table full)
+  room_left table full =
+      room_made t m.table block (moves n t.spare block)
+      (subst (λ (k : Shape). moves n t.spare block < k.pages_per_block) (sym (m.blocks ∙ m.shape)) few) (subst IsFull table full)
 
   -- once the spare is blank one erase is left
   blank_costs : (r : Result (Unit {0}) Broken) → OnOk r (Does s.shape (moment_of s) (collecting n s.image t.spare block) (moment_of s')) →
       OnOk r (t' ≡ exchanged t block (moves n t.spare block)) → OnErr r (CostsBroken n.config.pages_per_block s s') →
       is_blank_block n s.image t.spare ≡ true → CostsBroken n.config.pages_per_block s s'
   blank_costs (Ok x) does table broken blanked = record {
-    programs = (let most = copies_most s s' n t.spare block does in let few = few_moves table in omega arith);
+    programs = (let most = copies_most s s' n t.spare block does in omega (arith, most, few));
     erases = erases_once s s' n t.spare block does blanked;
   }
   blank_costs (Err e) does table broken blanked = broken
@@ -101,6 +99,12 @@ module _ (s0 s1 : FlashState) (n0 n1 : Noted) (t0 t1 : BlockTable) (u0 u1 : Unsu
   same_moves : (block : ℕ) → moves n1 t1.spare block ≡ moves n0 t0.spare block
   same_moves block = ap (λ k. length (needed_slots k block)) (clean_still ∙ noted)
 
+  -- a block with garbage has fewer slots to be copied than slots
+  few_moves : (block : ℕ) → IsVictim n1 t1 block → moves n1 t1.spare block < n1.config.pages_per_block
+  few_moves block v =
+      subst (λ k. length (needed_slots k block) < n1.config.pages_per_block) (sym clean_still)
+      (filter_fewer (needed_of n1) (block * n1.config.pages_per_block) n1.config.pages_per_block (cleaned_unneeded block v))
+
   module _ (s2 : FlashState) (n2 : Noted) (t2 : BlockTable) (u2 : Unsure) (m2 : Matches s2 n2 t2 u2) (block : ℕ) (v : IsVictim n1 t1 block) (r : Result (Unit {0}) Broken)
       (done : OnOk r (Does s1.shape (moment_of s1) (collecting n1 s1.image t1.spare block) (moment_of s2)))
       (noted2 : OnOk r (n2 ≡ collected n1 t1.spare block))
@@ -123,7 +127,7 @@ module _ (s0 s1 : FlashState) (n0 n1 : Noted) (t0 t1 : BlockTable) (u0 u1 : Unsu
       where
         by : (r : Result (Unit {0}) Broken) → OnOk r (t2 ≡ exchanged t1 block (moves n1 t1.spare block)) → OnOk r (IsFull t2 → ⊥)
         by (Err e) table = tt
-        by (Ok x) table = room_left s1 s2 n1 n2 t1 t2 u1 u2 m1 m2 block table
+        by (Ok x) table = room_left s1 s2 n1 n2 t1 t2 u1 m1 block (few_moves block v) table
 
     pub no_new_made : HasNoNewRecord n0 n2
     no_new_made = HasNoNewRecord-then n0 n1 n2 (subst (HasNoNewRecord n0) (sym noted) (erased_no_new n0 some m0.noted.slots t0.spare spare_below)) records
@@ -134,7 +138,7 @@ module _ (s0 s1 : FlashState) (n0 n1 : Noted) (t0 t1 : BlockTable) (u0 u1 : Unsu
     pub costs_made : s1.programs ≡ s0.programs → s1.erases ≤ s0.erases + 1 → CostsAtMost n0.config.pages_per_block 1 s0 s2
     costs_made programs erases =
         let read : is_blank_block n1 s1.image t1.spare ≡ true = blank_as_read s1 n1 t1 u1 sure m1 ∙ blanked in
-        let costs = blank_costs s1 s2 n1 n2 t1 t2 u1 u2 m1 m2 block r done table broken read in
+        let costs = blank_costs s1 s2 n1 n2 t1 t2 u1 m1 block (few_moves block v) r done table broken read in
         let per = ap (λ (k : Config). k.pages_per_block) kept.config in
         record {
           programs = (let low = subst (λ k. s2.programs ≤ s1.programs + (k - 1)) per costs.programs in omega arith);

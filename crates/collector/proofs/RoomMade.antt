@@ -1,5 +1,5 @@
 -- Where no block has room and the spare is blank, some block has garbage; and once it was collected the old spare has room.
-use Rattle.std.proofs.Common.{◌≡◌, ◌≢◌, ◌⊎◌, ℕ, zero, suc, ◌+◌, ◌*◌, ◌/◌, ◌<◌, ◌≤◌, Bool, true, false, ◌||◌, eqb, eqb-true, eq-eqb, ne_eqb, List, zip, count_by, Contains, refl, sym, ap, ◌∙◌, subst, inl, inr, arith, if◌then◌else◌}
+use Rattle.std.proofs.Common.{◌≡◌, ◌≢◌, ◌⊎◌, ℕ, zero, suc, ◌+◌, ◌*◌, ◌/◌, ◌<◌, ◌≤◌, Bool, true, false, ◌||◌, eqb, eqb-true, eq-eqb, ne_eqb, List, zip, count_by, Contains, refl, sym, ap, ap₂, ◌∙◌, subst, inl, inr, arith, if◌then◌else◌}
 use Rattle.std.specs.List.{range_with_len}
 use Rattle.std.proofs.Math.ListN.{length-set}
 use Rattle.std.proofs.Math.Nat.{mul_comm}
@@ -26,7 +26,7 @@ use Rattle.version_index.specs.Notes.{note_at, found_in}
 use Rattle.version_index.specs.Noted.{Noted, IsNoted, current_of, needed_of, garbage_of, is_garbage_at, shut_or_part, pinned_names, erased, is_blank}
 use Rattle.version_index.proofs.Blocks.{other_block, in_it, inside_block}
 use Rattle.version_index.proofs.NotedFacts.{spare_garbage, other_garbage}
-use Rattle.die_alloc.specs.BlockTable.{BlockTable, IsBlockTable, IsFull, MayHave, no_block, use_of, block_state, used_of, table_with_spare}
+use Rattle.die_alloc.specs.BlockTable.{BlockTable, IsBlockTable, IsFull, no_block, use_of, block_state, table_with_spare}
 use Rattle.die_alloc.specs.declared.block_use.BlockUse.{BlockUse}
 use Rattle.die_alloc.proofs.Changes.{shut_where_full}
 use Rattle.collector.specs.declared.unsure.Unsure.TheVariants as unsure
@@ -167,35 +167,24 @@ module _ (s : FlashState) (n : Noted) (t : BlockTable) (m : Matches s n t unsure
         absurd (omega (arith, count, few, space))
 
 -- the old spare once it was exchanged for a block
-use_old : (t : BlockTable) → IsBlockTable t → (block used : ℕ) → use_of (exchanged t block used) t.spare ≡ record { state = open_state used; used = used }
+use_old : (t : BlockTable) → IsBlockTable t → (block used : ℕ)
+    → use_of (exchanged t block used) t.spare ≡ record { state = open_state t.shape.pages_per_block used; used = used }
 use_old t h block used =
-    get_or-set_same (table_with_spare t block).blocks t.spare (record { state = open_state used; used = used }) no_block
+    get_or-set_same (table_with_spare t block).blocks t.spare (record { state = open_state t.shape.pages_per_block used; used = used }) no_block
     (rw (length-set, length-set, h.count) h.spare_within)
 
--- it has room
-pub record HasRoomMade (t : BlockTable) (block used : ℕ) : Type 0 where
-  pub few : used < t.shape.pages_per_block
-  pub room : IsFull (exchanged t block used) → ⊥
-
-pub room_made : (t : BlockTable) → IsBlockTable t → (block used : ℕ) → IsBlockTable (exchanged t block used) → HasRoomMade t block used
-room_made t h block used h' = by (eqb used 0) refl
+-- it has room where not all of it is used
+pub room_made : (t : BlockTable) → IsBlockTable t → (block used : ℕ) → used < t.shape.pages_per_block → IsFull (exchanged t block used) → ⊥
+room_made t h block used few full = by (eqb used 0) refl
   where
-    its_state : block_state (exchanged t block used) t.spare ≡ open_state used
+    its_state : block_state (exchanged t block used) t.spare ≡ open_state t.shape.pages_per_block used
     its_state = ap (λ (u : BlockUse). u.state) (use_old t h block used)
 
-    its_used : used_of (exchanged t block used) t.spare ≡ used
-    its_used = ap (λ (u : BlockUse). u.used) (use_old t h block used)
+    more : eqb used t.shape.pages_per_block ≡ false
+    more = ne_eqb used t.shape.pages_per_block (λ e. omega (arith, e, few))
 
-    bound : MayHave t.shape.pages_per_block (open_state used) used
-    bound = subst (λ k. MayHave t.shape.pages_per_block (open_state used) k) its_used
-        (subst (λ q. MayHave t.shape.pages_per_block q (used_of (exchanged t block used) t.spare)) its_state (h'.bounds t.spare h.spare_within))
-
-    by : (b : Bool) → eqb used 0 ≡ b → HasRoomMade t block used
-    by true e = record {
-      few = (let none = eqb-true used 0 e in let least = h.numbers.pages_least in omega arith);
-      room = λ full. full t.spare h.spare_within (inl (its_state ∙ ap (λ b. if b then state.Clean else state.Part) e));
-    }
-    by false e = record {
-      few = (subst (λ q. MayHave t.shape.pages_per_block q used) (ap (λ b. if b then state.Clean else state.Part) e) bound).1;
-      room = λ full. full t.spare h.spare_within (inr (its_state ∙ ap (λ b. if b then state.Clean else state.Part) e));
-    }
+    by : (b : Bool) → eqb used 0 ≡ b → ⊥
+    by true e = full t.spare h.spare_within (inl (its_state ∙ ap (λ b. if b then state.Clean else (if eqb used t.shape.pages_per_block then state.Shut else state.Part)) e))
+    by false e =
+        full t.spare h.spare_within
+        (inr (its_state ∙ ap₂ (λ b c. if b then state.Clean else (if c then state.Shut else state.Part)) e more))

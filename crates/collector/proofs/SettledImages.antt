@@ -1,5 +1,5 @@
 -- What the settlement says of an image, with no call: it is what a look at the unsure place would find.
-use Rattle.std.proofs.Common.{◌≡◌, ◌≢◌, ℕ, ◌<◌, Bool, true, false, if◌then◌else◌, None, Ok, refl, sym, ap, ◌∙◌, subst, arith}
+use Rattle.std.proofs.Common.{◌≡◌, ◌≢◌, ℕ, ◌<◌, ◌≤◌, Bool, true, false, if◌then◌else◌, None, Ok, refl, sym, ap, ◌∙◌, subst, arith}
 use Rattle.tx_types.specs.Config.{blocks_of}
 use Rattle.tx_types.specs.declared.config.Config.{Config}
 use Rattle.tx_types.specs.declared.config.Block.{Block}
@@ -53,6 +53,7 @@ carried s count = record {
   lives = refl;
   dead = λ off. never off _;
   no_more = tt;
+  extras = refl;
   spends = tt;
 }
   where
@@ -175,7 +176,7 @@ victim_below : (s : FlashState) (n : Noted) (t : BlockTable) (block : Block) →
 victim_below s n t block m = (let low = m.place.0 in omega (arith, low, ap blocks_of m.blocks, ap blocks_of m.shape))
 
 victim_few : (s : FlashState) (n : Noted) (t : BlockTable) (block : Block) → LossLaw n.config.protocol → Matches s n t (unsure.VictimErase block) →
-    records_held n t.spare < t.shape.pages_per_block
+    records_held n t.spare ≤ t.shape.pages_per_block
 victim_few s n t block loss m =
     let low = few n.config.protocol loss (powered s) (looked 0 s) n t refl block (before s n t (unsure.VictimErase block) m) 0 (looks s 0) in
     let per = ap (λ (x : Shape). x.pages_per_block) (m.blocks ∙ m.shape) in

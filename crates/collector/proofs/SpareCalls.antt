@@ -4,7 +4,6 @@ use Rattle.tx_types.specs.declared.config.Block.{Block}
 use Rattle.tx_types.specs.declared.config.Protocol.{Protocol}
 use Rattle.flash_model.specs.declared.flash.Broken.{Broken}
 use Rattle.flash_model.specs.Flash.{FlashState}
-use Rattle.flash_model.specs.Calls.{Erases}
 use Rattle.record_list.specs.Changes.{LossLaw}
 use Rattle.record_list.specs.WrittenChanges.{WrittenLossLaw}
 use Rattle.version_index.specs.declared.note.Note.TheVariants.{Blank}
@@ -15,13 +14,14 @@ use Rattle.collector.specs.declared.unsure.Unsure.{Unsure}
 use Rattle.collector.specs.declared.unsure.Unsure.TheVariants as unsure
 use Rattle.collector.specs.Matches.{Matches}
 use Rattle.collector.specs.Preserves.{Preserves, KeepsArray}
+use Rattle.collector.proofs.Emptying.{Empties}
 use Rattle.collector.proofs.Calm.{can_lose}
 use Rattle.collector.proofs.Losing.{preserves}
 use Rattle.collector.proofs.EraseExits.{spare_below, spare_erased, spare_torn, array_erased, left_torn}
 
 module _ (p : Protocol) (loss : LossLaw p) (written_loss : WrittenLossLaw p) (s s' : FlashState) (n : Noted) (t : BlockTable) (u : Unsure)
     (rule : n.config.protocol ≡ p) (nothing : u ≡ unsure.Nothing) (matches : Matches s n t u) (b : Block) (is : b.0 ≡ t.spare)
-    (r : Result (Unit {0}) Broken) (erases : Erases s s' b.0 r) where
+    (r : Result (Unit {0}) Broken) (empties : Empties s s' b.0 r) where
   m : Matches s n t unsure.Nothing
   m = subst (Matches s n t) nothing matches
 
@@ -31,12 +31,12 @@ module _ (p : Protocol) (loss : LossLaw p) (written_loss : WrittenLossLaw p) (s 
   written_law : WrittenLossLaw n.config.protocol
   written_law = subst WrittenLossLaw (sym rule) written_loss
 
-  e : Erases s s' t.spare r
-  e = subst (λ k. Erases s s' k r) is erases
+  e : Empties s s' t.spare r
+  e = subst (λ k. Empties s s' k r) is empties
 
   module _ (x : Unit {0}) (ok : r ≡ Ok x) (n' : Noted) (noted : n' ≡ erased n b.0) where
-    done : Erases s s' t.spare (Ok tt)
-    done = subst (λ q. Erases s s' t.spare q) ok e
+    done : Empties s s' t.spare (Ok tt)
+    done = subst (λ q. Empties s s' t.spare q) ok e
 
     as_spare : n' ≡ erased n t.spare
     as_spare = noted ∙ ap (erased n) is
@@ -54,11 +54,11 @@ module _ (p : Protocol) (loss : LossLaw p) (written_loss : WrittenLossLaw p) (s 
     pub array_done : KeepsArray p n.config.logical s.image s'.image
     array_done =
         subst (λ q. KeepsArray q n.config.logical s.image s'.image) rule
-        (array_erased s s' n t m law written_law t.spare (spare_below s s' n t m law written_law) m.spared done.carries.shape done.done.image)
+        (array_erased s s' n t m law written_law t.spare (spare_below s s' n t m law written_law) m.spared done.shape done.done)
 
   module _ (x : Broken) (err : r ≡ Err x) where
-    broken : Erases s s' t.spare (Err x)
-    broken = subst (λ q. Erases s s' t.spare q) err e
+    broken : Empties s s' t.spare (Err x)
+    broken = subst (λ q. Empties s s' t.spare q) err e
 
     pub matches_torn : Matches s' n t unsure.SpareErase
     matches_torn = spare_torn s s' n t m law written_law x broken
@@ -66,4 +66,4 @@ module _ (p : Protocol) (loss : LossLaw p) (written_loss : WrittenLossLaw p) (s 
     pub array_torn : KeepsArray p n.config.logical s.image s'.image
     array_torn =
         subst (λ q. KeepsArray q n.config.logical s.image s'.image) rule
-        (left_torn s s' n t m law written_law t.spare (spare_below s s' n t m law written_law) m.spared broken.carries.shape broken.torn.outcome broken.torn.image).array
+        (left_torn s s' n t m law written_law t.spare (spare_below s s' n t m law written_law) m.spared broken.shape broken.torn.0 broken.torn.1).array

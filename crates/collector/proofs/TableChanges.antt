@@ -1,5 +1,5 @@
 -- Each change of a block table leaves one.
-use Rattle.std.proofs.Common.{◌≡◌, ◌≢◌, ◌⊎◌, ℕ, ◌+◌, ◌%◌, ◌<◌, Bool, true, false, eq-eqb, eqb-true, if◌then◌else◌, set, refl, sym, ap, ◌∙◌, subst, inl, inr, arith}
+use Rattle.std.proofs.Common.{◌≡◌, ◌≢◌, ◌⊎◌, ℕ, ◌+◌, ◌%◌, ◌<◌, ◌≤◌, Bool, true, false, eq-eqb, eqb-true, if◌then◌else◌, set, refl, sym, ap, ◌∙◌, subst, inl, inr, arith}
 use Rattle.std.specs.Prelude.{◌==◌}
 use Rattle.std.proofs.Math.ListN.{length-set}
 use Rattle.std.proofs.Math.Nat.{mod-lt}
@@ -100,20 +100,26 @@ spare_table t h block within apart = record {
     clean_spare : (b block : ℕ) → Clean ≡ Spare → b ≡ block
     clean_spare b block e = cc
 
--- and the old spare has so many used slots
-pub exchanged_table : (t : BlockTable) → IsBlockTable t → (block : ℕ) → block < blocks_of t.shape → block ≢ t.spare → (used : ℕ) → used < t.shape.pages_per_block →
-    IsBlockTable (exchanged t block used)
-exchanged_table t h block within apart used few =
-    use_table (table_with_spare t block) (spare_table t h block within apart) t.spare (open_state used) used h.spare_within (λ e. apart (sym e)) (no_spare (used == 0))
-    (may (cases_Bool (used == 0)))
+-- a block whose first slots are used is no spare, and has as many used slots as its state allows
+may_open : (pages used : ℕ) → used ≤ pages → (open_state pages used ≢ Spare) × MayHave pages (open_state pages used) used
+may_open pages used within = by (cases_Bool (used == 0)) (cases_Bool (used == pages))
   where
-    no_spare : (b : Bool) → (if b then Clean else Part) ≢ Spare
-    no_spare true e = cc
-    no_spare false e = cc
+    apart : (a b : ℕ) → (a == b) ≡ false → a ≢ b
+    apart a b e same = let yes = eq-eqb a b same in cc
 
-    some : (used == 0) ≡ false → used ≢ 0
-    some e none = let yes = eq-eqb used 0 none in cc
+    by : ((used == 0) ≡ true) ⊎ ((used == 0) ≡ false) → ((used == pages) ≡ true) ⊎ ((used == pages) ≡ false) →
+        (open_state pages used ≢ Spare) × MayHave pages (open_state pages used) used
+    by (inl none) all = rw none ((λ e. cc), eqb-true used 0 none)
+    by (inr some) (inl all) = rw (some, all) ((λ e. cc), within)
+    by (inr some) (inr more) =
+        let one = apart used 0 some in
+        let other = apart used pages more in
+        rw (some, more) ((λ e. cc), (omega (arith, one), omega (arith, within, other)))
 
-    may : ((used == 0) ≡ true) ⊎ ((used == 0) ≡ false) → MayHave t.shape.pages_per_block (open_state used) used
-    may (inl none) = rw none (eqb-true used 0 none)
-    may (inr more) = let one = some more in rw more (omega arith, few)
+-- and the old spare has so many used slots
+pub exchanged_table : (t : BlockTable) → IsBlockTable t → (block : ℕ) → block < blocks_of t.shape → block ≢ t.spare → (used : ℕ) → used ≤ t.shape.pages_per_block →
+    IsBlockTable (exchanged t block used)
+exchanged_table t h block within apart used most =
+    let may = may_open t.shape.pages_per_block used most in
+    use_table (table_with_spare t block) (spare_table t h block within apart) t.spare (open_state t.shape.pages_per_block used) used h.spare_within
+    (λ e. apart (sym e)) may.0 may.1

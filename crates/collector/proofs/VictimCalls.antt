@@ -5,7 +5,6 @@ use Rattle.tx_types.specs.declared.config.Block.{Block}
 use Rattle.tx_types.specs.declared.config.Protocol.{Protocol}
 use Rattle.flash_model.specs.declared.flash.Broken.{Broken}
 use Rattle.flash_model.specs.Flash.{FlashState}
-use Rattle.flash_model.specs.Calls.{Erases}
 use Rattle.record_list.specs.Changes.{LossLaw}
 use Rattle.record_list.specs.WrittenChanges.{WrittenLossLaw}
 use Rattle.version_index.specs.declared.note.Note.TheVariants.{Blank}
@@ -17,6 +16,7 @@ use Rattle.collector.specs.declared.unsure.Unsure.TheVariants as unsure
 use Rattle.collector.specs.Matches.{Matches, CanSpare, IsFilledBy}
 use Rattle.collector.specs.Collecting.{exchanged}
 use Rattle.collector.specs.Preserves.{Preserves, KeepsArray}
+use Rattle.collector.proofs.Emptying.{Empties}
 use Rattle.collector.proofs.Calm.{can_lose}
 use Rattle.collector.proofs.Losing.{preserves}
 use Rattle.collector.proofs.EraseExits.{victim_erased, victim_torn, array_erased, left_torn}
@@ -54,7 +54,7 @@ with_spare_preserves n m block h = record {
 module _ (p : Protocol) (loss : LossLaw p) (written_loss : WrittenLossLaw p) (s s' : FlashState) (n : Noted) (t : BlockTable) (u : Unsure)
     (rule : n.config.protocol ≡ p) (nothing : u ≡ unsure.Nothing) (matches : Matches s n t u) (b : Block) (below : b.0 < blocks_of (shape_of n.config))
     (other : b.0 ≢ t.spare) (spared : CanSpare n b.0) (used : ℕ) (filled : IsFilledBy n t.spare used)
-    (r : Result (Unit {0}) Broken) (e : Erases s s' b.0 r) where
+    (r : Result (Unit {0}) Broken) (e : Empties s s' b.0 r) where
   m : Matches s n t unsure.Nothing
   m = subst (Matches s n t) nothing matches
 
@@ -69,8 +69,8 @@ module _ (p : Protocol) (loss : LossLaw p) (written_loss : WrittenLossLaw p) (s 
 
   module _ (x : Unit {0}) (ok : r ≡ Ok x) (mid n' : Noted) (noted : mid ≡ erased n b.0) (changed : n' ≡ with_spare mid b.0)
       (t' : BlockTable) (table : t' ≡ exchanged t b.0 used) (between : IsBlockTable (table_with_spare t b.0)) (good : IsBlockTable t') where
-    done : Erases s s' b.0 (Ok tt)
-    done = subst (λ q. Erases s s' b.0 q) ok e
+    done : Empties s s' b.0 (Ok tt)
+    done = subst (λ q. Empties s s' b.0 q) ok e
 
     pub as_victim : n' ≡ with_spare (erased n b.0) b.0
     as_victim = changed ∙ ap (λ k. with_spare k b.0) noted
@@ -91,11 +91,11 @@ module _ (p : Protocol) (loss : LossLaw p) (written_loss : WrittenLossLaw p) (s 
     pub victim_array : KeepsArray p n.config.logical s.image s'.image
     victim_array =
         subst (λ q. KeepsArray q n.config.logical s.image s'.image) rule
-        (array_erased s s' n t m law written_law b.0 below spared done.carries.shape done.done.image)
+        (array_erased s s' n t m law written_law b.0 below spared done.shape done.done)
 
   module _ (x : Broken) (err : r ≡ Err x) where
-    broken : Erases s s' b.0 (Err x)
-    broken = subst (λ q. Erases s s' b.0 q) err e
+    broken : Empties s s' b.0 (Err x)
+    broken = subst (λ q. Empties s s' b.0 q) err e
 
     pub victim_matches_torn : Matches s' n t (unsure.VictimErase b)
     victim_matches_torn = victim_torn s s' n t m law written_law b below other spared (used, filled) x broken
@@ -103,4 +103,4 @@ module _ (p : Protocol) (loss : LossLaw p) (written_loss : WrittenLossLaw p) (s 
     pub victim_array_torn : KeepsArray p n.config.logical s.image s'.image
     victim_array_torn =
         subst (λ q. KeepsArray q n.config.logical s.image s'.image) rule
-        (left_torn s s' n t m law written_law b.0 below spared broken.carries.shape broken.torn.outcome broken.torn.image).array
+        (left_torn s s' n t m law written_law b.0 below spared broken.shape broken.torn.0 broken.torn.1).array

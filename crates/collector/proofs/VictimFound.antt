@@ -70,7 +70,7 @@ module _ (p : Protocol) (loss : LossLaw p) (s s1 : FlashState) (n : Noted) (t : 
   pub loses : CanLose n b.0
   loses = dispensable_removable n.config.protocol (found_in n.notes) n.config.logical (pinned_names n.pins) (shape_of n.config) b.0 m.victim
 
-  pub few : records_held n t.spare < n.config.pages_per_block
+  pub few : records_held n t.spare ≤ n.config.pages_per_block
   few = (let is = filled_held n t.spare m.place.3.0 m.place.3.1 in let low = m.place.3.1.within in omega arith)
 
   as_noted : (x : Bool) → block_reads_as_noted n s.image b.0 ≡ x → block_reads_as_noted n s1.image b.0 ≡ x

@@ -2,7 +2,7 @@
 use Rattle.std.specs.Prelude.{◌≡◌, ℕ, ◌+◌, ◌*◌, ◌==◌, Bool, true, false, Some, List, [], ◌∷◌, ◌++◌, filter, Any, length, if◌then◌else◌}
 use Rattle.std.specs.List.{range_with_len, list_all}
 use Rattle.tx_types.specs.declared.config.BlockState.{BlockState}
-use Rattle.tx_types.specs.declared.config.BlockState.TheVariants.{Clean, Part}
+use Rattle.tx_types.specs.declared.config.BlockState.TheVariants.{Clean, Part, Shut}
 use Rattle.flash_model.specs.declared.flash.Seen.{Seen}
 use Rattle.flash_model.specs.declared.flash.Seen.TheVariants as seen
 use Rattle.flash_model.specs.Flash.{FlashState, Contents, blank, damaged, complete, slot_at, counted}
@@ -64,13 +64,14 @@ collecting n image spare block =
     (needed_slots (noted_cleaned n spare) block)
     ++ erase block ∷ []
 
--- the state of a block whose first slots are used, of which the last is not
-abbrev pub open_state : ℕ → BlockState
-open_state used = if used == 0 then Clean else Part
+-- the state of a block of so many slots of which so many first ones are used
+abbrev pub open_state : ℕ → ℕ → BlockState
+open_state pages used = if used == 0 then Clean else (if used == pages then Shut else Part)
 
 -- the block is the spare now, and the old spare has so many used slots
 abbrev pub exchanged : BlockTable → ℕ → ℕ → BlockTable
-exchanged t block used = with_use (table_with_spare t block) t.spare (open_state used) used
+exchanged t block used =
+    with_use (table_with_spare t block) t.spare (open_state t.shape.pages_per_block used) used
 
 -- a slot of the block is not needed
 abbrev pub HasUnneeded : Noted → ℕ → Type 0

@@ -50,9 +50,9 @@ abbrev pub SpellsRecord : Noted → Rec → Contents → Type 0
 SpellsRecord n rec contents =
     (bytes : _) × (contents ≡ complete bytes (spelling n.config.protocol rec))
 
--- so many first slots of a block hold records, and those after them, one at least, are blank
+-- so many first slots of a block hold records, and those after them are blank
 pub record IsFilledBy (n : Noted) (block filled : ℕ) : Type 0 where
-  pub within : filled < n.config.pages_per_block
+  pub within : filled ≤ n.config.pages_per_block
   pub records :
       (k : ℕ) → k < filled →
       (rec : Rec) × (note_at n.notes (block * n.config.pages_per_block + k) ≡ Holds rec)

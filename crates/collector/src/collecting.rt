@@ -92,7 +92,6 @@ fn copy_needed<F: Flash, R: CommitRule>(
     requires rule { index.old.config.protocol ≡ R.kept }
     requires exists { block.0 < blocks_of (shape_of index.old.config) }
     requires not_spare { block.0 ≢ blocks.now.spare }
-    requires unneeded { HasUnneeded index.old block.0 }
     requires blank { IsNextOfSpare index.old blocks.now.spare
         (blocks.now.spare * index.old.config.pages_per_block) }
     requires room { length room.old ≡ index.old.config.page_bytes }
@@ -107,7 +106,8 @@ fn copy_needed<F: Flash, R: CommitRule>(
     ensures sure { OnOk result (unsure.new ≡ Unsure.Nothing) }
     ensures others { (at : Slot) (rec : Rec) → unsure.new ≡ Unsure.Own at rec → ⊥ }
     ensures records { HasNoNewRecord index.old index.new }
-    ensures costs { CostsCopying index.old.config.pages_per_block
+    // fewer copies than slots where a slot is not needed
+    ensures costs { HasUnneeded index.old block.0 → CostsCopying index.old.config.pages_per_block
         (F.state flash.old) (F.state flash.new) }
     ensures moves { FlashMoves (F.state flash.old) (F.state flash.new) (is_err result) }
     ensures carries { Carries (F.state flash.old) (F.state flash.new) (is_err result) }

@@ -1,7 +1,7 @@
-ghost use Rattle.std.specs.Prelude.{◌≡◌, ◌≢◌, ◌<◌};
+ghost use Rattle.std.specs.Prelude.{◌≡◌, ◌≢◌, ◌<◌, ◌≤◌};
 ghost use Rattle.tx_types.specs.Config.{shape_of, blocks_of};
 ghost use Rattle.version_index.specs.Noted.{with_spare};
-ghost use Rattle.die_alloc.specs.BlockTable.{IsBlockTable, table_with_spare};
+ghost use Rattle.die_alloc.specs.BlockTable.{IsBlockTable, MayHave, table_with_spare};
 ghost use Rattle.collector.specs.Collecting.{exchanged, open_state};
 
 use die_alloc::Blocks;
@@ -10,7 +10,7 @@ use tx_types::{Block, BlockState};
 use version_index::Index;
 
 /// Makes a block the spare. So many first slots of the old spare are used, and more programs may go
-/// there.
+/// there where some are not.
 pub(crate) fn exchange<R: CommitRule>(
     index: &mut Index<R>,
     blocks: &mut Blocks,
@@ -20,24 +20,30 @@ pub(crate) fn exchange<R: CommitRule>(
     requires shape { blocks.old.shape ≡ shape_of index.old.config }
     requires exists { block.0 < blocks_of (shape_of index.old.config) }
     requires not_spare { block.0 ≢ blocks.old.spare }
-    requires not_full { used < index.old.config.pages_per_block }
+    requires within { used ≤ index.old.config.pages_per_block }
     ensures noted { index.new ≡ with_spare index.old block.0 }
     ensures blocks { blocks.new ≡ exchanged blocks.old block.0 used }
     ensures between { IsBlockTable (table_with_spare blocks.old block.0) }
     ensures table { IsBlockTable blocks.new }
 {
     let old = blocks.spare();
+    let pages = index.config().pages_per_block;
     index.set_spare(block);
     blocks.make_spare(block);
-    blocks.set(old, open_state(used), used);
+    blocks.set(old, open_state(pages, used), used);
 }
 
-/// The state of a block whose first slots are used, of which the last is not.
-fn open_state(used: u32) -> BlockState
-    ensures { result ≡ open_state used }
+/// The state of a block of so many slots of which so many first ones are used.
+fn open_state(pages: u32, used: u32) -> BlockState
+    requires { used ≤ pages }
+    ensures state { result ≡ open_state pages used }
+    ensures fits { MayHave pages result used }
+    ensures no_spare { result ≢ BlockState.Spare }
 {
     if used == 0 {
         BlockState::Clean
+    } else if used == pages {
+        BlockState::Shut
     } else {
         BlockState::Part
     }

@@ -101,6 +101,12 @@ armed_faults state kept sets (session.Mounted s) (session.Unmounted f) h = absur
 armed_faults state kept sets (session.Unmounted e) (session.Mounted t) h = absurd h
 armed_faults state kept sets (session.Unmounted e) (session.Unmounted f) h = ap (λ (x : FlashState). x.faults) h.stays
 
+armed_extras : {F R : Type 0} (state : F → FlashState) (kept : Protocol) (sets : Told → Told → Type 0) (old new : Session F R) → SetsArm state kept sets old new → (state (flash_in new)).extras ≡ (state (flash_in old)).extras
+armed_extras state kept sets (session.Mounted s) (session.Mounted t) h = ap (λ (x : FlashState). x.extras) h.changes.stays
+armed_extras state kept sets (session.Mounted s) (session.Unmounted f) h = absurd h
+armed_extras state kept sets (session.Unmounted e) (session.Mounted t) h = absurd h
+armed_extras state kept sets (session.Unmounted e) (session.Unmounted f) h = ap (λ (x : FlashState). x.extras) h.stays
+
 same_told : (a : Option Told) → BothTell NoMore a a
 same_told None = tt
 same_told (Some x) = (omega arith, omega arith)
@@ -115,7 +121,7 @@ armed_point state its kept sets entries seen faulted (session.Unmounted e) (sess
 armed_point {F = F} {R = R} state its kept sets entries seen faulted (session.Unmounted e) (session.Unmounted f) h fits stands =
     let after : Session F R = session.Unmounted e in
     subst (λ (p : Point). IsPoint its p) (sym (same_point {R = R} state its kept sets after (session.Unmounted f) h))
-    (mounted_point {R = R} state its e after (record { moment = refl; shape = refl; later = omega arith; told = same_told (state e).told }) stands.sound)
+    (mounted_point {R = R} state its e after (record { moment = refl; shape = refl; later = omega arith; told = same_told (state e).told; extras = refl }) stands.sound)
 
 armed_serves_flash : (its : Config) (spent : ℕ → Bool) (faulted : Bool) (c : Command) (old new : Point) → is_arm c ≡ true → new ≡ old → ServesFlash its spent faulted c old reply.Armed new
 armed_serves_flash its spent faulted c old new arm same = subst (λ b. MatchBool b ((reply.Armed ≡ reply.Armed) × (new ≡ old)) (Cases its spent faulted c old reply.Armed new)) (sym arm) (refl, same)
@@ -142,6 +148,7 @@ armed_serves state its kept sets entries c old new arming fits h = record {
   spends = weaker_told sets (IsSpentBy c reply.Armed) arming.spent (state (flash_in old)).told (state (flash_in new)).told (armed_told state kept sets old new h);
   set = then_told sets (IsSet c) arming.set (state (flash_in old)).told (state (flash_in new)).told (armed_told state kept sets old new h);
   faults = armed_faults state kept sets old new h;
+  extras = armed_extras state kept sets old new h;
 }
 
 -- and the session fits still

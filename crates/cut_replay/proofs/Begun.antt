@@ -105,7 +105,7 @@ nothing_served {F = F} R state its list flash new w sound still =
 
 pub rooms_ended : {F : Type 0} (R : Type 0) (state : F → FlashState) (its : Config) (list : List Command) (flash : F) (w : Watched) → IsSoundFlash its (state flash) →
     ServesSound its list (state flash) (state flash) w w (Err failed.Memory)
-rooms_ended R state its list flash w sound = nothing_served R state its list flash flash w sound (record { still = record { moment = refl; shape = refl; later = omega arith; told = same_told (state flash).told }; quiet = refl })
+rooms_ended R state its list flash w sound = nothing_served R state its list flash flash w sound (record { still = record { moment = refl; shape = refl; later = omega arith; told = same_told (state flash).told; extras = refl }; quiet = refl })
 
 pub begin_ended : {F : Type 0} (R : Type 0) (state : F → FlashState) (its : Config) (list : List Command) (flash new : F) (why : ServeError) (w : Watched) → IsSoundFlash its (state flash) → Unmounted state its flash new why →
     ServesSound its list (state flash) (state new) w w (Err why)
@@ -127,6 +127,11 @@ pub begun_kept : {F R : Type 0} (state : F → FlashState) (its : Config) (flash
     IfOk result (λ s. IsSoundOrSame its (state flash) (state (flash_in s)))
 begun_kept state its flash (Ok s) h = inr (mounted_still state its flash s (mounted_leaves state its flash s h)).moment
 begun_kept state its flash (Err e) h = tt
+
+pub begun_extras : {F R : Type 0} (state : F → FlashState) (its : Config) (flash : F) (result : Results F R) → IfOk result (Mounted state its flash) →
+    IfOk result (λ s. (state (flash_in s)).extras ≡ (state flash).extras)
+begun_extras state its flash (Ok s) h = (mounted_still state its flash s (mounted_leaves state its flash s h)).extras
+begun_extras state its flash (Err e) h = tt
 
 pub begin_faults : {F R : Type 0} (state : F → FlashState) (its : Config) (flash : F) (result : Results F R) → (state flash).live ≡ true → IfOk result (Mounted state its flash) →
     IfOk result (λ s. CountsBreaks [] (state flash) (state (flash_in s)))
@@ -157,7 +162,7 @@ unsound_ended init final list w why still = record {
 
 pub unsound_unserved : (init : FlashState) (list : List Command) (w : Watched) → ServesUnsound list init init w w (Err failed.Memory)
 unsound_unserved init list w =
-    unsound_ended init init list w failed.Memory (record { still = record { moment = refl; shape = refl; later = omega arith; told = same_told init.told }; quiet = refl })
+    unsound_ended init init list w failed.Memory (record { still = record { moment = refl; shape = refl; later = omega arith; told = same_told init.told; extras = refl }; quiet = refl })
 
 unmounted_quiet : {F : Type 0} (state : F → FlashState) (its : Config) (flash new : F) (why : ServeError) → Unmounted state its flash new why → StaysQuiet (state flash) (state new)
 unmounted_quiet state its flash new (failed.Unsound law slot) h = h.0
@@ -170,3 +175,7 @@ begin_unsound state its list flash new why w h = unsound_ended (state flash) (st
 pub begin_shape : {F : Type 0} (state : F → FlashState) (its : Config) (flash new : F) (why : ServeError) → Unmounted state its flash new why → (state new).shape ≡ (state flash).shape
 begin_shape state its flash new (failed.Unsound law slot) h = h.0.still.shape
 begin_shape state its flash new failed.Memory h = h.still.shape
+
+pub begin_extras : {F : Type 0} (state : F → FlashState) (its : Config) (flash new : F) (why : ServeError) → Unmounted state its flash new why → (state new).extras ≡ (state flash).extras
+begin_extras state its flash new (failed.Unsound law slot) h = h.0.still.extras
+begin_extras state its flash new failed.Memory h = h.still.extras

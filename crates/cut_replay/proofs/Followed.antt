@@ -232,6 +232,7 @@ went_serves state c s t r entries w on = record {
   spends = live_spends c r (state s.flash) (state t.flash) w.here.whole w.on on w.here.carries;
   set = sets_none c w.no_arm (state t.flash).told;
   faults = live_counts r (state s.flash) (state t.flash) w.here.whole w.here.carries;
+  extras = w.here.carries.extras;
 }
 
 -- the command met a fault, where power is off
@@ -257,6 +258,7 @@ cut_serves state c s t r entries after w off leaves =
       spends = cut_spends c (state s.flash) (state t.flash) (state (flash_in after)).told w.on off here.carries (mounted_still state s.config t.flash after leaves).told;
       set = sets_none c w.no_arm (state (flash_in after)).told;
       faults = rose_later (state s.flash).faults (state t.flash).faults (state (flash_in after)).faults here.carries.cause (mounted_still state s.config t.flash after leaves).later;
+      extras = (mounted_still state s.config t.flash after leaves).extras ∙ here.carries.extras;
     }
 
 again_serves : {F R : Type 0} (state : F → FlashState) (c : Command) (s t : Standing F) (r : Reply) (entries : List CachedPage) (result : Sessions F R) → WasDone state s.config c s t r entries →
@@ -273,7 +275,7 @@ again_ends R state c s t r entries flash (failed.Unsound law slot) w off h =
 again_ends {F = F} R state c s t r entries flash failed.Memory w off h =
     let after : Session F R = session.Unmounted flash in
     let serves = cut_serves {R = R} state c s t r entries after w off h.still in
-    record { cause = inr (serves.in_run, serves.spends, serves.faults); shape = h.still.shape ∙ w.here.carries.shape; kept = serves.kept }
+    record { cause = inr (serves.in_run, serves.spends, serves.faults); shape = h.still.shape ∙ w.here.carries.shape; extras = h.still.extras ∙ w.here.carries.extras; kept = serves.kept }
 
 again_ends_all : {F R : Type 0} (state : F → FlashState) (c : Command) (s t : Standing F) (r : Reply) (entries : List CachedPage) (result : Sessions F R) → WasDone state s.config c s t r entries →
     (state t.flash).live ≡ false → MountsAgain state s.config t result → EndsAfter F R state s.config c s result

@@ -97,6 +97,7 @@ lifted_serves state its flash t c r new no_arm mounts h = record {
   spends = spends_after c r (state flash).told (state t.flash).told (state (flash_in new)).told mounts.still.told h.spends;
   set = h.set;
   faults = subst (λ n. CountsBreak r n (state (flash_in new)).faults) mounts.quiet h.faults;
+  extras = h.extras ∙ mounts.still.extras;
 }
 
 still_then : (a b d : FlashState) → MomentStays a b → MomentStays b d → MomentStays a d
@@ -105,6 +106,7 @@ still_then a b d ab bd = record {
   shape = bd.shape ∙ ab.shape;
   later = omega (arith, ab.later, bd.later);
   told = no_more_then a.told b.told d.told ab.told bd.told;
+  extras = bd.extras ∙ ab.extras;
 }
 
 lifted_cause : {F : Type 0} (R : Type 0) (state : F → FlashState) (its : Config) (flash : F) (t : Standing F) (c : Command) (new : F) (why : ServeError) → is_arm c ≡ false → MountsIn state its flash t →
@@ -124,14 +126,15 @@ pub lifted_ends : {F : Type 0} (R : Type 0) (state : F → FlashState) (its : Co
 lifted_ends R state its flash t c new why no_arm mounts h = record {
   cause = lifted_cause R state its flash t c new why no_arm mounts h.cause;
   shape = h.shape ∙ mounts.still.shape;
+  extras = h.extras ∙ mounts.still.extras;
   kept = sound_or_same_from its (state flash) (state t.flash) (state new) mounts.still.moment h.kept;
 }
 
 -- The device was not mounted
 pub unmounted_ends : {F : Type 0} (R : Type 0) (state : F → FlashState) (its : Config) (c : Command) (flash new : F) (why : ServeError) → Unmounted state its flash new why →
     EndsServing {R = R} state its c (session.Unmounted flash) new why
-unmounted_ends R state its c flash new (failed.Unsound law slot) h = record { cause = h; shape = h.0.still.shape; kept = inr h.0.still.moment }
-unmounted_ends R state its c flash new failed.Memory h = record { cause = inl h; shape = h.still.shape; kept = inr h.still.moment }
+unmounted_ends R state its c flash new (failed.Unsound law slot) h = record { cause = h; shape = h.0.still.shape; extras = h.0.still.extras; kept = inr h.0.still.moment }
+unmounted_ends R state its c flash new failed.Memory h = record { cause = inl h; shape = h.still.shape; extras = h.still.extras; kept = inr h.still.moment }
 
 abbrev IsFaultOrCut : FlashState → Reply → Type 0
 IsFaultOrCut s r = ((r ≡ reply.Fault) × (s.live ≡ true)) ⊎ ((r ≡ reply.Cut) × (s.live ≡ false))
@@ -177,6 +180,7 @@ not_done_serves {F = F} R state its c flash new r no_arm h is =
       spends = not_done_spends c (state flash) (state new) r is h;
       set = sets_none c no_arm (state new).told;
       faults = not_done_counts (state new) r (state flash).faults (state new).faults is h.rose;
+      extras = h.still.extras;
     }
 
 pub unmounted_check : (its : Config) (old new : FlashState) → checked its ≡ Ok old.shape → MomentStays old new → checked its ≡ Ok new.shape

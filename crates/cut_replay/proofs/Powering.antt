@@ -28,6 +28,7 @@ powered_still old on new broken turned moment carries = record {
   shape = carries.shape ∙ ap (λ (s : FlashState). s.shape) turned;
   later = subst (λ (s : FlashState). s.faults ≤ new.faults) turned carries.later;
   told = subst (λ (s : FlashState). BothTell NoMore s.told new.told) turned carries.no_more;
+  extras = carries.extras ∙ ap (λ (s : FlashState). s.extras) turned;
 }
 
 powered_quiet : (old on new : FlashState) → TurnsOn old on → moment_of new ≡ moment_of on → Carries on new false → StaysQuiet old new

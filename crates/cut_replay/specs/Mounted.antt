@@ -101,12 +101,13 @@ pub record ServesHere {F : Type 0}
   pub cut : is_fault r ≡ true → MayHaveCut state c old new
   pub whole : is_cut r ≡ false
 
--- moment and shape stay, the count of faults does not fall, and no more is to come
+-- moment, shape and what is told of retired blocks stay, the count of faults does not fall, and no more is to come
 pub record MomentStays (old new : FlashState) : Type 0 where
   pub moment : moment_of new ≡ moment_of old
   pub shape : new.shape ≡ old.shape
   pub later : old.faults ≤ new.faults
   pub told : BothTell NoMore old.told new.told
+  pub extras : new.extras ≡ old.extras
 
 -- and no fault was counted
 pub record StaysQuiet (old new : FlashState) : Type 0 where

@@ -113,6 +113,7 @@ pub record ServesSession {F R : Type 0}
   pub spends : BothTell (IsSpentBy c r) (state (flash_in old)).told (state (flash_in new)).told
   pub set : IfSome (state (flash_in new)).told (IsSet c)
   pub faults : CountsBreak r (state (flash_in old)).faults (state (flash_in new)).faults
+  pub extras : (state (flash_in new)).extras ≡ (state (flash_in old)).extras
 
 -- The flash was refused: it was never mounted, and its image is not sound.
 abbrev pub Refuses : {F R : Type 0} → (F → FlashState) → Config → Session F R → F → ℕ → Slot →
@@ -145,6 +146,7 @@ pub record EndsServing {F R : Type 0}
     (c : Command) (old : Session F R) (flash : F) (why : ServeError) : Type 0 where
   pub cause : EndsFor state its c old flash why
   pub shape : (state flash).shape ≡ (state (flash_in old)).shape
+  pub extras : (state flash).extras ≡ (state (flash_in old)).extras
   pub kept : IsSoundOrSame its (state (flash_in old)) (state flash)
 
 -- What mounting a flash comes to: its device, with nothing open; or a read met a fault.

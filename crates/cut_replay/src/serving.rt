@@ -166,6 +166,7 @@ fn serve_all<F: Power + Arms, R: CommitRule, W: Watch<F>>(
         (record { text = W.text out.old; kept = W.kept out.old })
         (record { text = W.text out.new; kept = W.kept out.new }) result.1 }
     ensures shape { checked config ≡ Ok (F.state result.0).shape }
+    ensures extras { (F.state result.0).extras ≡ (F.state (flash_in session)).extras }
 {
     for command in list {
         match serve_one(alloc, config, session, cache, room, command) {
@@ -208,6 +209,7 @@ fn begin<F: Power, R: CommitRule>(
         IsSoundOrSame config (F.state flash) (F.state (flash_in s))) }
     ensures faults { IfOk result (λ s.
         CountsBreaks [] (F.state flash) (F.state (flash_in s))) }
+    ensures extras { IfOk result (λ s. (F.state (flash_in s)).extras ≡ (F.state flash).extras) }
     ensures failed { IfErr result (λ e. Unmounted F.state config flash e.flash e.why) }
     ensures size { cache.new.page_bytes ≡ cache.old.page_bytes }
 {
@@ -263,6 +265,7 @@ pub fn serve<F: Power + Arms, R: CommitRule, W: Watch<F>>(
         (record { text = W.text out.old; kept = W.kept out.old })
         (record { text = W.text out.new; kept = W.kept out.new }) result.1 }
     ensures shape { (F.state result.0).shape ≡ (F.state flash).shape }
+    ensures extras { (F.state result.0).extras ≡ (F.state flash).extras }
 {
     let Ok((mut cache, mut room)) = rooms(alloc, config.page_bytes) else {
         return (flash, Err(ServeError::Memory));

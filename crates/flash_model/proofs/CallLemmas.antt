@@ -41,6 +41,7 @@ Carries-nothing s = record {
   lives = refl;
   dead = λ off. refl;
   no_more = no_more_same s.told;
+  extras = refl;
   spends = tt;
 }
 
@@ -58,6 +59,7 @@ Carries-then a b c true ab bc = record {
   lives = tt;
   dead = dead_then a b c ab bc;
   no_more = no_more_then a.told b.told c.told ab.no_more bc.no_more;
+  extras = bc.extras ∙ ab.extras;
   spends = λ on. spends_then c.live a.told b.told c.told ab.no_more (bc.spends (ab.lives ∙ on));
 }
 Carries-then a b c false ab bc = record {
@@ -69,6 +71,7 @@ Carries-then a b c false ab bc = record {
   dead = λ off.
       bc.dead (ab.lives ∙ off) ∙ ap (λ (s : FlashState). record s { faults = c.faults }) (ab.dead off);
   no_more = no_more_then a.told b.told c.told ab.no_more bc.no_more;
+  extras = bc.extras ∙ ab.extras;
   spends = tt;
 }
 

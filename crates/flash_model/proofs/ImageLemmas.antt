@@ -9,7 +9,7 @@ use Rattle.tx_types.specs.declared.config.Shape.{Shape}
 use Rattle.flash_model.specs.declared.outcome.Outcome.{Outcome}
 use Rattle.flash_model.specs.declared.outcome.Outcome.TheVariants as outcome
 use Rattle.flash_model.specs.Flash.{Contents, blank, damaged, complete, slot_at, IsWhole, IsImage}
-use Rattle.flash_model.specs.Operations.{Operation, program, erase, Moment, CanDo, block_of, with_block, image_after, image_left, after, Torn}
+use Rattle.flash_model.specs.Operations.{Operation, program, erase, Moment, CanDo, WorksIn, with_block, image_after, image_left, after, MayLeave, Torn}
 use Rattle.flash_model.specs.Moves.{Does, Ends, Moves, StayOff}
 
 -- a block's slots end within all slots
@@ -76,8 +76,16 @@ IsImage-does shape a b [] h does = subst (λ (m : Moment). IsImage shape m.image
 IsImage-does shape a b (o ∷ rest) h does =
     IsImage-does shape (after shape a o) b rest (IsImage-after shape a.image o h does.0) does.1
 
+-- one outcome says what a broken operation left
+left_so : (shape : Shape) (image : List Contents) (o : Operation) (new : List Contents) → MayLeave shape image o new
+    → (how : Outcome) × (new ≡ image_left shape image o how)
+left_so shape image (program at bytes spare) new left = left
+left_so shape image (erase block) new left = left
+
 IsImage-torn : (shape : Shape) (a b : Moment) (o : Operation) → IsImage shape a.image → CanDo shape a.image o → Torn shape a o b → IsImage shape b.image
-IsImage-torn shape a b o h can torn = subst (IsImage shape) (sym torn.image) (IsImage-left shape a.image o torn.outcome h can)
+IsImage-torn shape a b o h can torn =
+    let left : (how : Outcome) × (b.image ≡ image_left shape a.image o how) = left_so shape a.image o b.image torn.left in
+    subst (IsImage shape) (sym left.1) (IsImage-left shape a.image o left.0 h can)
 
 IsImage-ends : (shape : Shape) (a b : Moment) (broken : Bool) → IsImage shape a.image → Ends shape a broken b → IsImage shape b.image
 IsImage-ends shape a b false h same = subst (λ (m : Moment). IsImage shape m.image) (sym same) h
@@ -102,7 +110,7 @@ outside_block per block k other =
 
 -- an operation leaves the slots of other blocks, however it ends
 pub slot_at-left : (shape : Shape) (image : List Contents) (o : Operation) (how : Outcome) (k : ℕ) → IsImage shape image
-    → CanDo shape image o → block_of shape o ≢ k / shape.pages_per_block → slot_at (image_left shape image o how) k ≡ slot_at image k
+    → CanDo shape image o → (WorksIn shape o (k / shape.pages_per_block) → ⊥) → slot_at (image_left shape image o how) k ≡ slot_at image k
 slot_at-left shape image o outcome.None k h can other = refl
 slot_at-left shape image (program at bytes spare) outcome.All k h can other =
     get_or-set_other image at k (complete bytes spare) blank (λ same. other (ap (λ n. n / shape.pages_per_block) (sym same)))
@@ -114,14 +122,15 @@ slot_at-left shape image (erase block) outcome.Bad k h can other =
     slot_at-with_block_out shape image h block can damaged k (outside_block shape.pages_per_block block k (λ same. other (sym same)))
 
 pub slot_at-after : (shape : Shape) (image : List Contents) (o : Operation) (k : ℕ) → IsImage shape image
-    → CanDo shape image o → block_of shape o ≢ k / shape.pages_per_block → slot_at (image_after shape image o) k ≡ slot_at image k
+    → CanDo shape image o → (WorksIn shape o (k / shape.pages_per_block) → ⊥) → slot_at (image_after shape image o) k ≡ slot_at image k
 slot_at-after shape image o k h can other = slot_at-left shape image o outcome.All k h can other
 
 -- and so does one that is broken
 pub slot_at-torn : (shape : Shape) (a b : Moment) (o : Operation) (k : ℕ) → IsImage shape a.image → CanDo shape a.image o
-    → Torn shape a o b → block_of shape o ≢ k / shape.pages_per_block → slot_at b.image k ≡ slot_at a.image k
+    → Torn shape a o b → (WorksIn shape o (k / shape.pages_per_block) → ⊥) → slot_at b.image k ≡ slot_at a.image k
 slot_at-torn shape a b o k h can torn other =
-    ap (λ (image : List Contents). slot_at image k) torn.image ∙ slot_at-left shape a.image o torn.outcome k h can other
+    let left : (how : Outcome) × (b.image ≡ image_left shape a.image o how) = left_so shape a.image o b.image torn.left in
+    ap (λ (image : List Contents). slot_at image k) left.1 ∙ slot_at-left shape a.image o left.0 k h can other
 
 -- operations that stay off a block leave its slots
 pub slot_at-does : (shape : Shape) (a b : Moment) (list : List Operation) (k : ℕ) → IsImage shape a.image → Does shape a list b
@@ -129,5 +138,5 @@ pub slot_at-does : (shape : Shape) (a b : Moment) (list : List Operation) (k : �
 slot_at-does shape a b [] k h does off = ap (λ (m : Moment). slot_at m.image k) does
 slot_at-does shape a b (o ∷ rest) k h does off =
     slot_at-does shape (after shape a o) b rest k (IsImage-after shape a.image o h does.0) does.1
-    (All-tail (λ q. block_of shape q ≢ k / shape.pages_per_block) o rest off)
-    ∙ slot_at-after shape a.image o k h does.0 (All-head (λ q. block_of shape q ≢ k / shape.pages_per_block) o rest off)
+    (All-tail (λ q. WorksIn shape q (k / shape.pages_per_block) → ⊥) o rest off)
+    ∙ slot_at-after shape a.image o k h does.0 (All-head (λ q. WorksIn shape q (k / shape.pages_per_block) → ⊥) o rest off)

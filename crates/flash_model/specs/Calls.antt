@@ -30,7 +30,7 @@ Spends true old new = new.breaks < old.breaks
 Spends false old new = new.cuts < old.cuts
 
 -- What each call of a flash keeps, and each call of what stands on one, which was broken or not: the shape, the count
--- of faults, which does not fall, and what is to come. The count of faults rises where a call is broken, and no other
+-- of faults, which does not fall, what is to come, and what is told of retired blocks. The count of faults rises where a call is broken, and no other
 -- call changes it. Only a broken call may end being live. On a flash without power nothing but that count changes.
 pub record Carries (old new : FlashState) (broken : Bool) : Type 0 where
   pub shape : new.shape ≡ old.shape
@@ -41,6 +41,7 @@ pub record Carries (old new : FlashState) (broken : Bool) : Type 0 where
   pub lives : OnFalse broken (new.live ≡ old.live)
   pub dead : old.live ≡ false → new ≡ record old { faults = new.faults }
   pub no_more : BothTell NoMore old.told new.told
+  pub extras : new.extras ≡ old.extras
   pub spends : OnTrue broken (old.live ≡ true → BothTell (Spends new.live) old.told new.told)
 
 -- how a slot with these contents reads

@@ -20,8 +20,18 @@ pub record Told : Type 0 where
   pub fault : Option Arm
   pub bad_read : Option ℕ
 
+-- how many retired blocks a flash allows, and how many it has
+pub record Extras : Type 0 where
+  pub allowance : ℕ
+  pub retired : ℕ
+
+-- no block may be retired
+abbrev pub no_extras : Extras
+no_extras = record { allowance = 0; retired = 0 }
+
 -- A flash: its shape, its slots in order, whether power is on, its count of faults, its counts of the programs and
--- the erases that were done, and of the reads that were asked for while power was on. It may tell what is to come.
+-- the erases that were done, and of the reads that were asked for while power was on. It may tell what is to come, and of its
+-- retired blocks.
 pub record FlashState : Type 0 where
   pub shape : Shape
   pub image : List Contents
@@ -31,6 +41,7 @@ pub record FlashState : Type 0 where
   pub erases : ℕ
   pub reads : ℕ
   pub told : Option Told
+  pub extras : Option Extras
 
 -- a count goes up by so many and stands still at the end of its type
 abbrev pub counted_by : ℕ → ℕ → ℕ

@@ -1,8 +1,8 @@
 -- How a flash gets from one moment to another: by operations, of which at most the last one is broken.
-use Rattle.std.specs.Prelude.{◌≡◌, ◌≢◌, ◌⊎◌, Bool, true, false, ℕ, List, [], ◌∷◌, All}
+use Rattle.std.specs.Prelude.{◌≡◌, ◌⊎◌, Bool, true, false, ℕ, List, [], ◌∷◌, All}
 use Rattle.tx_types.specs.declared.config.Shape.{Shape}
 use Rattle.flash_model.specs.Flash.{FlashState}
-use Rattle.flash_model.specs.Operations.{Operation, Moment, moment_of, CanDo, block_of, after, Torn}
+use Rattle.flash_model.specs.Operations.{Operation, Moment, moment_of, CanDo, WorksIn, after, Torn}
 
 -- the operations are done in turn, each where it has what it needs
 abbrev pub Does : Shape → Moment → List Operation → Moment → Type 0
@@ -30,4 +30,4 @@ FlashMoves old new broken = Moves old.shape (moment_of old) broken (moment_of ne
 
 -- no operation works in this block
 abbrev pub StayOff : Shape → ℕ → List Operation → Type 0
-StayOff shape block list = All (λ o. block_of shape o ≢ block) list
+StayOff shape block list = All (λ o. WorksIn shape o block → ⊥) list

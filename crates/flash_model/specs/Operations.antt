@@ -35,10 +35,10 @@ CanDo shape image (program at bytes spare) =
     CanProgram shape image at × (length bytes ≡ shape.page_bytes) × (length spare ≡ spare_bytes)
 CanDo shape image (erase block) = block < blocks_of shape
 
--- the block in which an operation works
-abbrev pub block_of : Shape → Operation → ℕ
-block_of shape (program at bytes spare) = at / shape.pages_per_block
-block_of shape (erase block) = block
+-- an operation works in this block
+abbrev pub WorksIn : Shape → Operation → ℕ → Type 0
+WorksIn shape (program at bytes spare) block = at / shape.pages_per_block ≡ block
+WorksIn shape (erase its) block = its ≡ block
 
 -- the image with these contents in each slot of a block
 abbrev pub with_block : Shape → List Contents → ℕ → Contents → List Contents
@@ -84,9 +84,14 @@ pub record Done (shape : Shape) (old : Moment) (o : Operation) (new : Moment) : 
   pub programs : new.programs ≡ programs_after o old.programs
   pub erases : new.erases ≡ erases_after o old.erases
 
--- an operation that is broken leaves what one of the outcomes says, and is not counted
+-- what a broken operation may leave: what one of the outcomes says
+abbrev pub MayLeave : Shape → List Contents → Operation → List Contents → Type 0
+MayLeave shape old (program at bytes spare) new =
+    (how : Outcome) × (new ≡ image_left shape old (program at bytes spare) how)
+MayLeave shape old (erase block) new = (how : Outcome) × (new ≡ image_left shape old (erase block) how)
+
+-- an operation that is broken leaves what it may leave, and is not counted
 pub record Torn (shape : Shape) (old : Moment) (o : Operation) (new : Moment) : Type 0 where
-  pub outcome : Outcome
-  pub image : new.image ≡ image_left shape old.image o outcome
+  pub left : MayLeave shape old.image o new.image
   pub programs : new.programs ≡ old.programs
   pub erases : new.erases ≡ old.erases

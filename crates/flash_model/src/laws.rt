@@ -1,10 +1,10 @@
 //! What holds of the calls of each flash. The functions do nothing: each is there for what it ensures.
-ghost use Rattle.std.specs.Prelude.{◌≡◌, ◌≢◌, ◌/◌, ℕ, Bool, false, List, Result};
+ghost use Rattle.std.specs.Prelude.{◌≡◌, ◌/◌, ℕ, Bool, false, List, Result};
 ghost use Rattle.std.specs.Result.{is_err};
 ghost use Rattle.tx_types.specs.declared.config.Shape.{Shape};
 ghost use Rattle.flash_model.specs.declared.flash.Broken.{Broken};
 ghost use Rattle.flash_model.specs.Flash.{FlashState, slot_at, IsImage, IsSteady};
-ghost use Rattle.flash_model.specs.Operations.{Operation, Moment, CanDo, block_of, Torn};
+ghost use Rattle.flash_model.specs.Operations.{Operation, Moment, CanDo, WorksIn, Torn};
 ghost use Rattle.flash_model.specs.Moves.{Does, Moves, FlashMoves, StayOff};
 ghost use Rattle.flash_model.specs.Calls.{Carries, Operates};
 
@@ -34,7 +34,7 @@ pub fn images_stay()
         slot_at new.image slot ≡ slot_at old.image slot }
     ensures torn_elsewhere { (shape : Shape) (old new : Moment) (o : Operation) (slot : ℕ) →
         IsImage shape old.image → CanDo shape old.image o → Torn shape old o new →
-        block_of shape o ≢ slot / shape.pages_per_block →
+        (WorksIn shape o (slot / shape.pages_per_block) → ⊥) →
         slot_at new.image slot ≡ slot_at old.image slot }
 {}
 

@@ -2,10 +2,10 @@
 use Rattle.std.specs.Prelude.{ℕ, ◌+◌, Bool, true, List, replicate, Option, None, Some}
 use Rattle.tx_types.specs.Config.{slots_of}
 use Rattle.tx_types.specs.declared.config.Shape.{Shape}
-use Rattle.flash_model.specs.Flash.{FlashState, Told, Contents, blank}
+use Rattle.flash_model.specs.Flash.{FlashState, Told, Extras, no_extras, Contents, blank}
 use Rattle.mem_flash.specs.declared.armed.Armed.{Armed}
 
--- as each flash, and what is armed
+-- as each flash, what is armed, and what is told of retired blocks
 pub record MemoryState : Type 0 where
   pub shape : Shape
   pub image : List Contents
@@ -15,6 +15,7 @@ pub record MemoryState : Type 0 where
   pub erases : ℕ
   pub reads : ℕ
   pub armed : Armed
+  pub extras : Extras
 
 -- how many breaks an arm will give
 abbrev pub breaks_of : {T : Type 0} → Option T → ℕ
@@ -41,11 +42,12 @@ state_of s = record {
   erases = s.erases;
   reads = s.reads;
   told = Some (told_of s.armed);
+  extras = Some s.extras;
 }
 
--- a flash with these slots that is live, has counted nothing, and has nothing armed
-abbrev pub fresh : Shape → List Contents → MemoryState
-fresh shape image = record {
+-- a flash with these slots and extras that is live, has counted nothing, and has nothing armed
+abbrev pub loaded : Shape → List Contents → Extras → MemoryState
+loaded shape image extras = record {
   shape = shape;
   image = image;
   live = true;
@@ -54,7 +56,12 @@ fresh shape image = record {
   erases = 0;
   reads = 0;
   armed = record { cut = None; fault = None; bad_read = None };
+  extras = extras;
 }
+
+-- and no block of which may be retired
+abbrev pub fresh : Shape → List Contents → MemoryState
+fresh shape image = loaded shape image no_extras
 
 -- a new flash, all slots of which are blank
 abbrev pub blank_flash : Shape → MemoryState

@@ -1,5 +1,5 @@
 -- How a flash in memory is kept.
-use Rattle.std.specs.Prelude.{◌≡◌, ◌*◌, length}
+use Rattle.std.specs.Prelude.{◌≡◌, ◌≤◌, ◌*◌, length}
 use Rattle.mem_flash.specs.Memory.{MemoryState}
 use Rattle.mem_flash.specs.Slots.{cell_bytes}
 use Rattle.mem_flash.specs.declared.memory.MemFlash.TheInside.{Inside}
@@ -14,8 +14,10 @@ memory_of f = record {
   erases = f.erases;
   reads = f.reads;
   armed = f.armed;
+  extras = record { allowance = f.allowance; retired = f.retired };
 }
 
--- there is room for the contents and the spare area of a slot on each die
-abbrev pub HasCellRoom : Inside → Type 0
-HasCellRoom f = length f.room.items ≡ f.slots.shape.dies * cell_bytes f.slots.shape.page_bytes
+-- There is room for the contents and the spare area of a slot on each die, and no more blocks are retired than may be.
+pub record IsKept (f : Inside) : Type 0 where
+  pub room : length f.room.items ≡ f.slots.shape.dies * cell_bytes f.slots.shape.page_bytes
+  pub within : f.retired ≤ f.allowance

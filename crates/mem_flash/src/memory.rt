@@ -32,6 +32,10 @@ pub struct MemFlash {
     faults: u64,
     /// Room for a page and a spare area of each die, taken beforehand: no call of a flash takes memory.
     room: Vec<u8>,
+    /// Blocks that may be retired.
+    allowance: u32,
+    /// Blocks that are.
+    retired: u32,
 }
 
 impl Model for MemFlash {
@@ -39,15 +43,16 @@ impl Model for MemFlash {
 
     ghost Value = { MemoryState };
 
-    ghost use Rattle.mem_flash.specs.Standing.{memory_of, HasCellRoom};
+    ghost use Rattle.mem_flash.specs.Standing.{memory_of, IsKept};
 
     ghost view = { memory_of };
 
-    ghost invariant = { HasCellRoom };
+    ghost invariant = { IsKept };
 }
 
 impl MemFlash {
-    /// A flash of this shape. All its slots are blank, power is on, and nothing is armed.
+    /// A flash of this shape. All its slots are blank, power is on, nothing is armed, and no block may be
+    /// retired.
     pub fn new(alloc: Global, shape: Shape) -> Result<MemFlash, Memory>
         requires { IsShape shape }
         ensures { IfOk result (λ f. f ≡ blank_flash shape) }
@@ -59,8 +64,8 @@ impl MemFlash {
     }
 
     /// A flash of this shape whose slots read this way. `cells` has for each slot its contents and then its
-    /// spare area: all 0xff where it is blank, and all 0x00 where it is damaged. Power is on, and nothing is
-    /// armed.
+    /// spare area: all 0xff where it is blank, and all 0x00 where it is damaged. Power is on, nothing is
+    /// armed, and no block may be retired.
     pub fn from_slots(
         alloc: Global,
         shape: Shape,
@@ -87,6 +92,8 @@ impl MemFlash {
             reads: 0,
             faults: 0,
             room: vec![in alloc; 0; shape.dies as usize * cell_bytes(shape)]?,
+            allowance: 0,
+            retired: 0,
         })
     }
 

@@ -8,7 +8,7 @@ use Rattle.tx_types.specs.declared.config.Shape.{Shape}
 use Rattle.tx_types.specs.declared.config.BlockState.{BlockState}
 use Rattle.tx_types.specs.declared.config.BlockState.TheVariants as state
 use Rattle.flash_model.specs.Flash.{FlashState, slot_at}
-use Rattle.flash_model.specs.Operations.{Operation, erase, block_of, moment_of}
+use Rattle.flash_model.specs.Operations.{Operation, erase, WorksIn, moment_of}
 use Rattle.flash_model.specs.Moves.{Does, StayOff}
 use Rattle.flash_model.proofs.ImageLemmas.{slot_at-does}
 use Rattle.flash_model.proofs.MoveLemmas.{Does-append}
@@ -109,10 +109,10 @@ module _ (s s1 : FlashState) (n n1 : Noted) (t : BlockTable) (m : Matches s n t 
   off_spare k apart = by_case (is_blank_block n s.image t.spare)
     where
       by_case : (b : Bool) → StayOff s.shape (k / s.shape.pages_per_block) (if b then [] else erase t.spare ∷ [])
-      by_case true = all_from (λ o. block_of s.shape o ≢ k / s.shape.pages_per_block) [] (λ o i. absurd i)
-      by_case false = all_from (λ o. block_of s.shape o ≢ k / s.shape.pages_per_block) (erase t.spare ∷ [])
+      by_case true = all_from (λ o. WorksIn s.shape o (k / s.shape.pages_per_block) → ⊥) [] (λ o i. absurd i)
+      by_case false = all_from (λ o. WorksIn s.shape o (k / s.shape.pages_per_block) → ⊥) (erase t.spare ∷ [])
           (λ o i. elim i [
-            | inl e ↦ λ same. apart (sym same ∙ ap (block_of s.shape) (sym e))
+            | inl e ↦ λ same. apart (sym (subst (λ o'. WorksIn s.shape o' (k / s.shape.pages_per_block)) (sym e) same))
             | inr gone ↦ absurd gone
           ])
 

@@ -58,19 +58,19 @@ module _ (q : Protocol) (partial : PartialWriteLaw q) (completing : CompletingWr
     broken : Programs s s' at.0 bytes spare (Err x)
     broken = subst (Programs s s' at.0 bytes spare) err programs
 
-    torn_image : s'.image ≡ image_left s.shape s.image (program at.0 bytes (spelling n.config.protocol rec)) broken.torn.outcome
-    torn_image = broken.torn.image ∙ ap (λ sp. image_left s.shape s.image (program at.0 bytes sp) broken.torn.outcome) spells
+    torn_image : s'.image ≡ image_left s.shape s.image (program at.0 bytes (spelling n.config.protocol rec)) broken.torn.left.0
+    torn_image = broken.torn.left.1 ∙ ap (λ sp. image_left s.shape s.image (program at.0 bytes sp) broken.torn.left.0) spells
 
     torn_left : IsLeft s n t m at rec free take spelled bytes s'.image
     torn_left =
         subst (IsLeft s n t m at rec free take spelled bytes) (sym torn_image)
-        (is_left s n t m at rec free take spelled bytes image_partial image_completing broken.torn.outcome)
+        (is_left s n t m at rec free take spelled bytes image_partial image_completing broken.torn.left.0)
 
     -- it is not known what the slot holds
     pub torn_matches : Matches s' n t (unsure.Own at rec)
     torn_matches =
         left_unsure s n t m at rec free take spelled bytes s' broken.carries.shape
-        (subst (IsImage s.shape) (sym broken.torn.image) (IsImage-left s.shape s.image (program at.0 bytes spare) broken.torn.outcome m.flash can)) torn_left
+        (subst (IsImage s.shape) (sym broken.torn.left.1) (IsImage-left s.shape s.image (program at.0 bytes spare) broken.torn.left.0 m.flash can)) torn_left
 
     pub torn_slot : (its spare : List ℕ) → slot_at s'.image at.0 ≡ complete its spare → its ≡ bytes
     torn_slot = torn_left.slot

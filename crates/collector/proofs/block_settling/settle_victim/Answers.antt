@@ -13,8 +13,8 @@ returns-then-reading-clause-matches g c =
     c.requires.rule c.args.block c.requires.matches _ c.in_ok-reading.ensures.looks
     (sym c.in_ok-reading.ensures.as_noted ∙ c.if-reading.true)
 
-pub exchange-requires-clause-not_full : goal.exchange-requires-clause-not_full
-exchange-requires-clause-not_full g c =
+pub exchange-requires-clause-within : goal.exchange-requires-clause-within
+exchange-requires-clause-within g c =
     let low = few g.R.CommitRule.kept g.met.R.CommitRule.block_loss (g.F.Flash.state c.args.flash.now) (g.F.Flash.state c.read_block.new.flash) c.args.index.now c.args.blocks.now
     c.requires.rule c.args.block c.requires.matches _ c.in_ok-reading.ensures.looks in
     let used = c.records_held-used.ensures ∙ ap (records_held c.args.index.now) c.spare.ensures.spare in

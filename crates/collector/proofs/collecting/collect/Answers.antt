@@ -12,11 +12,6 @@ use Rattle.collector.proofs.BreakingOff.{copies_broke, victim_broke}
 use Rattle.collector.proofs.Collections.{unneeded_cleaned, first_of_spare, victim_moves, collects}
 use Rattle.collector.proofs.collecting.collect.Goals as goal
 
-pub copy_needed-requires-clause-unneeded : goal.copy_needed-requires-clause-unneeded
-copy_needed-requires-clause-unneeded g c =
-    unneeded_cleaned g.R.CommitRule.kept g.met.R.CommitRule.block_loss (g.F.Flash.state c.args.flash.now) c.args.index.now c.args.blocks.now c.args.unsure.now
-    c.requires.rule c.requires.matches c.clean_spare.new.index c.args.block.0 c.in_ok-clean_spare.ensures.noted c.requires.unneeded
-
 pub copy_needed-requires-clause-blank : goal.copy_needed-requires-clause-blank
 copy_needed-requires-clause-blank g c =
     first_of_spare g.R.CommitRule.kept g.met.R.CommitRule.block_loss (g.F.Flash.state c.args.flash.now) c.args.index.now c.args.blocks.now c.args.unsure.now
@@ -92,7 +87,9 @@ pub returns-in_err-used-clause-costs : goal.returns-in_err-used-clause-costs
 returns-in_err-used-clause-costs g c =
     on_err c.from_residual-in_err-used.result _
     (broken_costs (g.F.Flash.state c.args.flash.now) c.args.index.now c.clean_spare.new.index c.args.blocks.now c.args.unsure.now c.requires.matches c.in_ok-clean_spare.ensures.noted
-    (g.F.Flash.state c.clean_spare.new.flash) (g.F.Flash.state c.copy_needed.new.flash) c.in_ok-clean_spare.ensures.preserves.config c.in_ok-clean_spare.ensures.programs c.in_ok-clean_spare.ensures.erases c.in_err-used.ensures.costs)
+    (g.F.Flash.state c.clean_spare.new.flash) (g.F.Flash.state c.copy_needed.new.flash) c.in_ok-clean_spare.ensures.preserves.config c.in_ok-clean_spare.ensures.programs c.in_ok-clean_spare.ensures.erases (c.in_err-used.ensures.costs
+    (unneeded_cleaned g.R.CommitRule.kept g.met.R.CommitRule.block_loss (g.F.Flash.state c.args.flash.now) c.args.index.now c.args.blocks.now c.args.unsure.now
+    c.requires.rule c.requires.matches c.clean_spare.new.index c.args.block.0 c.in_ok-clean_spare.ensures.noted c.requires.unneeded)))
 
 pub returns-in_err-used-clause-records : goal.returns-in_err-used-clause-records
 returns-in_err-used-clause-records g c =
@@ -103,7 +100,9 @@ pub returns-in_err-used-clause-at_most : goal.returns-in_err-used-clause-at_most
 returns-in_err-used-clause-at_most g c =
     broken_at_most c.args.index.now.config.pages_per_block (g.F.Flash.state c.args.flash.now) (g.F.Flash.state c.copy_needed.new.flash)
     (broken_costs (g.F.Flash.state c.args.flash.now) c.args.index.now c.clean_spare.new.index c.args.blocks.now c.args.unsure.now c.requires.matches c.in_ok-clean_spare.ensures.noted
-    (g.F.Flash.state c.clean_spare.new.flash) (g.F.Flash.state c.copy_needed.new.flash) c.in_ok-clean_spare.ensures.preserves.config c.in_ok-clean_spare.ensures.programs c.in_ok-clean_spare.ensures.erases c.in_err-used.ensures.costs)
+    (g.F.Flash.state c.clean_spare.new.flash) (g.F.Flash.state c.copy_needed.new.flash) c.in_ok-clean_spare.ensures.preserves.config c.in_ok-clean_spare.ensures.programs c.in_ok-clean_spare.ensures.erases (c.in_err-used.ensures.costs
+    (unneeded_cleaned g.R.CommitRule.kept g.met.R.CommitRule.block_loss (g.F.Flash.state c.args.flash.now) c.args.index.now c.args.blocks.now c.args.unsure.now
+    c.requires.rule c.requires.matches c.clean_spare.new.index c.args.block.0 c.in_ok-clean_spare.ensures.noted c.requires.unneeded)))
 
 pub returns-clause-records : goal.returns-clause-records
 returns-clause-records g c =
@@ -118,14 +117,18 @@ pub returns-clause-costs : goal.returns-clause-costs
 returns-clause-costs g c =
     erase_broken c.args.index.now.config.pages_per_block (g.F.Flash.state c.args.flash.now) (g.F.Flash.state c.copy_needed.new.flash) (g.F.Flash.state c.erase_victim.new.flash) c.args.block.0
     (broken_costs (g.F.Flash.state c.args.flash.now) c.args.index.now c.clean_spare.new.index c.args.blocks.now c.args.unsure.now c.requires.matches c.in_ok-clean_spare.ensures.noted
-    (g.F.Flash.state c.clean_spare.new.flash) (g.F.Flash.state c.copy_needed.new.flash) c.in_ok-clean_spare.ensures.preserves.config c.in_ok-clean_spare.ensures.programs c.in_ok-clean_spare.ensures.erases c.in_ok-used.ensures.costs)
+    (g.F.Flash.state c.clean_spare.new.flash) (g.F.Flash.state c.copy_needed.new.flash) c.in_ok-clean_spare.ensures.preserves.config c.in_ok-clean_spare.ensures.programs c.in_ok-clean_spare.ensures.erases (c.in_ok-used.ensures.costs
+    (unneeded_cleaned g.R.CommitRule.kept g.met.R.CommitRule.block_loss (g.F.Flash.state c.args.flash.now) c.args.index.now c.args.blocks.now c.args.unsure.now
+    c.requires.rule c.requires.matches c.clean_spare.new.index c.args.block.0 c.in_ok-clean_spare.ensures.noted c.requires.unneeded)))
     c.erase_victim.result c.erase_victim.ensures.erases
 
 pub returns-clause-at_most : goal.returns-clause-at_most
 returns-clause-at_most g c =
     erase_costs c.args.index.now.config.pages_per_block (g.F.Flash.state c.args.flash.now) (g.F.Flash.state c.copy_needed.new.flash) (g.F.Flash.state c.erase_victim.new.flash) c.args.block.0
     (broken_costs (g.F.Flash.state c.args.flash.now) c.args.index.now c.clean_spare.new.index c.args.blocks.now c.args.unsure.now c.requires.matches c.in_ok-clean_spare.ensures.noted
-    (g.F.Flash.state c.clean_spare.new.flash) (g.F.Flash.state c.copy_needed.new.flash) c.in_ok-clean_spare.ensures.preserves.config c.in_ok-clean_spare.ensures.programs c.in_ok-clean_spare.ensures.erases c.in_ok-used.ensures.costs)
+    (g.F.Flash.state c.clean_spare.new.flash) (g.F.Flash.state c.copy_needed.new.flash) c.in_ok-clean_spare.ensures.preserves.config c.in_ok-clean_spare.ensures.programs c.in_ok-clean_spare.ensures.erases (c.in_ok-used.ensures.costs
+    (unneeded_cleaned g.R.CommitRule.kept g.met.R.CommitRule.block_loss (g.F.Flash.state c.args.flash.now) c.args.index.now c.args.blocks.now c.args.unsure.now
+    c.requires.rule c.requires.matches c.clean_spare.new.index c.args.block.0 c.in_ok-clean_spare.ensures.noted c.requires.unneeded)))
     c.erase_victim.result c.erase_victim.ensures.erases
 
 pub returns-in_err-used-clause-broken : goal.returns-in_err-used-clause-broken

@@ -10,7 +10,7 @@ use Rattle.collector.specs.Preserves.{KeepsArray}
 use Rattle.collector.proofs.Keeping.{keeps_array_then}
 use Rattle.collector.proofs.BreakingOff.{copying_broke}
 use Rattle.collector.proofs.BrokenCollections.{copying_no_new, copying_costs, copying_costs_torn, on_err}
-use Rattle.collector.proofs.CopyingBlocks.{copied_none, copied_passed, copied_taken, copied_all, at_within, next_of_spare, has_record}
+use Rattle.collector.proofs.CopyingBlocks.{copied_none, copied_passed, copied_taken, copied_all, fewer_slots, at_within, next_of_spare, has_record}
 use Rattle.collector.proofs.collecting.copy_needed.Goals.{then-needed+in_ok-copy_record, else-needed}
 use Rattle.collector.proofs.collecting.copy_needed.Goals as goal
 
@@ -94,7 +94,7 @@ returns-clause-copied g c =
     let same : c.config-pages.result.pages_per_block ≡ c.args.index.now.config.pages_per_block = ap (λ (k : Config). k.pages_per_block) c.config-pages.ensures.config in
     let start = ap (λ k. k * c.config-pages.result.pages_per_block) c.spare.ensures.spare ∙ ap (λ k. c.args.blocks.now.spare * k) same in
     copied_all g.R.CommitRule.kept c.args.index.now c.loop-at.index (g.F.Flash.state c.args.flash.now) (g.F.Flash.state c.loop-at.flash) c.args.blocks.now c.loop-at.unsure _ _ c.loop-at.at c.loop-at.used c.args.block.0
-    c.loop-at.invariant (ap (λ k. c.args.block.0 * k) same) start (omega (arith, c.loop-at-test.false, c.loop-at.auto.at-end, same)) c.requires.not_spare c.requires.unneeded
+    c.loop-at.invariant (ap (λ k. c.args.block.0 * k) same) start (omega (arith, c.loop-at-test.false, c.loop-at.auto.at-end, same)) c.requires.not_spare
 
 pub returns-in_err-copy_record-clause-records : goal.returns-in_err-copy_record-clause-records
 returns-in_err-copy_record-clause-records g c =
@@ -103,7 +103,7 @@ returns-in_err-copy_record-clause-records g c =
     c.loop-at.invariant)
 
 pub returns-in_err-copy_record-clause-costs : goal.returns-in_err-copy_record-clause-costs
-returns-in_err-copy_record-clause-costs g c =
+returns-in_err-copy_record-clause-costs g c = λ unneeded.
     let same : c.config-pages.result.pages_per_block ≡ c.args.index.now.config.pages_per_block = ap (λ (k : Config). k.pages_per_block) c.config-pages.ensures.config in
     copying_costs_torn g.R.CommitRule.kept c.args.index.now c.loop-at.index (g.F.Flash.state c.args.flash.now) (g.F.Flash.state c.loop-at.flash) c.args.blocks.now c.loop-at.unsure _ _ c.loop-at.at c.loop-at.used
     c.loop-at.invariant (let low = c.loop-at.invariant.within in omega (arith, low, c.loop-at-test.true, c.loop-at.auto.at, same))
@@ -115,13 +115,13 @@ returns-clause-records g c =
     c.loop-at.invariant
 
 pub returns-clause-costs : goal.returns-clause-costs
-returns-clause-costs g c =
+returns-clause-costs g c = λ unneeded.
     let same : c.config-pages.result.pages_per_block ≡ c.args.index.now.config.pages_per_block = ap (λ (k : Config). k.pages_per_block) c.config-pages.ensures.config in
     let start = ap (λ k. k * c.config-pages.result.pages_per_block) c.spare.ensures.spare ∙ ap (λ k. c.args.blocks.now.spare * k) same in
-    let done = copied_all g.R.CommitRule.kept c.args.index.now c.loop-at.index (g.F.Flash.state c.args.flash.now) (g.F.Flash.state c.loop-at.flash) c.args.blocks.now c.loop-at.unsure _ _ c.loop-at.at c.loop-at.used c.args.block.0
-    c.loop-at.invariant (ap (λ k. c.args.block.0 * k) same) start (omega (arith, c.loop-at-test.false, c.loop-at.auto.at-end, same)) c.requires.not_spare c.requires.unneeded in
     copying_costs g.R.CommitRule.kept c.args.index.now c.loop-at.index (g.F.Flash.state c.args.flash.now) (g.F.Flash.state c.loop-at.flash) c.args.blocks.now c.loop-at.unsure _ _ c.loop-at.at c.loop-at.used
-    c.loop-at.invariant (let few = done.filled.within in let config = c.loop-at.invariant.preserves.config in omega (arith, few, ap (λ (k : Config). k.pages_per_block) config))
+    c.loop-at.invariant
+    (fewer_slots g.R.CommitRule.kept c.args.index.now c.loop-at.index (g.F.Flash.state c.args.flash.now) (g.F.Flash.state c.loop-at.flash) c.args.blocks.now c.loop-at.unsure _ _ c.loop-at.at c.loop-at.used c.args.block.0
+    c.loop-at.invariant (ap (λ k. c.args.block.0 * k) same) start (omega (arith, c.loop-at-test.false, c.loop-at.auto.at-end, same)) c.requires.not_spare unneeded)
 
 pub returns-in_err-copy_record-clause-broken : goal.returns-in_err-copy_record-clause-broken
 returns-in_err-copy_record-clause-broken g c =

@@ -1,5 +1,5 @@
 use Rattle.std.proofs.Common.{sym, ◌∙◌}
-use Rattle.cut_replay.proofs.Begun.{begin_begins, begin_faults, begun_kept, none_counted}
+use Rattle.cut_replay.proofs.Begun.{begin_begins, begin_faults, begun_kept, begun_extras, none_counted}
 use Rattle.cut_replay.proofs.serving.begin.Goals as goal
 
 pub returns-then-live-clause-begins : goal.returns-then-live-clause-begins
@@ -13,3 +13,6 @@ returns-else-live-clause-faults g c = none_counted (g.F.Flash.state c.args.flash
 
 pub returns-then-live-clause-kept : goal.returns-then-live-clause-kept
 returns-then-live-clause-kept g c = begun_kept g.F.Flash.state c.args.config c.args.flash c.mount.result c.mount.ensures.mounted
+
+pub returns-then-live-clause-extras : goal.returns-then-live-clause-extras
+returns-then-live-clause-extras g c = begun_extras g.F.Flash.state c.args.config c.args.flash c.mount.result c.mount.ensures.mounted

@@ -1,7 +1,7 @@
-use Rattle.std.proofs.Common.{refl}
+use Rattle.std.proofs.Common.{refl, ◌∙◌}
 use Rattle.cut_replay.specs.Sessions.{flash_in}
 use Rattle.cut_replay.proofs.Progress.{moment_stays}
-use Rattle.cut_replay.proofs.Begun.{rooms_ended, begin_ended, begin_refused, begin_shape, same_shape, unsound_unserved, begin_unsound}
+use Rattle.cut_replay.proofs.Begun.{rooms_ended, begin_ended, begin_refused, begin_shape, begin_extras, same_shape, unsound_unserved, begin_unsound}
 use Rattle.cut_replay.proofs.serving.serve.Goals as goal
 
 pub returns-in_default-clause-serves : goal.returns-in_default-clause-serves
@@ -47,3 +47,10 @@ returns-clause-refuses g c =
 pub returns-clause-shape : goal.returns-clause-shape
 returns-clause-shape g c =
     begin_shape g.F.Flash.state c.args.config c.args.flash c.in-Err.ended.flash c.in-Err.ended.why c.in-Err.ensures.failed
+
+pub returns-in-Ok-begin-clause-extras : goal.returns-in-Ok-begin-clause-extras
+returns-in-Ok-begin-clause-extras g c = c.serve_all.ensures.extras ∙ c.in-Ok-begin.ensures.extras
+
+pub returns-clause-extras : goal.returns-clause-extras
+returns-clause-extras g c =
+    begin_extras g.F.Flash.state c.args.config c.args.flash c.in-Err.ended.flash c.in-Err.ended.why c.in-Err.ensures.failed

@@ -19,6 +19,7 @@ loop-command-init g c = record {
   room = c.requires.room;
   served = λ init begins. served_none g.F.Flash.state c.args.config init c.args.session (record { text = g.W.Watch.text c.args.out.now; kept = g.W.Watch.kept c.args.out.now }) begins;
   kept = λ init kept. kept;
+  extras = refl;
   unsound = λ init unsound same counted. unmounted_none init (g.F.Flash.state (flash_in c.args.session)) (record { text = g.W.Watch.text c.args.out.now; kept = g.W.Watch.kept c.args.out.now }) same counted;
 }
 
@@ -86,6 +87,7 @@ loop-command-preserved g c =
           (subst (λ flash. Grew between.kept after.kept (record { text = text_of c.in-Ok.reply; moment = moment_of (state flash) } ∷ [])) c.flash.ensures kept));
       kept = λ init kept. kept_more its init (state (flash_in c.loop-command.session)) (state (flash_in c.in-Ok.next))
           (c.loop-command.invariant.kept init kept) c.in-Ok.ensures.serves.kept;
+      extras = c.in-Ok.ensures.serves.extras ∙ c.loop-command.invariant.extras;
       unsound = λ init unsound same counted.
           let text = on_ok _ c.tell.result told c.tell.ensures.text in
           let kept = on_ok _ c.tell.result told c.tell.ensures.kept in
@@ -137,3 +139,14 @@ pub returns-clause-shape : goal.returns-clause-shape
 returns-clause-shape g c =
     subst (λ flash. checked c.args.config ≡ Ok (g.F.Flash.state flash).shape) (sym c.close-2.ensures)
     (fits_shape g.F.Flash.state c.args.config c.loop-command.cache.entries c.loop-command.session c.loop-command.invariant.fits)
+
+pub returns-then-is_err-clause-extras : goal.returns-then-is_err-clause-extras
+returns-then-is_err-clause-extras g c =
+    ap (λ flash. (g.F.Flash.state flash).extras) c.close.ensures
+    ∙ c.in-Ok.ensures.serves.extras ∙ c.loop-command.invariant.extras
+
+pub returns-in-Err-clause-extras : goal.returns-in-Err-clause-extras
+returns-in-Err-clause-extras g c = c.in-Err.ensures.ends.extras ∙ c.loop-command.invariant.extras
+
+pub returns-clause-extras : goal.returns-clause-extras
+returns-clause-extras g c = ap (λ flash. (g.F.Flash.state flash).extras) c.close-2.ensures ∙ c.loop-command.invariant.extras
