@@ -1,6 +1,7 @@
 -- The page and the contents that an entry gives.
-use Rattle.std.proofs.Common.{◌≡◌, ℕ, ◌+◌, ◌*◌, ◌/◌, ◌<◌, ◌≤◌, ◌≢◌, true, false, ◌⊎◌, inl, inr, List, [], length, take, drop, refl, ◌∙◌, arith, Some, None, Result, Ok, Err}
+use Rattle.std.proofs.Common.{◌≡◌, ℕ, ◌+◌, ◌*◌, ◌/◌, ◌<◌, ◌≤◌, ◌≢◌, true, false, ◌⊎◌, inl, inr, List, [], ◌∷◌, length, take, drop, refl, ap, ◌∙◌, arith, Some, None, Result, Ok, Err}
 use Rattle.std.specs.Prelude.{position, codes}
+use Rattle.std.specs.List.{slice_split}
 use Rattle.std.specs.Str.{bytes_eq}
 use Rattle.std.proofs.lemmas.Bool.{le-leb, lt-leb}
 use Rattle.hex.proofs.HexLemmas.{decode_of-ok}
@@ -9,29 +10,45 @@ use Rattle.hex.specs.declared.error.FromHexError.{FromHexError}
 use Rattle.hex.specs.declared.error.FromHexError.TheVariants.{OutOfMemory, InvalidHexCharacter, OddLength, InvalidStringLength}
 use Rattle.host_protocol.specs.Reading.{Fails, error_of}
 use Rattle.tx_types.specs.Batch.{padded}
-use Rattle.host_protocol.specs.Commands.{page_contents, contents_from, page_write_of, write_of_texts, is_equals}
+use Rattle.host_protocol.specs.Commands.{page_contents, contents_from, page_write_of, page_write_from, write_of_texts, is_equals}
 use Rattle.host_protocol.proofs.PartLemmas.{parts, split_some, split_none}
 
--- a word without an equals sign is no entry
-pub entry_none : (size : ℕ) (word : List ℕ) → position is_equals word ≡ None → page_write_of size word ≡ None
-unfolding page_write_of
-entry_none size word h = rw (split_none is_equals word h) refl
+-- a word without an equals sign has no two parts
+pub parts_none : (word : List ℕ) → position is_equals word ≡ None → (x y : List ℕ) → slice_split is_equals word ≢ x ∷ y ∷ []
+parts_none word h x y two = let one = split_none is_equals word h in absurd (cc)
 
--- nor is one with two
-pub entry_many : (size : ℕ) (word : List ℕ) (i j : ℕ) → position is_equals word ≡ Some i → position is_equals (drop (i + 1) word) ≡ Some j
-    → page_write_of size word ≡ None
-unfolding page_write_of
-entry_many size word i j first second =
+-- nor has one with two
+pub parts_many : (word : List ℕ) (i j : ℕ) → position is_equals word ≡ Some i → position is_equals (drop (i + 1) word) ≡ Some j
+    → (x y : List ℕ) → slice_split is_equals word ≢ x ∷ y ∷ []
+parts_many word i j first second x y two =
     let text = drop (i + 1) word in
     let more = parts is_equals (drop (j + 1) text) in
-    rw (split_some is_equals word i first, split_some is_equals text j second, more.all) refl
+    let three = rw (split_some is_equals word i first, split_some is_equals text j second, more.all) at two in
+    absurd (cc)
 
--- one equals sign stands between the page and its contents
-pub entry_one : (size : ℕ) (word : List ℕ) (i : ℕ) → position is_equals word ≡ Some i → position is_equals (drop (i + 1) word) ≡ None
-    → page_write_of size word ≡ write_of_texts size (take i word) (drop (i + 1) word)
-unfolding page_write_of
-entry_one size word i first second =
+-- one equals sign stands between two parts
+pub parts_one : (word : List ℕ) (i : ℕ) → position is_equals word ≡ Some i → position is_equals (drop (i + 1) word) ≡ None
+    → slice_split is_equals word ≡ take i word ∷ drop (i + 1) word ∷ []
+parts_one word i first second =
     rw (split_some is_equals word i first, split_none is_equals (drop (i + 1) word) second) refl
+
+-- two parts are the page and its contents
+pub entry_parts : (size : ℕ) (word page text : List ℕ) → slice_split is_equals word ≡ page ∷ text ∷ []
+    → page_write_of size word ≡ write_of_texts size page text
+unfolding page_write_of
+entry_parts size word page text two = ap (page_write_from size) two
+
+from_others : (size : ℕ) (parts : List (List ℕ)) → ((x y : List ℕ) → parts ≢ x ∷ y ∷ []) → page_write_from size parts ≡ None
+from_others size [] other = refl
+from_others size (x ∷ []) other = refl
+from_others size (x ∷ y ∷ []) other = absurd (other x y refl)
+from_others size (x ∷ y ∷ z ∷ more) other = refl
+
+-- and where there are not two, it is no entry
+pub entry_others : (size : ℕ) (word : List ℕ) → ((x y : List ℕ) → slice_split is_equals word ≢ x ∷ y ∷ [])
+    → page_write_of size word ≡ None
+unfolding page_write_of
+entry_others size word other = from_others size (slice_split is_equals word) other
 
 pub contents_dash : (size : ℕ) (text : List ℕ) → bytes_eq text (codes "-") ≡ true → page_contents size text ≡ Some (padded size [])
 unfolding page_contents

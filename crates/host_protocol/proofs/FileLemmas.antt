@@ -94,10 +94,12 @@ pub add_line : (size : ℕ) (lines : List (List ℕ)) (line : List ℕ) (command
     → entries_left + sum_by entries_in commands ≡ MAX_ENTRIES → AreCommands size lines commands
     → AreCommands size (lines ++ line ∷ []) (commands ++ option_to_list found)
 add_line size lines line commands entries_left None idle adds left good =
-    rw append-nil (record { each = rw (filter_idle lines line idle) good.each; most_commands = good.most_commands; most_entries = good.most_entries })
+    rw append-nil (record { all = record { each = rw (filter_idle lines line idle) good.all.each; most_commands = good.all.most_commands }; most_entries = good.most_entries })
 add_line size lines line commands entries_left (Some what) idle adds left good = record {
-  each = rw (filter_more lines line adds.asks) (zip_more (IsCommand size) (filter is_command_line lines) commands line what good.each adds.is);
-  most_commands = let h = adds.one_more in omega (arith, length-append {A = Command});
+  all = record {
+    each = rw (filter_more lines line adds.asks) (zip_more (IsCommand size) (filter is_command_line lines) commands line what good.all.each adds.is);
+    most_commands = let h = adds.one_more in omega (arith, length-append {A = Command});
+  };
   most_entries = let h = adds.within in rw (sum_by_push entries_in commands what) (omega arith);
 }
 
@@ -118,10 +120,10 @@ pub add_none : (size : ℕ) (lines : List (List ℕ)) (line : List ℕ) (command
     → AddsNone size line (length commands) entries_left → entries_left + sum_by entries_in commands ≡ MAX_ENTRIES → AreCommands size lines commands
     → (others : List Command) → AreCommands size (lines ++ line ∷ []) others → ⊥
 add_none size lines line commands entries_left none left good others all =
-    let each = rw (filter_more lines line none.asks) at all.each in
+    let each = rw (filter_more lines line none.asks) at all.all.each in
     let parts = zip_front (IsCommand size) (filter is_command_line lines) (line ∷ []) others each in
-    let before : parts.front ≡ commands = zip_same (IsCommand size) (one_command size) (filter is_command_line lines) parts.front commands parts.fronts good.each in
-    last_past size line commands entries_left none left parts.back parts.backs (rw (parts.whole, before) at all.most_commands) (rw (parts.whole, before) at all.most_entries)
+    let before : parts.front ≡ commands = zip_same (IsCommand size) (one_command size) (filter is_command_line lines) parts.front commands parts.fronts good.all.each in
+    last_past size line commands entries_left none left parts.back parts.backs (rw (parts.whole, before) at all.all.most_commands) (rw (parts.whole, before) at all.most_entries)
 
 -- ---- the whole file
 
@@ -130,11 +132,11 @@ pub good_shorter : (size : ℕ) (bytes : List ℕ) (n m : ℕ) → n ≤ m → A
 good_shorter size bytes n m le (commands, good) =
     let all = lines_of bytes in
     let whole : take n all ++ drop n (take m all) ≡ take m all = rw (take_shorter n m all le) at (take-append-drop n (take m all)) in
-    let each = rw (← whole, filter-append) at good.each in
+    let each = rw (← whole, filter-append) at good.all.each in
     let parts = zip_front (IsCommand size) (filter is_command_line (take n all)) (filter is_command_line (drop n (take m all))) commands each in
-    let most = rw parts.whole at good.most_commands in
+    let most = rw parts.whole at good.all.most_commands in
     let entries = rw (parts.whole, sum_by-append entries_in parts.front parts.back) at good.most_entries in
-    (parts.front, record { each = parts.fronts; most_commands = omega (arith, length-append {A = Command}); most_entries = omega arith })
+    (parts.front, record { all = record { each = parts.fronts; most_commands = omega (arith, length-append {A = Command}) }; most_entries = omega arith })
 
 -- a file of commands has no bad line
 pub file_bad : (size : ℕ) (bytes : List ℕ) (commands : List Command) (n : ℕ) → IsFile size bytes commands → IsFirstBad size bytes n → ⊥
@@ -144,7 +146,7 @@ file_bad size bytes commands n file bad =
 
 -- a file is one list of commands
 pub file_same : (size : ℕ) (bytes : List ℕ) (commands others : List Command) → IsFile size bytes commands → IsFile size bytes others → commands ≡ others
-file_same size bytes commands others a b = zip_same (IsCommand size) (one_command size) (filter is_command_line (lines_of bytes)) commands others a.each b.each
+file_same size bytes commands others a b = zip_same (IsCommand size) (one_command size) (filter is_command_line (lines_of bytes)) commands others a.all.each b.all.each
 
 -- a file has one first bad line
 pub first_same : (size : ℕ) (bytes : List ℕ) (m n : ℕ) → IsFirstBad size bytes m → IsFirstBad size bytes n → m ≡ n

@@ -21,25 +21,37 @@ abbrev pub entries_in : Command → ℕ
 entries_in (command.Write tag batch) = length batch.entries
 entries_in _ = 0
 
+-- each line that is neither blank nor a comment is one of these, in order, and there are so many of them at most
+pub record AreLines {A : Type 0} (IsOne : List ℕ → A → Type 0) (lines : List (List ℕ))
+    (commands : List A) : Type 0 where
+  pub each : AllZip IsOne (filter is_command_line lines) commands
+  pub most_commands : length commands ≤ MAX_COMMANDS
+
 -- the lines are these commands, within the limits of a file
 pub record AreCommands (page_bytes : ℕ) (lines : List (List ℕ))
     (commands : List Command) : Type 0 where
-  pub each : AllZip (IsCommand page_bytes) (filter is_command_line lines) commands
-  pub most_commands : length commands ≤ MAX_COMMANDS
+  pub all : AreLines (IsCommand page_bytes) lines commands
   pub most_entries : sum_by entries_in commands ≤ MAX_ENTRIES
 
 -- the bytes are a file of these commands, for pages of this many bytes
 abbrev pub IsFile : ℕ → List ℕ → List Command → Type 0
 IsFile page_bytes bytes commands = AreCommands page_bytes (lines_of bytes) commands
 
--- the first so many lines of the bytes are commands
-abbrev pub AreGood : ℕ → List ℕ → ℕ → Type 0
-AreGood page_bytes bytes n =
-    (commands : List Command) × AreCommands page_bytes (take n (lines_of bytes)) commands
+-- the first so many lines of the bytes are some commands, by what it is to be commands
+abbrev pub AreGoodLines : {A : Type 0} → (List (List ℕ) → List A → Type 0) → List ℕ → ℕ → Type 0
+AreGoodLines {A = A} Are bytes n = (commands : List A) × Are (take n (lines_of bytes)) commands
 
 -- the line of this number, from 1, is the first with which the lines are no commands
-pub record IsFirstBad (page_bytes : ℕ) (bytes : List ℕ) (n : ℕ) : Type 0 where
+pub record IsFirstBadLine {A : Type 0} (Are : List (List ℕ) → List A → Type 0) (bytes : List ℕ)
+    (n : ℕ) : Type 0 where
   pub least : 1 ≤ n
   pub most : n ≤ length (lines_of bytes)
-  pub before : AreGood page_bytes bytes (n - 1)
-  pub bad : ¬ AreGood page_bytes bytes n
+  pub before : AreGoodLines Are bytes (n - 1)
+  pub bad : ¬ AreGoodLines Are bytes n
+
+-- the same of the commands for pages of this many bytes
+abbrev pub AreGood : ℕ → List ℕ → ℕ → Type 0
+AreGood page_bytes bytes n = AreGoodLines (AreCommands page_bytes) bytes n
+
+abbrev pub IsFirstBad : ℕ → List ℕ → ℕ → Type 0
+IsFirstBad page_bytes bytes n = IsFirstBadLine (AreCommands page_bytes) bytes n

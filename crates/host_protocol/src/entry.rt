@@ -1,4 +1,5 @@
-ghost use Rattle.std.specs.Prelude.{◌≡◌, ◌≤◌, ℕ, length, position, IfOk, IfSome, IfNone};
+ghost use Rattle.std.specs.Prelude.{◌≡◌, ◌≢◌, ◌≤◌, ◌∷◌, [], ℕ, List, length, position, IfOk, IfSome, IfNone};
+ghost use Rattle.std.specs.List.{slice_split};
 ghost use Rattle.tx_types.specs.Batch.{padded};
 ghost use Rattle.host_protocol.specs.Commands.{page_contents, page_write_of, write_of_texts, is_equals};
 ghost use Rattle.host_protocol.specs.Reading.{AnswersAs};
@@ -13,17 +14,31 @@ pub fn entry(alloc: Global, word: &[u8], page_bytes: u32) -> Result<(u32, Vec<u8
         result (page_write_of page_bytes word.now) }
     ensures within { IfOk result (λ e. length e.1.items ≤ page_bytes) }
 {
-    let (page, text) = around_equals(word).ok_or(LineError::Bad)?;
+    let (page, text) = texts(word).ok_or(LineError::Bad)?;
     let page = number(page).ok_or(LineError::Bad)?;
     let bytes = contents(alloc, text, page_bytes)?;
     Ok((page, bytes))
 }
 
-/// The two parts of an entry around its one equals sign.
-fn around_equals(word: &[u8]) -> Option<(&[u8], &[u8])>
+/// The texts of the page and of the contents that an entry gives.
+#[tactic(auto, using(crate::proofs::EntryLemmas::entry_parts, crate::proofs::EntryLemmas::entry_others))]
+fn texts(word: &[u8]) -> Option<(&[u8], &[u8])>
     ensures some { IfSome result (λ f. (size : ℕ) →
         page_write_of size word.now ≡ write_of_texts size f.0.now f.1.now) }
     ensures none { IfNone result ((size : ℕ) → page_write_of size word.now ≡ None) }
+{
+    match around_equals(word) {
+        Some((page, text)) => Some((page, text)),
+        None => None,
+    }
+}
+
+/// The two parts of a word around its one equals sign.
+pub fn around_equals(word: &[u8]) -> Option<(&[u8], &[u8])>
+    ensures some { IfSome result (λ parts.
+        slice_split is_equals word.now ≡ parts.0.now ∷ parts.1.now ∷ []) }
+    ensures none { IfNone result ((first second : List ℕ) →
+        slice_split is_equals word.now ≢ first ∷ second ∷ []) }
 {
     let place = first_equals(word)?;
     let (page, text) = (&word[..place], &word[place + 1..]);

@@ -15,11 +15,13 @@ mod verb;
 mod words;
 
 pub use command::Command;
+pub use entry::around_equals;
 pub use error::TextError;
 pub use file::{MAX_COMMANDS, MAX_ENTRIES, MAX_FILE_BYTES, parse};
 pub use laws::{files_tell_commands, lines_are_short, lines_tell_replies};
 pub use lines::first_line;
 pub use numbers::number;
+pub use operands::{arm, no_word};
 pub use reply::{Reply, reply_text};
 pub use words::first_word;
 

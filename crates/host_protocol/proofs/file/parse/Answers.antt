@@ -59,4 +59,4 @@ pub returns-clause-first : goal.returns-clause-first
 returns-clause-first c = λ n bad. file_bad c.args.page_bytes c.args.bytes.now c.loop-line.commands.items n (whole c) bad
 
 pub returns-clause-suits : goal.returns-clause-suits
-returns-clause-suits c = file_suits c.args.page_bytes (filter is_command_line (lines_of c.args.bytes.now)) c.loop-line.commands.items (whole c).each
+returns-clause-suits c = file_suits c.args.page_bytes (filter is_command_line (lines_of c.args.bytes.now)) c.loop-line.commands.items (whole c).all.each
