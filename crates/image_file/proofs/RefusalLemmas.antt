@@ -4,7 +4,7 @@ use Rattle.std.specs.Option.{option_or, option_map_or}
 use Rattle.std.proofs.lemmas.Bool.{eq-eqb}
 use Rattle.tx_types.specs.Config.{image_bytes}
 use Rattle.tx_types.specs.declared.config.Config.{Config}
-use Rattle.flash_model.specs.Flash.{Contents}
+use Rattle.flash_model.specs.Flash.{Contents, no_extras}
 use Rattle.mem_flash.specs.Slots.{cell_bytes}
 use Rattle.image_file.specs.Spelling.{Spells}
 use Rattle.image_file.specs.Rules.{config_in, image_in, reading, shape_in, states_in, cells_in, all_seen, wrong_state, wrong_bytes, number_at, broken_header, broken_slots, first_broken, IsRefusal}
@@ -61,5 +61,5 @@ pub nothing_broken : (bytes : List ℕ) → broken_header bytes ≡ None → bro
 unfolding first_broken
 nothing_broken bytes header slots = ap (λ o. option_or o (broken_slots bytes)) header ∙ slots
 
-pub reading-read : (bytes : List ℕ) → first_broken bytes ≡ None → reading bytes ≡ Ok (config_in bytes, image_in bytes)
-reading-read bytes none = ap (λ o. option_map_or Err o (Ok (config_in bytes, image_in bytes))) none
+pub reading-read : (bytes : List ℕ) → first_broken bytes ≡ None → reading bytes ≡ Ok (config_in bytes, image_in bytes, no_extras)
+reading-read bytes none = ap (λ o. option_map_or Err o (Ok (config_in bytes, image_in bytes, no_extras))) none

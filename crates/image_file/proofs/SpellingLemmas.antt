@@ -10,7 +10,7 @@ use Rattle.tx_types.specs.declared.config.Config.{Config}
 use Rattle.tx_types.specs.declared.config.Shape.{Shape}
 use Rattle.tx_types.proofs.ConfigLemmas.{checked_config}
 use Rattle.flash_model.specs.declared.flash.Seen.{Seen}
-use Rattle.flash_model.specs.Flash.{Contents, IsImage}
+use Rattle.flash_model.specs.Flash.{Contents, IsImage, Extras, no_extras}
 use Rattle.flash_model.specs.Calls.{seen_of}
 use Rattle.mem_flash.specs.Slots.{cell_bytes, cell_of}
 use Rattle.mem_flash.proofs.Images.{length-image_of, All-image_of}
@@ -170,7 +170,7 @@ module _ (c : Config) (image : List Contents) (can : CanBeSpelled c image) where
   pub first_broken-spelling : first_broken spelled ≡ None
   first_broken-spelling = none_broken spelled HeaderHolds-spelling SlotsHold-spelling
 
-  pub reading-spelling : reading spelled ≡ Ok (c, image)
+  pub reading-spelling : reading spelled ≡ Ok (c, image, no_extras)
   reading-spelling = rw (first_broken-spelling, config_in-spelling, image_in-spelling) refl
 
 -- ---- both ways
@@ -203,15 +203,15 @@ spelling-injective c d a b can_a can_b same = (
 )
 
 -- what is read from bytes is what they spell
-pub reading-iff : (bytes : List ℕ) (c : Config) (image : List Contents) → AreBytes bytes → (reading bytes ≡ Ok (c, image)) ↔ Spells bytes c image
+pub reading-iff : (bytes : List ℕ) (c : Config) (image : List Contents) → AreBytes bytes → (reading bytes ≡ Ok (c, image, no_extras)) ↔ Spells bytes c image
 reading-iff bytes c image fits = (
   λ h.
-      let read : Config × List Contents = (config_in bytes, image_in bytes) in
-      let P : Option ImageError → Type 0 = λ broken. first_broken bytes ≡ broken → option_map_or Err broken (Ok read) ≡ Ok (c, image) → Spells bytes c image in
+      let read : Config × List Contents × Extras = (config_in bytes, image_in bytes, no_extras) in
+      let P : Option ImageError → Type 0 = λ broken. first_broken bytes ≡ broken → option_map_or Err broken (Ok read) ≡ Ok (c, image, no_extras) → Spells bytes c image in
       let cases : P (first_broken bytes) = elim (first_broken bytes) as P [
         | None ↦ λ none found.
-            let pair : read ≡ (c, image) = cc in
-            subst (λ (p : Config × List Contents). Spells bytes p.0 p.1) pair (read_spelled bytes fits none)
+            let same : read ≡ (c, image, no_extras) = cc in
+            subst (λ (p : Config × List Contents × Extras). Spells bytes p.0 p.1) same (read_spelled bytes fits none)
         | Some e ↦ λ _ found. absurd cc
       ] in
       cases refl h,

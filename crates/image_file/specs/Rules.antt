@@ -13,7 +13,7 @@ use Rattle.tx_types.specs.declared.config.Protocol.{Protocol}
 use Rattle.tx_types.specs.declared.config.Protocol.TheVariants.{Scc, Bpcc}
 use Rattle.flash_model.specs.declared.flash.Seen.{Seen}
 use Rattle.flash_model.specs.declared.flash.Seen.TheVariants.{Blank, Complete, Damaged}
-use Rattle.flash_model.specs.Flash.{Contents}
+use Rattle.flash_model.specs.Flash.{Contents, Extras, no_extras}
 use Rattle.lane_scan.specs.Scans.{all_equal}
 use Rattle.mem_flash.specs.Slots.{cell_bytes, image_of}
 use Rattle.image_file.specs.declared.error.ImageError.{ImageError}
@@ -124,9 +124,10 @@ first_broken bytes = option_or (broken_header bytes) (broken_slots bytes)
 
 -- ---- what a reading answers
 
--- the configuration and the slots, or the first rule that is broken
-abbrev pub reading : List ℕ → Result (Config × List Contents) ImageError
-reading bytes = option_map_or Err (first_broken bytes) (Ok (config_in bytes, image_in bytes))
+-- the configuration, the slots, and that no block may be retired; or the first rule that is broken
+abbrev pub reading : List ℕ → Result (Config × List Contents × Extras) ImageError
+reading bytes =
+    option_map_or Err (first_broken bytes) (Ok (config_in bytes, image_in bytes, no_extras))
 
 -- want of memory, or this rule and no other
 abbrev pub IsRefusal : Option ImageError → ImageError → Type 0

@@ -30,7 +30,7 @@ pub fn read_image(alloc: Global, bytes: &[u8]) -> Result<(Config, MemFlash), Ima
         × IfOk result (λ r. (r.0 ≡ config) × (r.1 ≡ fresh (shape_of config) image)) }
 
     // Both answers as functions of the bytes: the error is the first rule that is broken.
-    ensures found { IfOk result (λ r. reading bytes.now ≡ Ok (r.0, r.1.image)) }
+    ensures found { IfOk result (λ r. reading bytes.now ≡ Ok (r.0, r.1.image, r.1.extras)) }
     ensures error { IfErr result (IsRefusal (first_broken bytes.now)) }
 {
     let (config, shape) = read_header(bytes)?;

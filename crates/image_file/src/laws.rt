@@ -2,7 +2,7 @@
 ghost use Rattle.std.specs.Prelude.{◌≡◌, ◌↔◌, ◌<◌, ℕ, List, length, All, Ok};
 ghost use Rattle.tx_types.specs.Config.{shape_of, image_bytes};
 ghost use Rattle.tx_types.specs.declared.config.Config.{Config};
-ghost use Rattle.flash_model.specs.Flash.{Contents};
+ghost use Rattle.flash_model.specs.Flash.{Contents, no_extras};
 ghost use Rattle.image_file.specs.Spelling.{spelling, CanBeSpelled, Spells};
 ghost use Rattle.image_file.specs.Rules.{reading};
 
@@ -19,5 +19,5 @@ pub fn one_spelling()
 pub fn spelled_images()
     ensures { (bytes : List ℕ) (config : Config) (image : List Contents) →
         All (λ b. b < 256) bytes →
-        (reading bytes ≡ Ok (config, image)) ↔ Spells bytes config image }
+        (reading bytes ≡ Ok (config, image, no_extras)) ↔ Spells bytes config image }
 {}

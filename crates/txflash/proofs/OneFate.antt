@@ -3,7 +3,7 @@ use Rattle.std.proofs.Common.{◌≡◌, inl, inr, ℕ, List, Option, None, Some
 use Rattle.std.specs.Prelude.{IfSome, IsSome}
 use Rattle.tx_types.specs.declared.config.Config.{Config}
 use Rattle.tx_types.specs.Config.{shape_of}
-use Rattle.flash_model.specs.Flash.{Contents}
+use Rattle.flash_model.specs.Flash.{Contents, Extras}
 use Rattle.record_list.specs.declared.found.Breach.{Breach}
 use Rattle.host_protocol.specs.declared.command.Command.{Command}
 use Rattle.host_protocol.proofs.FileLemmas.{file_bad, file_same, first_same}
@@ -11,7 +11,7 @@ use Rattle.image_file.specs.declared.error.ImageError.{ImageError}
 use Rattle.desk_io.specs.Desk as found
 use Rattle.desk_io.specs.Desk.{DeskContents, DeskState, FileFound, Finds, file_at, file_found}
 use Rattle.txflash.specs.Fate.{Fate}
-use Rattle.txflash.specs.Steps.{AfterLoad, AfterOpening, AfterParsing, AfterReading, Explaining, IsFate, Loading, OpensAndServes, Opens, Parses, Parsing, Reading, Running, Trying}
+use Rattle.txflash.specs.Steps.{AfterLoad, AfterOpening, AfterParsing, AfterReading, Explaining, IsFate, Loading, OpensAndServes, Opens, Parses, Parsing, Reading, Running, Trying, WithoutLoad}
 use Rattle.txflash.specs.Top.{TellsFate}
 use Rattle.txflash.specs.Words.{Asked, Try, Format, Run, Explain, Drive}
 use Rattle.txflash.proofs.Sound.{breach_one, sound_unbroken}
@@ -40,11 +40,12 @@ one_reading : (bytes : List ℕ) (next : Config → List Contents → Fate → T
     ((its : Config) (image : List Contents) (a b : Fate) → next its image a → next its image b → a ≡ b) →
     (a b : Fate) → Reading bytes next a → Reading bytes next b → a ≡ b
 one_reading bytes next one a b h k =
-    after k.0 (subst (λ read. AfterReading next read a) (sym h.1.0 ∙ k.1.0) h.2) k.2
+    after k.0 (subst (λ read. AfterReading (λ its image. WithoutLoad (next its image)) read a 0) (sym h.1.0 ∙ k.1.0) h.2) k.2
   where
-    after : (read : Result (Config × List Contents) ImageError) → AfterReading next read a → AfterReading next read b → a ≡ b
-    after (Ok read) h k = one read.0 read.1 a b h k
-    after (Err rule) h k = h ∙ sym k
+    after : (read : Result (Config × List Contents × Extras) ImageError) → AfterReading (λ its image. WithoutLoad (next its image)) read a 0
+        → AfterReading (λ its image. WithoutLoad (next its image)) read b 0 → a ≡ b
+    after (Ok read) h k = one read.0 read.1 a b h.0 k.0
+    after (Err rule) h k = h.0 ∙ sym k.0
 
 one_parsed : (page_bytes : ℕ) (bytes : List ℕ) (p q : Result (List Command) ℕ) → Parses page_bytes bytes p → Parses page_bytes bytes q → p ≡ q
 one_parsed page_bytes bytes (Ok cs) (Ok ds) h k = ap (λ cs. Ok cs) (file_same page_bytes bytes cs ds h k)

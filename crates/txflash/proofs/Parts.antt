@@ -4,7 +4,7 @@ use Rattle.tx_types.specs.declared.config.Config.{Config}
 use Rattle.tx_types.specs.declared.config.Protocol.{Protocol}
 use Rattle.tx_types.specs.declared.config.Protocol.TheVariants.{Scc}
 use Rattle.tx_types.specs.Config.{shape_of}
-use Rattle.flash_model.specs.Flash.{Contents}
+use Rattle.flash_model.specs.Flash.{Contents, Extras}
 use Rattle.version_index.specs.Images.{IsSoundImage}
 use Rattle.host_protocol.specs.Files.{IsFile}
 use Rattle.host_protocol.specs.declared.command.Command.{Command}
@@ -45,26 +45,26 @@ trying_line its lines e fate h =
 
 -- ---- a run
 
-pub running_line : (name bytes lines : List ℕ) (its : Config) (image : List Contents) → ReadsImage bytes (Ok (its, image)) →
+pub running_line : (name bytes lines : List ℕ) (its : Config) (image : List Contents) (extras : Extras) → ReadsImage bytes (Ok (its, image, extras)) →
     (fate : Fate) → RefusesLine its.page_bytes lines fate → Running name bytes lines fate
-running_line name bytes lines its image read fate h = (Ok (its, image), read, (Err h.0, h.1, h.2))
+running_line name bytes lines its image extras read fate h = (Ok (its, image, extras), read, ((Err h.0, h.1, h.2), refl))
 
-pub running_device : (name bytes lines : List ℕ) (its : Config) (image : List Contents) (cs : List Command) →
-    ReadsImage bytes (Ok (its, image)) → IsFile its.page_bytes lines cs →
+pub running_device : (name bytes lines : List ℕ) (its : Config) (image : List Contents) (extras : Extras) (cs : List Command) →
+    ReadsImage bytes (Ok (its, image, extras)) → IsFile its.page_bytes lines cs →
     (fate : Fate) → RefusesDevice its image fate → Running name bytes lines fate
-running_device name bytes lines its image cs read file fate h = (Ok (its, image), read, (Ok cs, file, (Err h.0, h.1, h.2)))
+running_device name bytes lines its image extras cs read file fate h = (Ok (its, image, extras), read, ((Ok cs, file, (Err h.0, h.1, h.2)), refl))
 
-pub running_done : (name bytes lines : List ℕ) (its : Config) (image : List Contents) (cs : List Command) →
-    ReadsImage bytes (Ok (its, image)) → IsFile its.page_bytes lines cs →
+pub running_done : (name bytes lines : List ℕ) (its : Config) (image : List Contents) (extras : Extras) (cs : List Command) →
+    ReadsImage bytes (Ok (its, image, extras)) → IsFile its.page_bytes lines cs →
     IsSoundImage its.protocol its.logical (shape_of its) image → Running name bytes lines (Ran name its image cs)
-running_done name bytes lines its image cs read file sound = (Ok (its, image), read, (Ok cs, file, (Ok tt, sound, refl)))
+running_done name bytes lines its image extras cs read file sound = (Ok (its, image, extras), read, ((Ok cs, file, (Ok tt, sound, refl)), refl))
 
 -- ---- an explanation
 
-pub explaining_device : (bytes : List ℕ) (its : Config) (image : List Contents) → ReadsImage bytes (Ok (its, image)) →
+pub explaining_device : (bytes : List ℕ) (its : Config) (image : List Contents) (extras : Extras) → ReadsImage bytes (Ok (its, image, extras)) →
     (fate : Fate) → RefusesDevice its image fate → Explaining bytes fate
-explaining_device bytes its image read fate h = (Ok (its, image), read, (Err h.0, h.1, h.2))
+explaining_device bytes its image extras read fate h = (Ok (its, image, extras), read, ((Err h.0, h.1, h.2), refl))
 
-pub explaining_done : (bytes : List ℕ) (its : Config) (image : List Contents) → ReadsImage bytes (Ok (its, image)) →
+pub explaining_done : (bytes : List ℕ) (its : Config) (image : List Contents) (extras : Extras) → ReadsImage bytes (Ok (its, image, extras)) →
     IsSoundImage its.protocol its.logical (shape_of its) image → Explaining bytes (Explained its image)
-explaining_done bytes its image read sound = (Ok (its, image), read, (Ok tt, sound, refl))
+explaining_done bytes its image extras read sound = (Ok (its, image, extras), read, ((Ok tt, sound, refl), refl))

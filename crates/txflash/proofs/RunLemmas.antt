@@ -5,7 +5,7 @@ use Rattle.tx_types.specs.Config.{shape_of}
 use Rattle.tx_types.specs.declared.config.Protocol.{Protocol}
 use Rattle.flash_model.specs.Flash.{IsSteady, Contents}
 use Rattle.flash_model.specs.Operations.{Moment, moment_of}
-use Rattle.mem_flash.specs.Memory.{MemoryState, fresh, state_of, told_of}
+use Rattle.mem_flash.specs.Memory.{MemoryState, loaded, state_of, told_of}
 use Rattle.record_list.specs.declared.found.Found.{Found}
 use Rattle.version_index.specs.Images.{IsSoundImage, records_in}
 use Rattle.verdict_report.specs.Report.{report}
@@ -18,20 +18,20 @@ use Rattle.cut_replay.proofs.Runs.{run_lengths, take_whole}
 use Rattle.txflash.specs.Runs.{IsRun, first_moment}
 
 -- a flash that was just loaded breaks only where it is armed
-pub is_steady : (its : Config) (flash : MemoryState) → flash ≡ fresh (shape_of its) flash.image → IsSteady (state_of flash)
+pub is_steady : (its : Config) (flash : MemoryState) → flash ≡ loaded (shape_of its) flash.image flash.extras → IsSteady (state_of flash)
 is_steady its flash e = record {
   live = ap (λ s. s.live) e;
   none = let none = ap (λ (s : MemoryState). s.armed) e in subst (λ armed. ((told_of armed).cuts ≡ 0) × ((told_of armed).breaks ≡ 0)) (sym none) (refl, refl);
 }
 
-starts : (its : Config) (flash : MemoryState) → flash ≡ fresh (shape_of its) flash.image → moment_of (state_of flash) ≡ first_moment flash.image
+starts : (its : Config) (flash : MemoryState) → flash ≡ loaded (shape_of its) flash.image flash.extras → moment_of (state_of flash) ≡ first_moment flash.image
 starts its flash e =
     ap₂ (λ (a : ℕ) (b : ℕ). let m : Moment = record { image = flash.image; programs = a; erases = b } in m)
     (ap (λ (s : MemoryState). s.programs) e) (ap (λ (s : MemoryState). s.erases) e)
 
 -- what serving such a flash gives
 pub is_run : (its : Config) (flash left : MemoryState) (cs : List Command) (before after : List ℕ) →
-    flash ≡ fresh (shape_of its) flash.image → before ≡ [] →
+    flash ≡ loaded (shape_of its) flash.image flash.extras → before ≡ [] →
     IsSoundImage its.protocol its.logical (shape_of its) flash.image →
     ServesRun its cs (length cs) (state_of flash) (state_of left) (record { text = Some before; kept = None }) (record { text = Some after; kept = None }) →
     IsRun its flash.image cs left.image after

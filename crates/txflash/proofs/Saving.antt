@@ -5,7 +5,7 @@ use Rattle.tx_types.specs.declared.config.Config.{Config}
 use Rattle.tx_types.specs.declared.config.ConfigError.{ConfigError}
 use Rattle.tx_types.specs.declared.config.Shape.{Shape}
 use Rattle.tx_types.specs.Config.{checked}
-use Rattle.flash_model.specs.Flash.{Contents}
+use Rattle.flash_model.specs.Flash.{Contents, Extras}
 use Rattle.record_list.specs.declared.found.Breach.{Breach}
 use Rattle.host_protocol.specs.declared.command.Command.{Command}
 use Rattle.image_file.specs.declared.error.ImageError.{ImageError}
@@ -13,7 +13,7 @@ use Rattle.desk_io.specs.Desk as found
 use Rattle.desk_io.specs.Desk.{DeskState, FileFound}
 use Rattle.txflash.specs.Fate.{Fate, Tried, Formatted, Ran, Explained, Driven, BadWords, Missing, TooLong, BadImage, BadLine, Unsound, BadConfiguration, status}
 use Rattle.txflash.specs.Gives.{Given, Gives}
-use Rattle.txflash.specs.Steps.{AfterLoad, AfterOpening, AfterParsing, AfterReading, Explaining, IsFate, Loading, OpensAndServes, Parsing, Reading, Running, Trying, formatting}
+use Rattle.txflash.specs.Steps.{AfterLoad, AfterOpening, AfterParsing, AfterReading, Explaining, IsFate, Loading, OpensAndServes, Parsing, Reading, Running, Trying, formatting, WithoutLoad}
 use Rattle.txflash.specs.Words.{Asked, Try, Format, Run, Explain, Drive, file_of}
 
 -- the file that a fate saves
@@ -83,9 +83,9 @@ reading_all : (P : Fate → Type 0) (bytes : List ℕ) (next : Config → List C
     (fate : Fate) → Reading bytes next fate → P fate
 reading_all P bytes next bad leads fate (read, reads, h) = after read h
   where
-    after : (read : Result (Config × List Contents) ImageError) → AfterReading next read fate → P fate
-    after (Ok read) h = leads read.0 read.1 fate h
-    after (Err rule) h = rw h (bad rule)
+    after : (read : Result (Config × List Contents × Extras) ImageError) → AfterReading (λ its image. WithoutLoad (next its image)) read fate 0 → P fate
+    after (Ok read) h = leads read.0 read.1 fate h.0
+    after (Err rule) h = rw h.0 (bad rule)
 
 parsing_all : (P : Fate → Type 0) (page_bytes : ℕ) (bytes : List ℕ) (next : List Command → Fate → Type 0) →
     ((n : ℕ) → P (BadLine n)) → ((cs : List Command) (fate : Fate) → next cs fate → P fate) →

@@ -5,7 +5,7 @@ use Rattle.tx_types.specs.declared.config.Config.{Config}
 use Rattle.tx_types.specs.declared.config.ConfigError.{ConfigError}
 use Rattle.tx_types.specs.declared.config.Shape.{Shape}
 use Rattle.tx_types.specs.Config.{checked, shape_of}
-use Rattle.flash_model.specs.Flash.{Contents}
+use Rattle.flash_model.specs.Flash.{Contents, Extras}
 use Rattle.record_list.specs.declared.found.Breach.{Breach}
 use Rattle.version_index.specs.Images.{IsSoundImage, IsLeastImageBreach}
 use Rattle.host_protocol.specs.Files.{IsFile, IsFirstBad}
@@ -42,19 +42,23 @@ WithoutLoad comes fate loads = comes fate × (loads ≡ 0)
 
 -- the bytes are the spelling of this configuration and this image, or this is the first rule that
 -- they break
-abbrev pub ReadsImage : List ℕ → Result (Config × List Contents) ImageError → Type 0
+abbrev pub ReadsImage : List ℕ → Result (Config × List Contents × Extras) ImageError → Type 0
 ReadsImage bytes read = (reading bytes ≡ read) × IfOk read (λ r. Spells bytes r.0 r.1)
 
-abbrev pub AfterReading : (Config → List Contents → Fate → Type 0) →
-    Result (Config × List Contents) ImageError → Fate → Type 0
-AfterReading next (Ok read) fate = next read.0 read.1 fate
-AfterReading next (Err rule) fate = fate ≡ BadImage rule
+abbrev pub AfterReading : (Config → List Contents → Fate → ℕ → Type 0) →
+    Result (Config × List Contents × Extras) ImageError → Fate → ℕ → Type 0
+AfterReading next (Ok read) fate loads = next read.0 read.1 fate loads
+AfterReading next (Err rule) fate loads = WithoutLoad (λ its. its ≡ BadImage rule) fate loads
 
--- the bytes of an image file are read, and then comes what its device gives
+-- the bytes of an image file are read, and then comes what its device gives, which may load more
+abbrev pub ReadingOn : List ℕ → (Config → List Contents → Fate → ℕ → Type 0) → Fate → ℕ → Type 0
+ReadingOn bytes next fate loads =
+    (read : Result (Config × List Contents × Extras) ImageError) × ReadsImage bytes read
+    × AfterReading next read fate loads
+
+-- the same where nothing more is loaded
 abbrev pub Reading : List ℕ → (Config → List Contents → Fate → Type 0) → Fate → Type 0
-Reading bytes next fate =
-    (read : Result (Config × List Contents) ImageError) × ReadsImage bytes read
-    × AfterReading next read fate
+Reading bytes next fate = ReadingOn bytes (λ its image. WithoutLoad (next its image)) fate 0
 
 -- ---- parsing
 

@@ -1,6 +1,6 @@
 ghost use Rattle.std.specs.Prelude.{◌≡◌, ◌≤◌, All, Ok, IfOk, IfErr, OnOk, length};
 ghost use Rattle.tx_types.specs.Config.{checked, shape_of};
-ghost use Rattle.mem_flash.specs.Memory.{fresh, state_of};
+ghost use Rattle.mem_flash.specs.Memory.{fresh, loaded, state_of};
 ghost use Rattle.tx_engine.specs.Opens.{Mounts};
 ghost use Rattle.host_protocol.specs.Commands.{Suits};
 ghost use Rattle.host_protocol.specs.Files.{IsFile};
@@ -61,8 +61,8 @@ pub fn blank_flash(alloc: Global, config: Config) -> Result<MemFlash, Memory>
 
 /// The configuration and the flash of an image file.
 pub fn read_device(alloc: Global, bytes: &[u8]) -> Result<(Config, MemFlash), Stop<'static>>
-    ensures read { IfOk result (λ d. ReadsImage bytes.now (Ok (d.0, d.1.image))) }
-    ensures fresh { IfOk result (λ d. d.1 ≡ fresh (shape_of d.0) d.1.image) }
+    ensures read { IfOk result (λ d. ReadsImage bytes.now (Ok (d.0, d.1.image, d.1.extras))) }
+    ensures ready { IfOk result (λ d. d.1 ≡ loaded (shape_of d.0) d.1.image d.1.extras) }
     ensures err { IfErr result (StopsBy (RefusesImage bytes.now)) }
 {
     match read_image(alloc, bytes) {
@@ -98,7 +98,7 @@ pub fn served(
     list: &[Command],
 ) -> Result<ServedFlash, Stop<'static>>
     requires check { checked config ≡ Ok (shape_of config) }
-    requires fresh { flash ≡ fresh (shape_of config) flash.image }
+    requires ready { flash ≡ loaded (shape_of config) flash.image flash.extras }
     requires suits { All (Suits config.page_bytes) list.now }
     ensures run { IfOk result (λ s. IsRun config flash.image list.now s.flash.image s.replies) }
     ensures shape { IfOk result (λ s. s.flash.shape ≡ shape_of config) }
@@ -119,7 +119,7 @@ fn served_by<R: CommitRule>(
 ) -> Result<ServedFlash, Stop<'static>>
     requires check { checked config ≡ Ok (shape_of config) }
     requires rule { config.protocol ≡ R.kept }
-    requires fresh { flash ≡ fresh (shape_of config) flash.image }
+    requires ready { flash ≡ loaded (shape_of config) flash.image flash.extras }
     requires suits { All (Suits config.page_bytes) list.now }
     ensures run { IfOk result (λ s. IsRun config flash.image list.now s.flash.image s.replies) }
     ensures shape { IfOk result (λ s. s.flash.shape ≡ shape_of config) }
@@ -139,7 +139,7 @@ fn served_by<R: CommitRule>(
 /// The report on the records of a device.
 pub fn explained(alloc: Global, flash: MemFlash, config: Config) -> Result<Vec<u8>, Stop<'static>>
     requires check { checked config ≡ Ok (shape_of config) }
-    requires fresh { flash ≡ fresh (shape_of config) flash.image }
+    requires ready { flash ≡ loaded (shape_of config) flash.image flash.extras }
     ensures sound { OnOk result (
         IsSoundImage config.protocol config.logical (shape_of config) flash.image) }
     ensures report { IfOk result (λ text. text.items ≡
@@ -160,7 +160,7 @@ fn explained_by<R: CommitRule>(
 ) -> Result<Vec<u8>, Stop<'static>>
     requires check { checked config ≡ Ok (shape_of config) }
     requires rule { config.protocol ≡ R.kept }
-    requires fresh { flash ≡ fresh (shape_of config) flash.image }
+    requires ready { flash ≡ loaded (shape_of config) flash.image flash.extras }
     ensures sound { OnOk result (
         IsSoundImage config.protocol config.logical (shape_of config) flash.image) }
     ensures report { IfOk result (λ text. text.items ≡
@@ -184,7 +184,7 @@ fn opened<R: CommitRule>(
 ) -> Result<Device<MemFlash, R>, Stop<'static>>
     requires check { checked config ≡ Ok (shape_of config) }
     requires rule { config.protocol ≡ R.kept }
-    requires fresh { flash ≡ fresh (shape_of config) flash.image }
+    requires ready { flash ≡ loaded (shape_of config) flash.image flash.extras }
     ensures ok { IfOk result (Mounts state_of flash config) }
     ensures err { IfErr result (StopsBy (RefusesDevice config flash.image)) }
 {

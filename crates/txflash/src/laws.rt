@@ -3,7 +3,7 @@
 ghost use Rattle.std.specs.Prelude.{◌≡◌, ◌<◌, ℕ, Bool, false, List, All, Result, Ok};
 ghost use Rattle.tx_types.specs.declared.config.Config.{Config};
 ghost use Rattle.tx_types.specs.Config.{shape_of};
-ghost use Rattle.flash_model.specs.Flash.{Contents};
+ghost use Rattle.flash_model.specs.Flash.{Contents, Extras, no_extras};
 ghost use Rattle.flash_model.specs.Operations.{Moment};
 ghost use Rattle.version_index.specs.Images.{IsSoundImage, array_in};
 ghost use Rattle.tx_engine.specs.ArrayState.{idle};
@@ -55,9 +55,9 @@ pub fn saved_images()
         (run : IsRun its image cs left text) → All (λ c. is_arm c ≡ false) cs →
         array_in its.protocol its.logical left ≡ (machine_left run).pages }
     ensures read { (its : Config) (left : List Contents) (bytes : List ℕ)
-        (read : Result (Config × List Contents) ImageError) →
+        (read : Result (Config × List Contents × Extras) ImageError) →
         All (λ b. b < 256) bytes → Spells bytes its left → ReadsImage bytes read →
-        read ≡ Ok (its, left) }
+        read ≡ Ok (its, left, no_extras) }
     ensures again { (its : Config) (image left last : List Contents)
         (cs ds : List Command) (text more : List ℕ) →
         (run : IsRun its image cs left text) → All (λ c. is_arm c ≡ false) cs →

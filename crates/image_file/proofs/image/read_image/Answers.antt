@@ -53,5 +53,6 @@ returns-clause-only c = λ config image spelled.
 pub returns-clause-found : goal.returns-clause-found
 returns-clause-found c =
     let image_is = ap (λ (s : MemoryState). s.image) c.in_ok-flash.ensures.ok.1 in
-    rw (c.in_ok-config.ensures.1, image_is)
+    let extras_is = ap (λ (s : MemoryState). s.extras) c.in_ok-flash.ensures.ok.1 in
+    rw (c.in_ok-config.ensures.1, image_is, extras_is)
     (reading-read c.args.bytes.now (nothing_broken c.args.bytes.now c.in_ok-config.ensures.0 c.in_ok-flash.ensures.ok.0))
