@@ -20,7 +20,9 @@ use Rattle.host_protocol.specs.declared.reply.Reply.TheVariants as reply
 use Rattle.cut_replay.specs.Run.{is_arm, seen_after}
 use Rattle.cut_replay.specs.FlashRun.{Point, IsPoint, ServesFlash, opening_point}
 use Rattle.cut_replay.specs.Bounds.{IsSet}
-use Rattle.cut_replay.specs.Mounted.{point_at, IsSeen, IsCachedAs, IsCached, HoldsAlways}
+use Rattle.tx_engine.proofs.Seen.{seen_flash}
+use Rattle.tx_engine.specs.Always.{HoldsAlways}
+use Rattle.cut_replay.specs.Mounted.{point_at, IsCachedAs, IsCached}
 use Rattle.cut_replay.specs.Sessions.{flash_in, point_of, Fits, StandsAt, StandsMounted, IsSpentBy, ServesSession, SetsArm}
 use Rattle.cut_replay.specs.declared.session.Session.{Session}
 use Rattle.cut_replay.specs.declared.session.Session.TheVariants as session
@@ -76,15 +78,12 @@ armed_told state kept sets (session.Unmounted e) (session.Mounted t) h = absurd 
 armed_told state kept sets (session.Unmounted e) (session.Unmounted f) h = h.told
 
 -- what stands still stands
-same_seen : {F : Type 0} (seen : ℕ → ℕ) (s : Standing F) (flash : F) → IsSeen seen s → IsSeen seen (record s { flash = flash })
-same_seen seen s flash h = record { mentions = h.mentions; names = h.names }
-
 armed_stands : {F R : Type 0} (state : F → FlashState) (its : Config) (kept : Protocol) (sets : Told → Told → Type 0) (c : Command) (seen : ℕ → ℕ) (faulted : Bool) (old new : Session F R) →
     SetsArm state kept sets old new → StandsAt state its seen faulted old → StandsAt state its (seen_after seen c reply.Armed) (faulted || false) new
 armed_stands {F = F} state its kept sets c seen faulted (session.Mounted s) (session.Mounted t) h stands =
     subst (λ (x : Standing F). StandsMounted (seen_after seen c reply.Armed) (faulted || false) x) (sym h.stays) (record {
       sure = λ whole. stands.sure (or_left faulted false whole);
-      mentions = same_seen seen s t.flash stands.mentions;
+      mentions = seen_flash seen s t.flash stands.mentions;
     })
 armed_stands state its kept sets c seen faulted (session.Mounted s) (session.Unmounted f) h stands = absurd h
 armed_stands state its kept sets c seen faulted (session.Unmounted e) (session.Mounted t) h stands = absurd h

@@ -1,30 +1,29 @@
 -- What calls of a device leave of its mentions, of the cache, and of what is told.
 use Rattle.std.proofs.Common.{◌≡◌, ◌⊎◌, ℕ, ◌+◌, ◌<◌, ◌≤◌, Bool, true, false, cond, List, [], ◌∷◌, ◌++◌, sym, ◌∙◌, subst, inl, inr, arith}
 use Rattle.std.specs.Prelude.{All, Any, count_by}
-use Rattle.std.proofs.lemmas.Bool.{cases_lt}
 use Rattle.std.proofs.lemmas.List.Elements.{All-weaker}
 use Rattle.tx_types.specs.declared.config.Config.{Config}
 use Rattle.tx_types.specs.declared.config.Protocol.{Protocol}
 use Rattle.tx_types.specs.declared.config.Shape.{Shape}
-use Rattle.tx_types.specs.declared.record.Link.{Link}
 use Rattle.flash_model.specs.Flash.{FlashState}
 use Rattle.flash_model.specs.Calls.{Carries}
 use Rattle.flash_model.specs.Moves.{Moves}
 use Rattle.flash_model.specs.Operations.{moment_of}
-use Rattle.record_list.proofs.Names.{IsIn, contains_from, in_from, all_at}
-use Rattle.version_index.specs.Noted.{mention_of}
+use Rattle.record_list.proofs.Names.{IsIn, contains_from, in_from}
 use Rattle.page_cache.specs.CachedPages.{CachedPage}
-use Rattle.tx_engine.specs.Exits.{Exits, IsNamedAt, VersionsTell}
+use Rattle.tx_engine.specs.Exits.{Exits, VersionsTell}
 use Rattle.tx_engine.specs.Naming.{is_spent}
 use Rattle.tx_engine.specs.Submit.{is_of}
-use Rattle.tx_engine.specs.Standing.{Standing, Naming, limits_of}
+use Rattle.tx_engine.specs.Standing.{Standing, limits_of}
+use Rattle.tx_engine.proofs.Seen.{exits_seen}
 use Rattle.host_protocol.specs.declared.command.Command.{Command}
 use Rattle.host_protocol.specs.declared.reply.Reply.{Reply}
 use Rattle.collector.specs.declared.unsure.Unsure.TheVariants as unsure
 use Rattle.cut_replay.specs.Run.{DoesCommand, seen_after, is_break, is_opened, writes_in}
 use Rattle.cut_replay.specs.FlashRun.{Tells, is_fault, is_still}
 use Rattle.cut_replay.specs.Bounds.{is_cut}
-use Rattle.cut_replay.specs.Mounted.{point_at, IsSeen, IsCachedAs, IsCached, HoldsAlways, MayHaveCut, ServesHere}
+use Rattle.tx_engine.specs.Always.{IsSeen, HoldsAlways}
+use Rattle.cut_replay.specs.Mounted.{point_at, IsCachedAs, IsCached, MayHaveCut, ServesHere}
 
 -- some item of a list, as an item in it, and back
 pub in_any : {X : Type 0} (P : X → Type 0) (xs : List X) → Any P xs → (x : X) × IsIn xs x × P x
@@ -54,28 +53,6 @@ seen_later seen c r s h = record {
   names = λ page version named. (let least = seen_at seen c r page in let most = h.names page version named in omega arith);
 }
 
--- the names of the open transactions are those of before
-named_before : (old new : List Naming) (page version : ℕ) → All (λ x. Any (λ before. before.names ≡ x.names) old) new → IsNamedAt new page version → IsNamedAt old page version
-named_before old new page version names h =
-    let at = in_any (λ x. Any (λ name. (name.page ≡ page) × (name.version ≡ version)) x.names) new h in
-    let from = in_any (λ (before : Naming). before.names ≡ at.0.names) old (all_at (λ x. Any (λ before. before.names ≡ x.names) old) new at.0 names at.1) in
-    any_in (λ x. Any (λ name. (name.page ≡ page) × (name.version ≡ version)) x.names) old from.0 from.1
-    (subst (λ (names : List Link). Any (λ name. (name.page ≡ page) × (name.version ≡ version)) names) (sym from.2) at.2)
-
--- a call that may settle, write and collect leaves the mentions within what was seen
-pub exits_seen : {F : Type 0} (state : F → FlashState) (kept : Protocol) (old new : Standing F) (broken : Bool) (seen : ℕ → ℕ) →
-    HoldsAlways state kept old → HoldsAlways state kept new → Exits state old new broken → IsSeen seen old → IsSeen seen new
-exits_seen state kept old new broken seen was is exits h = record {
-  mentions = λ page. elim (cases_lt page old.config.logical) [
-    | inl lt ↦ elim (exits.mentions page (subst (λ (c : Config). page < c.logical) (sym was.its) lt)) [
-      | inl same ↦ (let most = h.mentions page in omega (arith, same, most))
-      | inr rose ↦ h.names page (mention_of new.noted page) rose.1
-    ]
-    | inr ge ↦ (let none = is.beyond page (subst (λ (c : Config). c.logical ≤ page) (sym exits.config) ge) in omega (arith, none))
-  ];
-  names = λ page version named. h.names page version (named_before old.namings new.namings page version exits.names named);
-}
-
 -- the cache stays right where versions do not fall, and a page whose version stays has its bytes
 cached_stays_so : {F : Type 0} (old new : Standing F) → new.config ≡ old.config → VersionsTell old new → (e : CachedPage) → IsCachedAs old e → IsCachedAs new e
 cached_stays_so old new same tell e h =
@@ -99,7 +76,7 @@ pub exits_serve : {F : Type 0} (state : F → FlashState) (kept : Protocol) (c :
     ((faulted : Bool) → (faulted ≡ false → old.unsure ≡ unsure.Nothing) → Tells old.config faulted (point_at state old) r (point_at state new)) →
     (old.unsure ≡ unsure.Nothing → is_fault r ≡ false → new.unsure ≡ unsure.Nothing) → (is_fault r ≡ true → MayHaveCut state c old new) → ServesHere state c old new r
 exits_serve state kept c old new r broken was is exits breaks faults whole does still tells sure cut = record {
-  config = exits.config;
+  config = exits.tables.config;
   does = does;
   moves = record {
     moves = subst (λ (x : Shape). Moves x (moment_of (state old.flash)) (is_break r) (moment_of (state new.flash))) was.shape
@@ -109,8 +86,8 @@ exits_serve state kept c old new r broken was is exits breaks faults whole does 
   carries = subst (λ (b : Bool). Carries (state old.flash) (state new.flash) b) (sym faults) exits.carries;
   tells = tells;
   sure = sure;
-  seen = λ seen h. seen_later seen c r new (exits_seen state kept old new broken seen was is exits h);
-  versions = exits.versions;
+  seen = λ seen h. seen_later seen c r new (exits_seen state kept old new seen was is exits.tables h);
+  versions = exits.tables.versions;
   cut = cut;
   whole = whole;
 }

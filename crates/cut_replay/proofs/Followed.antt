@@ -19,13 +19,15 @@ use Rattle.tx_engine.specs.ArrayState.{ArrayState, idle}
 use Rattle.tx_engine.specs.Naming.{is_spent}
 use Rattle.tx_engine.specs.Standing.{Standing}
 use Rattle.tx_engine.specs.Step.{CutLeaves}
+use Rattle.tx_engine.proofs.Seen.{image_seen}
 use Rattle.host_protocol.specs.declared.command.Command.{Command}
 use Rattle.host_protocol.specs.declared.reply.Reply.{Reply}
 use Rattle.host_protocol.specs.declared.reply.Reply.TheVariants as reply
 use Rattle.cut_replay.specs.Run.{IsCut, MayComplete, MayBeSpent, NotDone, is_arm, is_break, seen_after}
 use Rattle.cut_replay.specs.FlashRun.{Point, IsPoint, IsDone, MovesBy, ServesFlash, is_fault}
 use Rattle.cut_replay.specs.Bounds.{is_cut, CountsBreak}
-use Rattle.cut_replay.specs.Mounted.{point_at, IsSeen, IsCached, CachesCommand, HoldsAlways, ServesHere}
+use Rattle.tx_engine.specs.Always.{IsSeen, HoldsAlways}
+use Rattle.cut_replay.specs.Mounted.{point_at, IsCached, CachesCommand, ServesHere}
 use Rattle.cut_replay.specs.Sessions.{flash_in, point_of, IsSoundFlash, Fits, FitsMounted, StandsMounted, IsSpentBy, ServesIn, ServesSession, EndsServing, Mounted, Unmounted, MountsAgain, Follows, CachesServed, CachesSession}
 use Rattle.cut_replay.specs.declared.serving.ServeError.{ServeError}
 use Rattle.cut_replay.specs.declared.serving.ServeError.TheVariants as failed
@@ -82,16 +84,6 @@ done_in state kept c s t r seen faulted no_arm h always stands = record {
 fault_reply : (c : Command) (seen : ℕ → ℕ) (r : Reply) (page : ℕ) → r ≡ reply.Fault → seen_after seen c r page ≡ seen page
 fault_reply c seen r page is = ap (λ q. seen_after seen c q page) is
 
-cut_seen : {F : Type 0} (state : F → FlashState) (kept : Protocol) (seen : ℕ → ℕ) (t : Standing F) (page : ℕ) → HoldsAlways state kept t → IsSeen seen t → page < t.config.logical →
-    mention (records_in t.config.protocol (state t.flash).image) page ≤ seen page
-cut_seen state kept seen t page always h lt =
-    let its = always.its in
-    let most = always.mentions page (subst (λ (x : Config). page < x.logical) (sym its) lt) in
-    subst (λ (x : Config). mention (records_in x.protocol (state t.flash).image) page ≤ seen page) its (elim most [
-      | inl noted ↦ (let least = h.mentions page in omega (arith, noted, least))
-      | inr named ↦ (let least = h.names page named.0 named.1 in let of = named.2 in omega (arith, of, least))
-    ])
-
 -- what comes after a command that met a fault, as far as its moves go
 cut_moves : (its : Config) (c : Command) (old mid new : Moment) → MovesBy its c reply.Fault old mid → new ≡ mid → MovesBy its c reply.Cut old new
 cut_moves its c old mid new h same = record {
@@ -107,7 +99,7 @@ cut_in state kept c s t after seen faulted no_arm h always stands leaves =
     let sound : IsSoundFlash its (state t.flash) = subst (λ (x : Config). IsSoundImage x.protocol x.logical (shape_of x) (state t.flash).image) h.config always.sound in
     let most : (page : ℕ) → page < its.logical → mention (records_in its.protocol (state t.flash).image) page ≤ seen page = λ page lt.
     subst (λ (x : Config). mention (records_in x.protocol (state t.flash).image) page ≤ seen page) h.config
-    (cut_seen state kept seen t page always (h.seen seen stands.mentions) (subst (λ (x : Config). page < x.logical) (sym h.config) lt)) in
+    (image_seen state kept seen t page always (h.seen seen stands.mentions) (subst (λ (x : Config). page < x.logical) (sym h.config) lt)) in
     let cut = h.cut refl in
     let left : CutLeaves (MayComplete c) s.machine (point_of state its after).state.machine =
     subst (λ (m : ArrayState). CutLeaves (MayComplete c) s.machine m) (sym (mounted_machine state its t.flash after leaves))

@@ -1,5 +1,4 @@
 pub mod Unbroken
-pub mod HeldAlways
 pub mod Devices
 pub mod Single
 pub mod Telling

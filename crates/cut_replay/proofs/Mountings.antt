@@ -1,17 +1,14 @@
 -- What is so of a session whose flash was mounted, or was not because a read met a fault.
-use Rattle.std.proofs.Common.{◌≡◌, ℕ, ◌<◌, ◌≤◌, Bool, List, [], length, map, sym, ap, ◌∙◌, subst, inl, inr, arith}
+use Rattle.std.proofs.Common.{◌≡◌, ℕ, ◌<◌, ◌≤◌, Bool, List, length, sym, ap, ◌∙◌, subst, inl, inr}
 use Rattle.std.specs.Prelude.{All, slice_index}
-use Rattle.std.specs.List.{range_with_len}
 use Rattle.std.proofs.lemmas.Bool.{cases_lt}
 use Rattle.std.proofs.lemmas.List.{get_or_past}
-use Rattle.std.proofs.lemmas.List.FromFn.{get_or-map-range_with_len}
 use Rattle.tx_types.specs.declared.config.Config.{Config}
 use Rattle.tx_types.specs.declared.config.Protocol.{Protocol}
 use Rattle.tx_types.specs.declared.config.Shape.{Shape}
 use Rattle.tx_types.specs.Config.{shape_of}
 use Rattle.flash_model.specs.Flash.{FlashState, Contents, slot_at, blank}
 use Rattle.flash_model.specs.Operations.{Moment, moment_of}
-use Rattle.record_list.specs.declared.found.Found.{Found}
 use Rattle.record_list.specs.declared.found.Breach.{Breach}
 use Rattle.record_list.specs.Records.{mention}
 use Rattle.record_list.specs.SoundList.{Law, Pages, Copies, Links, Present, Counted, Loose, Ending, Keeps}
@@ -19,13 +16,14 @@ use Rattle.record_list.specs.Written.{Written, found_of, records_of, BytesAgree,
 use Rattle.record_list.proofs.Names.{IsIn, all_at}
 use Rattle.record_list.proofs.WrittenLists.{in_records}
 use Rattle.version_index.specs.Images.{written_in, IsSoundImage, IsLeastImageBreach, SlotReads, array_in, records_in}
-use Rattle.version_index.specs.Noted.{Noted, mention_of}
+use Rattle.version_index.specs.Noted.{Noted}
 use Rattle.tx_engine.specs.ArrayState.{ArrayState, idle}
-use Rattle.tx_engine.specs.Exits.{IsNamedAt}
-use Rattle.tx_engine.specs.Standing.{Standing, Naming}
+use Rattle.tx_engine.specs.Standing.{Standing}
 use Rattle.cut_replay.specs.FlashRun.{IsPoint}
 use Rattle.cut_replay.proofs.Devices.{in_any}
-use Rattle.cut_replay.specs.Mounted.{IsSeen, MomentStays}
+use Rattle.tx_engine.proofs.Seen.{opened_seen}
+use Rattle.tx_engine.specs.Always.{IsSeen}
+use Rattle.cut_replay.specs.Mounted.{MomentStays}
 use Rattle.cut_replay.specs.Sessions.{point_of, flash_in, IsSoundFlash, StandsAt, MountsIn, Mounted}
 use Rattle.cut_replay.specs.declared.session.Session.{Session}
 use Rattle.cut_replay.specs.declared.session.Session.TheVariants as session
@@ -63,26 +61,15 @@ mounted_point state its flash s h sound =
     }
 
 -- each page is mentioned as the image mentions it
-opened_mention : (n : Noted) (list : List Found) (logical page : ℕ) → n.mentions ≡ map (mention list) (range_with_len 0 logical) → page < logical → mention_of n page ≡ mention list page
-opened_mention n list logical page is lt =
-    ap (λ (x : List ℕ). slice_index x page) is ∙ get_or-map-range_with_len (mention list) 0 logical page page 0 lt (omega arith)
-
-none_named : (page version : ℕ) → IsNamedAt [] page version → ⊥
-none_named page version h = let lt = h.2 in omega arith
-
-opened_seen : {F : Type 0} (state : F → FlashState) (its : Config) (flash : F) (seen : ℕ → ℕ) (s : Standing F) → MountsIn state its flash s →
+device_seen : {F : Type 0} (state : F → FlashState) (its : Config) (flash : F) (seen : ℕ → ℕ) (s : Standing F) → MountsIn state its flash s →
     ((page : ℕ) → page < its.logical → mention (records_in its.protocol (state flash).image) page ≤ seen page) → IsSeen seen s
-opened_seen state its flash seen s h most = record {
-  mentions = λ page. elim (cases_lt page its.logical) [
-    | inl lt ↦ (let least = most page lt in let is = opened_mention s.noted (records_in its.protocol (state flash).image) its.logical page (ap (λ (n : Noted). n.mentions) h.tables.noted_is) lt in omega (arith, is, least))
-    | inr ge ↦ (let none = h.always.beyond page (subst (λ (c : Config). c.logical ≤ page) (sym h.config) ge) in omega (arith, none))
-  ];
-  names = λ page version named. absurd (none_named page version (subst (λ (x : List Naming). IsNamedAt x page version) h.namings named));
-}
+device_seen state its flash seen s h most =
+    opened_seen seen (records_in its.protocol (state flash).image) its.logical s (ap (λ (n : Noted). n.mentions) h.tables.noted_is) h.namings
+    (λ page ge. h.always.beyond page (subst (λ (c : Config). c.logical ≤ page) (sym h.config) ge)) most
 
 pub mounted_stands : {F R : Type 0} (state : F → FlashState) (its : Config) (flash : F) (seen : ℕ → ℕ) (faulted : Bool) (s : Session F R) → Leaves state its flash s → IsSoundFlash its (state flash) →
     ((page : ℕ) → page < its.logical → mention (records_in its.protocol (state flash).image) page ≤ seen page) → StandsAt state its seen faulted s
-mounted_stands state its flash seen faulted (session.Mounted s) h sound most = record { sure = λ whole. h.unsure; mentions = opened_seen state its flash seen s h most }
+mounted_stands state its flash seen faulted (session.Mounted s) h sound most = record { sure = λ whole. h.unsure; mentions = device_seen state its flash seen s h most }
 mounted_stands state its flash seen faulted (session.Unmounted new) h sound most = record {
   sound = subst (λ (m : Moment). IsSoundImage its.protocol its.logical (shape_of its) m.image) (sym h.moment) sound;
   mentions = λ page lt. subst (λ (m : Moment). mention (records_in its.protocol m.image) page ≤ seen page) (sym h.moment) (most page lt);

@@ -14,7 +14,8 @@ use Rattle.tx_engine.specs.ArrayState.{idle}
 use Rattle.tx_engine.specs.Standing.{Standing}
 use Rattle.tx_engine.specs.Opens.{Mounts, FailsToMount}
 use Rattle.tx_engine.specs.declared.mount.MountError.TheVariants as mount
-use Rattle.cut_replay.specs.Mounted.{HoldsAlways, MomentStays, StaysQuiet}
+use Rattle.tx_engine.specs.Always.{HoldsAlways}
+use Rattle.cut_replay.specs.Mounted.{MomentStays, StaysQuiet}
 use Rattle.cut_replay.specs.Sessions.{MountsIn, MeetsFault, Unmounted}
 use Rattle.cut_replay.specs.declared.serving.ServeError.TheVariants as failed
 

@@ -35,7 +35,8 @@ use Rattle.host_protocol.specs.declared.reply.Reply.{Reply}
 use Rattle.cut_replay.specs.Run.{step_reply, abort_reply, collect_reply, is_break}
 use Rattle.cut_replay.specs.FlashRun.{Point, Tells, is_fault, HasErased, IsErase}
 use Rattle.cut_replay.specs.Bounds.{is_cut}
-use Rattle.cut_replay.specs.Mounted.{point_at, HoldsAlways, MayHaveCut, ServesHere}
+use Rattle.tx_engine.specs.Always.{HoldsAlways}
+use Rattle.cut_replay.specs.Mounted.{point_at, MayHaveCut, ServesHere}
 use Rattle.cut_replay.proofs.Devices.{exits_serve}
 
 -- A step

@@ -43,7 +43,8 @@ use Rattle.host_protocol.specs.declared.reply.Reply.TheVariants as reply
 use Rattle.cut_replay.specs.Run.{DoesCommand, read_reply, submit_reply, is_break, seen_after}
 use Rattle.cut_replay.specs.FlashRun.{Point, Tells, MovesBy, is_fault}
 use Rattle.cut_replay.specs.Bounds.{is_cut}
-use Rattle.cut_replay.specs.Mounted.{point_at, IsSeen, HoldsAlways, ServesHere}
+use Rattle.tx_engine.specs.Always.{IsSeen, HoldsAlways}
+use Rattle.cut_replay.specs.Mounted.{point_at, ServesHere}
 use Rattle.cut_replay.proofs.Devices.{in_any, any_in, in_append, seen_at, seen_later}
 
 -- the moment stays

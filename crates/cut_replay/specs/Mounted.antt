@@ -2,27 +2,23 @@
 use Rattle.std.specs.Prelude.{◌≡◌, ◌<◌, ◌≤◌, ℕ, ◌⊎◌, Bool, true, false, not, ◌&&◌, nat_lt, List, All, Result, Ok, Err}
 use Rattle.std.specs.Prelude.{Some, is_some, MatchBool, if◌then◌else◌}
 use Rattle.tx_types.specs.declared.memory.Memory.{Memory}
-use Rattle.tx_types.specs.declared.config.Protocol.{Protocol}
-use Rattle.tx_types.specs.Config.{checked, shape_of}
-use Rattle.tx_types.specs.Limits.{max_pending}
 use Rattle.flash_model.specs.Flash.{FlashState, counted}
 use Rattle.flash_model.specs.Calls.{Carries, BothTell, NoMore}
 use Rattle.flash_model.specs.Operations.{moment_of}
-use Rattle.version_index.specs.Images.{IsSoundImage, array_in, records_in}
-use Rattle.version_index.specs.Notes.{found_in}
-use Rattle.version_index.specs.Noted.{current_of, mention_of}
+use Rattle.version_index.specs.Images.{array_in}
+use Rattle.version_index.specs.Noted.{current_of}
 use Rattle.collector.specs.declared.unsure.Unsure.TheVariants as unsure
 use Rattle.page_cache.specs.CachedPages.{CachedPage, CachedPages, cached_page, promoted, kept}
-use Rattle.tx_engine.specs.ArrayState.{ArrayState, page_at, idle}
-use Rattle.tx_engine.specs.Exits.{StandsFor, MentionsAtMost, VersionsTell, IsNamedAt}
+use Rattle.tx_engine.specs.Always.{IsSeen}
+use Rattle.tx_engine.specs.ArrayState.{page_at, idle}
+use Rattle.tx_engine.specs.Exits.{VersionsTell}
 use Rattle.tx_engine.specs.Naming.{is_spent}
 use Rattle.tx_engine.specs.Read.{ReadsFlash, read_place}
 use Rattle.tx_engine.specs.Standing.{Standing, limits_of}
-use Rattle.tx_engine.specs.Step.{StepsAs, CutLeaves, IsAtLast, settled}
+use Rattle.tx_engine.specs.Step.{CutLeaves}
 use Rattle.tx_engine.specs.declared.read.ReadAnswer.{ReadAnswer}
 use Rattle.tx_engine.specs.declared.read.ReadAnswer.TheVariants as answer
 use Rattle.tx_engine.specs.declared.read.ReadError.{ReadError}
-use Rattle.tx_engine.specs.declared.step.StepError.TheVariants as failed
 use Rattle.host_protocol.specs.declared.command.Command.{Command}
 use Rattle.host_protocol.specs.declared.command.Command.TheVariants as command
 use Rattle.host_protocol.specs.declared.reply.Reply.{Reply}
@@ -35,11 +31,6 @@ abbrev pub point_at : {F : Type 0} → (F → FlashState) → Standing F → Poi
 point_at state s =
     record { state = record { machine = s.machine; up = true }; moment = moment_of (state s.flash) }
 
--- each page is mentioned so often at most, and named so high by an open transaction
-pub record IsSeen {F : Type 0} (seen : ℕ → ℕ) (s : Standing F) : Type 0 where
-  pub mentions : (page : ℕ) → mention_of s.noted page ≤ seen page
-  pub names : (page version : ℕ) → IsNamedAt s.namings page version → version ≤ seen page
-
 -- a cached page is at its current version at most, and where it is at that, its bytes are those of
 -- the array
 pub record IsCachedAs {F : Type 0} (s : Standing F) (e : CachedPage) : Type 0 where
@@ -50,33 +41,6 @@ pub record IsCachedAs {F : Type 0} (s : Standing F) (e : CachedPage) : Type 0 wh
 
 abbrev pub IsCached : {F : Type 0} → Standing F → List CachedPage → Type 0
 IsCached s entries = All (IsCachedAs s) entries
-
--- What holds of a device at every moment: of its flash, and of what a power cut leaves that was met
--- in a call which led here.
-pub record HoldsAlways {F : Type 0} (state : F → FlashState) (protocol : Protocol)
-    (s : Standing F) : Type 0 where
-  pub rule : s.config.protocol ≡ protocol
-  pub check : checked s.config ≡ Ok (state s.flash).shape
-  pub shape : (state s.flash).shape ≡ shape_of s.config
-  pub few : s.config.pending ≤ max_pending
-  pub sound : IsSoundImage s.config.protocol s.config.logical (shape_of s.config)
-      (state s.flash).image
-  pub array : StandsFor s.machine
-      (array_in s.config.protocol s.config.logical (state s.flash).image)
-  pub records : s.unsure ≡ unsure.Nothing →
-      records_in s.config.protocol (state s.flash).image ≡ found_in s.noted.notes
-  pub its : s.noted.config ≡ s.config
-  pub mentions : MentionsAtMost s.noted s.namings (state s.flash).image
-  pub beyond : (page : ℕ) → s.config.logical ≤ page → mention_of s.noted page ≡ 0
-  pub step_cut : (old : ArrayState) (there : Bool) (tag : ℕ) →
-      StepsAs there old s.machine tag (Err failed.Fault) →
-      CutLeaves (λ e. (e.tag ≡ tag) × IsAtLast e) old
-      (idle (array_in s.config.protocol s.config.logical (state s.flash).image))
-  pub same_cut : CutLeaves (λ e. ⊥) s.machine
-      (idle (array_in s.config.protocol s.config.logical (state s.flash).image))
-  pub settled_cut : (old : ArrayState) (there : Bool) → s.machine ≡ settled there old →
-      CutLeaves (λ e. ⊥) old
-      (idle (array_in s.config.protocol s.config.logical (state s.flash).image))
 
 -- what a power cut leaves, if the call met one
 pub record MayHaveCut {F : Type 0} (state : F → FlashState) (c : Command)

@@ -22,7 +22,8 @@ use Rattle.host_protocol.specs.declared.reply.Reply.TheVariants as reply
 use Rattle.cut_replay.specs.Run.{MayBeSpent, is_arm, seen_after}
 use Rattle.cut_replay.specs.FlashRun.{Point, IsPoint, ServesFlash, is_fault, opening_point}
 use Rattle.cut_replay.specs.Bounds.{is_cut, arms_cut, arms_fault, IsSet, CountsBreak}
-use Rattle.cut_replay.specs.Mounted.{point_at, IsSeen, IsCached, CachesCommand, MomentStays, StaysQuiet, HoldsAlways}
+use Rattle.tx_engine.specs.Always.{IsSeen, HoldsAlways}
+use Rattle.cut_replay.specs.Mounted.{point_at, IsCached, CachesCommand, MomentStays, StaysQuiet}
 use Rattle.cut_replay.specs.declared.session.Session.{Session}
 use Rattle.cut_replay.specs.declared.session.Session.TheVariants as session
 use Rattle.cut_replay.specs.declared.session.Ended.{Ended}

@@ -1,13 +1,13 @@
 ghost use Rattle.std.specs.Prelude.{◌≡◌, ℕ, Err, IfOk};
-ghost use Rattle.cut_replay.specs.Mounted.{HoldsAlways, ServesHere};
+ghost use Rattle.tx_engine.specs.Always.{HoldsAlways};
+ghost use Rattle.cut_replay.specs.Mounted.{ServesHere};
 ghost use Rattle.cut_replay.specs.Run.{submit_reply, step_reply, abort_reply, collect_reply};
 
-use crate::always::held_always;
 use flash_model::Flash;
 use host_protocol::{Command, Reply};
 use record_list::CommitRule;
 use std::alloc::Global;
-use tx_engine::{Aborted, Collected, Device, Fault, Progress, StepError, SubmitError};
+use tx_engine::{Aborted, Collected, Device, Fault, Progress, StepError, SubmitError, held_always};
 use tx_types::{Batch, Bytes, Memory};
 use verdict_report::explain;
 

@@ -1,6 +1,7 @@
 ghost use Rattle.std.specs.Prelude.{◌≡◌, false, length, IfOk, OnErr};
 ghost use Rattle.host_protocol.specs.Commands.{Suits};
-ghost use Rattle.cut_replay.specs.Mounted.{HoldsAlways, IsCached, StaysQuiet, ServesHere};
+ghost use Rattle.tx_engine.specs.Always.{HoldsAlways};
+ghost use Rattle.cut_replay.specs.Mounted.{IsCached, StaysQuiet, ServesHere};
 ghost use Rattle.cut_replay.specs.Mounted.{CachesCommand};
 ghost use Rattle.cut_replay.specs.Run.{is_arm};
 

@@ -1,5 +1,6 @@
 ghost use Rattle.std.specs.Prelude.{◌≡◌};
-ghost use Rattle.cut_replay.specs.Mounted.{HoldsAlways, ServesHere};
+ghost use Rattle.tx_engine.specs.Always.{HoldsAlways};
+ghost use Rattle.cut_replay.specs.Mounted.{ServesHere};
 
 use crate::calls::step;
 use flash_model::Flash;

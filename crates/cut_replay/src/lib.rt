@@ -2,7 +2,6 @@
 //! plain array of pages in which a transaction changes all its pages at once.
 #![tactic(auto)]
 
-mod always;
 mod calls;
 mod doing;
 mod finishing;

@@ -4,14 +4,13 @@ ghost use Rattle.flash_model.specs.Arms.{TurnsOn};
 ghost use Rattle.cut_replay.specs.Sessions.{Mounted, Unmounted, Follows};
 
 use crate::ServeError;
-use crate::always::held_always;
 use crate::session::{Ended, Session};
 use flash_model::Power;
 use host_protocol::Reply;
 use page_cache::PageCache;
 use record_list::CommitRule;
 use std::alloc::Global;
-use tx_engine::{Device, MountError};
+use tx_engine::{Device, MountError, held_always};
 use tx_types::Config;
 
 /// Turns power on where it is off, and mounts the device of a flash. The cache is empty then.

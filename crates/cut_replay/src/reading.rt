@@ -3,18 +3,18 @@ ghost use Rattle.flash_model.specs.Operations.{moment_of};
 ghost use Rattle.flash_model.specs.Calls.{Carries};
 ghost use Rattle.tx_engine.specs.ArrayState.{page_at};
 ghost use Rattle.tx_engine.specs.Read.{ReadsPage, is_read_fault};
-ghost use Rattle.cut_replay.specs.Mounted.{HoldsAlways, IsCached, StaysQuiet, ServesHere};
+ghost use Rattle.tx_engine.specs.Always.{HoldsAlways};
+ghost use Rattle.cut_replay.specs.Mounted.{IsCached, StaysQuiet, ServesHere};
 ghost use Rattle.cut_replay.specs.Mounted.{ReadsThrough, is_cached, brought_forward};
 ghost use Rattle.cut_replay.specs.Mounted.{KeepsPage, CachesRead, CachesPage, ReadsOnce};
 ghost use Rattle.cut_replay.specs.Run.{read_reply};
 
-use crate::always::held_always;
 use flash_model::Flash;
 use host_protocol::{Command, Reply};
 use page_cache::PageCache;
 use record_list::CommitRule;
 use std::alloc::Global;
-use tx_engine::{Device, ReadAnswer, ReadError};
+use tx_engine::{Device, ReadAnswer, ReadError, held_always};
 use tx_types::{Bytes, Memory};
 
 /// Reads a page, from the cache where that holds it at its current version.

@@ -3,10 +3,9 @@ ghost use Rattle.flash_model.specs.Arms.{SetsCut, SetsFault, SetsBadRead};
 ghost use Rattle.cut_replay.specs.Sessions.{flash_in, SetsArm};
 
 use crate::ServeError;
-use crate::always::held_always;
 use flash_model::{Arms, Flash, Outcome};
 use record_list::CommitRule;
-use tx_engine::Device;
+use tx_engine::{Device, held_always};
 
 /// A flash on which commands are served.
 #[derive(Drop)]

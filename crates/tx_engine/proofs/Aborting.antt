@@ -88,12 +88,14 @@ module _ {F : Type 0} (state : F → FlashState) (S S' : Stored F) (O O' : OpenT
 
   pub closed_exits : Exits state (standing_in state S O) (standing_in state S' O') false
   closed_exits = subst (λ (t : Standing F). Exits state (standing_in state S O) t false) (sym closed_is) (record {
-    config = refl;
+    tables = record {
+      config = refl;
+      versions = λ page low. inr (current_pins S.noted S'.noted.pins page, ap (λ (ps : List (Option (List ℕ))). page_at ps page) (array_aside S.noted S'.noted.pins (state S.flash).image));
+      mentions = λ page low. inl refl;
+      names = names_fewer;
+    };
     moves = FlashMoves-nothing (state S.flash) (state S.flash) false refl;
     carries = Carries-nothing (state S.flash);
-    versions = λ page low. inr (current_pins S.noted S'.noted.pins page, ap (λ (ps : List (Option (List ℕ))). page_at ps page) (array_aside S.noted S'.noted.pins (state S.flash).image));
-    mentions = λ page low. inl refl;
-    names = names_fewer;
   })
 
   pub closed_current : (page : ℕ) → current_of S'.noted page ≡ current_of S.noted page

@@ -81,10 +81,12 @@ module _ {F : Type 0} (state : F → FlashState) (S : Stored F) (O O' : OpenTabl
 
   pub counted_exits : Exits state (standing_in state S O) (standing_in state S O') false
   counted_exits = subst (λ t. Exits state (standing_in state S O) (standing_in state S t) false) (sym opens) (record {
-    config = refl;
+    tables = record {
+      config = refl;
+      versions = λ page low. inr (refl, refl);
+      mentions = λ page low. inl refl;
+      names = names_before O.all (slice_set O.all i more) (map_set_same (λ (x : Opening). x.naming.names) O.all i more no_opening within refl);
+    };
     moves = FlashMoves-nothing (state S.flash) (state S.flash) false refl;
     carries = Carries-nothing (state S.flash);
-    versions = λ page low. inr (refl, refl);
-    mentions = λ page low. inl refl;
-    names = names_before O.all (slice_set O.all i more) (map_set_same (λ (x : Opening). x.naming.names) O.all i more no_opening within refl);
   })

@@ -13,7 +13,7 @@ use Rattle.flash_model.proofs.CallLemmas.{Carries-then}
 use Rattle.flash_model.proofs.MoveLemmas.{FlashMoves-then}
 use Rattle.version_index.specs.Noted.{current_of, mention_of}
 use Rattle.tx_engine.specs.Standing.{Standing, Naming}
-use Rattle.tx_engine.specs.Exits.{Exits, VersionsRise, VersionsTell, IsNamedAt}
+use Rattle.tx_engine.specs.Exits.{Exits, ExitsTables, VersionsRise, VersionsTell, IsNamedAt}
 
 -- each of these was named before
 abbrev pub NamedBefore : List Naming → List Naming → Type 0
@@ -47,19 +47,20 @@ module _ {F : Type 0} (state : F → FlashState) where
       FlashMoves (state s.flash) (state new) broken →
       Carries (state s.flash) (state new) broken → Exits state s t broken
   exits_still s new broken t same moves carries = subst (λ t. Exits state s t broken) (sym same) (record {
-    config = refl;
+    tables = record {
+      config = refl;
+      versions = λ page within. inr (refl, refl);
+      mentions = λ page within. inl refl;
+      names = before_itself s.namings;
+    };
     moves = moves;
     carries = carries;
-    versions = λ page within. inr (refl, refl);
-    mentions = λ page within. inl refl;
-    names = before_itself s.namings;
   })
 
-  pub exits_then : (a b c : Standing F) (broken : Bool) → a.config ≡ a.noted.config → b.config ≡ b.noted.config → Exits state a b false → Exits state b c broken → Exits state a c broken
-  exits_then a b c broken config config' first second = record {
+  -- one call after another
+  pub tables_then : (a b c : Standing F) → a.config ≡ a.noted.config → b.config ≡ b.noted.config → ExitsTables a b → ExitsTables b c → ExitsTables a c
+  tables_then a b c config config' first second = record {
     config = second.config ∙ first.config;
-    moves = FlashMoves-then (state a.flash) (state b.flash) (state c.flash) broken first.carries.shape first.moves second.moves;
-    carries = Carries-then (state a.flash) (state b.flash) (state c.flash) broken first.carries second.carries;
     versions = λ page within.
         let inside : page < b.config.logical = subst (λ (k : Config). page < k.logical) (sym first.config) within in
         elim (first.versions page within) [
@@ -85,6 +86,13 @@ module _ {F : Type 0} (state : F → FlashState) where
           ]
         ];
     names = before_then a.namings b.namings c.namings first.names second.names;
+  }
+
+  pub exits_then : (a b c : Standing F) (broken : Bool) → a.config ≡ a.noted.config → b.config ≡ b.noted.config → Exits state a b false → Exits state b c broken → Exits state a c broken
+  exits_then a b c broken config config' first second = record {
+    tables = tables_then a b c config config' first.tables second.tables;
+    moves = FlashMoves-then (state a.flash) (state b.flash) (state c.flash) broken first.carries.shape first.moves second.moves;
+    carries = Carries-then (state a.flash) (state b.flash) (state c.flash) broken first.carries second.carries;
   }
 
   -- versions that rose and did not fall again, and others that rose after them

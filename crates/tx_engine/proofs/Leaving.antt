@@ -30,12 +30,14 @@ module _ {F : Type 0} (state : F → FlashState) (S S' : Stored F) (O : OpenTabl
         (subst IsNoOwn (sym sure) nothing_no_own) others stored.matches keep.preserves keep.array);
     machine = ap (λ pages. record { pages = pages; entries = entries_of O }) same_known;
     exits = record {
-      config = keep.preserves.config;
+      tables = record {
+        config = keep.preserves.config;
+        versions = λ page low. inr (keep.preserves.current page low, ap (λ (pages : List (Option (List ℕ))). page_at pages page) same_known);
+        mentions = λ page low. inl (ap (λ (ms : List ℕ). slice_index ms page) keep.preserves.mentions);
+        names = before_itself (namings_of O);
+      };
       moves = keep.moves;
       carries = keep.carries;
-      versions = λ page low. inr (keep.preserves.current page low, ap (λ (pages : List (Option (List ℕ))). page_at pages page) same_known);
-      mentions = λ page low. inl (ap (λ (ms : List ℕ). slice_index ms page) keep.preserves.mentions);
-      names = before_itself (namings_of O);
     };
     versions = keep.preserves.current;
     kept = keep.preserves;
@@ -48,6 +50,6 @@ left_then state a b c broken config config' first second = record {
   stands = second.stands;
   machine = second.machine ∙ first.machine;
   exits = exits_then state a b c broken config config' first.exits second.exits;
-  versions = λ page low. second.versions page (subst (λ (k : _). page < k.logical) (sym first.exits.config) low) ∙ first.versions page low;
+  versions = λ page low. second.versions page (subst (λ (k : _). page < k.logical) (sym first.exits.tables.config) low) ∙ first.versions page low;
   kept = Preserves-then a.noted b.noted c.noted first.kept second.kept;
 }

@@ -1,4 +1,6 @@
 pub mod Arrays
+pub mod HeldAlways
+pub mod Seen
 pub mod CutsLeave
 pub mod DeviceMentions
 pub mod DevicesStand

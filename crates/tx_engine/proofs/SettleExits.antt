@@ -91,14 +91,16 @@ module _ {F : Type 0} (state : F → FlashState) (S S' : Stored F) (O O' : OpenT
 
     pub settled_exits : Exits state (standing_in state S O) (standing_in state S' O') false
     settled_exits = record {
-      config = r.config;
+      tables = record {
+        config = r.config;
+        versions = λ page low. subst (λ image. (current_of S.noted page < current_of S'.noted page)
+            ⊎ ((current_of S'.noted page ≡ current_of S.noted page) × (page_at (array_known S'.noted image) page ≡ page_at (array_known S.noted (state S.flash).image) page)))
+            (sym same_image) (r.versions page low);
+        mentions = r.mentions;
+        names = r.names;
+      };
       moves = FlashMoves-nothing (state S.flash) (state S'.flash) false moment;
       carries = carries;
-      versions = λ page low. subst (λ image. (current_of S.noted page < current_of S'.noted page)
-          ⊎ ((current_of S'.noted page ≡ current_of S.noted page) × (page_at (array_known S'.noted image) page ≡ page_at (array_known S.noted (state S.flash).image) page)))
-          (sym same_image) (r.versions page low);
-      mentions = r.mentions;
-      names = r.names;
     }
 
 -- By what was found

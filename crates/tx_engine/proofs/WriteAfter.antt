@@ -42,13 +42,13 @@ pub written_after : {F : Type 0} (state : F → FlashState) (a b c : Standing F)
     WritesNext b c e → WritesNext a c e
 written_after state a b c e left low w = record {
   pages = w.pages ∙ ap (λ m. put m.pages (next_writes e)) left.machine;
-  rises = rises_after a b c (next_writes e) left.exits.config low left.versions w.rises;
+  rises = rises_after a b c (next_writes e) left.exits.tables.config low left.versions w.rises;
 }
 
 pub fails_after : {F : Type 0} (state : F → FlashState) (a b c : Standing F) (o o' : OpenTable) (i : ℕ) → IsLeft state a b false → WriteFails b c o o' i → WriteFails a c o o' i
 fails_after state a b c o o' i left w = record {
   pages = w.pages ∙ ap (λ m. m.pages) left.machine;
-  rises = rises_after a b c [] left.exits.config (All-nil (λ (w : PageWrite). w.page < a.config.logical)) left.versions w.rises;
+  rises = rises_after a b c [] left.exits.tables.config (All-nil (λ (w : PageWrite). w.page < a.config.logical)) left.versions w.rises;
   kept = Preserves-then a.noted b.noted c.noted left.kept w.kept;
   opens = w.opens;
 }

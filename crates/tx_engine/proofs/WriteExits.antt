@@ -145,12 +145,14 @@ module _ {F : Type 0} (state : F → FlashState) (S S' : Stored F) (O : OpenTabl
 
       pub written_exits : FlashMoves old new false → Carries old new false → Exits state (standing_in state S O) (standing_in state S' O') false
       written_exits moves carries = subst (λ (t : Standing F). Exits state (standing_in state S O) t false) (sym standing_is) (record {
-        config = refl;
+        tables = record {
+          config = refl;
+          versions = next_versions n.config.protocol notes n at.0 rec old.image new.image o is_next stay;
+          mentions = next_mentions n.config.protocol notes n at.0 rec old.image new.image o is_next O.all i within refl;
+          names = names_before O.all (slice_set O.all i (with_next o)) (map_set_same (λ (x : Opening). x.naming.names) O.all i (with_next o) no_opening within (next_parts o).names);
+        };
         moves = moves;
         carries = carries;
-        versions = next_versions n.config.protocol notes n at.0 rec old.image new.image o is_next stay;
-        mentions = next_mentions n.config.protocol notes n at.0 rec old.image new.image o is_next O.all i within refl;
-        names = names_before O.all (slice_set O.all i (with_next o)) (map_set_same (λ (x : Opening). x.naming.names) O.all i (with_next o) no_opening within (next_parts o).names);
       })
 
   -- Broken
@@ -273,14 +275,16 @@ module _ {F : Type 0} (state : F → FlashState) (S S' : Stored F) (O : OpenTabl
 
       pub broken_exits : FlashMoves old new true → Carries old new true → Exits state (standing_in state S O) (standing_in state S' O') true
       broken_exits moves carries = record {
-        config = ap (λ m. m.config) w.noted;
+        tables = record {
+          config = ap (λ m. m.config) w.noted;
+          versions = λ page low. inr (ap (λ m. current_of m page) w.noted, ap (λ (ps : Pages). page_at ps page) same_pages);
+          mentions = λ page low. inl (ap (λ m. slice_index m.mentions page) w.noted);
+          names = elim (cases_eq (o.entry.done + 1) (length o.entry.writes)) [
+            | inl last ↦ subst (λ t. NamedBefore (namings_of O) (namings_of t)) (sym (opens_last last))
+                (names_before O.all (slice_set O.all i doubted) (map_set_same (λ (x : Opening). x.naming.names) O.all i doubted no_opening within refl))
+            | inr more ↦ subst (λ t. NamedBefore (namings_of O) (namings_of t)) (sym (opens_more more)) (before_itself (namings_of O))
+          ];
+        };
         moves = moves;
         carries = carries;
-        versions = λ page low. inr (ap (λ m. current_of m page) w.noted, ap (λ (ps : Pages). page_at ps page) same_pages);
-        mentions = λ page low. inl (ap (λ m. slice_index m.mentions page) w.noted);
-        names = elim (cases_eq (o.entry.done + 1) (length o.entry.writes)) [
-          | inl last ↦ subst (λ t. NamedBefore (namings_of O) (namings_of t)) (sym (opens_last last))
-              (names_before O.all (slice_set O.all i doubted) (map_set_same (λ (x : Opening). x.naming.names) O.all i doubted no_opening within refl))
-          | inr more ↦ subst (λ t. NamedBefore (namings_of O) (namings_of t)) (sym (opens_more more)) (before_itself (namings_of O))
-        ];
       }

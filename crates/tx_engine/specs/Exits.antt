@@ -116,16 +116,20 @@ VersionsTell old new =
     ⊎ ((current_of new.noted page ≡ current_of old.noted page)
     × (page_at new.machine.pages page ≡ page_at old.machine.pages page))
 
--- What each call keeps that works on the flash: the configuration, what the flash carries over, the operations by which its
--- moment moves, the mentions, and that no transaction is named anew.
-pub record Exits {F : Type 0} (state : F → FlashState) (old new : Standing F)
-    (broken : Bool) : Type 0 where
+-- What each call that works on the flash keeps of what is known: the configuration, the versions, the mentions, and that
+-- no transaction is named anew.
+pub record ExitsTables {F : Type 0} (old new : Standing F) : Type 0 where
   pub config : new.config ≡ old.config
-  pub moves : FlashMoves (state old.flash) (state new.flash) broken
-  pub carries : Carries (state old.flash) (state new.flash) broken
   pub versions : VersionsTell old new
   pub mentions : MentionsRise old.noted new.noted old.namings
   pub names : All (λ x. Any (λ before. before.names ≡ x.names) old.namings) new.namings
+
+-- and with it what the flash carries over, and the operations by which its moment moves
+pub record Exits {F : Type 0} (state : F → FlashState) (old new : Standing F)
+    (broken : Bool) : Type 0 where
+  pub tables : ExitsTables old new
+  pub moves : FlashMoves (state old.flash) (state new.flash) broken
+  pub carries : Carries (state old.flash) (state new.flash) broken
 
 -- the array of the image is the device's, or that with the pages of the transaction in doubt
 abbrev pub StandsFor : ArrayState → Pages → Type 0

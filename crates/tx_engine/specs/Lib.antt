@@ -1,3 +1,4 @@
+pub mod Always
 pub mod ArrayState
 pub mod Collect
 pub mod Collections

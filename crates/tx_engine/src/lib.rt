@@ -3,6 +3,7 @@
 #![tactic(auto)]
 
 mod abort;
+mod always;
 mod arms;
 mod closing;
 mod collect;
@@ -24,6 +25,7 @@ mod tests;
 mod writing;
 
 pub use abort::Aborted;
+pub use always::held_always;
 pub use collect::{Collected, Fault};
 pub use device::Device;
 pub use mark::Mark;

@@ -1,7 +1,8 @@
 use Rattle.host_protocol.specs.declared.command.Command.TheVariants.{Finish}
 use Rattle.host_protocol.specs.declared.reply.Reply.{Reply}
 use Rattle.tx_engine.specs.Standing.{Standing}
-use Rattle.cut_replay.specs.Mounted.{HoldsAlways, ServesHere}
+use Rattle.tx_engine.specs.Always.{HoldsAlways}
+use Rattle.cut_replay.specs.Mounted.{ServesHere}
 use Rattle.cut_replay.specs.Run.{pages_left}
 use Rattle.cut_replay.proofs.finishing.finish.Given as goal
 

@@ -49,7 +49,7 @@ returns-in_err-slot-clause-exits g c = let state = g.F.Flash.state in
 
 pub returns-in_err-slot-clause-costs : goal.returns-in_err-slot-clause-costs
 returns-in_err-slot-clause-costs g c = let state = g.F.Flash.state in
-    costs_slot state c.args.store.now c.clear.new.store c.find_slot.new.store c.find_slot.new.store c.args.openings.now c.args.openings.now (name_at (opening_at c.args.openings.now c.args.at).naming (opening_at c.args.openings.now c.args.at).entry.done) c.requires.stands.matches.noted (subst (λ (a : Link). CostsAtMost c.args.store.now.noted.config.pages_per_block (blocks_to_go c.args.store.now.noted a.page a.version) (state c.args.store.now.flash) (state c.clear.new.store.flash)) (c.name-name.ensures ∙ ap (name_at (opening_at c.args.openings.now c.args.at).naming) c.done.ensures) c.clear.ensures.costs) c.find_slot.ensures.costs c.in_ok-clear.ensures.left.exits.config (is_err c.find_slot.result) (ap is_err c.in_err-slot.was)
+    costs_slot state c.args.store.now c.clear.new.store c.find_slot.new.store c.find_slot.new.store c.args.openings.now c.args.openings.now (name_at (opening_at c.args.openings.now c.args.at).naming (opening_at c.args.openings.now c.args.at).entry.done) c.requires.stands.matches.noted (subst (λ (a : Link). CostsAtMost c.args.store.now.noted.config.pages_per_block (blocks_to_go c.args.store.now.noted a.page a.version) (state c.args.store.now.flash) (state c.clear.new.store.flash)) (c.name-name.ensures ∙ ap (name_at (opening_at c.args.openings.now c.args.at).naming) c.done.ensures) c.clear.ensures.costs) c.find_slot.ensures.costs c.in_ok-clear.ensures.left.exits.tables.config (is_err c.find_slot.result) (ap is_err c.in_err-slot.was)
     (λ none. (c.clear.ensures.idle (subst (λ (a : Link). block_to_go c.args.store.now.noted a.page a.version ≡ None) (sym (c.name-name.ensures ∙ ap (name_at (opening_at c.args.openings.now c.args.at).naming) c.done.ensures)) none)).1) c.find_slot.ensures.direct
 
 pub next_record-rec-requires-clause-within : goal.next_record-rec-requires-clause-within
@@ -63,7 +63,7 @@ pub program-requires-clause-within : goal.program-requires-clause-within
 program-requires-clause-within g c = let state = g.F.Flash.state in (due_named (state c.args.store.now.flash) c.args.store.now.noted c.args.store.now.table c.args.openings.now c.args.at (settled_kept state c.args.store.now c.args.openings.now c.requires.stands c.requires.sure) c.requires.at c.requires.plain c.requires.due).within
 
 pub program-requires-clause-size : goal.program-requires-clause-size
-program-requires-clause-size g c = c.requires.size ∙ ap (λ (k : Config). k.page_bytes) (sym (c.in_ok-slot.ensures.left.exits.config ∙ c.in_ok-clear.ensures.left.exits.config))
+program-requires-clause-size g c = c.requires.size ∙ ap (λ (k : Config). k.page_bytes) (sym (c.in_ok-slot.ensures.left.exits.tables.config ∙ c.in_ok-clear.ensures.left.exits.tables.config))
 
 pub program-requires-clause-own : goal.program-requires-clause-own
 program-requires-clause-own g c = let state = g.F.Flash.state in next_take (state c.find_slot.new.store.flash) c.find_slot.new.store.noted c.find_slot.new.store.table c.args.openings.now c.args.at (settled_kept state c.find_slot.new.store c.args.openings.now c.in_ok-slot.ensures.left.stands c.in_ok-slot.ensures.sure) c.requires.at c.requires.plain c.requires.due c.next_record-rec.result c.next_record-rec.ensures.named c.next_record-rec.ensures.next c.next_record-rec.ensures.back (subst (λ (a : Link). block_to_go c.find_slot.new.store.noted a.page a.version ≡ None) ((c.name-name.ensures ∙ ap (name_at (opening_at c.args.openings.now c.args.at).naming) c.done.ensures) ∙ sym c.next_record-rec.ensures.named) c.find_slot.ensures.clear)
@@ -77,8 +77,8 @@ doubt_last-requires-clause-within g c = let state = g.F.Flash.state in (due_name
 pub returns-in-Err-clause-stands : goal.returns-in-Err-clause-stands
 returns-in-Err-clause-stands g c = let state = g.F.Flash.state in
     broken_stands state c.find_slot.new.store c.program.new.store c.args.openings.now c.args.at c.in_ok-slot.slot c.next_record-rec.result _ c.in_ok-slot.ensures.left.stands c.in_ok-slot.ensures.sure c.requires.at c.requires.plain c.requires.due
-    (subst Settles (sym (ap (λ (k : Config). k.protocol) (c.in_ok-slot.ensures.left.exits.config ∙ c.in_ok-clear.ensures.left.exits.config) ∙ c.requires.rule)) (record { matches = c.images_stand.ensures.matches; records = c.images_stand.ensures.records; array = c.images_stand.ensures.array; preserves = c.images_stand.ensures.preserves }))
-    (subst NotesWrites (sym (ap (λ (k : Config). k.protocol) (c.in_ok-slot.ensures.left.exits.config ∙ c.in_ok-clear.ensures.left.exits.config) ∙ c.requires.rule)) (record { names = c.noted_writes.ensures.names; partial = c.noted_writes.ensures.partial; completing = c.noted_writes.ensures.completing }))
+    (subst Settles (sym (ap (λ (k : Config). k.protocol) (c.in_ok-slot.ensures.left.exits.tables.config ∙ c.in_ok-clear.ensures.left.exits.tables.config) ∙ c.requires.rule)) (record { matches = c.images_stand.ensures.matches; records = c.images_stand.ensures.records; array = c.images_stand.ensures.array; preserves = c.images_stand.ensures.preserves }))
+    (subst NotesWrites (sym (ap (λ (k : Config). k.protocol) (c.in_ok-slot.ensures.left.exits.tables.config ∙ c.in_ok-clear.ensures.left.exits.tables.config) ∙ c.requires.rule)) (record { names = c.noted_writes.ensures.names; partial = c.noted_writes.ensures.partial; completing = c.noted_writes.ensures.completing }))
     (next_record (state c.find_slot.new.store.flash) c.find_slot.new.store.noted c.find_slot.new.store.table c.args.openings.now c.args.at (settled_kept state c.find_slot.new.store c.args.openings.now c.in_ok-slot.ensures.left.stands c.in_ok-slot.ensures.sure) c.requires.at c.requires.plain c.requires.due c.next_record-rec.result c.next_record-rec.ensures.named c.next_record-rec.ensures.next c.next_record-rec.ensures.back (subst (λ (a : Link). block_to_go c.find_slot.new.store.noted a.page a.version ≡ None) ((c.name-name.ensures ∙ ap (name_at (opening_at c.args.openings.now c.args.at).naming) c.done.ensures) ∙ sym c.next_record-rec.ensures.named) c.find_slot.ensures.clear)) refl c.next_record-rec.ensures.named c.in_ok-slot.ensures.free refl g.R.CommitRule.kept c.program.ensures.stored
     c.in-Err.ensures.broken c.doubt_last.new.openings c.doubt_last.ensures
 
@@ -86,8 +86,8 @@ pub returns-in-Err-clause-failed : goal.returns-in-Err-clause-failed
 returns-in-Err-clause-failed g c = let state = g.F.Flash.state in
     fails_after state (standing_in state c.args.store.now c.args.openings.now) (standing_in state c.find_slot.new.store c.args.openings.now) (standing_in state c.program.new.store c.doubt_last.new.openings) c.args.openings.now c.doubt_last.new.openings c.args.at (left_then state (standing_in state c.args.store.now c.args.openings.now) (standing_in state c.clear.new.store c.args.openings.now) (standing_in state c.find_slot.new.store c.args.openings.now) false refl refl c.in_ok-clear.ensures.left c.in_ok-slot.ensures.left)
     (broken_fails state c.find_slot.new.store c.program.new.store c.args.openings.now c.args.at c.in_ok-slot.slot c.next_record-rec.result _ c.in_ok-slot.ensures.left.stands c.in_ok-slot.ensures.sure c.requires.at c.requires.plain c.requires.due
-    (subst Settles (sym (ap (λ (k : Config). k.protocol) (c.in_ok-slot.ensures.left.exits.config ∙ c.in_ok-clear.ensures.left.exits.config) ∙ c.requires.rule)) (record { matches = c.images_stand.ensures.matches; records = c.images_stand.ensures.records; array = c.images_stand.ensures.array; preserves = c.images_stand.ensures.preserves }))
-    (subst NotesWrites (sym (ap (λ (k : Config). k.protocol) (c.in_ok-slot.ensures.left.exits.config ∙ c.in_ok-clear.ensures.left.exits.config) ∙ c.requires.rule)) (record { names = c.noted_writes.ensures.names; partial = c.noted_writes.ensures.partial; completing = c.noted_writes.ensures.completing }))
+    (subst Settles (sym (ap (λ (k : Config). k.protocol) (c.in_ok-slot.ensures.left.exits.tables.config ∙ c.in_ok-clear.ensures.left.exits.tables.config) ∙ c.requires.rule)) (record { matches = c.images_stand.ensures.matches; records = c.images_stand.ensures.records; array = c.images_stand.ensures.array; preserves = c.images_stand.ensures.preserves }))
+    (subst NotesWrites (sym (ap (λ (k : Config). k.protocol) (c.in_ok-slot.ensures.left.exits.tables.config ∙ c.in_ok-clear.ensures.left.exits.tables.config) ∙ c.requires.rule)) (record { names = c.noted_writes.ensures.names; partial = c.noted_writes.ensures.partial; completing = c.noted_writes.ensures.completing }))
     (next_record (state c.find_slot.new.store.flash) c.find_slot.new.store.noted c.find_slot.new.store.table c.args.openings.now c.args.at (settled_kept state c.find_slot.new.store c.args.openings.now c.in_ok-slot.ensures.left.stands c.in_ok-slot.ensures.sure) c.requires.at c.requires.plain c.requires.due c.next_record-rec.result c.next_record-rec.ensures.named c.next_record-rec.ensures.next c.next_record-rec.ensures.back (subst (λ (a : Link). block_to_go c.find_slot.new.store.noted a.page a.version ≡ None) ((c.name-name.ensures ∙ ap (name_at (opening_at c.args.openings.now c.args.at).naming) c.done.ensures) ∙ sym c.next_record-rec.ensures.named) c.find_slot.ensures.clear)) refl c.next_record-rec.ensures.named c.in_ok-slot.ensures.free refl g.R.CommitRule.kept c.program.ensures.stored
     c.in-Err.ensures.broken c.doubt_last.new.openings c.doubt_last.ensures)
 
@@ -95,14 +95,14 @@ pub returns-in-Err-clause-exits : goal.returns-in-Err-clause-exits
 returns-in-Err-clause-exits g c = let state = g.F.Flash.state in
     exits_then state (standing_in state c.args.store.now c.args.openings.now) (standing_in state c.find_slot.new.store c.args.openings.now) (standing_in state c.program.new.store c.doubt_last.new.openings) true refl refl (left_then state (standing_in state c.args.store.now c.args.openings.now) (standing_in state c.clear.new.store c.args.openings.now) (standing_in state c.find_slot.new.store c.args.openings.now) false refl refl c.in_ok-clear.ensures.left c.in_ok-slot.ensures.left).exits
     (broken_exits state c.find_slot.new.store c.program.new.store c.args.openings.now c.args.at c.in_ok-slot.slot c.next_record-rec.result _ c.in_ok-slot.ensures.left.stands c.in_ok-slot.ensures.sure c.requires.at c.requires.plain c.requires.due
-    (subst Settles (sym (ap (λ (k : Config). k.protocol) (c.in_ok-slot.ensures.left.exits.config ∙ c.in_ok-clear.ensures.left.exits.config) ∙ c.requires.rule)) (record { matches = c.images_stand.ensures.matches; records = c.images_stand.ensures.records; array = c.images_stand.ensures.array; preserves = c.images_stand.ensures.preserves }))
-    (subst NotesWrites (sym (ap (λ (k : Config). k.protocol) (c.in_ok-slot.ensures.left.exits.config ∙ c.in_ok-clear.ensures.left.exits.config) ∙ c.requires.rule)) (record { names = c.noted_writes.ensures.names; partial = c.noted_writes.ensures.partial; completing = c.noted_writes.ensures.completing }))
+    (subst Settles (sym (ap (λ (k : Config). k.protocol) (c.in_ok-slot.ensures.left.exits.tables.config ∙ c.in_ok-clear.ensures.left.exits.tables.config) ∙ c.requires.rule)) (record { matches = c.images_stand.ensures.matches; records = c.images_stand.ensures.records; array = c.images_stand.ensures.array; preserves = c.images_stand.ensures.preserves }))
+    (subst NotesWrites (sym (ap (λ (k : Config). k.protocol) (c.in_ok-slot.ensures.left.exits.tables.config ∙ c.in_ok-clear.ensures.left.exits.tables.config) ∙ c.requires.rule)) (record { names = c.noted_writes.ensures.names; partial = c.noted_writes.ensures.partial; completing = c.noted_writes.ensures.completing }))
     (next_record (state c.find_slot.new.store.flash) c.find_slot.new.store.noted c.find_slot.new.store.table c.args.openings.now c.args.at (settled_kept state c.find_slot.new.store c.args.openings.now c.in_ok-slot.ensures.left.stands c.in_ok-slot.ensures.sure) c.requires.at c.requires.plain c.requires.due c.next_record-rec.result c.next_record-rec.ensures.named c.next_record-rec.ensures.next c.next_record-rec.ensures.back (subst (λ (a : Link). block_to_go c.find_slot.new.store.noted a.page a.version ≡ None) ((c.name-name.ensures ∙ ap (name_at (opening_at c.args.openings.now c.args.at).naming) c.done.ensures) ∙ sym c.next_record-rec.ensures.named) c.find_slot.ensures.clear)) refl c.next_record-rec.ensures.named c.in_ok-slot.ensures.free refl g.R.CommitRule.kept c.program.ensures.stored
     c.in-Err.ensures.broken c.doubt_last.new.openings c.doubt_last.ensures c.in-Err.ensures.moves c.in-Err.ensures.carries)
 
 pub returns-in-Err-clause-costs : goal.returns-in-Err-clause-costs
 returns-in-Err-clause-costs g c = let state = g.F.Flash.state in
-    costs_all state c.args.store.now c.clear.new.store c.find_slot.new.store c.program.new.store c.args.openings.now c.doubt_last.new.openings (name_at (opening_at c.args.openings.now c.args.at).naming (opening_at c.args.openings.now c.args.at).entry.done) c.requires.stands.matches.noted (subst (λ (a : Link). CostsAtMost c.args.store.now.noted.config.pages_per_block (blocks_to_go c.args.store.now.noted a.page a.version) (state c.args.store.now.flash) (state c.clear.new.store.flash)) (c.name-name.ensures ∙ ap (name_at (opening_at c.args.openings.now c.args.at).naming) c.done.ensures) c.clear.ensures.costs) c.find_slot.ensures.costs c.in_ok-clear.ensures.left.exits.config
+    costs_all state c.args.store.now c.clear.new.store c.find_slot.new.store c.program.new.store c.args.openings.now c.doubt_last.new.openings (name_at (opening_at c.args.openings.now c.args.at).naming (opening_at c.args.openings.now c.args.at).entry.done) c.requires.stands.matches.noted (subst (λ (a : Link). CostsAtMost c.args.store.now.noted.config.pages_per_block (blocks_to_go c.args.store.now.noted a.page a.version) (state c.args.store.now.flash) (state c.clear.new.store.flash)) (c.name-name.ensures ∙ ap (name_at (opening_at c.args.openings.now c.args.at).naming) c.done.ensures) c.clear.ensures.costs) c.find_slot.ensures.costs c.in_ok-clear.ensures.left.exits.tables.config
     (λ none. (c.clear.ensures.idle (subst (λ (a : Link). block_to_go c.args.store.now.noted a.page a.version ≡ None) (sym (c.name-name.ensures ∙ ap (name_at (opening_at c.args.openings.now c.args.at).naming) c.done.ensures)) none)).1) (is_err c.find_slot.result) c.find_slot.ensures.direct c.program.ensures.costs.0 c.program.ensures.costs.1
 
 pub note_next-requires-clause-short : goal.note_next-requires-clause-short
@@ -111,8 +111,8 @@ note_next-requires-clause-short g c = let state = g.F.Flash.state in subst (λ k
 pub returns-clause-stands : goal.returns-clause-stands
 returns-clause-stands g c = let state = g.F.Flash.state in
     written_stands state c.find_slot.new.store c.program.new.store c.args.openings.now c.args.at c.in_ok-slot.slot c.next_record-rec.result _ c.in_ok-slot.ensures.left.stands c.in_ok-slot.ensures.sure c.requires.at c.requires.plain c.requires.due
-    (subst Settles (sym (ap (λ (k : Config). k.protocol) (c.in_ok-slot.ensures.left.exits.config ∙ c.in_ok-clear.ensures.left.exits.config) ∙ c.requires.rule)) (record { matches = c.images_stand.ensures.matches; records = c.images_stand.ensures.records; array = c.images_stand.ensures.array; preserves = c.images_stand.ensures.preserves }))
-    (subst NotesWrites (sym (ap (λ (k : Config). k.protocol) (c.in_ok-slot.ensures.left.exits.config ∙ c.in_ok-clear.ensures.left.exits.config) ∙ c.requires.rule)) (record { names = c.noted_writes.ensures.names; partial = c.noted_writes.ensures.partial; completing = c.noted_writes.ensures.completing }))
+    (subst Settles (sym (ap (λ (k : Config). k.protocol) (c.in_ok-slot.ensures.left.exits.tables.config ∙ c.in_ok-clear.ensures.left.exits.tables.config) ∙ c.requires.rule)) (record { matches = c.images_stand.ensures.matches; records = c.images_stand.ensures.records; array = c.images_stand.ensures.array; preserves = c.images_stand.ensures.preserves }))
+    (subst NotesWrites (sym (ap (λ (k : Config). k.protocol) (c.in_ok-slot.ensures.left.exits.tables.config ∙ c.in_ok-clear.ensures.left.exits.tables.config) ∙ c.requires.rule)) (record { names = c.noted_writes.ensures.names; partial = c.noted_writes.ensures.partial; completing = c.noted_writes.ensures.completing }))
     (next_record (state c.find_slot.new.store.flash) c.find_slot.new.store.noted c.find_slot.new.store.table c.args.openings.now c.args.at (settled_kept state c.find_slot.new.store c.args.openings.now c.in_ok-slot.ensures.left.stands c.in_ok-slot.ensures.sure) c.requires.at c.requires.plain c.requires.due c.next_record-rec.result c.next_record-rec.ensures.named c.next_record-rec.ensures.next c.next_record-rec.ensures.back (subst (λ (a : Link). block_to_go c.find_slot.new.store.noted a.page a.version ≡ None) ((c.name-name.ensures ∙ ap (name_at (opening_at c.args.openings.now c.args.at).naming) c.done.ensures) ∙ sym c.next_record-rec.ensures.named) c.find_slot.ensures.clear)) refl c.next_record-rec.ensures.named c.in_ok-slot.ensures.free refl g.R.CommitRule.kept c.program.ensures.stored
     c.in_default.ensures.written c.note_next.new.openings c.note_next.ensures
 
@@ -120,8 +120,8 @@ pub returns-clause-written : goal.returns-clause-written
 returns-clause-written g c = let state = g.F.Flash.state in
     written_after state (standing_in state c.args.store.now c.args.openings.now) (standing_in state c.find_slot.new.store c.args.openings.now) (standing_in state c.program.new.store c.note_next.new.openings) (opening_at c.args.openings.now c.args.at).entry (left_then state (standing_in state c.args.store.now c.args.openings.now) (standing_in state c.clear.new.store c.args.openings.now) (standing_in state c.find_slot.new.store c.args.openings.now) false refl refl c.in_ok-clear.ensures.left c.in_ok-slot.ensures.left) (next_low state c.args.store.now c.args.openings.now c.args.at c.requires.stands c.requires.at)
     (written_next state c.find_slot.new.store c.program.new.store c.args.openings.now c.args.at c.in_ok-slot.slot c.next_record-rec.result _ c.in_ok-slot.ensures.left.stands c.in_ok-slot.ensures.sure c.requires.at c.requires.plain c.requires.due
-    (subst Settles (sym (ap (λ (k : Config). k.protocol) (c.in_ok-slot.ensures.left.exits.config ∙ c.in_ok-clear.ensures.left.exits.config) ∙ c.requires.rule)) (record { matches = c.images_stand.ensures.matches; records = c.images_stand.ensures.records; array = c.images_stand.ensures.array; preserves = c.images_stand.ensures.preserves }))
-    (subst NotesWrites (sym (ap (λ (k : Config). k.protocol) (c.in_ok-slot.ensures.left.exits.config ∙ c.in_ok-clear.ensures.left.exits.config) ∙ c.requires.rule)) (record { names = c.noted_writes.ensures.names; partial = c.noted_writes.ensures.partial; completing = c.noted_writes.ensures.completing }))
+    (subst Settles (sym (ap (λ (k : Config). k.protocol) (c.in_ok-slot.ensures.left.exits.tables.config ∙ c.in_ok-clear.ensures.left.exits.tables.config) ∙ c.requires.rule)) (record { matches = c.images_stand.ensures.matches; records = c.images_stand.ensures.records; array = c.images_stand.ensures.array; preserves = c.images_stand.ensures.preserves }))
+    (subst NotesWrites (sym (ap (λ (k : Config). k.protocol) (c.in_ok-slot.ensures.left.exits.tables.config ∙ c.in_ok-clear.ensures.left.exits.tables.config) ∙ c.requires.rule)) (record { names = c.noted_writes.ensures.names; partial = c.noted_writes.ensures.partial; completing = c.noted_writes.ensures.completing }))
     (next_record (state c.find_slot.new.store.flash) c.find_slot.new.store.noted c.find_slot.new.store.table c.args.openings.now c.args.at (settled_kept state c.find_slot.new.store c.args.openings.now c.in_ok-slot.ensures.left.stands c.in_ok-slot.ensures.sure) c.requires.at c.requires.plain c.requires.due c.next_record-rec.result c.next_record-rec.ensures.named c.next_record-rec.ensures.next c.next_record-rec.ensures.back (subst (λ (a : Link). block_to_go c.find_slot.new.store.noted a.page a.version ≡ None) ((c.name-name.ensures ∙ ap (name_at (opening_at c.args.openings.now c.args.at).naming) c.done.ensures) ∙ sym c.next_record-rec.ensures.named) c.find_slot.ensures.clear)) refl c.next_record-rec.ensures.named c.in_ok-slot.ensures.free refl g.R.CommitRule.kept c.program.ensures.stored
     c.in_default.ensures.written c.note_next.new.openings c.note_next.ensures)
 
@@ -129,14 +129,14 @@ pub returns-clause-exits : goal.returns-clause-exits
 returns-clause-exits g c = let state = g.F.Flash.state in
     exits_then state (standing_in state c.args.store.now c.args.openings.now) (standing_in state c.find_slot.new.store c.args.openings.now) (standing_in state c.program.new.store c.note_next.new.openings) false refl refl (left_then state (standing_in state c.args.store.now c.args.openings.now) (standing_in state c.clear.new.store c.args.openings.now) (standing_in state c.find_slot.new.store c.args.openings.now) false refl refl c.in_ok-clear.ensures.left c.in_ok-slot.ensures.left).exits
     (written_exits state c.find_slot.new.store c.program.new.store c.args.openings.now c.args.at c.in_ok-slot.slot c.next_record-rec.result _ c.in_ok-slot.ensures.left.stands c.in_ok-slot.ensures.sure c.requires.at c.requires.plain c.requires.due
-    (subst Settles (sym (ap (λ (k : Config). k.protocol) (c.in_ok-slot.ensures.left.exits.config ∙ c.in_ok-clear.ensures.left.exits.config) ∙ c.requires.rule)) (record { matches = c.images_stand.ensures.matches; records = c.images_stand.ensures.records; array = c.images_stand.ensures.array; preserves = c.images_stand.ensures.preserves }))
-    (subst NotesWrites (sym (ap (λ (k : Config). k.protocol) (c.in_ok-slot.ensures.left.exits.config ∙ c.in_ok-clear.ensures.left.exits.config) ∙ c.requires.rule)) (record { names = c.noted_writes.ensures.names; partial = c.noted_writes.ensures.partial; completing = c.noted_writes.ensures.completing }))
+    (subst Settles (sym (ap (λ (k : Config). k.protocol) (c.in_ok-slot.ensures.left.exits.tables.config ∙ c.in_ok-clear.ensures.left.exits.tables.config) ∙ c.requires.rule)) (record { matches = c.images_stand.ensures.matches; records = c.images_stand.ensures.records; array = c.images_stand.ensures.array; preserves = c.images_stand.ensures.preserves }))
+    (subst NotesWrites (sym (ap (λ (k : Config). k.protocol) (c.in_ok-slot.ensures.left.exits.tables.config ∙ c.in_ok-clear.ensures.left.exits.tables.config) ∙ c.requires.rule)) (record { names = c.noted_writes.ensures.names; partial = c.noted_writes.ensures.partial; completing = c.noted_writes.ensures.completing }))
     (next_record (state c.find_slot.new.store.flash) c.find_slot.new.store.noted c.find_slot.new.store.table c.args.openings.now c.args.at (settled_kept state c.find_slot.new.store c.args.openings.now c.in_ok-slot.ensures.left.stands c.in_ok-slot.ensures.sure) c.requires.at c.requires.plain c.requires.due c.next_record-rec.result c.next_record-rec.ensures.named c.next_record-rec.ensures.next c.next_record-rec.ensures.back (subst (λ (a : Link). block_to_go c.find_slot.new.store.noted a.page a.version ≡ None) ((c.name-name.ensures ∙ ap (name_at (opening_at c.args.openings.now c.args.at).naming) c.done.ensures) ∙ sym c.next_record-rec.ensures.named) c.find_slot.ensures.clear)) refl c.next_record-rec.ensures.named c.in_ok-slot.ensures.free refl g.R.CommitRule.kept c.program.ensures.stored
     c.in_default.ensures.written c.note_next.new.openings c.note_next.ensures c.in_default.ensures.moves c.in_default.ensures.carries)
 
 pub returns-clause-costs : goal.returns-clause-costs
 returns-clause-costs g c = let state = g.F.Flash.state in
-    costs_all state c.args.store.now c.clear.new.store c.find_slot.new.store c.program.new.store c.args.openings.now c.note_next.new.openings (name_at (opening_at c.args.openings.now c.args.at).naming (opening_at c.args.openings.now c.args.at).entry.done) c.requires.stands.matches.noted (subst (λ (a : Link). CostsAtMost c.args.store.now.noted.config.pages_per_block (blocks_to_go c.args.store.now.noted a.page a.version) (state c.args.store.now.flash) (state c.clear.new.store.flash)) (c.name-name.ensures ∙ ap (name_at (opening_at c.args.openings.now c.args.at).naming) c.done.ensures) c.clear.ensures.costs) c.find_slot.ensures.costs c.in_ok-clear.ensures.left.exits.config
+    costs_all state c.args.store.now c.clear.new.store c.find_slot.new.store c.program.new.store c.args.openings.now c.note_next.new.openings (name_at (opening_at c.args.openings.now c.args.at).naming (opening_at c.args.openings.now c.args.at).entry.done) c.requires.stands.matches.noted (subst (λ (a : Link). CostsAtMost c.args.store.now.noted.config.pages_per_block (blocks_to_go c.args.store.now.noted a.page a.version) (state c.args.store.now.flash) (state c.clear.new.store.flash)) (c.name-name.ensures ∙ ap (name_at (opening_at c.args.openings.now c.args.at).naming) c.done.ensures) c.clear.ensures.costs) c.find_slot.ensures.costs c.in_ok-clear.ensures.left.exits.tables.config
     (λ none. (c.clear.ensures.idle (subst (λ (a : Link). block_to_go c.args.store.now.noted a.page a.version ≡ None) (sym (c.name-name.ensures ∙ ap (name_at (opening_at c.args.openings.now c.args.at).naming) c.done.ensures)) none)).1) (is_err c.find_slot.result) c.find_slot.ensures.direct c.program.ensures.costs.0 c.program.ensures.costs.1
 
 pub returns-clause-writes : goal.returns-clause-writes
@@ -157,6 +157,6 @@ pub returns-clause-fresh : goal.returns-clause-fresh
 returns-clause-fresh g c = let state = g.F.Flash.state in
     let its = opening_at c.args.openings.now c.args.at in
     adds_own state c.args.store.now c.clear.new.store c.find_slot.new.store c.program.new.store c.args.openings.now c.note_next.new.openings (name_at its.naming its.entry.done) (name_at its.naming (link_place its.entry)) c.in_ok-slot.slot c.next_record-rec.result (write_at its.entry its.entry.done).bytes
-    (subst NotesWrites (sym (ap (λ (k : Config). k.protocol) (c.in_ok-slot.ensures.left.exits.config ∙ c.in_ok-clear.ensures.left.exits.config) ∙ c.requires.rule)) (record { names = c.noted_writes.ensures.names; partial = c.noted_writes.ensures.partial; completing = c.noted_writes.ensures.completing }))
+    (subst NotesWrites (sym (ap (λ (k : Config). k.protocol) (c.in_ok-slot.ensures.left.exits.tables.config ∙ c.in_ok-clear.ensures.left.exits.tables.config) ∙ c.requires.rule)) (record { names = c.noted_writes.ensures.names; partial = c.noted_writes.ensures.partial; completing = c.noted_writes.ensures.completing }))
     c.in_ok-slot.ensures.left.stands.matches.noted c.find_slot.new.store.unsure c.in_ok-slot.ensures.left.stands.matches c.in_ok-slot.ensures.free c.in_ok-clear.ensures.left.kept c.in_ok-slot.ensures.left.kept
     c.next_record-rec.ensures.named c.in_default.ensures.written

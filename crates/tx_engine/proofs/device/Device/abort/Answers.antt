@@ -44,7 +44,7 @@ close-requires-clause-at g c =
 
 pub invariant_of-self-2 : goal.invariant_of-self-2
 invariant_of-self-2 g c =
-    let config = ap (λ (s : Stored _). s.noted.config) c.close.ensures.pins ∙ c.in_ok-settle.ensures.exits.config in
+    let config = ap (λ (s : Stored _). s.noted.config) c.close.ensures.pins ∙ c.in_ok-settle.ensures.exits.tables.config in
     record {
       stands = c.close.ensures.stands;
       rule = ap (λ k. k.protocol) config ∙ c.self.invariant.rule;

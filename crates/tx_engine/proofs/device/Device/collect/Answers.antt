@@ -32,7 +32,7 @@ returns-in_err-collect_settled-clause-rises g c =
     (collect_rises_err there old new c.from_residual-in_err-collect_settled.result c.from_residual-in_err-collect_settled.ensures.0
     (inr (
       ap (λ m. m.pages) (c.in_err-collect_settled.ensures.left.machine ∙ c.in_ok-settle.ensures.settles.machine),
-      rises_stay old mid new (settled_writes there old.machine) c.in_ok-settle.ensures.exits.config
+      rises_stay old mid new (settled_writes there old.machine) c.in_ok-settle.ensures.exits.tables.config
           (settled_low state c.self.inside.store c.self.inside.openings there c.self.invariant.stands) c.in_ok-settle.ensures.settles.rises c.in_err-collect_settled.ensures.left.versions,
     )))
 
@@ -52,7 +52,7 @@ returns-clause-rises g c =
     let new = standing_in state c.collect_settled.new.store c.settle.new.openings in
     let there = is_there state old in
     subst (λ (s : Standing _). VersionsRise s new (settled_writes (is_there state s) s.machine)) c.self.view_is
-    (rises_stay old mid new (settled_writes there old.machine) c.in_ok-settle.ensures.exits.config
+    (rises_stay old mid new (settled_writes there old.machine) c.in_ok-settle.ensures.exits.tables.config
     (settled_low state c.self.inside.store c.self.inside.openings there c.self.invariant.stands) c.in_ok-settle.ensures.settles.rises c.in_ok-collect_settled.ensures.left.versions)
 
 pub returns-clause-tables : goal.returns-clause-tables
@@ -74,6 +74,6 @@ returns-clause-nothing g c = λ is.
     let new = c.collect_settled.new.store in
     let same : Ok c.in_ok-collect_settled.field-0 ≡ Ok Nothing = (let its : c.in_ok-collect_settled.field-0 ≡ Nothing = cc in ap (λ x. Ok x) its) in
     let nothing = c.in_ok-collect_settled.ensures.nothing same in
-    let config : new.noted.config ≡ c.self.inside.store.noted.config = c.in_ok-collect_settled.ensures.left.exits.config ∙ c.in_ok-settle.ensures.exits.config in
+    let config : new.noted.config ≡ c.self.inside.store.noted.config = c.in_ok-collect_settled.ensures.left.exits.tables.config ∙ c.in_ok-settle.ensures.exits.tables.config in
     subst (λ (s : Standing _). HasNothingToCollect s.config.protocol s.config.logical (state new.flash).image (entries_of c.settle.new.openings)) c.self.view_is
     (subst (λ (k : Config). HasNothingToCollect k.protocol k.logical (state new.flash).image (entries_of c.settle.new.openings)) config nothing)

@@ -93,7 +93,7 @@ returns-in_err-advance-clause-rises g c =
     let tags : (opening_at c.settle.new.openings c.in-Some.at).entry.tag ≡ c.args.tag = ap (λ (e : Entry). e.tag) at.1 ∙ sym found.2 in
     subst (λ (s : Standing _). StepRises (is_there state s) s new c.args.tag c.from_residual-in_err-advance.result) c.self.view_is
     (fault_rises there old mid new c.args.tag (opening_at c.settle.new.openings c.in-Some.at).entry.tag (opening_at c.settle.new.openings c.in-Some.at).entry c.advance.result c.from_residual-in_err-advance.result (ap is_err c.in_err-advance.was) (fault_is c.from_residual-in_err-advance.result c.from_residual-in_err-advance.ensures.1)
-    c.in_ok-settle.ensures.exits.config (settled_low state c.self.inside.store c.self.inside.openings there c.self.invariant.stands) c.in_ok-settle.ensures.settles.machine c.in_ok-settle.ensures.settles.rises
+    c.in_ok-settle.ensures.exits.tables.config (settled_low state c.self.inside.store c.self.inside.openings there c.self.invariant.stands) c.in_ok-settle.ensures.settles.machine c.in_ok-settle.ensures.settles.rises
     c.advance.ensures.advances c.advance.ensures.rises)
 
 pub returns-clause-steps : goal.returns-clause-steps
@@ -139,11 +139,11 @@ returns-clause-rises g c =
     ap (λ (m : ArrayState). entry_of c.args.tag m.entries) (sym c.in_ok-settle.ensures.settles.machine)
     ∙ ap (λ t. entry_of t (entries_of c.settle.new.openings)) (sym tags) ∙ entry_first (opening_at c.settle.new.openings c.in-Some.at).entry.tag c.settle.new.openings.all c.in-Some.at (first_of_own c.settle.new.openings.all c.in-Some.at k1.tags at.0) in
     subst (λ o. VersionsRise old new (settled_writes there old.machine ++ done_writes o (Ok c.in_ok-advance.field-0))) (sym mine)
-    (rises_then state old mid new (settled_writes there old.machine) (done_writes (Some (opening_at c.settle.new.openings c.in-Some.at).entry) (Ok c.in_ok-advance.field-0)) c.in_ok-settle.ensures.exits.config
+    (rises_then state old mid new (settled_writes there old.machine) (done_writes (Some (opening_at c.settle.new.openings c.in-Some.at).entry) (Ok c.in_ok-advance.field-0)) c.in_ok-settle.ensures.exits.tables.config
     (settled_low state c.self.inside.store c.self.inside.openings there c.self.invariant.stands)
-    (subst (λ (k : Config). All (λ w. w.page < k.logical) (done_writes (Some (opening_at c.settle.new.openings c.in-Some.at).entry) (Ok c.in_ok-advance.field-0))) c.in_ok-settle.ensures.exits.config
+    (subst (λ (k : Config). All (λ w. w.page < k.logical) (done_writes (Some (opening_at c.settle.new.openings c.in-Some.at).entry) (Ok c.in_ok-advance.field-0))) c.in_ok-settle.ensures.exits.tables.config
     (done_low c.settle.new.store.noted.config.logical (opening_at c.settle.new.openings c.in-Some.at).entry c.in_ok-advance.field-0 (own_writes_low (state c.settle.new.store.flash) c.settle.new.store.noted c.settle.new.openings c.settle.new.store.table c.settle.new.store.unsure k1 c.in-Some.at at.0)))
-    c.in_ok-settle.ensures.exits.versions c.in_ok-advance.ensures.exits.versions c.in_ok-settle.ensures.settles.rises c.in_ok-advance.ensures.rises))
+    c.in_ok-settle.ensures.exits.tables.versions c.in_ok-advance.ensures.exits.tables.versions c.in_ok-settle.ensures.settles.rises c.in_ok-advance.ensures.rises))
 
 pub returns-in_err-advance-clause-costs : goal.returns-in_err-advance-clause-costs
 returns-in_err-advance-clause-costs g c =
@@ -154,7 +154,7 @@ returns-in_err-advance-clause-costs g c =
     let at = entry_settled (is_there state old) c.self.inside.openings c.settle.new.openings c.in-Some.at (ap (λ (m : ArrayState). m.entries) c.in_ok-settle.ensures.settles.machine) first.within in
     subst (λ (s : Standing _). CostsStep state s new c.args.tag) c.self.view_is
     (for_next state c.self.inside.store c.self.inside.openings c.args.tag c.in-Some.at (StepCosts state (with_settlement state old) new) first
-    (costs_then state c.self.inside.store c.settle.new.store c.self.inside.openings c.settle.new.openings c.in-Some.at (is_there state old) c.in_ok-settle.ensures.tables.0 c.in_ok-settle.ensures.tables.1 c.settle.ensures.moment c.settle.ensures.names first.within at.1 new c.in_ok-settle.ensures.exits.config c.advance.ensures.costs))
+    (costs_then state c.self.inside.store c.settle.new.store c.self.inside.openings c.settle.new.openings c.in-Some.at (is_there state old) c.in_ok-settle.ensures.tables.0 c.in_ok-settle.ensures.tables.1 c.settle.ensures.moment c.settle.ensures.names first.within at.1 new c.in_ok-settle.ensures.exits.tables.config c.advance.ensures.costs))
 
 pub returns-in_err-advance-clause-found : goal.returns-in_err-advance-clause-found
 returns-in_err-advance-clause-found g c =
@@ -176,7 +176,7 @@ returns-clause-costs g c =
     let at = entry_settled (is_there state old) c.self.inside.openings c.settle.new.openings c.in-Some.at (ap (λ (m : ArrayState). m.entries) c.in_ok-settle.ensures.settles.machine) first.within in
     subst (λ (s : Standing _). CostsStep state s new c.args.tag) c.self.view_is
     (for_next state c.self.inside.store c.self.inside.openings c.args.tag c.in-Some.at (StepCosts state (with_settlement state old) new) first
-    (costs_then state c.self.inside.store c.settle.new.store c.self.inside.openings c.settle.new.openings c.in-Some.at (is_there state old) c.in_ok-settle.ensures.tables.0 c.in_ok-settle.ensures.tables.1 c.settle.ensures.moment c.settle.ensures.names first.within at.1 new c.in_ok-settle.ensures.exits.config c.advance.ensures.costs))
+    (costs_then state c.self.inside.store c.settle.new.store c.self.inside.openings c.settle.new.openings c.in-Some.at (is_there state old) c.in_ok-settle.ensures.tables.0 c.in_ok-settle.ensures.tables.1 c.settle.ensures.moment c.settle.ensures.names first.within at.1 new c.in_ok-settle.ensures.exits.tables.config c.advance.ensures.costs))
 
 pub returns-clause-found : goal.returns-clause-found
 returns-clause-found g c =

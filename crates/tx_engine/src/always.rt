@@ -1,10 +1,10 @@
 ghost use Rattle.std.specs.Prelude.{◌≡◌};
-ghost use Rattle.cut_replay.specs.Mounted.{HoldsAlways};
+ghost use Rattle.tx_engine.specs.Always.{HoldsAlways};
 
+use crate::Device;
+use crate::laws::{cuts_leave, devices_stand};
 use flash_model::Flash;
 use record_list::CommitRule;
-use tx_engine::Device;
-use tx_engine::laws::{cuts_leave, devices_stand};
 use tx_types::Config;
 
 /// The configuration of a device, and what holds of its flash whatever was broken before.

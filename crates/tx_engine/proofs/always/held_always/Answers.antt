@@ -1,5 +1,5 @@
-use Rattle.cut_replay.proofs.HeldAlways.{holds_always}
-use Rattle.cut_replay.proofs.always.held_always.Goals as goal
+use Rattle.tx_engine.proofs.HeldAlways.{holds_always}
+use Rattle.tx_engine.proofs.always.held_always.Goals as goal
 
 pub returns-clause-always : goal.returns-clause-always
 returns-clause-always g c =

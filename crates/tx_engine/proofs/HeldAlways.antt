@@ -15,7 +15,7 @@ use Rattle.tx_engine.specs.Exits.{StandsFor, MentionsAtMost}
 use Rattle.tx_engine.specs.Standing.{Standing, Stands}
 use Rattle.tx_engine.specs.Step.{StepsAs, CutLeaves, IsAtLast, settled}
 use Rattle.tx_engine.specs.declared.step.StepError.TheVariants as failed
-use Rattle.cut_replay.specs.Mounted.{HoldsAlways}
+use Rattle.tx_engine.specs.Always.{HoldsAlways}
 
 -- a page past the last one is not mentioned
 none_beyond : (n : Noted) (logical page : ℕ) → length n.mentions ≡ logical → logical ≤ page → mention_of n page ≡ 0
