@@ -4,13 +4,13 @@ use Rattle.std.specs.Prelude.{IsTrue}
 use Rattle.std.specs.List.{AllByRecursion, IsDistinct}
 use Rattle.std.proofs.lemmas.Bool.{false≢true, cases_Bool, cases_lt, cond-true, cond-false, or_cases, true_from_ne_false, not-true, not_from_false}
 use Rattle.std.proofs.lemmas.Map.Steps.{length-le_from_distinct_below}
+use Rattle.list_facts.proofs.Tests.{below_any}
 use Rattle.tx_types.specs.declared.record.Link.{Link}
 use Rattle.record_list.specs.declared.found.Found.{Found}
 use Rattle.record_list.specs.Records.{has_name, is_present}
 use Rattle.record_list.specs.Verdict.{link_of}
 use Rattle.record_list.specs.SoundList.{follow}
 use Rattle.record_list.proofs.Names.{has_name_true, absent_link}
-use Rattle.record_list.proofs.Safe.{below_any}
 use Rattle.straddle_sets.proofs.Ending.{Ends}
 
 -- the place of the first record with a name

@@ -1,6 +1,7 @@
 -- Reading the slots of a block, one after another.
-use Rattle.std.proofs.Common.{◌≡◌, ◌⊎◌, ℕ, zero, suc, ◌+◌, ◌-◌, ◌<◌, ◌≤◌, Bool, true, false, ◌&&◌, List, Ok, Err, Result, refl, sym, ap, ap₂, ◌∙◌, subst, inl, inr, arith}
+use Rattle.std.proofs.Common.{◌≡◌, ◌⊎◌, ℕ, ◌+◌, ◌-◌, ◌<◌, ◌≤◌, Bool, true, false, ◌&&◌, List, Ok, Err, Result, refl, sym, ap, ap₂, ◌∙◌, subst, inl, inr, arith}
 use Rattle.std.specs.List.{range_with_len, list_all}
+use Rattle.list_facts.proofs.Ranges.{range_push}
 use Rattle.flash_model.specs.Flash.{FlashState, Contents, blank, damaged, complete, slot_at, counted_by}
 use Rattle.flash_model.specs.Calls.{Reads, seen_of}
 use Rattle.flash_model.specs.declared.flash.Seen.{Seen}
@@ -64,22 +65,6 @@ looks_fewer a c k most le h = record {
   all = tt;
   some = elim h.some [ inl same ↦ inl same | inr some ↦ inr (some.0, omega (arith, some.1, le), some.2) ];
 }
-
-and_true : (b : Bool) → (b && true) ≡ b
-and_true true = refl
-and_true false = refl
-
-and_assoc : (a b c : Bool) → ((a && b) && c) ≡ (a && (b && c))
-and_assoc true b c = refl
-and_assoc false b c = refl
-
--- a test of one number more at the end of a range
-pub range_push : (p : ℕ → Bool) (a n : ℕ) → list_all p (range_with_len a (n + 1)) ≡ (list_all p (range_with_len a n) && p (a + n))
-range_push p a zero = and_true (p a) ∙ ap p (let same : a ≡ a + 0 = omega arith in same)
-range_push p a (suc n) =
-    ap (λ k. list_all p (range_with_len a k)) (let more : suc n + 1 ≡ suc (n + 1) = omega arith in more)
-    ∙ ap (λ b. p a && b) (range_push p (a + 1) n ∙ ap (λ k. list_all p (range_with_len (a + 1) n) && p k) (let same : a + 1 + n ≡ a + suc n = omega arith in same))
-    ∙ sym (and_assoc (p a) (list_all p (range_with_len (a + 1) n)) (p (a + suc n)))
 
 -- how a slot reads that holds these contents
 pub blank_reads : (contents : Contents) → reads_blank (seen_of contents) ≡ is_blank_slot contents

@@ -2,6 +2,8 @@
 use Rattle.std.proofs.Common.{◌≡◌, ◌≢◌, ℕ, ◌+◌, ◌-◌, ◌*◌, ◌<◌, ◌≤◌, true, List, [], ◌∷◌, ◌++◌, OnErr, Ok, Err, Result, length, filter, refl, sym, ap, ◌∙◌, subst, inl, inr, arith}
 use Rattle.std.specs.List.{range_with_len}
 use Rattle.std.proofs.lemmas.List.{append-nil}
+use Rattle.list_facts.proofs.Ranges.{filter_parts}
+use Rattle.list_facts.proofs.Membership.{in_front, in_middle, IsIn}
 use Rattle.tx_types.specs.Config.{shape_of, blocks_of}
 use Rattle.tx_types.specs.declared.config.Block.{Block}
 use Rattle.tx_types.specs.declared.config.Protocol.{Protocol}
@@ -12,7 +14,6 @@ use Rattle.flash_model.specs.Flash.{FlashState, counted}
 use Rattle.flash_model.specs.Moves.{Does}
 use Rattle.flash_model.specs.Operations.{Moment, Torn, program, erase, moment_of}
 use Rattle.record_list.specs.Changes.{LossLaw}
-use Rattle.record_list.proofs.Names.{IsIn}
 use Rattle.version_index.specs.Noted.{Noted, needed_of, erased}
 use Rattle.die_alloc.specs.BlockTable.{BlockTable}
 use Rattle.collector.specs.declared.unsure.Unsure.{Unsure}
@@ -23,17 +24,7 @@ use Rattle.collector.specs.Looking.{reads_after}
 use Rattle.collector.specs.Matches.{Matches}
 use Rattle.collector.proofs.Collections.{same_slots, copies_follow, all_copied}
 use Rattle.collector.proofs.CopyingBlocks.{CopiedSoFar, needed_before, its_program, to_at, needed0}
-use Rattle.collector.proofs.CopyLists.{filter_parts}
 use Rattle.collector.proofs.Looked.{reads_more}
-
-in_front : {X : Type 0} (x : X) (xs ys : List X) → IsIn xs x → IsIn (xs ++ ys) x
-in_front x [] ys i = absurd i
-in_front x (y ∷ rest) ys (inl e) = inl e
-in_front x (y ∷ rest) ys (inr i) = inr (in_front x rest ys i)
-
-in_middle : {X : Type 0} (x : X) (xs ys : List X) → IsIn (xs ++ x ∷ ys) x
-in_middle x [] ys = inl refl
-in_middle x (y ∷ rest) ys = inr (in_middle x rest ys)
 
 -- the next copy broke off
 module _ (p : Protocol) (n0 n : Noted) (s0 s : FlashState) (t : BlockTable) (u : Unsure) (first start at used block : ℕ)

@@ -1,9 +1,9 @@
 -- Two changes one after the other: what both keep, the whole keeps.
 use Rattle.std.proofs.Common.{◌≡◌, ℕ, ◌+◌, ◌-◌, ◌*◌, ◌≤◌, Any, refl, ◌∙◌, arith}
 use Rattle.std.proofs.Math.Nat.{mul-le-mul_right}
+use Rattle.list_facts.proofs.Membership.{IsIn, all_from, all_at, in_from, contains_from}
 use Rattle.flash_model.specs.Flash.{FlashState}
 use Rattle.record_list.specs.declared.found.Found.{Found}
-use Rattle.record_list.proofs.Names.{IsIn, all_from, all_at, in_from, contains_from}
 use Rattle.version_index.specs.Notes.{found_in}
 use Rattle.version_index.specs.Noted.{Noted}
 use Rattle.collector.specs.Going.{CostsAtMost, HasNoNewRecord}

@@ -4,6 +4,7 @@ use Rattle.std.specs.Result.{is_err}
 use Rattle.std.specs.Option.{option_map_or}
 use Rattle.std.proofs.lemmas.Bool.{cases_lt, cond-true, cond-false}
 use Rattle.std.proofs.lemmas.List.{ext_get_or}
+use Rattle.list_facts.proofs.Ranges.{all_range, range_same}
 use Rattle.tx_types.specs.Config.{shape_of, slots_of, blocks_of}
 use Rattle.tx_types.specs.declared.config.Protocol.{Protocol}
 use Rattle.tx_types.specs.declared.record.Rec.{Rec}
@@ -26,7 +27,7 @@ use Rattle.collector.specs.BreakingOff.{CleaningBreaks}
 use Rattle.collector.specs.Collecting.{is_blank_slot, is_blank_block, is_noted_blank, cleaning}
 use Rattle.collector.proofs.Calm.{noted_as_read}
 use Rattle.collector.proofs.NotesLeft.{note_at-in, note_at-out, length-noted}
-use Rattle.collector.proofs.Ranges.{all_range, range_same, noted_blank}
+use Rattle.collector.proofs.Ranges.{noted_blank}
 
 -- a slot that is noted as it reads is noted blank exactly where it is
 blank_as_noted : (p : Protocol) (contents : Contents) → is_blank (note_of p contents) ≡ is_blank_slot contents

@@ -1,11 +1,11 @@
 -- What is noted once a block was collected: no record is new, and what was copied was needed.
 use Rattle.std.proofs.Common.{◌≡◌, ◌⊎◌, ℕ, zero, suc, ◌+◌, ◌*◌, ◌<◌, true, List, [], ◌∷◌, length, set, refl, sym, ap, ◌∙◌, subst, inl, inr}
 use Rattle.std.proofs.Math.ListN.{length-set}
+use Rattle.list_facts.proofs.Membership.{IsIn, from_filter}
 use Rattle.tx_types.specs.Config.{shape_of, slots_of, blocks_of}
 use Rattle.tx_types.specs.declared.config.Config.{Config}
 use Rattle.record_list.specs.declared.found.Found.{Found}
 use Rattle.record_list.specs.Written.{is_outside}
-use Rattle.record_list.proofs.Names.{IsIn, from_filter}
 use Rattle.version_index.specs.declared.note.Note.{Note}
 use Rattle.version_index.specs.declared.note.Note.TheVariants.{Blank, Holds}
 use Rattle.version_index.specs.Notes.{note_at, found_in}

@@ -4,6 +4,8 @@ use Rattle.std.specs.List.{range_with_len}
 use Rattle.std.specs.Result.{is_err}
 use Rattle.std.proofs.lemmas.Bool.{cases_Bool, cond_both, both_ways}
 use Rattle.std.proofs.lemmas.Nat.{div-mul-add}
+use Rattle.list_facts.proofs.Ranges.{range_bounds}
+use Rattle.list_facts.proofs.Membership.{IsIn, all_from, from_filter}
 use Rattle.tx_types.specs.Config.{shape_of, blocks_of}
 use Rattle.tx_types.specs.declared.config.Protocol.{Protocol}
 use Rattle.tx_types.specs.declared.config.Shape.{Shape}
@@ -15,14 +17,13 @@ use Rattle.flash_model.specs.Moves.{Does, FlashMoves, StayOff}
 use Rattle.flash_model.proofs.ImageLemmas.{block_within, slot_at-does}
 use Rattle.flash_model.proofs.MoveLemmas.{same_moments, Does-append, FlashMoves-operates}
 use Rattle.record_list.specs.Changes.{LossLaw}
-use Rattle.record_list.proofs.Names.{IsIn, all_from, from_filter}
 use Rattle.version_index.specs.declared.note.Note.TheVariants.{Blank}
 use Rattle.version_index.specs.Noted.{Noted, needed_of, erased}
 use Rattle.die_alloc.specs.BlockTable.{BlockTable}
 use Rattle.collector.specs.declared.unsure.Unsure.{Unsure}
 use Rattle.collector.specs.Matches.{Matches, IsNextOfSpare}
 use Rattle.collector.specs.Collecting.{is_blank_block, cleaning, copies, collecting, noted_cleaned, needed_slots, CopiesDone, HasUnneeded}
-use Rattle.collector.proofs.CopyLists.{copies_same, in_range}
+use Rattle.collector.proofs.CopyLists.{copies_same}
 use Rattle.collector.proofs.Homes.{cleaned_needs}
 use Rattle.collector.proofs.NotesLeft.{note_at-in}
 
@@ -69,7 +70,7 @@ module _ (p : Protocol) (loss : LossLaw p) (s0 : FlashState) (n0 : Noted) (t : B
     stay_off : (k : ℕ) → IsIn slots k → StayOff s0.shape (k / s0.shape.pages_per_block) (cleaning n0 s0.image t.spare)
     stay_off k i =
         let parts = from_filter (needed_of (erased n0 t.spare)) k (range_with_len (block * n0.config.pages_per_block) n0.config.pages_per_block) i in
-        let place = in_range (block * n0.config.pages_per_block) n0.config.pages_per_block k parts.0 in
+        let place = range_bounds (block * n0.config.pages_per_block) n0.config.pages_per_block k parts.0 in
         let its : k ≡ block * n0.config.pages_per_block + (k - block * n0.config.pages_per_block) = omega (arith, place.0) in
         let there : k / s0.shape.pages_per_block ≡ block =
         ap (λ (x : Shape). k / x.pages_per_block) m.shape ∙ ap (λ q. q / n0.config.pages_per_block) its

@@ -1,5 +1,6 @@
 -- Copying a record to a slot of the spare: what is noted then.
 use Rattle.std.proofs.Common.{◌≡◌, ℕ, ◌<◌, true, List, length, set, refl, sym, ap, ◌∙◌, subst, inl, inr}
+use Rattle.list_facts.proofs.Membership.{IsIn, all_at, all_from, contains_from, from_filter, in_filter}
 use Rattle.tx_types.specs.Config.{shape_of}
 use Rattle.tx_types.specs.declared.record.Link.{Link}
 use Rattle.tx_types.specs.declared.record.Rec.{Rec}
@@ -8,7 +9,7 @@ use Rattle.record_list.specs.Records.{name_of, is_present}
 use Rattle.record_list.specs.Changes.{IsInserted, left, CopyLaw, CopyKeeps}
 use Rattle.record_list.specs.SoundList.{Pages, PagesExist}
 use Rattle.record_list.specs.Written.{is_outside, is_wanted}
-use Rattle.record_list.proofs.Names.{IsIn, all_at, all_from, contains_from, found_named, present_as, from_filter, in_filter}
+use Rattle.record_list.proofs.Names.{found_named, present_as}
 use Rattle.record_list.proofs.OneMore.{inserted_in, in_inserted}
 use Rattle.record_list.proofs.Wanted.{wanted_cases, counted_wanted, pinned_wanted}
 use Rattle.version_index.specs.declared.note.Note.TheVariants.{Blank, Holds}

@@ -6,6 +6,7 @@ use Rattle.std.proofs.Math.Nat.{mul-le-mul_right}
 use Rattle.std.proofs.lemmas.Bool.{cases_Bool, cases_lt, cases_order, both_ways}
 use Rattle.std.proofs.lemmas.List.{get_or-set_same, get_or-set_other, length_push}
 use Rattle.std.proofs.lemmas.Nat.{div-mul-add}
+use Rattle.list_facts.proofs.Ranges.{filter_passed, filter_taken, filter_most, filter_fewer}
 use Rattle.tx_types.specs.Config.{shape_of, slots_of, blocks_of}
 use Rattle.tx_types.specs.declared.config.Config.{Config}
 use Rattle.tx_types.specs.declared.config.Protocol.{Protocol}
@@ -32,7 +33,7 @@ use Rattle.collector.specs.Looking.{reads_after}
 use Rattle.collector.specs.Matches.{Matches, IsNextOfSpare}
 use Rattle.collector.specs.Preserves.{Preserves, KeepsArray}
 use Rattle.collector.specs.Collecting.{copy_program, copies, copied_from, needed_slots, CopyDone, CopiesDone, HasUnneeded}
-use Rattle.collector.proofs.CopyLists.{copied_more, copies_more, filter_passed, filter_taken, filter_most, filter_fewer}
+use Rattle.collector.proofs.CopyLists.{copied_more, copies_more}
 use Rattle.collector.proofs.Homes.{copy_needs}
 use Rattle.collector.proofs.Keeping.{preserves_then, preserves_same, keeps_array_then, keeps_array_same}
 use Rattle.collector.proofs.Looked.{reads_more}

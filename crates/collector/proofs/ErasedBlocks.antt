@@ -5,6 +5,7 @@ use Rattle.std.specs.List.{list_all}
 use Rattle.std.specs.Option.{option_map_or}
 use Rattle.std.proofs.lemmas.Bool.{both_ways}
 use Rattle.std.proofs.Math.Nat.{div-eq_of_lt-le}
+use Rattle.list_facts.proofs.Ranges.{all_range, range_all}
 use Rattle.tx_types.specs.Config.{shape_of, slots_of, blocks_of}
 use Rattle.tx_types.specs.declared.config.Protocol.{Protocol}
 use Rattle.tx_types.specs.declared.record.Rec.{Rec}
@@ -22,7 +23,6 @@ use Rattle.collector.specs.declared.unsure.Unsure.{Unsure}
 use Rattle.collector.specs.Collecting.{is_blank_slot, is_blank_block, slots_in}
 use Rattle.collector.specs.Matches.{Matches, IsNotedAt, AllOfBlock, IsErasing}
 use Rattle.collector.specs.Settling.{reads_as, block_reads_as_noted}
-use Rattle.collector.proofs.Ranges.{all_range, range_all}
 
 -- a note that a damaged slot reads as
 as_damaged : (note : Note) → reads_as note damaged ≡ true → note ≡ Damaged

@@ -1,7 +1,11 @@
 -- A round of clearing: the treated block holds no record any more that must go, and no other does that did not.
-use Rattle.std.proofs.Common.{◌≡◌, ◌≢◌, ℕ, zero, suc, ◌+◌, ◌*◌, ◌/◌, ◌<◌, ◌≤◌, Bool, true, false, ◌&&◌, cond, eqb, eqb-true, eq-eqb, ltb, List, count_by, None, refl, sym, ap, ◌∙◌, subst, inl, inr, arith}
+use Rattle.std.proofs.Common.{◌≡◌, ◌≢◌, ℕ, ◌*◌, ◌/◌, ◌<◌, true, false, ◌&&◌, eqb, eqb-true, eq-eqb, ltb, List, count_by, None, refl, sym, ap, ◌∙◌, subst, arith}
 use Rattle.std.specs.List.{range_with_len}
-use Rattle.std.proofs.lemmas.Bool.{cases_lt, and_parts, and_from, both_ways, false_from_ne_true, false≢true}
+use Rattle.std.proofs.lemmas.Bool.{and_parts, and_from, both_ways, false_from_ne_true, false≢true}
+use Rattle.list_facts.proofs.Membership.{IsIn, all_at, contains_from}
+use Rattle.list_facts.proofs.Tests.{any_of, any_from}
+use Rattle.list_facts.proofs.Counts.{count_less}
+use Rattle.list_facts.proofs.Ranges.{in_range}
 use Rattle.tx_types.specs.Config.{shape_of, blocks_of}
 use Rattle.tx_types.specs.declared.config.Config.{Config}
 use Rattle.tx_types.specs.declared.config.Protocol.{Protocol}
@@ -12,8 +16,6 @@ use Rattle.record_list.specs.declared.found.Found.{Found}
 use Rattle.record_list.specs.Records.{mentions_below}
 use Rattle.record_list.specs.Current.{cur, must_go}
 use Rattle.record_list.specs.SoundList.{Pages, PagesExist}
-use Rattle.record_list.proofs.Held.{any_of, any_from}
-use Rattle.record_list.proofs.Names.{IsIn, all_at, contains_from}
 use Rattle.version_index.specs.Notes.{found_in}
 use Rattle.version_index.specs.Noted.{Noted, IsNoted, current_of, needed_of, erased, block_to_go}
 use Rattle.version_index.proofs.Blocks.{other_block, inside_block}
@@ -24,41 +26,6 @@ use Rattle.collector.proofs.Chains.{was_there}
 use Rattle.collector.proofs.CollectedNotes.{erased_from, collected_outside, collected_from, in_place, in_copy}
 use Rattle.collector.proofs.GoneRecords.{GoesFrom, going_none, none_going, slot_needless}
 use Rattle.collector.proofs.NextNames.{next_stays}
-use Rattle.collector.proofs.Ranges.{count_first}
-
-abbrev pub one_of : Bool → ℕ
-one_of b = cond b 1 0
-
-one_more : (b c : Bool) → (c ≡ true → b ≡ true) → cond c 1 0 ≤ cond b 1 0
-one_more true true h = omega arith
-one_more true false h = omega arith
-one_more false true h = absurd (false≢true (h refl))
-one_more false false h = omega arith
-
--- of two tests of a range the first passes where the second does
-count_more : (p q : ℕ → Bool) (a n : ℕ) → ((k : ℕ) → a ≤ k → k < a + n → q k ≡ true → p k ≡ true) → count_by q (range_with_len a n) ≤ count_by p (range_with_len a n)
-count_more p q a zero h = omega arith
-count_more p q a (suc n) h =
-    let rest = count_more p q (a + 1) n (λ k low high. h k (omega arith) (omega arith)) in
-    let here = one_more (p a) (q a) (h a (omega arith) (omega arith)) in
-    omega (arith, count_first p a n, count_first q a n, rest, here)
-
--- and somewhere the second does not
-count_less : (p q : ℕ → Bool) (a n j : ℕ) → ((k : ℕ) → a ≤ k → k < a + n → q k ≡ true → p k ≡ true) → a ≤ j → j < a + n → p j ≡ true → q j ≡ false →
-    count_by q (range_with_len a n) < count_by p (range_with_len a n)
-count_less p q a zero j h low high pass off = absurd (omega arith)
-count_less p q a (suc n) j h low high pass off = elim (cases_lt a j) [
-  | inl later ↦ (
-      let rest = count_less p q (a + 1) n j (λ k low high. h k (omega arith) (omega arith)) (omega arith) (omega arith) pass off in
-      let here = one_more (p a) (q a) (h a (omega arith) (omega arith)) in
-      omega (arith, count_first p a n, count_first q a n, rest, here))
-  | inr now ↦ (
-      let same : j ≡ a = omega arith in
-      let rest = count_more p q (a + 1) n (λ k low high. h k (omega arith) (omega arith)) in
-      let one : one_of (p a) ≡ 1 = ap one_of (ap p (sym same) ∙ pass) in
-      let none : one_of (q a) ≡ 0 = ap one_of (ap q (sym same) ∙ off) in
-      omega (arith, count_first p a n, count_first q a n, rest, one, none))
-]
 
 -- a record that must go, in a block
 pub record GoesIn (n : Noted) (page below block : ℕ) (f : Found) : Type 0 where
@@ -112,13 +79,6 @@ clear_stays n m noted kept fewer page below none = none_going m page below (λ f
     goes_same n m kept page below f.rec (subst (λ (r : Rec). r.page < n.config.logical) w.same page_low)
     ∙ ap (must_go n.config.protocol (found_in n.notes) n.config.logical page below) (sym w.same)
     ∙ going_none n page below none w.was w.is_in)
-
-pub in_range : (a n k : ℕ) → a ≤ k → k < a + n → IsIn (range_with_len a n) k
-in_range a zero k low high = absurd (omega arith)
-in_range a (suc n) k low high = elim (cases_lt a k) [
-  | inl later ↦ inr (in_range (a + 1) n k (omega arith) (omega arith))
-  | inr here ↦ inl (omega arith)
-]
 
 -- a slot of a block is one of its slots
 pub in_slots : (n : Noted) (block slot : ℕ) → 0 < n.config.pages_per_block → slot / n.config.pages_per_block ≡ block → IsIn (slots_in n block) slot

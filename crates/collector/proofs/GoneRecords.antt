@@ -3,6 +3,7 @@ use Rattle.std.proofs.Common.{◌≡◌, ◌≢◌, ◌⊎◌, ℕ, ◌/◌, ◌
 use Rattle.std.specs.Option.{option_map}
 use Rattle.std.proofs.lemmas.Bool.{cases_Bool, cond-true, cond-false, and_parts, or_cases, both_ways, false≢true, false_from_ne_true}
 use Rattle.std.proofs.lemmas.Option.{none-some, same_Some}
+use Rattle.list_facts.proofs.Membership.{IsIn, all_at, in_from}
 use Rattle.tx_types.specs.declared.config.Protocol.{Protocol}
 use Rattle.tx_types.specs.declared.config.Protocol.TheVariants.{Scc, Bpcc}
 use Rattle.tx_types.specs.declared.record.Link.{Link}
@@ -12,7 +13,6 @@ use Rattle.record_list.specs.Records.{name_of, mentions_below}
 use Rattle.record_list.specs.Current.{cur, IsCurrent, is_loose, is_held, must_go}
 use Rattle.record_list.specs.Transaction.{rounded, back_version, IsAsked, IsBegun}
 use Rattle.record_list.specs.Written.{first_slot}
-use Rattle.record_list.proofs.Names.{IsIn, all_at, in_from}
 use Rattle.record_list.proofs.Progress.{underway_of, one_name}
 use Rattle.record_list.proofs.Rounds.{follows_of, follows_in}
 use Rattle.version_index.specs.Notes.{found_in}

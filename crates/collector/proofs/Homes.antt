@@ -1,10 +1,12 @@
 -- A copy in the spare of a record that stands outside it moves no home, and changes nobody's need. A blank spare moves none
 -- either, and ends at most that a record is held.
-use Rattle.std.proofs.Common.{◌≡◌, ◌≢◌, ℕ, ◌<◌, Bool, true, false, ◌&&◌, ◌||◌, eqb-true, eq-eqb, cond, List, [], ◌∷◌, ◌++◌, length, filter, find, Option, Some, refl, sym, ap, ap₂, ◌∙◌, subst, inl, inr}
+use Rattle.std.proofs.Common.{◌≡◌, ◌≢◌, ℕ, ◌<◌, Bool, true, false, ◌&&◌, ◌||◌, eqb-true, eq-eqb, List, [], ◌∷◌, length, find, Option, Some, refl, sym, ap, ap₂, ◌∙◌, subst, inl, inr}
 use Rattle.std.specs.Prelude.{◌==◌}
 use Rattle.std.specs.List.{list_any}
 use Rattle.std.specs.Option.{option_map, option_or}
-use Rattle.std.proofs.lemmas.Bool.{cases_Bool, cond-true, cond-false, and_parts, and_from, both_ways, cond_both, and_right}
+use Rattle.std.proofs.lemmas.Bool.{cases_Bool, cond-true, cond-false, and_parts, and_from, both_ways, and_right}
+use Rattle.list_facts.proofs.Membership.{IsIn, all_at, from_filter}
+use Rattle.list_facts.proofs.Tests.{any_same_in, find_more, find_left, any_from}
 use Rattle.tx_types.specs.Config.{shape_of, blocks_of}
 use Rattle.tx_types.specs.declared.config.Protocol.{Protocol}
 use Rattle.tx_types.specs.declared.config.Shape.{Shape}
@@ -16,8 +18,7 @@ use Rattle.record_list.specs.Changes.{IsInserted, left, CopyLaw, CopyKeeps, Loss
 use Rattle.record_list.specs.Current.{cur, is_held}
 use Rattle.record_list.specs.SoundList.{Pages, PagesExist}
 use Rattle.record_list.specs.Written.{is_outside, is_outside_spare, first_slot, home, is_slot, is_wanted}
-use Rattle.record_list.proofs.Held.{any_from}
-use Rattle.record_list.proofs.Names.{IsIn, all_at, has_own_name, from_filter}
+use Rattle.record_list.proofs.Names.{has_own_name}
 use Rattle.record_list.proofs.OneMore.{inserted_any}
 use Rattle.record_list.proofs.Wanted.{counted_wanted, pinned_wanted}
 use Rattle.version_index.specs.declared.note.Note.TheVariants.{Blank, Holds}
@@ -28,11 +29,6 @@ use Rattle.collector.specs.Matches.{CanSpare}
 use Rattle.collector.proofs.CopyNotes.{kept, added, first}
 use Rattle.collector.proofs.Losing.{is_left, loses}
 use Rattle.collector.proofs.NeedFacts.{home_needed}
-
--- an item that fails a test is not found by it
-find_more : {X : Type 0} (test : X → Bool) (x : X) (before after : List X) → test x ≡ false → find test (before ++ x ∷ after) ≡ find test (before ++ after)
-find_more test x [] after fail = cond-false (test x) (Some x) (find test after) fail
-find_more test x (y ∷ ys) after fail = ap (λ o. cond (test y) (Some y) o) (find_more test x ys after fail)
 
 first_inserted : (test : Found → Bool) (l l' : List Found) (f : Found) → IsInserted l f l' → test f ≡ false → first_slot test l' ≡ first_slot test l
 first_inserted test l l' f ins fail =
@@ -53,11 +49,6 @@ first_of test (g ∷ gs) f i pass = elim (cases_Bool (test g)) [
       ] in
       (rest.0, ap (option_map (λ h. h.slot.0)) (cond-false (test g) (Some g) (find test gs) fail) ∙ rest.1))
 ]
-
--- two tests that agree on the items of a list
-any_same_in : {X : Type 0} (test test' : X → Bool) (l : List X) → ((x : X) → IsIn l x → test x ≡ test' x) → list_any test l ≡ list_any test' l
-any_same_in test test' [] h = refl
-any_same_in test test' (x ∷ xs) h = ap₂ (λ a b. a || b) (h x (inl refl)) (any_same_in test test' xs (λ y i. h y (inr i)))
 
 -- the test of a name outside the spare
 abbrev pub stands_off : Shape → Option ℕ → Link → Found → Bool
@@ -143,19 +134,6 @@ module _ (n : Noted) (noted : IsNoted n.config.protocol n) (law : CopyLaw n.conf
       ∙ ap (λ b. b || list_any (test more) old) fails
       ∙ any_same_in (test more) (test old) old (λ f i.
       ap₂ (λ h w. (f.slot.0 == k) && is_slot k h && w) (home_lists (name_of f.rec)) (wanted_same f i))
-
--- a test that finds only what stays finds the same in what is left
-find_left : {X : Type 0} (test keep : X → Bool) (l : List X) → ((x : X) → test x ≡ true → keep x ≡ true) → find test (filter keep l) ≡ find test l
-find_left test keep [] h = refl
-find_left test keep (x ∷ xs) h =
-    let ih = find_left test keep xs h in
-    elim (cases_Bool (test x)) [
-      | inl pass' ↦ ap (find test) (cond-true (keep x) (x ∷ filter keep xs) (filter keep xs) (h x pass'))
-          ∙ cond-true (test x) (Some x) (find test (filter keep xs)) pass' ∙ sym (cond-true (test x) (Some x) (find test xs) pass')
-      | inr fail ↦ cond_both (keep x) (x ∷ filter keep xs) (filter keep xs) (λ l. find test l ≡ find test (x ∷ xs))
-          (λ e. cond-false (test x) (Some x) (find test (filter keep xs)) fail ∙ ih ∙ sym (cond-false (test x) (Some x) (find test xs) fail))
-          (λ e. ih ∙ sym (cond-false (test x) (Some x) (find test xs) fail))
-    ]
 
 -- a blank spare
 module _ (n : Noted) (noted : IsNoted n.config.protocol n) (law : LossLaw n.config.protocol) (spare : ℕ) (below : spare < blocks_of (shape_of n.config))

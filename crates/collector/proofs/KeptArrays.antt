@@ -1,6 +1,7 @@
 -- What is kept of an array and of bytes is known too.
 use Rattle.std.proofs.Common.{◌≡◌, ℕ, ◌<◌, ◌≤◌, true, List, None, Contains, sym, ap, ◌∙◌, subst, inl, inr, arith}
 use Rattle.std.proofs.lemmas.Bool.{cases_Bool}
+use Rattle.list_facts.proofs.Membership.{all_at}
 use Rattle.tx_types.specs.declared.config.Config.{Config}
 use Rattle.tx_types.specs.declared.config.Protocol.{Protocol}
 use Rattle.tx_types.specs.declared.record.Link.{Link}
@@ -8,7 +9,7 @@ use Rattle.flash_model.specs.Flash.{FlashState, Contents}
 use Rattle.record_list.specs.Records.{is_present}
 use Rattle.record_list.specs.Written.{bytes_at}
 use Rattle.record_list.proofs.Arrays.{bytes_absent}
-use Rattle.record_list.proofs.Names.{all_at, found_named}
+use Rattle.record_list.proofs.Names.{found_named}
 use Rattle.version_index.specs.Images.{records_in, written_in}
 use Rattle.version_index.specs.Noted.{Noted, current_name_of, pinned_names}
 use Rattle.version_index.proofs.ImageScans.{records_scanned}

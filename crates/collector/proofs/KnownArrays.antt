@@ -1,19 +1,13 @@
 -- The array that is known of an image whose current versions are known.
-use Rattle.std.proofs.Common.{◌≡◌, ℕ, ◌<◌, List, Option, None, map, sym, ap, ◌∙◌, arith}
+use Rattle.std.proofs.Common.{◌≡◌, ℕ, ◌<◌, List, Option, map, sym, ap, ◌∙◌}
 use Rattle.std.specs.List.{range_with_len}
-use Rattle.std.proofs.lemmas.List.FromFn.{fill_by_all, length-map-range_with_len, get_or-map-range_with_len}
+use Rattle.list_facts.proofs.Ranges.{same_range}
 use Rattle.tx_types.specs.declared.config.Protocol.{Protocol}
 use Rattle.flash_model.specs.Flash.{Contents}
 use Rattle.record_list.specs.Written.{Written, bytes_at, page_at}
 use Rattle.version_index.specs.Images.{written_in, current_in, array_in}
 use Rattle.version_index.specs.Noted.{Noted, current_of}
 use Rattle.collector.specs.Known.{page_known, array_known}
-
--- functions that agree below a number give the same list
-pub same_range : {X : Type 0} (f g : ℕ → X) (n : ℕ) (d : X) → ((k : ℕ) → k < n → f k ≡ g k) → map f (range_with_len 0 n) ≡ map g (range_with_len 0 n)
-same_range f g n d same =
-    fill_by_all g (map f (range_with_len 0 n)) n d (length-map-range_with_len f 0 n)
-    (λ k within. get_or-map-range_with_len f 0 n k k d within (omega arith) ∙ same k within)
 
 at_version : List Written → ℕ → ℕ → Option (List ℕ)
 at_version list page version = bytes_at list (record { page = page; version = version })
@@ -23,7 +17,7 @@ pub array_is_known : (p : Protocol) (n : Noted) (image : List Contents) → n.co
     ((page : ℕ) → page < n.config.logical → current_in p n.config.logical image page ≡ current_of n page) → array_in p n.config.logical image ≡ array_known n image
 unfolding array_in array_known current_in at_version
 array_is_known p n image rule current =
-    same_range (page_at p (written_in p image) n.config.logical) (page_known n image) n.config.logical None
+    same_range (page_at p (written_in p image) n.config.logical) (page_known n image) n.config.logical
     (λ page within. ap (at_version (written_in p image) page) (current page within) ∙ ap (λ q. at_version (written_in q image) page (current_of n page)) (sym rule))
 
 -- tables with the same current versions know the same array of an image, or of two whose current records have the same bytes
@@ -32,4 +26,4 @@ pub same_known : (n n' : Noted) (image image' : List Contents) → n'.config ≡
 unfolding array_known
 same_known n n' image image' config same =
     ap (λ l. map (page_known n' image') (range_with_len 0 l)) (ap (λ c. c.logical) config)
-    ∙ same_range (page_known n' image') (page_known n image) n.config.logical None same
+    ∙ same_range (page_known n' image') (page_known n image) n.config.logical same

@@ -1,5 +1,5 @@
 -- The known image: its notes are those of the tables, it is sound, and it stands for the array that is known.
-use Rattle.std.proofs.Common.{◌≡◌, ℕ, ◌+◌, ◌/◌, ◌<◌, true, false, not, eqb-true, List, length, replicate, Some, None, All, refl, sym, ap, ◌∙◌, subst, inl, inr, arith}
+use Rattle.std.proofs.Common.{◌≡◌, ℕ, ◌+◌, ◌/◌, ◌<◌, true, false, not, eqb-true, List, length, replicate, Some, All, refl, sym, ap, ◌∙◌, subst, inl, inr, arith}
 use Rattle.std.specs.Prelude.{◌==◌, IsSomeAnd}
 use Rattle.std.specs.List.{enumerate_from}
 use Rattle.std.specs.Option.{option_map_or}
@@ -8,6 +8,8 @@ use Rattle.std.proofs.lemmas.Option.{same_Some}
 use Rattle.std.proofs.lemmas.List.{length-map, get_or-map, ext_get_or}
 use Rattle.std.proofs.lemmas.List.Elements.{All-from_get_or}
 use Rattle.std.proofs.lemmas.List.FromFn.{length-enumerate_from, get_or-enumerate_from}
+use Rattle.list_facts.proofs.Ranges.{same_range}
+use Rattle.list_facts.proofs.Membership.{IsIn, all_at, all_from}
 use Rattle.tx_types.specs.Config.{shape_of, slots_of, blocks_of}
 use Rattle.tx_types.specs.declared.config.Protocol.{Protocol}
 use Rattle.tx_types.specs.declared.record.Link.{Link}
@@ -21,7 +23,6 @@ use Rattle.record_list.specs.Records.{name_of, is_present}
 use Rattle.record_list.specs.SoundList.{IsSoundList, Pages, PagesExist}
 use Rattle.record_list.specs.Written.{is_outside, Written, bytes_at, page_at, BytesAgree, IsRemovable}
 use Rattle.record_list.proofs.Arrays.{bytes_of, bytes_present}
-use Rattle.record_list.proofs.Names.{IsIn, all_at, all_from}
 use Rattle.record_list.proofs.Wanted.{dispensable_removable}
 use Rattle.record_list.proofs.WrittenLists.{IsOneText, one_text}
 use Rattle.version_index.specs.declared.note.Note.{Note}
@@ -40,7 +41,6 @@ use Rattle.collector.specs.declared.unsure.Unsure.TheVariants as unsure
 use Rattle.collector.specs.Known.{is_unsure, contents_noted, contents_known, known_image, page_known, array_known}
 use Rattle.collector.specs.Matches.{Matches}
 use Rattle.collector.proofs.KeptArrays.{none_at_zero}
-use Rattle.collector.proofs.KnownArrays.{same_range}
 use Rattle.collector.proofs.WantedImages.{current_present}
 
 -- the bytes that a list has under a name, zeros where it has none
@@ -201,7 +201,7 @@ module _ (s : FlashState) (n : Noted) (t : BlockTable) (u : Unsure) (m : Matches
   pub known_array : array_in p n.config.logical known ≡ array_known n s.image
   unfolding array_in array_known current_of
   known_array =
-      same_range (page_at p new n.config.logical) (page_known n s.image) n.config.logical None (λ page within.
+      same_range (page_at p new n.config.logical) (page_known n s.image) n.config.logical (λ page within.
       ap (λ l. bytes_at new (record { page = page; version = cur p l n.config.logical page })) known_records ∙ bytes_same page)
 
 -- a slot that is noted as blank holds no record

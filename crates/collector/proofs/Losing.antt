@@ -1,5 +1,6 @@
 -- Tables that lose the records of a block, outside which each wanted record has a slot.
 use Rattle.std.proofs.Common.{◌≡◌, ℕ, ◌<◌, Bool, true, List, Contains, None, refl, sym, ap, ◌∙◌, subst, inl, arith}
+use Rattle.list_facts.proofs.Membership.{IsIn, all_at, all_from, from_filter}
 use Rattle.tx_types.specs.Config.{shape_of, blocks_of}
 use Rattle.tx_types.specs.declared.record.Link.{Link}
 use Rattle.record_list.specs.declared.found.Found.{Found}
@@ -8,7 +9,7 @@ use Rattle.record_list.specs.Changes.{left, LossLaw, LossKeeps}
 use Rattle.record_list.specs.Current.{cur, is_held}
 use Rattle.record_list.specs.Transaction.{InProgress}
 use Rattle.record_list.specs.Written.{is_outside, is_wanted, IsDispensable}
-use Rattle.record_list.proofs.Names.{IsIn, all_at, all_from, found_named, present_as, from_filter}
+use Rattle.record_list.proofs.Names.{found_named, present_as}
 use Rattle.record_list.proofs.Wanted.{counted_wanted, pinned_wanted, dispensable_removable}
 use Rattle.record_list.proofs.WrittenLists.{left_twice}
 use Rattle.version_index.specs.declared.note.Note.{Note}

@@ -3,13 +3,13 @@ use Rattle.std.proofs.Common.{◌≡◌, ◌⊎◌, ℕ, true, ◌&&◌, Contain
 use Rattle.std.specs.Prelude.{◌==◌}
 use Rattle.std.proofs.lemmas.Bool.{and_parts}
 use Rattle.std.proofs.lemmas.Option.{same_Some}
+use Rattle.list_facts.proofs.Tests.{any_of}
+use Rattle.list_facts.proofs.Membership.{IsIn}
 use Rattle.tx_types.specs.Config.{shape_of}
 use Rattle.record_list.specs.declared.found.Found.{Found}
 use Rattle.record_list.specs.Records.{name_of}
 use Rattle.record_list.specs.Current.{IsCurrent, is_held}
 use Rattle.record_list.specs.Written.{home, is_slot, is_wanted}
-use Rattle.record_list.proofs.Names.{IsIn}
-use Rattle.record_list.proofs.Held.{any_of}
 use Rattle.record_list.proofs.Wanted.{wanted_cases}
 use Rattle.version_index.specs.Notes.{found_in}
 use Rattle.version_index.specs.Noted.{Noted, needed_of, home_of, pinned_names, IsNoted}

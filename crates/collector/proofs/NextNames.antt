@@ -3,11 +3,11 @@ use Rattle.std.proofs.Common.{◌≡◌, ℕ, ◌<◌, ◌≤◌, Bool, true, fa
 use Rattle.std.specs.Prelude.{if◌then◌else◌}
 use Rattle.std.proofs.lemmas.Bool.{both_ways, cases_Bool}
 use Rattle.std.proofs.lemmas.Option.{none-some, same_Some}
+use Rattle.list_facts.proofs.Membership.{IsIn, all_at, all_from}
 use Rattle.tx_types.specs.declared.config.Config.{Config}
 use Rattle.tx_types.specs.declared.record.Link.{Link}
 use Rattle.record_list.specs.Records.{is_present}
 use Rattle.record_list.specs.Transaction.{InProgress}
-use Rattle.record_list.proofs.Names.{IsIn, all_at, all_from}
 use Rattle.version_index.specs.Notes.{found_in}
 use Rattle.version_index.specs.Noted.{Noted, pinned_names}
 use Rattle.version_index.proofs.Given.{given_from}

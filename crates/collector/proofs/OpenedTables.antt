@@ -7,6 +7,7 @@ use Rattle.std.proofs.lemmas.Option.{none-some}
 use Rattle.std.proofs.lemmas.List.{length-map, length-replicate, length-take, length-drop, get_or-map, get_or-take, get_or-drop, get_or-replicate}
 use Rattle.std.proofs.lemmas.List.Folds.{list_all_at}
 use Rattle.std.proofs.lemmas.List.FromFn.{get_or-map-range_with_len, length-map-range_with_len}
+use Rattle.list_facts.proofs.Membership.{IsIn, all_at, all_from, in_from, in_filter}
 use Rattle.tx_types.specs.Config.{checked, shape_of, slots_of, blocks_of, IsConfig, IsShape}
 use Rattle.tx_types.specs.declared.config.BlockState.TheVariants.{Spare, Clean, Part, Shut}
 use Rattle.tx_types.specs.declared.config.Config.{Config}
@@ -24,7 +25,7 @@ use Rattle.record_list.specs.Changes.{left}
 use Rattle.record_list.specs.Current.{IsCurrent, is_held}
 use Rattle.record_list.specs.SoundList.{IsSoundList}
 use Rattle.record_list.specs.Written.{is_outside, is_wanted, IsRemovable}
-use Rattle.record_list.proofs.Names.{IsIn, all_at, all_from, in_from, in_filter, present_as}
+use Rattle.record_list.proofs.Names.{present_as}
 use Rattle.record_list.proofs.Wanted.{wanted_cases}
 use Rattle.version_index.specs.declared.note.Note.TheVariants.{Blank, Holds}
 use Rattle.version_index.specs.Images.{IsSoundImage, records_in}

@@ -2,6 +2,7 @@
 use Rattle.std.proofs.Common.{◌≡◌, ◌≢◌, ℕ, ◌<◌, Bool, true, false, eq-eqb, eqb-true, List, [], ◌∷◌, length, refl, sym, ap, ◌∙◌, subst, inl, inr}
 use Rattle.std.specs.Prelude.{◌==◌}
 use Rattle.std.proofs.lemmas.Bool.{cases_Bool}
+use Rattle.list_facts.proofs.Membership.{IsIn, all_at, all_from, contains_from, in_from, from_filter, in_filter}
 use Rattle.tx_types.specs.Config.{shape_of}
 use Rattle.tx_types.specs.declared.config.Protocol.{Protocol}
 use Rattle.tx_types.specs.declared.record.Link.{Link}
@@ -12,7 +13,7 @@ use Rattle.record_list.specs.Changes.{IsInserted, IsWrite, left, PartialWriteLaw
 use Rattle.record_list.specs.Current.{cur, IsCurrent}
 use Rattle.record_list.specs.SoundList.{Pages, PagesExist}
 use Rattle.record_list.specs.Written.{is_outside, is_wanted}
-use Rattle.record_list.proofs.Names.{IsIn, all_at, all_from, contains_from, in_from, found_named, present_as, from_filter, in_filter}
+use Rattle.record_list.proofs.Names.{found_named, present_as}
 use Rattle.record_list.proofs.OneMore.{inserted_in, in_inserted, new_in}
 use Rattle.record_list.proofs.Wanted.{wanted_cases, counted_wanted, pinned_wanted}
 use Rattle.version_index.specs.declared.note.Note.TheVariants.{Blank}

@@ -22,7 +22,7 @@ use Rattle.collector.proofs.Chains.{HasNoNewRecord-then}
 use Rattle.collector.proofs.Keeping.{keeps_array_then}
 use Rattle.collector.proofs.Cleanings.{blank_as_read, blank_is_erased}
 use Rattle.collector.proofs.CollectedNotes.{erased_no_new}
-use Rattle.collector.proofs.CopyLists.{filter_fewer}
+use Rattle.list_facts.proofs.Ranges.{filter_fewer}
 use Rattle.collector.proofs.NextNames.{next_stays}
 use Rattle.collector.proofs.RoomMade.{blank_erased, spare_within, victim_apart, victim_unneeded, some_garbage, room_made}
 use Rattle.collector.proofs.RoundCosts.{copies_most, erases_once}

@@ -1,11 +1,14 @@
 -- Where no block has room and the spare is blank, some block has garbage; and once it was collected the old spare has room.
-use Rattle.std.proofs.Common.{◌≡◌, ◌≢◌, ◌⊎◌, ℕ, zero, suc, ◌+◌, ◌*◌, ◌/◌, ◌<◌, ◌≤◌, Bool, true, false, ◌||◌, eqb, eqb-true, eq-eqb, ne_eqb, List, zip, count_by, Contains, refl, sym, ap, ap₂, ◌∙◌, subst, inl, inr, arith, if◌then◌else◌}
+use Rattle.std.proofs.Common.{◌≡◌, ◌≢◌, ◌⊎◌, ℕ, zero, ◌*◌, ◌/◌, ◌<◌, Bool, true, false, ◌||◌, eqb, eqb-true, eq-eqb, ne_eqb, List, zip, count_by, Contains, refl, sym, ap, ◌∙◌, subst, inl, inr, arith, if◌then◌else◌, suc, ◌+◌, ◌≤◌, ap₂}
 use Rattle.std.specs.List.{range_with_len}
 use Rattle.std.proofs.Math.ListN.{length-set}
 use Rattle.std.proofs.Math.Nat.{mul_comm}
 use Rattle.std.proofs.lemmas.Nat.{div_below}
-use Rattle.std.proofs.lemmas.Bool.{cases_Bool, or_parts, not-true, not-false}
+use Rattle.std.proofs.lemmas.Bool.{or_parts, not-true, not-false}
 use Rattle.std.proofs.lemmas.List.{get_or-set_same}
+use Rattle.list_facts.proofs.Ranges.{in_range, all_range, range_all}
+use Rattle.list_facts.proofs.Membership.{IsIn, all_at, in_from}
+use Rattle.list_facts.proofs.Counts.{count_some, none_in_range}
 use Rattle.tx_types.specs.Config.{shape_of, slots_of, blocks_of}
 use Rattle.tx_types.specs.declared.config.Shape.{Shape}
 use Rattle.tx_types.specs.declared.config.BlockState.TheVariants as state
@@ -17,7 +20,6 @@ use Rattle.record_list.specs.Current.{IsCurrent, responsible}
 use Rattle.record_list.specs.Transaction.{rounded, back_version, IsAsked, InProgress}
 use Rattle.record_list.specs.Written.{is_outside, is_slot}
 use Rattle.record_list.proofs.LossCounted.{responsible_high}
-use Rattle.record_list.proofs.Names.{IsIn, all_at, in_from}
 use Rattle.record_list.proofs.Progress.{underway_of, name_loose, absent_name}
 use Rattle.record_list.proofs.Rounds.{follows_of, follows_in}
 use Rattle.record_list.proofs.SoundNames.{sound_map}
@@ -34,30 +36,10 @@ use Rattle.collector.specs.Collecting.{is_noted_blank, exchanged, open_state, Ha
 use Rattle.collector.specs.Going.{IsNextName, IsPinBeside}
 use Rattle.collector.specs.Matches.{Matches}
 use Rattle.collector.specs.Victim.{IsVictim, HasNoGarbage, is_shut}
-use Rattle.collector.proofs.GoingCounts.{one_of, has_unneeded, in_range}
+use Rattle.collector.proofs.GoingCounts.{has_unneeded}
 use Rattle.collector.proofs.NotesLeft.{note_at-in}
-use Rattle.collector.proofs.Ranges.{all_range, range_all, count_first, none_in_range, noted_blank}
+use Rattle.collector.proofs.Ranges.{noted_blank}
 use Rattle.collector.proofs.Space.{IsFilled, slots_few}
-
--- a number of a range that passes
-record PassesIn (p : ℕ → Bool) (a n : ℕ) : Type 0 where
-  at : ℕ
-  low : a ≤ at
-  high : at < a + n
-  passes : p at ≡ true
-
--- where some are counted, one passes
-count_some : (p : ℕ → Bool) (a n : ℕ) → 0 < count_by p (range_with_len a n) → PassesIn p a n
-count_some p a zero h = absurd (omega arith)
-count_some p a (suc n) h = elim (cases_Bool (p a)) [
-  | inl pass ↦ record { at = a; low = omega arith; high = omega arith; passes = pass }
-  | inr fail ↦ (
-      let none : one_of (p a) ≡ 0 = ap one_of fail in
-      let rest = count_some p (a + 1) n (omega (arith, count_first p a n, none)) in
-      let low = rest.low in
-      let high = rest.high in
-      record { at = rest.at; low = omega arith; high = omega arith; passes = rest.passes })
-]
 
 -- a garbage slot is not needed
 garbage_unneeded : (n : Noted) (shut : Bool) (slot : ℕ) → is_garbage_at n (shut_or_part shut) slot ≡ true → needed_of n slot ≡ false

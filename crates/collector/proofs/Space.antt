@@ -13,6 +13,8 @@ use Rattle.std.proofs.lemmas.Bool.Decides.{Decides-eqb}
 use Rattle.record_list.specs.SoundList.{Pages, PagesExist}
 use Rattle.version_index.proofs.Blocks.{inside_block, in_it}
 use Rattle.std.proofs.lemmas.Bool.{cases_Bool, cases_lt, both_ways, cond-true, cond-false, and_parts, and_from}
+use Rattle.list_facts.proofs.Tests.{any_of}
+use Rattle.list_facts.proofs.Membership.{IsIn, in_from, contains_from, all_at}
 use Rattle.tx_types.specs.declared.config.Protocol.{Protocol}
 use Rattle.tx_types.specs.declared.config.Protocol.TheVariants.{Scc, Bpcc}
 use Rattle.tx_types.specs.declared.record.Link.{Link}
@@ -20,8 +22,8 @@ use Rattle.tx_types.specs.declared.record.Rec.{Rec}
 use Rattle.record_list.specs.declared.found.Found.{Found}
 use Rattle.record_list.specs.Records.{name_of, is_same}
 use Rattle.record_list.specs.Current.{cur, IsCurrent, is_held, responsible, answers_for}
-use Rattle.record_list.proofs.Names.{IsIn, in_from, contains_from, all_at, present_as}
-use Rattle.record_list.proofs.Held.{any_of, answer_of}
+use Rattle.record_list.proofs.Names.{present_as}
+use Rattle.record_list.proofs.Held.{answer_of}
 use Rattle.record_list.proofs.LossCounted.{responsible_at}
 use Rattle.tx_types.specs.Config.{shape_of, slots_of, blocks_of}
 use Rattle.record_list.specs.Records.{is_present}

@@ -1,13 +1,14 @@
 -- Once what is needed in a block stands in the spare too, the block can be spared.
 use Rattle.std.proofs.Common.{◌≡◌, ℕ, ◌<◌, true, false, List, length, Some, refl, sym, ap, ◌∙◌, subst, inl, inr}
 use Rattle.std.proofs.lemmas.Bool.{cases_Bool, and_parts, and_from}
+use Rattle.list_facts.proofs.Membership.{IsIn, all_from, all_at, from_filter, in_filter}
 use Rattle.tx_types.specs.Config.{shape_of}
 use Rattle.tx_types.specs.declared.record.Link.{Link}
 use Rattle.record_list.specs.declared.found.Found.{Found}
 use Rattle.record_list.specs.Records.{name_of, has_name, is_present}
 use Rattle.record_list.specs.Changes.{left}
 use Rattle.record_list.specs.Written.{is_outside, is_outside_spare, is_wanted}
-use Rattle.record_list.proofs.Names.{IsIn, all_from, all_at, found_named, present_as, has_own_name, has_name_true, from_filter, in_filter}
+use Rattle.record_list.proofs.Names.{found_named, present_as, has_own_name, has_name_true}
 use Rattle.version_index.specs.Notes.{note_at, found_in}
 use Rattle.version_index.specs.Noted.{Noted, needed_of, home_of, pinned_names}
 use Rattle.version_index.proofs.FoundIn.{found, noted_from, noted_in}

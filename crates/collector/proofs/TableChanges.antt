@@ -3,7 +3,7 @@ use Rattle.std.proofs.Common.{◌≡◌, ◌≢◌, ◌⊎◌, ℕ, ◌+◌, ◌
 use Rattle.std.specs.Prelude.{◌==◌}
 use Rattle.std.proofs.Math.ListN.{length-set}
 use Rattle.std.proofs.Math.Nat.{mod-lt}
-use Rattle.std.proofs.lemmas.Bool.{cases_Bool}
+use Rattle.std.proofs.lemmas.Bool.{cases_Bool, cases_eq}
 use Rattle.tx_types.specs.Config.{blocks_of}
 use Rattle.tx_types.specs.declared.config.BlockState.{BlockState}
 use Rattle.tx_types.specs.declared.config.BlockState.TheVariants.{Spare, Clean, Part, Shut}
@@ -11,12 +11,6 @@ use Rattle.die_alloc.specs.declared.block_use.BlockUse.{BlockUse}
 use Rattle.die_alloc.specs.BlockTable.{BlockTable, IsBlockTable, MayHave, IsFree, block_of_slot, use_of, with_use, with_slot, table_with_spare}
 use Rattle.die_alloc.proofs.Changes.{block_within, has_room_not_spare, use_of-with_use_same, use_of-with_use_other, use_of-with_spare_same, use_of-with_spare_old, use_of-with_spare_other}
 use Rattle.collector.specs.Collecting.{exchanged, open_state}
-
-equal_or : (a b : ℕ) → (a ≡ b) ⊎ (a ≢ b)
-equal_or a b = elim (cases_Bool (a == b)) [
-  | inl e ↦ inl (eqb-true a b e)
-  | inr e ↦ inr (λ same. let yes = eq-eqb a b same in cc)
-]
 
 -- what a block has as its state allows, by what is kept of it
 abbrev IsKept : BlockTable → BlockUse → Type 0
@@ -30,7 +24,7 @@ use_table t h block s n within apart other may = record {
   count = length-set t.blocks block (record { state = s; used = n }) ∙ h.count;
   die = h.die;
   spare_within = h.spare_within;
-  one_spare = λ b low. elim (equal_or b block) [
+  one_spare = λ b low. elim (cases_eq b block) [
     | inl e ↦
         (let its = ap (λ (u : BlockUse). u.state) (ap (use_of (with_use t block s n)) e ∙ use_of-with_use_same t h block s n within) in
         (λ spare. absurd (other (sym its ∙ spare)), λ is. absurd (apart (sym e ∙ is))))
@@ -38,7 +32,7 @@ use_table t h block s n within apart other may = record {
         (let same = ap (λ (u : BlockUse). u.state) (use_of-with_use_other t block b s n away) in
         (λ spare. (h.one_spare b low).0 (sym same ∙ spare), λ is. same ∙ (h.one_spare b low).1 is))
   ];
-  bounds = λ b low. elim (equal_or b block) [
+  bounds = λ b low. elim (cases_eq b block) [
     | inl e ↦ subst (IsKept t) (sym (ap (use_of (with_use t block s n)) e ∙ use_of-with_use_same t h block s n within)) may
     | inr away ↦ subst (IsKept t) (sym (use_of-with_use_other t block b s n away)) (h.bounds b low)
   ];
@@ -77,9 +71,9 @@ spare_table t h block within apart = record {
       ∙ length-set t.blocks t.spare (record { state = Clean; used = 0 }) ∙ h.count;
   die = h.die;
   spare_within = within;
-  one_spare = λ b low. elim (equal_or b block) [
+  one_spare = λ b low. elim (cases_eq b block) [
     | inl e ↦ (λ spare. e, λ is. ap (λ (u : BlockUse). u.state) (ap (use_of (table_with_spare t block)) e ∙ use_of-with_spare_same t h block within))
-    | inr away ↦ elim (equal_or b t.spare) [
+    | inr away ↦ elim (cases_eq b t.spare) [
       | inl old ↦
           (let its = ap (λ (u : BlockUse). u.state) (ap (use_of (table_with_spare t block)) old ∙ use_of-with_spare_old t h block (λ e. apart (sym e))) in
           (λ spare. clean_spare b block (sym its ∙ spare), λ is. absurd (away is)))
@@ -88,9 +82,9 @@ spare_table t h block within apart = record {
           (λ spare. absurd (other ((h.one_spare b low).0 (sym same ∙ spare))), λ is. absurd (away is)))
     ]
   ];
-  bounds = λ b low. elim (equal_or b block) [
+  bounds = λ b low. elim (cases_eq b block) [
     | inl e ↦ subst (IsKept t) (sym (ap (use_of (table_with_spare t block)) e ∙ use_of-with_spare_same t h block within)) refl
-    | inr away ↦ elim (equal_or b t.spare) [
+    | inr away ↦ elim (cases_eq b t.spare) [
       | inl old ↦ subst (IsKept t) (sym (ap (use_of (table_with_spare t block)) old ∙ use_of-with_spare_old t h block (λ e. apart (sym e)))) refl
       | inr other ↦ subst (IsKept t) (sym (use_of-with_spare_other t block b away other)) (h.bounds b low)
     ]

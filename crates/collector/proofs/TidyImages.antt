@@ -2,6 +2,8 @@
 use Rattle.std.proofs.Common.{◌≡◌, ◌≢◌, ◌⊎◌, ℕ, ◌*◌, ◌/◌, ◌<◌, Bool, true, false, List, length, get_or, All, AllPairs, Contains, refl, sym, ap, ◌∙◌, subst, inl, inr, arith}
 use Rattle.std.proofs.lemmas.Bool.{cases_eq, ne_eqb}
 use Rattle.std.proofs.lemmas.List.Elements.{All-from_get_or}
+use Rattle.list_facts.proofs.Counts.{none_in_range}
+use Rattle.list_facts.proofs.Membership.{IsIn, all_from, in_at}
 use Rattle.tx_types.specs.Config.{shape_of, slots_of, blocks_of}
 use Rattle.tx_types.specs.declared.config.Shape.{Shape}
 use Rattle.flash_model.specs.Flash.{FlashState, blank, damaged, slot_at}
@@ -9,14 +11,12 @@ use Rattle.record_list.specs.declared.found.Found.{Found}
 use Rattle.record_list.specs.Current.{IsCurrent, is_held}
 use Rattle.record_list.specs.Records.{name_of}
 use Rattle.record_list.specs.Written.{is_slot, is_garbage}
-use Rattle.record_list.proofs.Names.{IsIn, all_from}
 use Rattle.version_index.specs.declared.note.Note.TheVariants.{Blank, Damaged, Holds}
 use Rattle.version_index.specs.Notes.{found_in, note_at, note_of}
 use Rattle.version_index.specs.Noted.{Noted, needed_of, is_garbage_at, is_blank, shut_or_part, pinned_names}
 use Rattle.version_index.proofs.Blocks.{inside_block}
 use Rattle.version_index.proofs.FoundIn.{noted_from}
 use Rattle.version_index.proofs.NotedFacts.{other_garbage}
-use Rattle.version_index.proofs.Places.{in_at}
 use Rattle.die_alloc.specs.BlockTable.{BlockTable, block_state}
 use Rattle.die_alloc.proofs.Changes.{block_within}
 use Rattle.collector.specs.declared.unsure.Unsure.TheVariants as unsure
@@ -25,7 +25,6 @@ use Rattle.collector.specs.Tidy.{IsTidy}
 use Rattle.collector.specs.Victim.{HasNoGarbage, is_shut}
 use Rattle.collector.proofs.Calm.{noted_as_read, same_records}
 use Rattle.collector.proofs.NeedFacts.{IsHome, home_needed, one_home, found_home}
-use Rattle.collector.proofs.Ranges.{none_in_range}
 
 -- a slot that is not blank and is no garbage is needed
 needed_full : (n : Noted) (shut : Bool) (slot : ℕ) → is_blank (note_at n.notes slot) ≡ false → is_garbage_at n (shut_or_part shut) slot ≡ false → needed_of n slot ≡ true

@@ -1,7 +1,7 @@
 -- Finding out whether a collected block was erased.
-use Rattle.std.proofs.Common.{◌≡◌, ◌≢◌, ℕ, zero, suc, ◌+◌, ◌*◌, ◌<◌, ◌≤◌, Bool, true, false, cond, count_by, refl, sym, ap, ap₂, ◌∙◌, subst, None, arith}
+use Rattle.std.proofs.Common.{◌≡◌, ◌≢◌, ℕ, ◌*◌, ◌<◌, Bool, true, false, refl, sym, ap, ◌∙◌, subst, None, arith}
 use Rattle.std.proofs.lemmas.Bool.{not-true}
-use Rattle.std.specs.List.{range_with_len}
+use Rattle.list_facts.proofs.Counts.{filled_count}
 use Rattle.tx_types.specs.Config.{shape_of, slots_of, blocks_of}
 use Rattle.tx_types.specs.declared.config.Block.{Block}
 use Rattle.tx_types.specs.declared.config.Protocol.{Protocol}
@@ -25,24 +25,9 @@ use Rattle.collector.specs.Preserves.{Preserves}
 use Rattle.collector.specs.Settling.{block_reads_as_noted, records_held, holds_record}
 use Rattle.collector.proofs.ErasedBlocks.{noted_all, blank_all, damaged_all}
 use Rattle.collector.proofs.Losing.{preserves, blocked}
-use Rattle.collector.proofs.Ranges.{count_first}
 use Rattle.collector.proofs.SettledBlocks.{settled_victim}
 use Rattle.collector.proofs.SettledExits.{matches_still, matches_surely}
 use Rattle.collector.proofs.VictimCalls.{spare_noted, with_spare_preserves}
-
--- a count over a range of which so many first numbers pass, and no others
-filled_count : (p : ℕ → Bool) (a n filled : ℕ) → filled ≤ n → ((k : ℕ) → k < filled → p (a + k) ≡ true) → ((k : ℕ) → filled ≤ k → k < n → p (a + k) ≡ false) →
-    count_by p (range_with_len a n) ≡ filled
-filled_count p a zero filled le pass fail = omega arith
-filled_count p a (suc n) zero le pass fail =
-    let here : p a ≡ false = ap p (let at : a ≡ a + 0 = omega arith in at) ∙ fail 0 (omega arith) (omega arith) in
-    let rest = filled_count p (a + 1) n 0 (omega arith) (λ k lt. absurd (omega arith)) (λ k low lt. ap p (let at : a + 1 + k ≡ a + (k + 1) = omega arith in at) ∙ fail (k + 1) (omega arith) (omega arith)) in
-    count_first p a n ∙ ap₂ (λ b r. cond b 1 0 + r) here rest
-filled_count p a (suc n) (suc f) le pass fail =
-    let here : p a ≡ true = ap p (let at : a ≡ a + 0 = omega arith in at) ∙ pass 0 (omega arith) in
-    let rest = filled_count p (a + 1) n f (omega arith) (λ k lt. ap p (let at : a + 1 + k ≡ a + (k + 1) = omega arith in at) ∙ pass (k + 1) (omega arith))
-    (λ k low lt. ap p (let at : a + 1 + k ≡ a + (k + 1) = omega arith in at) ∙ fail (k + 1) (omega arith) (omega arith)) in
-    count_first p a n ∙ ap₂ (λ b r. cond b 1 0 + r) here rest ∙ (let more : 1 + f ≡ suc f = omega arith in more)
 
 -- the records of a block whose first slots hold them
 pub filled_held : (n : Noted) (block filled : ℕ) → IsFilledBy n block filled → records_held n block ≡ filled

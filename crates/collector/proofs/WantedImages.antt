@@ -2,6 +2,7 @@
 use Rattle.std.proofs.Common.{◌≡◌, ℕ, ◌<◌, true, false, not, eqb-true, List, length, Contains, refl, sym, ap, ◌∙◌, subst, inl, inr, arith}
 use Rattle.std.specs.Prelude.{◌==◌}
 use Rattle.std.proofs.lemmas.Bool.{cases_Bool}
+use Rattle.list_facts.proofs.Membership.{IsIn, all_at, from_filter}
 use Rattle.tx_types.specs.Config.{shape_of, slots_of}
 use Rattle.tx_types.specs.declared.record.Link.{Link}
 use Rattle.flash_model.specs.Flash.{FlashState, slot_at}
@@ -10,7 +11,7 @@ use Rattle.record_list.specs.Current.{cur}
 use Rattle.record_list.specs.Records.{name_of, is_present}
 use Rattle.record_list.specs.Changes.{left}
 use Rattle.record_list.specs.Written.{is_outside, is_wanted}
-use Rattle.record_list.proofs.Names.{IsIn, all_at, found_named, from_filter, present_as}
+use Rattle.record_list.proofs.Names.{found_named, present_as}
 use Rattle.record_list.proofs.Wanted.{counted_wanted, pinned_wanted}
 use Rattle.record_list.proofs.WrittenLists.{in_records}
 use Rattle.version_index.specs.declared.note.Note.TheVariants.{Blank, Holds}

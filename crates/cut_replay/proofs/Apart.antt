@@ -1,7 +1,8 @@
 -- Open transactions that write no page twice, and what the array has of each when it takes one.
 use Rattle.std.proofs.Common.{◌≡◌, ◌≢◌, ◌⊎◌, ℕ, Bool, true, false, cond, List, [], ◌∷◌, ◌++◌, length, All, AllPairs, Some, refl, sym, ap, ◌∙◌, subst, inl, inr}
 use Rattle.std.proofs.lemmas.List.Elements.{All-nil, All-cons, All-head, All-tail, All-map}
-use Rattle.record_list.proofs.Names.{IsIn, all_from, all_at, in_order, pairs_head, pairs_tail}
+use Rattle.list_facts.proofs.Pairs.{in_order, pairs_head, pairs_tail}
+use Rattle.list_facts.proofs.Membership.{IsIn, all_from, all_at}
 use Rattle.tx_types.specs.Batch.{PageWrite}
 use Rattle.tx_engine.specs.ArrayState.{ArrayState, Entry, Pages, entry_of, has_tag, is_doubted, page_at, put, with_entry, without}
 use Rattle.tx_engine.specs.Step.{doubted, settled, settled_entry, settled_mark}

@@ -2,6 +2,7 @@
 use Rattle.std.proofs.Common.{◌≡◌, ◌⊎◌, ℕ, ◌≤◌, Bool, true, false, ◌||◌, List, Option, Some, None, Ok, refl, sym, ap, ◌∙◌, subst, inr, arith}
 use Rattle.std.specs.Prelude.{MatchBool, IfSome}
 use Rattle.std.proofs.lemmas.List.Elements.{All-weaker}
+use Rattle.std.proofs.lemmas.Bool.{or_parts}
 use Rattle.tx_types.specs.declared.config.Config.{Config}
 use Rattle.tx_types.specs.declared.config.Protocol.{Protocol}
 use Rattle.tx_types.specs.Config.{shape_of}
@@ -27,7 +28,7 @@ use Rattle.cut_replay.specs.Sessions.{flash_in, point_of, Fits, StandsAt, Stands
 use Rattle.cut_replay.specs.declared.session.Session.{Session}
 use Rattle.cut_replay.specs.declared.session.Session.TheVariants as session
 use Rattle.cut_replay.proofs.Mountings.{mounted_point}
-use Rattle.cut_replay.proofs.Followed.{always_point, or_left}
+use Rattle.cut_replay.proofs.Followed.{always_point}
 use Rattle.cut_replay.proofs.Lifted.{Cases}
 
 -- what an arm of a kind sets and brings
@@ -82,7 +83,7 @@ armed_stands : {F R : Type 0} (state : F → FlashState) (its : Config) (kept : 
     SetsArm state kept sets old new → StandsAt state its seen faulted old → StandsAt state its (seen_after seen c reply.Armed) (faulted || false) new
 armed_stands {F = F} state its kept sets c seen faulted (session.Mounted s) (session.Mounted t) h stands =
     subst (λ (x : Standing F). StandsMounted (seen_after seen c reply.Armed) (faulted || false) x) (sym h.stays) (record {
-      sure = λ whole. stands.sure (or_left faulted false whole);
+      sure = λ whole. stands.sure (or_parts faulted false whole).0;
       mentions = seen_flash seen s t.flash stands.mentions;
     })
 armed_stands state its kept sets c seen faulted (session.Mounted s) (session.Unmounted f) h stands = absurd h

@@ -2,7 +2,7 @@
 use Rattle.std.proofs.Common.{◌≡◌, ℕ, Bool, false, List, [], ◌∷◌, Option, Some, None, Result, Ok, Err, refl, sym, ap, ◌∙◌, inl, inr, All, eqb-true}
 use Rattle.std.specs.Prelude.{MatchOption}
 use Rattle.std.proofs.lemmas.List.Elements.{All-head, All-tail}
-use Rattle.record_list.proofs.Names.{contains_from}
+use Rattle.list_facts.proofs.Membership.{contains_from}
 use Rattle.tx_types.specs.Batch.{PageWrite}
 use Rattle.tx_engine.specs.ArrayState.{ArrayState, Entry, Pages, entry_of, is_doubted}
 use Rattle.tx_engine.specs.Collect.{Collects}

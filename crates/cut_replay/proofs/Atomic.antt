@@ -5,7 +5,7 @@ use Rattle.std.specs.Prelude.{MatchOption}
 use Rattle.std.proofs.lemmas.List.Elements.{All-nil, All-push, All-contains, Contains-get_or}
 use Rattle.std.proofs.lemmas.List.Quantifiers.{all_pairs_push}
 use Rattle.std.proofs.lemmas.List.FromFn.{length-map-range_with_len}
-use Rattle.record_list.proofs.Names.{IsIn, all_from, all_at, in_from}
+use Rattle.list_facts.proofs.Membership.{IsIn, all_from, all_at, in_from}
 use Rattle.tx_types.specs.Batch.{PageWrite}
 use Rattle.tx_types.specs.declared.config.Config.{Config}
 use Rattle.flash_model.specs.Operations.{Moment}

@@ -2,7 +2,7 @@
 use Rattle.std.proofs.Common.{◌≡◌, ◌≢◌, ◌⊎◌, ℕ, Bool, true, false, cond, List, [], ◌∷◌, length, zip, All, AllPairs, Option, Some, None, Result, Ok, Err, refl, sym, ap, ◌∙◌, subst, inl, inr}
 use Rattle.std.specs.Prelude.{MatchOption}
 use Rattle.std.proofs.lemmas.List.Elements.{All-nil, All-head, All-tail, All-push}
-use Rattle.record_list.proofs.Names.{all_from, all_at, in_from}
+use Rattle.list_facts.proofs.Membership.{all_from, all_at, in_from}
 use Rattle.tx_types.specs.Batch.{PageWrite, Writes}
 use Rattle.tx_engine.specs.ArrayState.{ArrayState, Entry, Pages, entry_of, opening, page_at, put, with_entry, without}
 use Rattle.tx_engine.specs.Collect.{Collects}

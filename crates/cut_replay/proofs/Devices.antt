@@ -1,7 +1,8 @@
 -- What calls of a device leave of its mentions, of the cache, and of what is told.
-use Rattle.std.proofs.Common.{◌≡◌, ◌⊎◌, ℕ, ◌+◌, ◌<◌, ◌≤◌, Bool, true, false, cond, List, [], ◌∷◌, ◌++◌, sym, ◌∙◌, subst, inl, inr, arith}
+use Rattle.std.proofs.Common.{◌≡◌, ℕ, ◌+◌, ◌<◌, ◌≤◌, Bool, true, false, cond, List, sym, ◌∙◌, subst, inl, inr, arith}
 use Rattle.std.specs.Prelude.{All, Any, count_by}
 use Rattle.std.proofs.lemmas.List.Elements.{All-weaker}
+use Rattle.list_facts.proofs.Membership.{in_any, any_in, all_at}
 use Rattle.tx_types.specs.declared.config.Config.{Config}
 use Rattle.tx_types.specs.declared.config.Protocol.{Protocol}
 use Rattle.tx_types.specs.declared.config.Shape.{Shape}
@@ -9,7 +10,7 @@ use Rattle.flash_model.specs.Flash.{FlashState}
 use Rattle.flash_model.specs.Calls.{Carries}
 use Rattle.flash_model.specs.Moves.{Moves}
 use Rattle.flash_model.specs.Operations.{moment_of}
-use Rattle.record_list.proofs.Names.{IsIn, contains_from, in_from}
+use Rattle.version_index.specs.Noted.{mention_of}
 use Rattle.page_cache.specs.CachedPages.{CachedPage}
 use Rattle.tx_engine.specs.Exits.{Exits, VersionsTell}
 use Rattle.tx_engine.specs.Naming.{is_spent}
@@ -24,20 +25,6 @@ use Rattle.cut_replay.specs.FlashRun.{Tells, is_fault, is_still}
 use Rattle.cut_replay.specs.Bounds.{is_cut}
 use Rattle.tx_engine.specs.Always.{IsSeen, HoldsAlways}
 use Rattle.cut_replay.specs.Mounted.{point_at, IsCachedAs, IsCached, MayHaveCut, ServesHere}
-
--- some item of a list, as an item in it, and back
-pub in_any : {X : Type 0} (P : X → Type 0) (xs : List X) → Any P xs → (x : X) × IsIn xs x × P x
-in_any P xs h = (h.1, in_from xs h.1 (h.0, h.2, h.3), h.4)
-
-pub any_in : {X : Type 0} (P : X → Type 0) (xs : List X) (x : X) → IsIn xs x → P x → Any P xs
-any_in P xs x i p = let c = contains_from xs x i in (c.0, x, c.1, c.2, p)
-
--- an item of a list with one more is in the list, or is that one
-pub in_append : {X : Type 0} (xs : List X) (x y : X) → IsIn (xs ++ x ∷ []) y → IsIn xs y ⊎ (x ≡ y)
-in_append [] x y (inl e) = inr e
-in_append [] x y (inr i) = absurd i
-in_append (z ∷ zs) x y (inl e) = inl (inl e)
-in_append (z ∷ zs) x y (inr i) = elim (in_append zs x y i) [ inl before ↦ inl (inr before) | inr same ↦ inr same ]
 
 -- what is seen at least is not less after a command
 seen_least : (b : Bool) (n k : ℕ) → n ≤ cond b (n + k) n

@@ -1,6 +1,7 @@
 -- Going on with a transaction up to its end.
 use Rattle.std.proofs.Common.{◌≡◌, ◌≢◌, ◌⊎◌, ℕ, ◌+◌, ◌-◌, ◌<◌, ◌≤◌, max, Bool, true, false, cond, List, [], ◌∷◌, length, map, Contains, Option, Some, None, Result, Ok, Err, refl, sym, ap, ap₂, ◌∙◌, subst, inl, inr, arith}
 use Rattle.std.specs.Prelude.{MatchOption}
+use Rattle.list_facts.proofs.Membership.{IsIn, contains_from, in_from}
 use Rattle.tx_types.specs.declared.config.Config.{Config}
 use Rattle.tx_types.specs.Config.{shape_of}
 use Rattle.flash_model.specs.Flash.{FlashState}
@@ -8,7 +9,6 @@ use Rattle.flash_model.specs.Moves.{Moves}
 use Rattle.flash_model.specs.Operations.{moment_of}
 use Rattle.flash_model.proofs.CallLemmas.{Carries-then}
 use Rattle.flash_model.proofs.MoveLemmas.{Moves-then}
-use Rattle.record_list.proofs.Names.{IsIn, contains_from, in_from}
 use Rattle.version_index.specs.Images.{array_in}
 use Rattle.tx_engine.specs.ArrayState.{ArrayState, Entry, Pages, entry_of, has_tag, is_doubted, put, with_entry, idle}
 use Rattle.tx_engine.specs.Exits.{VersionsTell}

@@ -1,7 +1,7 @@
 -- What a command comes to that was done on a mounted device.
 use Rattle.std.proofs.Common.{◌≡◌, ◌⊎◌, ℕ, ◌<◌, ◌≤◌, Bool, true, false, ◌||◌, List, [], Option, Result, Ok, Err, refl, sym, ap, ◌∙◌, subst, inl, inr, arith}
 use Rattle.std.specs.Prelude.{nat_le, ◌^◌, MatchBool, IfOk, IfErr}
-use Rattle.std.proofs.lemmas.Bool.{cases_Bool}
+use Rattle.std.proofs.lemmas.Bool.{cases_Bool, or_parts}
 use Rattle.std.proofs.lemmas.Bool.Decides.{nat_tests}
 use Rattle.tx_types.specs.declared.config.Config.{Config}
 use Rattle.tx_types.specs.declared.config.Protocol.{Protocol}
@@ -52,14 +52,6 @@ last_version n m is le = grind (arith, nat_tests)
 pub may_be_spent : {F : Type 0} (seen : ℕ → ℕ) (s : Standing F) → IsSeen seen s → MayBeSpent seen (is_spent s.noted.mentions)
 may_be_spent seen s h page is = last_version (mention_of s.noted page) (seen page) is (h.mentions page)
 
-pub or_left : (a b : Bool) → (a || b) ≡ false → a ≡ false
-or_left true b h = cc
-or_left false b h = refl
-
-or_right : (a b : Bool) → (a || b) ≡ false → b ≡ false
-or_right true b h = cc
-or_right false b h = h
-
 -- the point of a device
 pub always_point : {F : Type 0} (state : F → FlashState) (kept : Protocol) (s : Standing F) → HoldsAlways state kept s → IsPoint s.config (point_at state s)
 always_point state kept s h = record { sound = h.sound; array = h.array }
@@ -75,7 +67,7 @@ done_in state kept c s t r seen faulted no_arm h always stands = record {
       (inr (inl (record { does = h.does; up = refl; moves = h.moves; tells = h.tells faulted stands.sure })));
   point = subst (λ (x : Config). IsPoint x (point_at state t)) h.config (always_point state kept t always);
   stands = record {
-    sure = λ whole. h.sure (stands.sure (or_left faulted (is_fault r) whole)) (or_right faulted (is_fault r) whole);
+    sure = λ whole. let parts = or_parts faulted (is_fault r) whole in h.sure (stands.sure parts.0) parts.1;
     mentions = h.seen seen stands.mentions;
   };
 }

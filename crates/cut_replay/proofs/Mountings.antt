@@ -3,6 +3,8 @@ use Rattle.std.proofs.Common.{◌≡◌, ℕ, ◌<◌, ◌≤◌, Bool, List, le
 use Rattle.std.specs.Prelude.{All, slice_index}
 use Rattle.std.proofs.lemmas.Bool.{cases_lt}
 use Rattle.std.proofs.lemmas.List.{get_or_past}
+use Rattle.std.proofs.lemmas.List.FromFn.{get_or-map-range_with_len}
+use Rattle.list_facts.proofs.Membership.{IsIn, all_at, in_any}
 use Rattle.tx_types.specs.declared.config.Config.{Config}
 use Rattle.tx_types.specs.declared.config.Protocol.{Protocol}
 use Rattle.tx_types.specs.declared.config.Shape.{Shape}
@@ -13,14 +15,12 @@ use Rattle.record_list.specs.declared.found.Breach.{Breach}
 use Rattle.record_list.specs.Records.{mention}
 use Rattle.record_list.specs.SoundList.{Law, Pages, Copies, Links, Present, Counted, Loose, Ending, Keeps}
 use Rattle.record_list.specs.Written.{Written, found_of, records_of, BytesAgree, IsSoundWritten, KeepsWritten}
-use Rattle.record_list.proofs.Names.{IsIn, all_at}
 use Rattle.record_list.proofs.WrittenLists.{in_records}
 use Rattle.version_index.specs.Images.{written_in, IsSoundImage, IsLeastImageBreach, SlotReads, array_in, records_in}
 use Rattle.version_index.specs.Noted.{Noted}
 use Rattle.tx_engine.specs.ArrayState.{ArrayState, idle}
 use Rattle.tx_engine.specs.Standing.{Standing}
 use Rattle.cut_replay.specs.FlashRun.{IsPoint}
-use Rattle.cut_replay.proofs.Devices.{in_any}
 use Rattle.tx_engine.proofs.Seen.{opened_seen}
 use Rattle.tx_engine.specs.Always.{IsSeen}
 use Rattle.cut_replay.specs.Mounted.{MomentStays}

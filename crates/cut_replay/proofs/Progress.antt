@@ -6,6 +6,7 @@ use Rattle.std.specs.List.{AllZip}
 use Rattle.std.specs.Result.{is_err}
 use Rattle.std.proofs.lemmas.Slice.Zip.{all_zipped_more}
 use Rattle.std.proofs.lemmas.List.{take_more, take_all, length-take-le, map-append}
+use Rattle.list_facts.proofs.Lists.{take_whole, take_before_last}
 use Rattle.tx_types.specs.declared.config.Config.{Config}
 use Rattle.tx_types.specs.declared.config.Slot.{Slot}
 use Rattle.tx_types.specs.declared.memory.Memory.{Memory}
@@ -30,7 +31,7 @@ use Rattle.cut_replay.specs.declared.serving.ServeError.TheVariants as failed
 use Rattle.cut_replay.specs.declared.session.Session.{Session}
 use Rattle.cut_replay.specs.declared.session.Session.TheVariants as session
 use Rattle.cut_replay.proofs.Mountings.{sound_unbroken}
-use Rattle.cut_replay.proofs.Runs.{last_point, seen_through, faulted_through, run_more, last_more, seen_more, faulted_more, last_moment_is, run_lengths, take_whole, take_front, grew_none, grew_more, text_more, told_more, spends_nothing, spends_more, spends_later, counts_more, counts_later, last_sets, none_sets}
+use Rattle.cut_replay.proofs.Runs.{last_point, seen_through, faulted_through, run_more, last_more, seen_more, faulted_more, last_moment_is, run_lengths, grew_none, grew_more, text_more, told_more, spends_nothing, spends_more, spends_later, counts_more, counts_later, last_sets, none_sets}
 
 -- the moment of a session is that of its flash
 pub point_moment : {F R : Type 0} (state : F → FlashState) (its : Config) (s : Session F R) → (point_of state its s).moment ≡ moment_of (state (flash_in s))
@@ -148,8 +149,8 @@ one_untold state its init cs c r s t a b d h served spends faults text kept =
     let lengths = run_lengths its (mentions_in its (moment_of init)) false (opening_point its h.runs.up (moment_of init)) cs h.replies h.points h.runs.run in
     let p = point_of state its t in
     let runs = runs_more state its init cs h.replies h.points c r s t h.runs served spends faults in
-    let replies = take_front (length cs) h.replies r lengths.0 in
-    let points = take_front (length cs) h.points p lengths.1 in
+    let replies = take_before_last (length cs) h.replies r lengths.0 in
+    let points = take_before_last (length cs) h.points p lengths.1 in
     record {
       replies = h.replies ++ r ∷ [];
       points = h.points ++ p ∷ [];
@@ -166,14 +167,11 @@ one_untold state its init cs c r s t a b d h served spends faults text kept =
 pub next_of : (list : List Command) (at : ℕ) (c : Command) → at < length list → c ≡ get_or list at c → take (at + 1) list ≡ take at list ++ c ∷ []
 next_of list at c lt read = take_more list at c lt ∙ ap (λ x. take at list ++ x ∷ []) (sym read)
 
-taken_length : {X : Type 0} (list : List X) (at : ℕ) → at ≤ length list → length (take at list) ≡ at
-taken_length list at le = length-take-le at list le
-
 -- Serving ended before that command did anything, or in it
 pub ended_for_memory : {F R : Type 0} (state : F → FlashState) (its : Config) (init : FlashState) (list : List Command) (at : ℕ) (c : Command) (s : Session F R) (flash : F) (a b : Watched) → at < length list → c ≡ get_or list at c →
     HasServed state its init (take at list) s a b → EndsForMemory state its c s flash → ServesSound its list init (state flash) a b (Err failed.Memory)
 ended_for_memory state its init list at c s flash a b lt read h (inl still) =
-    let count : length (take at list) ≡ at = taken_length list at (omega arith) in (
+    let count : length (take at list) ≡ at = length-take-le at list (omega arith) in (
       at,
       omega arith,
       inl (subst (λ n. ServesRun its (take at list) n init (state flash) a b) count
@@ -181,7 +179,7 @@ ended_for_memory state its init list at c s flash a b lt read h (inl still) =
     )
 ended_for_memory {F = F} {R = R} state its init list at c s flash a b lt read h (inr cut) =
     let after : Session F R = session.Unmounted flash in
-    let count : length (take at list) ≡ at = taken_length list at (omega arith) in (
+    let count : length (take at list) ≡ at = length-take-le at list (omega arith) in (
       at,
       omega arith,
       inr (subst (λ n. ServesRun its (take (at + 1) list) n init (state flash) a b) count
@@ -204,7 +202,7 @@ ended_in state its init list at c s flash failed.Memory a b lt read h ends = end
 pub untold_in : {F R : Type 0} (state : F → FlashState) (its : Config) (init : FlashState) (list : List Command) (at : ℕ) (c : Command) (r : Reply) (s t : Session F R) (flash : F) (a b d : Watched) → at < length list →
     c ≡ get_or list at c → HasServed state its init (take at list) s a b → ServesSession state its c s r t → flash ≡ flash_in t → d.text ≡ b.text → d.kept ≡ b.kept → ServesSound its list init (state flash) a d (Err failed.Memory)
 untold_in state its init list at c r s t flash a b d lt read h serves is text kept =
-    let count : length (take at list) ≡ at = taken_length list at (omega arith) in (
+    let count : length (take at list) ≡ at = length-take-le at list (omega arith) in (
       at,
       omega arith,
       inr (subst (λ n. ServesRun its (take (at + 1) list) n init (state flash) a d) count

@@ -1,9 +1,9 @@
 -- Runs on a flash as runs of the array machine, and runs in which no break was to come.
-use Rattle.std.proofs.Common.{◌≡◌, ◌⊎◌, ℕ, ◌+◌, ◌≤◌, Bool, true, false, cond, ◌||◌, List, [], ◌∷◌, length, take, get_or, Option, Some, None, refl, ap, inl, inr, arith}
+use Rattle.std.proofs.Common.{◌≡◌, ◌⊎◌, ℕ, ◌≤◌, Bool, true, false, ◌||◌, List, [], ◌∷◌, length, take, get_or, Option, Some, None, refl, ap, inl, inr, arith}
 use Rattle.std.specs.Prelude.{All, MatchBool, count_by, IsSome}
 use Rattle.std.proofs.lemmas.List.{take_all}
-use Rattle.std.proofs.lemmas.List.Elements.{All-nil, All-cons, All-head, All-tail, All-take}
-use Rattle.std.proofs.lemmas.List.Sums.{sum_by-cons}
+use Rattle.std.proofs.lemmas.List.Elements.{All-take}
+use Rattle.list_facts.proofs.Tests.{none_counted, all_uncounted}
 use Rattle.tx_types.specs.declared.config.Config.{Config}
 use Rattle.tx_engine.specs.ArrayState.{ArrayState, Entry, entry_of}
 use Rattle.tx_engine.specs.Standing.{limits_of}
@@ -44,25 +44,6 @@ flash_run_is_run its seen faulted old (d ∷ cs) [] ps run = absurd run
 flash_run_is_run its seen faulted old (d ∷ cs) (s ∷ rs) [] run = absurd run
 flash_run_is_run its seen faulted old (d ∷ cs) (s ∷ rs) (q ∷ ps) run =
     (q.state, run.0.0, run.0.1, serves_run its run.0.0 faulted d old s q run.0.2, flash_run_is_run its (seen_after seen d s) (faulted || is_fault s) q cs rs ps run.2)
-
--- Nothing is counted where nothing passes, and back
-none_counted : {X : Type 0} (test : X → Bool) (xs : List X) → All (λ x. test x ≡ false) xs → count_by test xs ≡ 0
-none_counted test [] h = refl
-none_counted test (x ∷ xs) h =
-    let split : count_by test (x ∷ xs) ≡ cond (test x) 1 0 + count_by test xs = sum_by-cons (λ y. cond (test y) 1 0) x xs in
-    let here : ◌≡◌ {A = ℕ} (cond {A = ℕ} (test x) 1 0) 0 = ap (λ (b : Bool). cond {A = ℕ} b 1 0) (All-head (λ x. test x ≡ false) x xs h) in
-    let rest = none_counted test xs (All-tail (λ x. test x ≡ false) x xs h) in omega (arith, split, here, rest)
-
-none_passes : (b : Bool) (n : ℕ) → cond b 1 0 + n ≤ 0 → (b ≡ false) × (n ≤ 0)
-none_passes true n h = absurd (omega arith)
-none_passes false n h = (refl, omega arith)
-
-all_uncounted : {X : Type 0} (test : X → Bool) (xs : List X) → count_by test xs ≤ 0 → All (λ x. test x ≡ false) xs
-all_uncounted test [] h = All-nil (λ x. test x ≡ false)
-all_uncounted test (x ∷ xs) h =
-    let split : count_by test (x ∷ xs) ≡ cond (test x) 1 0 + count_by test xs = sum_by-cons (λ y. cond (test y) 1 0) x xs in
-    let both = none_passes (test x) (count_by test xs) (omega (arith, split, h)) in
-    All-cons (λ x. test x ≡ false) x xs both.0 (all_uncounted test xs both.1)
 
 no_arm_cut : (c : Command) → is_arm c ≡ false → arms_cut c ≡ false
 no_arm_cut (command.Cut count what) h = cc

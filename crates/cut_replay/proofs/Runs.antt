@@ -6,13 +6,13 @@ use Rattle.std.proofs.lemmas.Grind.{flat_map-append}
 use Rattle.std.proofs.lemmas.Bool.{cases_lt, cases_Bool}
 use Rattle.std.proofs.lemmas.List.{take_all, take-append-le}
 use Rattle.std.proofs.lemmas.List.Sums.{sum_by_push}
+use Rattle.list_facts.proofs.Quantifiers.{all_left, all_right}
 use Rattle.tx_types.specs.declared.config.Config.{Config}
 use Rattle.flash_model.specs.Flash.{FlashState, Told, counted_by}
 use Rattle.flash_model.specs.Calls.{BothTell, NoMore, Rose}
 use Rattle.host_protocol.specs.declared.command.Command.{Command}
 use Rattle.host_protocol.specs.declared.reply.Reply.{Reply}
 use Rattle.host_protocol.specs.Replies.{text_of}
-use Rattle.tx_engine.proofs.ExitsThen.{all_left, all_right}
 use Rattle.cut_replay.specs.Run.{MayBeSpent, is_break, seen_after}
 use Rattle.cut_replay.specs.FlashRun.{Point, IsPoint, FlashRun, ServesFlash, is_fault, last_moment}
 use Rattle.cut_replay.specs.Watching.{Grew, text_of_all, replies_told}
@@ -76,13 +76,6 @@ run_lengths its seen faulted old (d ∷ cs) [] ps run = absurd run
 run_lengths its seen faulted old (d ∷ cs) (s ∷ rs) [] run = absurd run
 run_lengths its seen faulted old (d ∷ cs) (s ∷ rs) (q ∷ ps) run =
     let rest = run_lengths its (seen_after seen d s) (faulted || is_fault s) q cs rs ps run.2 in (ap suc rest.0, ap suc rest.1)
-
--- The first so many of a list with one more
-pub take_whole : {X : Type 0} (n : ℕ) (xs : List X) → length xs ≡ n → take n xs ≡ xs
-take_whole n xs same = take_all n xs (omega arith)
-
-pub take_front : {X : Type 0} (n : ℕ) (xs : List X) (x : X) → length xs ≡ n → take n (xs ++ x ∷ []) ≡ xs
-take_front n xs x same = take-append-le n xs (x ∷ []) (omega arith) ∙ take_whole n xs same
 
 -- What was told
 pub grew_none : {X : Type 0} (o : Option (List X)) → Grew o o []

@@ -2,6 +2,7 @@
 use Rattle.std.proofs.Common.{◌≡◌, ℕ, ◌+◌, ◌≤◌, Bool, true, false, cond, List, [], ◌∷◌, length, map, Option, Some, None, Result, Ok, Err, refl, sym, ap, ◌∙◌, subst, inl, inr, arith, eq-eqb}
 use Rattle.std.specs.Prelude.{Any, count_by, IsSome, IfOk}
 use Rattle.std.proofs.lemmas.List.Sums.{sum_by-cons}
+use Rattle.list_facts.proofs.Membership.{IsIn, in_any, any_in, in_append}
 use Rattle.tx_types.specs.Batch.{PageWrite, Writes}
 use Rattle.tx_types.specs.declared.config.Config.{Config}
 use Rattle.tx_types.specs.declared.config.Protocol.{Protocol}
@@ -16,7 +17,6 @@ use Rattle.flash_model.specs.Moves.{Moves}
 use Rattle.flash_model.proofs.CallLemmas.{Carries-nothing}
 use Rattle.flash_model.proofs.MoveLemmas.{Moves-nothing}
 use Rattle.record_list.specs.declared.found.Found.{Found}
-use Rattle.record_list.proofs.Names.{IsIn}
 use Rattle.version_index.specs.Images.{records_in}
 use Rattle.version_index.specs.Notes.{found_in}
 use Rattle.version_index.specs.Noted.{Noted, current_of, mention_of}
@@ -45,7 +45,7 @@ use Rattle.cut_replay.specs.FlashRun.{Point, Tells, MovesBy, is_fault}
 use Rattle.cut_replay.specs.Bounds.{is_cut}
 use Rattle.tx_engine.specs.Always.{IsSeen, HoldsAlways}
 use Rattle.cut_replay.specs.Mounted.{point_at, ServesHere}
-use Rattle.cut_replay.proofs.Devices.{in_any, any_in, in_append, seen_at, seen_later}
+use Rattle.cut_replay.proofs.Devices.{seen_at, seen_later}
 
 -- the moment stays
 stays_moved : (its : Config) (c : Command) (r : Reply) (old new : FlashState) → moment_of new ≡ moment_of old → MovesBy its c r (moment_of old) (moment_of new)

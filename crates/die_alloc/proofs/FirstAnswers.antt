@@ -1,23 +1,10 @@
 -- The first answer that a list of numbers gets.
-use Rattle.std.proofs.Common.{◌≡◌, ℕ, ◌+◌, ◌-◌, ◌<◌, ◌≤◌, ◌⊎◌, inl, inr, List, [], ◌∷◌, ◌++◌, suc, zero, Option, Some, None, refl, sym, arith}
+use Rattle.std.proofs.Common.{◌≡◌, ℕ, ◌+◌, ◌-◌, ◌<◌, ◌≤◌, inl, inr, List, [], ◌∷◌, ◌++◌, suc, zero, Option, Some, None, refl, sym, arith}
 use Rattle.std.specs.List.{range_with_len}
 use Rattle.std.specs.Option.{option_or}
 use Rattle.std.proofs.lemmas.Bool.{cases_lt}
+use Rattle.list_facts.proofs.Options.{option_or_some, option_or_none, option_or_assoc}
 use Rattle.die_alloc.specs.NextSlot.{first_answer}
-
--- one of two gives what both give
-pub option_or_some : {B : Type 0} (o p : Option B) (y : B) → option_or o p ≡ Some y → (o ≡ Some y) ⊎ ((o ≡ None) × (p ≡ Some y))
-option_or_some None p y h = inr (refl, h)
-option_or_some (Some x) p y h = inl h
-
--- both give nothing
-pub option_or_none : {B : Type 0} (o p : Option B) → option_or o p ≡ None → (o ≡ None) × (p ≡ None)
-option_or_none None p h = (refl, h)
-option_or_none (Some x) p h = cc
-
-option_or_assoc : {B : Type 0} (o p q : Option B) → option_or (option_or o p) q ≡ option_or o (option_or p q)
-option_or_assoc None p q = refl
-option_or_assoc (Some x) p q = refl
 
 -- of a range that is not empty, the first number is asked first
 pub first_range : {B : Type 0} (f : ℕ → Option B) (from to : ℕ) → from < to

@@ -5,10 +5,11 @@ use Rattle.std.specs.Option.{IsNone, option_or}
 use Rattle.std.proofs.Math.Nat.{mul_comm}
 use Rattle.std.proofs.lemmas.Bool.{cases_lt}
 use Rattle.std.proofs.lemmas.Nat.{div_below, div-add-mod', mod_below, mul-add-lt, div-mul-add, mod-mul-add}
+use Rattle.list_facts.proofs.Options.{option_or_some, option_or_none}
 use Rattle.tx_types.specs.Config.{blocks_of}
 use Rattle.die_alloc.specs.BlockTable.{BlockTable, IsBlockTable, used_of, HasRoom, IsFull, IsFirstFree, block_of_slot}
 use Rattle.die_alloc.specs.NextSlot.{first_answer, open_block, next_block, first_unused}
-use Rattle.die_alloc.proofs.FirstAnswers.{first_answer-append, answer_of_one, no_answer, option_or_some, option_or_none}
+use Rattle.die_alloc.proofs.FirstAnswers.{first_answer-append, answer_of_one, no_answer}
 use Rattle.die_alloc.proofs.OpenBlocks.{die_lies, open_block_has_room, no_open_block}
 
 -- the block with room in the first die from the cursor on that has one, and in the first one before the cursor

@@ -1,24 +1,17 @@
 -- The block of a die that has room.
-use Rattle.std.proofs.Common.{◌≡◌, ℕ, ◌+◌, ◌-◌, ◌*◌, ◌<◌, ◌≤◌, inl, inr, Bool, true, false, List, length, get_or, Option, Some, None, refl, ap, ◌∙◌, arith}
+use Rattle.std.proofs.Common.{◌≡◌, ℕ, ◌+◌, ◌-◌, ◌*◌, ◌<◌, ◌≤◌, inl, inr, Bool, true, false, length, get_or, Option, Some, None, refl, ap, ◌∙◌, arith}
 use Rattle.std.specs.Prelude.{position}
-use Rattle.std.specs.List.{position_or_len}
 use Rattle.std.specs.Option.{option_map}
-use Rattle.std.proofs.lemmas.Bool.Decides.{nat_tests}
 use Rattle.std.proofs.lemmas.Grind.{common_steps}
 use Rattle.std.proofs.lemmas.List.{get_or-drop, get_or-take}
-use Rattle.std.proofs.lemmas.List.Sums.{fails_before_first}
 use Rattle.std.proofs.lemmas.List.Quantifiers.{position-Some}
 use Rattle.tx_types.specs.declared.config.BlockState.{BlockState}
 use Rattle.tx_types.specs.declared.config.BlockState.TheVariants.{Spare, Clean, Part, Shut}
 use Rattle.die_alloc.specs.BlockTable.{BlockTable, block_state, no_block, HasRoom, IsBlockTable}
-use Rattle.die_alloc.proofs.FirstAnswers.{option_or_some, option_or_none}
 use Rattle.std.proofs.lemmas.Nat.{row_fits_turned}
+use Rattle.list_facts.proofs.Options.{option_or_some, option_or_none}
+use Rattle.list_facts.proofs.Positions.{position-all}
 use Rattle.die_alloc.specs.NextSlot.{is_part, is_clean, lowest_block, open_block, die_blocks}
-
-position-None : {X : Type 0} (p : X → Bool) (xs : List X) (k : ℕ) (d : X) → position p xs ≡ None → k < length xs → p (get_or xs k d) ≡ false
-position-None p xs k d h within =
-    let past : length xs ≤ position_or_len p xs = grind (arith, nat_tests) in
-    fails_before_first p xs k d (omega arith)
 
 module _ (test : BlockState → Bool) (t : BlockTable) (die : ℕ) where
   -- the die lies in the table
@@ -58,7 +51,7 @@ module _ (test : BlockState → Bool) (t : BlockTable) (die : ℕ) where
           let place = block - die * t.shape.blocks_per_die in
           let within : place < t.shape.blocks_per_die = omega arith in
           let is : die * t.shape.blocks_per_die + place ≡ block = omega arith in
-          let fails = position-None (λ b. test b.state) (die_blocks t die) place no_block e (omega (arith, length_of_die lies)) in
+          let fails = position-all (λ b. test b.state) (die_blocks t die) no_block e place (omega (arith, length_of_die lies)) in
           rw (place_of_die place within, is) at fails
 
 part_is : (s : BlockState) → is_part s ≡ true → s ≡ Part

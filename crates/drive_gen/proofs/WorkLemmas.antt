@@ -1,7 +1,6 @@
 -- The commands of a generated list, piece by piece.
-use Rattle.std.proofs.Common.{◌≡◌, ℕ, zero, suc, ◌+◌, Bool, true, false, cond, nat_le, List, [], ◌∷◌, ◌++◌, refl, arith, append_assoc, add-one, flat_map, map}
+use Rattle.std.proofs.Common.{◌≡◌, ℕ, ◌+◌, Bool, true, false, cond, nat_le, List, [], ◌∷◌, ◌++◌, refl, arith, flat_map, map}
 use Rattle.std.specs.List.{range_with_len, AllByRecursion, All}
-use Rattle.std.proofs.lemmas.List.{append-nil}
 use Rattle.std.proofs.lemmas.List.Elements.{All-from_recursion}
 use Rattle.tx_types.specs.declared.config.Config.{Config}
 use Rattle.tx_types.specs.Batch.{Writes}
@@ -10,14 +9,6 @@ use Rattle.host_protocol.specs.declared.command.Command.TheVariants as command
 use Rattle.drive_gen.specs.declared.kind.Kind.{Kind}
 use Rattle.drive_gen.specs.declared.kind.Kind.TheVariants as kind
 use Rattle.drive_gen.specs.Work.{of_kind, fill, generated, numbered, transaction, drawn_kind, aborted, drawn_batch, page_count}
-
-flat_next : {X : Type 0} (f : ℕ → List X) (a k j : ℕ) → a + k ≡ j → flat_map f (range_with_len a (suc k)) ≡ flat_map f (range_with_len a k) ++ f j
-flat_next f a zero j e = let same : a ≡ j = omega arith in rw (same, append-nil) refl
-flat_next f a (suc k) j e = rw (flat_next f (a + 1) k j (omega arith), append_assoc) refl
-
--- one piece more
-pub flat_more : {X : Type 0} (f : ℕ → List X) (k : ℕ) → flat_map f (range_with_len 0 (k + 1)) ≡ flat_map f (range_with_len 0 k) ++ f k
-flat_more f k = rw add-one (flat_next f 0 k k (omega arith))
 
 -- ---- each command suits the device
 

@@ -5,6 +5,7 @@ use Rattle.std.specs.List.{AllZip, AllByRecursion}
 use Rattle.std.proofs.lemmas.Bool.{leb-true}
 use Rattle.std.proofs.lemmas.List.Elements.{All-from_recursion}
 use Rattle.std.proofs.lemmas.Option.{cond_some, option_and_then_some}
+use Rattle.list_facts.proofs.Lists.{same_somes}
 use Rattle.flash_model.specs.declared.outcome.Outcome.{Outcome}
 use Rattle.flash_model.specs.declared.outcome.Outcome.TheVariants as outcome
 use Rattle.tx_types.specs.Batch.{PageWrite, Writes}
@@ -41,15 +42,6 @@ same_outcome outcome.None outcome.None h = refl
 same_outcome outcome.All outcome.All h = refl
 same_outcome outcome.Bad outcome.Bad h = refl
 same_outcome a b h = let keys : key (outcome_word a) ≡ key (outcome_word b) = ap key h in absurd (omega arith)
-
-same_somes : {X : Type 0} (xs ys : List X) → map Some xs ≡ map Some ys → xs ≡ ys
-same_somes [] [] h = refl
-same_somes [] (y ∷ ys) h = absurd (cc)
-same_somes (x ∷ xs) [] h = absurd (cc)
-same_somes (x ∷ xs) (y ∷ ys) h =
-    let tails : map Some xs ≡ map Some ys = cc in
-    let rest = same_somes xs ys tails in
-    cc
 
 same_writes : (a b : Writes) → a.page_bytes ≡ b.page_bytes → a.entries ≡ b.entries → a ≡ b
 same_writes a b sizes entries =

@@ -1,5 +1,5 @@
 -- How the commands of a file grow, line by line.
-use Rattle.std.proofs.Common.{◌≡◌, ℕ, zero, suc, ◌+◌, ◌-◌, ◌<◌, ◌≤◌, ◌⊎◌, inl, inr, true, false, List, [], ◌∷◌, ◌++◌, length, take, drop, refl, sym, ap, ◌∙◌, arith, add-one, Option, Some, None, length-append}
+use Rattle.std.proofs.Common.{◌≡◌, ℕ, ◌+◌, ◌-◌, ◌<◌, ◌≤◌, ◌⊎◌, inl, inr, true, false, List, [], ◌∷◌, ◌++◌, length, take, drop, refl, ap, ◌∙◌, arith, Option, Some, None, length-append}
 use Rattle.std.specs.Prelude.{filter, sum_by, IfNone, IfSome}
 use Rattle.std.specs.List.{AllZip}
 use Rattle.std.specs.Option.{option_to_list}
@@ -8,6 +8,8 @@ use Rattle.std.proofs.Math.Seq.{take-length}
 use Rattle.std.proofs.lemmas.Bool.{cases_order}
 use Rattle.std.proofs.lemmas.List.Elements.{filter-append}
 use Rattle.std.proofs.lemmas.List.Sums.{sum_by-append, sum_by_push}
+use Rattle.list_facts.proofs.Lists.{Next, take_shorter}
+use Rattle.list_facts.proofs.Pairs.{zip_front, zip_same, zip_push}
 use Rattle.host_protocol.specs.Commands.{IsCommand}
 use Rattle.host_protocol.specs.Files.{AreCommands, AreGood, IsFile, IsFirstBad, entries_in, is_command_line}
 use Rattle.host_protocol.specs.Lines.{lines_of}
@@ -21,64 +23,6 @@ use Rattle.host_protocol.specs.declared.file.TheConstants.{MAX_COMMANDS, MAX_ENT
 use Rattle.host_protocol.proofs.CommandLemmas.{one_command}
 
 -- ---- lists
-
--- the front of a list one element later
-pub record Next {X : Type 0} (xs : List X) (i : ℕ) (x : X) (more : List X) : Type 0 where
-  pub front : take (i + 1) xs ≡ take i xs ++ x ∷ []
-  pub behind : drop (i + 1) xs ≡ more
-  pub within : i < length xs
-
-pub next : {X : Type 0} (xs : List X) (i : ℕ) (x : X) (more : List X) → drop i xs ≡ x ∷ more → Next xs i x more
-next [] zero x more h = absurd (cc)
-next [] (suc i) x more h = absurd (cc)
-next (y ∷ ys) zero x more h = let heads : y ≡ x = cc in let tails : ys ≡ more = cc in record { front = ap (λ z. z ∷ []) heads; behind = tails; within = omega arith }
-next (y ∷ ys) (suc i) x more h =
-    let rest = next ys i x more h in
-    record { front = rw add-one (ap (λ zs. y ∷ zs) (rw add-one at rest.front)); behind = rw add-one (rw add-one at rest.behind); within = let w = rest.within in omega arith }
-
-pub take_all : {X : Type 0} (xs : List X) (i : ℕ) → drop i xs ≡ [] → take i xs ≡ xs
-take_all xs i h = sym (append-nil (take i xs)) ∙ rw h at (take-append-drop i xs)
-
--- a shorter front of a front
-pub take_shorter : {X : Type 0} (n m : ℕ) (xs : List X) → n ≤ m → take n (take m xs) ≡ take n xs
-take_shorter zero m xs h = refl
-take_shorter (suc n) zero xs h = absurd (omega arith)
-take_shorter (suc n) (suc m) [] h = refl
-take_shorter (suc n) (suc m) (x ∷ xs) h = ap (λ zs. x ∷ zs) (take_shorter n m xs (omega arith))
-
--- one pair more
-zip_more : {X Y : Type 0} (R : X → Y → Type 0) (xs : List X) (ys : List Y) (x : X) (y : Y) → AllZip R xs ys → R x y → AllZip R (xs ++ x ∷ []) (ys ++ y ∷ [])
-zip_more R [] [] x y all r = (r, tt)
-zip_more R [] (v ∷ ys) x y all r = absurd all
-zip_more R (u ∷ xs) [] x y all r = absurd all
-zip_more R (u ∷ xs) (v ∷ ys) x y all r = (all.0, zip_more R xs ys x y all.1 r)
-
--- pairs for a front and a back
-pub record Fronts {X Y : Type 0} (R : X → Y → Type 0) (xs more : List X) (ys : List Y) : Type 0 where
-  pub front : List Y
-  pub back : List Y
-  pub whole : ys ≡ front ++ back
-  pub fronts : AllZip R xs front
-  pub backs : AllZip R more back
-
-zip_front : {X Y : Type 0} (R : X → Y → Type 0) (xs more : List X) (ys : List Y) → AllZip R (xs ++ more) ys → Fronts R xs more ys
-zip_front R [] more ys all = record { front = []; back = ys; whole = refl; fronts = tt; backs = all }
-zip_front R (x ∷ xs) more [] all = absurd all
-zip_front R (x ∷ xs) more (y ∷ ys) all =
-    let rest = zip_front R xs more ys all.1 in
-    record { front = y ∷ rest.front; back = rest.back; whole = ap (λ zs. y ∷ zs) rest.whole; fronts = (all.0, rest.fronts); backs = rest.backs }
-
--- where each element has one partner, a list has one list of partners
-zip_same : {X Y : Type 0} (R : X → Y → Type 0) → ((x : X) (y z : Y) → R x y → R x z → y ≡ z) → (xs : List X) (ys zs : List Y) → AllZip R xs ys → AllZip R xs zs → ys ≡ zs
-zip_same R one [] [] [] a b = refl
-zip_same R one [] [] (z ∷ zs) a b = absurd b
-zip_same R one [] (y ∷ ys) zs a b = absurd a
-zip_same R one (x ∷ xs) [] zs a b = absurd a
-zip_same R one (x ∷ xs) (y ∷ ys) [] a b = absurd b
-zip_same R one (x ∷ xs) (y ∷ ys) (z ∷ zs) a b =
-    let first = one x y z a.0 b.0 in
-    let rest = zip_same R one xs ys zs a.1 b.1 in
-    cc
 
 -- ---- the lines so far
 
@@ -97,7 +41,7 @@ add_line size lines line commands entries_left None idle adds left good =
     rw append-nil (record { all = record { each = rw (filter_idle lines line idle) good.all.each; most_commands = good.all.most_commands }; most_entries = good.most_entries })
 add_line size lines line commands entries_left (Some what) idle adds left good = record {
   all = record {
-    each = rw (filter_more lines line adds.asks) (zip_more (IsCommand size) (filter is_command_line lines) commands line what good.all.each adds.is);
+    each = rw (filter_more lines line adds.asks) (zip_push (IsCommand size) (filter is_command_line lines) commands line what good.all.each adds.is);
     most_commands = let h = adds.one_more in omega (arith, length-append {A = Command});
   };
   most_entries = let h = adds.within in rw (sum_by_push entries_in commands what) (omega arith);

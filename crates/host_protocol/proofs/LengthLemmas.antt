@@ -1,7 +1,7 @@
 -- The lines of replies are short.
 use Rattle.std.proofs.Common.{ℕ, ◌+◌, ◌*◌, ◌^◌, ◌<◌, ◌≤◌, List, [], ◌∷◌, length, arith, length-append}
 use Rattle.std.specs.Fmt.{decimal}
-use Rattle.std.proofs.lemmas.Fmt.{length-decimal-le}
+use Rattle.list_facts.proofs.Values.{digits_64, digits_32}
 use Rattle.hex.proofs.HexLemmas.{length-encode_with}
 use Rattle.hex.specs.Hex.{lower_digits}
 use Rattle.host_protocol.specs.Replies.{line_of, reply_words, text_of, IsLine, HasPage, max_reply_bytes}
@@ -24,20 +24,13 @@ line_short (word ∷ next ∷ words) h =
 few : (words : List (List ℕ)) → AreShort words → length words ≤ 13 → length (line_of words) ≤ max_reply_bytes
 few words h n = let line = line_short words h in omega arith
 
--- numbers have at most 20 digits, and those of 32 bits at most 10
-short : (n : ℕ) → n < 2 ^ 64 → length (decimal n) ≤ 20
-short n h = length-decimal-le 20 n (omega arith) (omega arith) h
-
-shorter : (n : ℕ) → n < 2 ^ 32 → length (decimal n) ≤ 10
-shorter n h = length-decimal-le 10 n (omega arith) (omega arith) (omega arith)
-
 short32 : (n : ℕ) → n < 2 ^ 32 → length (decimal n) ≤ 20
-short32 n h = short n (omega arith)
+short32 n h = digits_64 n (omega arith)
 
 pub short_text : (what : Reply) → IsLine what → HasPage what → length (text_of what) ≤ max_reply_bytes
 short_text (reply.Blank page) h p = few (reply_words (reply.Blank page)) (omega arith, (short32 page h, tt)) (omega arith)
 short_text (reply.Page page bytes) h p =
-    let number = shorter page h.0 in
+    let number = digits_32 page h.0 in
     let digits = length-encode_with lower_digits bytes in
     omega (arith, length-append {A = ℕ})
 short_text (reply.Opened tag pages) h p = few (reply_words (reply.Opened tag pages)) (omega arith, (short32 tag h.0, (short32 pages h.1, tt))) (omega arith)
@@ -64,8 +57,8 @@ short_text (reply.Stats s) h p =
     let written = short32 s.written h.0 in
     let tags = short32 s.tags h.1 in
     let pending = short32 s.pending h.2 in
-    let programs = short s.programs h.3 in
-    let erases = short s.erases h.4 in
+    let programs = digits_64 s.programs h.3 in
+    let erases = digits_64 s.erases h.4 in
     let garbage = short32 s.garbage h.5 in
     omega (arith, length-append {A = ℕ})
 short_text (reply.Report text) h p = absurd h

@@ -1,14 +1,12 @@
 -- The parts of a list between the elements that a test finds.
-use Rattle.std.proofs.Common.{◌≡◌, ℕ, suc, ◌+◌, ◌-◌, ◌<◌, ◌≤◌, Bool, true, false, not, List, [], ◌∷◌, length, take, drop, refl, arith, Some, None, unwrap_or, length-drop}
-use Rattle.std.specs.Prelude.{position, nat_lt}
+use Rattle.std.proofs.Common.{◌≡◌, ℕ, suc, ◌+◌, ◌-◌, ◌<◌, Bool, true, false, not, List, [], ◌∷◌, length, take, drop, refl, arith, Some, None, length-drop}
+use Rattle.std.specs.Prelude.{position}
 use Rattle.std.specs.List.{slice_split, position_or_len}
 use Rattle.std.proofs.Math.ListN.{drop_of_length-le}
 use Rattle.std.proofs.Math.Seq.{take-length}
-use Rattle.std.proofs.lemmas.Bool.{ltb-true}
-use Rattle.std.proofs.lemmas.Bool.Decides.{nat_tests}
 use Rattle.std.proofs.lemmas.List.Splits.{slice_split_first}
 use Rattle.std.proofs.lemmas.List.Sums.{prefix_len-le-length}
-use Rattle.std.proofs.lemmas.Option.{cond_some}
+use Rattle.list_facts.proofs.Positions.{position_some, none_whole}
 
 pub one_more : (n : ℕ) → 1 + n ≡ suc n
 one_more n = omega arith
@@ -27,17 +25,6 @@ pub parts : {X : Type 0} (p : X → Bool) (xs : List X) → Parts p xs
 parts p [] = record { rest = []; all = refl; behind = refl }
 parts p (x ∷ xs) = more_parts p x xs (p x) refl (parts p xs)
 
-pub position_some : {X : Type 0} (p : X → Bool) (xs : List X) (i : ℕ) → position p xs ≡ Some i → (position_or_len p xs ≡ i) × (i < length xs)
-position_some p xs i h =
-    let both = cond_some (nat_lt (position_or_len p xs) (length xs)) (position_or_len p xs) i h in
-    (both.1, rw both.1 at (ltb-true (position_or_len p xs) (length xs) both.0))
-
-pub position_none : {X : Type 0} (p : X → Bool) (xs : List X) → position p xs ≡ None → length xs ≤ position_or_len p xs
-position_none p xs h = grind (arith, nat_tests)
-
-pub position_end : {X : Type 0} (p : X → Bool) (xs : List X) → unwrap_or (position p xs) (length xs) ≡ position_or_len p xs
-position_end p xs = grind (arith, nat_tests, prefix_len-le-length (λ x. not (p x)) xs)
-
 -- the first part ends at the first place that passes
 pub split_some : (p : ℕ → Bool) (xs : List ℕ) (i : ℕ) → position p xs ≡ Some i → slice_split p xs ≡ take i xs ∷ slice_split p (drop (i + 1) xs)
 split_some p xs i h =
@@ -49,7 +36,7 @@ split_some p xs i h =
 pub split_none : (p : ℕ → Bool) (xs : List ℕ) → position p xs ≡ None → slice_split p xs ≡ xs ∷ []
 split_none p xs h =
     let all = parts p xs in
-    let far = position_none p xs h in
+    let far = none_whole p xs h in
     let whole : position_or_len p xs ≡ length xs = omega (arith, prefix_len-le-length (λ b. not (p b)) xs) in
     let gone : drop (position_or_len p xs) xs ≡ [] = drop_of_length-le xs far in
     let none : ◌≡◌ {A = List (List ℕ)} ([] ∷ []) ([] ∷ all.rest) = rw gone at all.behind in

@@ -6,8 +6,9 @@ use Rattle.std.proofs.Math.ListN.{drop_of_length-le}
 use Rattle.std.proofs.lemmas.Bool.{not-true}
 use Rattle.std.proofs.lemmas.List.{length-take}
 use Rattle.std.proofs.lemmas.List.Sums.{passes_at_first}
+use Rattle.list_facts.proofs.Positions.{position_some, none_whole, position_end}
 use Rattle.host_protocol.specs.Lines.{words_of, is_space_or_tab, has_bytes}
-use Rattle.host_protocol.proofs.PartLemmas.{one_more, parts, position_some, position_none, position_end, rest_from, rest_is}
+use Rattle.host_protocol.proofs.PartLemmas.{one_more, parts, rest_from, rest_is}
 
 -- where a line's first word begins
 abbrev start_of : List ℕ → ℕ
@@ -66,6 +67,6 @@ word_first line start end h e' =
 pub word_none : (line : List ℕ) → position (λ b. not (is_space_or_tab b)) line ≡ None → words_of line ≡ []
 unfolding words_of
 word_none line h =
-    let far = position_none (λ b. not (is_space_or_tab b)) line h in
+    let far = none_whole (λ b. not (is_space_or_tab b)) line h in
     let gone : drop (start_of line) line ≡ [] = drop_of_length-le line far in
     sym (words_skip line) ∙ ap words_of gone

@@ -1,16 +1,17 @@
 -- A header and its numbers.
-use Rattle.std.proofs.Common.{◌≡◌, ℕ, zero, suc, ◌+◌, ◌-◌, ◌*◌, ◌^◌, ◌<◌, ◌≤◌, Bool, true, false, List, [], ◌∷◌, ◌++◌, length, get_or, take, drop, replicate, slice_range, Option, Some, None, Result, Ok, Err, refl, sym, ap, subst, ◌∙◌, inl, inr, arith}
+use Rattle.std.proofs.Common.{◌≡◌, ℕ, zero, suc, ◌+◌, ◌-◌, ◌*◌, ◌^◌, ◌<◌, ◌≤◌, Bool, true, false, List, [], ◌∷◌, ◌++◌, length, take, drop, replicate, slice_range, Option, Some, None, Result, Ok, Err, refl, sym, ap, subst, ◌∙◌, inl, inr, arith}
 use Rattle.std.specs.Prelude.{is_some, unwrap_or, nat_le, nat_eq}
 use Rattle.std.specs.Int.{w32, to_le_bytes}
 use Rattle.std.specs.Option.{option_map}
 use Rattle.std.specs.Result.{result_err}
 use Rattle.std.specs.List.{flat_map, starts_with}
-use Rattle.std.proofs.lemmas.Bool.{cases_eq, cases_lt, ne_eqb, leb-true, le-leb}
-use Rattle.std.proofs.lemmas.List.{length-append, length-take, length-drop, get_or-drop, get_or-take, get_or_past, drop-drop}
+use Rattle.std.proofs.lemmas.Bool.{cases_eq, ne_eqb, leb-true, le-leb}
+use Rattle.std.proofs.lemmas.List.{length-append, length-take, length-drop, drop-drop}
 use Rattle.std.proofs.lemmas.Nat.{le_bytes_4, from_le_bytes-to_le_bytes_4}
 use Rattle.std.proofs.lemmas.Slice.Eq.{bytes_eq-Decides}
 use Rattle.std.proofs.Math.Seq.{take-add}
 use Rattle.std.proofs.Math.Nat.{mul-le-mul_right}
+use Rattle.list_facts.proofs.Bytes.{IsBytes, IsBytes-take, IsBytes-drop}
 use Rattle.tx_types.specs.Config.{checked, shape_of, blocks_of, slots_of, IsConfig}
 use Rattle.tx_types.specs.declared.config.Config.{Config}
 use Rattle.tx_types.specs.declared.config.ConfigError.{ConfigError}
@@ -25,32 +26,19 @@ use Rattle.image_file.specs.declared.error.ImageError.{ImageError}
 use Rattle.image_file.specs.declared.error.ImageError.TheVariants as error
 use Rattle.image_file.proofs.ImageLemmas.{all_equal-is}
 
--- each is a byte
-pub record AreBytes (bytes : List ℕ) : Type 0 where
-  pub at : (i : ℕ) → get_or bytes i 0 < 256
-
-AreBytes-range : (offset n : ℕ) (bytes : List ℕ) → AreBytes bytes → AreBytes (take n (drop offset bytes))
-AreBytes-range offset n bytes h = record {
-  at = λ i.
-      elim (cases_lt i n) [
-        | inl lt ↦ rw (get_or-take n (drop offset bytes) i 0 lt, get_or-drop) (h.at (offset + i))
-        | inr le ↦ rw (get_or_past (take n (drop offset bytes)) i 0 (omega (arith, length-take n (drop offset bytes)))) (omega arith)
-      ];
-}
-
 -- ---- numbers one after the other
 
 numbers_from : ℕ → ℕ → List ℕ → List ℕ
 numbers_from offset zero bytes = []
 numbers_from offset (suc k) bytes = number_at offset bytes ∷ numbers_from (offset + 4) k bytes
 
-number_again : (offset : ℕ) (bytes : List ℕ) → offset + 4 ≤ length bytes → AreBytes bytes → to_le_bytes w32 (number_at offset bytes) ≡ take 4 (drop offset bytes)
+number_again : (offset : ℕ) (bytes : List ℕ) → offset + 4 ≤ length bytes → IsBytes bytes → to_le_bytes w32 (number_at offset bytes) ≡ take 4 (drop offset bytes)
 unfolding number_at
 number_again offset bytes room h =
     let four : offset + 4 - offset ≡ 4 = omega arith in
-    rw four (le_bytes_4 (take 4 (drop offset bytes)) _ (omega (arith, length-take 4 (drop offset bytes), length-drop offset bytes)) (AreBytes-range offset 4 bytes h).at refl)
+    rw four (le_bytes_4 (take 4 (drop offset bytes)) _ (omega (arith, length-take 4 (drop offset bytes), length-drop offset bytes)) (IsBytes-take 4 (drop offset bytes) (IsBytes-drop offset bytes h)).at refl)
 
-numbers_again : (k offset : ℕ) (bytes : List ℕ) → offset + 4 * k ≤ length bytes → AreBytes bytes → flat_map (to_le_bytes w32) (numbers_from offset k bytes) ≡ take (4 * k) (drop offset bytes)
+numbers_again : (k offset : ℕ) (bytes : List ℕ) → offset + 4 * k ≤ length bytes → IsBytes bytes → flat_map (to_le_bytes w32) (numbers_from offset k bytes) ≡ take (4 * k) (drop offset bytes)
 unfolding numbers_from
 numbers_again zero offset bytes room h = refl
 numbers_again (suc k) offset bytes room h =
@@ -113,7 +101,7 @@ code_again code known =
       ]
     ]
 
-pub header_again : (bytes : List ℕ) → AreBytes bytes → HeaderHolds bytes → header_of (config_in bytes) ≡ take 64 bytes
+pub header_again : (bytes : List ℕ) → IsBytes bytes → HeaderHolds bytes → header_of (config_in bytes) ≡ take 64 bytes
 unfolding numbers_from header_of
 header_again bytes fits h =
     let long : 64 ≤ length bytes = leb-true 64 (length bytes) h.long in

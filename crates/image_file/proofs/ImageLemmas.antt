@@ -5,6 +5,8 @@ use Rattle.std.specs.List.{All, flat_map, zip}
 use Rattle.std.specs.Simd.{first_chunks}
 use Rattle.std.proofs.lemmas.Bool.{and_parts, cases_eq, eq-eqb, eqb-true, ne_eqb, not-false}
 use Rattle.std.proofs.lemmas.List.{replicate-append-replicate, length-append, length-replicate, length-take, length-drop, take-append-drop, take_at, drop_at}
+use Rattle.std.proofs.lemmas.List.Elements.{All-tail}
+use Rattle.list_facts.proofs.Positions.{position-pass, position-rest}
 use Rattle.flash_model.specs.declared.flash.Seen.{Seen}
 use Rattle.flash_model.specs.declared.flash.Seen.TheVariants.{Blank, Complete, Damaged}
 use Rattle.flash_model.specs.Flash.{Contents, blank, damaged, complete, IsWhole}
@@ -14,7 +16,6 @@ use Rattle.mem_flash.specs.Slots.{cell_bytes, cell_of, contents_of, image_of, Is
 use Rattle.mem_flash.proofs.Images.{seen_of-contents_of, cell_of-contents_of}
 use Rattle.image_file.specs.Spelling.{state_byte}
 use Rattle.image_file.specs.Rules.{seen_from, all_seen, is_filled, wrong_state, wrong_bytes}
-use Rattle.image_file.proofs.Firsts.{position-pass, position-rest}
 
 -- ---- bytes that are all one
 
@@ -110,9 +111,6 @@ cells-image_of n (how ∷ seen) cells long none =
 
 -- ---- states and bytes, from all slots
 
-tail : {X : Type 0} (P : X → Type 0) (x : X) (xs : List X) → All P (x ∷ xs) → All P xs
-tail P x xs all k d below = all (suc k) d (omega arith)
-
 module _ (n : ℕ) where
   pub all_seen-states : (image : List Contents) → all_seen (map (λ slot. state_byte (seen_of slot)) image) ≡ map seen_of image
   all_seen-states [] = refl
@@ -131,7 +129,7 @@ module _ (n : ℕ) where
   length-cells [] whole = omega arith
   length-cells (slot ∷ image) whole =
       let first = length-cell_of n slot (whole 0 slot (omega arith)) in
-      let others = length-cells image (tail (IsWhole n) slot image whole) in
+      let others = length-cells image (All-tail (IsWhole n) slot image whole) in
       omega (arith, length-append (cell_of n slot) (flat_map (cell_of n) image))
 
   pub image_of-cells : (image : List Contents) → All (IsWhole n) image → image_of n (map seen_of image) (flat_map (cell_of n) image) ≡ image
@@ -141,7 +139,7 @@ module _ (n : ℕ) where
       let long = length-cell_of n slot this in
       let rest = flat_map (cell_of n) image in
       let first = ap (contents_of n (seen_of slot)) (take_at (cell_of n slot) rest (cell_bytes n) long) ∙ contents_of-cell_of n slot this in
-      let others = ap (image_of n (map seen_of image)) (drop_at (cell_of n slot) rest (cell_bytes n) long) ∙ image_of-cells image (tail (IsWhole n) slot image whole) in
+      let others = ap (image_of n (map seen_of image)) (drop_at (cell_of n slot) rest (cell_bytes n) long) ∙ image_of-cells image (All-tail (IsWhole n) slot image whole) in
       cc
 
   pub wrong_bytes-cells : (image : List Contents) → All (IsWhole n) image → wrong_bytes (cell_bytes n) (map seen_of image) (flat_map (cell_of n) image) ≡ None
@@ -155,4 +153,4 @@ module _ (n : ℕ) where
       (seen_of slot, take (cell_bytes n) (cell_of n slot ++ rest))
       (zip (map seen_of image) (first_chunks (cell_bytes n) (length (map seen_of image)) (drop (cell_bytes n) (cell_of n slot ++ rest))))
       (ap (λ cell. not (is_filled (seen_of slot) cell)) cell_is ∙ ap not (is_filled-cell_of n slot))
-      (ap (wrong_bytes (cell_bytes n) (map seen_of image)) behind ∙ wrong_bytes-cells image (tail (IsWhole n) slot image whole))
+      (ap (wrong_bytes (cell_bytes n) (map seen_of image)) behind ∙ wrong_bytes-cells image (All-tail (IsWhole n) slot image whole))

@@ -1,4 +1,3 @@
-mod Firsts
 mod SlotLemmas
 mod ImageLemmas
 mod HeaderLemmas

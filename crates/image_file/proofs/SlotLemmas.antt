@@ -5,13 +5,13 @@ use Rattle.std.specs.Fork.{slice_chunk}
 use Rattle.std.specs.Simd.{first_chunks}
 use Rattle.std.proofs.lemmas.Bool.{not-false}
 use Rattle.std.proofs.lemmas.Slice.Zip.{length-zip, get_or-zip}
+use Rattle.list_facts.proofs.Positions.{position-at, position-none, position-all}
+use Rattle.list_facts.proofs.Chunks.{chunk_end, length-slice_chunk, length-first_chunks, get_or-first_chunks}
 use Rattle.flash_model.specs.declared.flash.Seen.{Seen}
 use Rattle.flash_model.specs.declared.flash.Seen.TheVariants.{Blank}
 use Rattle.image_file.specs.Rules.{is_filled, wrong_bytes}
 use Rattle.mem_flash.specs.Slots.{cell_bytes, AreFilled}
-use Rattle.mem_flash.proofs.Chunks.{chunk_end, length-slice_chunk}
 use Rattle.image_file.proofs.ImageLemmas.{IsFilled-tested}
-use Rattle.image_file.proofs.Firsts.{position-at, position-none, position-all, length-first_chunks, get_or-first_chunks}
 
 module _ (size : ℕ) (seen : List Seen) (cells : List ℕ) where
   abbrev slots : List (Seen × List ℕ)

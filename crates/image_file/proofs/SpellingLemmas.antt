@@ -1,10 +1,12 @@
 -- A configuration and slots have one spelling, and what breaks no rule is one.
-use Rattle.std.proofs.Common.{◌≡◌, ◌↔◌, ℕ, ◌+◌, ◌-◌, ◌*◌, ◌<◌, eqb, List, ◌++◌, map, length, take, drop, slice_range, Option, Some, None, Ok, Err, refl, sym, ap, subst, ◌∙◌, inl, inr, arith}
-use Rattle.std.specs.Option.{option_map, option_or, option_map_or}
-use Rattle.std.specs.List.{All, flat_map}
-use Rattle.std.proofs.lemmas.Bool.{cases_lt, eqb-true, eq-eqb}
-use Rattle.std.proofs.lemmas.List.{append_assoc, length-append, length-map, length-take, length-drop, take-append-drop, drop-drop, take_at, drop_at, get_or_past}
+use Rattle.std.proofs.Common.{◌≡◌, ◌↔◌, ℕ, ◌+◌, ◌-◌, ◌*◌, eqb, List, ◌++◌, map, length, take, drop, slice_range, Option, Some, None, Ok, Err, refl, sym, ap, subst, ◌∙◌, arith}
+use Rattle.std.specs.Option.{option_map, option_map_or}
+use Rattle.std.specs.List.{flat_map}
+use Rattle.std.proofs.lemmas.Bool.{eqb-true, eq-eqb}
+use Rattle.std.proofs.lemmas.List.{append_assoc, length-append, length-map, length-take, length-drop, take-append-drop, drop-drop, take_at, drop_at}
 use Rattle.std.proofs.Math.Seq.{take-add}
+use Rattle.list_facts.proofs.Bytes.{IsBytes}
+use Rattle.list_facts.proofs.Options.{option_or_none, map_none}
 use Rattle.tx_types.specs.Config.{checked, shape_of, slots_of, image_bytes}
 use Rattle.tx_types.specs.declared.config.Config.{Config}
 use Rattle.tx_types.specs.declared.config.Shape.{Shape}
@@ -19,7 +21,7 @@ use Rattle.image_file.specs.Rules.{config_in, shape_in, states_in, cells_in, all
 use Rattle.image_file.specs.declared.error.ImageError.{ImageError}
 use Rattle.image_file.specs.declared.error.ImageError.TheVariants as error
 use Rattle.image_file.proofs.ImageLemmas.{states-all_seen, states-image_of, cells-image_of, all_seen-states, wrong_state-states, length-cells, image_of-cells, wrong_bytes-cells}
-use Rattle.image_file.proofs.HeaderLemmas.{AreBytes, HeaderHolds, passed, passes, header_holds, header_passes, header_again, length-header_of, config_in-header, HeaderHolds-header}
+use Rattle.image_file.proofs.HeaderLemmas.{HeaderHolds, passed, passes, header_holds, header_passes, header_again, length-header_of, config_in-header, HeaderHolds-header}
 
 -- ---- the rules behind the header, each by itself
 
@@ -28,18 +30,10 @@ pub record SlotsHold (bytes : List ℕ) : Type 0 where
   pub states_hold : wrong_state (states_in bytes) ≡ None
   pub bytes_hold : wrong_bytes (cell_bytes (number_at 12 bytes)) (all_seen (states_in bytes)) (cells_in bytes) ≡ None
 
-or_none : {T : Type 0} (a b : Option T) → option_or a b ≡ None → (a ≡ None) × (b ≡ None)
-or_none None b h = (refl, h)
-or_none (Some x) b h = absurd cc
-
-map_none : {T U : Type 0} (f : T → U) (o : Option T) → option_map f o ≡ None → o ≡ None
-map_none f None h = refl
-map_none f (Some x) h = absurd cc
-
 pub slots_hold : (bytes : List ℕ) → broken_slots bytes ≡ None → SlotsHold bytes
 slots_hold bytes none =
     let a = passed (eqb (length bytes) (image_bytes (shape_in bytes))) error.Length _ none in
-    let b = or_none (option_map (λ at. error.SlotState (record { 0 = at })) (wrong_state (states_in bytes))) _ a.1 in
+    let b = option_or_none (option_map (λ at. error.SlotState (record { 0 = at })) (wrong_state (states_in bytes))) _ a.1 in
     record {
       long = eqb-true (length bytes) (image_bytes (shape_in bytes)) a.0;
       states_hold = map_none _ (wrong_state (states_in bytes)) b.0;
@@ -54,7 +48,7 @@ slots_pass bytes h =
 pub holds_of : (bytes : List ℕ) → first_broken bytes ≡ None → HeaderHolds bytes × SlotsHold bytes
 unfolding first_broken
 holds_of bytes none =
-    let parts = or_none (broken_header bytes) (broken_slots bytes) none in
+    let parts = option_or_none (broken_header bytes) (broken_slots bytes) none in
     (header_holds bytes parts.0, slots_hold bytes parts.1)
 
 pub none_broken : (bytes : List ℕ) → HeaderHolds bytes → SlotsHold bytes → first_broken bytes ≡ None
@@ -63,7 +57,7 @@ none_broken bytes header slots = rw (header_passes bytes header) (slots_pass byt
 
 -- ---- bytes that break no rule are spelled so
 
-module _ (bytes : List ℕ) (fits : AreBytes bytes) (header : HeaderHolds bytes) (slots : SlotsHold bytes) where
+module _ (bytes : List ℕ) (fits : IsBytes bytes) (header : HeaderHolds bytes) (slots : SlotsHold bytes) where
   abbrev n : ℕ
   n = number_at 12 bytes
 
@@ -175,7 +169,7 @@ module _ (c : Config) (image : List Contents) (can : CanBeSpelled c image) where
 
 -- ---- both ways
 
-pub read_spelled : (bytes : List ℕ) → AreBytes bytes → first_broken bytes ≡ None
+pub read_spelled : (bytes : List ℕ) → IsBytes bytes → first_broken bytes ≡ None
     → Spells bytes (config_in bytes) (image_in bytes)
 read_spelled bytes fits none =
     let holds = holds_of bytes none in
@@ -203,7 +197,7 @@ spelling-injective c d a b can_a can_b same = (
 )
 
 -- what is read from bytes is what they spell
-pub reading-iff : (bytes : List ℕ) (c : Config) (image : List Contents) → AreBytes bytes → (reading bytes ≡ Ok (c, image, no_extras)) ↔ Spells bytes c image
+pub reading-iff : (bytes : List ℕ) (c : Config) (image : List Contents) → IsBytes bytes → (reading bytes ≡ Ok (c, image, no_extras)) ↔ Spells bytes c image
 reading-iff bytes c image fits = (
   λ h.
       let read : Config × List Contents × Extras = (config_in bytes, image_in bytes, no_extras) in
@@ -217,8 +211,3 @@ reading-iff bytes c image fits = (
       cases refl h,
   λ h. ap reading h.same ∙ reading-spelling c image h.can,
 )
-
-pub AreBytes-all : (bytes : List ℕ) → All (λ b. b < 256) bytes → AreBytes bytes
-AreBytes-all bytes all = record {
-  at = λ i. elim (cases_lt i (length bytes)) [ inl inside ↦ all i 0 inside | inr past ↦ rw (get_or_past bytes i 0 past) (omega arith) ];
-}

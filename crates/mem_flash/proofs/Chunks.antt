@@ -1,27 +1,10 @@
 -- A flat list as chunks of one size: reading one, writing over one, and filling some.
-use Rattle.std.proofs.Common.{◌≡◌, ℕ, suc, ◌+◌, ◌-◌, ◌*◌, ◌<◌, ◌≤◌, List, length, get_or, drop, replicate, arith, rules}
+use Rattle.std.proofs.Common.{◌≡◌, ℕ, ◌+◌, ◌-◌, ◌*◌, ◌<◌, ◌≤◌, List, length, get_or, arith, rules}
 use Rattle.std.specs.Fork.{slice_chunk}
-use Rattle.std.proofs.lemmas.List.{places, same_lists, length-append, length-take, length-drop, drop-replicate, take-replicate}
+use Rattle.std.proofs.lemmas.List.{places, same_lists, length-append, length-take, length-drop}
 use Rattle.std.proofs.Math.Nat.{mul-le-mul_right}
+use Rattle.list_facts.proofs.Chunks.{chunk_end}
 use Rattle.mem_flash.specs.Slots.{overwritten}
-
--- a chunk below n ends within n chunks
-pub chunk_end : (size i n : ℕ) → i < n → i * size + size ≤ n * size
-chunk_end size i n below = let whole : (i + 1) * size ≤ n * size = mul-le-mul_right size (omega arith) in omega arith
-
-pub length-slice_chunk : {A : Type 0} (flat : List A) (size i : ℕ) → i * size + size ≤ length flat → length (slice_chunk flat size i) ≡ size
-length-slice_chunk flat size i within = simp (length-take, length-drop) (omega arith)
-
--- the chunks behind the first are those of the rest
-pub slice_chunk-suc : {A : Type 0} (flat : List A) (size i : ℕ) → slice_chunk flat size (suc i) ≡ slice_chunk (drop size flat) size i
-slice_chunk-suc flat size i = same_lists _ _ (search (rules, places)) (λ k d h. grind (arith, places))
-
-pub slice_chunk-replicate : {A : Type 0} (n size i : ℕ) (x : A) → i * size + size ≤ n → slice_chunk (replicate n x) size i ≡ replicate size x
-slice_chunk-replicate n size i x within = rw (drop-replicate) (take-replicate size (n - i * size) x (omega arith))
-
--- a list of one chunk
-pub slice_chunk-only : {A : Type 0} (flat : List A) (size : ℕ) → length flat ≡ size → slice_chunk flat size 0 ≡ flat
-slice_chunk-only flat size long = same_lists _ _ (search (rules, places)) (λ k d h. grind (arith, places))
 
 -- writing over a part of a list
 module _ {A : Type 0} (old : List A) (from : ℕ) (new : List A) (within : from + length new ≤ length old) where

@@ -3,12 +3,12 @@ use Rattle.std.proofs.Common.{◌≡◌, ℕ, zero, suc, ◌+◌, ◌-◌, ◌*�
 use Rattle.std.specs.Fork.{slice_chunk}
 use Rattle.std.specs.List.{All}
 use Rattle.std.proofs.lemmas.List.{take-replicate, drop-replicate, take-append-drop, length-take, length-drop, length-replicate, get_or-replicate}
+use Rattle.list_facts.proofs.Chunks.{chunk_end, length-slice_chunk, slice_chunk-suc, slice_chunk-replicate}
 use Rattle.flash_model.specs.declared.flash.Seen.{Seen}
 use Rattle.flash_model.specs.declared.flash.Seen.TheVariants.{Blank, Damaged, Complete}
 use Rattle.flash_model.specs.Flash.{Contents, blank, IsWhole}
 use Rattle.flash_model.specs.Calls.{seen_of, page_of, spare_of}
 use Rattle.mem_flash.specs.Slots.{cell_bytes, cell_of, contents_of, image_of, IsFilled, AreFilled}
-use Rattle.mem_flash.proofs.Chunks.{chunk_end, length-slice_chunk, slice_chunk-suc, slice_chunk-replicate}
 
 -- one slot
 

@@ -3,6 +3,7 @@ use Rattle.std.proofs.Common.{◌≡◌, ◌≢◌, ℕ, add-one, ◌+◌, ◌*�
 use Rattle.std.specs.Fork.{slice_chunk}
 use Rattle.std.proofs.lemmas.List.{length-set, get_or_read, set_split}
 use Rattle.std.proofs.Math.Nat.{mul-le-mul_right}
+use Rattle.list_facts.proofs.Chunks.{chunk_end}
 use Rattle.tx_types.specs.Config.{slots_of}
 use Rattle.tx_types.specs.declared.config.Shape.{Shape}
 use Rattle.flash_model.specs.declared.flash.Seen.{Seen}
@@ -12,7 +13,6 @@ use Rattle.flash_model.specs.Calls.{seen_of, page_of, spare_of}
 use Rattle.mem_flash.specs.Slots.{overwritten, cell_bytes, cell_of, contents_of, filler, image_of, IsFilled, AreFilled}
 use Rattle.mem_flash.specs.SlotsInside.{AreStored}
 use Rattle.mem_flash.specs.declared.slots.Slots.TheInside.{Inside}
-use Rattle.mem_flash.proofs.Chunks.{chunk_end}
 use Rattle.mem_flash.proofs.Images.{length-image_of, All-image_of, AreFilled-blank, image_of-blank, get_or-image_of, seen_of-contents_of, cell_of-contents_of, page_of-contents_of, spare_of-contents_of}
 use Rattle.mem_flash.proofs.Programmed.{image_of-programmed, AreFilled-programmed, length-programmed}
 use Rattle.mem_flash.proofs.Filled.{image_of-filled, AreFilled-filled, length-filled_states, length-filled_cells}

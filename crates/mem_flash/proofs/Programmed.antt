@@ -4,11 +4,12 @@ use Rattle.std.specs.Fork.{slice_chunk}
 use Rattle.std.proofs.lemmas.Bool.{cases_eq, cases_lt}
 use Rattle.std.proofs.lemmas.List.{length-append, length-set, get_or-set_same, get_or-set_other, ext_get_or, take_at, drop_at}
 use Rattle.std.proofs.Math.Nat.{mul-le-mul_right}
+use Rattle.list_facts.proofs.Chunks.{slice_chunk-only}
 use Rattle.flash_model.specs.declared.flash.Seen.{Seen}
 use Rattle.flash_model.specs.declared.flash.Seen.TheVariants.{Blank, Complete}
 use Rattle.flash_model.specs.Flash.{blank, complete}
 use Rattle.mem_flash.specs.Slots.{overwritten, cell_bytes, image_of, IsFilled, AreFilled}
-use Rattle.mem_flash.proofs.Chunks.{length-overwritten, slice_chunk-only, slice_chunk-written, slice_chunk-written_before, slice_chunk-written_behind}
+use Rattle.mem_flash.proofs.Chunks.{length-overwritten, slice_chunk-written, slice_chunk-written_before, slice_chunk-written_behind}
 use Rattle.mem_flash.proofs.Images.{length-image_of, get_or-image_of}
 
 module _ (n : ℕ) (states : List Seen) (cells : List ℕ) (long : length cells ≡ length states * cell_bytes n)

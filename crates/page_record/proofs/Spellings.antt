@@ -9,6 +9,8 @@ use Rattle.std.proofs.lemmas.Option.{cond_some}
 use Rattle.std.proofs.Math.Bool.{and-false}
 use Rattle.std.proofs.lemmas.Nat.{mod_below, from_le_bytes-to_le_bytes_4, from_le_bytes-to_le_bytes_8}
 use Rattle.std.proofs.lemmas.Slice.Eq.{bytes_eq-Decides}
+use Rattle.list_facts.proofs.Lists.{joined, next_two, length-range}
+use Rattle.list_facts.proofs.Bytes.{IsBytes, tested, tests}
 use Rattle.tx_types.specs.declared.config.Protocol.{Protocol}
 use Rattle.tx_types.specs.declared.config.Protocol.TheVariants.{Scc, Bpcc}
 use Rattle.tx_types.specs.declared.record.Rec.{Rec}
@@ -16,7 +18,7 @@ use Rattle.page_record.specs.declared.error.SpareError.{SpareError}
 use Rattle.page_record.specs.declared.error.SpareError.TheVariants as rule
 use Rattle.page_record.specs.Spelling.{mark, code_of, spelling, IsBack, CanBeSpelled}
 use Rattle.page_record.specs.Rules.{number_at, fields_of, are_zeros, is_version, is_back, is_area, holds, rules, first_broken, IsFirstBrokenRule, record_of}
-use Rattle.page_record.proofs.Parts.{IsBytes, zeros, joined, next_two, length-range, tested, tests, number_at-w32, number_at-w64, number_at-below}
+use Rattle.page_record.proofs.Parts.{zeros, number_at-w32, number_at-w64, number_at-below}
 
 -- the rule of each name holds
 pub record BreaksNone (protocol : Protocol) (bytes : List ℕ) : Type 0 where

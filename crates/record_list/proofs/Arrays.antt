@@ -1,9 +1,10 @@
 -- What the four changes do to the array that a list with bytes stands for, from what they keep of its records.
-use Rattle.std.proofs.Common.{◌≡◌, ℕ, zero, suc, ◌+◌, ◌<◌, ◌≤◌, ◌⊎◌, true, false, Some, None, List, [], ◌∷◌, map, All, refl, sym, ap, ◌∙◌, subst, inl, inr, arith}
+use Rattle.std.proofs.Common.{◌≡◌, ℕ, ◌<◌, ◌≤◌, ◌⊎◌, true, false, Some, None, List, [], ◌∷◌, All, refl, sym, ap, ◌∙◌, subst, inl, inr, arith}
 use Rattle.std.specs.Prelude.{find}
-use Rattle.std.specs.List.{range_with_len}
 use Rattle.std.specs.Option.{option_map}
 use Rattle.std.proofs.lemmas.Bool.{cases_Bool, cases_lt, cond-true, cond-false, or_from, both_ways}
+use Rattle.list_facts.proofs.Membership.{IsIn, all_from, all_at, in_from, from_filter}
+use Rattle.list_facts.proofs.Ranges.{map_range}
 use Rattle.tx_types.specs.declared.record.Link.{Link}
 use Rattle.tx_types.specs.declared.config.Protocol.{Protocol}
 use Rattle.tx_types.specs.declared.config.Shape.{Shape}
@@ -15,7 +16,7 @@ use Rattle.record_list.specs.Changes.{IsInserted, IsWrite, SameCurrent, left, Pa
 use Rattle.record_list.specs.ArrayChanges.{PartialWriteLeavesArray, CompletingWriteTakesTransaction, CopyLeavesArray, BlockLossLeavesArray}
 use Rattle.record_list.specs.Written.{Written, found_of, records_of, bytes_at, page_at, array_of, BytesAgree, is_outside, IsRemovable}
 use Rattle.record_list.specs.WrittenChanges.{left_outside}
-use Rattle.record_list.proofs.Names.{IsIn, all_from, all_at, in_from, from_filter, has_name_true, found_named, present_as}
+use Rattle.record_list.proofs.Names.{has_name_true, found_named, present_as}
 use Rattle.record_list.proofs.SoundNames.{sound_map}
 use Rattle.record_list.proofs.LossCounted.{counted_present}
 use Rattle.record_list.proofs.OneMore.{in_inserted, new_in}
@@ -74,13 +75,6 @@ pub bytes_grow : (l m : List Written) (name : Link) → IsOneText m → ((w : Wr
 bytes_grow l m name text more h =
     let v = bytes_present l name h in
     subst (λ n. bytes_at m n ≡ Some v.0.bytes) v.2 (bytes_of m v.0 text (more v.0 v.1)) ∙ sym v.3
-
--- two functions that agree on a range
-map_range : {X : Type 0} (f g : ℕ → X) (a n : ℕ) → ((i : ℕ) → a ≤ i → i < a + n → f i ≡ g i) → map f (range_with_len a n) ≡ map g (range_with_len a n)
-map_range f g a zero h = refl
-map_range f g a (suc n) h =
-    ap (λ x. x ∷ map f (range_with_len (a + 1) n)) (h a (omega arith) (omega arith))
-    ∙ ap (λ xs. g a ∷ xs) (map_range f g (a + 1) n (λ i low high. h i (omega arith) (omega arith)))
 
 -- an array is known by its pages
 pub same_array : (p : Protocol) (l m : List Written) (n : ℕ) → ((page : ℕ) → page < n → page_at p m n page ≡ page_at p l n page) →

@@ -5,6 +5,7 @@ use Rattle.std.specs.List.{zip}
 use Rattle.std.proofs.lemmas.Bool.{cases_order, cases_eq, cases_Bool, cond-true, cond-false, ne_eqb}
 use Rattle.std.proofs.lemmas.List.{get_or_default, get_or_append_left, get_or_push}
 use Rattle.std.proofs.lemmas.Slice.Zip.{length-zip, get_or-zip}
+use Rattle.list_facts.proofs.Membership.{IsIn, all_from, all_at, in_from}
 use Rattle.tx_types.specs.declared.record.Link.{Link}
 use Rattle.tx_types.specs.declared.record.Rec.{Rec}
 use Rattle.tx_types.specs.declared.config.Protocol.{Protocol}
@@ -12,7 +13,7 @@ use Rattle.record_list.specs.declared.found.Found.{Found}
 use Rattle.record_list.specs.Records.{mention, mentioned_at, name_of, is_present}
 use Rattle.record_list.specs.Transaction.{IsTransaction, rounded, back_version, IsAsked, InProgress}
 use Rattle.record_list.proofs.Progress.{mention_parts}
-use Rattle.record_list.proofs.Names.{IsIn, all_from, all_at, in_from, greatest_bound, found_named}
+use Rattle.record_list.proofs.Names.{greatest_bound, found_named}
 
 -- the place of the name that follows the k-th one
 abbrev pub following : List Link → ℕ → ℕ

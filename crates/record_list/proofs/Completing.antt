@@ -2,6 +2,7 @@
 -- laws 1 to 5 hold.
 use Rattle.std.proofs.Common.{◌≡◌, ℕ, ◌<◌, ◌≤◌, true, ◌&&◌, eqb, ltb, List, refl, sym, ap, ◌∙◌, subst, inl, inr, arith, le-ltb, ne_eqb}
 use Rattle.std.proofs.lemmas.Bool.{cases_eq, cond-false, and_left, and_right}
+use Rattle.list_facts.proofs.Membership.{IsIn}
 use Rattle.tx_types.specs.declared.record.Link.{Link}
 use Rattle.tx_types.specs.declared.config.Protocol.{Protocol}
 use Rattle.tx_types.specs.declared.config.Protocol.TheVariants.{Scc, Bpcc}
@@ -12,7 +13,7 @@ use Rattle.record_list.specs.Current.{cur}
 use Rattle.record_list.specs.SoundList.{current_name}
 use Rattle.record_list.specs.Transaction.{back_version}
 use Rattle.record_list.specs.Changes.{IsInserted}
-use Rattle.record_list.proofs.Names.{IsIn, named, same_name, greatest_least, newest_bound, present_in}
+use Rattle.record_list.proofs.Names.{named, same_name, greatest_least, newest_bound, present_in}
 use Rattle.record_list.proofs.Safe.{is_clear, counts_from}
 use Rattle.record_list.proofs.SoundNames.{IsSoundMap, LooseNames, EndingNames, clear_from}
 use Rattle.record_list.proofs.Facts.{cur_present, cur_committed}

@@ -1,6 +1,7 @@
 -- An equal copy of a record changes nothing, under either protocol: a list counts as the set of its records.
 use Rattle.std.proofs.Common.{◌≡◌, ℕ, zero, suc, eqb, ltb, Bool, List, sym, refl, ap, ◌∙◌, ⊎_elim, if◌then◌else◌}
 use Rattle.std.proofs.lemmas.Bool.{cases_Bool, both_ways, false_from_ne_true}
+use Rattle.list_facts.proofs.Membership.{in_from}
 use Rattle.tx_types.specs.declared.record.Link.{Link}
 use Rattle.tx_types.specs.declared.config.Protocol.{Protocol}
 use Rattle.tx_types.specs.declared.config.Protocol.TheVariants.{Scc, Bpcc}
@@ -16,7 +17,7 @@ use Rattle.record_list.proofs.LossAmong.{among_of, IsOneEach, IsSame, one_each, 
 use Rattle.record_list.proofs.LossCounted.{counted_present}
 use Rattle.record_list.proofs.LossKept.{IsReduced, reduced_sound, reduced_held, reduced_answers, reduced_progress}
 use Rattle.record_list.proofs.OneMore.{inserted_in, in_inserted}
-use Rattle.record_list.proofs.Names.{named, in_from}
+use Rattle.record_list.proofs.Names.{named}
 
 -- one turn of a walk, by its parts
 same_turn : (a a' b b' c : Bool) (w w' y y' : Why) → a ≡ a' → b ≡ b' → w ≡ w' → y ≡ y' →

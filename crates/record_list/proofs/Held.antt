@@ -1,14 +1,11 @@
 -- Back Pointer Cyclic Commit: which record answers for a loose one, by its parts.
-use Rattle.std.proofs.Common.{◌≡◌, ℕ, ◌<◌, ◌≤◌, Bool, true, ◌&&◌, ◌||◌, eqb, ltb, List, [], ◌∷◌, refl, ap₂, eqb-true, eq-eqb, ltb-true, lt-ltb}
-use Rattle.std.specs.List.{list_any}
+use Rattle.std.proofs.Common.{◌≡◌, ℕ, ◌<◌, ◌≤◌, true, ◌&&◌, eqb, ltb, List, eqb-true, eq-eqb, ltb-true, lt-ltb}
 use Rattle.std.proofs.lemmas.Bool.{and_parts, and_from}
-use Rattle.std.proofs.lemmas.List.Folds.{Any-from_list_any, list_any-from_Any}
 use Rattle.tx_types.specs.declared.record.Link.{Link}
 use Rattle.tx_types.specs.declared.record.Rec.{Rec}
 use Rattle.tx_types.specs.declared.config.Protocol.TheVariants.{Bpcc}
 use Rattle.record_list.specs.declared.found.Found.{Found}
 use Rattle.record_list.specs.Current.{cur, is_loose, responsible, answers_for}
-use Rattle.record_list.proofs.Names.{IsIn, in_from, contains_from}
 
 -- the record of this name answers for the loose record r
 pub record IsAnswer (l : List Found) (logical : ℕ) (name : Link) (r : Rec) : Type 0 where
@@ -53,16 +50,3 @@ answers l logical name r h =
     (lt-ltb r.next.version (cur Bpcc l logical name.page) h.below))
     (lt-ltb 0 name.version h.some))
     (eq-eqb (responsible Bpcc l logical r.next) name.version h.version)
-
--- some item passes a test
-pub any_of : {X : Type 0} (test : X → Bool) (l : List X) → list_any test l ≡ true → (x : X) × IsIn l x × (test x ≡ true)
-any_of test l h = let any = Any-from_list_any test l h in (any.1, in_from l any.1 (any.0, any.2, any.3), any.4)
-
--- and the other way round
-pub any_from : {X : Type 0} (test : X → Bool) (l : List X) (x : X) → IsIn l x → test x ≡ true → list_any test l ≡ true
-any_from test l x i h = let c = contains_from l x i in list_any-from_Any test l (c.0, x, c.1, c.2, h)
-
--- two tests that agree at each item pass alike
-pub any_same : {X : Type 0} (test test' : X → Bool) (l : List X) → ((x : X) → test x ≡ test' x) → list_any test l ≡ list_any test' l
-any_same test test' [] h = refl
-any_same test test' (x ∷ xs) h = ap₂ (λ a b. a || b) (h x) (any_same test test' xs h)

@@ -1,6 +1,7 @@
 -- What a write keeps in progress: its own transaction and others, where their current versions stay.
 use Rattle.std.proofs.Common.{◌≡◌, ◌≢◌, ℕ, ◌^◌, ◌<◌, ◌≤◌, false, eqb, List, zip, All, Contains, refl, sym, ◌∙◌, subst, inl, inr, arith, ne_eqb}
 use Rattle.std.proofs.lemmas.Bool.{false≢true, cases_Bool, cond-false}
+use Rattle.list_facts.proofs.Membership.{IsIn, all_from, all_at, in_from}
 use Rattle.tx_types.specs.declared.record.Link.{Link}
 use Rattle.tx_types.specs.declared.record.Rec.{Rec}
 use Rattle.tx_types.specs.declared.config.Protocol.{Protocol}
@@ -10,7 +11,6 @@ use Rattle.record_list.specs.Records.{version_of, linked_at, mentioned_at, name_
 use Rattle.record_list.specs.Current.{cur}
 use Rattle.record_list.specs.Transaction.{rounded, back_version, IsAsked, IsBegun, InProgress, ShareNoPage}
 use Rattle.record_list.specs.Changes.{IsWrite}
-use Rattle.record_list.proofs.Names.{IsIn, all_from, all_at, in_from}
 use Rattle.record_list.proofs.Rounds.{Follows, follows_in}
 use Rattle.record_list.proofs.Progress.{underway_of}
 use Rattle.record_list.proofs.OneMore.{inserted_all, one_more, IsStep, next_in}

@@ -2,6 +2,7 @@
 -- its records, where records of one name are equal.
 use Rattle.std.proofs.Common.{◌≡◌, ℕ, ◌≤◌, true, false, List, refl, sym, ap, ◌∙◌, ⊎_elim, arith}
 use Rattle.std.proofs.lemmas.Bool.{cases_Bool, false_from_ne_true, both_ways}
+use Rattle.list_facts.proofs.Membership.{IsIn}
 use Rattle.tx_types.specs.declared.record.Link.{Link}
 use Rattle.tx_types.specs.declared.record.Rec.{Rec}
 use Rattle.tx_types.specs.declared.config.Protocol.{Protocol}
@@ -9,7 +10,7 @@ use Rattle.record_list.specs.declared.found.Found.{Found}
 use Rattle.record_list.specs.Records.{greatest, name_of, is_present}
 use Rattle.record_list.specs.Verdict.{link_of, back_of}
 use Rattle.record_list.proofs.SoundNames.{IsSoundMap}
-use Rattle.record_list.proofs.Names.{IsIn, same_record, greatest_bound, greatest_least, found_named, present_as, absent_link, absent_back}
+use Rattle.record_list.proofs.Names.{same_record, greatest_bound, greatest_least, found_named, present_as, absent_link, absent_back}
 
 -- a record of the list that is equal to this one
 pub record IsEqual (l : List Found) (r : Rec) : Type 0 where

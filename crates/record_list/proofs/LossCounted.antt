@@ -1,6 +1,9 @@
 -- Current and held names are present, so that what each current and each held record keeps may be said of names.
 use Rattle.std.proofs.Common.{◌≡◌, ℕ, ◌<◌, ◌≤◌, ◌⊎◌, ◌==◌, leb, ltb, Bool, true, false, ◌&&◌, List, All, sym, refl, ◌∙◌, subst, inl, inr, ⊎_elim, arith}
 use Rattle.std.proofs.lemmas.Bool.{cases_lt, and_parts, both_ways, eqb-true, ltb-true, leb-true}
+use Rattle.list_facts.proofs.Values.{if_positive}
+use Rattle.list_facts.proofs.Membership.{IsIn, all_from, all_at}
+use Rattle.list_facts.proofs.Tests.{any_of}
 use Rattle.tx_types.specs.declared.record.Link.{Link}
 use Rattle.tx_types.specs.declared.record.Rec.{Rec}
 use Rattle.tx_types.specs.declared.config.Protocol.{Protocol}
@@ -11,10 +14,10 @@ use Rattle.record_list.specs.Verdict.{straddles}
 use Rattle.record_list.specs.Current.{cur, IsCurrent, straddling_upto, responsible, answers_for, is_held}
 use Rattle.record_list.specs.SoundList.{PagesExist, IsSoundList, Pages}
 use Rattle.record_list.specs.Changes.{left, KeepsCounted}
-use Rattle.record_list.proofs.Held.{IsAnswer, answer_of, any_of}
+use Rattle.record_list.proofs.Held.{IsAnswer, answer_of}
 use Rattle.record_list.proofs.SoundNames.{IsSoundMap}
 use Rattle.record_list.proofs.Facts.{cur_present}
-use Rattle.record_list.proofs.Names.{IsIn, all_from, all_at, named, same_name, greatest_attained, found_named, present_as, if_positive}
+use Rattle.record_list.proofs.Names.{named, same_name, greatest_attained, found_named, present_as}
 
 -- the record that is responsible for loose records with this link
 pub record IsResponsible (p : Protocol) (l : List Found) (n : ℕ) (name : Link) : Type 0 where

@@ -3,6 +3,8 @@
 use Rattle.std.proofs.Common.{◌≡◌, ℕ, ◌<◌, ◌≤◌, Bool, true, List, ◌∙◌, subst, inl, inr, ⊎_elim, arith}
 use Rattle.std.proofs.lemmas.Bool.{cases_Bool, cases_lt}
 use Rattle.std.proofs.lemmas.List.Elements.{All-filter}
+use Rattle.std.proofs.lemmas.List.Kept.{AllPairs-filter}
+use Rattle.list_facts.proofs.Membership.{from_filter}
 use Rattle.tx_types.specs.declared.record.Link.{Link}
 use Rattle.tx_types.specs.declared.config.Protocol.{Protocol}
 use Rattle.record_list.specs.declared.found.Found.{Found}
@@ -17,7 +19,7 @@ use Rattle.record_list.proofs.Facts.{bare_page, cur_committed, cur_uncommitted}
 use Rattle.record_list.proofs.LossCounted.{counted_names}
 use Rattle.record_list.proofs.LossSetting.{IsLoss, was_present, link_was, link_low, lost_linked, lost_clear, newest_left}
 use Rattle.record_list.proofs.LossKept.{IsReduced, reduced_sound, reduced_held, reduced_answers, reduced_progress}
-use Rattle.record_list.proofs.Names.{from_filter, pairs_filter, newest_present}
+use Rattle.record_list.proofs.Names.{newest_present}
 use Rattle.record_list.proofs.LossAmong.{among_of}
 
 -- a page whose newest record left is its current one
@@ -72,7 +74,7 @@ module _ (p : Protocol) (l m : List Found) (n : ℕ) (r : IsLoss p l m n) where
 -- the records left by a test of their slots are as a scan gives them
 pub left_scanned : (keep : ℕ → Bool) (l : List Found) → IsScanned l → IsScanned (left keep l)
 left_scanned keep l scanned = record {
-  ascending = pairs_filter (λ f g. f.slot.0 < g.slot.0) (λ f. keep f.slot.0) l scanned.ascending;
+  ascending = AllPairs-filter (λ f g. f.slot.0 < g.slot.0) (λ f. keep f.slot.0) l scanned.ascending;
   versions = All-filter (λ f. keep f.slot.0) (λ f. (1 ≤ f.rec.version) × (1 ≤ f.rec.next.version)) l scanned.versions;
 }
 

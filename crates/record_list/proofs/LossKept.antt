@@ -2,6 +2,8 @@
 -- where the current versions are the same, the laws stay, nothing more is held, and what is in progress stays so.
 use Rattle.std.proofs.Common.{◌≡◌, ◌≢◌, ℕ, zero, suc, ◌^◌, ◌<◌, ◌≤◌, ◌⊎◌, true, false, List, All, Contains, sym, refl, ap, ◌∙◌, subst, inl, inr, ⊎_elim, arith}
 use Rattle.std.proofs.lemmas.Bool.{cases_Bool, cases_lt}
+use Rattle.list_facts.proofs.Membership.{all_from, all_at}
+use Rattle.list_facts.proofs.Tests.{any_of, any_from}
 use Rattle.tx_types.specs.declared.record.Link.{Link}
 use Rattle.tx_types.specs.declared.record.Rec.{Rec}
 use Rattle.tx_types.specs.declared.config.Protocol.{Protocol}
@@ -15,12 +17,12 @@ use Rattle.record_list.specs.Transaction.{IsAsked, InProgress}
 use Rattle.record_list.specs.Changes.{SameCurrent, SameResponsible}
 use Rattle.record_list.proofs.Safe.{is_clear}
 use Rattle.record_list.proofs.SoundNames.{IsSoundMap, LooseNames, EndingNames}
-use Rattle.record_list.proofs.Held.{IsAnswer, answer_of, answers, any_of, any_from}
+use Rattle.record_list.proofs.Held.{IsAnswer, answer_of, answers}
 use Rattle.record_list.proofs.LossAmong.{IsEqual, among_absent}
 use Rattle.record_list.proofs.LossSetting.{IsLoss, was_present, link_was, back_was, low, link_low, lost_linked, lost_copies, lost_clear, lost_responsible}
 use Rattle.record_list.proofs.LossCounted.{responsible_high}
 use Rattle.record_list.proofs.Keeping.{asked_same}
-use Rattle.record_list.proofs.Names.{all_from, all_at, present_as, newest_present}
+use Rattle.record_list.proofs.Names.{present_as, newest_present}
 
 -- the list m has some of the records of the sound list l, each name that counts among them, and the same current versions
 pub record IsReduced (p : Protocol) (l m : List Found) (n : ℕ) : Type 0 where

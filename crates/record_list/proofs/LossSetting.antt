@@ -1,6 +1,8 @@
 -- The loss of records from a sound list: each name that is current or held stays present.
 use Rattle.std.proofs.Common.{◌≡◌, ◌≢◌, ℕ, ◌<◌, ◌≤◌, ◌⊎◌, true, List, sym, refl, ap, ◌∙◌, subst, inl, inr, ⊎_elim, arith}
 use Rattle.std.proofs.lemmas.Bool.{cases_lt}
+use Rattle.list_facts.proofs.Membership.{IsIn}
+use Rattle.list_facts.proofs.Tests.{any_from}
 use Rattle.tx_types.specs.declared.record.Link.{Link}
 use Rattle.tx_types.specs.declared.record.Rec.{Rec}
 use Rattle.tx_types.specs.declared.config.Protocol.{Protocol}
@@ -12,10 +14,10 @@ use Rattle.record_list.specs.Current.{cur, straddling_upto, responsible, answers
 use Rattle.record_list.specs.SoundList.{current_name}
 use Rattle.record_list.proofs.Safe.{is_clear, IsLinked}
 use Rattle.record_list.proofs.SoundNames.{IsSoundMap, clear_from, clear_gives}
-use Rattle.record_list.proofs.Held.{answers, any_from}
+use Rattle.record_list.proofs.Held.{answers}
 use Rattle.record_list.proofs.LossAmong.{among_named, IsEqual, IsAmong, one_each, among_greatest, among_present, among_link, among_back}
 use Rattle.record_list.proofs.LossCounted.{IsResponsible, responsible_at}
-use Rattle.record_list.proofs.Names.{IsIn, named, same_name, greatest_bound, found_named, present_in, newest_bound}
+use Rattle.record_list.proofs.Names.{named, same_name, greatest_bound, found_named, present_in, newest_bound}
 
 -- the list m has some of the records of the sound list l, and each name that counts there
 pub record IsLoss (p : Protocol) (l m : List Found) (n : ℕ) : Type 0 where

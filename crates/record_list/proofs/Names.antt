@@ -1,108 +1,14 @@
 -- The records of a list by their names: the items of a list, greatest numbers, and what a present name says.
-use Rattle.std.proofs.Common.{◌≡◌, ℕ, zero, suc, ◌<◌, ◌≤◌, Bool, true, false, cond, ◌&&◌, ◌||◌, eqb, ltb, ◌⊎◌, List, [], ◌∷◌, filter, get_or, All, AllPairs, Contains, refl, sym, ap, ap₂, ◌∙◌, subst, inl, inr, arith, eqb-true, eq-eqb, lt-ltb, ltb-true, le_trans}
+use Rattle.std.proofs.Common.{◌≡◌, ℕ, ◌<◌, ◌≤◌, Bool, true, false, ◌&&◌, ◌||◌, eqb, ltb, List, [], ◌∷◌, refl, sym, ap, ap₂, ◌∙◌, subst, inl, inr, arith, eqb-true, eq-eqb, lt-ltb, ltb-true, le_trans}
 use Rattle.std.proofs.Math.Nat.{le-max_left, le-max_right, max-le, max-eq_left, max-eq_right}
-use Rattle.std.specs.List.{AllByRecursion}
-use Rattle.std.proofs.lemmas.Bool.{false≢true, cases_Bool, cases_lt, cases_order, cond-true, cond-false, cond_both, and_parts, and_from, or_left, or_right, or_parts}
-use Rattle.std.proofs.lemmas.List.{get_or_default}
-use Rattle.std.proofs.lemmas.List.Elements.{All-from_recursion, recursion_from_All, All-contains, All-contains_itself, All-filter, filter_passes, Contains-get_or}
+use Rattle.std.proofs.lemmas.Bool.{false≢true, cases_Bool, cases_lt, cond-true, cond-false, and_parts, and_from, or_left, or_right, or_parts}
+use Rattle.list_facts.proofs.Values.{if_positive}
+use Rattle.list_facts.proofs.Membership.{IsIn}
 use Rattle.tx_types.specs.declared.record.Link.{Link}
 use Rattle.tx_types.specs.declared.record.Rec.{Rec}
 use Rattle.record_list.specs.declared.found.Found.{Found}
 use Rattle.record_list.specs.Records.{greatest, version_of, version_below, newest, next_older, name_of, has_name, is_present}
 use Rattle.record_list.specs.Verdict.{newest_name, link_of, back_of}
-
--- an item is in a list
-abbrev pub IsIn : {X : Type 0} → List X → X → Type 0
-IsIn [] x = ⊥
-IsIn (y ∷ ys) x = (y ≡ x) ⊎ IsIn ys x
-
--- from each item to the fact by recursion
-in_recursion : {X : Type 0} (P : X → Type 0) (xs : List X) → ((x : X) → IsIn xs x → P x) → AllByRecursion P xs
-in_recursion P [] h = tt
-in_recursion P (x ∷ xs) h = (h x (inl refl), in_recursion P xs (λ y i. h y (inr i)))
-
--- and from that to each item
-recursion_in : {X : Type 0} (P : X → Type 0) (xs : List X) (x : X) → AllByRecursion P xs → IsIn xs x → P x
-recursion_in P [] x a i = absurd i
-recursion_in P (y ∷ ys) x a (inl e) = subst P e a.0
-recursion_in P (y ∷ ys) x a (inr i) = recursion_in P ys x a.1 i
-
--- what is so of each item in a list is so of all
-pub all_from : {X : Type 0} (P : X → Type 0) (xs : List X) → ((x : X) → IsIn xs x → P x) → All P xs
-all_from P xs h = All-from_recursion P xs (in_recursion P xs h)
-
--- and back, at an item
-pub all_at : {X : Type 0} (P : X → Type 0) (xs : List X) (x : X) → All P xs → IsIn xs x → P x
-all_at P xs x a i = recursion_in P xs x (recursion_from_All P xs a) i
-
--- an item in the list is one that the list contains
-pub contains_from : {X : Type 0} (xs : List X) (x : X) → IsIn xs x → Contains xs x
-contains_from xs x i = all_at (Contains xs) xs x (All-contains_itself xs) i
-
--- and the other way round
-pub in_from : {X : Type 0} (xs : List X) (x : X) → Contains xs x → IsIn xs x
-in_from xs x c = All-contains (IsIn xs) xs x (all_from (IsIn xs) xs (λ y i. i)) c
-
--- of two items in a list with a relation along it, one comes first or they are one
-pub in_order : {X : Type 0} (R : X → X → Type 0) (xs : List X) (x y : X) → AllPairs R xs → IsIn xs x → IsIn xs y → (x ≡ y) ⊎ (R x y ⊎ R y x)
-in_order R xs x y all i j =
-    let a = contains_from xs x i in
-    let b = contains_from xs y j in
-    elim (cases_order a.0 b.0) [
-      | inl e ↦ inl (sym a.2 ∙ get_or_default xs a.0 x y a.1 ∙ ap (λ k. get_or xs k y) e ∙ b.2)
-      | inr (inl less) ↦ inr (inl (subst (λ z. R z y) a.2 (subst (λ z. R (get_or xs a.0 x) z) (get_or_default xs b.0 x y b.1 ∙ b.2) (all a.0 b.0 x less b.1))))
-      | inr (inr more) ↦ inr (inr (subst (λ z. R z x) b.2 (subst (λ z. R (get_or xs b.0 y) z) (get_or_default xs a.0 y x a.1 ∙ a.2) (all b.0 a.0 y more a.1))))
-    ]
-
--- a relation along a list: from its first item to each other one, and along the rest
-pub pairs_head : {X : Type 0} (R : X → X → Type 0) (x : X) (xs : List X) (y : X) → AllPairs R (x ∷ xs) → IsIn xs y → R x y
-pairs_head R x xs y all i =
-    let c = contains_from xs y i in
-    subst (R x) c.2 (all 0 (suc c.0) y (omega arith) (let within = c.1 in omega arith))
-
-pub pairs_tail : {X : Type 0} (R : X → X → Type 0) (x : X) (xs : List X) → AllPairs R (x ∷ xs) → AllPairs R xs
-pairs_tail R x xs all = λ i j d less le. all (suc i) (suc j) d (omega arith) (omega arith)
-
--- and back
-pub pairs_cons : {X : Type 0} (R : X → X → Type 0) (x : X) (xs : List X) → ((y : X) → IsIn xs y → R x y) → AllPairs R xs → AllPairs R (x ∷ xs)
-pairs_cons R x xs first all zero zero d less le = absurd (omega arith)
-pairs_cons R x xs first all zero (suc j) d less le = first (get_or xs j d) (in_from xs (get_or xs j d) (Contains-get_or xs j d (omega arith)))
-pairs_cons R x xs first all (suc i) zero d less le = absurd (omega arith)
-pairs_cons R x xs first all (suc i) (suc j) d less le = all i j d (omega arith) (omega arith)
-
--- what is so of two items of an ascending list, the one below the other, is so of any two
-pub of_any_two : {X : Type 0} (at : X → ℕ) (l : List X) → AllPairs (λ x y. at x < at y) l → (P : X → X → Type 0) →
-    ((x y : X) → P x y → P y x) → ((x : X) → P x x) →
-    ((x y : X) → IsIn l x → IsIn l y → at y < at x → P x y) →
-    (x y : X) → IsIn l x → IsIn l y → P x y
-of_any_two at l up P turn self below x y i j = elim (in_order (λ a b. at a < at b) l x y up i j) [
-  | inl e ↦ subst (P x) e (self x)
-  | inr (inl less) ↦ turn y x (below y x j i less)
-  | inr (inr more) ↦ below x y i j more
-]
-
--- an item that passes a test is among those that pass
-pub in_filter : {X : Type 0} (p : X → Bool) (x : X) (xs : List X) → IsIn xs x → p x ≡ true → IsIn (filter p xs) x
-in_filter p x [] i h = absurd i
-in_filter p x (y ∷ ys) (inl same) h = subst (λ zs. IsIn zs x) (sym (cond-true (p y) (y ∷ filter p ys) (filter p ys) (ap p same ∙ h))) (inl same)
-in_filter p x (y ∷ ys) (inr i) h =
-    let rest = in_filter p x ys i h in
-    cond_both (p y) (y ∷ filter p ys) (filter p ys) (λ zs. IsIn zs x) (λ e. inr rest) (λ e. rest)
-
--- an item among those that pass is in the list, and passes
-pub from_filter : {X : Type 0} (p : X → Bool) (x : X) (xs : List X) → IsIn (filter p xs) x → IsIn xs x × (p x ≡ true)
-from_filter p x xs i = (
-  all_at (IsIn xs) (filter p xs) x (All-filter p (IsIn xs) xs (all_from (IsIn xs) xs (λ y j. j))) i,
-  all_at (λ y. p y ≡ true) (filter p xs) x (filter_passes p xs) i,
-)
-
--- a relation along a list is one along the items that pass
-pub pairs_filter : {X : Type 0} (R : X → X → Type 0) (p : X → Bool) (xs : List X) → AllPairs R xs → AllPairs R (filter p xs)
-pairs_filter R p [] all = all
-pairs_filter R p (x ∷ xs) all =
-    let rest = pairs_filter R p xs (pairs_tail R x xs all) in
-    cond_both (p x) (x ∷ filter p xs) (filter p xs) (AllPairs R)
-    (λ e. pairs_cons R x (filter p xs) (λ y i. pairs_head R x xs y all (from_filter p y xs i).0) rest) (λ e. rest)
 
 -- a name from its parts
 abbrev pub named : ℕ → ℕ → Link
@@ -187,11 +93,6 @@ absent_back [] u h = refl
 absent_back (f ∷ fs) u h =
     let parts = or_parts (has_name u f.rec) (is_present fs u) h in
     cond-false (has_name u f.rec) f.rec.back (back_of fs u) parts.0 ∙ absent_back fs u parts.1
-
--- where one of two numbers is chosen and the other is 0
-pub if_positive : (b : Bool) (n : ℕ) → 0 < cond b n 0 → (b ≡ true) × (cond b n 0 ≡ n)
-if_positive true n h = (refl, refl)
-if_positive false n h = absurd (omega arith)
 
 -- the newest version of a page bounds the present ones
 pub newest_bound : (l : List Found) (u : Link) → is_present l u ≡ true → u.version ≤ newest l u.page

@@ -1,8 +1,9 @@
 -- One record more in a list, under a name that was absent.
 use Rattle.std.proofs.Common.{◌≡◌, ℕ, ◌<◌, ◌≤◌, max, Bool, true, false, cond, ◌&&◌, ◌||◌, eqb, ltb, ◌⊎◌, List, [], ◌∷◌, ◌++◌, All, refl, sym, ap, ◌∙◌, subst, inl, inr, arith, if◌then◌else◌, ne_eqb, eq-eqb, le-ltb}
 use Rattle.std.specs.List.{list_any}
-use Rattle.std.proofs.lemmas.List.Folds.{list_any-append}
 use Rattle.std.proofs.lemmas.Bool.{false≢true, cases_Bool, cases_lt, cond-true, cond-false, or_cases, or_left, or_right, or_parts, and_left}
+use Rattle.list_facts.proofs.Tests.{any_more}
+use Rattle.list_facts.proofs.Membership.{from_more, in_more, IsIn, all_from, all_at}
 use Rattle.tx_types.specs.declared.record.Link.{Link}
 use Rattle.tx_types.specs.declared.record.Rec.{Rec}
 use Rattle.tx_types.specs.declared.config.Protocol.{Protocol}
@@ -12,7 +13,7 @@ use Rattle.record_list.specs.declared.found.Why.TheVariants.{Passed, Straddled}
 use Rattle.record_list.specs.Records.{greatest, version_of, version_below, newest, next_older, name_of, has_name, is_present}
 use Rattle.record_list.specs.Verdict.{newest_name, link_of, back_of, straddles, straddling_version, straddling, is_committed}
 use Rattle.record_list.specs.Changes.{IsInserted}
-use Rattle.record_list.proofs.Names.{IsIn, all_from, all_at, has_name_true, has_own_name, newest_present, newest_bound, older_bound, older_name, named}
+use Rattle.record_list.proofs.Names.{has_name_true, has_own_name, newest_present, newest_bound, older_bound, older_name, named}
 use Rattle.record_list.proofs.Safe.{top_link, is_clear, IsLinked}
 use Rattle.record_list.proofs.Rounds.{Follows, follows_of, follows_in}
 use Rattle.record_list.proofs.Progress.{IsUnderway, name_ahead, links_to_name}
@@ -28,13 +29,6 @@ pub record IsOneMore (l l' : List Found) (r : Rec) : Type 0 where
   pub link : link_of l' (name_of r) ≡ r.next
   pub back : back_of l' (name_of r) ≡ r.back
   pub greatest_is : (of : Rec → ℕ) → greatest of l' ≡ max (of r) (greatest of l)
-
--- which of two tests comes first does not matter
-or_swap : (a b c : Bool) → (a || (b || c)) ≡ (b || (a || c))
-or_swap true true c = refl
-or_swap true false c = refl
-or_swap false true c = refl
-or_swap false false c = refl
 
 module _ (f : Found) (after : List Found) where
   -- the links of other names
@@ -67,30 +61,11 @@ module _ (f : Found) (after : List Found) where
   greatest_more of (x ∷ xs) = let ih = greatest_more of xs in omega arith
 
 module _ {X : Type 0} where
-  -- a test over a list with one item more
-  any_more : (test : X → Bool) (x : X) (before after : List X) → list_any test (before ++ x ∷ after) ≡ (test x || list_any test (before ++ after))
-  any_more test x before after =
-      list_any-append test before (x ∷ after)
-      ∙ or_swap (list_any test before) (test x) (list_any test after)
-      ∙ ap (λ b. test x || b) (sym (list_any-append test before after))
-
-  -- an item of the longer list is the new one or an old one
-  from_more : (before after : List X) (x y : X) → IsIn (before ++ x ∷ after) y → (x ≡ y) ⊎ IsIn (before ++ after) y
-  from_more [] after x y i = i
-  from_more (z ∷ zs) after x y (inl e) = inr (inl e)
-  from_more (z ∷ zs) after x y (inr i) = elim (from_more zs after x y i) [ inl e ↦ inl e | inr j ↦ inr (inr j) ]
-
   pub inserted_in : (l l' : List X) (x : X) → IsInserted l x l' → (y : X) → IsIn l' y → (x ≡ y) ⊎ IsIn l y
   inserted_in l l' x ins y i = elim (from_more ins.before ins.after x y (subst (λ zs. IsIn zs y) ins.now i)) [
     | inl e ↦ inl e
     | inr j ↦ inr (subst (λ zs. IsIn zs y) (sym ins.was) j)
   ]
-
-  -- an old one is there still
-  in_more : (before after : List X) (x y : X) → IsIn (before ++ after) y → IsIn (before ++ x ∷ after) y
-  in_more [] after x y i = inr i
-  in_more (z ∷ zs) after x y (inl e) = inl e
-  in_more (z ∷ zs) after x y (inr i) = inr (in_more zs after x y i)
 
   pub in_inserted : (l l' : List X) (x : X) → IsInserted l x l' → (y : X) → IsIn l y → IsIn l' y
   in_inserted l l' x ins y i = subst (λ zs. IsIn zs y) (sym ins.now) (in_more ins.before ins.after x y (subst (λ zs. IsIn zs y) ins.was i))

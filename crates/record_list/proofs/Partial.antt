@@ -1,6 +1,7 @@
 -- A write that leaves a name absent, for either protocol: every current version stays, and laws 1 to 5 hold.
 use Rattle.std.proofs.Common.{◌≡◌, ℕ, ◌≤◌, true, false, ◌&&◌, eqb, ltb, List, refl, sym, ap, ◌∙◌, subst, inl, inr, arith, le-ltb}
 use Rattle.std.proofs.lemmas.Bool.{cases_eq, cond-false, and_left, and_right}
+use Rattle.list_facts.proofs.Membership.{IsIn}
 use Rattle.tx_types.specs.declared.record.Link.{Link}
 use Rattle.tx_types.specs.declared.record.Rec.{Rec}
 use Rattle.tx_types.specs.declared.config.Protocol.{Protocol}
@@ -12,7 +13,7 @@ use Rattle.record_list.specs.Current.{cur}
 use Rattle.record_list.specs.SoundList.{current_name}
 use Rattle.record_list.specs.Transaction.{back_version}
 use Rattle.record_list.specs.Changes.{IsInserted}
-use Rattle.record_list.proofs.Names.{present_in, IsIn, named, newest_present}
+use Rattle.record_list.proofs.Names.{present_in, named, newest_present}
 use Rattle.record_list.proofs.Safe.{is_clear}
 use Rattle.record_list.proofs.SoundNames.{IsSoundMap, LooseNames, EndingNames, clear_from, clear_gives}
 use Rattle.record_list.proofs.Facts.{cur_present}

@@ -3,6 +3,8 @@
 use Rattle.std.proofs.Common.{◌≡◌, ◌≢◌, ℕ, ◌^◌, ◌<◌, ◌≤◌, true, false, eqb, List, zip, All, Any, Contains, refl, sym, ap, ◌∙◌, subst, inl, inr, arith, eq-eqb}
 use Rattle.std.proofs.Math.Nat.{le-max_left, le-max_right}
 use Rattle.std.proofs.lemmas.Bool.{false≢true, cases_Bool, cases_lt, cases_eq, cond-true}
+use Rattle.list_facts.proofs.Pairs.{in_order}
+use Rattle.list_facts.proofs.Membership.{IsIn, all_at, in_from}
 use Rattle.tx_types.specs.declared.record.Link.{Link}
 use Rattle.tx_types.specs.declared.record.Rec.{Rec}
 use Rattle.tx_types.specs.declared.config.Protocol.{Protocol}
@@ -11,7 +13,7 @@ use Rattle.record_list.specs.Records.{newest, version_of, linked_at, mentioned_a
 use Rattle.record_list.specs.Verdict.{newest_name, link_of}
 use Rattle.record_list.specs.Current.{cur}
 use Rattle.record_list.specs.Transaction.{rounded, back_version, IsAsked, IsBegun}
-use Rattle.record_list.proofs.Names.{IsIn, all_at, in_order, in_from, same_name, found_named, newest_bound, newest_present}
+use Rattle.record_list.proofs.Names.{same_name, found_named, newest_bound, newest_present}
 use Rattle.record_list.proofs.Safe.{top_link, Goes, IsSafe, IsLinked, Counts, counts_safe}
 use Rattle.record_list.proofs.SoundNames.{IsSoundMap}
 use Rattle.record_list.proofs.Facts.{cur_le, current_counts}

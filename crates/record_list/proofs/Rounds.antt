@@ -1,9 +1,11 @@
 -- A cycle of names: what passes from each name to the one that follows it goes round.
 use Rattle.std.proofs.Common.{◌≡◌, ℕ, ◌≢◌, ◌⊎◌, List, [], ◌∷◌, ◌++◌, zip, AllPairs, refl, sym, ap, ◌∙◌, subst, inl, inr}
 use Rattle.std.proofs.lemmas.Bool.{cases_eq}
+use Rattle.list_facts.proofs.Pairs.{pairs_head, pairs_tail}
+use Rattle.list_facts.proofs.Membership.{IsIn}
 use Rattle.tx_types.specs.declared.record.Link.{Link}
 use Rattle.record_list.specs.Transaction.{rounded}
-use Rattle.record_list.proofs.Names.{IsIn, pairs_head, pairs_tail, same_name}
+use Rattle.record_list.proofs.Names.{same_name}
 
 -- a name of the cycle and the name after it
 abbrev pub Follows : List Link → Link → Link → Type 0

@@ -2,9 +2,10 @@
 -- passes, or leads to the newest record of a page of the set. So no other proof speaks of the turns of a walk. And a walk
 -- that may look at more links than there are pages ends as it does.
 use Rattle.std.proofs.Common.{◌≡◌, ℕ, zero, suc, ◌+◌, ◌<◌, ◌≤◌, Bool, true, false, eqb, ◌⊎◌, List, [], ◌∷◌, length, refl, sym, ap, ◌∙◌, subst, inl, inr, arith, if◌then◌else◌, eqb-true, eq-eqb, ne_eqb, lt-ltb, le-ltb, ltb-true, ltb-false}
-use Rattle.std.specs.List.{AllByRecursion, IsDistinct, list_any}
-use Rattle.std.proofs.lemmas.Bool.{false≢true, cases_lt, cases_eq, and_parts, and_from, or_cases}
+use Rattle.std.specs.List.{AllByRecursion, IsDistinct}
+use Rattle.std.proofs.lemmas.Bool.{false≢true, cases_lt, cases_eq, and_parts, and_from}
 use Rattle.std.proofs.lemmas.Map.Steps.{length-le_from_distinct_below}
+use Rattle.list_facts.proofs.Tests.{below_any}
 use Rattle.tx_types.specs.declared.record.Link.{Link}
 use Rattle.tx_types.specs.declared.config.Protocol.{Protocol}
 use Rattle.record_list.specs.declared.found.Found.{Found}
@@ -135,14 +136,6 @@ trails_length l start (suc n) = ap suc (trails_length l start n)
 along_trails : (Q : ℕ → Type 0) (l : List Found) (start n : ℕ) → ((j : ℕ) → j ≤ n → Q (trail l start j)) → AllByRecursion Q (trails l start n)
 along_trails Q l start zero h = (h zero (omega arith), tt)
 along_trails Q l start (suc n) h = (h (suc n) (omega arith), along_trails Q l start n (λ j le. h j (omega arith)))
-
--- a number among some below n is below n
-pub below_any : (xs : List ℕ) (n q : ℕ) → AllByRecursion (λ x. x < n) xs → list_any (eqb q) xs ≡ true → q < n
-below_any [] n q a h = absurd (false≢true h)
-below_any (x ∷ xs) n q a h = elim (or_cases (eqb q x) (list_any (eqb q) xs) h) [
-  | inl e ↦ subst (λ y. y < n) (sym (eqb-true q x e)) a.0
-  | inr more ↦ below_any xs n q a.1 more
-]
 
 module _ (l : List Found) (logical : ℕ) (linked : IsLinked l logical) (start : ℕ) where
   -- no page stands twice on such a trail, since two names have two links

@@ -1,12 +1,12 @@
 -- Simple Cyclic Commit: what a write keeps that completes its cycle.
 use Rattle.std.proofs.Common.{◌≡◌, ◌≢◌, ◌<◌, true}
 use Rattle.std.proofs.lemmas.Bool.{false≢true}
+use Rattle.list_facts.proofs.Membership.{IsIn, all_from, all_at}
 use Rattle.tx_types.specs.declared.record.Link.{Link}
 use Rattle.tx_types.specs.declared.config.Protocol.TheVariants.{Scc}
 use Rattle.record_list.specs.Records.{is_present}
 use Rattle.record_list.specs.Current.{cur}
 use Rattle.record_list.specs.Changes.{CompletingWriteLaw}
-use Rattle.record_list.proofs.Names.{IsIn, all_from, all_at}
 use Rattle.record_list.proofs.SoundNames.{sound_map, sound_list}
 use Rattle.record_list.proofs.OneMore.{next_after}
 use Rattle.record_list.proofs.Keeping.{step_of, back_of_step, page_apart, others_on}

@@ -1,6 +1,7 @@
 -- Simple Cyclic Commit: what a write keeps that leaves a name absent.
 use Rattle.std.proofs.Common.{◌≡◌, ℕ, ◌<◌, true, false, ◌&&◌, eqb, ltb, List, refl, sym, ap, ◌∙◌, subst, inl, inr, arith, eq-eqb, lt-ltb}
 use Rattle.std.proofs.lemmas.Bool.{false≢true, cases_lt, cases_eq, cases_order, and_from, or_left, or_right, false_from_ne_true}
+use Rattle.list_facts.proofs.Membership.{IsIn, all_at}
 use Rattle.tx_types.specs.declared.record.Link.{Link}
 use Rattle.tx_types.specs.declared.record.Rec.{Rec}
 use Rattle.tx_types.specs.declared.config.Protocol.TheVariants.{Scc}
@@ -9,7 +10,7 @@ use Rattle.record_list.specs.Records.{newest, next_older, name_of, mentions_belo
 use Rattle.record_list.specs.Verdict.{newest_name, link_of, why, is_committed}
 use Rattle.record_list.specs.Current.{cur, is_loose, must_go}
 use Rattle.record_list.specs.Changes.{NothingMustGo, PartialWriteLaw}
-use Rattle.record_list.proofs.Names.{IsIn, all_at, found_named, newest_present}
+use Rattle.record_list.proofs.Names.{found_named, newest_present}
 use Rattle.record_list.proofs.Safe.{top_link, Counts, counts_safe}
 use Rattle.record_list.proofs.SoundNames.{IsSoundMap, sound_map, sound_list}
 use Rattle.record_list.proofs.Facts.{cur_le, cur_uncommitted, bare_page, current_counts}

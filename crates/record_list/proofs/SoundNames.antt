@@ -1,6 +1,8 @@
 -- The laws of a sound list by names: each name that is present has one link and one back version.
 use Rattle.std.proofs.Common.{◌≡◌, ◌≢◌, ℕ, ◌<◌, ◌≤◌, Bool, true, false, eqb, ◌⊎◌, List, All, refl, sym, ap, ◌∙◌, subst, inl, inr, arith, eqb-true, eq-eqb, if◌then◌else◌}
 use Rattle.std.proofs.lemmas.List.Elements.{All-weaker}
+use Rattle.list_facts.proofs.Pairs.{in_order}
+use Rattle.list_facts.proofs.Membership.{IsIn, all_from, all_at}
 use Rattle.tx_types.specs.declared.record.Link.{Link}
 use Rattle.tx_types.specs.declared.config.Protocol.{Protocol}
 use Rattle.tx_types.specs.declared.config.Protocol.TheVariants.{Scc, Bpcc}
@@ -10,7 +12,7 @@ use Rattle.record_list.specs.Records.{newest, name_of, is_present, IsScanned}
 use Rattle.record_list.specs.Verdict.{newest_name, link_of, back_of, straddling, is_committed}
 use Rattle.record_list.specs.Current.{cur, responsible}
 use Rattle.record_list.specs.SoundList.{Pages, Copies, Links, Present, Counted, Loose, Ending, OwnPageExists, PagesExist, CopiesAgree, LinksDiffer, CurrentIsPresent, LinkHasCounted, LooseIsShown, LooseEnds, current_name, follow, IsSoundList}
-use Rattle.record_list.proofs.Names.{IsIn, all_from, all_at, in_order, same_record, found_named, present_in, newest_present}
+use Rattle.record_list.proofs.Names.{same_record, found_named, present_in, newest_present}
 use Rattle.record_list.proofs.Safe.{is_clear, IsLinked}
 
 -- law 6 by names

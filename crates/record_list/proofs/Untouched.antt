@@ -1,6 +1,8 @@
 -- The pages whose newest record a write does not touch: each counts afterwards exactly where it counted before.
-use Rattle.std.proofs.Common.{◌≡◌, ℕ, ◌<◌, Bool, true, false, ◌⊎◌, List, refl, sym, ap, ◌∙◌, subst, inl, inr, arith}
+use Rattle.std.proofs.Common.{◌≡◌, ℕ, ◌<◌, true, false, ◌⊎◌, List, refl, sym, ap, ◌∙◌, subst, inl, inr, arith}
 use Rattle.std.proofs.lemmas.Bool.{cases_Bool, cases_eq}
+use Rattle.list_facts.proofs.Membership.{IsIn}
+use Rattle.list_facts.proofs.Values.{one_test}
 use Rattle.tx_types.specs.declared.record.Link.{Link}
 use Rattle.tx_types.specs.declared.record.Rec.{Rec}
 use Rattle.tx_types.specs.declared.config.Protocol.{Protocol}
@@ -9,7 +11,7 @@ use Rattle.record_list.specs.declared.found.Found.{Found}
 use Rattle.record_list.specs.Records.{next_older, newest, name_of, is_present}
 use Rattle.record_list.specs.Verdict.{newest_name, why, is_committed}
 use Rattle.record_list.specs.Current.{cur, fallback}
-use Rattle.record_list.proofs.Names.{IsIn, newest_present}
+use Rattle.record_list.proofs.Names.{newest_present}
 use Rattle.record_list.proofs.Safe.{top_link, is_clear, Goes, IsSafe, IsLinked, Counts, counts_from, counts_safe}
 use Rattle.record_list.proofs.Facts.{cur_committed, cur_uncommitted, bare_page}
 use Rattle.record_list.proofs.Progress.{name_uncounted}
@@ -24,12 +26,6 @@ abbrev pub OldLinks : Protocol → List Found → List Found → ℕ → List Li
 OldLinks p l l' logical names r = (page : ℕ) → IsUntouched l names r page → (top_link l page).page ≡ r.page →
     (Goes p l (Counts p l logical) (top_link l page) → is_clear p l' (top_link l page) ≡ true)
     × (is_clear p l' (top_link l page) ≡ true → Goes p l (Counts p l logical) (top_link l page))
-
--- two tests with one meaning are one
-pub one_test : (a b : Bool) → (a ≡ true → b ≡ true) → (b ≡ true → a ≡ true) → a ≡ b
-one_test true b f g = sym (f refl)
-one_test false true f g = g refl
-one_test false false f g = refl
 
 module _ (p : Protocol) (l l' : List Found) (logical : ℕ) (names : List Link) (r : Rec) (s : IsStep l l' logical names r) (linked : IsLinked l logical) (old : OldLinks p l l' logical names r) where
   -- its link is lower than the transaction at each of its pages

@@ -3,6 +3,8 @@ use Rattle.std.proofs.Common.{◌≡◌, ℕ, true, ◌||◌, eqb, ◌⊎◌, Li
 use Rattle.std.specs.List.{list_any}
 use Rattle.std.proofs.lemmas.Bool.{or_cases, or_left, or_right}
 use Rattle.std.proofs.lemmas.List.Elements.{All-weaker}
+use Rattle.list_facts.proofs.Tests.{any_of, any_from}
+use Rattle.list_facts.proofs.Membership.{all_at, in_from, contains_from}
 use Rattle.tx_types.specs.declared.record.Link.{Link}
 use Rattle.tx_types.specs.declared.record.Rec.{Rec}
 use Rattle.tx_types.specs.declared.config.Protocol.{Protocol}
@@ -12,8 +14,7 @@ use Rattle.record_list.specs.Records.{name_of, has_name, is_present}
 use Rattle.record_list.specs.Current.{cur, IsCurrent, is_held}
 use Rattle.record_list.specs.Changes.{left}
 use Rattle.record_list.specs.Written.{is_outside, is_wanted, IsRemovable, IsDispensable}
-use Rattle.record_list.proofs.Names.{all_at, in_from, contains_from, found_named, has_name_true, has_own_name}
-use Rattle.record_list.proofs.Held.{any_of, any_from}
+use Rattle.record_list.proofs.Names.{found_named, has_name_true, has_own_name}
 
 -- a name of a list is the record's, by test
 name_among : (names : List Link) (r : Rec) → Contains names (name_of r) → list_any (λ name. has_name name r) names ≡ true

@@ -3,6 +3,7 @@
 use Rattle.std.proofs.Common.{◌≡◌, ◌≢◌, ℕ, ◌<◌, ◌≤◌, ◌⊎◌, Bool, true, false, List, All, Any, Contains, sym, ap, ◌∙◌, subst, inl, inr, ⊎_elim}
 use Rattle.std.proofs.lemmas.Bool.{both_ways}
 use Rattle.std.proofs.lemmas.List.Elements.{All-filter}
+use Rattle.list_facts.proofs.Membership.{IsIn, all_from, all_at, in_from, contains_from}
 use Rattle.tx_types.specs.declared.record.Link.{Link}
 use Rattle.tx_types.specs.declared.config.Protocol.{Protocol}
 use Rattle.record_list.specs.declared.found.Found.{Found}
@@ -18,7 +19,7 @@ use Rattle.record_list.proofs.LossCounted.{IsCountedKept, counted_names, counted
 use Rattle.record_list.proofs.WrittenLists.{in_records, inserted_records, one_text, bytes_inserted, bytes_filtered, records_left, left_more, left_twice}
 use Rattle.record_list.proofs.SoundNames.{sound_map}
 use Rattle.record_list.proofs.Rounds.{cases_page}
-use Rattle.record_list.proofs.Names.{IsIn, all_from, all_at, in_from, contains_from, same_name, present_as}
+use Rattle.record_list.proofs.Names.{same_name, present_as}
 
 -- current or held
 IsCounted : Protocol → List Found → ℕ → Link → Type 0

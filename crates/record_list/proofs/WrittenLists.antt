@@ -1,12 +1,13 @@
 -- Lists of records with bytes: their records, one item more, and the slots outside a block.
 use Rattle.std.proofs.Common.{◌≡◌, ℕ, ◌<◌, Bool, true, false, cond, List, [], ◌∷◌, length, filter, All, AllPairs, inl, inr, sym, refl, ap, ◌∙◌, subst, subst₂, arith}
 use Rattle.std.proofs.lemmas.List.{map-append, get_or-map, length-map}
+use Rattle.list_facts.proofs.Pairs.{of_any_two}
+use Rattle.list_facts.proofs.Membership.{IsIn, all_from, all_at, in_filter, from_filter}
 use Rattle.record_list.specs.declared.found.Found.{Found}
 use Rattle.record_list.specs.Records.{name_of, IsScanned}
 use Rattle.record_list.specs.Changes.{IsInserted, left}
 use Rattle.record_list.specs.Written.{Written, found_of, records_of, BytesAgree}
 use Rattle.record_list.proofs.OneMore.{inserted_in}
-use Rattle.record_list.proofs.Names.{IsIn, all_from, all_at, of_any_two, in_filter, from_filter}
 
 -- an item's record is among the records
 pub in_records : (l : List Written) (w : Written) → IsIn l w → IsIn (records_of l) (found_of w)

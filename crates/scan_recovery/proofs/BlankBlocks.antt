@@ -1,10 +1,10 @@
 -- A block that is all blank is removable, and what becomes the spare.
-use Rattle.std.proofs.Common.{◌≡◌, ℕ, ◌+◌, ◌-◌, ◌*◌, ◌<◌, ◌≤◌, ◌⊎◌, true, List, [], ◌∷◌, map, length, get_or, Option, Some, None, refl, sym, ap, ◌∙◌, subst, inl, inr, arith}
-use Rattle.std.specs.Fork.{slice_chunk}
+use Rattle.std.proofs.Common.{◌≡◌, ℕ, ◌+◌, ◌-◌, ◌*◌, ◌<◌, ◌⊎◌, true, List, map, length, get_or, Option, Some, None, refl, sym, ap, ◌∙◌, subst, inl, inr, arith}
 use Rattle.std.proofs.lemmas.Bool.{false≢true, cases_Bool}
 use Rattle.std.proofs.lemmas.Option.{none-some, same_Some}
-use Rattle.std.proofs.lemmas.List.{places}
 use Rattle.std.proofs.lemmas.List.Folds.{list_all_at}
+use Rattle.list_facts.proofs.Membership.{map_in, IsIn, all_from, in_filter}
+use Rattle.list_facts.proofs.Chunks.{chunk_at, length-chunk}
 use Rattle.tx_types.specs.declared.config.Protocol.{Protocol}
 use Rattle.tx_types.specs.declared.config.Shape.{Shape}
 use Rattle.tx_types.specs.declared.config.Block.{Block}
@@ -16,7 +16,7 @@ use Rattle.record_list.specs.Records.{name_of, is_present}
 use Rattle.record_list.specs.Current.{IsCurrent, is_held}
 use Rattle.record_list.specs.Changes.{left}
 use Rattle.record_list.specs.Written.{is_outside, IsRemovable, HasRemovable}
-use Rattle.record_list.proofs.Names.{IsIn, all_from, in_filter, present_in}
+use Rattle.record_list.proofs.Names.{present_in}
 use Rattle.version_index.specs.Notes.{complete_at, complete_slots}
 use Rattle.version_index.proofs.Given.{given_from}
 use Rattle.version_index.proofs.Blocks.{in_it, inside_block}
@@ -44,24 +44,13 @@ complete_reads slots s i =
       reads = ap (λ k. get_or slots k Blank) same ∙ parts.1;
     }
 
-in_map : {X Y : Type 0} (f : X → Y) (xs : List X) (x : X) → IsIn xs x → IsIn (map f xs) (f x)
-in_map f [] x i = absurd i
-in_map f (y ∷ ys) x (inl e) = inl (ap f e)
-in_map f (y ∷ ys) x (inr i) = inr (in_map f ys x i)
-
 -- each slot with a record reads complete
 pub found_complete : (slots : List Seen) (list : List Found) (f : Found) → map (λ g. g.slot.0) list ≡ complete_slots slots → IsIn list f →
     get_or slots f.slot.0 Blank ≡ Complete
-found_complete slots list f e i = (complete_reads slots f.slot.0 (subst (λ l. IsIn l f.slot.0) e (in_map (λ (g : Found). g.slot.0) list f i))).reads
+found_complete slots list f e i = (complete_reads slots f.slot.0 (subst (λ l. IsIn l f.slot.0) e (map_in (λ (g : Found). g.slot.0) list f i))).reads
 
 slot_within : (slots : List Seen) (list : List Found) (f : Found) → map (λ g. g.slot.0) list ≡ complete_slots slots → IsIn list f → f.slot.0 < length slots
-slot_within slots list f e i = (complete_reads slots f.slot.0 (subst (λ l. IsIn l f.slot.0) e (in_map (λ (g : Found). g.slot.0) list f i))).within
-
-chunk_at : {X : Type 0} (xs : List X) (per block at : ℕ) (d : X) → block * per ≤ at → at < block * per + per → get_or (slice_chunk xs per block) (at - block * per) d ≡ get_or xs at d
-chunk_at xs per block at d low high = grind (arith, places)
-
-length-chunk : {X : Type 0} (xs : List X) (per block at : ℕ) → block * per ≤ at → at < block * per + per → at < length xs → at - block * per < length (slice_chunk xs per block)
-length-chunk xs per block at low high within = grind (arith, places)
+slot_within slots list f e i = (complete_reads slots f.slot.0 (subst (λ l. IsIn l f.slot.0) e (map_in (λ (g : Found). g.slot.0) list f i))).within
 
 -- no complete slot lies in a block that is all blank
 outside_blank : (shape : Shape) (slots : List Seen) (block at : ℕ) → 0 < shape.pages_per_block → IsBlankBlock shape slots block →

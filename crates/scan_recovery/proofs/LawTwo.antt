@@ -3,6 +3,9 @@ use Rattle.std.proofs.Common.{◌≡◌, ℕ, ◌<◌, ◌≤◌, Bool, true, Li
 use Rattle.std.proofs.lemmas.Bool.{false≢true, cases_Bool, cond-true, cond-false}
 use Rattle.std.proofs.lemmas.List.{length-map, get_or-map, get_or_default}
 use Rattle.std.proofs.lemmas.List.Elements.{All-map}
+use Rattle.list_facts.proofs.Tests.{find_stands}
+use Rattle.list_facts.proofs.Pairs.{in_order, pairs_head, pairs_tail}
+use Rattle.list_facts.proofs.Membership.{IsIn, all_from, all_at, contains_from, in_at}
 use Rattle.tx_types.specs.declared.config.Protocol.{Protocol}
 use Rattle.tx_types.specs.declared.config.Shape.{Shape}
 use Rattle.flash_model.specs.Flash.{Contents, slot_at}
@@ -13,14 +16,12 @@ use Rattle.record_list.specs.Records.{nothing, name_of, has_name}
 use Rattle.record_list.specs.Search.{FindsFirst}
 use Rattle.record_list.specs.SoundList.{Law, Pages, Copies, Links, Present, Counted, Loose, Ending, number}
 use Rattle.record_list.specs.Written.{Written, found_of, records_of, KeepsWritten}
-use Rattle.record_list.proofs.Names.{IsIn, all_from, all_at, contains_from, in_order, pairs_head, pairs_tail, has_name_true, has_own_name}
+use Rattle.record_list.proofs.Names.{has_name_true, has_own_name}
 use Rattle.record_list.proofs.WrittenLists.{in_records, ascending_written}
 use Rattle.record_list.proofs.Breaches.{earlier_index}
 use Rattle.version_index.specs.Images.{written_in, records_in, HasPages, SlotReads, IsLeastImageBreach}
-use Rattle.version_index.proofs.Places.{in_at}
 use Rattle.version_index.proofs.ImageScans.{is_read, records_scanned}
 use Rattle.scan_recovery.specs.Twins.{bytes_shown, AgreesWithLowest}
-use Rattle.scan_recovery.proofs.Firsts.{find_stands}
 
 -- some item is found where one passes, and it does not come after it
 record FindsBefore (list : List Found) (test : Found → Bool) (f : Found) : Type 0 where

@@ -2,7 +2,6 @@ pub mod ReadingSteps
 pub mod Used
 pub mod Highest
 pub mod Outside
-pub mod Firsts
 pub mod BlankBlocks
 pub mod ComparedSteps
 pub mod OpenedTable

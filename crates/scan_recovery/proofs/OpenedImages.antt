@@ -7,6 +7,7 @@ use Rattle.std.proofs.lemmas.Bool.{false≢true}
 use Rattle.std.proofs.lemmas.Result.{on_ok_weaker, IfErr-weaker}
 use Rattle.std.proofs.lemmas.List.{length-map, get_or-map, get_or_default}
 use Rattle.std.proofs.lemmas.List.Elements.{All-map, All-head, All-tail}
+use Rattle.list_facts.proofs.Membership.{IsIn, all_from, all_at}
 use Rattle.tx_types.specs.declared.config.Config.{Config}
 use Rattle.tx_types.specs.declared.config.Protocol.{Protocol}
 use Rattle.tx_types.specs.declared.config.Shape.{Shape}
@@ -21,7 +22,6 @@ use Rattle.record_list.specs.declared.found.Breach.{Breach}
 use Rattle.record_list.specs.Records.{mention, IsScanned}
 use Rattle.record_list.specs.SoundList.{Law, Pages, Copies, Links, Present, Counted, Loose, Ending, number, Keeps, OwnPageExists, IsSoundList, IsLeastBreach}
 use Rattle.record_list.specs.Written.{Written, found_of, records_of, BytesAgree, KeepsWritten, HasRemovable, IsFirstBroken}
-use Rattle.record_list.proofs.Names.{IsIn, all_from, all_at}
 use Rattle.record_list.proofs.WrittenLists.{in_records}
 use Rattle.die_alloc.specs.BlockTable.{BlockTable}
 use Rattle.version_index.specs.declared.note.Note.{Note}

@@ -1,10 +1,11 @@
 -- The block table of an opening, one block after another.
-use Rattle.std.proofs.Common.{◌≡◌, ℕ, ◌+◌, ◌<◌, ◌≤◌, eqb, Bool, true, false, cond, ◌||◌, ◌⊎◌, List, map, length, refl, sym, ap, ◌∙◌, subst, inl, inr, arith, eqb-true}
+use Rattle.std.proofs.Common.{◌≡◌, ℕ, ◌+◌, ◌<◌, ◌≤◌, eqb, true, false, cond, ◌||◌, ◌⊎◌, List, map, length, sym, ap, ◌∙◌, subst, inl, inr, arith, eqb-true}
 use Rattle.std.specs.Prelude.{◌==◌, if◌then◌else◌}
 use Rattle.std.specs.List.{range_with_len}
 use Rattle.std.proofs.lemmas.Bool.{cases_Bool, cases_lt, false≢true, or_parts}
 use Rattle.std.proofs.lemmas.List.{same_lists, get_or_default}
 use Rattle.std.proofs.lemmas.List.FromFn.{length-map-range_with_len, get_or-map-range_with_len}
+use Rattle.list_facts.proofs.Values.{or_first}
 use Rattle.tx_types.specs.declared.config.BlockState.{BlockState}
 use Rattle.tx_types.specs.declared.config.Shape.{Shape}
 use Rattle.tx_types.specs.declared.config.BlockState.TheVariants.{Spare, Clean, Shut}
@@ -19,10 +20,6 @@ use Rattle.scan_recovery.proofs.Used.{used_blank, used_some}
 -- what is kept of a block, by its parts
 abbrev kept : BlockState → ℕ → BlockUse
 kept its_state its_used = record { state = its_state; used = its_used }
-
-or_left_true : (a b : Bool) → (a || b) ≡ true → b ≡ false → a ≡ true
-or_left_true true b h other = refl
-or_left_true false b h other = absurd (false≢true (sym other ∙ h))
 
 -- what is kept of a block before its slots are looked at
 abbrev pub first_use : ℕ → ℕ → BlockUse
@@ -54,7 +51,7 @@ module _ (shape : Shape) (slots : List Seen) (spare : ℕ) where
           ∙ ap (λ b. cond b (kept Clean 0) (kept Shut (used_in (seen_in_block shape slots at)))) blank
       clean_use other (inr some) =
           let used = used_some (seen_in_block shape slots at) some in
-          let none : used_in (seen_in_block shape slots at) ≡ 0 = eqb-true (used_in (seen_in_block shape slots at)) 0 (or_left_true (eqb (used_in (seen_in_block shape slots at)) 0) (eqb at spare) test other) in
+          let none : used_in (seen_in_block shape slots at) ≡ 0 = eqb-true (used_in (seen_in_block shape slots at)) 0 (or_first (eqb (used_in (seen_in_block shape slots at)) 0) (eqb at spare) test other) in
           absurd (omega arith)
 
   -- and one that is shut

@@ -4,6 +4,7 @@ use Rattle.std.specs.Prelude.{MatchOption}
 use Rattle.std.specs.List.{cons_option}
 use Rattle.std.proofs.lemmas.List.{length-map, get_or-map, take-map, map-append, take_more, get_or-take, length-take-le}
 use Rattle.std.proofs.lemmas.List.Elements.{All-append}
+use Rattle.list_facts.proofs.Membership.{all_from}
 use Rattle.tx_types.specs.declared.config.Protocol.{Protocol}
 use Rattle.tx_types.specs.declared.config.Slot.{Slot}
 use Rattle.flash_model.specs.declared.flash.Seen.{Seen}
@@ -11,7 +12,6 @@ use Rattle.flash_model.specs.Flash.{Contents, blank, slot_at}
 use Rattle.flash_model.specs.Calls.{seen_of}
 use Rattle.record_list.specs.declared.found.Found.{Found}
 use Rattle.record_list.specs.Written.{records_of}
-use Rattle.record_list.proofs.Names.{all_from}
 use Rattle.version_index.specs.declared.note.Note.{Note}
 use Rattle.version_index.specs.declared.note.Note.TheVariants.{Blank}
 use Rattle.version_index.specs.Images.{SlotReads, records_in}

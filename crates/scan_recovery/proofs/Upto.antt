@@ -3,10 +3,10 @@ use Rattle.std.proofs.Common.{◌≡◌, ℕ, zero, suc, ◌+◌, ◌<◌, ◌�
 use Rattle.std.specs.Prelude.{nat_le}
 use Rattle.std.proofs.lemmas.Bool.{le-leb, lt-leb}
 use Rattle.std.proofs.lemmas.List.Sums.{sum_by-cons}
+use Rattle.list_facts.proofs.Pairs.{pairs_head, pairs_tail}
+use Rattle.list_facts.proofs.Membership.{IsIn, in_at}
 use Rattle.record_list.specs.declared.found.Found.{Found}
 use Rattle.record_list.specs.Records.{nothing}
-use Rattle.record_list.proofs.Names.{IsIn, pairs_head, pairs_tail}
-use Rattle.version_index.proofs.Places.{in_at}
 use Rattle.scan_recovery.specs.Twins.{is_compared, compared_upto, compared_to}
 
 counted : (p : Found → Bool) (x : Found) (xs : List Found) → count_by p (x ∷ xs) ≡ cond (p x) 1 0 + count_by p xs

@@ -1,13 +1,14 @@
 -- Back Pointer Cyclic Commit: which records of a sound list straddle a name, by where its version lies.
 use Rattle.std.proofs.Common.{◌≡◌, ℕ, ◌<◌, ◌≤◌, true, List, ap, ◌∙◌, inl, inr, arith}
 use Rattle.std.proofs.lemmas.Bool.{cases_lt}
+use Rattle.list_facts.proofs.Membership.{IsIn}
 use Rattle.tx_types.specs.declared.record.Link.{Link}
 use Rattle.tx_types.specs.declared.config.Protocol.TheVariants.{Bpcc}
 use Rattle.record_list.specs.declared.found.Found.{Found}
 use Rattle.record_list.specs.Records.{newest, name_of}
 use Rattle.record_list.specs.Verdict.{straddling_version, straddling}
 use Rattle.record_list.specs.Current.{cur, straddling_upto, responsible}
-use Rattle.record_list.proofs.Names.{IsIn, greatest_least, present_in}
+use Rattle.record_list.proofs.Names.{greatest_least, present_in}
 use Rattle.record_list.proofs.Safe.{is_clear}
 use Rattle.record_list.proofs.SoundNames.{IsSoundMap, clear_from}
 use Rattle.straddle_sets.proofs.Straddle.{Straddles, straddling_cases, straddling_none, upto_is, upto_below, greatest_more}

@@ -1,6 +1,7 @@
 -- Back Pointer Cyclic Commit: which records are loose after a write that completes its cycle, and which answer for them.
 use Rattle.std.proofs.Common.{◌≡◌, ℕ, ◌<◌, ◌≤◌, true, List, zip, sym, ap, ◌∙◌, inl, inr, arith}
 use Rattle.std.proofs.lemmas.Bool.{cases_lt}
+use Rattle.list_facts.proofs.Membership.{IsIn, all_at}
 use Rattle.tx_types.specs.declared.record.Link.{Link}
 use Rattle.tx_types.specs.declared.config.Protocol.{Protocol}
 use Rattle.tx_types.specs.declared.config.Protocol.TheVariants.{Bpcc}
@@ -9,7 +10,7 @@ use Rattle.record_list.specs.Records.{newest, greatest, name_of, is_present}
 use Rattle.record_list.specs.Verdict.{back_of}
 use Rattle.record_list.specs.Current.{cur, straddling_upto, responsible}
 use Rattle.record_list.specs.Transaction.{rounded, back_version, IsAsked, IsBegun}
-use Rattle.record_list.proofs.Names.{IsIn, all_at, greatest_bound, greatest_least, found_named, newest_bound, present_in}
+use Rattle.record_list.proofs.Names.{greatest_bound, greatest_least, found_named, newest_bound, present_in}
 use Rattle.record_list.proofs.SoundNames.{IsSoundMap}
 use Rattle.record_list.proofs.Rounds.{cases_page, follows_of}
 use Rattle.record_list.proofs.Progress.{name_newest}

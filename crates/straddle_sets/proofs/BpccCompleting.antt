@@ -1,6 +1,8 @@
 -- Back Pointer Cyclic Commit: what a write keeps that completes its cycle.
 use Rattle.std.proofs.Common.{◌≡◌, ◌≢◌, ℕ, ◌<◌, true, ◌⊎◌, List, Contains, refl, sym, ap, ◌∙◌, subst, inl, inr, arith}
 use Rattle.std.proofs.lemmas.Bool.{cases_order}
+use Rattle.list_facts.proofs.Tests.{any_of, any_from}
+use Rattle.list_facts.proofs.Membership.{IsIn, all_from, all_at, contains_from}
 use Rattle.tx_types.specs.declared.record.Link.{Link}
 use Rattle.tx_types.specs.declared.config.Protocol.TheVariants.{Bpcc}
 use Rattle.record_list.specs.declared.found.Found.{Found}
@@ -8,7 +10,7 @@ use Rattle.record_list.specs.Records.{name_of, is_present}
 use Rattle.record_list.specs.Verdict.{link_of, back_of}
 use Rattle.record_list.specs.Current.{cur, IsLoose, responsible, answers_for, is_held}
 use Rattle.record_list.specs.Changes.{IsInserted, IsOvertaken, IsAnsweredAfter, NewResponsible, CompletingWriteLaw}
-use Rattle.record_list.proofs.Names.{IsIn, all_from, all_at, contains_from, same_name, present_in}
+use Rattle.record_list.proofs.Names.{same_name, present_in}
 use Rattle.record_list.proofs.SoundNames.{IsSoundMap, LooseNames, EndingNames, sound_map, sound_list}
 use Rattle.record_list.proofs.Rounds.{cases_page}
 use Rattle.record_list.proofs.OneMore.{IsStep, inserted_in, old_link, old_back, next_after}
@@ -18,7 +20,7 @@ use Rattle.record_list.proofs.Completing.{completed, was_lower, elsewhere, compl
 use Rattle.straddle_sets.proofs.BpccLinks.{bpcc_old_links}
 use Rattle.straddle_sets.proofs.BpccAnswers.{name_back, was_loose, answer_elsewhere, answer_name, answer_below}
 use Rattle.straddle_sets.proofs.Ending.{ends_out}
-use Rattle.record_list.proofs.Held.{answer_of, answers, any_of, any_from}
+use Rattle.record_list.proofs.Held.{answer_of, answers}
 
 module _ (l l' : List Found) (logical : ℕ) (names : List Link) (f : Found) (s : IsStep l l' logical names f.rec) (m : IsSoundMap Bpcc l logical)
     (back : f.rec.back ≡ cur Bpcc l logical f.rec.page) (old : OldLinks Bpcc l l' logical names f.rec) (all : (a : Link) → IsIn names a → is_present l' a ≡ true)

@@ -1,6 +1,7 @@
 -- Back Pointer Cyclic Commit: old links into the page that is written, and that page's own current version.
 use Rattle.std.proofs.Common.{◌≡◌, ℕ, ◌<◌, ◌≤◌, true, false, List, refl, sym, ap, ◌∙◌, inl, inr, arith}
 use Rattle.std.proofs.lemmas.Bool.{cases_Bool, cases_lt, cases_order, false_from_ne_true}
+use Rattle.list_facts.proofs.Membership.{IsIn}
 use Rattle.tx_types.specs.declared.record.Link.{Link}
 use Rattle.tx_types.specs.declared.record.Rec.{Rec}
 use Rattle.tx_types.specs.declared.config.Protocol.TheVariants.{Bpcc}
@@ -8,7 +9,7 @@ use Rattle.record_list.specs.declared.found.Found.{Found}
 use Rattle.record_list.specs.Records.{newest, name_of, is_present}
 use Rattle.record_list.specs.Verdict.{newest_name, back_of, straddling_version, why, is_committed}
 use Rattle.record_list.specs.Current.{cur}
-use Rattle.record_list.proofs.Names.{IsIn, same_name, newest_present}
+use Rattle.record_list.proofs.Names.{same_name, newest_present}
 use Rattle.record_list.proofs.Safe.{top_link, is_clear}
 use Rattle.record_list.proofs.SoundNames.{IsSoundMap, clear_from, clear_gives}
 use Rattle.record_list.proofs.Facts.{cur_le, cur_committed, cur_uncommitted, current_counts}

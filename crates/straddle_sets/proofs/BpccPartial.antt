@@ -2,6 +2,8 @@
 use Rattle.std.proofs.Common.{◌≡◌, ℕ, ◌<◌, Bool, false, ◌&&◌, ◌||◌, eqb, ltb, List, sym, ap, ◌∙◌, subst, inl, inr, arith}
 use Rattle.std.specs.List.{list_any}
 use Rattle.std.proofs.lemmas.Bool.{false_from_ne_true}
+use Rattle.list_facts.proofs.Tests.{any_same}
+use Rattle.list_facts.proofs.Membership.{IsIn, all_from}
 use Rattle.tx_types.specs.declared.record.Link.{Link}
 use Rattle.tx_types.specs.declared.record.Rec.{Rec}
 use Rattle.tx_types.specs.declared.config.Protocol.TheVariants.{Bpcc}
@@ -10,7 +12,6 @@ use Rattle.record_list.specs.Records.{greatest, name_of, is_present}
 use Rattle.record_list.specs.Verdict.{link_of, back_of}
 use Rattle.record_list.specs.Current.{cur, IsLoose, straddling_upto, responsible, answers_for, is_held}
 use Rattle.record_list.specs.Changes.{IsInserted, PartialWriteLaw}
-use Rattle.record_list.proofs.Names.{IsIn, all_from}
 use Rattle.record_list.proofs.SoundNames.{IsSoundMap, LooseNames, EndingNames, sound_map, sound_list}
 use Rattle.record_list.proofs.Rounds.{cases_in}
 use Rattle.record_list.proofs.Progress.{name_loose, absent_name}
@@ -20,7 +21,7 @@ use Rattle.record_list.proofs.Partial.{partial_cur, partial_map}
 use Rattle.straddle_sets.proofs.Straddle.{upto_none}
 use Rattle.straddle_sets.proofs.BpccLinks.{bpcc_old_links, bpcc_own_cur}
 use Rattle.straddle_sets.proofs.Ending.{ends_out, ends_names}
-use Rattle.record_list.proofs.Held.{answer_of, any_same}
+use Rattle.record_list.proofs.Held.{answer_of}
 
 module _ (l l' : List Found) (logical : ℕ) (names : List Link) (f : Found) (s : IsStep l l' logical names f.rec) (m : IsSoundMap Bpcc l logical)
     (back : f.rec.back ≡ cur Bpcc l logical f.rec.page) (same : (page : ℕ) → cur Bpcc l' logical page ≡ cur Bpcc l logical page)

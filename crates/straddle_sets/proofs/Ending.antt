@@ -1,13 +1,14 @@
 -- Back Pointer Cyclic Commit: links that led to an absent name do so after a write.
 use Rattle.std.proofs.Common.{◌≡◌, ℕ, zero, suc, true, false, List, refl, sym, subst, inl, inr, arith}
 use Rattle.std.proofs.lemmas.Bool.{cases_Bool}
+use Rattle.list_facts.proofs.Membership.{IsIn}
 use Rattle.tx_types.specs.declared.record.Link.{Link}
 use Rattle.tx_types.specs.declared.record.Rec.{Rec}
 use Rattle.record_list.specs.declared.found.Found.{Found}
 use Rattle.record_list.specs.Records.{name_of, is_present}
 use Rattle.record_list.specs.Verdict.{link_of}
 use Rattle.record_list.specs.SoundList.{follow}
-use Rattle.record_list.proofs.Names.{IsIn, absent_link}
+use Rattle.record_list.proofs.Names.{absent_link}
 use Rattle.record_list.proofs.Rounds.{follows_in, round_back, follows_of}
 use Rattle.record_list.proofs.OneMore.{IsStep, step_underway}
 use Rattle.record_list.proofs.Keeping.{absent_still}

@@ -4,13 +4,13 @@ use Rattle.std.specs.List.{list_any, position, position_or_len}
 use Rattle.std.specs.Option.{is_some}
 use Rattle.std.proofs.lemmas.Bool.{cases_Bool, both_ways, cond-true, cond-false, or_parts, not_from_true, not_from_false}
 use Rattle.std.proofs.lemmas.List.Folds.{list_any_none}
+use Rattle.list_facts.proofs.Tests.{any_of}
+use Rattle.list_facts.proofs.Membership.{IsIn, all_from}
 use Rattle.tx_types.specs.declared.record.Rec.{Rec}
 use Rattle.tx_types.specs.declared.config.Protocol.TheVariants.{Bpcc}
 use Rattle.record_list.specs.declared.found.Found.{Found}
 use Rattle.record_list.specs.Verdict.{straddles}
 use Rattle.record_list.specs.Current.{is_loose, responsible}
-use Rattle.record_list.proofs.Names.{IsIn, all_from}
-use Rattle.record_list.proofs.Held.{any_of}
 use Rattle.straddle_sets.specs.Responsible.{is_responsible, responsible_index}
 
 -- the first item that passes comes no later than one that does

@@ -3,6 +3,9 @@ use Rattle.std.proofs.Common.{◌≡◌, ℕ, ◌<◌, ◌≤◌, Bool, true, �
 use Rattle.std.specs.List.{list_any}
 use Rattle.std.specs.Option.{is_some}
 use Rattle.std.proofs.lemmas.Bool.{and_parts, and_from}
+use Rattle.list_facts.proofs.Tests.{any_of, any_from, any_same}
+use Rattle.list_facts.proofs.Membership.{IsIn, in_from}
+use Rattle.list_facts.proofs.Values.{one_test}
 use Rattle.tx_types.specs.declared.record.Link.{Link}
 use Rattle.tx_types.specs.declared.record.Rec.{Rec}
 use Rattle.tx_types.specs.declared.config.Protocol.TheVariants.{Bpcc}
@@ -11,9 +14,8 @@ use Rattle.record_list.specs.Records.{name_of, IsScanned}
 use Rattle.record_list.specs.Verdict.{link_of, back_of, straddles}
 use Rattle.record_list.specs.Current.{cur, is_loose, straddling_upto, responsible, answers_for, is_held}
 use Rattle.record_list.specs.SoundList.{IsSoundList}
-use Rattle.record_list.proofs.Untouched.{one_test}
-use Rattle.record_list.proofs.Names.{IsIn, same_name, same_record, greatest_least, greatest_attained, in_from}
-use Rattle.record_list.proofs.Held.{answer_of, answers, any_of, any_from, any_same}
+use Rattle.record_list.proofs.Names.{same_name, same_record, greatest_least, greatest_attained}
+use Rattle.record_list.proofs.Held.{answer_of, answers}
 use Rattle.record_list.proofs.SoundNames.{IsSoundMap, sound_map}
 use Rattle.straddle_sets.specs.Responsible.{is_responsible, responsible_index}
 use Rattle.straddle_sets.proofs.Straddle.{Straddles, upto_cases, upto_le}

@@ -1,13 +1,14 @@
 -- Back Pointer Cyclic Commit: records that straddle a version, up to a version of their own.
 use Rattle.std.proofs.Common.{◌≡◌, ℕ, ◌<◌, ◌≤◌, true, ◌&&◌, eqb, ltb, leb, ◌⊎◌, List, ap, ◌∙◌, inl, inr, arith, eq-eqb, eqb-true, lt-ltb, ltb-true, le-leb, leb-true}
 use Rattle.std.proofs.lemmas.Bool.{cases_Bool, cond-true, cond-false, and_parts, and_from}
+use Rattle.list_facts.proofs.Membership.{IsIn}
 use Rattle.tx_types.specs.declared.record.Link.{Link}
 use Rattle.tx_types.specs.declared.record.Rec.{Rec}
 use Rattle.record_list.specs.declared.found.Found.{Found}
 use Rattle.record_list.specs.Records.{greatest, newest, name_of, is_present}
 use Rattle.record_list.specs.Verdict.{back_of, straddles, straddling_version, straddling}
 use Rattle.record_list.specs.Current.{straddling_upto}
-use Rattle.record_list.proofs.Names.{IsIn, greatest_bound, greatest_least, found_named, newest_bound, present_in}
+use Rattle.record_list.proofs.Names.{greatest_bound, greatest_least, found_named, newest_bound, present_in}
 
 -- a record of the page that straddles the name's version
 abbrev pub Straddles : Rec → Link → Type 0

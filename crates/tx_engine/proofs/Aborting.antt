@@ -2,8 +2,10 @@
 use Rattle.std.proofs.Common.{◌≡◌, ◌≢◌, ◌⊎◌, ℕ, ◌<◌, Bool, false, List, length, map, get_or, Option, Some, None, Result, Ok, Err, refl, sym, ap, ap₂, ◌∙◌, subst, inl, inr, arith, eqb-true}
 use Rattle.std.specs.Prelude.{position, remove, MatchOption, Any}
 use Rattle.std.specs.Result.{IsErrAnd}
-use Rattle.std.proofs.lemmas.List.{length-map}
+use Rattle.std.proofs.lemmas.List.{length-map, get_or-map}
 use Rattle.std.proofs.lemmas.List.Elements.{All-from_get_or, All-map}
+use Rattle.list_facts.proofs.Positions.{position-all}
+use Rattle.list_facts.proofs.Quantifiers.{all_remove}
 use Rattle.tx_types.specs.Batch.{PageWrite}
 use Rattle.flash_model.specs.Flash.{FlashState}
 use Rattle.flash_model.proofs.CallLemmas.{Carries-nothing}
@@ -23,10 +25,9 @@ use Rattle.tx_engine.specs.OpenTable.{OpenTable, Opening, no_opening, opening_at
 use Rattle.tx_engine.specs.Stored.{Stored}
 use Rattle.tx_engine.specs.Tables.{standing_in}
 use Rattle.tx_engine.proofs.Kept.{from_stands}
-use Rattle.tx_engine.proofs.OpenList.{first_position, first_of_own, entry_first, entry_none, without_first, get_or_map}
+use Rattle.tx_engine.proofs.OpenList.{first_position, first_of_own, entry_first, entry_none, without_first}
 use Rattle.tx_engine.proofs.ExitsThen.{NamedBefore}
-use Rattle.tx_engine.proofs.Removal.{current_pins, all_remove}
-use Rattle.tx_engine.proofs.Settlements.{position_none}
+use Rattle.tx_engine.proofs.Removal.{current_pins}
 use Rattle.tx_engine.proofs.Submitted.{repinned, array_aside}
 
 -- the entry of a tag, by its index
@@ -38,7 +39,7 @@ entry_found tag o i is =
 
 pub entry_missing : (tag : ℕ) (o : OpenTable) → position (λ o. has_tag tag o.entry) o.all ≡ None → entry_of tag (entries_of o) ≡ None
 entry_missing tag o is =
-    entry_none tag o.all (All-from_get_or (λ (x : Opening). has_tag tag x.entry ≡ false) o.all no_opening (position_none (λ (x : Opening). has_tag tag x.entry) o.all no_opening is))
+    entry_none tag o.all (All-from_get_or (λ (x : Opening). has_tag tag x.entry ≡ false) o.all no_opening (position-all (λ (x : Opening). has_tag tag x.entry) o.all no_opening is))
 
 -- an open transaction, once all settled
 pub entry_settled : (there : Bool) (o o' : OpenTable) (i : ℕ) → entries_of o' ≡ map (settled_entry there) (entries_of o) → i < length o.all →
@@ -49,10 +50,10 @@ entry_settled there o o' i same within =
     let within' : i < length o'.all = omega arith in
     let inside : i < length (entries_of o) = subst (λ n. i < n) (sym (length-map o.all (λ (x : Opening). x.entry))) within in (
       within',
-      sym (get_or_map (λ (x : Opening). x.entry) o'.all i no_opening no_opening.entry within')
+      sym (get_or-map (λ (x : Opening). x.entry) o'.all i no_opening no_opening.entry within')
           ∙ ap (λ es. get_or es i no_opening.entry) same
-          ∙ get_or_map (settled_entry there) (entries_of o) i no_opening.entry no_opening.entry inside
-          ∙ ap (settled_entry there) (get_or_map (λ (x : Opening). x.entry) o.all i no_opening no_opening.entry within),
+          ∙ get_or-map (settled_entry there) (entries_of o) i no_opening.entry no_opening.entry inside
+          ∙ ap (settled_entry there) (get_or-map (λ (x : Opening). x.entry) o.all i no_opening no_opening.entry within),
     )
 
 -- it goes
@@ -82,7 +83,7 @@ module _ {F : Type 0} (state : F → FlashState) (S S' : Stored F) (O O' : OpenT
         k,
         (opening_at O k).naming,
         subst (λ n. k < n) (sym (length-map O.all (λ (x : Opening). x.naming))) inside,
-        get_or_map (λ (x : Opening). x.naming) O.all k no_opening (opening_at O k).naming inside,
+        get_or-map (λ (x : Opening). x.naming) O.all k no_opening (opening_at O k).naming inside,
         refl,
       ))))
 

@@ -2,9 +2,12 @@
 use Rattle.std.proofs.Common.{◌≡◌, ◌≢◌, ℕ, ◌-◌, ◌<◌, ◌≤◌, Bool, true, false, cond, List, [], ◌∷◌, ◌++◌, length, find, All, AllPairs, Option, Some, None, refl, sym, ap, ◌∙◌, inl, inr, arith, nat_lt, nat_le, ltb-true, leb-true}
 use Rattle.std.specs.Prelude.{option_map}
 use Rattle.std.specs.List.{list_any}
-use Rattle.std.proofs.lemmas.Bool.{or_parts, eqb-false}
+use Rattle.std.proofs.lemmas.Bool.{eqb-false}
 use Rattle.std.proofs.lemmas.List.Elements.{All-cons, All-nil}
-use Rattle.record_list.proofs.Names.{IsIn, all_from, all_at, pairs_cons}
+use Rattle.list_facts.proofs.Pairs.{pairs_cons}
+use Rattle.list_facts.proofs.Options.{map_none}
+use Rattle.list_facts.proofs.Tests.{any_none, none_parts, none_found}
+use Rattle.list_facts.proofs.Membership.{in_last, in_front, IsIn, all_from, all_at}
 use Rattle.tx_types.specs.Batch.{PageWrite}
 use Rattle.tx_engine.specs.ArrayState.{Entry, has_tag, pending_pages}
 use Rattle.tx_engine.specs.Submit.{Limits, is_of, is_owner, or_else, first_refusal, empty, range, repeated, tag_used, overlap, free_of, spent_page, first_refusals}
@@ -41,25 +44,6 @@ none_cond : (b : Bool) (e : SubmitError) → cond b (Some e) None ≡ None → b
 none_cond true e h = cc
 none_cond false e h = refl
 
--- a test that no item passes fails for each
-any_none : {X : Type 0} (p : X → Bool) (xs : List X) → list_any p xs ≡ false → (x : X) → IsIn xs x → p x ≡ false
-any_none p [] h x i = absurd i
-any_none p (y ∷ ys) h x (inl same) = ap p (sym same) ∙ (or_parts (p y) (list_any p ys) h).0
-any_none p (y ∷ ys) h x (inr i) = any_none p ys (or_parts (p y) (list_any p ys) h).1 x i
-
-in_last : {X : Type 0} (xs : List X) (x : X) → IsIn (xs ++ x ∷ []) x
-in_last [] x = inl refl
-in_last (y ∷ ys) x = inr (in_last ys x)
-
-in_before : {X : Type 0} (xs : List X) (y x : X) → IsIn xs x → IsIn (xs ++ y ∷ []) x
-in_before [] y x i = absurd i
-in_before (z ∷ zs) y x (inl same) = inl same
-in_before (z ∷ zs) y x (inr i) = inr (in_before zs y x i)
-
-none_parts : {X : Type 0} (b : Bool) (e : X) (rest : Option X) → cond b (Some e) rest ≡ None → (b ≡ false) × (rest ≡ None)
-none_parts true e rest h = cc
-none_parts false e rest h = (refl, h)
-
 -- no page stood earlier
 none_earlier : (earlier ws : List PageWrite) → repeated earlier ws ≡ None → (v w : PageWrite) → IsIn earlier v → IsIn ws w → v.page ≢ w.page
 none_earlier earlier [] h v w i j = absurd j
@@ -68,7 +52,7 @@ none_earlier earlier (x ∷ xs) h v w i (inl same) =
     λ e. eqb-false v.page x.page (any_none (is_of x.page) earlier parts.0 v i) (e ∙ ap (λ (y : PageWrite). y.page) (sym same))
 none_earlier earlier (x ∷ xs) h v w i (inr j) =
     let parts = none_parts (list_any (is_of x.page) earlier) (refused.Repeated x.page) (repeated (earlier ++ x ∷ []) xs) h in
-    none_earlier (earlier ++ x ∷ []) xs parts.1 v w (in_before earlier x v i) j
+    none_earlier (earlier ++ x ∷ []) xs parts.1 v w (in_front v earlier (x ∷ []) i) j
 
 none_repeated : (earlier ws : List PageWrite) → repeated earlier ws ≡ None → AllPairs (λ v w. v.page ≢ w.page) ws
 none_repeated earlier [] h = λ i j d less below. absurd (omega arith)
@@ -77,16 +61,6 @@ none_repeated earlier (x ∷ xs) h =
     pairs_cons (λ (v : PageWrite) (w : PageWrite). v.page ≢ w.page) x xs
     (λ w i. none_earlier (earlier ++ x ∷ []) xs parts.1 x w (in_last earlier x) i)
     (none_repeated (earlier ++ x ∷ []) xs parts.1)
-
-pub map_none : {X Y : Type 0} (f : X → Y) (o : Option X) → option_map f o ≡ None → o ≡ None
-map_none f None h = refl
-map_none f (Some x) h = cc
-
--- a test that finds nothing fails for each
-pub none_found : {X : Type 0} (p : X → Bool) (xs : List X) → find p xs ≡ None → (x : X) → IsIn xs x → p x ≡ false
-none_found p [] h e i = absurd i
-none_found p (x ∷ xs) h e (inl same) = ap p (sym same) ∙ (none_parts (p x) x (find p xs) h).0
-none_found p (x ∷ xs) h e (inr i) = none_found p xs (none_parts (p x) x (find p xs) h).1 e i
 
 -- no open transaction has the page
 none_owned : (entries : List Entry) (ws : List PageWrite) → overlap entries ws ≡ None → All (λ w. All (λ e. All (λ v. v.page ≢ w.page) e.writes) entries) ws

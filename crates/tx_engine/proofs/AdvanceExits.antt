@@ -3,6 +3,7 @@ use Rattle.std.proofs.Common.{◌≡◌, ◌≢◌, ℕ, ◌+◌, ◌<◌, ◌�
 use Rattle.std.specs.Prelude.{if◌then◌else◌}
 use Rattle.std.specs.Result.{is_err}
 use Rattle.std.proofs.lemmas.Bool.{cases_eq, cond-true, cond-false, cond_both, eqb-false}
+use Rattle.std.proofs.Math.Seq.{map-set_same}
 use Rattle.tx_types.specs.Batch.{PageWrite}
 use Rattle.flash_model.specs.Flash.{FlashState}
 use Rattle.flash_model.specs.declared.flash.Broken.{Broken}
@@ -21,7 +22,7 @@ use Rattle.tx_engine.specs.Settling.{with_next, is_at_last, next_writes, is_whol
 use Rattle.tx_engine.specs.Stored.{Stored}
 use Rattle.tx_engine.specs.Tables.{standing_in}
 use Rattle.tx_engine.proofs.Aborting.{rises_on}
-use Rattle.tx_engine.proofs.Kept.{map_set_same, from_stands}
+use Rattle.tx_engine.proofs.Kept.{from_stands}
 use Rattle.tx_engine.proofs.OpenList.{IsFirstTagged, first_of_own, with_first}
 use Rattle.tx_engine.proofs.SettledLists.{calm_at}
 use Rattle.tx_engine.proofs.Unbroken.{goes_again}
@@ -117,7 +118,7 @@ entries_with o i new tag first = sym (with_first tag o.all i new first)
 
 pub entries_same : (o : OpenTable) (i : ℕ) (tag : ℕ) → IsFirstTagged tag o.all i → with_entry tag (opening_at o i).entry (entries_of o) ≡ entries_of o
 entries_same o i tag first =
-    with_first tag o.all i (opening_at o i) first ∙ map_set_same (λ (x : Opening). x.entry) o.all i (opening_at o i) no_opening first.within refl
+    with_first tag o.all i (opening_at o i) first ∙ map-set_same (λ (x : Opening). x.entry) o.all i (opening_at o i) no_opening refl
 
 pub next_entry : (o : Opening) → o.naming.there ≡ o.entry.done →
     (o.entry.done + 1 ≡ length o.entry.writes → (with_next o).entry ≡ record o.entry { mark = Whole }) × (o.entry.done + 1 ≢ length o.entry.writes → (with_next o).entry ≡ o.entry)

@@ -1,15 +1,15 @@
 -- An array by what it has at each page, and the array once it takes the writes of a transaction.
-use Rattle.std.proofs.Common.{◌≡◌, ◌≢◌, ℕ, ◌<◌, ◌==◌, cond, List, [], ◌∷◌, length, map, get_or, set, All, Option, Some, sym, ap, ◌∙◌, inl, inr, arith, eq-eqb, ne_eqb, None}
+use Rattle.std.proofs.Common.{◌≡◌, ◌≢◌, ℕ, ◌<◌, ◌==◌, cond, List, [], ◌∷◌, length, map, get_or, set, All, Option, Some, sym, ap, ◌∙◌, inl, inr, arith, eq-eqb, ne_eqb}
 use Rattle.std.specs.List.{range_with_len}
 use Rattle.std.proofs.lemmas.Bool.{cases_eq, cond-true, cond-false}
 use Rattle.std.proofs.lemmas.List.{length-map, length-set, get_or-map, get_or-set_same, get_or-set_other}
 use Rattle.std.proofs.lemmas.List.Elements.{All-head, All-tail, All-cons, All-from_get_or}
 use Rattle.std.proofs.lemmas.List.FromFn.{length-map-range_with_len, get_or-map-range_with_len, fill_by_all}
+use Rattle.list_facts.proofs.Ranges.{same_range}
 use Rattle.tx_types.specs.Batch.{PageWrite, no_write}
 use Rattle.tx_types.specs.declared.record.Link.{Link}
 use Rattle.tx_engine.specs.ArrayState.{put}
 use Rattle.tx_engine.specs.Standing.{no_name}
-use Rattle.collector.proofs.KnownArrays.{same_range}
 
 -- what an array has at a page
 pub at_page : {X : Type 0} (f : ℕ → X) (n page : ℕ) (d : X) → page < n → get_or (map f (range_with_len 0 n)) page d ≡ f page
@@ -40,7 +40,7 @@ pub put_is : (ws : List PageWrite) (old new : ℕ → Option (List ℕ)) (n : �
     All (λ w. new w.page ≡ Some w.bytes) ws →
     ((page : ℕ) → page < n → All (λ w. w.page ≢ page) ws → new page ≡ old page) →
     map new (range_with_len 0 n) ≡ put (map old (range_with_len 0 n)) ws
-put_is [] old new n takes stays = same_range new old n None (λ page within. stays page within (λ k d less. absurd (omega arith)))
+put_is [] old new n takes stays = same_range new old n (λ page within. stays page within (λ k d less. absurd (omega arith)))
 put_is (w ∷ ws) old new n takes stays =
     put_is ws (with_page old w.page (Some w.bytes)) new n (All-tail (λ w. new w.page ≡ Some w.bytes) w ws takes)
     (λ page within others. elim (cases_eq page w.page) [

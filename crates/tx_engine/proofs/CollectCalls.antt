@@ -3,6 +3,8 @@ use Rattle.std.proofs.Common.{◌≡◌, ◌≢◌, ℕ, ◌*◌, ◌/◌, ◌<�
 use Rattle.std.proofs.lemmas.Bool.{cases_Bool, cond-true}
 use Rattle.std.proofs.lemmas.List.Sums.{length-filter}
 use Rattle.std.proofs.Math.Nat.{div-eq_of_lt-le}
+use Rattle.list_facts.proofs.Ranges.{range_all, range_bounds}
+use Rattle.list_facts.proofs.Membership.{IsIn, all_from, contains_from, from_filter}
 use Rattle.tx_types.specs.Config.{shape_of, blocks_of}
 use Rattle.tx_types.specs.declared.config.Shape.{Shape}
 use Rattle.tx_types.specs.declared.config.BlockState.{BlockState}
@@ -13,7 +15,6 @@ use Rattle.flash_model.specs.Moves.{Does, StayOff}
 use Rattle.flash_model.proofs.ImageLemmas.{slot_at-does}
 use Rattle.flash_model.proofs.MoveLemmas.{Does-append}
 use Rattle.record_list.specs.Written.{is_slot, is_garbage}
-use Rattle.record_list.proofs.Names.{IsIn, all_from, contains_from, from_filter}
 use Rattle.version_index.specs.declared.note.Note.TheVariants.{Blank}
 use Rattle.version_index.specs.Notes.{note_at}
 use Rattle.version_index.specs.Noted.{Noted, erased, needed_of, garbage_of, is_garbage_at, shut_or_part, is_blank, with_spare}
@@ -26,8 +27,7 @@ use Rattle.collector.specs.Matches.{Matches}
 use Rattle.collector.specs.Victim.{is_shut, IsVictim}
 use Rattle.collector.proofs.Cleanings.{blank_as_read, blank_is_erased}
 use Rattle.collector.proofs.NotesLeft.{note_at-in}
-use Rattle.collector.proofs.Ranges.{range_all}
-use Rattle.collector.proofs.CopyLists.{copies_same, in_range}
+use Rattle.collector.proofs.CopyLists.{copies_same}
 use Rattle.tx_engine.specs.Collections.{CollectsOne}
 
 first_in : (list : List ℕ) → 0 < length list → (k : ℕ) × IsIn list k
@@ -123,7 +123,7 @@ module _ (s s1 : FlashState) (n n1 : Noted) (t : BlockTable) (m : Matches s n t 
   module _ (block : ℕ) (apart : block ≢ t.spare) where
     same_needed : (k : ℕ) → IsIn (needed_slots n1 block) k → slot_at s1.image k ≡ slot_at s.image k
     same_needed k i =
-        let place = in_range (block * n1.config.pages_per_block) n1.config.pages_per_block k (from_filter (needed_of n1) k (slots_in n1 block) i).0 in
+        let place = range_bounds (block * n1.config.pages_per_block) n1.config.pages_per_block k (from_filter (needed_of n1) k (slots_in n1 block) i).0 in
         let here : k / n1.config.pages_per_block ≡ block = div-eq_of_lt-le n1.config.pages_per_block place.0 (let high = place.1 in omega arith) in
         let per_is : s.shape.pages_per_block ≡ n1.config.pages_per_block = ap (λ (x : Shape). x.pages_per_block) m.shape ∙ ap (λ (x : Noted). x.config.pages_per_block) (sym is) in
         same_slot k (λ e. apart (sym here ∙ ap (λ q. k / q) (sym per_is) ∙ e))

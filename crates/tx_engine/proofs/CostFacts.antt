@@ -6,6 +6,7 @@ use Rattle.std.proofs.lemmas.Bool.{cond-true, and_from, both_ways}
 use Rattle.std.proofs.lemmas.List.Sums.{get_or-le-sum_by}
 use Rattle.std.proofs.lemmas.List.FromFn.{length-range_with_len, get_or-range_with_len}
 use Rattle.std.proofs.lemmas.Nat.{div_below}
+use Rattle.list_facts.proofs.Tests.{any_from}
 use Rattle.tx_types.specs.Config.{shape_of, blocks_of}
 use Rattle.tx_types.specs.declared.config.Config.{Config}
 use Rattle.tx_types.specs.declared.record.Link.{Link}
@@ -14,7 +15,6 @@ use Rattle.flash_model.specs.Operations.{Moment, moment_of}
 use Rattle.record_list.specs.declared.found.Found.{Found}
 use Rattle.record_list.specs.Current.{must_go}
 use Rattle.record_list.specs.Written.{first_slot}
-use Rattle.record_list.proofs.Held.{any_from}
 use Rattle.version_index.specs.Notes.{found_in}
 use Rattle.version_index.specs.Noted.{Noted, IsNoted, block_to_go}
 use Rattle.version_index.proofs.FoundIn.{noted_from}

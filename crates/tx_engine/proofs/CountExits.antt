@@ -3,6 +3,7 @@ use Rattle.std.proofs.Common.{◌≡◌, ℕ, ◌+◌, ◌<◌, false, length, g
 use Rattle.std.specs.Prelude.{slice_set}
 use Rattle.std.proofs.lemmas.Bool.{cases_eq}
 use Rattle.std.proofs.lemmas.List.{length-set, get_or-set_same, get_or-set_other}
+use Rattle.std.proofs.Math.Seq.{map-set_same}
 use Rattle.flash_model.specs.Flash.{FlashState}
 use Rattle.flash_model.proofs.CallLemmas.{Carries-nothing}
 use Rattle.flash_model.proofs.MoveLemmas.{FlashMoves-nothing}
@@ -17,7 +18,7 @@ use Rattle.tx_engine.specs.Settling.{Counts}
 use Rattle.tx_engine.specs.Stored.{Stored}
 use Rattle.tx_engine.specs.Tables.{standing_in}
 use Rattle.tx_engine.proofs.Arrays.{as_many_names}
-use Rattle.tx_engine.proofs.Kept.{IsKept, IsOpening, IsCalm, HasSameParts, kept_with, map_set_same, to_stands}
+use Rattle.tx_engine.proofs.Kept.{IsKept, IsOpening, IsCalm, HasSameParts, kept_with, to_stands}
 use Rattle.tx_engine.proofs.NextNoted.{names_before}
 use Rattle.tx_engine.proofs.OpenList.{first_of_own, with_first}
 use Rattle.tx_engine.proofs.SettledLists.{calm_all, calm_at}
@@ -85,7 +86,7 @@ module _ {F : Type 0} (state : F → FlashState) (S : Stored F) (O O' : OpenTabl
       config = refl;
       versions = λ page low. inr (refl, refl);
       mentions = λ page low. inl refl;
-      names = names_before O.all (slice_set O.all i more) (map_set_same (λ (x : Opening). x.naming.names) O.all i more no_opening within refl);
+      names = names_before O.all (slice_set O.all i more) (map-set_same (λ (x : Opening). x.naming.names) O.all i more no_opening refl);
     };
     moves = FlashMoves-nothing (state S.flash) (state S.flash) false refl;
     carries = Carries-nothing (state S.flash);

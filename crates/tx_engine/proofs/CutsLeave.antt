@@ -4,7 +4,7 @@ use Rattle.std.proofs.lemmas.Bool.{cases_eq, cond-true, cond-false}
 use Rattle.std.proofs.lemmas.List.{append-nil}
 use Rattle.std.proofs.lemmas.List.Elements.{All-head, All-tail, All-contains}
 use Rattle.std.proofs.lemmas.Option.{slice_get-get_or}
-use Rattle.record_list.proofs.Names.{IsIn, in_from, contains_from}
+use Rattle.list_facts.proofs.Membership.{IsIn, in_from, contains_from}
 use Rattle.flash_model.specs.Flash.{Contents}
 use Rattle.version_index.specs.Noted.{Noted}
 use Rattle.collector.specs.declared.unsure.Unsure.{Unsure}

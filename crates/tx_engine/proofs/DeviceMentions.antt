@@ -1,13 +1,15 @@
 -- At which versions the records of a device's flash mention its pages.
 use Rattle.std.proofs.Common.{◌≡◌, ◌≢◌, ◌⊎◌, ℕ, ◌<◌, ◌≤◌, ◌==◌, ◌^◌, max, List, length, get_or, Any, refl, sym, ap, ◌∙◌, subst, inl, inr, arith, eqb-true}
 use Rattle.std.proofs.lemmas.Bool.{cases_lt}
+use Rattle.list_facts.proofs.Quantifiers.{any_got}
+use Rattle.list_facts.proofs.Values.{if_positive}
+use Rattle.list_facts.proofs.Membership.{any_in, IsIn, all_at}
 use Rattle.tx_types.specs.declared.config.Protocol.{Protocol}
 use Rattle.tx_types.specs.declared.config.Slot.{Slot}
 use Rattle.tx_types.specs.declared.record.Link.{Link}
 use Rattle.tx_types.specs.declared.record.Rec.{Rec}
 use Rattle.flash_model.specs.Flash.{FlashState, Contents, blank, damaged, complete, slot_at}
 use Rattle.record_list.specs.Records.{mention, version_of, linked_at, name_of}
-use Rattle.record_list.proofs.Names.{IsIn, all_at, contains_from, if_positive}
 use Rattle.version_index.specs.Images.{records_in}
 use Rattle.version_index.specs.Noted.{Noted, IsNoted, programmed, mention_of}
 use Rattle.version_index.proofs.Mentions.{raised_at}
@@ -20,13 +22,10 @@ use Rattle.collector.specs.Settling.{settlement, own_settled, Settlement}
 use Rattle.tx_engine.specs.ArrayState.{Entry}
 use Rattle.tx_engine.specs.Exits.{MentionsAtMost, IsNamedAt}
 use Rattle.tx_engine.specs.Standing.{Standing, Naming, Stands, DoubtsAs, IsOwn}
-use Rattle.tx_engine.proofs.OpenOnes.{any_got, can_take}
+use Rattle.tx_engine.proofs.OpenOnes.{can_take}
 use Rattle.tx_engine.proofs.DevicesStand.{no_record, spare_other}
 use Rattle.tx_engine.proofs.Tools.{Settles}
 use Rattle.tx_engine.proofs.Noting.{next_named}
-
-any_in : {X : Type 0} (P : X → Type 0) (xs : List X) (x : X) → IsIn xs x → P x → Any P xs
-any_in P xs x i h = let c = contains_from xs x i in (c.0, x, c.1, c.2, h)
 
 module _ (image : List Contents) (n : Noted) (entries : List Entry) (namings : List Naming) (at : Slot) (rec : Rec) (own : IsOwn image n entries namings at rec) where
   named_at : (name : Link) → IsIn own.next.names name → IsNamedAt namings name.page name.version

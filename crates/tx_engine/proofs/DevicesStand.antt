@@ -2,6 +2,8 @@
 use Rattle.std.proofs.Common.{◌≡◌, ◌≢◌, ℕ, ◌+◌, ◌<◌, Bool, true, false, cond, List, length, Some, refl, sym, ap, ◌∙◌, subst, inl, inr, arith, eq-eqb}
 use Rattle.std.specs.List.{AllZip}
 use Rattle.std.proofs.lemmas.Bool.{cases_eq}
+use Rattle.list_facts.proofs.Membership.{got_within}
+use Rattle.list_facts.proofs.Pairs.{zip_at}
 use Rattle.tx_types.specs.Config.{shape_of, slots_of}
 use Rattle.tx_types.specs.declared.config.Protocol.{Protocol}
 use Rattle.tx_types.specs.declared.config.Slot.{Slot}
@@ -24,7 +26,7 @@ use Rattle.tx_engine.specs.declared.mark.Mark.{Mark}
 use Rattle.tx_engine.specs.declared.mark.Mark.TheVariants.{Plain, Doubt, Whole}
 use Rattle.tx_engine.specs.Exits.{StandsFor}
 use Rattle.tx_engine.specs.Standing.{Standing, Naming, Stands, DoubtsAs, IsOwn, IsOpenAs, IsUnderWay}
-use Rattle.tx_engine.proofs.OpenOnes.{zip_at, under_way, got_within, can_take}
+use Rattle.tx_engine.proofs.OpenOnes.{under_way, can_take}
 use Rattle.tx_engine.proofs.InDoubt.{slot_bytes, partly_array, wholly_array}
 use Rattle.tx_engine.proofs.Tools.{Settles, NotesWrites}
 

@@ -1,8 +1,9 @@
 -- A call after another: what both say of the flash, the versions and the mentions.
-use Rattle.std.proofs.Common.{◌≡◌, ◌≢◌, ℕ, ◌+◌, ◌<◌, ◌≤◌, Bool, false, List, ◌++◌, length, get_or, All, refl, sym, ap, ◌∙◌, subst, inl, inr, arith}
+use Rattle.std.proofs.Common.{◌≡◌, ◌≢◌, ℕ, ◌+◌, ◌<◌, ◌≤◌, Bool, false, List, ◌++◌, get_or, All, refl, sym, ap, ◌∙◌, subst, inl, inr, arith}
 use Rattle.std.specs.Prelude.{Any}
-use Rattle.std.proofs.lemmas.List.{get_or_append_left, get_or-append-add, length-append, get_or_default}
+use Rattle.std.proofs.lemmas.List.{get_or_default}
 use Rattle.std.proofs.lemmas.List.Elements.{All-append}
+use Rattle.list_facts.proofs.Quantifiers.{all_left, all_right}
 use Rattle.tx_types.specs.Batch.{PageWrite}
 use Rattle.tx_types.specs.declared.config.Config.{Config}
 use Rattle.tx_types.specs.declared.record.Link.{Link}
@@ -33,13 +34,6 @@ before_then a b c first second k d h =
     let mid = second k d h in
     let was = first mid.0 mid.1 mid.2 in
     (was.0, was.1, was.2, was.3, was.4 ∙ ap (λ (x : Naming). x.names) mid.3 ∙ mid.4)
-
--- of a list put after another
-pub all_left : {X : Type 0} (P : X → Type 0) (xs ys : List X) → All P (xs ++ ys) → All P xs
-all_left P xs ys h k d inside = subst P (get_or_append_left xs ys d k inside) (h k d (omega (arith, length-append xs ys)))
-
-pub all_right : {X : Type 0} (P : X → Type 0) (xs ys : List X) → All P (xs ++ ys) → All P ys
-all_right P xs ys h k d inside = subst P (get_or-append-add xs ys k d) (h (length xs + k) d (omega (arith, length-append xs ys)))
 
 module _ {F : Type 0} (state : F → FlashState) where
   -- Where nothing changed

@@ -1,11 +1,15 @@
 -- When a device stands for its array, by what is kept of its open transactions; and what stays where one of them is replaced.
-use Rattle.std.proofs.Common.{◌≡◌, ◌≢◌, ℕ, zero, suc, ◌<◌, ◌≤◌, false, List, [], ◌∷◌, length, map, get_or, All, AllPairs, Contains, Some, refl, sym, ap, ◌∙◌, subst, inl, inr, arith}
+use Rattle.std.proofs.Common.{◌≡◌, ◌≢◌, ℕ, ◌<◌, ◌≤◌, false, List, length, map, get_or, All, AllPairs, Contains, Some, refl, sym, ap, ◌∙◌, subst, inl, inr, arith}
 use Rattle.std.specs.Prelude.{Any, slice_set, ◌↔◌, nat_lt}
 use Rattle.std.proofs.lemmas.Bool.{cases_Bool, cases_eq, both_ways, lt-ltb}
 use Rattle.std.proofs.lemmas.List.{get_or_default, length-set, get_or-set_same, get_or-set_other}
 use Rattle.std.proofs.lemmas.List.Elements.{All-from_get_or, Contains-get_or}
 use Rattle.std.proofs.lemmas.List.Sums.{sum-map}
 use Rattle.std.specs.List.{sum}
+use Rattle.std.proofs.Math.Seq.{map-set_same}
+use Rattle.list_facts.proofs.Quantifiers.{any_from_map, any_to_map}
+use Rattle.list_facts.proofs.Pairs.{pairs_from, pairs_to}
+use Rattle.list_facts.proofs.Lists.{map_map}
 use Rattle.tx_types.specs.Batch.{PageWrite}
 use Rattle.tx_types.specs.declared.config.Config.{Config}
 use Rattle.tx_types.specs.declared.config.Slot.{Slot}
@@ -31,7 +35,7 @@ use Rattle.tx_engine.specs.OpenTable.{OpenTable, Opening, no_opening, opening_at
 use Rattle.tx_engine.specs.Stored.{Stored}
 use Rattle.tx_engine.specs.Tables.{standing_in}
 use Rattle.tx_engine.proofs.TableLaws.{IsStayLaw}
-use Rattle.tx_engine.proofs.OpenList.{each_from, each_to, pairs_from, pairs_to, any_from_map, any_to_map}
+use Rattle.tx_engine.proofs.OpenList.{each_from, each_to}
 
 abbrev pub IsOpening : List Contents → Noted → Opening → Type 0
 IsOpening image n o = IsOpenAs image n o.entry o.naming
@@ -75,8 +79,8 @@ to_stands state s o k = record {
   array = refl;
   each = each_to (IsOpenAs (state s.flash).image s.noted) o.all k.each;
   doubt = k.doubt;
-  tags = pairs_to (λ (x : Opening). x.entry) (λ a b. a.tag ≢ b.tag) o.all no_opening k.tags;
-  apart = pairs_to (λ (x : Opening). x.naming) (λ a b. ShareNoPage a.names b.names) o.all no_opening k.apart;
+  tags = pairs_to (λ (x : Opening). x.entry) (λ a b. a.tag ≢ b.tag) o.all k.tags;
+  apart = pairs_to (λ (x : Opening). x.naming) (λ a b. ShareNoPage a.names b.names) o.all k.apart;
   few = k.few;
   pinned = λ name. (
     λ c. any_to_map (λ (x : Opening). x.naming) (λ x. Contains x.names name) o.all ((k.pinned name).0 c),
@@ -176,15 +180,6 @@ pub record HasSameParts (o new : Opening) : Type 0 where
   pub writes : new.entry.writes ≡ o.entry.writes
   pub names : new.naming.names ≡ o.naming.names
 
-pub map_set_same : {X Y : Type 0} (f : X → Y) (xs : List X) (i : ℕ) (new d : X) → i < length xs → f new ≡ f (get_or xs i d) → map f (slice_set xs i new) ≡ map f xs
-map_set_same f [] i new d h same = absurd (omega arith)
-map_set_same f (x ∷ xs) zero new d h same = ap (λ y. y ∷ map f xs) same
-map_set_same f (x ∷ xs) (suc i) new d h same = ap (λ ys. f x ∷ ys) (map_set_same f xs i new d (omega arith) same)
-
-pub map_map : {X Y Z : Type 0} (f : X → Y) (g : Y → Z) (xs : List X) → map g (map f xs) ≡ map (λ x. g (f x)) xs
-map_map f g [] = refl
-map_map f g (x ∷ xs) = ap (λ ys. g (f x) ∷ ys) (map_map f g xs)
-
 pub pages_same : (all all' : List Opening) → map (λ o. o.entry.writes) all' ≡ map (λ o. o.entry.writes) all →
     pending_pages (map (λ o. o.entry) all') ≡ pending_pages (map (λ o. o.entry) all)
 pages_same all all' same =
@@ -200,11 +195,11 @@ pub kept_with : (s s' : FlashState) (n n' : Noted) (t t' : BlockTable) (u u' : U
     IsKept s' n' t' u' (with_opening o i new)
 kept_with s s' n n' t t' u u' o i new k within parts m' config pins others own doubt =
     let tags : map (λ (x : Opening). x.entry.tag) (slice_set o.all i new) ≡ map (λ (x : Opening). x.entry.tag) o.all =
-    map_set_same (λ (x : Opening). x.entry.tag) o.all i new no_opening within parts.tag in
+    map-set_same (λ (x : Opening). x.entry.tag) o.all i new no_opening parts.tag in
     let names : map (λ (x : Opening). x.naming.names) (slice_set o.all i new) ≡ map (λ (x : Opening). x.naming.names) o.all =
-    map_set_same (λ (x : Opening). x.naming.names) o.all i new no_opening within parts.names in
+    map-set_same (λ (x : Opening). x.naming.names) o.all i new no_opening parts.names in
     let writes : map (λ (x : Opening). x.entry.writes) (slice_set o.all i new) ≡ map (λ (x : Opening). x.entry.writes) o.all =
-    map_set_same (λ (x : Opening). x.entry.writes) o.all i new no_opening within parts.writes in
+    map-set_same (λ (x : Opening). x.entry.writes) o.all i new no_opening parts.writes in
     record {
       matches = m';
       each = All-from_get_or (IsOpening s'.image n') (slice_set o.all i new) no_opening (λ j inside.
@@ -214,9 +209,9 @@ kept_with s s' n n' t t' u u' o i new k within parts m' config pins others own d
           ]);
       doubt = doubt;
       tags = pairs_from (λ (x : Opening). x.entry.tag) (λ a b. a ≢ b) (slice_set o.all i new)
-          (subst (AllPairs (λ a b. a ≢ b)) (sym tags) (pairs_to (λ (x : Opening). x.entry.tag) (λ a b. a ≢ b) o.all no_opening k.tags));
+          (subst (AllPairs (λ a b. a ≢ b)) (sym tags) (pairs_to (λ (x : Opening). x.entry.tag) (λ a b. a ≢ b) o.all k.tags));
       apart = pairs_from (λ (x : Opening). x.naming.names) ShareNoPage (slice_set o.all i new)
-          (subst (AllPairs ShareNoPage) (sym names) (pairs_to (λ (x : Opening). x.naming.names) ShareNoPage o.all no_opening k.apart));
+          (subst (AllPairs ShareNoPage) (sym names) (pairs_to (λ (x : Opening). x.naming.names) ShareNoPage o.all k.apart));
       few = subst (λ (c : Config). pending_pages (entries_of (with_opening o i new)) ≤ c.pending) (sym config)
           (subst (λ pages. pages ≤ n.config.pending) (sym (pages_same o.all (slice_set o.all i new) writes)) k.few);
       pinned = λ name.

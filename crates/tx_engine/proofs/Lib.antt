@@ -8,7 +8,6 @@ pub mod InDoubt
 pub mod Mounted
 pub mod OpenOnes
 pub mod OtherFlash
-pub mod Pushed
 pub mod Accepting
 pub mod Submitted
 pub mod Submitting

@@ -3,6 +3,7 @@ use Rattle.std.proofs.Common.{◌≡◌, ◌⊎◌, ℕ, ◌<◌, ◌≤◌, Boo
 use Rattle.std.specs.Option.{option_map, option_or}
 use Rattle.std.proofs.lemmas.Bool.{false≢true, cases_Bool, cond-true, cond-false, and_parts, and_from, not_from_true}
 use Rattle.std.proofs.lemmas.Option.{none-some}
+use Rattle.list_facts.proofs.Membership.{IsIn, all_at, from_filter}
 use Rattle.tx_types.specs.declared.config.Block.{Block}
 use Rattle.tx_types.specs.declared.config.Protocol.{Protocol}
 use Rattle.tx_types.specs.declared.config.Slot.{Slot}
@@ -16,7 +17,7 @@ use Rattle.record_list.specs.Records.{name_of, has_name, is_present}
 use Rattle.record_list.specs.Changes.{left}
 use Rattle.record_list.specs.Current.{cur, IsCurrent}
 use Rattle.record_list.specs.Written.{is_outside, is_wanted, first_slot, home, records_of, bytes_at}
-use Rattle.record_list.proofs.Names.{IsIn, all_at, found_named, from_filter, has_own_name, present_as}
+use Rattle.record_list.proofs.Names.{found_named, has_own_name, present_as}
 use Rattle.record_list.proofs.Wanted.{counted_wanted}
 use Rattle.record_list.proofs.WrittenLists.{one_text}
 use Rattle.record_list.proofs.Arrays.{bytes_of, bytes_absent}

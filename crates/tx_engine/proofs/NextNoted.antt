@@ -3,8 +3,9 @@
 use Rattle.std.proofs.Common.{◌≡◌, ◌≢◌, ◌⊎◌, ℕ, ◌+◌, ◌<◌, ◌==◌, List, [], length, map, get_or, All, AllPairs, Some, refl, sym, ap, ◌∙◌, subst, inl, inr, arith}
 use Rattle.std.specs.Prelude.{slice_set}
 use Rattle.std.proofs.lemmas.Bool.{cases_eq, cases_order, cond_both, eqb-false}
-use Rattle.std.proofs.lemmas.List.{length-map, length-set, get_or-set_same, get_or-set_other}
+use Rattle.std.proofs.lemmas.List.{length-map, length-set, get_or-set_same, get_or-set_other, get_or-map}
 use Rattle.std.proofs.lemmas.List.Elements.{All-from_get_or}
+use Rattle.list_facts.proofs.Membership.{all_at, all_from}
 use Rattle.tx_types.specs.Batch.{no_write}
 use Rattle.tx_types.specs.Config.{shape_of, slots_of}
 use Rattle.tx_types.specs.declared.config.Protocol.{Protocol}
@@ -14,7 +15,6 @@ use Rattle.flash_model.specs.Flash.{FlashState, Contents}
 use Rattle.record_list.specs.Records.{name_of}
 use Rattle.record_list.specs.Transaction.{ShareNoPage}
 use Rattle.record_list.specs.Written.{bytes_at}
-use Rattle.record_list.proofs.Names.{all_at, all_from}
 use Rattle.record_list.proofs.Rounds.{cases_page}
 use Rattle.version_index.specs.declared.note.Note.TheVariants.{Blank}
 use Rattle.version_index.specs.Images.{written_in}
@@ -38,7 +38,6 @@ use Rattle.tx_engine.proofs.Noting.{HasName, raised_mention, other_opening, next
 use Rattle.tx_engine.proofs.Kept.{IsKept, IsOpening, IsCalm, HasSameParts, kept_with}
 use Rattle.tx_engine.proofs.SettledLists.{CalmBeside, calm_all}
 use Rattle.tx_engine.proofs.ExitsThen.{NamedBefore}
-use Rattle.tx_engine.proofs.OpenList.{get_or_map}
 use Rattle.tx_engine.proofs.Tools.{NotesWrites}
 use Rattle.tx_engine.proofs.OtherFlash.{known_at}
 
@@ -84,13 +83,13 @@ names_before all all' same k d inside =
     let within : k < length all = omega arith in
     let old = get_or all k no_opening in
     let names : old.naming.names ≡ (get_or all' k no_opening).naming.names =
-    sym (get_or_map (λ (o : Opening). o.naming.names) all k no_opening [] within) ∙ ap (λ ns. get_or ns k []) (sym same)
-    ∙ get_or_map (λ (o : Opening). o.naming.names) all' k no_opening [] within' in (
+    sym (get_or-map (λ (o : Opening). o.naming.names) all k no_opening [] within) ∙ ap (λ ns. get_or ns k []) (sym same)
+    ∙ get_or-map (λ (o : Opening). o.naming.names) all' k no_opening [] within' in (
       k,
       old.naming,
       subst (λ len. k < len) (sym (length-map all (λ (o : Opening). o.naming))) within,
-      get_or_map (λ (o : Opening). o.naming) all k no_opening old.naming within,
-      names ∙ ap (λ (x : Naming). x.names) (sym (get_or_map (λ (o : Opening). o.naming) all' k no_opening d within')),
+      get_or-map (λ (o : Opening). o.naming) all k no_opening old.naming within,
+      names ∙ ap (λ (x : Naming). x.names) (sym (get_or-map (λ (o : Opening). o.naming) all' k no_opening d within')),
     )
 
 module _ (p : Protocol) (notes : NotesWrites p) (n : Noted) (at : ℕ) (rec : Rec) (image image' : List Contents) (o : Opening) (h : IsNextOf p n at rec image' o) where
@@ -171,7 +170,7 @@ module _ (p : Protocol) (notes : NotesWrites p) (n : Noted) (at : ℕ) (rec : Re
         i,
         o.naming,
         subst (λ len. i < len) (sym (length-map all (λ (o : Opening). o.naming))) inside,
-        get_or_map (λ (o : Opening). o.naming) all i no_opening o.naming inside ∙ ap (λ (x : Opening). x.naming) is,
+        get_or-map (λ (o : Opening). o.naming) all i no_opening o.naming inside ∙ ap (λ (x : Opening). x.naming) is,
         subst (λ ns. HasName ns page (mention_of after page)) h.its rose.1,
       ),
     )

@@ -8,6 +8,9 @@ use Rattle.std.proofs.lemmas.List.{get_or_default}
 use Rattle.std.proofs.lemmas.List.Concat.{length-flat_map}
 use Rattle.std.proofs.lemmas.List.Elements.{All-contains, Contains-get_or}
 use Rattle.std.proofs.Math.Nat.{mul-le-mul_right}
+use Rattle.list_facts.proofs.Tests.{none_found}
+use Rattle.list_facts.proofs.Options.{map_none}
+use Rattle.list_facts.proofs.Membership.{IsIn, all_at, in_from, contains_from, all_from}
 use Rattle.tx_types.specs.Config.{shape_of, blocks_of}
 use Rattle.tx_types.specs.declared.config.Protocol.{Protocol}
 use Rattle.tx_types.specs.declared.config.Protocol.TheVariants.{Scc, Bpcc}
@@ -20,7 +23,7 @@ use Rattle.record_list.specs.Records.{is_present, name_of, mentioned_at}
 use Rattle.record_list.specs.Changes.{NothingMustGo}
 use Rattle.record_list.specs.Current.{cur, must_go}
 use Rattle.record_list.specs.Transaction.{InProgress, ShareNoPage, back_version}
-use Rattle.record_list.proofs.Names.{IsIn, all_at, in_from, contains_from, found_named, all_from}
+use Rattle.record_list.proofs.Names.{found_named}
 use Rattle.record_list.proofs.Asking.{asked_at, rounded_at}
 use Rattle.record_list.proofs.Progress.{mention_parts}
 use Rattle.record_list.proofs.Rounds.{cases_in}
@@ -45,7 +48,6 @@ use Rattle.tx_engine.proofs.Noting.{next_has}
 use Rattle.tx_engine.proofs.PinnedNames.{pin_to, few_pinned}
 use Rattle.tx_engine.proofs.Removal.{pages_by}
 use Rattle.tx_engine.proofs.SettledLists.{calm_at}
-use Rattle.tx_engine.proofs.Accepting.{map_none, none_found}
 
 -- where no block is to go, no record must
 pub nothing_goes : (n : Noted) (rec : Rec) → block_to_go n rec.page rec.version ≡ None → NothingMustGo n.config.protocol (found_in n.notes) n.config.logical rec

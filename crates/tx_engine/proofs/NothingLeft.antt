@@ -2,9 +2,10 @@
 use Rattle.std.proofs.Common.{◌≡◌, ◌⊎◌, ℕ, ◌*◌, ◌/◌, ◌<◌, ◌≤◌, eqb, List, length, get_or, All, Contains, Result, Ok, refl, sym, ap, ◌∙◌, subst, inl, inr, arith, eqb-true, eq-eqb}
 use Rattle.std.specs.Prelude.{Any, IfOk, OnOk}
 use Rattle.std.proofs.lemmas.Bool.{cases_eq, cond_both, cond-true}
-use Rattle.std.proofs.lemmas.List.{length-map, get_or_default}
+use Rattle.std.proofs.lemmas.List.{length-map, get_or_default, get_or-map}
 use Rattle.std.proofs.lemmas.List.Elements.{All-contains, Contains-get_or}
 use Rattle.std.proofs.Math.Nat.{mul_comm}
+use Rattle.list_facts.proofs.Membership.{IsIn, all_at, in_from, contains_from}
 use Rattle.tx_types.specs.Batch.{no_write}
 use Rattle.tx_types.specs.Config.{shape_of, blocks_of}
 use Rattle.tx_types.specs.declared.config.Protocol.{Protocol}
@@ -14,7 +15,7 @@ use Rattle.record_list.specs.declared.found.Found.{Found}
 use Rattle.record_list.specs.Records.{newest, version_of, mentioned_at, name_of}
 use Rattle.record_list.specs.Current.{IsCurrent, cur}
 use Rattle.record_list.specs.Transaction.{InProgress}
-use Rattle.record_list.proofs.Names.{IsIn, all_at, in_from, contains_from, greatest_bound, greatest_least}
+use Rattle.record_list.proofs.Names.{greatest_bound, greatest_least}
 use Rattle.record_list.proofs.Progress.{mention_parts}
 use Rattle.record_list.proofs.Rounds.{cases_in}
 use Rattle.version_index.specs.declared.note.Note.TheVariants.{Blank}
@@ -42,7 +43,6 @@ use Rattle.tx_engine.specs.Stored.{Stored}
 use Rattle.tx_engine.specs.Tables.{standing_in}
 use Rattle.tx_engine.proofs.Arrays.{page_of_name, as_many_names}
 use Rattle.tx_engine.proofs.Kept.{IsKept, from_stands}
-use Rattle.tx_engine.proofs.OpenList.{get_or_map}
 use Rattle.tx_engine.proofs.NextNoted.{apart_pages}
 use Rattle.tx_engine.proofs.Tools.{Settles}
 
@@ -123,7 +123,7 @@ pinned_wanted s n t u o k f i pin =
           any.0,
           its.entry,
           subst (λ len. any.0 < len) (sym (length-map o.all (λ (x : Opening). x.entry))) any.2,
-          get_or_map (λ (x : Opening). x.entry) o.all any.0 no_opening its.entry any.2,
+          get_or-map (λ (x : Opening). x.entry) o.all any.0 no_opening its.entry any.2,
           (let long = as_many_names its.naming.names its.entry.writes open_as.named.pages in
               let inside = own.1 in
               let within : own.0 < length its.entry.writes = omega arith in

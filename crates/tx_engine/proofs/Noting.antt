@@ -3,6 +3,8 @@
 use Rattle.std.proofs.Common.{◌≡◌, ◌≢◌, ◌⊎◌, ℕ, ◌+◌, ◌<◌, ◌≤◌, ◌==◌, ◌^◌, max, List, length, get_or, All, Any, Contains, Some, refl, sym, ap, ◌∙◌, subst, inl, inr, arith, eqb-true}
 use Rattle.std.proofs.lemmas.Bool.{cases_Bool, cases_lt, cases_eq, both_ways, lt-ltb, le-ltb, cond_both, eqb-false}
 use Rattle.std.specs.List.{zip}
+use Rattle.list_facts.proofs.Values.{if_positive}
+use Rattle.list_facts.proofs.Membership.{IsIn, in_from, all_at, contains_from}
 use Rattle.tx_types.specs.Config.{shape_of, slots_of}
 use Rattle.tx_types.specs.declared.config.Protocol.{Protocol}
 use Rattle.tx_types.specs.declared.record.Link.{Link}
@@ -11,7 +13,6 @@ use Rattle.flash_model.specs.Flash.{Contents}
 use Rattle.record_list.specs.Records.{is_present, name_of, version_of, linked_at}
 use Rattle.record_list.specs.Transaction.{InProgress, ShareNoPage, rounded, back_version}
 use Rattle.record_list.specs.Written.{bytes_at}
-use Rattle.record_list.proofs.Names.{IsIn, in_from, all_at, contains_from, if_positive}
 use Rattle.record_list.proofs.Rounds.{follows_of, follows_in}
 use Rattle.version_index.specs.declared.note.Note.TheVariants.{Blank}
 use Rattle.version_index.specs.Images.{written_in}

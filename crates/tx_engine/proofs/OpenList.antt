@@ -1,9 +1,8 @@
 -- The open transactions as entries of the array machine: the one with a tag by its index, and lists side by side.
-use Rattle.std.proofs.Common.{◌≡◌, ◌≢◌, ℕ, zero, suc, ◌<◌, true, false, List, [], ◌∷◌, length, map, get_or, All, AllPairs, Some, None, refl, sym, ap, ◌∙◌, subst, arith}
-use Rattle.std.specs.Prelude.{Any, slice_set, remove, position}
-use Rattle.std.specs.List.{AllZip, slice_get}
+use Rattle.std.proofs.Common.{◌≡◌, ◌≢◌, ℕ, zero, suc, ◌<◌, true, false, List, [], ◌∷◌, length, map, get_or, All, AllPairs, Some, None, refl, ap, ◌∙◌, arith}
+use Rattle.std.specs.Prelude.{slice_set, remove, position}
+use Rattle.std.specs.List.{AllZip}
 use Rattle.std.proofs.lemmas.Bool.{cond-true, cond-false, eq-eqb, ne_eqb}
-use Rattle.std.proofs.lemmas.List.{get_or_default, length-map}
 use Rattle.std.proofs.lemmas.List.Elements.{All-head, All-tail, All-cons, All-nil}
 use Rattle.std.proofs.lemmas.List.Quantifiers.{position-Some}
 use Rattle.tx_engine.specs.ArrayState.{Entry, has_tag, entry_of, with_entry, without}
@@ -79,43 +78,3 @@ each_from R (o ∷ all) h = All-cons (λ o. R o.entry o.naming) o all h.0 (each_
 pub each_to : (R : Entry → Naming → Type 0) (all : List Opening) → All (λ o. R o.entry o.naming) all → AllZip R (map (λ o. o.entry) all) (map (λ o. o.naming) all)
 each_to R [] h = tt
 each_to R (o ∷ all) h = (All-head (λ o. R o.entry o.naming) o all h, each_to R all (All-tail (λ o. R o.entry o.naming) o all h))
-
--- an element of a list that is mapped
-pub get_or_map : {X Y : Type 0} (f : X → Y) (xs : List X) (k : ℕ) (d : X) (e : Y) → k < length xs → get_or (map f xs) k e ≡ f (get_or xs k d)
-get_or_map f [] k d e h = absurd (omega arith)
-get_or_map f (x ∷ xs) zero d e h = refl
-get_or_map f (x ∷ xs) (suc k) d e h = get_or_map f xs k d e (omega arith)
-
-pub slice_get_map : {X Y : Type 0} (f : X → Y) (xs : List X) (k : ℕ) (d : X) (y : Y) → slice_get (map f xs) k ≡ Some y → (k < length xs) × (f (get_or xs k d) ≡ y)
-slice_get_map f [] k d y h = absurd (cc)
-slice_get_map f (x ∷ xs) zero d y h = (omega arith, (let same : f x ≡ y = cc in same))
-slice_get_map f (x ∷ xs) (suc k) d y h = let rest = slice_get_map f xs k d y h in (let w = rest.0 in omega arith, rest.1)
-
-pub slice_get_at : {X Y : Type 0} (f : X → Y) (xs : List X) (k : ℕ) (d : X) → k < length xs → slice_get (map f xs) k ≡ Some (f (get_or xs k d))
-slice_get_at f [] k d h = absurd (omega arith)
-slice_get_at f (x ∷ xs) zero d h = refl
-slice_get_at f (x ∷ xs) (suc k) d h = slice_get_at f xs k d (omega arith)
-
-pub pairs_from : {X Y : Type 0} (f : X → Y) (R : Y → Y → Type 0) (xs : List X) → AllPairs R (map f xs) → AllPairs (λ a b. R (f a) (f b)) xs
-pairs_from f R xs h i j d less within =
-    let first : i < length xs = omega arith in
-    let both = h i j (f d) less (subst (λ n. j < n) (sym (length-map xs f)) within) in
-    subst (λ a. R a (f (get_or xs j d))) (get_or_map f xs i d (f d) first)
-    (subst (λ b. R (get_or (map f xs) i (f d)) b) (get_or_map f xs j d (f d) within) both)
-
-pub pairs_to : {X Y : Type 0} (f : X → Y) (R : Y → Y → Type 0) (xs : List X) (d : X) → AllPairs (λ a b. R (f a) (f b)) xs → AllPairs R (map f xs)
-pairs_to f R xs d h i j e less within =
-    let inside : j < length xs = subst (λ n. j < n) (length-map xs f) within in
-    let first : i < length xs = omega arith in
-    subst (λ a. R a (get_or (map f xs) j e)) (sym (get_or_map f xs i d e first))
-    (subst (λ b. R (f (get_or xs i d)) b) (sym (get_or_map f xs j d e inside)) (h i j d less inside))
-
-pub any_from_map : {X Y : Type 0} (f : X → Y) (P : Y → Type 0) (xs : List X) (d : X) → Any P (map f xs) → Any (λ x. P (f x)) xs
-any_from_map f P xs d h =
-    let inside : h.0 < length xs = subst (λ n. h.0 < n) (length-map xs f) h.2 in
-    let at : f (get_or xs h.0 d) ≡ h.1 = sym (get_or_map f xs h.0 d h.1 inside) ∙ h.3 in
-    (h.0, get_or xs h.0 d, inside, get_or_default xs h.0 (get_or xs h.0 d) d inside, subst P (sym at) h.4)
-
-pub any_to_map : {X Y : Type 0} (f : X → Y) (P : Y → Type 0) (xs : List X) → Any (λ x. P (f x)) xs → Any P (map f xs)
-any_to_map f P xs h =
-    (h.0, f h.1, subst (λ n. h.0 < n) (sym (length-map xs f)) h.2, get_or_map f xs h.0 h.1 (f h.1) h.2 ∙ ap f h.3, h.4)

@@ -1,14 +1,13 @@
 -- The open transactions of a device, by their places, and the one of which it is not known whether its record is there.
-use Rattle.std.proofs.Common.{◌≡◌, ◌≢◌, ℕ, zero, suc, true, List, [], ◌∷◌, slice_get, Any, Contains, Some, refl, subst}
-use Rattle.std.specs.List.{AllZip}
+use Rattle.std.proofs.Common.{◌≡◌, ◌≢◌, true, List, Any, Contains, refl}
 use Rattle.std.proofs.lemmas.List.Elements.{All-same}
-use Rattle.std.proofs.lemmas.Option.{none-some, same_Some, slice_get_within, get_or_from_slice_get}
+use Rattle.list_facts.proofs.Membership.{all_from, contains_from}
+use Rattle.list_facts.proofs.Quantifiers.{any_got}
 use Rattle.tx_types.specs.declared.record.Link.{Link}
 use Rattle.flash_model.specs.Flash.{Contents}
 use Rattle.record_list.specs.Records.{is_present}
 use Rattle.record_list.specs.Changes.{left}
 use Rattle.record_list.specs.Written.{is_outside}
-use Rattle.record_list.proofs.Names.{all_from, contains_from}
 use Rattle.record_list.proofs.Wanted.{dispensable_pinned}
 use Rattle.tx_types.specs.Config.{shape_of}
 use Rattle.version_index.specs.Notes.{found_in}
@@ -22,20 +21,6 @@ use Rattle.tx_engine.specs.ArrayState.{Entry}
 use Rattle.tx_engine.specs.declared.mark.Mark.{Mark}
 use Rattle.tx_engine.specs.declared.mark.Mark.TheVariants.{Plain, Doubt, Whole}
 use Rattle.tx_engine.specs.Standing.{Standing, Naming, Stands, DoubtsAs, IsAsMarked, IsUnderWay}
-
--- what is so of each pair of two lists is so of the pair at a place
-pub zip_at : {A B : Type 0} (R : A → B → Type 0) (xs : List A) (ys : List B) (k : ℕ) (x : A) (y : B) → AllZip R xs ys → slice_get xs k ≡ Some x → slice_get ys k ≡ Some y → R x y
-zip_at R [] ys k x y h is_x is_y = absurd (none-some x is_x)
-zip_at R (v ∷ vs) [] k x y h is_x is_y = absurd (none-some y is_y)
-zip_at {A} {B} R (v ∷ vs) (w ∷ ws) zero x y h is_x is_y = subst (λ (z : A). R z y) (same_Some v x is_x) (subst (λ (z : B). R v z) (same_Some w y is_y) h.0)
-zip_at R (v ∷ vs) (w ∷ ws) (suc k) x y h is_x is_y = zip_at R vs ws k x y h.1 is_x is_y
-
--- an item at a place is in the list
-pub got_within : {X : Type 0} (xs : List X) (k : ℕ) (x : X) → slice_get xs k ≡ Some x → Contains xs x
-got_within xs k x is = (k, slice_get_within xs k x is, get_or_from_slice_get xs k x x is)
-
-pub any_got : {X : Type 0} (P : X → Type 0) (xs : List X) (k : ℕ) (x : X) → slice_get xs k ≡ Some x → P x → Any P xs
-any_got P xs k x is h = (k, x, slice_get_within xs k x is, get_or_from_slice_get xs k x x is, h)
 
 -- a transaction that is not whole is under way
 pub under_way : (image : List Contents) (n : Noted) (e : Entry) (x : Naming) (m : Mark) → IsAsMarked image n e x m → m ≢ Whole → IsUnderWay image n e x

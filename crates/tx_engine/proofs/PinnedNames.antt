@@ -4,8 +4,10 @@ use Rattle.std.specs.List.{cons_option}
 use Rattle.std.specs.Prelude.{◌↔◌}
 use Rattle.std.proofs.lemmas.Bool.{cases_eq, cond-true, cond-false}
 use Rattle.std.proofs.lemmas.List.{length-set, get_or-set_same, get_or-set_other}
+use Rattle.list_facts.proofs.Pairs.{pairs_head, pairs_tail}
+use Rattle.list_facts.proofs.Membership.{IsIn, in_from, contains_from, all_at}
 use Rattle.tx_types.specs.declared.record.Link.{Link}
-use Rattle.record_list.proofs.Names.{IsIn, in_from, contains_from, same_name, all_at, pairs_head, pairs_tail}
+use Rattle.record_list.proofs.Names.{same_name}
 use Rattle.record_list.proofs.Rounds.{cases_page}
 use Rattle.version_index.specs.Noted.{pinned_at, pinned_names}
 use Rattle.version_index.proofs.Given.{given}

@@ -1,8 +1,9 @@
 -- What is pinned once a page is pinned at another version, and that the tables match still.
 use Rattle.std.proofs.Common.{◌≡◌, ◌⊎◌, ℕ, ◌<◌, true, false, List, length, get_or, set, Contains, Some, None, sym, ap, ◌∙◌, subst, inl, inr, arith, eqb, zero-add}
 use Rattle.std.proofs.lemmas.Bool.{cases_Bool, cases_eq, false≢true, cond-true, cond-false}
-use Rattle.std.proofs.lemmas.Option.{none-some}
+use Rattle.std.proofs.lemmas.Option.{none-some, same_Some}
 use Rattle.std.proofs.lemmas.List.{length-set, get_or-set_same, get_or-set_other}
+use Rattle.list_facts.proofs.Membership.{IsIn, all_at, all_from, contains_from, in_from}
 use Rattle.tx_types.specs.Config.{shape_of}
 use Rattle.tx_types.specs.declared.record.Link.{Link}
 use Rattle.flash_model.specs.Flash.{FlashState, Contents}
@@ -10,7 +11,7 @@ use Rattle.record_list.specs.declared.found.Found.{Found}
 use Rattle.record_list.specs.Records.{name_of, is_present}
 use Rattle.record_list.specs.Changes.{left}
 use Rattle.record_list.specs.Written.{is_outside, is_wanted}
-use Rattle.record_list.proofs.Names.{IsIn, all_at, all_from, contains_from, in_from, present_in}
+use Rattle.record_list.proofs.Names.{present_in}
 use Rattle.record_list.proofs.Wanted.{wanted_cases, counted_wanted, pinned_wanted}
 use Rattle.version_index.specs.Notes.{found_in}
 use Rattle.version_index.specs.Noted.{Noted, IsNoted, pinned, pinned_at, pinned_names}
@@ -21,9 +22,6 @@ use Rattle.die_alloc.specs.BlockTable.{BlockTable}
 use Rattle.collector.specs.declared.unsure.Unsure.{Unsure}
 use Rattle.collector.specs.declared.unsure.Unsure.TheVariants as unsure
 use Rattle.collector.specs.Matches.{Matches, IsPlace, IsFilledBy, CanSpare, VictimIsSpared}
-
-same_Some : {X : Type 0} (x y : X) → Some x ≡ Some y → x ≡ y
-same_Some x y e = cc
 
 -- the name that a pin gives
 pinned_name : (page version : ℕ) (name : Link) → pinned_at page version ≡ Some name → name ≡ record { page = page; version = version }

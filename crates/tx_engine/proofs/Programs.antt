@@ -3,6 +3,7 @@
 use Rattle.std.proofs.Common.{◌≡◌, ◌≢◌, ℕ, ◌+◌, ◌*◌, ◌/◌, ◌%◌, ◌<◌, ◌≤◌, Bool, true, eq-eqb, List, length, set, refl, sym, ap, ◌∙◌, subst, inl, inr, arith}
 use Rattle.std.proofs.lemmas.List.{get_or-set_same, get_or-set_other}
 use Rattle.std.proofs.Math.Nat.{mod-add-div', div-eq_of_lt-le}
+use Rattle.list_facts.proofs.Membership.{IsIn, all_at, all_from, contains_from, in_filter, from_filter}
 use Rattle.tx_types.specs.Config.{shape_of, slots_of, blocks_of}
 use Rattle.tx_types.specs.declared.config.Protocol.{Protocol}
 use Rattle.tx_types.specs.declared.config.Shape.{Shape}
@@ -23,7 +24,7 @@ use Rattle.record_list.specs.Written.{found_of, is_outside, bytes_at}
 use Rattle.record_list.specs.WrittenChanges.{HasRoomAround}
 use Rattle.record_list.specs.Transaction.{InProgress, IsAsked}
 use Rattle.record_list.specs.Changes.{NothingMustGo}
-use Rattle.record_list.proofs.Names.{IsIn, all_at, all_from, contains_from, found_named, present_as, in_filter, from_filter}
+use Rattle.record_list.proofs.Names.{found_named, present_as}
 use Rattle.record_list.proofs.OneMore.{inserted_in, in_inserted, new_in}
 use Rattle.record_list.proofs.WrittenLists.{inserted_records}
 use Rattle.version_index.specs.Images.{IsSoundImage, written_in, records_in}

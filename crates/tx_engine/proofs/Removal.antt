@@ -1,13 +1,13 @@
 -- An open transaction goes, and its names are pinned no more.
 use Rattle.std.proofs.Common.{◌≡◌, ◌≢◌, ℕ, suc, ◌+◌, ◌-◌, ◌<◌, ◌≤◌, List, length, map, get_or, take, drop, All, Contains, refl, sym, ap, ◌∙◌, subst, inl, inr, arith, add-one}
-use Rattle.std.specs.Prelude.{Any, remove, ◌↔◌}
+use Rattle.std.specs.Prelude.{remove, ◌↔◌}
 use Rattle.std.specs.List.{sum, sum_by}
-use Rattle.std.proofs.lemmas.Bool.{cases_lt}
 use Rattle.std.proofs.lemmas.List.{get_or_default}
-use Rattle.std.proofs.lemmas.List.Edits.{length-remove, get_or-remove_below, get_or-remove_above}
-use Rattle.std.proofs.lemmas.List.Elements.{All-append, All-take, All-drop, All-map, All-from_get_or}
+use Rattle.std.proofs.lemmas.List.Elements.{All-map, All-from_get_or}
 use Rattle.std.proofs.lemmas.List.Quantifiers.{all_pairs_remove}
 use Rattle.std.proofs.lemmas.List.Sums.{sum-map, sum_by-append, sum_by-take-drop, sum_by-drop_more}
+use Rattle.list_facts.proofs.Lists.{map_map}
+use Rattle.list_facts.proofs.Quantifiers.{all_remove, any_beside, beside_any}
 use Rattle.tx_types.specs.declared.record.Link.{Link}
 use Rattle.flash_model.specs.Flash.{FlashState}
 use Rattle.record_list.specs.Transaction.{ShareNoPage}
@@ -24,7 +24,7 @@ use Rattle.tx_engine.specs.Tables.{standing_in}
 use Rattle.tx_engine.specs.Standing.{Stands}
 use Rattle.tx_engine.specs.OpenTable.{OpenTable, Opening, no_opening, opening_at}
 use Rattle.tx_engine.proofs.Arrays.{as_many_names}
-use Rattle.tx_engine.proofs.Kept.{IsKept, IsOpening, IsCalm, map_map, from_stands, to_stands}
+use Rattle.tx_engine.proofs.Kept.{IsKept, IsOpening, IsCalm, from_stands, to_stands}
 use Rattle.tx_engine.proofs.SettledLists.{calm_at}
 use Rattle.tx_engine.proofs.NextNoted.{apart_at}
 use Rattle.tx_engine.proofs.PinnedNames.{IsPin, pin_of, pin_to}
@@ -34,47 +34,6 @@ use Rattle.tx_engine.proofs.Submitted.{repinned, open_aside}
 pub current_pins : (n : Noted) (pins : List ℕ) (page : ℕ) → current_of (repinned n pins) page ≡ current_of n page
 unfolding current_of
 current_pins n pins page = refl
-
-pub all_remove : {X : Type 0} (P : X → Type 0) (xs : List X) (i : ℕ) → All P xs → All P (remove xs i)
-all_remove P xs i h = All-append P (take i xs) (drop (suc i) xs) (All-take P i xs h) (All-drop P (suc i) xs h)
-
--- what is so of an element beside the removed one
-any_beside : {X : Type 0} (P : X → Type 0) (xs : List X) (i j : ℕ) (d : X) → i < length xs → j < length xs → j ≢ i → P (get_or xs j d) → Any P (remove xs i)
-any_beside P xs i j d within inside other h =
-    let long = length-remove xs i within in
-    elim (cases_lt j i) [
-      | inl less ↦ (j, get_or xs j d, omega arith, get_or-remove_below xs i (get_or xs j d) j less within ∙ get_or_default xs j (get_or xs j d) d inside, h)
-      | inr past ↦ (
-          let k = j - 1 in
-          let up : k + 1 ≡ j = omega (arith, other) in (
-            k,
-            get_or xs j d,
-            omega (arith, other, long),
-            get_or-remove_above xs i (get_or xs j d) k (omega (arith, other)) within
-                ∙ ap (λ a. get_or xs a (get_or xs j d)) up ∙ get_or_default xs j (get_or xs j d) d inside,
-            h,
-          ))
-    ]
-
-beside_any : {X : Type 0} (P : X → Type 0) (xs : List X) (i : ℕ) (d : X) → i < length xs → Any P (remove xs i) →
-    (j : ℕ) × (j < length xs) × (j ≢ i) × P (get_or xs j d)
-beside_any P xs i d within h =
-    let long = length-remove xs i within in
-    let inside = h.2 in
-    elim (cases_lt h.0 i) [
-      | inl less ↦ (
-        h.0,
-        omega arith,
-        (λ e. absurd (omega arith)),
-        subst P (sym h.3 ∙ get_or-remove_below xs i h.1 h.0 less within ∙ get_or_default xs h.0 h.1 d (omega arith)) h.4,
-      )
-      | inr past ↦ (
-        h.0 + 1,
-        omega arith,
-        (λ e. absurd (omega arith)),
-        subst P (sym h.3 ∙ get_or-remove_above xs i h.1 h.0 past within ∙ get_or_default xs (h.0 + 1) h.1 d (omega arith)) h.4,
-      )
-    ]
 
 pub pages_by : (all : List Opening) → pending_pages (map (λ o. o.entry) all) ≡ sum_by (λ o. length o.entry.writes) all
 pages_by all =

@@ -32,8 +32,9 @@ use Rattle.tx_engine.proofs.Kept.{IsKept, IsOpening, from_stands, to_stands}
 use Rattle.tx_engine.proofs.OpenOnes.{can_take}
 use Rattle.tx_engine.proofs.ExitsThen.{exits_still}
 use Rattle.std.proofs.lemmas.Bool.{both_ways}
+use Rattle.list_facts.proofs.Positions.{position-all}
 use Rattle.tx_engine.proofs.SettledLists.{calm_at}
-use Rattle.tx_engine.proofs.Settlements.{IsSettledAs, IsFoundOwn, present_found, found_settled, doubt_settled, calm_settled, doubted_beside, position_none}
+use Rattle.tx_engine.proofs.Settlements.{IsSettledAs, IsFoundOwn, present_found, found_settled, doubt_settled, calm_settled, doubted_beside}
 use Rattle.tx_engine.proofs.TableLaws.{IsStayLaw, CurrentLaw}
 use Rattle.tx_engine.proofs.Tools.{Settles, NotesWrites}
 
@@ -174,7 +175,7 @@ module _ {F : Type 0} (state : F → FlashState) (S : Stored F) (O : OpenTable) 
         let keep = settles.preserves (state S.flash) S.noted S.table S.unsure kept.matches take refl (λ e. other (is_answer ∙ e)) in
         calm_settled (state S.flash) S.noted n' S.table t' S.unsure O law kept matched
         (subst (Preserves S.noted) (sym is_noted) keep.0) current_now
-        (position_none (λ (o : Opening). is_doubted o.entry.mark) O.all no_opening is)
+        (position-all (λ (o : Opening). is_doubted o.entry.mark) O.all no_opening is)
 
 pub not_present : (a : Settled) → (a ≡ found.Missing) ⊎ (a ≡ found.Other) → a ≢ found.Present
 not_present a (inl is) e = let both : found.Missing ≡ found.Present = sym is ∙ e in cc

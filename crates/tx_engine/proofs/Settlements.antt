@@ -1,11 +1,13 @@
 -- What settling makes of the open transactions: the record that was being programmed is there, or nothing that is known changed.
-use Rattle.std.proofs.Common.{◌≡◌, ◌≢◌, ◌⊎◌, ℕ, ◌+◌, ◌<◌, ◌≤◌, ◌==◌, Bool, true, false, List, [], length, map, get_or, All, AllPairs, Contains, Option, Some, None, refl, sym, ap, ap₂, ◌∙◌, subst, inl, inr, arith, eq-eqb, ne_eqb}
-use Rattle.std.specs.Prelude.{Any, slice_set, slice_index, position, nat_lt, ◌↔◌}
-use Rattle.std.specs.List.{position_or_len}
-use Rattle.std.proofs.lemmas.Bool.{cases_eq, cond-true, cond-false, both_ways, cases_lt, lt-ltb}
+use Rattle.std.proofs.Common.{◌≡◌, ◌≢◌, ◌⊎◌, ℕ, ◌+◌, ◌<◌, ◌≤◌, ◌==◌, Bool, true, false, List, [], length, map, get_or, All, AllPairs, Contains, Option, Some, refl, sym, ap, ap₂, ◌∙◌, subst, inl, inr, arith, eq-eqb, ne_eqb}
+use Rattle.std.specs.Prelude.{Any, slice_set, slice_index, position, ◌↔◌}
+use Rattle.std.proofs.lemmas.Bool.{cases_eq, cond-true, cond-false, both_ways}
 use Rattle.std.proofs.lemmas.List.{length-set, get_or-set_same, get_or-set_other}
 use Rattle.std.proofs.lemmas.List.Elements.{All-nil}
-use Rattle.std.proofs.lemmas.List.Sums.{fails_before_first}
+use Rattle.std.proofs.Math.Seq.{map-set_same}
+use Rattle.list_facts.proofs.Positions.{position-at}
+use Rattle.list_facts.proofs.Quantifiers.{any_from_map}
+use Rattle.list_facts.proofs.Lists.{slice_get_map, slice_get_at}
 use Rattle.tx_types.specs.Batch.{PageWrite}
 use Rattle.tx_types.specs.Config.{slots_of}
 use Rattle.tx_types.specs.declared.config.Slot.{Slot}
@@ -35,13 +37,11 @@ use Rattle.tx_engine.specs.Settling.{with_next, is_writing}
 use Rattle.tx_engine.proofs.Arrays.{as_many_names}
 use Rattle.tx_engine.proofs.DevicesStand.{settles_there, bytes_there, spare_other, doubt_is}
 use Rattle.tx_engine.proofs.OpenOnes.{under_way, take_unsure}
-use Rattle.tx_engine.proofs.OpenList.{slice_get_map, slice_get_at, any_from_map}
-use Rattle.tx_engine.proofs.Kept.{IsKept, IsOpening, IsCalm, HasSameParts, kept_with, each_stays, map_set_same}
+use Rattle.tx_engine.proofs.Kept.{IsKept, IsOpening, IsCalm, HasSameParts, kept_with, each_stays}
 use Rattle.tx_engine.proofs.SettledLists.{CalmBeside, calm_all, calm_at, calm_entry, entries_in, any_moved, settled_at, settled_calm, doubted_at, moved_calm, moved_none, moved_one, not_moved, are_moved}
 use Rattle.tx_engine.proofs.ExitsThen.{NamedBefore}
 use Rattle.tx_engine.proofs.NextNoted.{IsNextOf, next_kept, next_parts, names_before, next_stays, next_array, last_current, last_rises, last_array, next_versions, writes_rise, writes_stay, next_mentions}
 use Rattle.tx_engine.proofs.ImageMoves.{KeepsNoted}
-use Rattle.tx_engine.proofs.NextSet.{position_first}
 use Rattle.tx_engine.proofs.TableLaws.{IsStayLaw}
 use Rattle.tx_engine.proofs.Tools.{Settles, NotesWrites}
 
@@ -113,14 +113,14 @@ is_only_writing : (o : OpenTable) (place : ℕ) (rec : Rec) → AllPairs (λ a b
     ((k : ℕ) → k < length o.all → (opening_at o k).entry.done < length (opening_at o k).naming.names) →
     place < length o.all → name_of rec ≡ name_at (opening_at o place).naming (opening_at o place).entry.done → position (is_writing rec.page) o.all ≡ Some place
 is_only_writing o place rec apart done within name =
-    position_first (is_writing rec.page) o.all place no_opening within
-    (eq-eqb (name_at (opening_at o place).naming (opening_at o place).entry.done).page rec.page (ap (λ (a : Link). a.page) (sym name)))
+    position-at (is_writing rec.page) o.all no_opening place within
     (λ k less.
     let inside : k < length o.all = omega arith in
     let share = apart k place no_opening less within in
     ne_eqb (name_at (opening_at o k).naming (opening_at o k).entry.done).page rec.page (λ same.
     share (opening_at o k).entry.done no_name (done k inside) (opening_at o place).entry.done no_name (done place within)
     (same ∙ ap (λ (a : Link). a.page) name)))
+    (eq-eqb (name_at (opening_at o place).naming (opening_at o place).entry.done).page rec.page (ap (λ (a : Link). a.page) (sym name)))
 
 module _ (s : FlashState) (n : Noted) (t : BlockTable) (o : OpenTable) (settles : Settles n.config.protocol) (notes : NotesWrites n.config.protocol) where
   own_found : (at : Slot) (rec : Rec) (w : Option ℕ) (bytes spare : List ℕ) → IsKept s n t (unsure.Own at rec) o → w ≡ position (is_writing rec.page) o.all →
@@ -265,7 +265,7 @@ module _ (s : FlashState) (n : Noted) (t t' : BlockTable) (u : Unsure) (o : Open
     config = refl;
     versions = next_versions n.config.protocol notes n at rec s.image s.image its h own_stay;
     mentions = next_mentions n.config.protocol notes n at rec s.image s.image its h o.all i within refl;
-    names = names_before o.all (slice_set o.all i (with_next its)) (map_set_same (λ (x : Opening). x.naming.names) o.all i (with_next its) no_opening within (next_parts its).names);
+    names = names_before o.all (slice_set o.all i (with_next its)) (map-set_same (λ (x : Opening). x.naming.names) o.all i (with_next its) no_opening (next_parts its).names);
   }
 
 -- Nothing that is known of pages changed
@@ -325,7 +325,7 @@ module _ (s : FlashState) (n m : Noted) (t t' : BlockTable) (u : Unsure) (o : Op
         | inr other ↦ subst (λ (x : Opening). IsCalm x.entry) (sym (get_or-set_other o.all i j plain no_opening other)) (calm j (subst (λ len. j < len) (length-set o.all i plain) inside) other)
       ])))
       (settled_at false o.all i plain within calm (ap (λ q. record its.entry { mark = settled_mark false q }) (sym (doubt_is its.entry.mark is))))
-      (map_set_same (λ (x : Opening). x.naming.names) o.all i plain no_opening within refl)
+      (map-set_same (λ (x : Opening). x.naming.names) o.all i plain no_opening refl)
 
   pub calm_settled : ((j : ℕ) → j < length o.all → IsCalm (get_or o.all j no_opening).entry) → IsSettledAs s n m t' o o
   calm_settled calm =
@@ -351,13 +351,3 @@ doubted_beside image n o unsure.Nothing doubt i within is = absurd (both_ways (i
 doubted_beside image n o (unsure.Copy from to) doubt i within is = absurd (both_ways (is_doubted (opening_at o i).entry.mark) (calm_at o.all doubt i within) is)
 doubted_beside image n o unsure.SpareErase doubt i within is = absurd (both_ways (is_doubted (opening_at o i).entry.mark) (calm_at o.all doubt i within) is)
 doubted_beside image n o (unsure.VictimErase block) doubt i within is = absurd (both_ways (is_doubted (opening_at o i).entry.mark) (calm_at o.all doubt i within) is)
-
--- a test that none passes
-pub position_none : {X : Type 0} (p : X → Bool) (xs : List X) (d : X) → position p xs ≡ None → (k : ℕ) → k < length xs → p (get_or xs k d) ≡ false
-position_none p xs d none k inside =
-    elim (cases_lt (position_or_len p xs) (length xs)) [
-      | inl less ↦ (
-          let some = cond-true (nat_lt (position_or_len p xs) (length xs)) (Some (position_or_len p xs)) None (lt-ltb (position_or_len p xs) (length xs) less) in
-          let both = sym some ∙ none in cc)
-      | inr past ↦ fails_before_first p xs k d (omega arith)
-    ]

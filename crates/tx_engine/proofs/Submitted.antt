@@ -8,6 +8,10 @@ use Rattle.std.proofs.lemmas.List.Elements.{All-push, All-contains, Contains-get
 use Rattle.std.proofs.lemmas.List.Quantifiers.{all_pairs_push, Any-push}
 use Rattle.std.proofs.lemmas.Option.{slice_get-get_or}
 use Rattle.std.proofs.lemmas.Slice.Zip.{AllZip-long}
+use Rattle.list_facts.proofs.Quantifiers.{any_before, any_push_cases}
+use Rattle.list_facts.proofs.Lists.{got_before, got_push}
+use Rattle.list_facts.proofs.Pairs.{pairs_cons, pairs_head, pairs_tail, zip_weaker, zip_push, zip_at}
+use Rattle.list_facts.proofs.Membership.{IsIn, all_from, all_at, in_from, contains_from, in_map, map_in}
 use Rattle.tx_types.specs.Batch.{PageWrite}
 use Rattle.tx_types.specs.declared.config.Protocol.{Protocol}
 use Rattle.tx_types.specs.declared.record.Link.{Link}
@@ -16,7 +20,7 @@ use Rattle.flash_model.specs.Flash.{FlashState, Contents}
 use Rattle.record_list.specs.declared.found.Found.{Found}
 use Rattle.record_list.specs.Records.{mention, mentioned_at, version_of, is_present}
 use Rattle.record_list.specs.Transaction.{IsTransaction, ShareNoPage}
-use Rattle.record_list.proofs.Names.{IsIn, all_from, all_at, in_from, contains_from, found_named, greatest_bound, pairs_cons, pairs_head, pairs_tail}
+use Rattle.record_list.proofs.Names.{found_named, greatest_bound}
 use Rattle.record_list.proofs.Asking.{begins}
 use Rattle.version_index.specs.Notes.{found_in}
 use Rattle.version_index.specs.Noted.{Noted, IsNextRecord, current_of, mention_of, pinned_names}
@@ -32,8 +36,6 @@ use Rattle.tx_engine.specs.Standing.{Naming, Stands, DoubtsAs, IsOpenAs, IsNamed
 use Rattle.tx_engine.specs.Stored.{Stored, IsStored}
 use Rattle.tx_engine.specs.Tables.{IsStanding, standing_in}
 use Rattle.tx_engine.specs.declared.device.Device.TheInside.{Inside}
-use Rattle.tx_engine.proofs.Pushed.{got_before, got_push, any_before, any_push_cases, zip_weaker, zip_push, in_map, map_in}
-use Rattle.tx_engine.proofs.OpenOnes.{zip_at}
 use Rattle.tx_engine.proofs.Accepting.{IsAccepted}
 use Rattle.tx_engine.proofs.PinnedNames.{pinned_then}
 

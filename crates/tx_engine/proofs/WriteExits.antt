@@ -4,6 +4,8 @@ use Rattle.std.specs.Prelude.{slice_set, slice_index, if◌then◌else◌}
 use Rattle.std.proofs.lemmas.Bool.{cases_eq, cond-true, cond-false}
 use Rattle.std.proofs.lemmas.List.{length-set, get_or-set_same, get_or-set_other}
 use Rattle.std.proofs.lemmas.List.Elements.{All-from_get_or, All-nil}
+use Rattle.std.proofs.Math.Seq.{map-set_same}
+use Rattle.list_facts.proofs.Lists.{slice_get_map, slice_get_at}
 use Rattle.tx_types.specs.Batch.{PageWrite}
 use Rattle.tx_types.specs.Config.{slots_of}
 use Rattle.tx_types.specs.declared.config.Protocol.{Protocol}
@@ -32,10 +34,9 @@ use Rattle.tx_engine.specs.Stored.{Stored, IsStored, WritesStored, WriteBreaks}
 use Rattle.tx_engine.specs.Tables.{standing_in}
 use Rattle.tx_engine.proofs.ExitsThen.{NamedBefore, before_itself}
 use Rattle.tx_engine.proofs.ImageMoves.{KeepsNoted, image_array, image_under, image_opening}
-use Rattle.tx_engine.proofs.Kept.{IsKept, IsOpening, HasSameParts, from_stands, to_stands, kept_with, map_set_same}
+use Rattle.tx_engine.proofs.Kept.{IsKept, IsOpening, HasSameParts, from_stands, to_stands, kept_with}
 use Rattle.tx_engine.proofs.NextNoted.{IsNextOf, next_kept, next_parts, names_before, next_array, last_array, next_stays, next_versions, writes_rise, writes_stay, next_mentions}
 use Rattle.tx_engine.proofs.NextRecord.{due_named, due_under}
-use Rattle.tx_engine.proofs.OpenList.{slice_get_map, slice_get_at}
 use Rattle.tx_engine.proofs.SettledLists.{CalmBeside, calm_at}
 use Rattle.tx_engine.proofs.Tools.{Settles, NotesWrites}
 
@@ -149,7 +150,7 @@ module _ {F : Type 0} (state : F → FlashState) (S S' : Stored F) (O : OpenTabl
           config = refl;
           versions = next_versions n.config.protocol notes n at.0 rec old.image new.image o is_next stay;
           mentions = next_mentions n.config.protocol notes n at.0 rec old.image new.image o is_next O.all i within refl;
-          names = names_before O.all (slice_set O.all i (with_next o)) (map_set_same (λ (x : Opening). x.naming.names) O.all i (with_next o) no_opening within (next_parts o).names);
+          names = names_before O.all (slice_set O.all i (with_next o)) (map-set_same (λ (x : Opening). x.naming.names) O.all i (with_next o) no_opening (next_parts o).names);
         };
         moves = moves;
         carries = carries;
@@ -281,7 +282,7 @@ module _ {F : Type 0} (state : F → FlashState) (S S' : Stored F) (O : OpenTabl
           mentions = λ page low. inl (ap (λ m. slice_index m.mentions page) w.noted);
           names = elim (cases_eq (o.entry.done + 1) (length o.entry.writes)) [
             | inl last ↦ subst (λ t. NamedBefore (namings_of O) (namings_of t)) (sym (opens_last last))
-                (names_before O.all (slice_set O.all i doubted) (map_set_same (λ (x : Opening). x.naming.names) O.all i doubted no_opening within refl))
+                (names_before O.all (slice_set O.all i doubted) (map-set_same (λ (x : Opening). x.naming.names) O.all i doubted no_opening refl))
             | inr more ↦ subst (λ t. NamedBefore (namings_of O) (namings_of t)) (sym (opens_more more)) (before_itself (namings_of O))
           ];
         };

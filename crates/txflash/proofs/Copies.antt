@@ -1,11 +1,10 @@
 -- A flash is made anew from how its slots read and from their bytes.
-use Rattle.std.proofs.Common.{◌≡◌, ℕ, zero, suc, ◌*◌, ◌<◌, List, [], ◌∷◌, ◌++◌, length, get_or, map, take, drop, refl, ap, ap₂, sym, ◌∙◌, arith, length-append, Result, Ok, Err}
+use Rattle.std.proofs.Common.{◌≡◌, ℕ, zero, suc, ◌*◌, ◌<◌, List, [], ◌∷◌, length, get_or, map, refl, ap, ap₂, sym, ◌∙◌, arith, length-append, Result, Ok, Err}
 use Rattle.std.specs.Prelude.{All, IfOk}
 use Rattle.std.specs.List.{flat_map}
-use Rattle.std.specs.Fork.{slice_chunk}
-use Rattle.std.proofs.Math.Seq.{take-append_seam, drop-append_seam}
 use Rattle.std.proofs.lemmas.List.{get_or-map, length-map, length-replicate, replicate-append-replicate}
 use Rattle.std.proofs.lemmas.List.Elements.{All-head, All-tail}
+use Rattle.list_facts.proofs.Chunks.{take_front, drop_front, first_chunk, later_chunk}
 use Rattle.flash_model.specs.Flash.{Contents, blank, damaged, complete, IsWhole}
 use Rattle.flash_model.specs.Calls.{seen_of}
 use Rattle.flash_model.specs.declared.flash.Seen.{Seen}
@@ -17,18 +16,11 @@ use Rattle.txflash.specs.Keeping.{KeptReply, reply_at, no_entry}
 use Rattle.txflash.specs.KeptEntries.{kept_by}
 use Rattle.txflash.specs.declared.kept.Entry.{Entry}
 use Rattle.mem_flash.specs.Slots.{AreFilled, IsFilled, cell_bytes, cell_of, contents_of, image_of}
-use Rattle.mem_flash.proofs.Chunks.{slice_chunk-suc}
 
 cell_length : (n : ℕ) (c : Contents) → IsWhole n c → length (cell_of n c) ≡ cell_bytes n
 cell_length n blank h = simp (length-append, length-replicate)
 cell_length n damaged h = simp (length-append, length-replicate)
 cell_length n (complete bytes spare) h = rw (length-append, h.0, h.1) refl
-
-take_front : (xs ys : List ℕ) (k : ℕ) → k ≡ length xs → take k (xs ++ ys) ≡ xs
-take_front xs ys k e = rw e (take-append_seam xs ys)
-
-drop_front : (xs ys : List ℕ) (k : ℕ) → k ≡ length xs → drop k (xs ++ ys) ≡ ys
-drop_front xs ys k e = rw e (drop-append_seam xs ys)
 
 contents_same : (n : ℕ) (c : Contents) → IsWhole n c → contents_of n (seen_of c) (cell_of n c) ≡ c
 contents_same n blank h = refl
@@ -50,12 +42,6 @@ is_filled : (n : ℕ) (c : Contents) → IsFilled n (seen_of c) (cell_of n c)
 is_filled n blank = replicate-append-replicate n 64 255
 is_filled n damaged = replicate-append-replicate n 64 0
 is_filled n (complete bytes spare) = tt
-
-first_chunk : (xs ys : List ℕ) (size : ℕ) → size ≡ length xs → slice_chunk (xs ++ ys) size zero ≡ xs
-first_chunk xs ys size e = let none : zero * size ≡ 0 = omega arith in rw none (take_front xs ys size e)
-
-later_chunk : (xs ys : List ℕ) (size k : ℕ) → size ≡ length xs → slice_chunk (xs ++ ys) size (suc k) ≡ slice_chunk ys size k
-later_chunk xs ys size k e = slice_chunk-suc (xs ++ ys) size k ∙ ap (λ zs. slice_chunk zs size k) (drop_front xs ys size e)
 
 -- blank and damaged slots have the bytes that they need
 pub are_filled : (n : ℕ) (image : List Contents) → All (IsWhole n) image →

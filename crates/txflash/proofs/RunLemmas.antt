@@ -1,5 +1,6 @@
 -- What serving gives, as a run from an image on.
 use Rattle.std.proofs.Common.{◌≡◌, ℕ, false, List, [], ◌++◌, length, take, None, Some, refl, sym, ap, ap₂, ◌∙◌, subst}
+use Rattle.list_facts.proofs.Lists.{take_whole}
 use Rattle.tx_types.specs.declared.config.Config.{Config}
 use Rattle.tx_types.specs.Config.{shape_of}
 use Rattle.tx_types.specs.declared.config.Protocol.{Protocol}
@@ -14,7 +15,7 @@ use Rattle.cut_replay.specs.FlashRun.{IsFlashRun, last_moment, opening_point, me
 use Rattle.cut_replay.specs.Served.{ServesRun}
 use Rattle.cut_replay.specs.Watching.{text_of_all}
 use Rattle.cut_replay.specs.Bounds.{AreFew}
-use Rattle.cut_replay.proofs.Runs.{run_lengths, take_whole}
+use Rattle.cut_replay.proofs.Runs.{run_lengths}
 use Rattle.txflash.specs.Runs.{IsRun, first_moment}
 
 -- a flash that was just loaded breaks only where it is armed

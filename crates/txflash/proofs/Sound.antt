@@ -1,8 +1,9 @@
 -- An image is sound, or breaks one law first, at one slot.
-use Rattle.std.proofs.Common.{◌≡◌, inl, inr, ℕ, zero, suc, ◌<◌, List, [], ◌∷◌, map, refl, sym, ap₂, subst, ◌∙◌, arith}
+use Rattle.std.proofs.Common.{◌≡◌, inl, inr, ℕ, zero, suc, ◌<◌, List, [], ◌∷◌, refl, sym, ap₂, subst, ◌∙◌, arith}
 use Rattle.std.specs.Prelude.{All, Any, replicate}
 use Rattle.std.proofs.lemmas.Bool.{cases_order}
 use Rattle.std.proofs.lemmas.List.Elements.{All-cons, All-head, All-nil, All-tail}
+use Rattle.list_facts.proofs.Quantifiers.{all_mapped, all_both}
 use Rattle.tx_types.specs.declared.config.Protocol.{Protocol}
 use Rattle.tx_types.specs.declared.config.Shape.{Shape}
 use Rattle.tx_types.specs.Config.{shape_of}
@@ -15,14 +16,6 @@ use Rattle.version_index.specs.Images.{IsFirstOfRecords, IsFirstUnread, IsLeastI
 use Rattle.txflash.specs.Runs.{blank_image, default_config}
 
 -- ---- the laws of a sound list, one by one
-
-all_mapped : {X Y : Type 0} (P : X → Type 0) (f : Y → X) (ys : List Y) → All P (map f ys) → All (λ y. P (f y)) ys
-all_mapped P f [] h = All-nil (λ y. P (f y))
-all_mapped P f (y ∷ ys) h =
-    All-cons (λ y. P (f y)) y ys (All-head P (f y) (map f ys) h) (all_mapped P f ys (All-tail P (f y) (map f ys) h))
-
-all_both : {X : Type 0} (P Q : X → Type 0) (xs : List X) → All P xs → All Q xs → All (λ x. P x × Q x) xs
-all_both P Q xs h k = λ i d within. (h i d within, k i d within)
 
 -- each record keeps each law, bytes included
 sound_keeps : (protocol : Protocol) (list : List Written) (logical : ℕ) (shape : Shape) → IsSoundWritten protocol list logical shape →

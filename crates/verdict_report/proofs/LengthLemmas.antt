@@ -3,7 +3,7 @@ use Rattle.std.proofs.Common.{ℕ, zero, suc, ◌*◌, ◌-◌, ◌^◌, ◌<◌
 use Rattle.std.specs.Prelude.{nat_lt}
 use Rattle.std.specs.List.{AllByRecursion}
 use Rattle.std.specs.Fmt.{decimal}
-use Rattle.std.proofs.lemmas.Fmt.{length-decimal-le}
+use Rattle.list_facts.proofs.Values.{digits_64, digits_32}
 use Rattle.tx_types.specs.declared.record.Link.{Link}
 use Rattle.record_list.specs.declared.found.Verdict.{Verdict}
 use Rattle.record_list.specs.declared.found.Verdict.TheVariants.{Committed, Uncommitted}
@@ -14,17 +14,11 @@ use Rattle.verdict_report.specs.Lines.{after_spaces, FitTypes, IsReason, max_rep
 use Rattle.verdict_report.specs.Report.{verdict_word, reason_words, link_word, more_words, most_links, walk_words, page_line}
 use Rattle.verdict_report.proofs.LineLemmas.{line_parts}
 
-digits64 : (n : ℕ) → n < 2 ^ 64 → length (decimal n) ≤ 20
-digits64 n h = length-decimal-le 20 n (omega arith) (omega arith) h
-
-digits32 : (n : ℕ) → n < 2 ^ 32 → length (decimal n) ≤ 10
-digits32 n h = length-decimal-le 10 n (omega arith) (omega arith) (omega arith)
-
 page_short : (page version : ℕ) → page < 2 ^ 32 → version < 2 ^ 64 →
     length (after_spaces (decimal page ∷ codes "newest" ∷ decimal version ∷ [])) ≤ 39
 page_short page version p v =
-    let first = digits32 page p in
-    let second = digits64 version v in
+    let first = digits_32 page p in
+    let second = digits_64 version v in
     simp length-append (omega arith)
 
 verdict_short : (verdict : Verdict) → length (after_spaces (verdict_word verdict ∷ [])) ≤ 12
@@ -35,11 +29,11 @@ reason_short : (reason : Why) → IsReason reason → length (after_spaces (reas
 reason_short Cycle h = omega arith
 reason_short Passed h = omega arith
 reason_short Absent h = omega arith
-reason_short (Straddled version) h = let digits = digits64 version h in simp length-append (omega arith)
+reason_short (Straddled version) h = let digits = digits_64 version h in simp length-append (omega arith)
 
 current_short : (current : ℕ) → current < 2 ^ 64 →
     length (after_spaces (codes "current" ∷ decimal current ∷ codes "walk" ∷ [])) ≤ 34
-current_short current h = let digits = digits64 current h in simp length-append (omega arith)
+current_short current h = let digits = digits_64 current h in simp length-append (omega arith)
 
 -- a link has at most 31 bytes, and a space before it
 links_short : (n : ℕ) (links : List Link) → AllByRecursion (λ link. (link.page < 2 ^ 32) × (link.version < 2 ^ 64)) links →
@@ -47,14 +41,14 @@ links_short : (n : ℕ) (links : List Link) → AllByRecursion (λ link. (link.p
 links_short zero links h = omega arith
 links_short (suc n) [] h = omega arith
 links_short (suc n) (link ∷ links) h =
-    let page = digits32 link.page h.0.0 in
-    let version = digits64 link.version h.0.1 in
+    let page = digits_32 link.page h.0.0 in
+    let version = digits_64 link.version h.0.1 in
     let rest = links_short n links h.1 in
     simp length-append (omega arith)
 
 others_short : (b : Bool) (n : ℕ) → n < 2 ^ 64 →
     length (after_spaces (cond b (codes "more" ∷ decimal n ∷ []) [])) ≤ 26
-others_short true n h = let digits = digits64 n h in simp length-append (omega arith)
+others_short true n h = let digits = digits_64 n h in simp length-append (omega arith)
 others_short false n h = omega arith
 
 more_short : (count : ℕ) → count < 2 ^ 64 → length (after_spaces (more_words count)) ≤ 26

@@ -5,6 +5,7 @@ use Rattle.std.proofs.lemmas.Bool.{false≢true, cases_Bool, cases_lt, cases_eq,
 use Rattle.std.proofs.lemmas.Grind.{take_at_read}
 use Rattle.std.proofs.lemmas.List.Folds.{list_any-append}
 use Rattle.std.proofs.lemmas.List.Recursion.{max_push}
+use Rattle.list_facts.proofs.Values.{or_second}
 use Rattle.tx_types.specs.declared.record.Link.{Link}
 use Rattle.tx_types.specs.declared.record.Rec.{Rec}
 use Rattle.record_list.specs.declared.found.Found.{Found}
@@ -14,17 +15,12 @@ use Rattle.record_list.proofs.Names.{newest_bound, has_own_name, named}
 use Rattle.verdict_report.specs.Report.{has_record}
 use Rattle.verdict_report.specs.Newest.{IsNewestRecord, KeepsNewest, kept_at, newer, version_in, link_in, back_in}
 
--- the second of two tests holds where the first does not
-in_rest : (a b : Bool) → a ≡ false → (a || b) ≡ true → b ≡ true
-in_rest true b e k = absurd (false≢true (sym e))
-in_rest false b e k = k
-
 -- the page of a present name has a record
 present_page : (xs : List Found) (u : Link) → is_present xs u ≡ true → has_record xs u.page ≡ true
 present_page [] u here = absurd (false≢true here)
 present_page (g ∷ gs) u here = elim (cases_Bool (has_name u g.rec)) [
   | inl e ↦ or_left (eqb g.rec.page u.page) _ (and_parts (eqb g.rec.page u.page) (eqb g.rec.version u.version) e).0
-  | inr e ↦ or_right (eqb g.rec.page u.page) _ (present_page gs u (in_rest (has_name u g.rec) (is_present gs u) e here))
+  | inr e ↦ or_right (eqb g.rec.page u.page) _ (present_page gs u (or_second (has_name u g.rec) (is_present gs u) e here))
 ]
 
 -- what a name leads to in a list with one record more at its end
@@ -76,7 +72,7 @@ old_name (g ∷ gs) f u here = elim (cases_Bool (has_name u g.rec)) [
     link_is = cond-true (has_name u g.rec) g.rec.next _ e ∙ sym (cond-true (has_name u g.rec) g.rec.next _ e);
     back_is = cond-true (has_name u g.rec) g.rec.back _ e ∙ sym (cond-true (has_name u g.rec) g.rec.back _ e);
   }
-  | inr e ↦ (let rest = old_name gs f u (in_rest (has_name u g.rec) (is_present gs u) e here) in
+  | inr e ↦ (let rest = old_name gs f u (or_second (has_name u g.rec) (is_present gs u) e here) in
       record {
         present_is = or_right (has_name u g.rec) _ rest.present_is;
         link_is = ap (λ n. cond (has_name u g.rec) g.rec.next n) rest.link_is;

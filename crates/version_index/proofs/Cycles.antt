@@ -1,5 +1,6 @@
 -- The names of a complete cycle are current.
 use Rattle.std.proofs.Common.{◌≡◌, ℕ, ◌<◌, true, List, length, zip, All, refl, sym, ap, ◌∙◌, subst, inr, arith}
+use Rattle.list_facts.proofs.Membership.{IsIn, all_from, all_at}
 use Rattle.tx_types.specs.declared.record.Link.{Link}
 use Rattle.tx_types.specs.declared.record.Rec.{Rec}
 use Rattle.tx_types.specs.declared.config.Protocol.{Protocol}
@@ -8,7 +9,7 @@ use Rattle.record_list.specs.Records.{newest, is_present}
 use Rattle.record_list.specs.Verdict.{newest_name, link_of}
 use Rattle.record_list.specs.Current.{cur}
 use Rattle.record_list.specs.Transaction.{rounded}
-use Rattle.record_list.proofs.Names.{IsIn, all_from, all_at, same_name}
+use Rattle.record_list.proofs.Names.{same_name}
 use Rattle.record_list.proofs.Rounds.{Follows, follows_of, follows_in}
 use Rattle.record_list.proofs.Safe.{top_link, Goes, IsSafe, counts_from}
 use Rattle.record_list.proofs.Facts.{cur_committed}

@@ -4,12 +4,12 @@ use Rattle.std.specs.List.{cons_option}
 use Rattle.std.proofs.lemmas.Option.{none-some, same_Some}
 use Rattle.std.proofs.lemmas.List.{length-take-le, take_more, get_or_past}
 use Rattle.std.proofs.lemmas.Bool.{false≢true, cases_lt}
+use Rattle.list_facts.proofs.Membership.{IsIn}
 use Rattle.tx_types.specs.declared.record.Rec.{Rec}
 use Rattle.tx_types.specs.declared.config.Shape.{Shape}
 use Rattle.record_list.specs.declared.found.Found.{Found}
 use Rattle.record_list.specs.Changes.{IsInserted, left}
 use Rattle.record_list.specs.Written.{is_outside}
-use Rattle.record_list.proofs.Names.{IsIn}
 use Rattle.version_index.specs.declared.note.Note.{Note}
 use Rattle.version_index.specs.declared.note.Note.TheVariants.{Blank, Damaged, Holds}
 use Rattle.version_index.specs.Notes.{note_at, rec_of, found_at, found_in, with_block_noted}

@@ -6,8 +6,8 @@ use Rattle.std.proofs.lemmas.Bool.{false≢true}
 use Rattle.std.proofs.lemmas.Option.{none-some}
 use Rattle.std.proofs.lemmas.List.{length-take-le, set_split, set-get_or}
 use Rattle.std.proofs.lemmas.List.Kept.{AllPairs-cons}
+use Rattle.list_facts.proofs.Membership.{IsIn, all_from}
 use Rattle.record_list.specs.Changes.{IsInserted}
-use Rattle.record_list.proofs.Names.{IsIn, all_from}
 
 -- what the items give, the first with the number n
 abbrev pub given : {X Y : Type 0} → (ℕ × X → Option Y) → ℕ → List X → List Y

@@ -3,16 +3,14 @@ use Rattle.std.proofs.Common.{◌≡◌, ℕ, Bool, true, false, ◌&&◌, List,
 use Rattle.std.specs.Option.{option_map, option_or}
 use Rattle.std.proofs.lemmas.Bool.{false≢true, cases_Bool, cond-true, cond-false, and_parts, or_cases}
 use Rattle.std.proofs.lemmas.Option.{none-some, same_Some}
+use Rattle.list_facts.proofs.Membership.{IsIn}
+use Rattle.list_facts.proofs.Options.{cases_Option, option_or_none}
 use Rattle.tx_types.specs.declared.record.Link.{Link}
 use Rattle.tx_types.specs.declared.config.Shape.{Shape}
 use Rattle.record_list.specs.declared.found.Found.{Found}
 use Rattle.record_list.specs.Records.{has_name, is_present}
 use Rattle.record_list.specs.Written.{first_slot, home, is_outside_spare}
-use Rattle.record_list.proofs.Names.{IsIn, has_name_true, present_as}
-
-cases_Option : {X : Type 0} (o : Option X) → (o ≡ None) ⊎ ((x : X) × (o ≡ Some x))
-cases_Option None = inl refl
-cases_Option (Some x) = inr (x, refl)
+use Rattle.record_list.proofs.Names.{has_name_true, present_as}
 
 -- a record in a slot that passes a test
 pub record StandsAt (test : Found → Bool) (list : List Found) (at : ℕ) : Type 0 where
@@ -66,10 +64,6 @@ home_absent shape spare list name e = elim (cases_Option (home shape spare list 
       absurd (false≢true (sym e ∙ present_as list h.found name h.is_in (has_name_true name h.found.rec h.passes))))
 ]
 
-no_choice : (a b : Option ℕ) → option_or a b ≡ None → b ≡ None
-no_choice None b e = e
-no_choice (Some x) b e = absurd (none-some x (sym e))
-
 -- and a present one has one
 pub home_present : (shape : Shape) (spare : Option ℕ) (list : List Found) (name : Link) → is_present list name ≡ true → home shape spare list name ≡ None → ⊥
-home_present shape spare list name e none = present_first list name e (no_choice _ _ none)
+home_present shape spare list name e none = present_first list name e (option_or_none _ _ none).1

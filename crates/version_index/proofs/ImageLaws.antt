@@ -3,6 +3,7 @@ use Rattle.std.proofs.Common.{◌≡◌, ℕ, ◌+◌, ◌*◌, ◌^◌, ◌++�
 use Rattle.std.specs.Prelude.{slice_index_or, IsSomeAnd}
 use Rattle.std.proofs.lemmas.List.FromFn.{get_or-map-range_with_len}
 use Rattle.std.proofs.lemmas.List.Elements.{All-append, All-take, All-drop, All-replicate, All-set}
+use Rattle.list_facts.proofs.Membership.{IsIn, all_at, all_from, contains_from, from_filter}
 use Rattle.tx_types.specs.declared.record.Link.{Link}
 use Rattle.tx_types.specs.declared.record.Rec.{Rec}
 use Rattle.flash_model.specs.Flash.{IsImage}
@@ -18,7 +19,7 @@ use Rattle.record_list.specs.Written.{found_of, page_at, bytes_at, BytesAgree, i
 use Rattle.record_list.specs.Current.{cur}
 use Rattle.tx_types.specs.Config.{blocks_of}
 use Rattle.record_list.specs.WrittenChanges.{WrittenPartialWriteLaw, WrittenCompletingWriteLaw, WrittenCopyLaw, WrittenLossLaw, left_outside}
-use Rattle.record_list.proofs.Names.{IsIn, all_at, all_from, contains_from, from_filter, found_named, present_as}
+use Rattle.record_list.proofs.Names.{found_named, present_as}
 use Rattle.record_list.proofs.OneMore.{new_in, inserted_in}
 use Rattle.record_list.proofs.WrittenLists.{in_records, inserted_records, one_text}
 use Rattle.record_list.proofs.Arrays.{array_grows, array_left, bytes_grow, bytes_new, bytes_old, page_committed, page_elsewhere}

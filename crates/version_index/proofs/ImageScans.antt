@@ -1,9 +1,10 @@
 -- The records of an image as its slots change.
-use Rattle.std.proofs.Common.{◌≡◌, ℕ, ◌+◌, ◌*◌, ◌<◌, ◌≤◌, List, [], ◌∷◌, map, length, get_or, set, AllPairs, Option, Some, None, refl, sym, ap, ◌∙◌, subst, subst₂, arith}
+use Rattle.std.proofs.Common.{◌≡◌, ℕ, ◌+◌, ◌*◌, ◌<◌, ◌≤◌, List, length, get_or, set, AllPairs, Option, Some, None, refl, sym, ap, ◌∙◌, subst, arith}
 use Rattle.std.specs.Option.{option_map}
 use Rattle.std.proofs.lemmas.Option.{none-some, same_Some}
 use Rattle.std.proofs.lemmas.List.Elements.{All-map}
-use Rattle.std.proofs.lemmas.List.{length-map, get_or-map}
+use Rattle.list_facts.proofs.Membership.{IsIn, all_from}
+use Rattle.list_facts.proofs.Pairs.{pairs_to}
 use Rattle.tx_types.specs.Config.{blocks_of}
 use Rattle.tx_types.specs.declared.config.Protocol.{Protocol}
 use Rattle.tx_types.specs.declared.config.Shape.{Shape}
@@ -18,7 +19,6 @@ use Rattle.record_list.specs.Records.{IsScanned}
 use Rattle.record_list.specs.Changes.{IsInserted}
 use Rattle.record_list.specs.Written.{Written, found_of}
 use Rattle.record_list.specs.WrittenChanges.{left_outside}
-use Rattle.record_list.proofs.Names.{IsIn, all_from}
 use Rattle.version_index.specs.Images.{written_at, written_in, records_in}
 use Rattle.version_index.proofs.Given.{given, given-inserted, given-unchanged, given_from, given_in, given_ascending}
 
@@ -82,13 +82,6 @@ is_read p image w i =
       reads = subst (λ k. Reads p k (get_or image w.slot.0 blank) w) zero_at (subst (λ k. Reads p (0 + h.at) (get_or image k blank) w) back r);
     }
 
--- an order of what is mapped is one of the images
-mapped : {X Y : Type 0} (f : X → Y) (R : Y → Y → Type 0) (xs : List X) → AllPairs (λ x y. R (f x) (f y)) xs → AllPairs R (map f xs)
-mapped f R [] h i j d lt within = absurd (omega arith)
-mapped f R (x ∷ xs) h i j d lt within =
-    let long = length-map (x ∷ xs) f in
-    subst₂ R (sym (get_or-map f (x ∷ xs) i x d (omega arith))) (sym (get_or-map f (x ∷ xs) j x d (omega arith))) (h i j x lt (omega arith))
-
 -- the records of an image are scanned
 ascending_written : (p : Protocol) (image : List Contents) → AllPairs (λ v w. v.slot.0 < w.slot.0) (written_in p image)
 ascending_written p image =
@@ -103,7 +96,7 @@ versions_written p image w i =
 
 pub records_scanned : (p : Protocol) (image : List Contents) → IsScanned (records_in p image)
 records_scanned p image = record {
-  ascending = mapped found_of (λ f g. f.slot.0 < g.slot.0) (written_in p image) (ascending_written p image);
+  ascending = pairs_to found_of (λ f g. f.slot.0 < g.slot.0) (written_in p image) (ascending_written p image);
   versions = All-map (λ f. (1 ≤ f.rec.version) × (1 ≤ f.rec.next.version)) found_of (written_in p image)
       (all_from (λ w. (1 ≤ w.rec.version) × (1 ≤ w.rec.next.version)) (written_in p image) (versions_written p image));
 }

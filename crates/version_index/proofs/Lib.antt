@@ -11,7 +11,6 @@ pub mod NotedFacts
 pub mod Mentions
 pub mod NotedChanges
 pub mod Cycles
-pub mod Counts
 pub mod Mirror
 pub mod ImageScans
 pub mod ImageLaws

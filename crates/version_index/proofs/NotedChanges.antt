@@ -4,6 +4,7 @@ use Rattle.std.proofs.lemmas.Bool.{false≢true, cases_Bool}
 use Rattle.std.proofs.lemmas.List.{length-set, length-map, length-replicate}
 use Rattle.std.proofs.lemmas.List.FromFn.{length-map-range_with_len, get_or-map-range_with_len}
 use Rattle.std.proofs.lemmas.List.Elements.{All-filter}
+use Rattle.list_facts.proofs.Membership.{IsIn, all_from, all_at, contains_from, in_from, from_filter}
 use Rattle.tx_types.specs.declared.record.Link.{Link}
 use Rattle.tx_types.specs.declared.record.Rec.{Rec}
 use Rattle.tx_types.specs.declared.config.Config.{Config}
@@ -17,7 +18,7 @@ use Rattle.record_list.specs.SoundList.{IsSoundList}
 use Rattle.record_list.specs.Transaction.{rounded, back_version}
 use Rattle.record_list.specs.Changes.{IsWrite, PartialWriteLaw, CompletingWriteLaw, CopyLaw, LossLaw, left}
 use Rattle.record_list.specs.Written.{is_outside, IsRemovable}
-use Rattle.record_list.proofs.Names.{IsIn, all_from, all_at, contains_from, in_from, greatest_bound, greatest_least, from_filter}
+use Rattle.record_list.proofs.Names.{greatest_bound, greatest_least}
 use Rattle.record_list.proofs.OneMore.{inserted_in, inserted_all}
 use Rattle.record_list.proofs.Rounds.{Follows, follows_of, follows_in}
 use Rattle.version_index.specs.declared.note.Note.{Note}

@@ -2,22 +2,18 @@
 use Rattle.std.proofs.Common.{◌≡◌, ◌≢◌, ℕ, ◌<◌, Bool, false, ◌&&◌, eqb, List, length, get_or, AllPairs, Option, sym, ap, ◌∙◌, inl, inr, arith, eqb-true, eq-eqb}
 use Rattle.std.specs.List.{list_any}
 use Rattle.std.proofs.lemmas.Bool.{false≢true, cases_Bool, and_parts, and_from}
-use Rattle.std.proofs.lemmas.List.{get_or_default}
+use Rattle.list_facts.proofs.Tests.{any_of, any_from}
+use Rattle.list_facts.proofs.Pairs.{in_order}
+use Rattle.list_facts.proofs.Membership.{in_at, IsIn}
 use Rattle.tx_types.specs.declared.record.Link.{Link}
 use Rattle.tx_types.specs.declared.config.Protocol.{Protocol}
 use Rattle.tx_types.specs.declared.config.Shape.{Shape}
 use Rattle.record_list.specs.declared.found.Found.{Found}
 use Rattle.record_list.specs.Records.{nothing, record_at, name_of}
 use Rattle.record_list.specs.Written.{home, is_slot, is_wanted, is_needed}
-use Rattle.record_list.proofs.Names.{IsIn, in_order, in_from}
-use Rattle.record_list.proofs.Held.{any_of, any_from}
 
 abbrev pub Ascending : List Found → Type 0
 Ascending list = AllPairs (λ f g. f.slot.0 < g.slot.0) list
-
--- the record at an index is in the list
-pub in_at : {X : Type 0} (xs : List X) (i : ℕ) (d : X) → i < length xs → IsIn xs (get_or xs i d)
-in_at xs i d within = in_from xs (get_or xs i d) (i, within, get_or_default xs i (get_or xs i d) d within)
 
 -- two records of one slot are one
 pub one_in_slot : (list : List Found) (f g : Found) → Ascending list → IsIn list f → IsIn list g → f.slot.0 ≡ g.slot.0 → f ≡ g

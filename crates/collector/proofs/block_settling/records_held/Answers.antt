@@ -1,10 +1,10 @@
 use Rattle.std.proofs.Common.{◌≡◌, ℕ, ◌+◌, ◌-◌, ◌*◌, ◌<◌, count_by, sym, ap, ◌∙◌, subst, arith}
 use Rattle.std.specs.List.{range_with_len}
+use Rattle.list_facts.proofs.Counts.{count_taken, count_passed}
 use Rattle.flash_model.proofs.ImageLemmas.{block_within}
 use Rattle.tx_types.specs.Config.{shape_of}
 use Rattle.tx_types.specs.declared.config.Config.{Config}
 use Rattle.version_index.specs.Notes.{note_at}
-use Rattle.version_index.proofs.Counts.{count_taken, count_passed}
 use Rattle.flash_model.specs.declared.flash.Seen.TheVariants as seen
 use Rattle.collector.specs.Settling.{holds_record, reads_alike}
 use Rattle.collector.proofs.BlockReadings.{complete_holds}

@@ -1,11 +1,12 @@
 use Rattle.std.proofs.Common.{◌≡◌, ◌+◌, ◌*◌, ◌<◌, ◌≤◌, true, sym, ap, ◌∙◌, subst, inl, inr, arith}
 use Rattle.std.proofs.lemmas.Bool.{cases_lt}
+use Rattle.list_facts.proofs.Ranges.{range_all, range_fails}
 use Rattle.flash_model.proofs.ImageLemmas.{block_within}
 use Rattle.tx_types.specs.Config.{shape_of}
 use Rattle.tx_types.specs.declared.config.Config.{Config}
 use Rattle.version_index.specs.Notes.{note_at}
 use Rattle.version_index.specs.Noted.{is_blank}
-use Rattle.collector.proofs.Ranges.{range_all, range_fails, blank_seen}
+use Rattle.collector.proofs.Ranges.{blank_seen}
 use Rattle.collector.specs.Collecting.{reads_blank}
 use Rattle.collector.proofs.cleaning.is_noted_blank.Goals as goal
 

@@ -1,6 +1,6 @@
 use Rattle.std.proofs.Common.{◌∙◌}
+use Rattle.list_facts.proofs.Lists.{next}
 use Rattle.host_protocol.specs.Lines.{words_of}
-use Rattle.host_protocol.proofs.FileLemmas.{next}
 use Rattle.drive_gen.proofs.words.word_at.Goals as goal
 
 pub loop-passed-preserved : goal.loop-passed-preserved

@@ -1,7 +1,7 @@
 use Rattle.std.proofs.Common.{append_assoc, append-nil, refl, sym}
+use Rattle.list_facts.proofs.Ranges.{flat_more}
 use Rattle.drive_gen.specs.Work.{numbered}
 use Rattle.drive_gen.proofs.DrawLemmas.{behind_more, behind_none}
-use Rattle.drive_gen.proofs.WorkLemmas.{flat_more}
 use Rattle.drive_gen.proofs.work.add_transactions.Goals as goal
 
 pub loop-i-init : goal.loop-i-init

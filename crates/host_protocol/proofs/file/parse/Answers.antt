@@ -5,9 +5,10 @@ use Rattle.host_protocol.specs.Files.{IsFile, entries_in}
 use Rattle.host_protocol.specs.Lines.{lines_of}
 use Rattle.host_protocol.specs.Reading.{EndsAt}
 use Rattle.std.specs.Prelude.{filter}
+use Rattle.list_facts.proofs.Lists.{next, take_to_end}
 use Rattle.host_protocol.specs.Files.{is_command_line}
 use Rattle.host_protocol.proofs.CommandLemmas.{file_suits}
-use Rattle.host_protocol.proofs.FileLemmas.{next, add_line, first_bad, file_bad, file_same, only_memory, only_first, take_all, ends}
+use Rattle.host_protocol.proofs.FileLemmas.{add_line, first_bad, file_bad, file_same, only_memory, only_first, ends}
 use Rattle.host_protocol.proofs.file.parse.Goals as goal
 
 -- where a line was bad, the reading ends at it
@@ -47,7 +48,7 @@ loop-line-preserved c =
 
 -- at the end of the bytes all lines are read
 whole : (c : goal.In_default) → IsFile c.args.page_bytes c.args.bytes.now c.loop-line.commands.items
-whole c = rw (take_all (lines_of c.args.bytes.now) c.loop-line.number (c.loop-line.invariant.lines ∙ c.in_default.ensures.none)) at c.loop-line.invariant.good
+whole c = rw (take_to_end (lines_of c.args.bytes.now) c.loop-line.number (c.loop-line.invariant.lines ∙ c.in_default.ensures.none)) at c.loop-line.invariant.good
 
 pub returns-clause-file : goal.returns-clause-file
 returns-clause-file c = whole c

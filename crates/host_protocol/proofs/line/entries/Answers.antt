@@ -1,9 +1,10 @@
 use Rattle.std.proofs.Common.{◌≡◌, sym, ◌∙◌, map}
 use Rattle.std.proofs.lemmas.Result.{err_from_is_err_and}
+use Rattle.list_facts.proofs.Lists.{none_among}
 use Rattle.host_protocol.specs.Commands.{page_write_of}
 use Rattle.host_protocol.specs.Lines.{words_of}
 use Rattle.host_protocol.specs.declared.error.LineError.TheVariants.{Bad}
-use Rattle.host_protocol.proofs.ReadingLemmas.{none_among, none_where_bad}
+use Rattle.host_protocol.proofs.ReadingLemmas.{none_where_bad}
 use Rattle.host_protocol.proofs.line.entries.Goals as goal
 
 pub returns-in_err-page-clause-bad : goal.returns-in_err-page-clause-bad

@@ -1,10 +1,10 @@
 use Rattle.std.proofs.Common.{ap, ◌∙◌}
 use Rattle.std.proofs.lemmas.Result.{err_from_is_err_and}
+use Rattle.list_facts.proofs.Bytes.{IsBytes}
 use Rattle.tx_types.specs.Config.{shape_of}
 use Rattle.tx_types.specs.declared.config.Shape.{Shape}
 use Rattle.mem_flash.specs.Memory.{MemoryState, fresh}
 use Rattle.image_file.specs.Rules.{config_in, image_in}
-use Rattle.image_file.proofs.HeaderLemmas.{AreBytes}
 use Rattle.image_file.proofs.SpellingLemmas.{read_spelled, config_in-spelling, image_in-spelling}
 use Rattle.image_file.proofs.RefusalLemmas.{refused_header, refused_slots, spelled_memory, nothing_broken, reading-read}
 use Rattle.image_file.proofs.image.read_image.Goals as goal
@@ -33,7 +33,7 @@ returns-in_err-flash-clause-error c =
 
 pub returns-clause-spelled : goal.returns-clause-spelled
 returns-clause-spelled c =
-    let fits : AreBytes c.args.bytes.now = record { at = λ i. (c.type_inv.bytes i).fits } in
+    let fits : IsBytes c.args.bytes.now = record { at = λ i. (c.type_inv.bytes i).fits } in
     let image_is = ap (λ (s : MemoryState). s.image) c.in_ok-flash.ensures.ok.1 in
     rw (c.in_ok-config.ensures.1, image_is)
     (read_spelled c.args.bytes.now fits (nothing_broken c.args.bytes.now c.in_ok-config.ensures.0 c.in_ok-flash.ensures.ok.0))

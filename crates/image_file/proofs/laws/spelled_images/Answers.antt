@@ -1,5 +1,6 @@
-use Rattle.image_file.proofs.SpellingLemmas.{reading-iff, AreBytes-all}
+use Rattle.list_facts.proofs.Bytes.{IsBytes-all}
+use Rattle.image_file.proofs.SpellingLemmas.{reading-iff}
 use Rattle.image_file.proofs.laws.spelled_images.Goals as goal
 
 pub returns : goal.returns
-returns c = λ bytes config image all. reading-iff bytes config image (AreBytes-all bytes all)
+returns c = λ bytes config image all. reading-iff bytes config image (IsBytes-all bytes all)

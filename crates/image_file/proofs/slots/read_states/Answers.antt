@@ -2,9 +2,9 @@ use Rattle.std.proofs.Common.{◌≡◌, get_or, None, ap, sym, ◌∙◌, arith
 use Rattle.std.proofs.lemmas.List.{take_all}
 use Rattle.std.specs.Prelude.{is_none}
 use Rattle.std.specs.Option.{option_map}
+use Rattle.list_facts.proofs.Positions.{position-at, position-none}
 use Rattle.image_file.specs.Rules.{seen_from, all_seen}
 use Rattle.image_file.specs.declared.error.ImageError.TheVariants as error
-use Rattle.image_file.proofs.Firsts.{position-at, position-none}
 use Rattle.image_file.proofs.slots.read_states.Goals as goal
 
 pub returns-in_default : goal.returns-in_default

@@ -1,8 +1,8 @@
 use Rattle.std.proofs.Common.{◌<◌, sym}
+use Rattle.list_facts.proofs.Tests.{find_stands}
+use Rattle.list_facts.proofs.Membership.{all_at}
 use Rattle.tx_types.specs.Config.{slots_of}
 use Rattle.record_list.specs.Records.{has_name, name_of}
-use Rattle.record_list.proofs.Names.{all_at}
-use Rattle.scan_recovery.proofs.Firsts.{find_stands}
 use Rattle.scan_recovery.proofs.twins.agrees.Goals as goal
 
 pub same_bytes-requires-clause-first : goal.same_bytes-requires-clause-first

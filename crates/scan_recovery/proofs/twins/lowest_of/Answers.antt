@@ -1,6 +1,6 @@
 use Rattle.std.proofs.Common.{sym, ◌∙◌}
+use Rattle.list_facts.proofs.Tests.{find-position, find-no_position}
 use Rattle.record_list.specs.Records.{has_name, name_of, nothing}
-use Rattle.scan_recovery.proofs.Firsts.{find-position, find-no_position}
 use Rattle.scan_recovery.proofs.twins.lowest_of.Goals as goal
 
 pub returns-in_err-at : goal.returns-in_err-at

@@ -1,5 +1,5 @@
 use Rattle.std.proofs.Common.{rules, ◌≢◌, sym}
-use Rattle.record_list.proofs.Names.{all_at}
+use Rattle.list_facts.proofs.Membership.{all_at}
 use Rattle.version_index.proofs.Places.{needed_at, needed_none}
 use Rattle.version_index.proofs.needs.is_needed.Goals as goal
 

@@ -1,8 +1,10 @@
-use Rattle.std.proofs.Common.{◌≡◌, ◌+◌, ◌*◌, Bool, true, false, not, ap, ◌∙◌, refl, sym, arith}
+use Rattle.std.proofs.Common.{◌+◌, ◌*◌, ap, ◌∙◌, sym, arith}
+use Rattle.std.proofs.lemmas.Bool.{not-true}
+use Rattle.list_facts.proofs.Ranges.{in_range}
 use Rattle.tx_types.specs.Config.{shape_of}
 use Rattle.tx_types.specs.declared.config.Config.{Config}
 use Rattle.flash_model.proofs.ImageLemmas.{block_within}
-use Rattle.collector.proofs.GoingCounts.{has_unneeded, in_range}
+use Rattle.collector.proofs.GoingCounts.{has_unneeded}
 use Rattle.collector.proofs.tests.steps.has_unneeded.Goals as goal
 
 pub needed-requires : goal.needed-requires
@@ -12,10 +14,6 @@ needed-requires g c =
     let end = block_within (shape_of c.args.index.now.config) c.args.block.0 c.requires in
     omega (arith, same, per, end, c.if-at-pages.true)
 
-true_not : (b : Bool) → not b ≡ true → b ≡ false
-true_not true h = cc
-true_not false h = refl
-
 pub returns-then-at-pages : goal.returns-then-at-pages
 returns-then-at-pages g c off =
     let first = c.args.block.0 * c.args.index.now.config.pages_per_block in
@@ -24,4 +22,4 @@ returns-then-at-pages g c off =
     let per = ap (λ (k : Config). k.pages_per_block) c.config-pages.ensures.config in
     has_unneeded c.args.index.now c.args.block.0 slot
     (in_range first c.args.index.now.config.pages_per_block slot (omega (arith, same)) (omega (arith, same, per, c.if-at-pages.true)))
-    (sym c.needed.ensures ∙ true_not c.needed.result off)
+    (sym c.needed.ensures ∙ not-true c.needed.result off)

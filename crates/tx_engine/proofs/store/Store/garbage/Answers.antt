@@ -1,6 +1,6 @@
 use Rattle.std.proofs.Common.{arith}
+use Rattle.list_facts.proofs.Ranges.{sum_next}
 use Rattle.collector.specs.Victim.{garbage_in}
-use Rattle.tx_engine.proofs.GarbageSums.{sum_next}
 use Rattle.tx_engine.proofs.store.Store.garbage.Goals as goal
 
 pub loop-block-preserved : goal.loop-block-preserved

@@ -1,6 +1,6 @@
 use Rattle.std.proofs.Common.{arith, sym, ◌∙◌}
+use Rattle.list_facts.proofs.Counts.{count_taken, count_passed}
 use Rattle.version_index.specs.Noted.{is_garbage_at, shut_or_part}
-use Rattle.version_index.proofs.Counts.{count_taken, count_passed}
 use Rattle.version_index.proofs.index.Index.count_garbage.Goals as goal
 use Rattle.version_index.proofs.index.Index.count_garbage.Goals.{then-is_garbage, else-is_garbage}
 

@@ -1,0 +1,12 @@
+pub mod Membership
+pub mod Pairs
+pub mod Quantifiers
+pub mod Tests
+pub mod Positions
+pub mod Ranges
+pub mod Counts
+pub mod Chunks
+pub mod Lists
+pub mod Options
+pub mod Values
+pub mod Bytes
