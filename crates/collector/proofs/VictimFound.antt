@@ -1,5 +1,5 @@
 -- Finding out whether a collected block was erased.
-use Rattle.std.proofs.Common.{◌≡◌, ◌≢◌, ℕ, ◌*◌, ◌<◌, Bool, true, false, refl, sym, ap, ◌∙◌, subst, None, arith}
+use Rattle.std.proofs.Common.{◌≤◌, ◌≡◌, ◌≢◌, ℕ, ◌*◌, ◌<◌, Bool, true, false, refl, sym, ap, ◌∙◌, subst, None, arith}
 use Rattle.std.proofs.lemmas.Bool.{not-true}
 use Rattle.list_facts.proofs.Counts.{filled_count}
 use Rattle.tx_types.specs.Config.{shape_of, slots_of, blocks_of}
