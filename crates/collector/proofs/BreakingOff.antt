@@ -1,9 +1,10 @@
 -- Where a collection breaks off: from what its calls leave to what is said of the whole.
-use Rattle.std.proofs.Common.{◌≡◌, ◌≢◌, ℕ, ◌+◌, ◌-◌, ◌*◌, ◌<◌, ◌≤◌, true, List, [], ◌∷◌, ◌++◌, OnErr, Ok, Err, Result, length, filter, refl, sym, ap, ◌∙◌, subst, inl, inr, arith}
+use Rattle.std.proofs.Common.{◌≡◌, ◌≢◌, ℕ, ◌+◌, ◌-◌, ◌*◌, ◌<◌, ◌≤◌, true, List, [], ◌∷◌, ◌++◌, OnErr, Ok, Err, Result, length, filter, refl, sym, ap, ◌∙◌, subst, inl, inr, arith, Contains}
 use Rattle.std.specs.List.{range_with_len}
 use Rattle.std.proofs.lemmas.List.{append-nil}
+use Rattle.std.proofs.lemmas.List.Elements.{Contains-append_left, Contains-append_right}
+use Rattle.list_facts.proofs.Membership.{Contains-first}
 use Rattle.list_facts.proofs.Ranges.{filter_parts}
-use Rattle.list_facts.proofs.Membership.{in_front, in_middle, IsIn}
 use Rattle.tx_types.specs.Config.{shape_of, blocks_of}
 use Rattle.tx_types.specs.declared.config.Block.{Block}
 use Rattle.tx_types.specs.declared.config.Protocol.{Protocol}
@@ -87,7 +88,7 @@ module _ (p : Protocol) (loss : LossLaw p) (s0 : FlashState) (n0 : Noted) (t : B
       record {
         order = order;
         done = copies_follow p loss s0 n0 t u0 rule m s1 n1 t1 block noted table apart shape1 cleans first
-            (λ k i. subst (λ l. IsIn l k) (sym order) (in_front k first rest i)) now c.done;
+            (λ k i. subst (λ l. Contains l k) (sym order) (Contains-append_left first rest k i)) now c.done;
         noted = subst (λ (k : BlockTable). n2 ≡ copied_from (erased n0 t.spare) (k.spare * n0.config.pages_per_block) first) table
             (subst (λ (k : Noted). n2 ≡ copied_from k (t1.spare * k.config.pages_per_block) first) noted c.noted);
       }
@@ -102,7 +103,7 @@ module _ (p : Protocol) (loss : LossLaw p) (s0 : FlashState) (n0 : Noted) (t : B
   copies_broke s2 n2 (unsure.Copy from to) b =
       let copied = follows b.first (from.0 ∷ b.later) b.between n2 b.copied in
       let same = same_slots p loss s0 n0 t u0 rule m s1 n1 t1 block noted table apart shape1 cleans from.0
-      (subst (λ l. IsIn l from.0) (sym copied.order) (in_middle from.0 b.first b.later)) in
+      (subst (λ l. Contains l from.0) (sym copied.order) (Contains-append_right b.first (from.0 ∷ b.later) from.0 (Contains-first from.0 b.later))) in
       record {
         first = b.first;
         later = b.later;

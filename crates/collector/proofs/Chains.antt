@@ -1,7 +1,8 @@
 -- Two changes one after the other: what both keep, the whole keeps.
-use Rattle.std.proofs.Common.{◌≡◌, ℕ, ◌+◌, ◌-◌, ◌*◌, ◌≤◌, Any, refl, ◌∙◌, arith}
+use Rattle.std.proofs.Common.{◌≡◌, ℕ, ◌+◌, ◌-◌, ◌*◌, ◌≤◌, Any, refl, ◌∙◌, arith, Contains}
 use Rattle.std.proofs.Math.Nat.{mul-le-mul_right}
-use Rattle.list_facts.proofs.Membership.{IsIn, all_from, all_at, in_from, contains_from}
+use Rattle.std.proofs.lemmas.List.Elements.{All-contains}
+use Rattle.list_facts.proofs.Membership.{all_from}
 use Rattle.flash_model.specs.Flash.{FlashState}
 use Rattle.record_list.specs.declared.found.Found.{Found}
 use Rattle.version_index.specs.Notes.{found_in}
@@ -30,17 +31,17 @@ CostsAtMost-more pages k j a b le h = record {
 -- the record that a noted record was before
 pub record WasThere (n : Noted) (f : Found) : Type 0 where
   pub was : Found
-  pub is_in : IsIn (found_in n.notes) was
+  pub is_in : Contains (found_in n.notes) was
   pub same : was.rec ≡ f.rec
 
-pub no_new : (a b : Noted) → ((f : Found) → IsIn (found_in b.notes) f → WasThere a f) → HasNoNewRecord a b
+pub no_new : (a b : Noted) → ((f : Found) → Contains (found_in b.notes) f → WasThere a f) → HasNoNewRecord a b
 no_new a b h = all_from (λ f. Any (λ g. g.rec ≡ f.rec) (found_in a.notes)) (found_in b.notes) (λ f i.
-    let w = h f i in let c = contains_from (found_in a.notes) w.was w.is_in in (c.0, w.was, c.1, c.2, w.same))
+    let w = h f i in (w.is_in.0, w.was, w.is_in.1, w.is_in.2, w.same))
 
-pub was_there : (a b : Noted) → HasNoNewRecord a b → (f : Found) → IsIn (found_in b.notes) f → WasThere a f
+pub was_there : (a b : Noted) → HasNoNewRecord a b → (f : Found) → Contains (found_in b.notes) f → WasThere a f
 was_there a b h f i =
-    let any = all_at (λ f. Any (λ g. g.rec ≡ f.rec) (found_in a.notes)) (found_in b.notes) f h i in
-    record { was = any.1; is_in = in_from (found_in a.notes) any.1 (any.0, any.2, any.3); same = any.4 }
+    let any = All-contains (λ f. Any (λ g. g.rec ≡ f.rec) (found_in a.notes)) (found_in b.notes) f h i in
+    record { was = any.1; is_in = (any.0, any.2, any.3); same = any.4 }
 
 pub HasNoNewRecord-nothing : (a : Noted) → HasNoNewRecord a a
 HasNoNewRecord-nothing a = no_new a a (λ f i. record { was = f; is_in = i; same = refl })

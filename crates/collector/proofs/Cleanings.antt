@@ -27,7 +27,7 @@ use Rattle.collector.specs.BreakingOff.{CleaningBreaks}
 use Rattle.collector.specs.Collecting.{is_blank_slot, is_blank_block, is_noted_blank, cleaning}
 use Rattle.collector.proofs.Calm.{noted_as_read}
 use Rattle.collector.proofs.NotesLeft.{note_at-in, note_at-out, length-noted}
-use Rattle.collector.proofs.Ranges.{noted_blank}
+use Rattle.collector.proofs.BlankNotes.{noted_blank}
 
 -- a slot that is noted as it reads is noted blank exactly where it is
 blank_as_noted : (p : Protocol) (contents : Contents) → is_blank (note_of p contents) ≡ is_blank_slot contents

@@ -1,7 +1,7 @@
 -- What is noted once a block was collected: no record is new, and what was copied was needed.
-use Rattle.std.proofs.Common.{◌≡◌, ◌⊎◌, ℕ, zero, suc, ◌+◌, ◌*◌, ◌<◌, true, List, [], ◌∷◌, length, set, refl, sym, ap, ◌∙◌, subst, inl, inr}
+use Rattle.std.proofs.Common.{◌≡◌, ◌⊎◌, ℕ, zero, suc, ◌+◌, ◌*◌, ◌<◌, true, List, [], ◌∷◌, length, set, refl, sym, ap, ◌∙◌, subst, inl, inr, Contains}
 use Rattle.std.proofs.Math.ListN.{length-set}
-use Rattle.list_facts.proofs.Membership.{IsIn, from_filter}
+use Rattle.list_facts.proofs.Membership.{from_filter, Contains-first, Contains-rest}
 use Rattle.tx_types.specs.Config.{shape_of, slots_of, blocks_of}
 use Rattle.tx_types.specs.declared.config.Config.{Config}
 use Rattle.record_list.specs.declared.found.Found.{Found}
@@ -26,18 +26,18 @@ note_set (x ∷ xs) (suc at) (suc k) note = note_set xs at k note
 -- a note is that of its slot before, or that of a slot that was copied
 pub data ComesFrom (n : Noted) (slots : List ℕ) (k : ℕ) (note : Note) : Type 0 where
   stays : note ≡ note_at n.notes k → ComesFrom n slots k note
-  copy : (from : ℕ) → IsIn slots from → note ≡ note_at n.notes from → ComesFrom n slots k note
+  copy : (from : ℕ) → Contains slots from → note ≡ note_at n.notes from → ComesFrom n slots k note
 
 pub copied_notes : (n : Noted) (to : ℕ) (slots : List ℕ) (k : ℕ) → ComesFrom n slots k (note_at (copied_from n to slots).notes k)
 copied_notes n to [] k = stays refl
 copied_notes n to (from ∷ rest) k = elim (copied_notes (copied n from to) (to + 1) rest k) [
   | stays e ↦ elim (note_set n.notes to k (note_at n.notes from)) [
-    | inl same ↦ copy from (inl refl) (e ∙ same)
+    | inl same ↦ copy from (Contains-first from rest) (e ∙ same)
     | inr same ↦ stays (e ∙ same)
   ]
   | copy at i e ↦ elim (note_set n.notes to at (note_at n.notes from)) [
-    | inl same ↦ copy from (inl refl) (e ∙ same)
-    | inr same ↦ copy at (inr i) (e ∙ same)
+    | inl same ↦ copy from (Contains-first from rest) (e ∙ same)
+    | inr same ↦ copy at (Contains-rest from rest at i) (e ∙ same)
   ]
 ]
 
@@ -63,10 +63,10 @@ copied_no_new n to slots = no_new n (copied_from n to slots) (λ f i.
 
 -- the records outside a block that is all blank now
 module _ (n : Noted) (some : 0 < n.config.pages_per_block) (long : length n.notes ≡ slots_of (shape_of n.config)) (block : ℕ) (below : block < blocks_of (shape_of n.config)) where
-  pub erased_from : (f : Found) → IsIn (found_in (erased n block).notes) f → IsIn (found_in n.notes) f × (is_outside (shape_of n.config) block f.slot.0 ≡ true)
+  pub erased_from : (f : Found) → Contains (found_in (erased n block).notes) f → Contains (found_in n.notes) f × (is_outside (shape_of n.config) block f.slot.0 ≡ true)
   erased_from f i =
       from_filter (λ g. is_outside (shape_of n.config) block g.slot.0) f (found_in n.notes)
-      (subst (λ l. IsIn l f) (noted_left (shape_of n.config) some n.notes long block below Blank refl) i)
+      (subst (λ l. Contains l f) (noted_left (shape_of n.config) some n.notes long block below Blank refl) i)
 
   pub erased_no_new : HasNoNewRecord n (erased n block)
   erased_no_new = no_new n (erased n block) (λ f i. record { was = f; is_in = (erased_from f i).0; same = refl })
@@ -76,8 +76,8 @@ module _ (n : Noted) (some : 0 < n.config.pages_per_block) (long : length n.note
 
 -- where a record of what was collected comes from
 pub data Origin (n : Noted) (spare : ℕ) (f : Found) : Type 0 where
-  in_place : IsIn (found_in n.notes) f → is_outside (shape_of n.config) spare f.slot.0 ≡ true → Origin n spare f
-  in_copy : (from : ℕ) → IsIn (found_in (noted_cleaned n spare).notes) (found from f.rec) → needed_of (noted_cleaned n spare) from ≡ true → Origin n spare f
+  in_place : Contains (found_in n.notes) f → is_outside (shape_of n.config) spare f.slot.0 ≡ true → Origin n spare f
+  in_copy : (from : ℕ) → Contains (found_in (noted_cleaned n spare).notes) (found from f.rec) → needed_of (noted_cleaned n spare) from ≡ true → Origin n spare f
 
 module _ (n : Noted) (some : 0 < n.config.pages_per_block) (long : length n.notes ≡ slots_of (shape_of n.config)) (spare block : ℕ)
     (spare_below : spare < blocks_of (shape_of n.config)) (below : block < blocks_of (shape_of n.config)) where
@@ -105,14 +105,14 @@ module _ (n : Noted) (some : 0 < n.config.pages_per_block) (long : length n.note
   full_below : block < blocks_of (shape_of full.config)
   full_below = subst (λ (k : Config). block < blocks_of (shape_of k)) (sym config_same) below
 
-  in_full : (f : Found) → IsIn (found_in (collected n spare block).notes) f → IsIn (found_in full.notes) f × (is_outside (shape_of full.config) block f.slot.0 ≡ true)
+  in_full : (f : Found) → Contains (found_in (collected n spare block).notes) f → Contains (found_in full.notes) f × (is_outside (shape_of full.config) block f.slot.0 ≡ true)
   in_full f i = erased_from full full_some full_slots block full_below f i
 
   -- it lies outside the block
-  pub collected_outside : (f : Found) → IsIn (found_in (collected n spare block).notes) f → is_outside (shape_of n.config) block f.slot.0 ≡ true
+  pub collected_outside : (f : Found) → Contains (found_in (collected n spare block).notes) f → is_outside (shape_of n.config) block f.slot.0 ≡ true
   collected_outside f i = subst (λ (k : Config). is_outside (shape_of k) block f.slot.0 ≡ true) config_same (in_full f i).1
 
-  pub collected_from : (f : Found) → IsIn (found_in (collected n spare block).notes) f → Origin n spare f
+  pub collected_from : (f : Found) → Contains (found_in (collected n spare block).notes) f → Origin n spare f
   collected_from f i =
       let there = noted_from full.notes f (in_full f i).0 in
       elim (copied_notes (noted_cleaned n spare) first slots f.slot.0) [

@@ -1,11 +1,11 @@
 -- Collecting a block: the spare is made blank, what is needed is copied, and the block is erased.
-use Rattle.std.proofs.Common.{◌≡◌, ◌≢◌, ℕ, ◌+◌, ◌-◌, ◌*◌, ◌/◌, ◌<◌, false, List, [], ◌∷◌, ◌++◌, OnOk, Ok, Err, Result, sym, ap, ◌∙◌, subst, inl, inr, arith}
+use Rattle.std.proofs.Common.{◌≡◌, ◌≢◌, ℕ, ◌+◌, ◌-◌, ◌*◌, ◌/◌, ◌<◌, false, List, [], ◌∷◌, ◌++◌, OnOk, Ok, Err, Result, sym, ap, ◌∙◌, subst, inl, inr, arith, Contains}
 use Rattle.std.specs.List.{range_with_len}
 use Rattle.std.specs.Result.{is_err}
 use Rattle.std.proofs.lemmas.Bool.{cases_Bool, cond_both, both_ways}
 use Rattle.std.proofs.lemmas.Nat.{div-mul-add}
+use Rattle.list_facts.proofs.Membership.{all_from, from_filter, Contains-nil, Contains-one}
 use Rattle.list_facts.proofs.Ranges.{range_bounds}
-use Rattle.list_facts.proofs.Membership.{IsIn, all_from, from_filter}
 use Rattle.tx_types.specs.Config.{shape_of, blocks_of}
 use Rattle.tx_types.specs.declared.config.Protocol.{Protocol}
 use Rattle.tx_types.specs.declared.config.Shape.{Shape}
@@ -67,7 +67,7 @@ module _ (p : Protocol) (loss : LossLaw p) (s0 : FlashState) (n0 : Noted) (t : B
     slots = needed_slots (noted_cleaned n0 t.spare) block
 
     -- the slots to be copied hold what they held before
-    stay_off : (k : ℕ) → IsIn slots k → StayOff s0.shape (k / s0.shape.pages_per_block) (cleaning n0 s0.image t.spare)
+    stay_off : (k : ℕ) → Contains slots k → StayOff s0.shape (k / s0.shape.pages_per_block) (cleaning n0 s0.image t.spare)
     stay_off k i =
         let parts = from_filter (needed_of (erased n0 t.spare)) k (range_with_len (block * n0.config.pages_per_block) n0.config.pages_per_block) i in
         let place = range_bounds (block * n0.config.pages_per_block) n0.config.pages_per_block k parts.0 in
@@ -76,20 +76,18 @@ module _ (p : Protocol) (loss : LossLaw p) (s0 : FlashState) (n0 : Noted) (t : B
         ap (λ (x : Shape). k / x.pages_per_block) m.shape ∙ ap (λ q. q / n0.config.pages_per_block) its
         ∙ div-mul-add block n0.config.pages_per_block (k - block * n0.config.pages_per_block) (omega (arith, place.0, place.1)) in
         cond_both (is_blank_block n0 s0.image t.spare) [] (erase t.spare ∷ []) (StayOff s0.shape (k / s0.shape.pages_per_block))
-        (λ e. all_from (λ o. WorksIn s0.shape o (k / s0.shape.pages_per_block) → ⊥) [] (λ o j. absurd j))
-        (λ e. all_from (λ o. WorksIn s0.shape o (k / s0.shape.pages_per_block) → ⊥) (erase t.spare ∷ []) (λ o j. elim j [
-          | inl same ↦ λ q. apart (sym there ∙ sym (subst (λ o'. WorksIn s0.shape o' (k / s0.shape.pages_per_block)) (sym same) q))
-          | inr none ↦ absurd none
-        ]))
+        (λ e. all_from (λ o. WorksIn s0.shape o (k / s0.shape.pages_per_block) → ⊥) [] (λ o j. absurd (Contains-nil o j)))
+        (λ e. all_from (λ o. WorksIn s0.shape o (k / s0.shape.pages_per_block) → ⊥) (erase t.spare ∷ []) (λ o j q.
+        apart (sym there ∙ sym (subst (λ o'. WorksIn s0.shape o' (k / s0.shape.pages_per_block)) (sym (Contains-one (erase t.spare) o j)) q))))
 
-    pub same_slots : (k : ℕ) → IsIn slots k → slot_at s1.image k ≡ slot_at s0.image k
+    pub same_slots : (k : ℕ) → Contains slots k → slot_at s1.image k ≡ slot_at s0.image k
     same_slots k i = slot_at-does s0.shape (moment_of s0) (moment_of s1) (cleaning n0 s0.image t.spare) k m.flash cleans (stay_off k i)
 
     abbrev programs : List ℕ → List Operation
     programs first = copies n0.config.page_bytes s0.image (t.spare * n0.config.pages_per_block) first
 
     -- the copies of some of them follow on making the spare blank
-    pub copies_follow : (first : List ℕ) → ((k : ℕ) → IsIn first k → IsIn slots k) → (now : Moment) →
+    pub copies_follow : (first : List ℕ) → ((k : ℕ) → Contains first k → Contains slots k) → (now : Moment) →
         Does s1.shape (moment_of s1) (copies n1.config.page_bytes s1.image (t1.spare * n1.config.pages_per_block) first) now →
         Does s0.shape (moment_of s0) (cleaning n0 s0.image t.spare ++ programs first) now
     copies_follow first are now does =

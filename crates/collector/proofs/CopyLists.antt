@@ -1,6 +1,6 @@
 -- The slots that are copied, one more at a time: their programs, and what is noted then.
-use Rattle.std.proofs.Common.{◌≡◌, ℕ, ◌+◌, List, [], ◌∷◌, ◌++◌, length, refl, ap, ap₂, ◌∙◌, inl, inr, arith}
-use Rattle.list_facts.proofs.Membership.{IsIn}
+use Rattle.std.proofs.Common.{◌≡◌, ℕ, ◌+◌, List, [], ◌∷◌, ◌++◌, length, refl, ap, ap₂, ◌∙◌, arith, Contains}
+use Rattle.list_facts.proofs.Membership.{Contains-first, Contains-rest}
 use Rattle.flash_model.specs.Flash.{Contents, slot_at}
 use Rattle.flash_model.specs.Calls.{page_of, spare_of}
 use Rattle.flash_model.specs.Operations.{program}
@@ -23,8 +23,8 @@ copies_more size image to (y ∷ ys) x =
     ∙ ap (λ k. copies size image (to + 1) ys ++ copy_program size image k x ∷ []) (let at : to + 1 + length ys ≡ to + length (y ∷ ys) = omega arith in at))
 
 -- images that agree on the slots give the same programs
-pub copies_same : (size : ℕ) (a b : List Contents) (to : ℕ) (list : List ℕ) → ((x : ℕ) → IsIn list x → slot_at a x ≡ slot_at b x) →
+pub copies_same : (size : ℕ) (a b : List Contents) (to : ℕ) (list : List ℕ) → ((x : ℕ) → Contains list x → slot_at a x ≡ slot_at b x) →
     copies size a to list ≡ copies size b to list
 copies_same size a b to [] h = refl
 copies_same size a b to (x ∷ xs) h =
-    ap₂ (λ o l. o ∷ l) (ap (λ c. program to (page_of size c) (spare_of c)) (h x (inl refl))) (copies_same size a b (to + 1) xs (λ y i. h y (inr i)))
+    ap₂ (λ o l. o ∷ l) (ap (λ c. program to (page_of size c) (spare_of c)) (h x (Contains-first x xs))) (copies_same size a b (to + 1) xs (λ y i. h y (Contains-rest x xs y i)))

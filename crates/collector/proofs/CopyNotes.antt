@@ -1,6 +1,7 @@
 -- Copying a record to a slot of the spare: what is noted then.
-use Rattle.std.proofs.Common.{◌≡◌, ℕ, ◌<◌, true, List, length, set, refl, sym, ap, ◌∙◌, subst, inl, inr}
-use Rattle.list_facts.proofs.Membership.{IsIn, all_at, all_from, contains_from, from_filter, in_filter}
+use Rattle.std.proofs.Common.{◌≡◌, ℕ, ◌<◌, true, List, length, set, refl, sym, ap, ◌∙◌, subst, inl, inr, Contains}
+use Rattle.std.proofs.lemmas.List.Elements.{All-contains}
+use Rattle.list_facts.proofs.Membership.{all_from, from_filter, in_filter}
 use Rattle.tx_types.specs.Config.{shape_of}
 use Rattle.tx_types.specs.declared.record.Link.{Link}
 use Rattle.tx_types.specs.declared.record.Rec.{Rec}
@@ -31,21 +32,20 @@ module _ (n : Noted) (noted : IsNoted n.config.protocol n) (law : CopyLaw n.conf
   pub added : IsInserted old (found to rec) more
   added = subst (λ note. IsInserted old (found to rec) (found_in (set n.notes to note))) (sym source) (found_in_programmed n.notes to rec within was)
 
-  pub first : IsIn old (found from rec)
+  pub first : Contains old (found from rec)
   first = noted_in n.notes from rec from_within source
 
   pub kept : CopyKeeps n.config.protocol old more n.config.logical
   kept =
-      let at = contains_from old (found from rec) first in
       law old more n.config.logical (found to rec) noted.sound (record {
         scanned = noted.scanned;
         scanned' = noted'.scanned;
         added = added;
-        source = (at.0, found from rec, at.1, at.2, refl);
+        source = (first.0, found from rec, first.1, first.2, refl);
       })
 
   -- a record of the new list is one of the old list, under its name
-  was_there : (f : Found) → IsIn more f → (g : Found) × IsIn old g × (g.rec ≡ f.rec)
+  was_there : (f : Found) → Contains more f → (g : Found) × Contains old g × (g.rec ≡ f.rec)
   was_there f i = elim (inserted_in old more (found to rec) added f i) [
     | inl e ↦ (found from rec, first, ap (λ (x : Found). x.rec) e)
     | inr j ↦ (f, j, refl)
@@ -81,10 +81,10 @@ module _ (n : Noted) (noted : IsNoted n.config.protocol n) (law : CopyLaw n.conf
   }
 
   -- a wanted record was wanted
-  wanted_before : (f g : Found) → IsIn old g → g.rec ≡ f.rec → is_wanted n.config.protocol more n.config.logical (pinned_names n.pins) f.rec ≡ true →
+  wanted_before : (f g : Found) → Contains old g → g.rec ≡ f.rec → is_wanted n.config.protocol more n.config.logical (pinned_names n.pins) f.rec ≡ true →
       is_wanted n.config.protocol old n.config.logical (pinned_names n.pins) g.rec ≡ true
   wanted_before f g i e w =
-      let page_within : g.rec.page < n.config.logical = (all_at (PagesExist n.config.logical) old g (noted.sound Pages) i).0 in
+      let page_within : g.rec.page < n.config.logical = (All-contains (PagesExist n.config.logical) old g (noted.sound Pages) i).0 in
       subst (λ r. is_wanted n.config.protocol old n.config.logical (pinned_names n.pins) r ≡ true) (sym e)
       (elim (wanted_cases n.config.protocol more n.config.logical (pinned_names n.pins) f.rec w) [
         | inl current ↦ counted_wanted n.config.protocol old n.config.logical (pinned_names n.pins) f.rec
@@ -101,7 +101,7 @@ module _ (n : Noted) (noted : IsNoted n.config.protocol n) (law : CopyLaw n.conf
       (λ f i w.
       let g = was_there f i in
       let kept_there : is_present (left (is_outside (shape_of n.config) block) old) (name_of g.0.rec) ≡ true =
-      all_at (λ f. is_wanted n.config.protocol old n.config.logical (pinned_names n.pins) f.rec ≡ true →
+      All-contains (λ f. is_wanted n.config.protocol old n.config.logical (pinned_names n.pins) f.rec ≡ true →
       is_present (left (is_outside (shape_of n.config) block) old) (name_of f.rec) ≡ true) old g.0 spared g.1 (wanted_before f g.0 g.1 g.2 w) in
       let h = found_named (left (is_outside (shape_of n.config) block) old) (name_of g.0.rec) kept_there in
       let parts = from_filter (λ f. is_outside (shape_of n.config) block f.slot.0) h.0 old h.1 in

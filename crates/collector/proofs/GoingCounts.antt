@@ -1,8 +1,8 @@
 -- A round of clearing: the treated block holds no record any more that must go, and no other does that did not.
-use Rattle.std.proofs.Common.{◌≡◌, ◌≢◌, ℕ, ◌*◌, ◌/◌, ◌<◌, true, false, ◌&&◌, eqb, eqb-true, eq-eqb, ltb, List, count_by, None, refl, sym, ap, ◌∙◌, subst, arith}
+use Rattle.std.proofs.Common.{◌≡◌, ◌≢◌, ℕ, ◌*◌, ◌/◌, ◌<◌, true, false, ◌&&◌, eqb, eqb-true, eq-eqb, ltb, List, count_by, None, refl, sym, ap, ◌∙◌, subst, arith, Contains}
 use Rattle.std.specs.List.{range_with_len}
 use Rattle.std.proofs.lemmas.Bool.{and_parts, and_from, both_ways, false_from_ne_true, false≢true}
-use Rattle.list_facts.proofs.Membership.{IsIn, all_at, contains_from}
+use Rattle.std.proofs.lemmas.List.Elements.{All-contains}
 use Rattle.list_facts.proofs.Tests.{any_of, any_from}
 use Rattle.list_facts.proofs.Counts.{count_less}
 use Rattle.list_facts.proofs.Ranges.{in_range}
@@ -29,7 +29,7 @@ use Rattle.collector.proofs.NextNames.{next_stays}
 
 -- a record that must go, in a block
 pub record GoesIn (n : Noted) (page below block : ℕ) (f : Found) : Type 0 where
-  pub is_in : IsIn (found_in n.notes) f
+  pub is_in : Contains (found_in n.notes) f
   pub slot : f.slot.0 / n.config.pages_per_block ≡ block
   pub goes : must_go n.config.protocol (found_in n.notes) n.config.logical page below f.rec ≡ true
 
@@ -75,19 +75,19 @@ goes_same n m kept page below r within =
 pub clear_stays : (n m : Noted) → IsNoted n.config.protocol n → Preserves n m → HasNoNewRecord n m → (page below : ℕ) → block_to_go n page below ≡ None → block_to_go m page below ≡ None
 clear_stays n m noted kept fewer page below none = none_going m page below (λ f i.
     let w = was_there n m fewer f i in
-    let page_low = (all_at (PagesExist n.config.logical) (found_in n.notes) w.was (noted.sound Pages) w.is_in).0 in
+    let page_low = (All-contains (PagesExist n.config.logical) (found_in n.notes) w.was (noted.sound Pages) w.is_in).0 in
     goes_same n m kept page below f.rec (subst (λ (r : Rec). r.page < n.config.logical) w.same page_low)
     ∙ ap (must_go n.config.protocol (found_in n.notes) n.config.logical page below) (sym w.same)
     ∙ going_none n page below none w.was w.is_in)
 
 -- a slot of a block is one of its slots
-pub in_slots : (n : Noted) (block slot : ℕ) → 0 < n.config.pages_per_block → slot / n.config.pages_per_block ≡ block → IsIn (slots_in n block) slot
+pub in_slots : (n : Noted) (block slot : ℕ) → 0 < n.config.pages_per_block → slot / n.config.pages_per_block ≡ block → Contains (slots_in n block) slot
 in_slots n block slot some here =
     let inside = inside_block n.config.pages_per_block block slot some here in
     in_range (block * n.config.pages_per_block) n.config.pages_per_block slot inside.0 inside.1
 
-pub has_unneeded : (n : Noted) (block slot : ℕ) → IsIn (slots_in n block) slot → needed_of n slot ≡ false → HasUnneeded n block
-has_unneeded n block slot i off = (let c = contains_from (slots_in n block) slot i in (c.0, slot, c.1, c.2, off))
+pub has_unneeded : (n : Noted) (block slot : ℕ) → Contains (slots_in n block) slot → needed_of n slot ≡ false → HasUnneeded n block
+has_unneeded n block slot i off = (i.0, slot, i.1, i.2, off)
 
 module _ (n : Noted) (noted : IsNoted n.config.protocol n) (page below : ℕ) (names : List Link)
     (next : IsNextName n names (record { page = page; version = below })) (block : ℕ) where
@@ -100,8 +100,8 @@ module _ (n : Noted) (noted : IsNoted n.config.protocol n) (page below : ℕ) (n
       has_unneeded n block g.found.slot.0 (in_slots n block g.found.slot.0 some g.slot)
       (slot_needless n names (record { page = page; version = below }) next g.found g.is_in g.goes)
 
-  page_of : (f : Found) → IsIn (found_in n.notes) f → f.rec.page < n.config.logical
-  page_of f i = (all_at (PagesExist n.config.logical) (found_in n.notes) f (noted.sound Pages) i).0
+  page_of : (f : Found) → Contains (found_in n.notes) f → f.rec.page < n.config.logical
+  page_of f i = (All-contains (PagesExist n.config.logical) (found_in n.notes) f (noted.sound Pages) i).0
 
   pub erased_fewer : block < blocks_of (shape_of n.config) → is_going n page below block ≡ true → Preserves n (erased n block) →
       blocks_to_go (erased n block) page below < blocks_to_go n page below

@@ -3,7 +3,8 @@ use Rattle.std.proofs.Common.{◌≡◌, ◌≢◌, ◌⊎◌, ℕ, ◌/◌, ◌
 use Rattle.std.specs.Option.{option_map}
 use Rattle.std.proofs.lemmas.Bool.{cases_Bool, cond-true, cond-false, and_parts, or_cases, both_ways, false≢true, false_from_ne_true}
 use Rattle.std.proofs.lemmas.Option.{none-some, same_Some}
-use Rattle.list_facts.proofs.Membership.{IsIn, all_at, in_from}
+use Rattle.std.proofs.lemmas.List.Elements.{All-contains}
+use Rattle.list_facts.proofs.Membership.{Contains-cases, Contains-nil}
 use Rattle.tx_types.specs.declared.config.Protocol.{Protocol}
 use Rattle.tx_types.specs.declared.config.Protocol.TheVariants.{Scc, Bpcc}
 use Rattle.tx_types.specs.declared.record.Link.{Link}
@@ -46,16 +47,16 @@ goes_so l logical page below r h =
 
 module _ (p : Protocol) (l : List Found) (logical : ℕ) (name : Link) where
   -- a record of a transaction that names the page at this version alone does not mention it below
-  off_transaction : (others : List Link) → IsBegun p l logical others → ((a : Link) → IsIn others a → a.page ≡ name.page → a.version ≡ name.version) →
-      (f : Found) → IsIn l f → IsIn others (name_of f.rec) → Mentions name.page name.version f.rec → ⊥
+  off_transaction : (others : List Link) → IsBegun p l logical others → ((a : Link) → Contains others a → a.page ≡ name.page → a.version ≡ name.version) →
+      (f : Found) → Contains l f → Contains others (name_of f.rec) → Mentions name.page name.version f.rec → ⊥
   off_transaction others begun only f i own (inl at) = (let same = only (name_of f.rec) own at.0 in let low = at.1 in omega arith)
   off_transaction others begun only f i own (inr at) =
       let after = follows_of others (name_of f.rec) own in
-      let asks = all_at (λ g. IsAsked p l logical others g.rec) l f begun.asked i in
-      let pair = all_at (λ (x : Link × Link). name_of f.rec ≡ x.0 → (f.rec.next ≡ x.1) × (f.rec.back ≡ back_version p l logical x.0.page))
+      let asks = All-contains (λ g. IsAsked p l logical others g.rec) l f begun.asked i in
+      let pair = All-contains (λ (x : Link × Link). name_of f.rec ≡ x.0 → (f.rec.next ≡ x.1) × (f.rec.back ≡ back_version p l logical x.0.page))
       (zip others (rounded others)) (name_of f.rec, after.0) asks after.1 in
       let link = (pair refl).0 in
-      let same = only f.rec.next (subst (IsIn others) (sym link) (follows_in others (name_of f.rec) after.0 after.1).1) at.0 in
+      let same = only f.rec.next (subst (Contains others) (sym link) (follows_in others (name_of f.rec) after.0 after.1).1) at.0 in
       let low = at.1 in omega arith
 
 module _ (n : Noted) (names : List Link) (name : Link) (next : IsNextName n names name) where
@@ -65,37 +66,37 @@ module _ (n : Noted) (names : List Link) (name : Link) (next : IsNextName n name
   abbrev logical : ℕ
   logical = n.config.logical
 
-  own_only : (a : Link) → IsIn names a → a.page ≡ name.page → a.version ≡ name.version
+  own_only : (a : Link) → Contains names a → a.page ≡ name.page → a.version ≡ name.version
   own_only a i same =
       ap (λ (l : Link). l.version)
-      (one_name list logical names (underway_of n.config.protocol list logical names next.in_progress.begun) a name i (in_from names name next.named) same)
+      (one_name list logical names (underway_of n.config.protocol list logical names next.in_progress.begun) a name i next.named same)
 
-  other_pages : (pin : Link) (other : IsOfOther n names pin) → (a : Link) → IsIn other.others a → a.page ≡ name.page → a.version ≡ name.version
+  other_pages : (pin : Link) (other : IsOfOther n names pin) → (a : Link) → Contains other.others a → a.page ≡ name.page → a.version ≡ name.version
   other_pages pin other a i same =
-      absurd (all_at (λ b. name.page ≢ b.page) other.others a
-      (all_at (λ c. All (λ b. c.page ≢ b.page) other.others) names name other.apart (in_from names name next.named)) i (sym same))
+      absurd (All-contains (λ b. name.page ≢ b.page) other.others a
+      (All-contains (λ c. All (λ b. c.page ≢ b.page) other.others) names name other.apart next.named) i (sym same))
 
   -- a pinned record that is not current does not mention the page below
-  pin_stays : (f : Found) → IsIn list f → IsPinBeside n names (name_of f.rec) → Mentions name.page name.version f.rec → cur n.config.protocol list logical f.rec.page ≢ f.rec.version → ⊥
+  pin_stays : (f : Found) → Contains list f → IsPinBeside n names (name_of f.rec) → Mentions name.page name.version f.rec → cur n.config.protocol list logical f.rec.page ≢ f.rec.version → ⊥
   unfolding current_of
   pin_stays f i (inl current) mentions other = other current
   pin_stays f i (inr (inl own)) mentions other =
-      off_transaction n.config.protocol list logical name names next.in_progress.begun own_only f i (in_from names (name_of f.rec) own) mentions
+      off_transaction n.config.protocol list logical name names next.in_progress.begun own_only f i own mentions
   pin_stays f i (inr (inr o)) mentions other =
-      off_transaction n.config.protocol list logical name o.others o.in_progress.begun (other_pages (name_of f.rec) o) f i (in_from o.others (name_of f.rec) o.named) mentions
+      off_transaction n.config.protocol list logical name o.others o.in_progress.begun (other_pages (name_of f.rec) o) f i o.named mentions
 
   abbrev IsWanted : Found → Type 0
   IsWanted f =
       IsCurrent n.config.protocol list logical f.rec
       ⊎ ((is_held n.config.protocol list logical (name_of f.rec) ≡ true) ⊎ Contains (pinned_names n.pins) (name_of f.rec))
 
-  by_rule : (q : Protocol) → n.config.protocol ≡ q → (f : Found) → IsIn list f → must_go q list logical name.page name.version f.rec ≡ true → IsWanted f → ⊥
+  by_rule : (q : Protocol) → n.config.protocol ≡ q → (f : Found) → Contains list f → must_go q list logical name.page name.version f.rec ≡ true → IsWanted f → ⊥
   by_rule Bpcc rule f i go wanted = false≢true go
   by_rule Scc rule f i go wanted =
       elim wanted [
         | inl current ↦ not_current (sym current)
         | inr (inl held) ↦ false≢true (subst (λ q. is_held q list logical (name_of f.rec) ≡ true) rule held)
-        | inr (inr pin) ↦ pin_stays f i (all_at (IsPinBeside n names) (pinned_names n.pins) (name_of f.rec) next.beside (in_from (pinned_names n.pins) (name_of f.rec) pin)) goes.mentions not_current
+        | inr (inr pin) ↦ pin_stays f i (All-contains (IsPinBeside n names) (pinned_names n.pins) (name_of f.rec) next.beside pin) goes.mentions not_current
       ]
     where
       goes : Goes list logical name.page name.version f.rec
@@ -105,11 +106,11 @@ module _ (n : Noted) (names : List Link) (name : Link) (next : IsNextName n name
       not_current e = (let loose = goes.loose in let same = subst (λ q. cur q list logical f.rec.page ≡ f.rec.version) rule e in absurd (omega arith))
 
   -- it is not current, nothing is held, and it is not pinned
-  pub needless : (f : Found) → IsIn list f → must_go n.config.protocol list logical name.page name.version f.rec ≡ true → IsWanted f → ⊥
+  pub needless : (f : Found) → Contains list f → must_go n.config.protocol list logical name.page name.version f.rec ≡ true → IsWanted f → ⊥
   needless f i go wanted = by_rule n.config.protocol refl f i go wanted
 
   -- so its slot is not needed
-  pub slot_needless : (f : Found) → IsIn list f → must_go n.config.protocol list logical name.page name.version f.rec ≡ true → needed_of n f.slot.0 ≡ false
+  pub slot_needless : (f : Found) → Contains list f → must_go n.config.protocol list logical name.page name.version f.rec ≡ true → needed_of n f.slot.0 ≡ false
   slot_needless f i go = false_from_ne_true (needed_of n f.slot.0) (λ needed.
       let x = home_needed n f.slot.0 needed in
       let same = one_in_slot list x.found f (found_in_ascending n.notes) x.is_in i x.slot in
@@ -121,7 +122,7 @@ goes n page below f = must_go n.config.protocol (found_in n.notes) n.config.logi
 -- the record that must go which `block_to_go` finds
 pub record GoesFrom (n : Noted) (page below block : ℕ) : Type 0 where
   pub found : Found
-  pub is_in : IsIn (found_in n.notes) found
+  pub is_in : Contains (found_in n.notes) found
   pub slot : found.slot.0 / n.config.pages_per_block ≡ block
   pub goes : must_go n.config.protocol (found_in n.notes) n.config.logical page below found.rec ≡ true
 
@@ -140,11 +141,11 @@ going_some n page below block e = by (first_slot (goes n page below) (found_in n
           goes = stands.passes;
         }
 
-first_none : (test : Found → Bool) (l : List Found) → first_slot test l ≡ None → (f : Found) → IsIn l f → test f ≡ false
-first_none test [] e f i = absurd i
+first_none : (test : Found → Bool) (l : List Found) → first_slot test l ≡ None → (f : Found) → Contains l f → test f ≡ false
+first_none test [] e f i = absurd (Contains-nil f i)
 first_none test (g ∷ gs) e f i = elim (cases_Bool (test g)) [
   | inl pass ↦ absurd (none-some g.slot.0 (sym e ∙ ap (option_map (λ h. h.slot.0)) (cond-true (test g) (Some g) (find test gs) pass)))
-  | inr fail ↦ elim i [
+  | inr fail ↦ elim (Contains-cases g gs f i) [
     | inl same ↦ ap test (sym same) ∙ fail
     | inr later ↦ first_none test gs (sym (ap (option_map (λ h. h.slot.0)) (cond-false (test g) (Some g) (find test gs) fail)) ∙ e) f later
   ]
@@ -152,7 +153,7 @@ first_none test (g ∷ gs) e f i = elim (cases_Bool (test g)) [
 
 -- where there is no such block nothing must go
 pub going_none : (n : Noted) (page below : ℕ) → block_to_go n page below ≡ None →
-    (f : Found) → IsIn (found_in n.notes) f → must_go n.config.protocol (found_in n.notes) n.config.logical page below f.rec ≡ false
+    (f : Found) → Contains (found_in n.notes) f → must_go n.config.protocol (found_in n.notes) n.config.logical page below f.rec ≡ false
 unfolding block_to_go
 going_none n page below e f i = by (first_slot (goes n page below) (found_in n.notes)) refl e
   where
@@ -163,7 +164,7 @@ going_none n page below e f i = by (first_slot (goes n page below) (found_in n.n
 
 -- and the other way round
 pub none_going : (n : Noted) (page below : ℕ) →
-    ((f : Found) → IsIn (found_in n.notes) f → must_go n.config.protocol (found_in n.notes) n.config.logical page below f.rec ≡ false) → block_to_go n page below ≡ None
+    ((f : Found) → Contains (found_in n.notes) f → must_go n.config.protocol (found_in n.notes) n.config.logical page below f.rec ≡ false) → block_to_go n page below ≡ None
 none_going n page below none = by (block_to_go n page below) refl
   where
     by : (o : Option ℕ) → block_to_go n page below ≡ o → o ≡ None

@@ -1,11 +1,12 @@
 -- A copy in the spare of a record that stands outside it moves no home, and changes nobody's need. A blank spare moves none
 -- either, and ends at most that a record is held.
-use Rattle.std.proofs.Common.{◌≡◌, ◌≢◌, ℕ, ◌<◌, Bool, true, false, ◌&&◌, ◌||◌, eqb-true, eq-eqb, List, [], ◌∷◌, length, find, Option, Some, refl, sym, ap, ap₂, ◌∙◌, subst, inl, inr}
+use Rattle.std.proofs.Common.{◌≡◌, ◌≢◌, ℕ, ◌<◌, Bool, true, false, ◌&&◌, ◌||◌, eqb-true, eq-eqb, List, [], ◌∷◌, length, find, Option, Some, refl, sym, ap, ap₂, ◌∙◌, subst, inl, inr, Contains}
 use Rattle.std.specs.Prelude.{◌==◌}
 use Rattle.std.specs.List.{list_any}
 use Rattle.std.specs.Option.{option_map, option_or}
 use Rattle.std.proofs.lemmas.Bool.{cases_Bool, cond-true, cond-false, and_parts, and_from, both_ways, and_right}
-use Rattle.list_facts.proofs.Membership.{IsIn, all_at, from_filter}
+use Rattle.std.proofs.lemmas.List.Elements.{All-contains}
+use Rattle.list_facts.proofs.Membership.{from_filter, Contains-cases, Contains-nil}
 use Rattle.list_facts.proofs.Tests.{any_same_in, find_more, find_left, any_from}
 use Rattle.tx_types.specs.Config.{shape_of, blocks_of}
 use Rattle.tx_types.specs.declared.config.Protocol.{Protocol}
@@ -38,12 +39,12 @@ first_inserted test l l' f ins fail =
 abbrev pub HasFirst : (Found → Bool) → List Found → Type 0
 HasFirst test l = (at : ℕ) × (first_slot test l ≡ Some at)
 
-pub first_of : (test : Found → Bool) (l : List Found) (f : Found) → IsIn l f → test f ≡ true → HasFirst test l
-first_of test [] f i pass = absurd i
+pub first_of : (test : Found → Bool) (l : List Found) (f : Found) → Contains l f → test f ≡ true → HasFirst test l
+first_of test [] f i pass = absurd (Contains-nil f i)
 first_of test (g ∷ gs) f i pass = elim (cases_Bool (test g)) [
   | inl pass' ↦ (g.slot.0, ap (option_map (λ h. h.slot.0)) (cond-true (test g) (Some g) (find test gs) pass'))
   | inr fail ↦
-      (let rest : HasFirst test gs = elim i [
+      (let rest : HasFirst test gs = elim (Contains-cases g gs f i) [
         | inl same ↦ absurd (both_ways (test f) (ap test (sym same) ∙ fail) pass)
         | inr later ↦ first_of test gs f later pass
       ] in
@@ -67,7 +68,7 @@ pub wanted_by_name : (p : Protocol) (l : List Found) (logical : ℕ) (pinned : L
 wanted_by_name p l logical pinned r s same = ap (name_wanted p l logical pinned) same
 
 -- a slot is needed where the record that it holds has its home there and is wanted
-pub home_is_needed : (n : Noted) (f : Found) (at : ℕ) → IsIn (found_in n.notes) f → f.slot.0 ≡ at → home_of n (name_of f.rec) ≡ Some at →
+pub home_is_needed : (n : Noted) (f : Found) (at : ℕ) → Contains (found_in n.notes) f → f.slot.0 ≡ at → home_of n (name_of f.rec) ≡ Some at →
     is_wanted n.config.protocol (found_in n.notes) n.config.logical (pinned_names n.pins) f.rec ≡ true → needed_of n at ≡ true
 unfolding needed_of home_of
 home_is_needed n f at i slot home_at wanted =
@@ -113,10 +114,10 @@ module _ (n : Noted) (noted : IsNoted n.config.protocol n) (law : CopyLaw n.conf
         home_off (shape_of n.config) n.spare more name h.0 (off_same name ∙ h.1) ∙ sym (home_off (shape_of n.config) n.spare old name h.0 h.1))
   ]
 
-  wanted_same : (f : Found) → IsIn old f → is_wanted n.config.protocol more n.config.logical (pinned_names n.pins) f.rec
+  wanted_same : (f : Found) → Contains old f → is_wanted n.config.protocol more n.config.logical (pinned_names n.pins) f.rec
       ≡ is_wanted n.config.protocol old n.config.logical (pinned_names n.pins) f.rec
   wanted_same f i =
-      let low : f.rec.page < n.config.logical = (all_at (PagesExist n.config.logical) old f (noted.sound Pages) i).0 in
+      let low : f.rec.page < n.config.logical = (All-contains (PagesExist n.config.logical) old f (noted.sound Pages) i).0 in
       ap₂ (λ c h. (f.rec.version == c) || h || list_any (λ name. has_name name f.rec) (pinned_names n.pins))
       (keeps.same_current f.rec.page low) (keeps.same_held (name_of f.rec))
 
@@ -164,13 +165,13 @@ module _ (n : Noted) (noted : IsNoted n.config.protocol n) (law : LossLaw n.conf
       let x = home_needed (erased n spare) k needed in
       let f = x.found in
       let name : Link = name_of f.rec in
-      let parts = from_filter (λ g. is_outside (shape_of n.config) spare g.slot.0) f all (subst (λ l. IsIn l f) left_is x.is_in) in
+      let parts = from_filter (λ g. is_outside (shape_of n.config) spare g.slot.0) f all (subst (λ l. Contains l f) left_is x.is_in) in
       let h = first_of (stands_off (shape_of n.config) n.spare name) rest f x.is_in
       (and_from (has_name name f.rec) (is_outside_spare (shape_of n.config) n.spare f.slot.0) (has_own_name name f.rec refl)
       (ap (λ o. is_outside_spare (shape_of n.config) o f.slot.0) is_spare ∙ parts.1)) in
       let here : Some h.0 ≡ Some k = sym (home_off (shape_of n.config) n.spare rest name h.0 h.1) ∙ x.home in
       let at_home : home (shape_of n.config) n.spare all name ≡ Some k = home_off (shape_of n.config) n.spare all name h.0 (sym (off_left name) ∙ h.1) ∙ here in
-      let low : f.rec.page < n.config.logical = (all_at (PagesExist n.config.logical) all f (noted.sound Pages) parts.0).0 in
+      let low : f.rec.page < n.config.logical = (All-contains (PagesExist n.config.logical) all f (noted.sound Pages) parts.0).0 in
       home_is_needed n f k parts.0 x.slot at_home
       (elim x.wanted [
         | inl current ↦ counted_wanted n.config.protocol all n.config.logical (pinned_names n.pins) f.rec

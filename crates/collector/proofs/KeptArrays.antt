@@ -1,7 +1,7 @@
 -- What is kept of an array and of bytes is known too.
 use Rattle.std.proofs.Common.{◌≡◌, ℕ, ◌<◌, ◌≤◌, true, List, None, Contains, sym, ap, ◌∙◌, subst, inl, inr, arith}
 use Rattle.std.proofs.lemmas.Bool.{cases_Bool}
-use Rattle.list_facts.proofs.Membership.{all_at}
+use Rattle.std.proofs.lemmas.List.Elements.{All-contains}
 use Rattle.tx_types.specs.declared.config.Config.{Config}
 use Rattle.tx_types.specs.declared.config.Protocol.{Protocol}
 use Rattle.tx_types.specs.declared.record.Link.{Link}
@@ -27,7 +27,7 @@ pub none_at_zero : (p : Protocol) (image : List Contents) (name : Link) → name
 none_at_zero p image name zero = bytes_absent (written_in p image) name (elim (cases_Bool (is_present (records_in p image) name)) [
   | inl there ↦
       (let f = found_named (records_in p image) name there in
-      let low : 1 ≤ f.0.rec.version = (all_at (λ g. (1 ≤ g.rec.version) × (1 ≤ g.rec.next.version)) (records_in p image) f.0 (records_scanned p image).versions f.1).0 in
+      let low : 1 ≤ f.0.rec.version = (All-contains (λ g. (1 ≤ g.rec.version) × (1 ≤ g.rec.next.version)) (records_in p image) f.0 (records_scanned p image).versions f.1).0 in
       let is : f.0.rec.version ≡ name.version = ap (λ (y : Link). y.version) f.2 in
       absurd (omega arith))
   | inr absent ↦ absent

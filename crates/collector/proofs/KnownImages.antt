@@ -1,15 +1,15 @@
 -- The known image: its notes are those of the tables, it is sound, and it stands for the array that is known.
-use Rattle.std.proofs.Common.{◌≡◌, ℕ, ◌+◌, ◌/◌, ◌<◌, true, false, not, eqb-true, List, length, replicate, Some, All, refl, sym, ap, ◌∙◌, subst, inl, inr, arith}
+use Rattle.std.proofs.Common.{◌≡◌, ℕ, ◌+◌, ◌/◌, ◌<◌, true, false, not, eqb-true, List, length, replicate, Some, All, refl, sym, ap, ◌∙◌, subst, inl, inr, arith, Contains}
 use Rattle.std.specs.Prelude.{◌==◌, IsSomeAnd}
 use Rattle.std.specs.List.{enumerate_from}
 use Rattle.std.specs.Option.{option_map_or}
 use Rattle.std.proofs.lemmas.Bool.{cases_Bool, cond-true, cond-false, not-true}
 use Rattle.std.proofs.lemmas.Option.{same_Some}
 use Rattle.std.proofs.lemmas.List.{length-map, get_or-map, ext_get_or}
-use Rattle.std.proofs.lemmas.List.Elements.{All-from_get_or}
+use Rattle.std.proofs.lemmas.List.Elements.{All-from_get_or, All-contains}
 use Rattle.std.proofs.lemmas.List.FromFn.{length-enumerate_from, get_or-enumerate_from}
+use Rattle.list_facts.proofs.Membership.{all_from}
 use Rattle.list_facts.proofs.Ranges.{same_range}
-use Rattle.list_facts.proofs.Membership.{IsIn, all_at, all_from}
 use Rattle.tx_types.specs.Config.{shape_of, slots_of, blocks_of}
 use Rattle.tx_types.specs.declared.config.Protocol.{Protocol}
 use Rattle.tx_types.specs.declared.record.Link.{Link}
@@ -137,7 +137,7 @@ module _ (s : FlashState) (n : Noted) (t : BlockTable) (u : Unsure) (m : Matches
 
   pages : (slot : ℕ) (rec : Rec) → note_at n.notes slot ≡ Holds rec → slot < slots_of s.shape → (rec.page < n.config.logical) × (rec.next.page < n.config.logical)
   pages slot rec holds within =
-      all_at (PagesExist n.config.logical) (found_in n.notes) (found slot rec) (m.noted.sound Pages)
+      All-contains (PagesExist n.config.logical) (found_in n.notes) (found slot rec) (m.noted.sound Pages)
       (noted_in n.notes slot rec (omega (arith, m.noted.slots, ap slots_of m.shape)) holds)
 
   known_reads : (slot : ℕ) → slot < length known → SlotReads p n.config.logical (slot_at known slot)
@@ -149,11 +149,11 @@ module _ (s : FlashState) (n : Noted) (t : BlockTable) (u : Unsure) (m : Matches
   one : IsOneText old
   one = one_text old (records_scanned p s.image) m.sound.written.bytes
 
-  old_text : (w : Written) → IsIn old w → w.bytes ≡ text n.config.page_bytes old (name_of w.rec)
+  old_text : (w : Written) → Contains old w → w.bytes ≡ text n.config.page_bytes old (name_of w.rec)
   old_text w i = sym (ap (λ o. option_map_or (λ bytes. bytes) o (replicate n.config.page_bytes 0)) (bytes_of old w one i))
 
   -- a record of it has the bytes of its name
-  known_text : (w : Written) → IsIn new w → w.bytes ≡ text n.config.page_bytes old (name_of w.rec)
+  known_text : (w : Written) → Contains new w → w.bytes ≡ text n.config.page_bytes old (name_of w.rec)
   known_text w i =
       let r = is_read p known w i in
       let within : w.slot.0 < slots_of s.shape = (let low = r.within in omega (arith, length_known, m.flash.slots)) in

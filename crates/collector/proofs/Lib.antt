@@ -14,7 +14,7 @@ pub mod SettledBlocks
 pub mod OwnExits
 pub mod Programming
 pub mod SpareCalls
-pub mod Ranges
+pub mod BlankNotes
 pub mod Victims
 pub mod Shapes
 pub mod Cleanings

@@ -1,6 +1,7 @@
 -- Tables that lose the records of a block, outside which each wanted record has a slot.
 use Rattle.std.proofs.Common.{◌≡◌, ℕ, ◌<◌, Bool, true, List, Contains, None, refl, sym, ap, ◌∙◌, subst, inl, arith}
-use Rattle.list_facts.proofs.Membership.{IsIn, all_at, all_from, from_filter}
+use Rattle.std.proofs.lemmas.List.Elements.{All-contains}
+use Rattle.list_facts.proofs.Membership.{all_from, from_filter}
 use Rattle.tx_types.specs.Config.{shape_of, blocks_of}
 use Rattle.tx_types.specs.declared.record.Link.{Link}
 use Rattle.record_list.specs.declared.found.Found.{Found}
@@ -42,10 +43,10 @@ module _ (n : Noted) (noted : IsNoted n.config.protocol n) (law : LossLaw n.conf
       (dispensable_removable n.config.protocol old n.config.logical (pinned_names n.pins) (shape_of n.config) block spared)
 
   -- a wanted name that is there stays
-  wanted_stays : (f : Found) → IsIn old f → is_wanted n.config.protocol old n.config.logical (pinned_names n.pins) f.rec ≡ true →
+  wanted_stays : (f : Found) → Contains old f → is_wanted n.config.protocol old n.config.logical (pinned_names n.pins) f.rec ≡ true →
       is_present fewer (name_of f.rec) ≡ true
   wanted_stays f i w =
-      all_at (λ f. is_wanted n.config.protocol old n.config.logical (pinned_names n.pins) f.rec ≡ true → is_present (left keep old) (name_of f.rec) ≡ true) old f spared i w
+      All-contains (λ f. is_wanted n.config.protocol old n.config.logical (pinned_names n.pins) f.rec ≡ true → is_present (left keep old) (name_of f.rec) ≡ true) old f spared i w
 
   current_same : (page : ℕ) → page < n.config.logical → current_of (blocked n block note) page ≡ current_of n page
   unfolding current_of

@@ -4,7 +4,6 @@ use Rattle.std.specs.Prelude.{◌==◌}
 use Rattle.std.proofs.lemmas.Bool.{and_parts}
 use Rattle.std.proofs.lemmas.Option.{same_Some}
 use Rattle.list_facts.proofs.Tests.{any_of}
-use Rattle.list_facts.proofs.Membership.{IsIn}
 use Rattle.tx_types.specs.Config.{shape_of}
 use Rattle.record_list.specs.declared.found.Found.{Found}
 use Rattle.record_list.specs.Records.{name_of}
@@ -18,7 +17,7 @@ use Rattle.version_index.proofs.Places.{one_in_slot}
 -- a slot that is needed is the home of a wanted record
 pub record IsHome (n : Noted) (at : ℕ) : Type 0 where
   pub found : Found
-  pub is_in : IsIn (found_in n.notes) found
+  pub is_in : Contains (found_in n.notes) found
   pub slot : found.slot.0 ≡ at
   pub home : home_of n (name_of found.rec) ≡ Some at
   pub wanted : IsCurrent n.config.protocol (found_in n.notes) n.config.logical found.rec
@@ -57,5 +56,5 @@ one_home n a b x y same = some_same a b (sym x.home ∙ ap (home_of n) same ∙ 
     some_same a b e = same_Some a b e
 
 -- the record of a home is the one that stands in the slot
-pub found_home : (n : Noted) → IsNoted n.config.protocol n → (f : Found) → IsIn (found_in n.notes) f → (x : IsHome n f.slot.0) → x.found ≡ f
+pub found_home : (n : Noted) → IsNoted n.config.protocol n → (f : Found) → Contains (found_in n.notes) f → (x : IsHome n f.slot.0) → x.found ≡ f
 found_home n noted f i x = one_in_slot (found_in n.notes) x.found f noted.scanned.ascending x.is_in i x.slot

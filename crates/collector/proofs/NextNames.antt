@@ -3,7 +3,8 @@ use Rattle.std.proofs.Common.{◌≡◌, ℕ, ◌<◌, ◌≤◌, Bool, true, fa
 use Rattle.std.specs.Prelude.{if◌then◌else◌}
 use Rattle.std.proofs.lemmas.Bool.{both_ways, cases_Bool}
 use Rattle.std.proofs.lemmas.Option.{none-some, same_Some}
-use Rattle.list_facts.proofs.Membership.{IsIn, all_at, all_from}
+use Rattle.std.proofs.lemmas.List.Elements.{All-contains}
+use Rattle.list_facts.proofs.Membership.{all_from}
 use Rattle.tx_types.specs.declared.config.Config.{Config}
 use Rattle.tx_types.specs.declared.record.Link.{Link}
 use Rattle.record_list.specs.Records.{is_present}
@@ -20,7 +21,7 @@ its_page page version name true e = absurd (none-some name e)
 its_page page version name false e = ap (λ (y : Link). y.page) (sym (same_Some (record { page = page; version = version }) name e))
 
 -- a pinned name is of a page of the pins
-pub pinned_page : (pins : List ℕ) (name : Link) → IsIn (pinned_names pins) name → name.page < length pins
+pub pinned_page : (pins : List ℕ) (name : Link) → Contains (pinned_names pins) name → name.page < length pins
 pinned_page pins name i =
     let h = given_from numbered_pin 0 pins name i in
     let page = its_page _ _ name _ (h.from 0) in
@@ -60,7 +61,7 @@ next_stays n n' names name pages kept h = record {
   beside = subst (λ l. All (IsPinBeside n' names) (pinned_names l)) (sym kept.pins)
       (all_from (IsPinBeside n' names) (pinned_names n.pins) (λ pin i.
       let page = pinned_page n.pins pin i in
-      beside_stays n n' names kept pin (omega (arith, page)) (all_at (IsPinBeside n names) (pinned_names n.pins) pin h.beside i)));
+      beside_stays n n' names kept pin (omega (arith, page)) (All-contains (IsPinBeside n names) (pinned_names n.pins) pin h.beside i)));
   few = subst (λ l. length (pinned_names l) ≤ n'.config.pending) (sym kept.pins)
       (subst (λ (c : Config). length (pinned_names n.pins) ≤ c.pending) (sym kept.config) h.few);
 }

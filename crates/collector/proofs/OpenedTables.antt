@@ -7,7 +7,8 @@ use Rattle.std.proofs.lemmas.Option.{none-some}
 use Rattle.std.proofs.lemmas.List.{length-map, length-replicate, length-take, length-drop, get_or-map, get_or-take, get_or-drop, get_or-replicate}
 use Rattle.std.proofs.lemmas.List.Folds.{list_all_at}
 use Rattle.std.proofs.lemmas.List.FromFn.{get_or-map-range_with_len, length-map-range_with_len}
-use Rattle.list_facts.proofs.Membership.{IsIn, all_at, all_from, in_from, in_filter}
+use Rattle.std.proofs.lemmas.List.Elements.{All-contains}
+use Rattle.list_facts.proofs.Membership.{all_from, in_filter}
 use Rattle.tx_types.specs.Config.{checked, shape_of, slots_of, blocks_of, IsConfig, IsShape}
 use Rattle.tx_types.specs.declared.config.BlockState.TheVariants.{Spare, Clean, Part, Shut}
 use Rattle.tx_types.specs.declared.config.Config.{Config}
@@ -155,7 +156,7 @@ module _ (shape : Shape) (slots : List Seen) (spare : ℕ) where
 -- nothing is pinned
 none_pinned : (pages : ℕ) (name : Link) → Contains (pinned_names (replicate pages 0)) name → ⊥
 none_pinned pages name pin =
-    let h = given_from numbered_pin 0 (replicate pages 0) name (in_from (pinned_names (replicate pages 0)) name pin) in
+    let h = given_from numbered_pin 0 (replicate pages 0) name pin in
     let within : h.at < pages = (let w = h.within in let long = length-replicate {A = ℕ} pages 0 in omega (arith, w, long)) in
     let none : pinned_at (0 + h.at) (get_or (replicate pages 0) h.at 0) ≡ None = ap (pinned_at (0 + h.at)) (get_or-replicate pages h.at 0 0 within) in
     none-some name (sym none ∙ h.from 0)
@@ -210,7 +211,7 @@ module _ (its : Config) (s : FlashState) (check : checked its ≡ Ok s.shape) (w
   }
 
   -- no record stands in a blank block
-  blank_apart : reads_blank_block sh (seen_in s.image) spare ≡ true → (f : Found) → IsIn (found_in n.notes) f → is_outside sh spare f.slot.0 ≡ true
+  blank_apart : reads_blank_block sh (seen_in s.image) spare ≡ true → (f : Found) → Contains (found_in n.notes) f → is_outside sh spare f.slot.0 ≡ true
   blank_apart all_blank f i = elim (cases_Bool (is_outside sh spare f.slot.0)) [
     | inl out ↦ out
     | inr inside ↦
@@ -221,11 +222,11 @@ module _ (its : Config) (s : FlashState) (check : checked its ≡ Ok s.shape) (w
         cc)
   ]
 
-  removable_spared : IsRemovable its.protocol list its.logical sh spare → (f : Found) → IsIn (found_in n.notes) f →
+  removable_spared : IsRemovable its.protocol list its.logical sh spare → (f : Found) → Contains (found_in n.notes) f →
       is_wanted its.protocol (found_in n.notes) its.logical (pinned_names n.pins) f.rec ≡ true → is_present (left (is_outside sh spare) (found_in n.notes)) (name_of f.rec) ≡ true
   removable_spared removable f i w =
       let removable' = subst (λ l. IsRemovable its.protocol l its.logical sh spare) (sym same) removable in
-      let counted = all_at (λ f. IsCurrent its.protocol (found_in n.notes) its.logical f.rec ⊎ (is_held its.protocol (found_in n.notes) its.logical (name_of f.rec) ≡ true) →
+      let counted = All-contains (λ f. IsCurrent its.protocol (found_in n.notes) its.logical f.rec ⊎ (is_held its.protocol (found_in n.notes) its.logical (name_of f.rec) ≡ true) →
       is_present (left (is_outside sh spare) (found_in n.notes)) (name_of f.rec) ≡ true) (found_in n.notes) f removable' i in
       elim (wanted_cases its.protocol (found_in n.notes) its.logical (pinned_names n.pins) f.rec w) [
         | inl current ↦ counted (inl current)

@@ -1,8 +1,9 @@
 -- A record that a transaction in progress asks for is noted in a slot outside the spare: what can be spared then.
-use Rattle.std.proofs.Common.{◌≡◌, ◌≢◌, ℕ, ◌<◌, Bool, true, false, eq-eqb, eqb-true, List, [], ◌∷◌, length, refl, sym, ap, ◌∙◌, subst, inl, inr}
+use Rattle.std.proofs.Common.{◌≡◌, ◌≢◌, ℕ, ◌<◌, Bool, true, false, eq-eqb, eqb-true, List, [], ◌∷◌, length, refl, sym, ap, ◌∙◌, subst, inl, inr, Contains}
 use Rattle.std.specs.Prelude.{◌==◌}
 use Rattle.std.proofs.lemmas.Bool.{cases_Bool}
-use Rattle.list_facts.proofs.Membership.{IsIn, all_at, all_from, contains_from, in_from, from_filter, in_filter}
+use Rattle.std.proofs.lemmas.List.Elements.{All-contains}
+use Rattle.list_facts.proofs.Membership.{all_from, from_filter, in_filter, Contains-cases, Contains-first, Contains-nil, Contains-rest}
 use Rattle.tx_types.specs.Config.{shape_of}
 use Rattle.tx_types.specs.declared.config.Protocol.{Protocol}
 use Rattle.tx_types.specs.declared.record.Link.{Link}
@@ -25,16 +26,16 @@ use Rattle.die_alloc.specs.BlockTable.{BlockTable}
 
 -- a page is one of a transaction's, or none of them
 pub data OfPages (names : List Link) (page : ℕ) : Type 0 where
-  one : (name : Link) → IsIn names name → name.page ≡ page → OfPages names page
-  none : ((name : Link) → IsIn names name → name.page ≢ page) → OfPages names page
+  one : (name : Link) → Contains names name → name.page ≡ page → OfPages names page
+  none : ((name : Link) → Contains names name → name.page ≢ page) → OfPages names page
 
 pub of_pages : (names : List Link) (page : ℕ) → OfPages names page
-of_pages [] page = none (λ name i. absurd i)
+of_pages [] page = none (λ name i. absurd (Contains-nil name i))
 of_pages (n ∷ ns) page = elim (cases_Bool (n.page == page)) [
-  | inl e ↦ one n (inl refl) (eqb-true n.page page e)
+  | inl e ↦ one n (Contains-first n ns) (eqb-true n.page page e)
   | inr e ↦ elim (of_pages ns page) [
-    | one name i is ↦ one name (inr i) is
-    | none other ↦ none (λ name i. elim i [
+    | one name i is ↦ one name (Contains-rest n ns name i) is
+    | none other ↦ none (λ name i. elim (Contains-cases n ns name i) [
       | inl is ↦ λ same. let yes = eq-eqb n.page page (ap (λ (x : Link). x.page) is ∙ same) in cc
       | inr j ↦ other name j
     ])
@@ -43,16 +44,16 @@ of_pages (n ∷ ns) page = elim (cases_Bool (n.page == page)) [
 
 -- each name is there, or one is not
 pub data AreThere (l : List Found) (names : List Link) : Type 0 where
-  all : ((name : Link) → IsIn names name → is_present l name ≡ true) → AreThere l names
-  missing : (name : Link) → IsIn names name → is_present l name ≡ false → AreThere l names
+  all : ((name : Link) → Contains names name → is_present l name ≡ true) → AreThere l names
+  missing : (name : Link) → Contains names name → is_present l name ≡ false → AreThere l names
 
 pub are_there : (l : List Found) (names : List Link) → AreThere l names
-are_there l [] = all (λ name i. absurd i)
+are_there l [] = all (λ name i. absurd (Contains-nil name i))
 are_there l (n ∷ ns) = elim (cases_Bool (is_present l n)) [
-  | inr e ↦ missing n (inl refl) e
+  | inr e ↦ missing n (Contains-first n ns) e
   | inl e ↦ elim (are_there l ns) [
-    | missing name i is ↦ missing name (inr i) is
-    | all each ↦ all (λ name i. elim i [
+    | missing name i is ↦ missing name (Contains-rest n ns name i) is
+    | all each ↦ all (λ name i. elim (Contains-cases n ns name i) [
       | inl is ↦ subst (λ x. is_present l x ≡ true) is e
       | inr j ↦ each name j
     ])
@@ -106,22 +107,22 @@ module _ (n : Noted) (noted : IsNoted n.config.protocol n) (partial : PartialWri
       (in_filter (λ f. keep f.slot.0) (found at rec) more (new_in old more (found at rec) added) out) refl
 
   -- a record of the transaction that was there has a slot outside
-  own_out : (f : Found) → IsIn old f → IsIn names (name_of f.rec) → is_present (left keep more) (name_of f.rec) ≡ true
+  own_out : (f : Found) → Contains old f → Contains names (name_of f.rec) → is_present (left keep more) (name_of f.rec) ≡ true
   own_out f i named =
       stays_out (name_of f.rec)
-      (all_at (λ name. is_present old name ≡ true → is_present (left keep old) name ≡ true) names (name_of f.rec) take.outside named
+      (All-contains (λ name. is_present old name ≡ true → is_present (left keep old) name ≡ true) names (name_of f.rec) take.outside named
       (present_as old f (name_of f.rec) i refl))
 
-  old_out : (f : Found) → IsIn old f → CanSpare n t.spare → is_wanted p old n.config.logical (pinned_names n.pins) f.rec ≡ true → is_present (left keep more) (name_of f.rec) ≡ true
+  old_out : (f : Found) → Contains old f → CanSpare n t.spare → is_wanted p old n.config.logical (pinned_names n.pins) f.rec ≡ true → is_present (left keep more) (name_of f.rec) ≡ true
   old_out f i spared w =
       stays_out (name_of f.rec)
-      (all_at (λ f. is_wanted p old n.config.logical (pinned_names n.pins) f.rec ≡ true → is_present (left keep old) (name_of f.rec) ≡ true) old f spared i w)
+      (All-contains (λ f. is_wanted p old n.config.logical (pinned_names n.pins) f.rec ≡ true → is_present (left keep old) (name_of f.rec) ≡ true) old f spared i w)
 
-  page_within : (f : Found) → IsIn old f → f.rec.page < n.config.logical
-  page_within f i = (all_at (PagesExist n.config.logical) old f (noted.sound Pages) i).0
+  page_within : (f : Found) → Contains old f → f.rec.page < n.config.logical
+  page_within f i = (All-contains (PagesExist n.config.logical) old f (noted.sound Pages) i).0
 
   -- where the cycle stays open
-  open_case : PartialWriteKeeps p old more n.config.logical names → CanSpare n t.spare → (f : Found) → IsIn old f →
+  open_case : PartialWriteKeeps p old more n.config.logical names → CanSpare n t.spare → (f : Found) → Contains old f →
       is_wanted p more n.config.logical (pinned_names n.pins) f.rec ≡ true → is_present (left keep more) (name_of f.rec) ≡ true
   open_case kept spared f i w = old_out f i spared (elim (wanted_cases p more n.config.logical (pinned_names n.pins) f.rec w) [
     | inl current ↦ counted_wanted p old n.config.logical (pinned_names n.pins) f.rec (inl (current ∙ kept.same_current f.rec.page (page_within f i)))
@@ -130,35 +131,34 @@ module _ (n : Noted) (noted : IsNoted n.config.protocol n) (partial : PartialWri
   ])
 
   -- where it is completed, and the record is current then
-  current_case : CompletingWriteKeeps p old more n.config.logical names → CanSpare n t.spare → (f : Found) → IsIn old f →
+  current_case : CompletingWriteKeeps p old more n.config.logical names → CanSpare n t.spare → (f : Found) → Contains old f →
       IsCurrent p more n.config.logical f.rec → OfPages names f.rec.page → is_present (left keep more) (name_of f.rec) ≡ true
   current_case kept spared f i current (one name named is) =
       let version : f.rec.version ≡ name.version =
-      current ∙ ap (cur p more n.config.logical) (sym is) ∙ all_at (λ name. cur p more n.config.logical name.page ≡ name.version) names name kept.committed named in
+      current ∙ ap (cur p more n.config.logical) (sym is) ∙ All-contains (λ name. cur p more n.config.logical name.page ≡ name.version) names name kept.committed named in
       let same : name_of f.rec ≡ name = ap (λ v. record { page = f.rec.page; version = v }) version ∙ ap (λ q. record { page = q; version = name.version }) (sym is) in
-      own_out f i (subst (IsIn names) (sym same) named)
+      own_out f i (subst (Contains names) (sym same) named)
   current_case kept spared f i current (none other) =
       let away = all_from (λ name. name.page ≢ f.rec.page) names other in
       old_out f i spared (counted_wanted p old n.config.logical (pinned_names n.pins) f.rec (inl (current ∙ kept.elsewhere f.rec.page (page_within f i) away)))
 
-  whole_case : CompletingWriteKeeps p old more n.config.logical names → CanSpare n t.spare → (f : Found) → IsIn old f →
+  whole_case : CompletingWriteKeeps p old more n.config.logical names → CanSpare n t.spare → (f : Found) → Contains old f →
       is_wanted p more n.config.logical (pinned_names n.pins) f.rec ≡ true → is_present (left keep more) (name_of f.rec) ≡ true
   whole_case kept spared f i w = elim (wanted_cases p more n.config.logical (pinned_names n.pins) f.rec w) [
     | inl current ↦ current_case kept spared f i current (of_pages names f.rec.page)
     | inr (inl held) ↦ elim (kept.held (name_of f.rec) held) [
       | inl was_held ↦ old_out f i spared (counted_wanted p old n.config.logical (pinned_names n.pins) f.rec (inr was_held))
-      | inr named ↦ own_out f i (in_from names (name_of f.rec) named)
+      | inr named ↦ own_out f i named
     ]
     | inr (inr pin) ↦ old_out f i spared (pinned_wanted p old n.config.logical (pinned_names n.pins) f.rec pin)
   ]
 
-  each_out : AreThere more names → CanSpare n t.spare → (f : Found) → IsIn old f →
+  each_out : AreThere more names → CanSpare n t.spare → (f : Found) → Contains old f →
       is_wanted p more n.config.logical (pinned_names n.pins) f.rec ≡ true → is_present (left keep more) (name_of f.rec) ≡ true
   each_out (all there) spared =
       whole_case (completing old more n.config.logical names (found at rec) noted.sound write (all_from (λ name. is_present more name ≡ true) names there)) spared
   each_out (missing name named absent) spared =
-      let k = contains_from names name named in
-      open_case (partial old more n.config.logical names (found at rec) noted.sound write (k.0, name, k.1, k.2, absent)) spared
+      open_case (partial old more n.config.logical names (found at rec) noted.sound write (named.0, name, named.1, named.2, absent)) spared
 
   pub programmed_spared : CanSpare n t.spare → CanSpare (programmed n at rec) t.spare
   programmed_spared spared =

@@ -6,8 +6,8 @@ use Rattle.std.proofs.Math.Nat.{mul_comm}
 use Rattle.std.proofs.lemmas.Nat.{div_below}
 use Rattle.std.proofs.lemmas.Bool.{or_parts, not-true, not-false}
 use Rattle.std.proofs.lemmas.List.{get_or-set_same}
+use Rattle.std.proofs.lemmas.List.Elements.{All-contains}
 use Rattle.list_facts.proofs.Ranges.{in_range, all_range, range_all}
-use Rattle.list_facts.proofs.Membership.{IsIn, all_at, in_from}
 use Rattle.list_facts.proofs.Counts.{count_some, none_in_range}
 use Rattle.tx_types.specs.Config.{shape_of, slots_of, blocks_of}
 use Rattle.tx_types.specs.declared.config.Shape.{Shape}
@@ -38,7 +38,7 @@ use Rattle.collector.specs.Matches.{Matches}
 use Rattle.collector.specs.Victim.{IsVictim, HasNoGarbage, is_shut}
 use Rattle.collector.proofs.GoingCounts.{has_unneeded}
 use Rattle.collector.proofs.NotesLeft.{note_at-in}
-use Rattle.collector.proofs.Ranges.{noted_blank}
+use Rattle.collector.proofs.BlankNotes.{noted_blank}
 use Rattle.collector.proofs.Space.{IsFilled, slots_few}
 
 -- a garbage slot is not needed
@@ -56,19 +56,19 @@ blank_erased n noted block below =
 
 -- a name of a transaction in progress that is there has nobody responsible
 unanswered : (n : Noted) → IsNoted n.config.protocol n → (ts : List Link) → InProgress n.config.protocol (found_in n.notes) n.config.logical ts →
-    (f : Found) → IsIn (found_in n.notes) f → IsIn ts (name_of f.rec) → responsible n.config.protocol (found_in n.notes) n.config.logical f.rec.next ≡ 0
+    (f : Found) → Contains (found_in n.notes) f → Contains ts (name_of f.rec) → responsible n.config.protocol (found_in n.notes) n.config.logical f.rec.next ≡ 0
 unanswered n noted ts h f i own =
     let p = n.config.protocol in
     let list = found_in n.notes in
     let logical = n.config.logical in
     let after = follows_of ts (name_of f.rec) own in
-    let asks = all_at (λ g. IsAsked n.config.protocol (found_in n.notes) n.config.logical ts g.rec) (found_in n.notes) f h.begun.asked i in
-    let pair = all_at (λ (x : Link × Link). name_of f.rec ≡ x.0 → (f.rec.next ≡ x.1) × (f.rec.back ≡ back_version n.config.protocol (found_in n.notes) n.config.logical x.0.page))
+    let asks = All-contains (λ g. IsAsked n.config.protocol (found_in n.notes) n.config.logical ts g.rec) (found_in n.notes) f h.begun.asked i in
+    let pair = All-contains (λ (x : Link × Link). name_of f.rec ≡ x.0 → (f.rec.next ≡ x.1) × (f.rec.back ≡ back_version n.config.protocol (found_in n.notes) n.config.logical x.0.page))
     (zip ts (rounded ts)) (name_of f.rec, after.0) asks after.1 in
     let link = (pair refl).0 in
     let gone = absent_name list ts h.absent in
     let loose = name_loose list logical ts (underway_of p list logical ts h.begun) p (sound_map p list logical noted.sound noted.scanned) gone.0 gone.1 gone.2
-    f.rec.next (subst (IsIn ts) (sym link) (follows_in ts (name_of f.rec) after.0 after.1).1) in
+    f.rec.next (subst (Contains ts) (sym link) (follows_in ts (name_of f.rec) after.0 after.1).1) in
     responsible_high p list logical f.rec.next (omega arith)
 
 module _ (s : FlashState) (n : Noted) (t : BlockTable) (m : Matches s n t unsure.Nothing) where
@@ -120,13 +120,13 @@ module _ (s : FlashState) (n : Noted) (t : BlockTable) (m : Matches s n t unsure
         let inside = inside_block per block slot some refl in
         not-false (needed_of n slot) (none_in_range (is_garbage_at n (shut_or_part true)) (block * per) per count slot inside.0 inside.1)
 
-    pin_unanswered : (f : Found) → IsIn (found_in n.notes) f → IsPinBeside n names (name_of f.rec) →
+    pin_unanswered : (f : Found) → Contains (found_in n.notes) f → IsPinBeside n names (name_of f.rec) →
         IsCurrent n.config.protocol (found_in n.notes) n.config.logical f.rec
         ⊎ (responsible n.config.protocol (found_in n.notes) n.config.logical f.rec.next ≡ 0)
     unfolding current_of
     pin_unanswered f i (inl current) = inl (sym current)
-    pin_unanswered f i (inr (inl own)) = inr (unanswered n m.noted names next.in_progress f i (in_from names (name_of f.rec) own))
-    pin_unanswered f i (inr (inr o)) = inr (unanswered n m.noted o.others o.in_progress f i (in_from o.others (name_of f.rec) o.named))
+    pin_unanswered f i (inr (inl own)) = inr (unanswered n m.noted names next.in_progress f i own)
+    pin_unanswered f i (inr (inr o)) = inr (unanswered n m.noted o.others o.in_progress f i o.named)
 
     filled : HasNoGarbage n t → IsFilled n t.spare
     filled none = record {
@@ -134,9 +134,9 @@ module _ (s : FlashState) (n : Noted) (t : BlockTable) (m : Matches s n t unsure
       below = spare_within;
       blank = spare_blank;
       needed = all_needed none;
-      pins = λ f i pin. pin_unanswered f i (all_at (IsPinBeside n names) (pinned_names n.pins) (name_of f.rec) next.beside (in_from (pinned_names n.pins) (name_of f.rec) pin));
+      pins = λ f i pin. pin_unanswered f i (All-contains (IsPinBeside n names) (pinned_names n.pins) (name_of f.rec) next.beside pin);
       absent = name;
-      is_pinned = in_from (pinned_names n.pins) name (all_at (λ own. Contains (pinned_names n.pins) own) names name next.pinned (in_from names name next.named));
+      is_pinned = (All-contains (λ own. Contains (pinned_names n.pins) own) names name next.pinned next.named);
       is_absent = next.absent;
     }
 

@@ -13,8 +13,9 @@ use Rattle.std.proofs.lemmas.Bool.Decides.{Decides-eqb}
 use Rattle.record_list.specs.SoundList.{Pages, PagesExist}
 use Rattle.version_index.proofs.Blocks.{inside_block, in_it}
 use Rattle.std.proofs.lemmas.Bool.{cases_Bool, cases_lt, both_ways, cond-true, cond-false, and_parts, and_from}
+use Rattle.std.proofs.lemmas.List.Elements.{All-contains}
+use Rattle.list_facts.proofs.Membership.{Contains-cases, Contains-nil}
 use Rattle.list_facts.proofs.Tests.{any_of}
-use Rattle.list_facts.proofs.Membership.{IsIn, in_from, contains_from, all_at}
 use Rattle.tx_types.specs.declared.config.Protocol.{Protocol}
 use Rattle.tx_types.specs.declared.config.Protocol.TheVariants.{Scc, Bpcc}
 use Rattle.tx_types.specs.declared.record.Link.{Link}
@@ -49,7 +50,7 @@ held_low l n name h =
 -- where a name is held, some record is loose and has a responsible one
 pub record HasAnswered (l : List Found) (n : ℕ) : Type 0 where
   pub found : Found
-  pub is_in : IsIn l found
+  pub is_in : Contains l found
   pub loose : cur Bpcc l n found.rec.page < found.rec.version
   pub answered : 1 ≤ responsible Bpcc l n found.rec.next
 
@@ -73,27 +74,27 @@ same_link a b e =
 itself : (a b : Link) → a ≡ b → is_same a b ≡ true
 itself a b e = and_from (a.page == b.page) (a.version == b.version) (eq-eqb a.page b.page (ap (λ (x : Link). x.page) e)) (eq-eqb a.version b.version (ap (λ (x : Link). x.version) e))
 
-place_low : (vs : List Link) (u : Link) → IsIn vs u → place vs u < length vs
+place_low : (vs : List Link) (u : Link) → Contains vs u → place vs u < length vs
 unfolding place
-place_low [] u i = absurd i
+place_low [] u i = absurd (Contains-nil u i)
 place_low (v ∷ vs) u i = elim (cases_Bool (is_same v u)) [
   | inl e ↦ subst (λ k. k < length (v ∷ vs)) (sym (cond-true (is_same v u) 0 (place vs u + 1) e)) (omega arith)
-  | inr e ↦ subst (λ k. k < length (v ∷ vs)) (sym (cond-false (is_same v u) 0 (place vs u + 1) e)) (elim i [
+  | inr e ↦ subst (λ k. k < length (v ∷ vs)) (sym (cond-false (is_same v u) 0 (place vs u + 1) e)) (elim (Contains-cases v vs u i) [
     | inl same ↦ absurd (both_ways (is_same v u) e (itself v u same))
     | inr j ↦ (let low = place_low vs u j in omega arith)
   ])
 ]
 
 -- two names of a list with one place are one
-place_one : (vs : List Link) (u w : Link) → IsIn vs u → IsIn vs w → place vs u ≡ place vs w → u ≡ w
+place_one : (vs : List Link) (u w : Link) → Contains vs u → Contains vs w → place vs u ≡ place vs w → u ≡ w
 unfolding place
-place_one [] u w i j e = absurd i
+place_one [] u w i j e = absurd (Contains-nil u i)
 place_one (v ∷ vs) u w i j e = by (λ x y z. place_one vs u w x y z) (is_same v u) (is_same v w) refl refl e
   where
-    in_rest : (x : Link) → is_same v x ≡ false → IsIn (v ∷ vs) x → IsIn vs x
-    in_rest x other k = elim k [ inl same ↦ absurd (both_ways (is_same v x) other (itself v x same)) | inr r ↦ r ]
+    in_rest : (x : Link) → is_same v x ≡ false → Contains (v ∷ vs) x → Contains vs x
+    in_rest x other k = elim (Contains-cases v vs x k) [ inl same ↦ absurd (both_ways (is_same v x) other (itself v x same)) | inr r ↦ r ]
 
-    by : (IsIn vs u → IsIn vs w → place vs u ≡ place vs w → u ≡ w) → (a b : Bool) → is_same v u ≡ a → is_same v w ≡ b → (if a then 0 else place vs u + 1) ≡ (if b then 0 else place vs w + 1) → u ≡ w
+    by : (Contains vs u → Contains vs w → place vs u ≡ place vs w → u ≡ w) → (a b : Bool) → is_same v u ≡ a → is_same v w ≡ b → (if a then 0 else place vs u + 1) ≡ (if b then 0 else place vs w + 1) → u ≡ w
     by next true true x y h = sym (same_link v u x) ∙ same_link v w y
     by next true false x y h = absurd (omega (arith, h))
     by next false true x y h = absurd (omega (arith, h))
@@ -138,11 +139,11 @@ pub record IsFilled (n : Noted) (spare : ℕ) : Type 0 where
   pub below : spare < blocks_of (shape_of n.config)
   pub blank : (slot : ℕ) → is_outside (shape_of n.config) spare slot ≡ false → note_at n.notes slot ≡ Blank
   pub needed : (slot : ℕ) → slot < slots_of (shape_of n.config) → is_outside (shape_of n.config) spare slot ≡ true → needed_of n slot ≡ true
-  pub pins : (f : Found) → IsIn (found_in n.notes) f → Contains (pinned_names n.pins) (name_of f.rec) →
+  pub pins : (f : Found) → Contains (found_in n.notes) f → Contains (pinned_names n.pins) (name_of f.rec) →
       IsCurrent n.config.protocol (found_in n.notes) n.config.logical f.rec
       ⊎ (responsible n.config.protocol (found_in n.notes) n.config.logical f.rec.next ≡ 0)
   pub absent : Link
-  pub is_pinned : IsIn (pinned_names n.pins) absent
+  pub is_pinned : Contains (pinned_names n.pins) absent
   pub is_absent : is_present (found_in n.notes) absent ≡ false
 
 module _ (n : Noted) (spare : ℕ) (h : IsFilled n spare) where
@@ -156,7 +157,7 @@ module _ (n : Noted) (spare : ℕ) (h : IsFilled n spare) where
   pinned = pinned_names n.pins
 
   -- a record stands outside the spare, in a slot that is its home
-  record_home : (f : Found) → IsIn list f → IsHome n f.slot.0
+  record_home : (f : Found) → Contains list f → IsHome n f.slot.0
   record_home f i =
       let there = noted_from n.notes f i in
       home_needed n f.slot.0 (h.needed f.slot.0 (omega (arith, there.0, h.noted.slots)) (out (is_outside (shape_of n.config) spare f.slot.0) refl there.1))
@@ -197,9 +198,9 @@ module _ (n : Noted) (spare : ℕ) (h : IsFilled n spare) where
   pub record CurrentOrPinned (slot : ℕ) : Type 0 where
     pub rec : Rec
     pub holds : note_at n.notes slot ≡ Holds rec
-    pub is_in : IsIn list (found slot rec)
+    pub is_in : Contains list (found slot rec)
     pub home : home_of n (name_of rec) ≡ Some slot
-    pub why : IsCurrent n.config.protocol list logical rec ⊎ IsIn pinned (name_of rec)
+    pub why : IsCurrent n.config.protocol list logical rec ⊎ Contains pinned (name_of rec)
 
   holder : (slot : ℕ) → slot < slots_of (shape_of n.config) → is_outside (shape_of n.config) spare slot ≡ true → CurrentOrPinned slot
   holder slot within out =
@@ -214,7 +215,7 @@ module _ (n : Noted) (spare : ℕ) (h : IsFilled n spare) where
         why = elim x.wanted [
           | inl current ↦ inl current
           | inr (inl held) ↦ absurd (none_held n.config.protocol refl (name_of x.found.rec) held)
-          | inr (inr pin) ↦ inr (in_from pinned (name_of x.found.rec) pin)
+          | inr (inr pin) ↦ inr pin
         ];
       }
 
@@ -229,14 +230,14 @@ module _ (n : Noted) (spare : ℕ) (h : IsFilled n spare) where
   -- what the number of a holder's name is
   number_cases : (slot : ℕ) (x : CurrentOrPinned slot) →
       ((IsCurrent n.config.protocol list logical x.rec) × (number (name_of x.rec) ≡ x.rec.page))
-      ⊎ (IsIn pinned (name_of x.rec) × (number (name_of x.rec) ≡ logical + place pinned (name_of x.rec)))
+      ⊎ (Contains pinned (name_of x.rec) × (number (name_of x.rec) ≡ logical + place pinned (name_of x.rec)))
   unfolding number
   number_cases slot x =
       by (x.rec.version == cur n.config.protocol list logical x.rec.page) refl
     where
       by : (b : Bool) → (x.rec.version == cur n.config.protocol list logical x.rec.page) ≡ b →
           ((IsCurrent n.config.protocol list logical x.rec) × ((if x.rec.version == cur n.config.protocol list logical x.rec.page then x.rec.page else logical + place pinned (name_of x.rec)) ≡ x.rec.page))
-          ⊎ (IsIn pinned (name_of x.rec) × ((if x.rec.version == cur n.config.protocol list logical x.rec.page then x.rec.page else logical + place pinned (name_of x.rec)) ≡ logical + place pinned (name_of x.rec)))
+          ⊎ (Contains pinned (name_of x.rec) × ((if x.rec.version == cur n.config.protocol list logical x.rec.page then x.rec.page else logical + place pinned (name_of x.rec)) ≡ logical + place pinned (name_of x.rec)))
       by true e = inl (eqb-true x.rec.version (cur n.config.protocol list logical x.rec.page) e, cond-true (x.rec.version == cur n.config.protocol list logical x.rec.page) x.rec.page (logical + place pinned (name_of x.rec)) e)
       by false e = inr (
         elim x.why [
@@ -247,7 +248,7 @@ module _ (n : Noted) (spare : ℕ) (h : IsFilled n spare) where
       )
 
   page_low : (slot : ℕ) (x : CurrentOrPinned slot) → x.rec.page < logical
-  page_low slot x = (all_at (PagesExist logical) list (found slot x.rec) (h.noted.sound Pages) x.is_in).0
+  page_low slot x = (All-contains (PagesExist logical) list (found slot x.rec) (h.noted.sound Pages) x.is_in).0
 
   -- two slots with one number are one
   one_number : (a b : ℕ) (x : CurrentOrPinned a) (y : CurrentOrPinned b) → number (name_of x.rec) ≡ number (name_of y.rec) → a ≡ b
@@ -339,17 +340,16 @@ module _ (n : Noted) (spare : ℕ) (h : IsFilled n spare) where
       let most = length-le_from_distinct_below (extra ∷ numbers) (logical + length pinned) (IsDistinct-from_AllPairs Decides-eqb (extra ∷ numbers) all) below in
       omega (arith, most, long)
     where
-      numbers_low : (x : ℕ) → IsIn numbers x → x < logical + length pinned
+      numbers_low : (x : ℕ) → Contains numbers x → x < logical + length pinned
       numbers_low x i =
-          let c = contains_from numbers x i in
-          let low : c.0 < count = omega (arith, c.1, long) in
-          subst (λ y. y < logical + length pinned) (sym (numbers_at c.0 x low) ∙ c.2) (number_low (at c.0) (held_by c.0 low))
+          let low : i.0 < count = omega (arith, i.1, long) in
+          subst (λ y. y < logical + length pinned) (sym (numbers_at i.0 x low) ∙ i.2) (number_low (at i.0) (held_by i.0 low))
 
       below : (q : ℕ) → list_any (eqb q) ((logical + place pinned h.absent) ∷ numbers) ≡ true → q < logical + length pinned
       below q e =
           let any = any_of (eqb q) ((logical + place pinned h.absent) ∷ numbers) e in
           let same : q ≡ any.0 = eqb-true q any.0 any.2 in
-          elim any.1 [
+          elim (Contains-cases (logical + place pinned h.absent) numbers any.0 any.1) [
             | inl first ↦ omega (arith, same, first, place_low pinned h.absent h.is_pinned)
             | inr rest ↦ omega (arith, same, numbers_low any.0 rest)
           ]

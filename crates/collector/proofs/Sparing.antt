@@ -1,7 +1,8 @@
 -- Once what is needed in a block stands in the spare too, the block can be spared.
-use Rattle.std.proofs.Common.{◌≡◌, ℕ, ◌<◌, true, false, List, length, Some, refl, sym, ap, ◌∙◌, subst, inl, inr}
+use Rattle.std.proofs.Common.{◌≡◌, ℕ, ◌<◌, true, false, List, length, Some, refl, sym, ap, ◌∙◌, subst, inl, inr, Contains}
 use Rattle.std.proofs.lemmas.Bool.{cases_Bool, and_parts, and_from}
-use Rattle.list_facts.proofs.Membership.{IsIn, all_from, all_at, from_filter, in_filter}
+use Rattle.std.proofs.lemmas.List.Elements.{All-contains}
+use Rattle.list_facts.proofs.Membership.{all_from, from_filter, in_filter}
 use Rattle.tx_types.specs.Config.{shape_of}
 use Rattle.tx_types.specs.declared.record.Link.{Link}
 use Rattle.record_list.specs.declared.found.Found.{Found}
@@ -27,7 +28,7 @@ module _ (n : Noted) (spare block : ℕ) (is_spare : n.spare ≡ Some spare) (sp
   all = found_in n.notes
 
   -- the record of a name that has its home in the block has a copy outside
-  copy_there : (f : Found) → IsIn all f → is_outside (shape_of n.config) block f.slot.0 ≡ false → needed_of n f.slot.0 ≡ true →
+  copy_there : (f : Found) → Contains all f → is_outside (shape_of n.config) block f.slot.0 ≡ false → needed_of n f.slot.0 ≡ true →
       is_present (left (is_outside (shape_of n.config) block) all) (name_of f.rec) ≡ true
   copy_there f i inside needed =
       let c = copies f.slot.0 inside needed in
@@ -35,13 +36,13 @@ module _ (n : Noted) (spare block : ℕ) (is_spare : n.spare ≡ Some spare) (sp
       present_as (left (is_outside (shape_of n.config) block) all) (found c.0 f.rec) (name_of f.rec)
       (in_filter (λ g. is_outside (shape_of n.config) block g.slot.0) (found c.0 f.rec) all (noted_in n.notes c.0 f.rec c.1 holds) c.2) refl
 
-  wanted_there : (f : Found) → IsIn all f → is_wanted n.config.protocol all n.config.logical (pinned_names n.pins) f.rec ≡ true →
+  wanted_there : (f : Found) → Contains all f → is_wanted n.config.protocol all n.config.logical (pinned_names n.pins) f.rec ≡ true →
       is_present (left (is_outside (shape_of n.config) block) all) (name_of f.rec) ≡ true
   unfolding home_of
   wanted_there f i wanted =
       let name : Link = name_of f.rec in
       let off : is_present (left (is_outside (shape_of n.config) spare) all) name ≡ true =
-      all_at (λ f. is_wanted n.config.protocol all n.config.logical (pinned_names n.pins) f.rec ≡ true →
+      All-contains (λ f. is_wanted n.config.protocol all n.config.logical (pinned_names n.pins) f.rec ≡ true →
       is_present (left (is_outside (shape_of n.config) spare) all) (name_of f.rec) ≡ true) all f spared i wanted in
       let g = found_named (left (is_outside (shape_of n.config) spare) all) name off in
       let parts = from_filter (λ f. is_outside (shape_of n.config) spare f.slot.0) g.0 all g.1 in

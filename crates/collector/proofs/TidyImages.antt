@@ -1,9 +1,9 @@
 -- Where nothing outside the spare is garbage, and the spare is blank, each record of the image is wanted, and stands once.
 use Rattle.std.proofs.Common.{◌≡◌, ◌≢◌, ◌⊎◌, ℕ, ◌*◌, ◌/◌, ◌<◌, Bool, true, false, List, length, get_or, All, AllPairs, Contains, refl, sym, ap, ◌∙◌, subst, inl, inr, arith}
 use Rattle.std.proofs.lemmas.Bool.{cases_eq, ne_eqb}
-use Rattle.std.proofs.lemmas.List.Elements.{All-from_get_or}
+use Rattle.std.proofs.lemmas.List.Elements.{All-from_get_or, Contains-get_or}
+use Rattle.list_facts.proofs.Membership.{all_from}
 use Rattle.list_facts.proofs.Counts.{none_in_range}
-use Rattle.list_facts.proofs.Membership.{IsIn, all_from, in_at}
 use Rattle.tx_types.specs.Config.{shape_of, slots_of, blocks_of}
 use Rattle.tx_types.specs.declared.config.Shape.{Shape}
 use Rattle.flash_model.specs.Flash.{FlashState, blank, damaged, slot_at}
@@ -78,14 +78,14 @@ module _ (s : FlashState) (n : Noted) (t : BlockTable) (m : Matches s n t unsure
       (let k : Damaged ≡ Holds home.found.rec = sym is ∙ holds in cc)
 
   -- each record stands in its home
-  record_home : (f : Found) → IsIn list f → IsHome n f.slot.0
+  record_home : (f : Found) → Contains list f → IsHome n f.slot.0
   record_home f i =
       let at = noted_from n.notes f i in
       let low = at.0 in
       home_full f.slot.0 (omega (arith, m.noted.slots)) (ap is_blank at.1)
 
   -- so one name has one slot
-  one_slot : (f g : Found) → IsIn list f → IsIn list g → name_of f.rec ≡ name_of g.rec → f.slot.0 ≡ g.slot.0
+  one_slot : (f g : Found) → Contains list f → Contains list g → name_of f.rec ≡ name_of g.rec → f.slot.0 ≡ g.slot.0
   one_slot f g i j same =
       one_home n f.slot.0 g.slot.0 (record_home f i) (record_home g j)
       (ap (λ (x : Found). name_of x.rec) (found_home n m.noted f i (record_home f i)) ∙ same ∙ sym (ap (λ (x : Found). name_of x.rec) (found_home n m.noted g j (record_home g j))))
@@ -94,11 +94,11 @@ module _ (s : FlashState) (n : Noted) (t : BlockTable) (m : Matches s n t unsure
   once i j d lt within same =
       let f = get_or list i d in
       let g = get_or list j d in
-      let slots = one_slot f g (in_at list i d (omega arith)) (in_at list j d within) same in
+      let slots = one_slot f g (Contains-get_or list i d (omega arith)) (Contains-get_or list j d within) same in
       let order = m.noted.scanned.ascending i j d lt within in
       absurd (omega (arith, order, slots))
 
-  wanted : (f : Found) → IsIn list f →
+  wanted : (f : Found) → Contains list f →
       IsCurrent n.config.protocol list n.config.logical f.rec
       ⊎ ((is_held n.config.protocol list n.config.logical (name_of f.rec) ≡ true) ⊎ Contains (pinned_names n.pins) (name_of f.rec))
   wanted f i =

@@ -2,7 +2,8 @@
 use Rattle.std.proofs.Common.{◌≡◌, ℕ, ◌<◌, true, false, not, eqb-true, List, length, Contains, refl, sym, ap, ◌∙◌, subst, inl, inr, arith}
 use Rattle.std.specs.Prelude.{◌==◌}
 use Rattle.std.proofs.lemmas.Bool.{cases_Bool}
-use Rattle.list_facts.proofs.Membership.{IsIn, all_at, from_filter}
+use Rattle.std.proofs.lemmas.List.Elements.{All-contains}
+use Rattle.list_facts.proofs.Membership.{from_filter}
 use Rattle.tx_types.specs.Config.{shape_of, slots_of}
 use Rattle.tx_types.specs.declared.record.Link.{Link}
 use Rattle.flash_model.specs.Flash.{FlashState, slot_at}
@@ -33,7 +34,7 @@ module _ (s : FlashState) (n : Noted) (t : BlockTable) (u : Unsure) (m : Matches
   list = found_in n.notes
 
   -- a record of a slot outside the unsure place is one of the image
-  pub sure_present : (f : Found) → IsIn list f → is_unsure s.shape t.spare u f.slot.0 ≡ false → is_present (records_in n.config.protocol s.image) (name_of f.rec) ≡ true
+  pub sure_present : (f : Found) → Contains list f → is_unsure s.shape t.spare u f.slot.0 ≡ false → is_present (records_in n.config.protocol s.image) (name_of f.rec) ≡ true
   sure_present f i sure =
       let at = noted_from n.notes f i in
       let slots = m.noted.slots in
@@ -45,29 +46,29 @@ module _ (s : FlashState) (n : Noted) (t : BlockTable) (u : Unsure) (m : Matches
       (in_records (written_in n.config.protocol s.image) w (read_slot n.config.protocol s.image f.slot.0 reads.bytes reads.spare f.rec long reads.is reads.spells)) refl
 
 abbrev IsWanted : Noted → Link → Type 0
-IsWanted n name = (f : Found) → IsIn (found_in n.notes) f → name_of f.rec ≡ name →
+IsWanted n name = (f : Found) → Contains (found_in n.notes) f → name_of f.rec ≡ name →
     is_wanted n.config.protocol (found_in n.notes) n.config.logical (pinned_names n.pins) f.rec ≡ true
 
 -- a noted record of this name outside the unsure place
 record IsSure (s : FlashState) (n : Noted) (t : BlockTable) (u : Unsure) (name : Link) : Type 0 where
   pub found : Found
-  pub is_in : IsIn (found_in n.notes) found
+  pub is_in : Contains (found_in n.notes) found
   pub named : name_of found.rec ≡ name
   pub sure : is_unsure s.shape t.spare u found.slot.0 ≡ false
 
 -- outside a block that can be spared
 outside_one : (s : FlashState) (n : Noted) (t : BlockTable) (u : Unsure) (m : Matches s n t u) (block : ℕ) → CanSpare n block → (name : Link) → IsThere n name → IsWanted n name →
-    (f : Found) × IsIn (found_in n.notes) f × (name_of f.rec ≡ name) × (not (is_outside s.shape block f.slot.0) ≡ false)
+    (f : Found) × Contains (found_in n.notes) f × (name_of f.rec ≡ name) × (not (is_outside s.shape block f.slot.0) ≡ false)
 outside_one s n t u m block spared name there wanted =
     let f = found_named (found_in n.notes) name there in
-    let stays = all_at (λ f. is_wanted n.config.protocol (found_in n.notes) n.config.logical (pinned_names n.pins) f.rec ≡ true →
+    let stays = All-contains (λ f. is_wanted n.config.protocol (found_in n.notes) n.config.logical (pinned_names n.pins) f.rec ≡ true →
     is_present (left (is_outside (shape_of n.config) block) (found_in n.notes)) (name_of f.rec) ≡ true) (found_in n.notes) f.0 spared f.1 (wanted f.0 f.1 f.2) in
     let g = found_named (left (is_outside (shape_of n.config) block) (found_in n.notes)) name (subst (λ y. is_present (left (is_outside (shape_of n.config) block) (found_in n.notes)) y ≡ true) f.2 stays) in
     let parts = from_filter (λ f. is_outside (shape_of n.config) block f.slot.0) g.0 (found_in n.notes) g.1 in
     (g.0, parts.0, g.2, ap not (ap (λ sh. is_outside sh block g.0.slot.0) m.shape ∙ parts.1))
 
 -- a slot that is noted as blank holds none
-not_blank : (n : Noted) (at : ℕ) → note_at n.notes at ≡ Blank → (f : Found) → IsIn (found_in n.notes) f → (f.slot.0 == at) ≡ false
+not_blank : (n : Noted) (at : ℕ) → note_at n.notes at ≡ Blank → (f : Found) → Contains (found_in n.notes) f → (f.slot.0 == at) ≡ false
 not_blank n at was f i = elim (cases_Bool (f.slot.0 == at)) [
   | inl here ↦ (let k : Holds f.rec ≡ Blank = sym (noted_from n.notes f i).1 ∙ ap (note_at n.notes) (eqb-true f.slot.0 at here) ∙ was in cc)
   | inr other ↦ other

@@ -1,8 +1,8 @@
 -- Open transactions that write no page twice, and what the array has of each when it takes one.
-use Rattle.std.proofs.Common.{◌≡◌, ◌≢◌, ◌⊎◌, ℕ, Bool, true, false, cond, List, [], ◌∷◌, ◌++◌, length, All, AllPairs, Some, refl, sym, ap, ◌∙◌, subst, inl, inr}
-use Rattle.std.proofs.lemmas.List.Elements.{All-nil, All-cons, All-head, All-tail, All-map}
+use Rattle.std.proofs.Common.{◌≡◌, ◌≢◌, ◌⊎◌, ℕ, Bool, true, false, cond, List, [], ◌∷◌, ◌++◌, length, All, AllPairs, Some, refl, sym, ap, ◌∙◌, subst, inl, inr, Contains}
+use Rattle.std.proofs.lemmas.List.Elements.{All-nil, All-cons, All-head, All-tail, All-map, All-contains}
+use Rattle.list_facts.proofs.Membership.{all_from, Contains-cases, Contains-nil}
 use Rattle.list_facts.proofs.Pairs.{in_order, pairs_head, pairs_tail}
-use Rattle.list_facts.proofs.Membership.{IsIn, all_from, all_at}
 use Rattle.tx_types.specs.Batch.{PageWrite}
 use Rattle.tx_engine.specs.ArrayState.{ArrayState, Entry, Pages, entry_of, has_tag, is_doubted, page_at, put, with_entry, without}
 use Rattle.tx_engine.specs.Step.{doubted, settled, settled_entry, settled_mark}
@@ -16,10 +16,10 @@ pub share_back : (a b : Entry) → EntriesAreApart a b → EntriesAreApart b a
 share_back a b h =
     all_from (λ w. Avoid w.page a.writes) b.writes (λ w i.
     all_from (λ v. v.page ≢ w.page) a.writes (λ v j e.
-    all_at (λ w. w.page ≢ v.page) b.writes w (all_at (λ v. Avoid v.page b.writes) a.writes v h j) i (sym e)))
+    All-contains (λ w. w.page ≢ v.page) b.writes w (All-contains (λ v. Avoid v.page b.writes) a.writes v h j) i (sym e)))
 
 -- two of them are one, or have no page in common
-pub apart_two : (es : List Entry) (x y : Entry) → AllPairs EntriesAreApart es → IsIn es x → IsIn es y → (x ≡ y) ⊎ EntriesAreApart x y
+pub apart_two : (es : List Entry) (x y : Entry) → AllPairs EntriesAreApart es → Contains es x → Contains es y → (x ≡ y) ⊎ EntriesAreApart x y
 apart_two es x y all i j = elim (in_order EntriesAreApart es x y all i j) [
   | inl same ↦ inl same
   | inr (inl share) ↦ inr share
@@ -33,7 +33,7 @@ WholeOrSame old new e = HasWhole new e ⊎ HasSame old new e
 pub other_same : (pages : Pages) (e : Entry) (ws : List PageWrite) → All (λ w. Avoid w.page ws) e.writes → HasSame pages (put pages ws) e
 other_same pages e ws share =
     all_from (λ w. page_at (put pages ws) w.page ≡ page_at pages w.page) e.writes (λ w i.
-    put_other w.page ws pages (all_at (λ w. Avoid w.page ws) e.writes w share i))
+    put_other w.page ws pages (All-contains (λ w. Avoid w.page ws) e.writes w share i))
 
 pub whole_same : (old new : Pages) (e : Entry) → HasWhole old e → HasSame old new e → HasWhole new e
 whole_same old new e whole same = λ k d lt. same k d lt ∙ whole k d lt
@@ -86,10 +86,10 @@ pub beside_settled : (there : Bool) (s : ArrayState) (e : Entry) → IsBeside s.
 beside_settled true s e h = beside_doubted s.entries s.pages e h
 beside_settled false s e h = inr (λ k d lt. refl)
 
-pub beside_in : (s : ArrayState) (e : Entry) → IsConsistent s → IsIn s.entries e → IsBeside s.pages s.entries e
+pub beside_in : (s : ArrayState) (e : Entry) → IsConsistent s → Contains s.entries e → IsBeside s.pages s.entries e
 beside_in s e ok i = record {
-  distinct = all_at (λ (x : Entry). AllPairs (λ v w. v.page ≢ w.page) x.writes) s.entries e ok.distinct i;
-  within = all_at (λ (x : Entry). AreWithin s.pages x.writes) s.entries e ok.within i;
+  distinct = All-contains (λ (x : Entry). AllPairs (λ v w. v.page ≢ w.page) x.writes) s.entries e ok.distinct i;
+  within = All-contains (λ (x : Entry). AreWithin s.pages x.writes) s.entries e ok.within i;
   each = all_from (λ f. SameOrApart e f.writes) s.entries (λ f j. elim (apart_two s.entries e f ok.apart i j) [
     | inl same ↦ inl (ap (λ (x : Entry). x.writes) (sym same))
     | inr share ↦ inr share
@@ -106,12 +106,12 @@ others_avoid : (x : Entry) (es : List Entry) → All (λ e. EntriesAreApart x e)
 others_avoid x es h =
     all_from (λ w. AllAvoid w.page es) x.writes (λ w i.
     all_from (λ e. Avoid w.page e.writes) es (λ e j.
-    all_at (λ w. Avoid w.page e.writes) x.writes w (all_at (λ e. EntriesAreApart x e) es e h j) i))
+    All-contains (λ w. Avoid w.page e.writes) x.writes w (All-contains (λ e. EntriesAreApart x e) es e h j) i))
 
 doubted_same : (x : Entry) (es : List Entry) (pages : Pages) → All (λ e. EntriesAreApart x e) es → HasSame pages (put pages (doubted es)) x
 doubted_same x es pages h =
     all_from (λ w. page_at (put pages (doubted es)) w.page ≡ page_at pages w.page) x.writes (λ w i.
-    put_other w.page (doubted es) pages (doubted_avoid w.page es (all_at (λ w. AllAvoid w.page es) x.writes w (others_avoid x es h) i)))
+    put_other w.page (doubted es) pages (doubted_avoid w.page es (All-contains (λ w. AllAvoid w.page es) x.writes w (others_avoid x es h) i)))
 
 record AreWell (es : List Entry) (pages : Pages) : Type 0 where
   distinct : All (λ e. AllPairs (λ v w. v.page ≢ w.page) e.writes) es
@@ -122,7 +122,7 @@ well_tail : (x : Entry) (es : List Entry) (old new : Pages) → length new ≡ l
 well_tail x es old new long h = record {
   distinct = All-tail (λ e. AllPairs (λ v w. v.page ≢ w.page) e.writes) x es h.distinct;
   apart = pairs_tail EntriesAreApart x es h.apart;
-  within = all_from (λ e. AreWithin new e.writes) es (λ e i. within_kept old new e.writes long (all_at (λ e. AreWithin old e.writes) es e (All-tail (λ e. AreWithin old e.writes) x es h.within) i));
+  within = all_from (λ e. AreWithin new e.writes) es (λ e i. within_kept old new e.writes long (All-contains (λ e. AreWithin old e.writes) es e (All-tail (λ e. AreWithin old e.writes) x es h.within) i));
 }
 
 -- with the first of them, and then the others
@@ -151,13 +151,13 @@ later_doubted x e es pages true share rest =
     ])
 later_doubted x e es pages false share rest = rest pages refl
 
-each_doubted : (es : List Entry) (pages : Pages) (e : Entry) → AreWell es pages → IsIn es e → AsDoubted pages (put pages (doubted es)) e
-each_doubted [] pages e h i = absurd i
-each_doubted (x ∷ es) pages e h (inl same) =
-    subst (λ (y : Entry). AsDoubted pages (put pages (doubted (x ∷ es))) y) same (first_doubted x es pages (is_doubted x.mark) refl h)
-each_doubted (x ∷ es) pages e h (inr i) =
-    later_doubted x e es pages (is_doubted x.mark) (share_back x e (pairs_head EntriesAreApart x es e h.apart i))
-    (λ p long. each_doubted es p e (well_tail x es pages p long h) i)
+each_doubted : (es : List Entry) (pages : Pages) (e : Entry) → AreWell es pages → Contains es e → AsDoubted pages (put pages (doubted es)) e
+each_doubted [] pages e h c = absurd (Contains-nil e c)
+each_doubted (x ∷ es) pages e h c = elim (Contains-cases x es e c) [
+  | inl same ↦ subst (λ (y : Entry). AsDoubted pages (put pages (doubted (x ∷ es))) y) same (first_doubted x es pages (is_doubted x.mark) refl h)
+  | inr i ↦ later_doubted x e es pages (is_doubted x.mark) (share_back x e (pairs_head EntriesAreApart x es e h.apart i))
+      (λ p long. each_doubted es p e (well_tail x es pages p long h) i)
+]
 
 -- ---- a consistent state that settles
 
@@ -165,14 +165,14 @@ well : (s : ArrayState) → IsConsistent s → AreWell s.entries s.pages
 well s ok = record { distinct = ok.distinct; apart = ok.apart; within = ok.within }
 
 -- one that is not in doubt is not taken
-pub settled_sure_same : (there : Bool) (s : ArrayState) (e : Entry) → IsConsistent s → IsIn s.entries e → is_doubted e.mark ≡ false → HasSame s.pages (settled there s).pages e
+pub settled_sure_same : (there : Bool) (s : ArrayState) (e : Entry) → IsConsistent s → Contains s.entries e → is_doubted e.mark ≡ false → HasSame s.pages (settled there s).pages e
 settled_sure_same true s e ok i sure = elim (each_doubted s.entries s.pages e (well s ok) i) [
   | inl whole ↦ (let both = sym sure ∙ whole.0 in cc)
   | inr same ↦ same.1
 ]
 settled_sure_same false s e ok i sure = λ k d lt. refl
 
-settled_whole_at : (there : Bool) (s : ArrayState) (e : Entry) (m : Mark) → e.mark ≡ m → IsConsistent s → IsIn s.entries e → settled_mark there m ≡ Whole → HasWhole (settled there s).pages e
+settled_whole_at : (there : Bool) (s : ArrayState) (e : Entry) (m : Mark) → e.mark ≡ m → IsConsistent s → Contains s.entries e → settled_mark there m ≡ Whole → HasWhole (settled there s).pages e
 settled_whole_at there s e Plain is ok i h = cc
 settled_whole_at true s e Doubt is ok i h = elim (each_doubted s.entries s.pages e (well s ok) i) [
   | inl whole ↦ whole.1
@@ -180,7 +180,7 @@ settled_whole_at true s e Doubt is ok i h = elim (each_doubted s.entries s.pages
 ]
 settled_whole_at false s e Doubt is ok i h = cc
 settled_whole_at there s e Whole is ok i h =
-    whole_same s.pages (settled there s).pages e (all_at (λ (e : Entry). e.mark ≡ Whole → HasWhole s.pages e) s.entries e ok.whole i is)
+    whole_same s.pages (settled there s).pages e (All-contains (λ (e : Entry). e.mark ≡ Whole → HasWhole s.pages e) s.entries e ok.whole i is)
     (settled_sure_same there s e ok i (ap is_doubted is))
 
 pub settled_whole : (there : Bool) (s : ArrayState) → IsConsistent s → All (λ e. e.mark ≡ Whole → HasWhole (settled there s).pages e) (settled there s).entries

@@ -2,7 +2,6 @@
 use Rattle.std.proofs.Common.{◌≡◌, ℕ, Bool, false, List, [], ◌∷◌, Option, Some, None, Result, Ok, Err, refl, sym, ap, ◌∙◌, inl, inr, All, eqb-true}
 use Rattle.std.specs.Prelude.{MatchOption}
 use Rattle.std.proofs.lemmas.List.Elements.{All-head, All-tail}
-use Rattle.list_facts.proofs.Membership.{contains_from}
 use Rattle.tx_types.specs.Batch.{PageWrite}
 use Rattle.tx_engine.specs.ArrayState.{ArrayState, Entry, Pages, entry_of, is_doubted}
 use Rattle.tx_engine.specs.Collect.{Collects}
@@ -52,7 +51,7 @@ given_comes there old new tag e (Ok (progress.Wrote done all)) found h = comes_s
 given_comes there old new tag e (Ok progress.Done) found (inl h) = comes_settled _ there old new (ap (λ (s : ArrayState). s.pages) h.1)
 given_comes there old new tag e (Ok progress.Done) found (inr h) =
     let own : e.tag ≡ tag = eqb-true e.tag tag (tagged tag old.entries e found) in
-    (there, inr (e, (contains_from old.entries e (found_is_in tag old.entries e found), (own, h.1, refl)), ap (λ (s : ArrayState). s.pages) h.2))
+    (there, inr (e, ((found_is_in tag old.entries e found), (own, h.1, refl)), ap (λ (s : ArrayState). s.pages) h.2))
 given_comes there old new tag e (Err failed.Unknown) found h = absurd h
 given_comes there old new tag e (Err failed.Fault) found (inl same) = comes_same _ old new same
 given_comes there old new tag e (Err failed.Fault) found (inr h) = elim h.1 [

@@ -5,7 +5,7 @@ use Rattle.std.specs.Prelude.{MatchOption}
 use Rattle.std.proofs.lemmas.List.Elements.{All-nil, All-push, All-contains, Contains-get_or}
 use Rattle.std.proofs.lemmas.List.Quantifiers.{all_pairs_push}
 use Rattle.std.proofs.lemmas.List.FromFn.{length-map-range_with_len}
-use Rattle.list_facts.proofs.Membership.{IsIn, all_from, all_at, in_from}
+use Rattle.list_facts.proofs.Membership.{all_from}
 use Rattle.tx_types.specs.Batch.{PageWrite}
 use Rattle.tx_types.specs.declared.config.Config.{Config}
 use Rattle.flash_model.specs.Operations.{Moment}
@@ -70,9 +70,9 @@ accepted_sized limits tag ws s h accepts =
         distinct = All-push (λ (e : Entry). AllPairs (λ v w. v.page ≢ w.page) e.writes) s.entries (opening tag ws) ok.distinct accepts.distinct;
         apart = all_pairs_push EntriesAreApart s.entries (opening tag ws) ok.apart (λ k d inside.
             let e = get_or s.entries k d in
-            let i = in_from s.entries e (Contains-get_or s.entries k d inside) in
+            let i = (Contains-get_or s.entries k d inside) in
             share_back (opening tag ws) e (all_from (λ w. Avoid w.page e.writes) ws (λ w j.
-            all_at (λ (x : Entry). Avoid w.page x.writes) s.entries e (all_at (λ w. AllAvoid w.page s.entries) ws w accepts.unowned j) i)));
+            All-contains (λ (x : Entry). Avoid w.page x.writes) s.entries e (All-contains (λ w. AllAvoid w.page s.entries) ws w accepts.unowned j) i)));
         within = All-push (λ (e : Entry). All (λ w. w.page < length s.pages) e.writes) s.entries (opening tag ws) ok.within
             (λ k d lt. (let at = accepts.in_range k d lt in omega arith));
         whole = All-push (λ (e : Entry). e.mark ≡ Whole → HasWhole s.pages e) s.entries (opening tag ws) ok.whole (λ is. cc);
@@ -116,7 +116,7 @@ module _ (there : Bool) (old new : ArrayState) (tag : ℕ) (e : Entry) (ok : IsC
   mid_found : entry_of tag (settled there old).entries ≡ Some (settled_entry there e)
   mid_found = settled_found there tag e old.entries found
 
-  mid_in : IsIn (settled there old).entries (settled_entry there e)
+  mid_in : Contains (settled there old).entries (settled_entry there e)
   mid_in = found_is_in tag (settled there old).entries (settled_entry there e) mid_found
 
   mid_beside : IsBeside (settled there old).pages (settled there old).entries (settled_entry there e)
@@ -126,7 +126,7 @@ module _ (there : Bool) (old new : ArrayState) (tag : ℕ) (e : Entry) (ok : IsC
   avoids = without_avoids tag (settled there old).entries (settled_entry there e) mid_ok.apart mid_found
 
   whole_done : (settled_entry there e).mark ≡ Whole → new ≡ record (settled there old) { entries = without tag (settled there old).entries } → IsDoneWith e new
-  whole_done whole is = rw is (all_at (λ (x : Entry). x.mark ≡ Whole → HasWhole (settled there old).pages x) (settled there old).entries (settled_entry there e) mid_ok.whole mid_in whole, avoids)
+  whole_done whole is = rw is (All-contains (λ (x : Entry). x.mark ≡ Whole → HasWhole (settled there old).pages x) (settled there old).entries (settled_entry there e) mid_ok.whole mid_in whole, avoids)
 
   gives_done : StepGives old (settled there old) tag (settled_entry there e) (Ok progress.Done) new → IsDoneWith e new
   gives_done (inl h) = whole_done h.0 h.1
@@ -249,27 +249,27 @@ run_atomic limits seen old (c ∷ cs) (r ∷ rs) new e h none run =
 stands_atomic : (s : ArrayState) (pages : Pages) (e : Entry) → IsBeside s.pages s.entries e → StandsFor s pages → WholeOrSame s.pages pages e
 stands_atomic s pages e h (inl same) = rw same (inr (λ k d lt. refl))
 stands_atomic s pages e h (inr (f, has, doubt, took)) =
-    rw took (beside_taken s.pages s.entries e h f.writes (all_at (λ (x : Entry). SameOrApart e x.writes) s.entries f h.each (in_from s.entries f has)))
+    rw took (beside_taken s.pages s.entries e h f.writes (All-contains (λ (x : Entry). SameOrApart e x.writes) s.entries f h.each has))
 
 pub transaction_atomic : (limits : Limits) (seen : ℕ → ℕ) (old : RunState) (cs : List Command) (rs : List Reply) (new : RunState) (pages : Pages) (e : Entry) →
     IsConsistent old.machine → Contains old.machine.entries e → Run limits seen old cs rs new → StandsFor new.machine pages → All (λ w. NoneOpens w.page cs rs) e.writes →
     WholeOrSame old.machine.pages pages e
 transaction_atomic limits seen old cs rs new pages e ok has run stands none =
-    let is = run_atomic limits seen old cs rs new e (beside_in old.machine e ok (in_from old.machine.entries e has)) none run in
+    let is = run_atomic limits seen old cs rs new e (beside_in old.machine e ok has) none run in
     whole_or_then old.machine.pages new.machine.pages pages e is.atomic (stands_atomic new.machine pages e is.beside stands)
 
 -- ---- a cut
 
 module _ (c : Command) (old : RunState) (r : Reply) (new : RunState) (e : Entry) (ok : IsConsistent old.machine) (cut : IsCut c old r new) (has : Contains old.machine.entries e) where
-  its_in : IsIn old.machine.entries e
-  its_in = in_from old.machine.entries e has
+  its_in : Contains old.machine.entries e
+  its_in = has
 
   pub cut_whole_or_same : WholeOrSame old.machine.pages new.machine.pages e
   cut_whole_or_same = (cut_goes (MayComplete c) old.machine new.machine cut.2).atomic e (beside_in old.machine e ok its_in)
 
   pub cut_whole : e.mark ≡ Whole → HasWhole new.machine.pages e
   cut_whole is = whole_kept old.machine.pages new.machine.pages e cut_whole_or_same
-      (all_at (λ (x : Entry). x.mark ≡ Whole → HasWhole old.machine.pages x) old.machine.entries e ok.whole its_in is)
+      (All-contains (λ (x : Entry). x.mark ≡ Whole → HasWhole old.machine.pages x) old.machine.entries e ok.whole its_in is)
 
   pub cut_others : is_doubted e.mark ≡ false → (MayComplete c e → ⊥) → HasSame old.machine.pages new.machine.pages e
   cut_others sure other =
@@ -277,7 +277,7 @@ module _ (c : Command) (old : RunState) (r : Reply) (new : RunState) (e : Entry)
       let first = settled_sure_same there old.machine e ok its_in sure in
       elim cut.2.1 [
         | inl same ↦ rw same first
-        | inr took ↦ elim (apart_two old.machine.entries e took.0 ok.apart its_in (in_from old.machine.entries took.0 took.1.0)) [
+        | inr took ↦ elim (apart_two old.machine.entries e took.0 ok.apart its_in took.1.0) [
           | inl one ↦ absurd (other (subst (λ (x : Entry). MayComplete c x) (sym one) took.1.1))
           | inr share ↦
               rw took.2 (same_then old.machine.pages (settled there old.machine).pages (put (settled there old.machine).pages took.0.writes) e first

@@ -1,8 +1,8 @@
 -- What a command changes in the array, and which transactions it leaves open.
 use Rattle.std.proofs.Common.{◌≡◌, ◌≢◌, ◌⊎◌, ℕ, Bool, true, false, cond, List, [], ◌∷◌, length, zip, All, AllPairs, Option, Some, None, Result, Ok, Err, refl, sym, ap, ◌∙◌, subst, inl, inr}
 use Rattle.std.specs.Prelude.{MatchOption}
-use Rattle.std.proofs.lemmas.List.Elements.{All-nil, All-head, All-tail, All-push}
-use Rattle.list_facts.proofs.Membership.{all_from, all_at, in_from}
+use Rattle.std.proofs.lemmas.List.Elements.{All-nil, All-head, All-tail, All-push, All-contains}
+use Rattle.list_facts.proofs.Membership.{all_from}
 use Rattle.tx_types.specs.Batch.{PageWrite, Writes}
 use Rattle.tx_engine.specs.ArrayState.{ArrayState, Entry, Pages, entry_of, opening, page_at, put, with_entry, without}
 use Rattle.tx_engine.specs.Collect.{Collects}
@@ -43,7 +43,7 @@ goes_consistent old new h ok = record {
   apart = part_pairs new.entries old.entries h.part ok.apart;
   within = part_all (λ ws. AreWithin new.pages ws) new.entries old.entries h.part
       (all_from (λ (e : Entry). AreWithin new.pages e.writes) old.entries (λ e i.
-      within_kept old.pages new.pages e.writes h.long (all_at (λ (e : Entry). AreWithin old.pages e.writes) old.entries e ok.within i)));
+      within_kept old.pages new.pages e.writes h.long (All-contains (λ (e : Entry). AreWithin old.pages e.writes) old.entries e ok.within i)));
   whole = h.whole ok;
 }
 
@@ -88,17 +88,17 @@ whole_kept old new e (inr same) h = whole_same old new e h same
 pub goes_taken : (s : ArrayState) (tag : ℕ) (e : Entry) → entry_of tag s.entries ≡ Some e → Goes s (record { pages = put s.pages e.writes; entries = without tag s.entries })
 goes_taken s tag e found = record {
   part = part_without tag s.entries;
-  stays = λ page h. put_other page e.writes s.pages (all_at (λ (x : Entry). Avoid page x.writes) s.entries e h (found_is_in tag s.entries e found));
+  stays = λ page h. put_other page e.writes s.pages (All-contains (λ (x : Entry). Avoid page x.writes) s.entries e h (found_is_in tag s.entries e found));
   long = put_length e.writes s.pages;
   whole = λ ok.
       all_without (λ (x : Entry). x.mark ≡ Whole → HasWhole (put s.pages e.writes) x) tag s.entries
       (all_from (λ (x : Entry). x.mark ≡ Whole → HasWhole (put s.pages e.writes) x) s.entries (λ x i is.
-      whole_kept s.pages (put s.pages e.writes) x (takes x (beside_in s x ok i)) (all_at (WholeIsThere s) s.entries x ok.whole i is)));
+      whole_kept s.pages (put s.pages e.writes) x (takes x (beside_in s x ok i)) (All-contains (WholeIsThere s) s.entries x ok.whole i is)));
   atomic = takes;
 }
   where
     takes : (x : Entry) → IsBeside s.pages s.entries x → WholeOrSame s.pages (put s.pages e.writes) x
-    takes x b = beside_taken s.pages s.entries x b e.writes (all_at (λ (f : Entry). SameOrApart x f.writes) s.entries e b.each (found_is_in tag s.entries e found))
+    takes x b = beside_taken s.pages s.entries x b e.writes (All-contains (λ (f : Entry). SameOrApart x f.writes) s.entries e b.each (found_is_in tag s.entries e found))
 
 goes_to : (old mid new : ArrayState) → new ≡ mid → Goes old mid → Goes old new
 goes_to old mid new same h = rw same h
@@ -181,7 +181,7 @@ cut_goes Q old new (there, takes, none) = record {
     | inl same ↦ ap (λ pages. page_at pages page) same ∙ settled_other there page old h
     | inr took ↦
         ap (λ pages. page_at pages page) took.2
-        ∙ put_other page took.0.writes (settled there old).pages (all_at (λ (x : Entry). Avoid page x.writes) old.entries took.0 h (in_from old.entries took.0 took.1.0))
+        ∙ put_other page took.0.writes (settled there old).pages (All-contains (λ (x : Entry). Avoid page x.writes) old.entries took.0 h took.1.0)
         ∙ settled_other there page old h
   ];
   long = elim takes [
@@ -197,7 +197,7 @@ cut_goes Q old new (there, takes, none) = record {
         | inr took ↦
             rw took.2 (whole_or_then old.pages mid.pages (put mid.pages took.0.writes) e first
             (beside_taken mid.pages old.entries e (beside_then old.pages mid.pages old.entries old.entries e (settled_length there old) (part_same old.entries) b)
-            took.0.writes (all_at (λ (f : Entry). SameOrApart e f.writes) old.entries took.0 b.each (in_from old.entries took.0 took.1.0))))
+            took.0.writes (All-contains (λ (f : Entry). SameOrApart e f.writes) old.entries took.0 b.each took.1.0)))
       ];
 }
 
@@ -286,7 +286,7 @@ run_stays limits seen old cs rs new page run h none = (run_stay limits seen old 
 stands_same : (page : ℕ) (s : ArrayState) (pages : Pages) → AllAvoid page s.entries → StandsFor s pages → page_at pages page ≡ page_at s.pages page
 stands_same page s pages h (inl same) = ap (λ p. page_at p page) same
 stands_same page s pages h (inr (e, has, doubt, took)) =
-    ap (λ p. page_at p page) took ∙ put_other page e.writes s.pages (all_at (λ (x : Entry). Avoid page x.writes) s.entries e h (in_from s.entries e has))
+    ap (λ p. page_at p page) took ∙ put_other page e.writes s.pages (All-contains (λ (x : Entry). Avoid page x.writes) s.entries e h has)
 
 pub run_stands : (limits : Limits) (seen : ℕ → ℕ) (old : RunState) (cs : List Command) (rs : List Reply) (new : RunState) (page : ℕ) (pages : Pages) → Run limits seen old cs rs new →
     AllAvoid page old.machine.entries → NoneOpens page cs rs → StandsFor new.machine pages → page_at pages page ≡ page_at old.machine.pages page

@@ -1,8 +1,8 @@
 -- What calls of a device leave of its mentions, of the cache, and of what is told.
 use Rattle.std.proofs.Common.{◌≡◌, ℕ, ◌+◌, ◌<◌, ◌≤◌, Bool, true, false, cond, List, sym, ◌∙◌, subst, inl, inr, arith}
 use Rattle.std.specs.Prelude.{All, Any, count_by}
-use Rattle.std.proofs.lemmas.List.Elements.{All-weaker}
-use Rattle.list_facts.proofs.Membership.{in_any, any_in, all_at}
+use Rattle.std.proofs.lemmas.List.Elements.{All-weaker, All-contains}
+use Rattle.list_facts.proofs.Membership.{in_any, any_in}
 use Rattle.tx_types.specs.declared.config.Config.{Config}
 use Rattle.tx_types.specs.declared.config.Protocol.{Protocol}
 use Rattle.tx_types.specs.declared.config.Shape.{Shape}

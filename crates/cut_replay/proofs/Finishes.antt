@@ -1,7 +1,8 @@
 -- Going on with a transaction up to its end.
 use Rattle.std.proofs.Common.{◌≡◌, ◌≢◌, ◌⊎◌, ℕ, ◌+◌, ◌-◌, ◌<◌, ◌≤◌, max, Bool, true, false, cond, List, [], ◌∷◌, length, map, Contains, Option, Some, None, Result, Ok, Err, refl, sym, ap, ap₂, ◌∙◌, subst, inl, inr, arith}
 use Rattle.std.specs.Prelude.{MatchOption}
-use Rattle.list_facts.proofs.Membership.{IsIn, contains_from, in_from}
+use Rattle.list_facts.proofs.Tests.{find_stands}
+use Rattle.list_facts.proofs.Membership.{Contains-cases, Contains-first, Contains-nil, Contains-rest, in_map}
 use Rattle.tx_types.specs.declared.config.Config.{Config}
 use Rattle.tx_types.specs.Config.{shape_of}
 use Rattle.flash_model.specs.Flash.{FlashState}
@@ -107,40 +108,39 @@ settled_sure false s is = refl
 
 -- each of its transactions is one of before, with its tag and its pages
 abbrev IsFrom : List Entry → Entry → Type 0
-IsFrom es e = (old : Entry) × IsIn es old × (old.tag ≡ e.tag) × (old.writes ≡ e.writes)
+IsFrom es e = (old : Entry) × Contains es old × (old.tag ≡ e.tag) × (old.writes ≡ e.writes)
 
 from_more : (x : Entry) (es : List Entry) (e : Entry) → IsFrom es e → IsFrom (x ∷ es) e
-from_more x es e h = (h.0, inr h.1, h.2, h.3)
+from_more x es e h = (h.0, Contains-rest x es h.0 h.1, h.2, h.3)
 
-settled_from : (there : Bool) (es : List Entry) (e : Entry) → IsIn (map (settled_entry there) es) e → IsFrom es e
-settled_from there [] e i = absurd i
-settled_from there (x ∷ es) e (inl same) = (x, inl refl, ap (λ (y : Entry). y.tag) same, ap (λ (y : Entry). y.writes) same)
-settled_from there (x ∷ es) e (inr i) = from_more x es e (settled_from there es e i)
+settled_from : (there : Bool) (es : List Entry) (e : Entry) → Contains (map (settled_entry there) es) e → IsFrom es e
+settled_from there es e c =
+    let at = in_map (settled_entry there) es e c in
+    (at.0, at.1, ap (λ (y : Entry). y.tag) at.2, ap (λ (y : Entry). y.writes) at.2)
 
-with_step : (there : Bool) (tag : ℕ) (new x e : Entry) (es : List Entry) (b : Bool) → (IsIn (with_entry tag new (map (settled_entry there) es)) e → (new ≡ e) ⊎ IsFrom es e) →
-    IsIn (cond b (new ∷ map (settled_entry there) es) (settled_entry there x ∷ with_entry tag new (map (settled_entry there) es))) e → (new ≡ e) ⊎ IsFrom (x ∷ es) e
-with_step there tag new x e es true rest (inl same) = inl same
-with_step there tag new x e es true rest (inr i) = inr (from_more x es e (settled_from there es e i))
-with_step there tag new x e es false rest (inl same) = inr (x, inl refl, ap (λ (y : Entry). y.tag) same, ap (λ (y : Entry). y.writes) same)
-with_step there tag new x e es false rest (inr i) = elim (rest i) [ inl same ↦ inl same | inr from ↦ inr (from_more x es e from) ]
+with_step : (there : Bool) (tag : ℕ) (new x e : Entry) (es : List Entry) (b : Bool) → (Contains (with_entry tag new (map (settled_entry there) es)) e → (new ≡ e) ⊎ IsFrom es e) →
+    Contains (cond b (new ∷ map (settled_entry there) es) (settled_entry there x ∷ with_entry tag new (map (settled_entry there) es))) e → (new ≡ e) ⊎ IsFrom (x ∷ es) e
+with_step there tag new x e es true rest c = elim (Contains-cases new (map (settled_entry there) es) e c) [
+  | inl same ↦ inl same
+  | inr i ↦ inr (from_more x es e (settled_from there es e i))
+]
+with_step there tag new x e es false rest c = elim (Contains-cases (settled_entry there x) (with_entry tag new (map (settled_entry there) es)) e c) [
+  | inl same ↦ inr (x, Contains-first x es, ap (λ (y : Entry). y.tag) same, ap (λ (y : Entry). y.writes) same)
+  | inr i ↦ elim (rest i) [ inl same ↦ inl same | inr from ↦ inr (from_more x es e from) ]
+]
 
-with_from : (there : Bool) (tag : ℕ) (new e : Entry) (es : List Entry) → IsIn (with_entry tag new (map (settled_entry there) es)) e → (new ≡ e) ⊎ IsFrom es e
-with_from there tag new e [] i = absurd i
+with_from : (there : Bool) (tag : ℕ) (new e : Entry) (es : List Entry) → Contains (with_entry tag new (map (settled_entry there) es)) e → (new ≡ e) ⊎ IsFrom es e
+with_from there tag new e [] i = absurd (Contains-nil e i)
 with_from there tag new e (x ∷ es) i =
     with_step there tag new x e es (has_tag tag x) (λ j. with_from there tag new e es j) i
 
-found_in_step : (tag : ℕ) (x e : Entry) (es : List Entry) (b : Bool) → (entry_of tag es ≡ Some e → IsIn es e) → cond b (Some x) (entry_of tag es) ≡ Some e → IsIn (x ∷ es) e
-found_in_step tag x e es true rest h = inl cc
-found_in_step tag x e es false rest h = inr (rest h)
+pub found_is_in : (tag : ℕ) (es : List Entry) (e : Entry) → entry_of tag es ≡ Some e → Contains es e
+found_is_in tag es e h = (find_stands (has_tag tag) es e h).0
 
-pub found_is_in : (tag : ℕ) (es : List Entry) (e : Entry) → entry_of tag es ≡ Some e → IsIn es e
-found_is_in tag [] e h = cc
-found_is_in tag (x ∷ es) e h = found_in_step tag x e es (has_tag tag x) (found_is_in tag es e) h
-
-from_mid : (there : Bool) (old mid : ArrayState) (tag : ℕ) (e other : Entry) → Writes there old mid tag e → IsIn mid.entries other → IsFrom old.entries other
+from_mid : (there : Bool) (old mid : ArrayState) (tag : ℕ) (e other : Entry) → Writes there old mid tag e → Contains mid.entries other → IsFrom old.entries other
 from_mid there old mid tag e other w i =
     let next : Entry = record (settled_entry there e) { done = e.done + 1 } in
-    elim (with_from there tag next other old.entries (subst (λ (s : ArrayState). IsIn s.entries other) w.new_is i)) [
+    elim (with_from there tag next other old.entries (subst (λ (s : ArrayState). Contains s.entries other) w.new_is i)) [
       | inl same ↦ (e, found_is_in tag old.entries e w.found, ap (λ (y : Entry). y.tag) same, ap (λ (y : Entry). y.writes) same)
       | inr from ↦ from
     ]
@@ -161,8 +161,8 @@ comes_before Q there old mid pages tag e w h =
         | inl same ↦ inl (same ∙ same_pages)
         | inr took ↦ (
             let other = took.0 in
-            let from = from_mid there old mid tag e other w (in_from mid.entries other took.1.0) in
-            inr (from.0, (contains_from old.entries from.0 from.1, subst Q (sym from.2) took.1.1), took.2 ∙ ap₂ put same_pages (sym from.3)))
+            let from = from_mid there old mid tag e other w took.1.0 in
+            inr (from.0, (from.1, subst Q (sym from.2) took.1.1), took.2 ∙ ap₂ put same_pages (sym from.3)))
       ],
     )
 

@@ -1,10 +1,11 @@
 -- What is so of a session whose flash was mounted, or was not because a read met a fault.
-use Rattle.std.proofs.Common.{◌≡◌, ℕ, ◌<◌, ◌≤◌, Bool, List, length, sym, ap, ◌∙◌, subst, inl, inr}
+use Rattle.std.proofs.Common.{◌≡◌, ℕ, ◌<◌, ◌≤◌, Bool, List, length, sym, ap, ◌∙◌, subst, inl, inr, Contains}
 use Rattle.std.specs.Prelude.{All, slice_index}
 use Rattle.std.proofs.lemmas.Bool.{cases_lt}
 use Rattle.std.proofs.lemmas.List.{get_or_past}
 use Rattle.std.proofs.lemmas.List.FromFn.{get_or-map-range_with_len}
-use Rattle.list_facts.proofs.Membership.{IsIn, all_at, in_any}
+use Rattle.std.proofs.lemmas.List.Elements.{All-contains}
+use Rattle.list_facts.proofs.Membership.{in_any}
 use Rattle.tx_types.specs.declared.config.Config.{Config}
 use Rattle.tx_types.specs.declared.config.Protocol.{Protocol}
 use Rattle.tx_types.specs.declared.config.Shape.{Shape}
@@ -82,15 +83,15 @@ sound_slot its image at reads = elim (cases_lt at (length image)) [
   | inr ge ↦ subst (λ (x : Contents). SlotReads its.protocol its.logical x) (sym (get_or_past image at blank ge)) tt
 ]
 
-sound_keeps : (protocol : Protocol) (list : List Written) (logical : ℕ) (shape : Shape) (law : Law) (w : Written) → IsSoundWritten protocol list logical shape → IsIn list w → KeepsWritten protocol list logical law w
-sound_keeps protocol list logical shape Pages w h i = all_at (Keeps protocol (records_of list) logical Pages) (records_of list) (found_of w) (h.records Pages) (in_records list w i)
+sound_keeps : (protocol : Protocol) (list : List Written) (logical : ℕ) (shape : Shape) (law : Law) (w : Written) → IsSoundWritten protocol list logical shape → Contains list w → KeepsWritten protocol list logical law w
+sound_keeps protocol list logical shape Pages w h i = All-contains (Keeps protocol (records_of list) logical Pages) (records_of list) (found_of w) (h.records Pages) (in_records list w i)
 sound_keeps protocol list logical shape Copies w h i =
-    (all_at (Keeps protocol (records_of list) logical Copies) (records_of list) (found_of w) (h.records Copies) (in_records list w i), all_at (BytesAgree list) list w h.bytes i)
-sound_keeps protocol list logical shape Links w h i = all_at (Keeps protocol (records_of list) logical Links) (records_of list) (found_of w) (h.records Links) (in_records list w i)
-sound_keeps protocol list logical shape Present w h i = all_at (Keeps protocol (records_of list) logical Present) (records_of list) (found_of w) (h.records Present) (in_records list w i)
-sound_keeps protocol list logical shape Counted w h i = all_at (Keeps protocol (records_of list) logical Counted) (records_of list) (found_of w) (h.records Counted) (in_records list w i)
-sound_keeps protocol list logical shape Loose w h i = all_at (Keeps protocol (records_of list) logical Loose) (records_of list) (found_of w) (h.records Loose) (in_records list w i)
-sound_keeps protocol list logical shape Ending w h i = all_at (Keeps protocol (records_of list) logical Ending) (records_of list) (found_of w) (h.records Ending) (in_records list w i)
+    (All-contains (Keeps protocol (records_of list) logical Copies) (records_of list) (found_of w) (h.records Copies) (in_records list w i), All-contains (BytesAgree list) list w h.bytes i)
+sound_keeps protocol list logical shape Links w h i = All-contains (Keeps protocol (records_of list) logical Links) (records_of list) (found_of w) (h.records Links) (in_records list w i)
+sound_keeps protocol list logical shape Present w h i = All-contains (Keeps protocol (records_of list) logical Present) (records_of list) (found_of w) (h.records Present) (in_records list w i)
+sound_keeps protocol list logical shape Counted w h i = All-contains (Keeps protocol (records_of list) logical Counted) (records_of list) (found_of w) (h.records Counted) (in_records list w i)
+sound_keeps protocol list logical shape Loose w h i = All-contains (Keeps protocol (records_of list) logical Loose) (records_of list) (found_of w) (h.records Loose) (in_records list w i)
+sound_keeps protocol list logical shape Ending w h i = All-contains (Keeps protocol (records_of list) logical Ending) (records_of list) (found_of w) (h.records Ending) (in_records list w i)
 
 pub sound_unbroken : (its : Config) (image : List Contents) (b : Breach) → IsSoundImage its.protocol its.logical (shape_of its) image → IsLeastImageBreach its.protocol its.logical (shape_of its) image b → ⊥
 sound_unbroken its image b sound (inl unread) = unread.breaks (sound_slot its image b.slot.0 sound.reads)

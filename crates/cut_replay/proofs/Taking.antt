@@ -1,9 +1,9 @@
 -- What the array takes, and which transactions stay open.
 use Rattle.std.proofs.Common.{◌≡◌, ◌≢◌, ◌⊎◌, ℕ, ◌<◌, Bool, true, false, cond, List, [], ◌∷◌, ◌++◌, length, map, All, AllPairs, Some, None, refl, sym, ap, ◌∙◌, subst, inl, inr, arith}
 use Rattle.std.proofs.lemmas.List.{length-set, get_or-set_same, get_or-set_other}
-use Rattle.std.proofs.lemmas.List.Elements.{All-nil, All-cons, All-head, All-tail, All-append}
+use Rattle.std.proofs.lemmas.List.Elements.{All-nil, All-cons, All-head, All-tail, All-append, All-contains}
+use Rattle.list_facts.proofs.Membership.{all_from}
 use Rattle.list_facts.proofs.Pairs.{pairs_head, pairs_tail, pairs_cons}
-use Rattle.list_facts.proofs.Membership.{all_from, all_at}
 use Rattle.tx_types.specs.Batch.{PageWrite}
 use Rattle.tx_engine.specs.ArrayState.{ArrayState, Entry, Pages, entry_of, has_tag, is_doubted, page_at, put, with_entry, without}
 use Rattle.tx_engine.specs.Step.{doubted, settled, settled_entry}
@@ -123,5 +123,5 @@ part_pairs (n ∷ ns) (o ∷ os) (inl h) all =
     let from : All (λ e. All (λ w. Avoid w.page e.writes) n.writes) os =
     all_from (λ e. All (λ w. Avoid w.page e.writes) n.writes) os (λ e i. subst (λ (ws : List PageWrite). All (λ w. Avoid w.page e.writes) ws) (sym h.0) (pairs_head EntriesAreApart o os e all i)) in
     let kept = part_all (λ vs. All (λ w. Avoid w.page vs) n.writes) ns os h.1 from in
-    pairs_cons EntriesAreApart n ns (λ e i. all_at (λ (e : Entry). EntriesAreApart n e) ns e kept i) (part_pairs ns os h.1 (pairs_tail EntriesAreApart o os all))
+    pairs_cons EntriesAreApart n ns (λ e i. All-contains (λ (e : Entry). EntriesAreApart n e) ns e kept i) (part_pairs ns os h.1 (pairs_tail EntriesAreApart o os all))
 part_pairs (n ∷ ns) (o ∷ os) (inr h) all = part_pairs (n ∷ ns) os h (pairs_tail EntriesAreApart o os all)

@@ -1,8 +1,9 @@
 -- Commands that ask for no program and no erase.
-use Rattle.std.proofs.Common.{◌≡◌, ℕ, ◌+◌, ◌≤◌, Bool, true, false, cond, List, [], ◌∷◌, length, map, Option, Some, None, Result, Ok, Err, refl, sym, ap, ◌∙◌, subst, inl, inr, arith, eq-eqb}
+use Rattle.std.proofs.Common.{◌≡◌, ℕ, ◌+◌, ◌≤◌, Bool, true, false, cond, List, [], ◌∷◌, length, map, Option, Some, None, Result, Ok, Err, refl, sym, ap, ◌∙◌, subst, inl, inr, arith, eq-eqb, Contains}
 use Rattle.std.specs.Prelude.{Any, count_by, IsSome, IfOk}
 use Rattle.std.proofs.lemmas.List.Sums.{sum_by-cons}
-use Rattle.list_facts.proofs.Membership.{IsIn, in_any, any_in, in_append}
+use Rattle.std.proofs.lemmas.List.Elements.{Contains-push_cases}
+use Rattle.list_facts.proofs.Membership.{in_any, any_in, Contains-cases, Contains-nil}
 use Rattle.tx_types.specs.Batch.{PageWrite, Writes}
 use Rattle.tx_types.specs.declared.config.Config.{Config}
 use Rattle.tx_types.specs.declared.config.Protocol.{Protocol}
@@ -169,20 +170,22 @@ counts_step : (b : Bool) (n : ℕ) → n ≤ cond b 1 0 + n
 counts_step true n = omega arith
 counts_step false n = omega arith
 
-named_in : (n : Noted) (ws : List PageWrite) (page version : ℕ) (name : Link) → IsIn (map (next_name n) ws) name → name.page ≡ page → name.version ≡ version →
+named_in : (n : Noted) (ws : List PageWrite) (page version : ℕ) (name : Link) → Contains (map (next_name n) ws) name → name.page ≡ page → name.version ≡ version →
     (version ≡ mention_of n page + 1) × (1 ≤ count_by (is_of page) ws)
-named_in n [] page version name i same at = absurd i
-named_in n (w ∷ ws) page version name (inl e) same at =
-    let here : w.page ≡ page = ap (λ (x : Link). x.page) e ∙ same in
-    let is : is_of page w ≡ true = eq-eqb w.page page here in
+named_in n [] page version name c same at = absurd (Contains-nil name c)
+named_in n (w ∷ ws) page version name c same at =
     let split : count_by (is_of page) (w ∷ ws) ≡ cond (is_of page w) 1 0 + count_by (is_of page) ws = sum_by-cons (λ (w : PageWrite). cond (is_of page w) 1 0) w ws in
-    let one : ◌≡◌ {A = ℕ} (cond {A = ℕ} (is_of page w) 1 0) 1 = ap (λ (b : Bool). cond {A = ℕ} b 1 0) is in
-    (sym at ∙ ap (λ (x : Link). x.version) (sym e) ∙ ap (λ p. mention_of n p + 1) here, omega (arith, split, one))
-named_in n (w ∷ ws) page version name (inr i) same at =
-    let rest = named_in n ws page version name i same at in
-    let split : count_by (is_of page) (w ∷ ws) ≡ cond (is_of page w) 1 0 + count_by (is_of page) ws = sum_by-cons (λ (w : PageWrite). cond (is_of page w) 1 0) w ws in
-    let more = counts_step (is_of page w) (count_by (is_of page) ws) in
-    (rest.0, omega (arith, split, more, rest.1))
+    elim (Contains-cases (next_name n w) (map (next_name n) ws) name c) [
+      | inl e ↦ (
+          let here : w.page ≡ page = ap (λ (x : Link). x.page) e ∙ same in
+          let is : is_of page w ≡ true = eq-eqb w.page page here in
+          let one : ◌≡◌ {A = ℕ} (cond {A = ℕ} (is_of page w) 1 0) 1 = ap (λ (b : Bool). cond {A = ℕ} b 1 0) is in
+          (sym at ∙ ap (λ (x : Link). x.version) (sym e) ∙ ap (λ p. mention_of n p + 1) here, omega (arith, split, one)))
+      | inr i ↦ (
+          let rest = named_in n ws page version name i same at in
+          let more = counts_step (is_of page w) (count_by (is_of page) ws) in
+          (rest.0, omega (arith, split, more, rest.1)))
+    ]
 
 -- the names once a batch was opened: those of before, and those of its pages
 named_after_seen : {F : Type 0} (old new : Standing F) (seen : ℕ → ℕ) (tag : ℕ) (batch : Writes) (result : Result (Unit {0}) SubmitError) → IsSeen seen old →
@@ -195,7 +198,7 @@ named_after_seen old new seen tag batch (Err e) h names page version named =
 named_after_seen old new seen tag batch (Ok u) h names page version named =
     let at = in_any (λ x. Any (λ name. (name.page ≡ page) × (name.version ≡ version)) x.names) new.namings named in
     let mine : Naming = record { names = map (next_name old.noted) batch.entries; there = 0 } in
-    let where_from = in_append old.namings mine at.0 (subst (λ (x : List Naming). IsIn x at.0) names at.1) in
+    let where_from = Contains-push_cases old.namings mine at.0 (subst (λ (x : List Naming). Contains x at.0) names at.1) in
     elim where_from [
       | inl before ↦ (let most = h.names page version (any_in (λ x. Any (λ name. (name.page ≡ page) × (name.version ≡ version)) x.names) old.namings at.0 before at.2) in omega arith)
       | inr same ↦ (

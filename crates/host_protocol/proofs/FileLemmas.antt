@@ -22,8 +22,6 @@ use Rattle.host_protocol.specs.declared.command.Command.{Command}
 use Rattle.host_protocol.specs.declared.file.TheConstants.{MAX_COMMANDS, MAX_ENTRIES}
 use Rattle.host_protocol.proofs.CommandLemmas.{one_command}
 
--- ---- lists
-
 -- ---- the lines so far
 
 filter_idle : (lines : List (List ℕ)) (line : List ℕ) → is_command_line line ≡ false → filter is_command_line (lines ++ line ∷ []) ≡ filter is_command_line lines

@@ -1,116 +1,97 @@
--- What is in a list: items, tests of every item, and lists with one more.
-use Rattle.std.proofs.Common.{◌≡◌, ◌⊎◌, List, [], ◌∷◌, refl, inl, inr, subst, All, Contains, ℕ, ◌<◌, length, get_or, slice_get, Some, ◌+◌, ◌++◌, Bool, true, filter, sym, ap, ◌∙◌, map}
-use Rattle.std.specs.List.{AllByRecursion}
-use Rattle.std.specs.Prelude.{Any}
+-- What a list contains, in std's word: item by item, in a longer list, in one that is filtered, and in one that is mapped.
+use Rattle.std.proofs.Common.{◌≡◌, ◌⊎◌, ℕ, zero, suc, ◌<◌, Bool, true, List, [], ◌∷◌, ◌++◌, length, get_or, map, filter, slice_get, Some, All, Any, Contains, refl, sym, ap, ◌∙◌, subst, inl, inr, arith}
 use Rattle.std.proofs.lemmas.Bool.{cond-true, cond_both}
-use Rattle.std.proofs.lemmas.List.{get_or_default}
-use Rattle.std.proofs.lemmas.List.Elements.{All-from_recursion, recursion_from_All, All-contains_itself, All-contains, All-filter, filter_passes}
+use Rattle.std.proofs.lemmas.List.{length-map, get_or-map}
+use Rattle.std.proofs.lemmas.List.Elements.{All-contains, All-contains_itself, All-filter, filter_passes, Contains-get_or, Contains-append_left, Contains-append_right, Contains-append_cases}
 use Rattle.std.proofs.lemmas.Option.{slice_get_within, get_or_from_slice_get}
 
--- an item is in a list
-abbrev pub IsIn : {X : Type 0} → List X → X → Type 0
-IsIn [] x = ⊥
-IsIn (y ∷ ys) x = (y ≡ x) ⊎ IsIn ys x
+-- an empty list contains nothing
+pub Contains-nil : {X : Type 0} (x : X) → Contains [] x → ⊥
+Contains-nil x c = let within = c.1 in absurd (omega arith)
 
--- from each item to the fact by recursion
-in_recursion : {X : Type 0} (P : X → Type 0) (xs : List X) → ((x : X) → IsIn xs x → P x) → AllByRecursion P xs
-in_recursion P [] h = tt
-in_recursion P (x ∷ xs) h = (h x (inl refl), in_recursion P xs (λ y i. h y (inr i)))
+-- a list contains its first item
+pub Contains-first : {X : Type 0} (x : X) (xs : List X) → Contains (x ∷ xs) x
+Contains-first x xs = (0, omega arith, refl)
 
--- and from that to each item
-recursion_in : {X : Type 0} (P : X → Type 0) (xs : List X) (x : X) → AllByRecursion P xs → IsIn xs x → P x
-recursion_in P [] x a i = absurd i
-recursion_in P (y ∷ ys) x a (inl e) = subst P e a.0
-recursion_in P (y ∷ ys) x a (inr i) = recursion_in P ys x a.1 i
+-- and what its rest contains
+pub Contains-rest : {X : Type 0} (y : X) (xs : List X) (x : X) → Contains xs x → Contains (y ∷ xs) x
+Contains-rest y xs x c = (suc c.0, (let within = c.1 in omega arith), c.2)
 
--- what is so of each item in a list is so of all
-pub all_from : {X : Type 0} (P : X → Type 0) (xs : List X) → ((x : X) → IsIn xs x → P x) → All P xs
-all_from P xs h = All-from_recursion P xs (in_recursion P xs h)
+-- a list contains an item that its first one is
+pub Contains-here : {X : Type 0} (y : X) (xs : List X) (x : X) → y ≡ x → Contains (y ∷ xs) x
+Contains-here y xs x same = (0, omega arith, same)
 
--- and back, at an item
-pub all_at : {X : Type 0} (P : X → Type 0) (xs : List X) (x : X) → All P xs → IsIn xs x → P x
-all_at P xs x a i = recursion_in P xs x (recursion_from_All P xs a) i
+-- an item at a place is the first, or one of the rest
+cases_at : {X : Type 0} (y : X) (xs : List X) (x : X) (k : ℕ) → k < length (y ∷ xs) → get_or (y ∷ xs) k x ≡ x → (y ≡ x) ⊎ Contains xs x
+cases_at y xs x zero within is = inl is
+cases_at y xs x (suc k) within is = inr (k, omega arith, is)
 
--- an item in the list is one that the list contains
-pub contains_from : {X : Type 0} (xs : List X) (x : X) → IsIn xs x → Contains xs x
-contains_from xs x i = all_at (Contains xs) xs x (All-contains_itself xs) i
+-- and nothing else
+pub Contains-cases : {X : Type 0} (y : X) (xs : List X) (x : X) → Contains (y ∷ xs) x → (y ≡ x) ⊎ Contains xs x
+Contains-cases y xs x c = cases_at y xs x c.0 c.1 c.2
 
--- and the other way round
-pub in_from : {X : Type 0} (xs : List X) (x : X) → Contains xs x → IsIn xs x
-in_from xs x c = All-contains (IsIn xs) xs x (all_from (IsIn xs) xs (λ y i. i)) c
+-- a list of one item contains that one alone
+pub Contains-one : {X : Type 0} (y x : X) → Contains (y ∷ []) x → y ≡ x
+Contains-one y x c = elim (Contains-cases y [] x c) [ inl same ↦ same | inr none ↦ absurd (Contains-nil x none) ]
 
--- the item at a place is in the list
-pub in_at : {X : Type 0} (xs : List X) (i : ℕ) (d : X) → i < length xs → IsIn xs (get_or xs i d)
-in_at xs i d within = in_from xs (get_or xs i d) (i, within, get_or_default xs i (get_or xs i d) d within)
+-- what is so of each item that a list contains is so of all
+pub all_from : {X : Type 0} (P : X → Type 0) (xs : List X) → ((x : X) → Contains xs x → P x) → All P xs
+all_from P xs h k d within = h (get_or xs k d) (Contains-get_or xs k d within)
 
--- an item at a place is in the list
+-- a list contains what a place of it gives
 pub got_within : {X : Type 0} (xs : List X) (k : ℕ) (x : X) → slice_get xs k ≡ Some x → Contains xs x
 got_within xs k x is = (k, slice_get_within xs k x is, get_or_from_slice_get xs k x x is)
 
--- some item, as an item in the list
-pub in_any : {X : Type 0} (P : X → Type 0) (xs : List X) → Any P xs → (x : X) × IsIn xs x × P x
-in_any P xs h = (h.1, in_from xs h.1 (h.0, h.2, h.3), h.4)
+-- some item, as one that the list contains
+pub in_any : {X : Type 0} (P : X → Type 0) (xs : List X) → Any P xs → (x : X) × Contains xs x × P x
+in_any P xs h = (h.1, (h.0, h.2, h.3), h.4)
 
 -- and back
-pub any_in : {X : Type 0} (P : X → Type 0) (xs : List X) (x : X) → IsIn xs x → P x → Any P xs
-any_in P xs x i p = let c = contains_from xs x i in (c.0, x, c.1, c.2, p)
+pub any_in : {X : Type 0} (P : X → Type 0) (xs : List X) (x : X) → Contains xs x → P x → Any P xs
+any_in P xs x c h = (c.0, x, c.1, c.2, h)
 
--- an item of a list with one more is in the list, or is that one
-pub in_append : {X : Type 0} (xs : List X) (x y : X) → IsIn (xs ++ x ∷ []) y → IsIn xs y ⊎ (x ≡ y)
-in_append [] x y (inl e) = inr e
-in_append [] x y (inr i) = absurd i
-in_append (z ∷ zs) x y (inl e) = inl (inl e)
-in_append (z ∷ zs) x y (inr i) = elim (in_append zs x y i) [ inl before ↦ inl (inr before) | inr same ↦ inr same ]
+-- of a list with one item more, it contains the new one or one of before
+pub from_more : {X : Type 0} (before after : List X) (x y : X) → Contains (before ++ x ∷ after) y → (x ≡ y) ⊎ Contains (before ++ after) y
+from_more before after x y c = elim (Contains-append_cases before (x ∷ after) y c) [
+  | inl front ↦ inr (Contains-append_left before after y front)
+  | inr rest ↦ elim (Contains-cases x after y rest) [
+    | inl same ↦ inl same
+    | inr later ↦ inr (Contains-append_right before after y later)
+  ]
+]
 
--- the last item is in the list
-pub in_last : {X : Type 0} (xs : List X) (x : X) → IsIn (xs ++ x ∷ []) x
-in_last [] x = inl refl
-in_last (y ∷ ys) x = inr (in_last ys x)
-
-pub in_front : {X : Type 0} (x : X) (xs ys : List X) → IsIn xs x → IsIn (xs ++ ys) x
-in_front x [] ys i = absurd i
-in_front x (y ∷ rest) ys (inl e) = inl e
-in_front x (y ∷ rest) ys (inr i) = inr (in_front x rest ys i)
-
-pub in_middle : {X : Type 0} (x : X) (xs ys : List X) → IsIn (xs ++ x ∷ ys) x
-in_middle x [] ys = inl refl
-in_middle x (y ∷ rest) ys = inr (in_middle x rest ys)
-
-module _ {X : Type 0} where
-  -- an item of the longer list is the new one or an old one
-  pub from_more : (before after : List X) (x y : X) → IsIn (before ++ x ∷ after) y → (x ≡ y) ⊎ IsIn (before ++ after) y
-  from_more [] after x y i = i
-  from_more (z ∷ zs) after x y (inl e) = inr (inl e)
-  from_more (z ∷ zs) after x y (inr i) = elim (from_more zs after x y i) [ inl e ↦ inl e | inr j ↦ inr (inr j) ]
-
-  -- an old one is there still
-  pub in_more : (before after : List X) (x y : X) → IsIn (before ++ after) y → IsIn (before ++ x ∷ after) y
-  in_more [] after x y i = inr i
-  in_more (z ∷ zs) after x y (inl e) = inl e
-  in_more (z ∷ zs) after x y (inr i) = inr (in_more zs after x y i)
+-- and it contains still what it did
+pub in_more : {X : Type 0} (before after : List X) (x y : X) → Contains (before ++ after) y → Contains (before ++ x ∷ after) y
+in_more before after x y c = elim (Contains-append_cases before after y c) [
+  | inl front ↦ Contains-append_left before (x ∷ after) y front
+  | inr later ↦ Contains-append_right before (x ∷ after) y (Contains-rest x after y later)
+]
 
 -- an item that passes a test is among those that pass
-pub in_filter : {X : Type 0} (p : X → Bool) (x : X) (xs : List X) → IsIn xs x → p x ≡ true → IsIn (filter p xs) x
-in_filter p x [] i h = absurd i
-in_filter p x (y ∷ ys) (inl same) h = subst (λ zs. IsIn zs x) (sym (cond-true (p y) (y ∷ filter p ys) (filter p ys) (ap p same ∙ h))) (inl same)
-in_filter p x (y ∷ ys) (inr i) h =
-    let rest = in_filter p x ys i h in
-    cond_both (p y) (y ∷ filter p ys) (filter p ys) (λ zs. IsIn zs x) (λ e. inr rest) (λ e. rest)
+pub in_filter : {X : Type 0} (p : X → Bool) (x : X) (xs : List X) → Contains xs x → p x ≡ true → Contains (filter p xs) x
+in_filter p x [] c h = absurd (Contains-nil x c)
+in_filter p x (y ∷ ys) c h = elim (Contains-cases y ys x c) [
+  | inl same ↦ subst (λ zs. Contains zs x) (sym (cond-true (p y) (y ∷ filter p ys) (filter p ys) (ap p same ∙ h))) (Contains-here y (filter p ys) x same)
+  | inr i ↦ (
+      let rest = in_filter p x ys i h in
+      cond_both (p y) (y ∷ filter p ys) (filter p ys) (λ zs. Contains zs x) (λ e. Contains-rest y (filter p ys) x rest) (λ e. rest))
+]
 
 -- an item among those that pass is in the list, and passes
-pub from_filter : {X : Type 0} (p : X → Bool) (x : X) (xs : List X) → IsIn (filter p xs) x → IsIn xs x × (p x ≡ true)
-from_filter p x xs i = (
-  all_at (IsIn xs) (filter p xs) x (All-filter p (IsIn xs) xs (all_from (IsIn xs) xs (λ y j. j))) i,
-  all_at (λ y. p y ≡ true) (filter p xs) x (filter_passes p xs) i,
+pub from_filter : {X : Type 0} (p : X → Bool) (x : X) (xs : List X) → Contains (filter p xs) x → Contains xs x × (p x ≡ true)
+from_filter p x xs c = (
+  All-contains (Contains xs) (filter p xs) x (All-filter p (Contains xs) xs (All-contains_itself xs)) c,
+  All-contains (λ y. p y ≡ true) (filter p xs) x (filter_passes p xs) c,
 )
 
 -- an item of a mapped list is that of an item
-pub in_map : {X Y : Type 0} (f : X → Y) (xs : List X) (y : Y) → IsIn (map f xs) y → (x : X) × IsIn xs x × (f x ≡ y)
-in_map f [] y i = absurd i
-in_map f (x ∷ xs) y (inl same) = (x, inl refl, same)
-in_map f (x ∷ xs) y (inr i) = let rest = in_map f xs y i in (rest.0, inr rest.1, rest.2)
+pub in_map : {X Y : Type 0} (f : X → Y) (xs : List X) (y : Y) → Contains (map f xs) y → (x : X) × Contains xs x × (f x ≡ y)
+in_map f [] y c = absurd (Contains-nil y c)
+in_map f (x ∷ xs) y c = elim (Contains-cases (f x) (map f xs) y c) [
+  | inl same ↦ (x, Contains-first x xs, same)
+  | inr i ↦ (let rest = in_map f xs y i in (rest.0, Contains-rest x xs rest.0 rest.1, rest.2))
+]
 
-pub map_in : {X Y : Type 0} (f : X → Y) (xs : List X) (x : X) → IsIn xs x → IsIn (map f xs) (f x)
-map_in f [] x i = absurd i
-map_in f (y ∷ ys) x (inl same) = inl (ap f same)
-map_in f (y ∷ ys) x (inr i) = inr (map_in f ys x i)
+-- and the other way round
+pub map_in : {X Y : Type 0} (f : X → Y) (xs : List X) (x : X) → Contains xs x → Contains (map f xs) (f x)
+map_in f xs x c = (c.0, subst (λ n. c.0 < n) (sym (length-map xs f)) c.1, get_or-map f xs c.0 x (f x) c.1 ∙ ap f c.2)

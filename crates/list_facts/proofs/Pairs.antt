@@ -1,17 +1,15 @@
 -- Relations along a list, and between two lists.
-use Rattle.std.proofs.Common.{◌≡◌, ◌⊎◌, List, get_or, AllPairs, sym, ap, ◌∙◌, subst, inl, inr, suc, ◌∷◌, arith, zero, ℕ, ◌<◌, length, map, [], subst₂, slice_get, Some, ◌++◌, ◌+◌, refl}
+use Rattle.std.proofs.Common.{◌≡◌, ◌⊎◌, List, get_or, AllPairs, Contains, sym, ap, ◌∙◌, subst, inl, inr, suc, ◌∷◌, arith, zero, ℕ, ◌<◌, length, map, [], subst₂, slice_get, Some, ◌++◌, ◌+◌, refl}
 use Rattle.std.specs.List.{AllZip}
 use Rattle.std.proofs.lemmas.Bool.{cases_order}
 use Rattle.std.proofs.lemmas.List.{get_or_default, length-map, get_or-map}
-use Rattle.std.proofs.lemmas.List.Elements.{Contains-get_or}
+use Rattle.std.proofs.lemmas.List.Kept.{AllPairs-cons}
 use Rattle.std.proofs.lemmas.Option.{none-some, same_Some}
-use Rattle.list_facts.proofs.Membership.{IsIn, contains_from, in_from}
+use Rattle.list_facts.proofs.Membership.{all_from}
 
 -- of two items in a list with a relation along it, one comes first or they are one
-pub in_order : {X : Type 0} (R : X → X → Type 0) (xs : List X) (x y : X) → AllPairs R xs → IsIn xs x → IsIn xs y → (x ≡ y) ⊎ (R x y ⊎ R y x)
-in_order R xs x y all i j =
-    let a = contains_from xs x i in
-    let b = contains_from xs y j in
+pub in_order : {X : Type 0} (R : X → X → Type 0) (xs : List X) (x y : X) → AllPairs R xs → Contains xs x → Contains xs y → (x ≡ y) ⊎ (R x y ⊎ R y x)
+in_order R xs x y all a b =
     elim (cases_order a.0 b.0) [
       | inl e ↦ inl (sym a.2 ∙ get_or_default xs a.0 x y a.1 ∙ ap (λ k. get_or xs k y) e ∙ b.2)
       | inr (inl less) ↦ inr (inl (subst (λ z. R z y) a.2 (subst (λ z. R (get_or xs a.0 x) z) (get_or_default xs b.0 x y b.1 ∙ b.2) (all a.0 b.0 x less b.1))))
@@ -19,9 +17,8 @@ in_order R xs x y all i j =
     ]
 
 -- a relation along a list: from its first item to each other one, and along the rest
-pub pairs_head : {X : Type 0} (R : X → X → Type 0) (x : X) (xs : List X) (y : X) → AllPairs R (x ∷ xs) → IsIn xs y → R x y
-pairs_head R x xs y all i =
-    let c = contains_from xs y i in
+pub pairs_head : {X : Type 0} (R : X → X → Type 0) (x : X) (xs : List X) (y : X) → AllPairs R (x ∷ xs) → Contains xs y → R x y
+pairs_head R x xs y all c =
     subst (R x) c.2 (all 0 (suc c.0) y (omega arith) (let within = c.1 in omega arith))
 
 -- and along the rest
@@ -29,17 +26,14 @@ pub pairs_tail : {X : Type 0} (R : X → X → Type 0) (x : X) (xs : List X) →
 pairs_tail R x xs all = λ i j d less le. all (suc i) (suc j) d (omega arith) (omega arith)
 
 -- and back
-pub pairs_cons : {X : Type 0} (R : X → X → Type 0) (x : X) (xs : List X) → ((y : X) → IsIn xs y → R x y) → AllPairs R xs → AllPairs R (x ∷ xs)
-pairs_cons R x xs first all zero zero d less le = absurd (omega arith)
-pairs_cons R x xs first all zero (suc j) d less le = first (get_or xs j d) (in_from xs (get_or xs j d) (Contains-get_or xs j d (omega arith)))
-pairs_cons R x xs first all (suc i) zero d less le = absurd (omega arith)
-pairs_cons R x xs first all (suc i) (suc j) d less le = all i j d (omega arith) (omega arith)
+pub pairs_cons : {X : Type 0} (R : X → X → Type 0) (x : X) (xs : List X) → ((y : X) → Contains xs y → R x y) → AllPairs R xs → AllPairs R (x ∷ xs)
+pairs_cons R x xs first all = AllPairs-cons R x xs (all_from (R x) xs first) all
 
 -- what is so of two items of an ascending list, the one below the other, is so of any two
 pub of_any_two : {X : Type 0} (at : X → ℕ) (l : List X) → AllPairs (λ x y. at x < at y) l → (P : X → X → Type 0) →
     ((x y : X) → P x y → P y x) → ((x : X) → P x x) →
-    ((x y : X) → IsIn l x → IsIn l y → at y < at x → P x y) →
-    (x y : X) → IsIn l x → IsIn l y → P x y
+    ((x y : X) → Contains l x → Contains l y → at y < at x → P x y) →
+    (x y : X) → Contains l x → Contains l y → P x y
 of_any_two at l up P turn self below x y i j = elim (in_order (λ a b. at a < at b) l x y up i j) [
   | inl e ↦ subst (P x) e (self x)
   | inr (inl less) ↦ turn y x (below y x j i less)

@@ -1,12 +1,12 @@
 -- Tests, counts, sums and lists over a range of numbers.
-use Rattle.std.proofs.Common.{◌≡◌, ℕ, zero, suc, ◌+◌, ◌<◌, ◌≤◌, Bool, true, subst, inl, inr, arith, refl, false, ◌&&◌, ap₂, ◌-◌, sym, ap, ◌∙◌, ◌∷◌, map, List, ◌++◌, append_assoc, flat_map, add-one, sum_by, cond, [], filter, length, Any}
+use Rattle.std.proofs.Common.{◌≡◌, ℕ, zero, suc, ◌+◌, ◌<◌, ◌≤◌, Bool, true, subst, inl, inr, arith, refl, false, ◌&&◌, ap₂, ◌-◌, sym, ap, ◌∙◌, ◌∷◌, map, List, ◌++◌, append_assoc, flat_map, add-one, sum_by, cond, [], filter, length, Any, Contains}
 use Rattle.std.specs.List.{range_with_len, list_all}
 use Rattle.std.proofs.Math.Bool.{and-true}
 use Rattle.std.proofs.lemmas.Bool.{cases_lt, and_parts, and_from, both_ways, cond-false, cond-true, cond_both}
 use Rattle.std.proofs.lemmas.List.{append-nil, map-id}
 use Rattle.std.proofs.lemmas.List.Elements.{filter-append}
-use Rattle.std.proofs.lemmas.List.FromFn.{sum_by-map-range_with_len_more, filter_of_map_range_with_len_more, length-range_with_len}
-use Rattle.list_facts.proofs.Membership.{IsIn, in_from}
+use Rattle.std.proofs.lemmas.List.FromFn.{sum_by-map-range_with_len_more, filter_of_map_range_with_len_more, length-range_with_len, get_or-range_with_len}
+use Rattle.list_facts.proofs.Membership.{Contains-nil, Contains-cases}
 
 -- each number passes where the whole range does
 pub all_range : (p : ℕ → Bool) (a n : ℕ) → list_all p (range_with_len a n) ≡ true → (k : ℕ) → a ≤ k → k < a + n → p k ≡ true
@@ -84,17 +84,16 @@ pub sum_next : (f : ℕ → ℕ) (n count one : ℕ) → count ≡ sum_by f (ran
 sum_next f n count one so_far is = (let more = sum_more f n in omega (arith, so_far, is, more))
 
 -- a number of a range
-pub range_bounds : (a n x : ℕ) → IsIn (range_with_len a n) x → (a ≤ x) × (x < a + n)
-range_bounds a zero x i = absurd i
-range_bounds a (suc n) x (inl e) = (omega (arith, e), omega (arith, e))
-range_bounds a (suc n) x (inr i) = let ih = range_bounds (a + 1) n x i in (omega (arith, ih.0), omega (arith, ih.1))
+pub range_bounds : (a n x : ℕ) → Contains (range_with_len a n) x → (a ≤ x) × (x < a + n)
+range_bounds a n x c =
+    let inside : c.0 < n = omega (arith, c.1, length-range_with_len a n) in
+    let is : a + c.0 ≡ x = sym (get_or-range_with_len a n c.0 x inside) ∙ c.2 in
+    (omega arith, omega arith)
 
-pub in_range : (a n k : ℕ) → a ≤ k → k < a + n → IsIn (range_with_len a n) k
-in_range a zero k low high = absurd (omega arith)
-in_range a (suc n) k low high = elim (cases_lt a k) [
-  | inl later ↦ inr (in_range (a + 1) n k (omega arith) (omega arith))
-  | inr here ↦ inl (omega arith)
-]
+pub in_range : (a n k : ℕ) → a ≤ k → k < a + n → Contains (range_with_len a n) k
+in_range a n k low high =
+    let at : a + (k - a) ≡ k = omega arith in
+    (k - a, omega (arith, length-range_with_len a n), get_or-range_with_len a n (k - a) k (omega arith) ∙ at)
 
 -- the numbers of a range that pass, with one number more
 filter_next : (p : ℕ → Bool) (a n at : ℕ) → a + n ≡ at → filter p (range_with_len a (n + 1)) ≡ filter p (range_with_len a n) ++ cond (p at) (at ∷ []) []
@@ -141,14 +140,16 @@ few p (x ∷ xs) =
     cond_both (p x) (x ∷ filter p xs) (filter p xs) (λ l. length l ≤ length (x ∷ xs)) (λ e. omega (arith, ih)) (λ e. omega (arith, ih))
 
 -- where one item fails, fewer pass than there are
-pub fewer : {X : Type 0} (p : X → Bool) (xs : List X) (y : X) → IsIn xs y → p y ≡ false → length (filter p xs) < length xs
-fewer p [] y i fail = absurd i
-fewer p (x ∷ xs) y (inl same) fail =
-    let all = few p xs in
-    subst (λ l. length l < length (x ∷ xs)) (sym (cond-false (p x) (x ∷ filter p xs) (filter p xs) (ap p same ∙ fail))) (omega (arith, all))
-fewer p (x ∷ xs) y (inr i) fail =
-    let ih = fewer p xs y i fail in
-    cond_both (p x) (x ∷ filter p xs) (filter p xs) (λ l. length l < length (x ∷ xs)) (λ e. omega (arith, ih)) (λ e. omega (arith, ih))
+pub fewer : {X : Type 0} (p : X → Bool) (xs : List X) (y : X) → Contains xs y → p y ≡ false → length (filter p xs) < length xs
+fewer p [] y c fail = absurd (Contains-nil y c)
+fewer p (x ∷ xs) y c fail = elim (Contains-cases x xs y c) [
+  | inl same ↦ (
+      let all = few p xs in
+      subst (λ l. length l < length (x ∷ xs)) (sym (cond-false (p x) (x ∷ filter p xs) (filter p xs) (ap p same ∙ fail))) (omega (arith, all)))
+  | inr i ↦ (
+      let ih = fewer p xs y i fail in
+      cond_both (p x) (x ∷ filter p xs) (filter p xs) (λ l. length l < length (x ∷ xs)) (λ e. omega (arith, ih)) (λ e. omega (arith, ih)))
+]
 
 -- so in a range
 pub filter_most : (p : ℕ → Bool) (a n : ℕ) → length (filter p (range_with_len a n)) ≤ n
@@ -156,5 +157,5 @@ filter_most p a n = subst (λ k. length (filter p (range_with_len a n)) ≤ k) (
 
 pub filter_fewer : (p : ℕ → Bool) (a n : ℕ) → Any (λ k. p k ≡ false) (range_with_len a n) → length (filter p (range_with_len a n)) < n
 filter_fewer p a n any =
-    let less = fewer p (range_with_len a n) any.1 (in_from (range_with_len a n) any.1 (any.0, any.2, any.3)) any.4 in
+    let less = fewer p (range_with_len a n) any.1 (any.0, any.2, any.3) any.4 in
     subst (λ k. length (filter p (range_with_len a n)) < k) (length-range_with_len a n) less

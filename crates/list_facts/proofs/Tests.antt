@@ -1,21 +1,21 @@
 -- Tests of the items of a list: whether one passes, which comes first, and how many do.
-use Rattle.std.proofs.Common.{◌≡◌, Bool, true, List, ◌||◌, [], ◌∷◌, refl, ap₂, inl, inr, false, sym, ap, ◌∙◌, ◌++◌, ℕ, ◌<◌, eqb, subst, eqb-true, length, get_or, find, Some, ◌≤◌, None, cond, Option, filter, ◌+◌, arith}
+use Rattle.std.proofs.Common.{◌≡◌, Bool, true, List, Contains, ◌||◌, [], ◌∷◌, refl, ap₂, inl, inr, false, sym, ap, ◌∙◌, ◌++◌, ℕ, ◌<◌, eqb, subst, eqb-true, length, get_or, find, Some, ◌≤◌, None, cond, Option, filter, ◌+◌, arith}
 use Rattle.std.specs.List.{list_any, AllByRecursion, position_or_len}
 use Rattle.std.specs.Prelude.{position, All, count_by}
-use Rattle.std.proofs.lemmas.Bool.{or_parts, false≢true, or_cases, cases_lt, lt-ltb, le-ltb, cases_Bool, cond-true, cond-false, cond_both}
+use Rattle.std.proofs.lemmas.Bool.{false_from_ne_true, false≢true, or_cases, cases_lt, lt-ltb, le-ltb, cases_Bool, cond-true, cond-false, cond_both}
 use Rattle.std.proofs.lemmas.List.Elements.{All-head, All-tail, All-nil, All-cons}
 use Rattle.std.proofs.lemmas.List.Folds.{Any-from_list_any, list_any-from_Any, list_any-append, find_at}
 use Rattle.std.proofs.lemmas.List.Sums.{sum_by-cons}
 use Rattle.std.proofs.lemmas.Option.{slice_get-get_or, slice_get_past, same_Some, none-some}
-use Rattle.list_facts.proofs.Membership.{IsIn, in_from, contains_from}
+use Rattle.list_facts.proofs.Membership.{Contains-nil, Contains-first, Contains-rest, Contains-cases, Contains-here, in_any, any_in}
 
 -- some item passes a test
-pub any_of : {X : Type 0} (test : X → Bool) (l : List X) → list_any test l ≡ true → (x : X) × IsIn l x × (test x ≡ true)
-any_of test l h = let any = Any-from_list_any test l h in (any.1, in_from l any.1 (any.0, any.2, any.3), any.4)
+pub any_of : {X : Type 0} (test : X → Bool) (l : List X) → list_any test l ≡ true → (x : X) × Contains l x × (test x ≡ true)
+any_of test l h = in_any (λ x. test x ≡ true) l (Any-from_list_any test l h)
 
 -- and the other way round
-pub any_from : {X : Type 0} (test : X → Bool) (l : List X) (x : X) → IsIn l x → test x ≡ true → list_any test l ≡ true
-any_from test l x i h = let c = contains_from l x i in list_any-from_Any test l (c.0, x, c.1, c.2, h)
+pub any_from : {X : Type 0} (test : X → Bool) (l : List X) (x : X) → Contains l x → test x ≡ true → list_any test l ≡ true
+any_from test l x c h = list_any-from_Any test l (any_in (λ x. test x ≡ true) l x c h)
 
 -- two tests that agree at each item pass alike
 pub any_same : {X : Type 0} (test test' : X → Bool) (l : List X) → ((x : X) → test x ≡ test' x) → list_any test l ≡ list_any test' l
@@ -23,15 +23,13 @@ any_same test test' [] h = refl
 any_same test test' (x ∷ xs) h = ap₂ (λ a b. a || b) (h x) (any_same test test' xs h)
 
 -- two tests that agree on the items of a list
-pub any_same_in : {X : Type 0} (test test' : X → Bool) (l : List X) → ((x : X) → IsIn l x → test x ≡ test' x) → list_any test l ≡ list_any test' l
+pub any_same_in : {X : Type 0} (test test' : X → Bool) (l : List X) → ((x : X) → Contains l x → test x ≡ test' x) → list_any test l ≡ list_any test' l
 any_same_in test test' [] h = refl
-any_same_in test test' (x ∷ xs) h = ap₂ (λ a b. a || b) (h x (inl refl)) (any_same_in test test' xs (λ y i. h y (inr i)))
+any_same_in test test' (x ∷ xs) h = ap₂ (λ a b. a || b) (h x (Contains-first x xs)) (any_same_in test test' xs (λ y i. h y (Contains-rest x xs y i)))
 
 -- a test that no item passes fails for each
-pub any_none : {X : Type 0} (p : X → Bool) (xs : List X) → list_any p xs ≡ false → (x : X) → IsIn xs x → p x ≡ false
-any_none p [] h x i = absurd i
-any_none p (y ∷ ys) h x (inl same) = ap p (sym same) ∙ (or_parts (p y) (list_any p ys) h).0
-any_none p (y ∷ ys) h x (inr i) = any_none p ys (or_parts (p y) (list_any p ys) h).1 x i
+pub any_none : {X : Type 0} (p : X → Bool) (xs : List X) → list_any p xs ≡ false → (x : X) → Contains xs x → p x ≡ false
+any_none p xs h x i = false_from_ne_true (p x) (λ pass. false≢true (sym h ∙ any_from p xs x i pass))
 
 -- which of two tests comes first does not matter
 or_swap : (a b c : Bool) → (a || (b || c)) ≡ (b || (a || c))
@@ -86,15 +84,15 @@ module _ {X : Type 0} (p : X → Bool) where
   ]
 
 -- what is found is in the list, and passes
-pub find_stands : {X : Type 0} (p : X → Bool) (xs : List X) (x : X) → find p xs ≡ Some x → IsIn xs x × (p x ≡ true)
+pub find_stands : {X : Type 0} (p : X → Bool) (xs : List X) (x : X) → find p xs ≡ Some x → Contains xs x × (p x ≡ true)
 find_stands p [] x e = absurd (none-some x e)
 find_stands p (y ∷ ys) x e = elim (cases_Bool (p y)) [
   | inl passes ↦
       let same : y ≡ x = same_Some y x (sym (cond-true (p y) (Some y) (find p ys) passes) ∙ e) in
-      (inl same, ap p (sym same) ∙ passes)
+      (Contains-here y ys x same, ap p (sym same) ∙ passes)
   | inr fails ↦
       let rest = find_stands p ys x (sym (cond-false (p y) (Some y) (find p ys) fails) ∙ e) in
-      (inr rest.0, rest.1)
+      (Contains-rest y ys x rest.0, rest.1)
 ]
 
 -- where neither gives anything
@@ -103,10 +101,11 @@ none_parts true e rest h = cc
 none_parts false e rest h = (refl, h)
 
 -- a test that finds nothing fails for each
-pub none_found : {X : Type 0} (p : X → Bool) (xs : List X) → find p xs ≡ None → (x : X) → IsIn xs x → p x ≡ false
-none_found p [] h e i = absurd i
-none_found p (x ∷ xs) h e (inl same) = ap p (sym same) ∙ (none_parts (p x) x (find p xs) h).0
-none_found p (x ∷ xs) h e (inr i) = none_found p xs (none_parts (p x) x (find p xs) h).1 e i
+pub none_found : {X : Type 0} (p : X → Bool) (xs : List X) → find p xs ≡ None → (x : X) → Contains xs x → p x ≡ false
+none_found p [] h x c = absurd (Contains-nil x c)
+none_found p (y ∷ ys) h x c =
+    let none = none_parts (p y) y (find p ys) h in
+    elim (Contains-cases y ys x c) [ inl same ↦ ap p (sym same) ∙ none.0 | inr i ↦ none_found p ys none.1 x i ]
 
 -- an item that fails a test is not found by it
 pub find_more : {X : Type 0} (test : X → Bool) (x : X) (before after : List X) → test x ≡ false → find test (before ++ x ∷ after) ≡ find test (before ++ after)

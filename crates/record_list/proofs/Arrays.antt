@@ -1,9 +1,10 @@
 -- What the four changes do to the array that a list with bytes stands for, from what they keep of its records.
-use Rattle.std.proofs.Common.{◌≡◌, ℕ, ◌<◌, ◌≤◌, ◌⊎◌, true, false, Some, None, List, [], ◌∷◌, All, refl, sym, ap, ◌∙◌, subst, inl, inr, arith}
+use Rattle.std.proofs.Common.{◌≡◌, ℕ, ◌<◌, ◌≤◌, ◌⊎◌, true, false, Some, None, List, [], ◌∷◌, All, refl, sym, ap, ◌∙◌, subst, inl, inr, arith, Contains}
 use Rattle.std.specs.Prelude.{find}
 use Rattle.std.specs.Option.{option_map}
 use Rattle.std.proofs.lemmas.Bool.{cases_Bool, cases_lt, cond-true, cond-false, or_from, both_ways}
-use Rattle.list_facts.proofs.Membership.{IsIn, all_from, all_at, in_from, from_filter}
+use Rattle.std.proofs.lemmas.List.Elements.{All-contains}
+use Rattle.list_facts.proofs.Membership.{all_from, from_filter, Contains-first, Contains-rest}
 use Rattle.list_facts.proofs.Ranges.{map_range}
 use Rattle.tx_types.specs.declared.record.Link.{Link}
 use Rattle.tx_types.specs.declared.config.Protocol.{Protocol}
@@ -31,25 +32,25 @@ current_present p l n page sound scanned some = counted_present p l n (sound_map
 
 -- a name has the bytes of one of its records, or has none
 pub data HasBytes (l : List Written) (name : Link) : Type 0 where
-  there : (w : Written) → IsIn l w → name_of w.rec ≡ name → bytes_at l name ≡ Some w.bytes → HasBytes l name
+  there : (w : Written) → Contains l w → name_of w.rec ≡ name → bytes_at l name ≡ Some w.bytes → HasBytes l name
   nowhere : bytes_at l name ≡ None → is_present (records_of l) name ≡ false → HasBytes l name
 
 pub has_bytes : (l : List Written) (name : Link) → HasBytes l name
 has_bytes [] name = nowhere refl refl
 has_bytes (v ∷ vs) name = elim (cases_Bool (has_name name v.rec)) [
-  | inl named ↦ there v (inl refl) (has_name_true name v.rec named)
+  | inl named ↦ there v (Contains-first v vs) (has_name_true name v.rec named)
       (ap (option_map (λ w. w.bytes)) (cond-true (has_name name v.rec) (Some v) (find (λ w. has_name name w.rec) vs) named))
   | inr other ↦
       (let skips : bytes_at (v ∷ vs) name ≡ bytes_at vs name =
       ap (option_map (λ w. w.bytes)) (cond-false (has_name name v.rec) (Some v) (find (λ w. has_name name w.rec) vs) other) in
       elim (has_bytes vs name) [
-        | there w is_in named is ↦ there w (inr is_in) named (skips ∙ is)
+        | there w is_in named is ↦ there w (Contains-rest v vs w is_in) named (skips ∙ is)
         | nowhere is absent ↦ nowhere (skips ∙ is) (or_from (has_name name v.rec) (is_present (records_of vs) name) other absent)
       ])
 ]
 
 -- a record in the list, whatever its slot, has the bytes of its name
-pub bytes_of : (l : List Written) (w : Written) → IsOneText l → IsIn l w → bytes_at l (name_of w.rec) ≡ Some w.bytes
+pub bytes_of : (l : List Written) (w : Written) → IsOneText l → Contains l w → bytes_at l (name_of w.rec) ≡ Some w.bytes
 bytes_of l w text is_in = elim (has_bytes l (name_of w.rec)) [
   | there v v_in named is ↦ is ∙ ap Some (text.same v w v_in is_in named)
   | nowhere is absent ↦ absurd (both_ways (is_present (records_of l) (name_of w.rec)) absent (present_as (records_of l) (found_of w) (name_of w.rec) (in_records l w is_in) refl))
@@ -57,7 +58,7 @@ bytes_of l w text is_in = elim (has_bytes l (name_of w.rec)) [
 
 -- a present name has some bytes
 pub bytes_present : (l : List Written) (name : Link) → is_present (records_of l) name ≡ true →
-    (w : Written) × IsIn l w × (name_of w.rec ≡ name) × (bytes_at l name ≡ Some w.bytes)
+    (w : Written) × Contains l w × (name_of w.rec ≡ name) × (bytes_at l name ≡ Some w.bytes)
 bytes_present l name h = elim (has_bytes l name) [
   | there w is_in named is ↦ (w, is_in, named, is)
   | nowhere is absent ↦ absurd (both_ways (is_present (records_of l) name) absent h)
@@ -70,7 +71,7 @@ bytes_absent l name h = elim (has_bytes l name) [
 ]
 
 -- a name that was present has its bytes still, with more records
-pub bytes_grow : (l m : List Written) (name : Link) → IsOneText m → ((w : Written) → IsIn l w → IsIn m w) →
+pub bytes_grow : (l m : List Written) (name : Link) → IsOneText m → ((w : Written) → Contains l w → Contains m w) →
     is_present (records_of l) name ≡ true → bytes_at m name ≡ bytes_at l name
 bytes_grow l m name text more h =
     let v = bytes_present l name h in
@@ -86,7 +87,7 @@ zero_absent : (l : List Found) (page : ℕ) → IsScanned l → is_present l (re
 zero_absent l page scanned = elim (cases_Bool (is_present l (record { page = page; version = 0 }))) [
   | inl h ↦
       (let f = found_named l (record { page = page; version = 0 }) h in
-      let low : 1 ≤ f.0.rec.version = (all_at (λ g. (1 ≤ g.rec.version) × (1 ≤ g.rec.next.version)) l f.0 scanned.versions f.1).0 in
+      let low : 1 ≤ f.0.rec.version = (All-contains (λ g. (1 ≤ g.rec.version) × (1 ≤ g.rec.next.version)) l f.0 scanned.versions f.1).0 in
       let is : f.0.rec.version ≡ 0 = ap (λ (y : Link). y.version) f.2 in
       absurd (omega arith))
   | inr h ↦ h
@@ -100,7 +101,7 @@ blank_page p l n page scanned none =
 
 -- a page whose current version stays holds what it held: with more records
 pub page_grows : (p : Protocol) (l m : List Written) (n page : ℕ) → IsSoundList p (records_of l) n → IsScanned (records_of l) → IsScanned (records_of m) →
-    IsOneText m → ((w : Written) → IsIn l w → IsIn m w) →
+    IsOneText m → ((w : Written) → Contains l w → Contains m w) →
     cur p (records_of m) n page ≡ cur p (records_of l) n page → page_at p m n page ≡ page_at p l n page
 page_grows p l m n page sound scanned scanned' text more same = elim (cases_lt 0 (cur p (records_of l) n page)) [
   | inl some ↦
@@ -113,7 +114,7 @@ page_grows p l m n page sound scanned scanned' text more same = elim (cases_lt 0
 
 -- and with fewer records, where the current one has a copy that stays
 pub page_left : (p : Protocol) (l m : List Written) (n page : ℕ) → IsSoundList p (records_of l) n → IsScanned (records_of l) → IsScanned (records_of m) →
-    IsOneText l → ((w : Written) → IsIn m w → IsIn l w) →
+    IsOneText l → ((w : Written) → Contains m w → Contains l w) →
     (0 < cur p (records_of l) n page → is_present (records_of m) (current_name p (records_of l) n page) ≡ true) →
     cur p (records_of m) n page ≡ cur p (records_of l) n page → page_at p m n page ≡ page_at p l n page
 page_left p l m n page sound scanned scanned' text fewer stays same = elim (cases_lt 0 (cur p (records_of l) n page)) [
@@ -147,7 +148,7 @@ array_left p l n shape block sound scanned scanned' bytes removable same =
     let version : f.0.rec.version ≡ cur p (records_of l) n page = ap (λ (y : Link). y.version) f.2 in
     let current : f.0.rec.version ≡ cur p (records_of l) n f.0.rec.page = version ∙ ap (cur p (records_of l) n) (sym at_page) in
     let kept : is_present (left (is_outside shape block) (records_of l)) (name_of f.0.rec) ≡ true =
-    all_at (λ g. IsCurrent p (records_of l) n g.rec ⊎ (is_held p (records_of l) n (name_of g.rec) ≡ true) → is_present (left (is_outside shape block) (records_of l)) (name_of g.rec) ≡ true)
+    All-contains (λ g. IsCurrent p (records_of l) n g.rec ⊎ (is_held p (records_of l) n (name_of g.rec) ≡ true) → is_present (left (is_outside shape block) (records_of l)) (name_of g.rec) ≡ true)
     (records_of l) f.0 removable f.1 (inl current) in
     subst (λ fs. is_present fs name ≡ true) (sym (records_left (is_outside shape block) l))
     (subst (λ u. is_present (left (is_outside shape block) (records_of l)) u ≡ true) f.2 kept))
@@ -187,10 +188,10 @@ pub completing_write_takes_transaction : (p : Protocol) → CompletingWriteLaw p
 completing_write_takes_transaction p law l m n names w sound bytes added write all =
     let keeps = law (records_of l) (records_of m) n names (found_of w) sound write all in
     let bytes' = bytes_written p l m n names w bytes added write in
-    let committed : (a : Link) → IsIn names a → page_at p m n a.page ≡ bytes_at m a = λ a i.
-    page_committed p m n a (all_at (λ b. cur p (records_of m) n b.page ≡ b.version) names a keeps.committed i) in
+    let committed : (a : Link) → Contains names a → page_at p m n a.page ≡ bytes_at m a = λ a i.
+    page_committed p m n a (All-contains (λ b. cur p (records_of m) n b.page ≡ b.version) names a keeps.committed i) in
     record {
-      last = committed (name_of w.rec) (in_from names (name_of w.rec) write.named) ∙ bytes_new l m w write.scanned' bytes' added;
+      last = committed (name_of w.rec) write.named ∙ bytes_new l m w write.scanned' bytes' added;
       earlier = all_from (λ a. is_present (records_of l) a ≡ true → page_at p m n a.page ≡ bytes_at l a) names
           (λ a i there. committed a i ∙ bytes_old l m w a write.scanned' bytes' added there);
       elsewhere = λ page within other. page_elsewhere p l m n page w sound write.scanned write.scanned' bytes' added (keeps.elsewhere page within other);

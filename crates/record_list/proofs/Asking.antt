@@ -5,7 +5,8 @@ use Rattle.std.specs.List.{zip}
 use Rattle.std.proofs.lemmas.Bool.{cases_order, cases_eq, cases_Bool, cond-true, cond-false, ne_eqb}
 use Rattle.std.proofs.lemmas.List.{get_or_default, get_or_append_left, get_or_push}
 use Rattle.std.proofs.lemmas.Slice.Zip.{length-zip, get_or-zip}
-use Rattle.list_facts.proofs.Membership.{IsIn, all_from, all_at, in_from}
+use Rattle.std.proofs.lemmas.List.Elements.{All-contains}
+use Rattle.list_facts.proofs.Membership.{all_from}
 use Rattle.tx_types.specs.declared.record.Link.{Link}
 use Rattle.tx_types.specs.declared.record.Rec.{Rec}
 use Rattle.tx_types.specs.declared.config.Protocol.{Protocol}
@@ -68,11 +69,11 @@ some_of_all P (a ∷ rest) some all = (0, a, some, refl, all 0 a some)
 pub begins : (p : Protocol) (l : List Found) (logical : ℕ) (names : List Link) → IsTransaction logical names → 0 < length names →
     All (λ a. mention l a.page < a.version) names → InProgress p l logical names
 begins p l logical names transaction some below =
-    let lower : (f : Found) → IsIn l f → (a : Link) → IsIn names a → mentioned_at a.page f.rec < a.version = λ f i a j.
+    let lower : (f : Found) → Contains l f → (a : Link) → Contains names a → mentioned_at a.page f.rec < a.version = λ f i a j.
     let bound = greatest_bound (mentioned_at a.page) l f i in
-    let less = all_at (λ b. mention l b.page < b.version) names a below j in
+    let less = All-contains (λ b. mention l b.page < b.version) names a below j in
     omega arith in
-    let no_record : (f : Found) → IsIn l f → (a : Link) → IsIn names a → name_of f.rec ≡ a → ⊥ = λ f i a j same.
+    let no_record : (f : Found) → Contains l f → (a : Link) → Contains names a → name_of f.rec ≡ a → ⊥ = λ f i a j same.
     let less = (mention_parts f.rec a (lower f i a j)).0 (ap (λ (n : Link). n.page) same) in
     let version : f.rec.version ≡ a.version = ap (λ (n : Link). n.version) same in
     omega arith in
@@ -83,7 +84,7 @@ begins p l logical names transaction some below =
             let both = zip_within names (rounded names) k inside in
             let a = get_or names k dd.0 in
             let is : (get_or (zip names (rounded names)) k dd).0 ≡ a = ap (λ (pair : Link × Link). pair.0) (get_or-zip names (rounded names) k dd both.0 both.1) in
-            absurd (no_record f i a (in_from names a (k, both.0, get_or_default names k a dd.0 both.0)) (same ∙ is)));
+            absurd (no_record f i a (k, both.0, get_or_default names k a dd.0 both.0) (same ∙ is)));
         others = all_from (λ f. (Contains names (name_of f.rec) → ⊥) → All (λ a. mentioned_at a.page f.rec < a.version) names) l
             (λ f i none. all_from (λ a. mentioned_at a.page f.rec < a.version) names (lower f i));
       };

@@ -1,8 +1,7 @@
 -- A write that completes its cycle, for either protocol: the names become current, every other current version stays, and
 -- laws 1 to 5 hold.
-use Rattle.std.proofs.Common.{◌≡◌, ℕ, ◌<◌, ◌≤◌, true, ◌&&◌, eqb, ltb, List, refl, sym, ap, ◌∙◌, subst, inl, inr, arith, le-ltb, ne_eqb}
+use Rattle.std.proofs.Common.{◌≡◌, ℕ, ◌<◌, ◌≤◌, true, ◌&&◌, eqb, ltb, List, refl, sym, ap, ◌∙◌, subst, inl, inr, arith, le-ltb, ne_eqb, Contains}
 use Rattle.std.proofs.lemmas.Bool.{cases_eq, cond-false, and_left, and_right}
-use Rattle.list_facts.proofs.Membership.{IsIn}
 use Rattle.tx_types.specs.declared.record.Link.{Link}
 use Rattle.tx_types.specs.declared.config.Protocol.{Protocol}
 use Rattle.tx_types.specs.declared.config.Protocol.TheVariants.{Scc, Bpcc}
@@ -39,20 +38,20 @@ clear_at_newest Bpcc l q le =
     clear_from l q (omega arith)
 
 module _ (p : Protocol) (l l' : List Found) (logical : ℕ) (names : List Link) (f : Found) (s : IsStep l l' logical names f.rec) (m : IsSoundMap p l logical)
-    (old : OldLinks p l l' logical names f.rec) (all : (a : Link) → IsIn names a → is_present l' a ≡ true) where
+    (old : OldLinks p l l' logical names f.rec) (all : (a : Link) → Contains names a → is_present l' a ≡ true) where
   -- each name is current
-  pub completed : (a : Link) → IsIn names a → cur p l' logical a.page ≡ a.version
+  pub completed : (a : Link) → Contains names a → cur p l' logical a.page ≡ a.version
   completed a i =
       let t = step_underway l l' logical names f.rec s in
-      let counts = counts_from p l' logical (step_linked l l' logical names f.rec s m.linked) (λ page. (b : Link) × IsIn names b × (b.page ≡ page)) (names_safe l' logical names t p all) a.page (a, i, refl) in
+      let counts = counts_from p l' logical (step_linked l l' logical names f.rec s m.linked) (λ page. (b : Link) × Contains names b × (b.page ≡ page)) (names_safe l' logical names t p all) a.page (a, i, refl) in
       cur_committed p l' logical a.page counts.1 ∙ name_newest l' logical names t a i (all a i)
 
   -- and each name was above the current version of its page
-  pub was_lower : (a : Link) → IsIn names a → cur p l logical a.page < a.version
+  pub was_lower : (a : Link) → Contains names a → cur p l logical a.page < a.version
   was_lower a i = name_loose l logical names s.underway p m (name_of f.rec) s.of_names s.one.fresh a i
 
   -- every other current version stays
-  pub elsewhere : (page : ℕ) → ((a : Link) → IsIn names a → a.page ≡ page → ⊥) → cur p l' logical page ≡ cur p l logical page
+  pub elsewhere : (page : ℕ) → ((a : Link) → Contains names a → a.page ≡ page → ⊥) → cur p l' logical page ≡ cur p l logical page
   elsewhere page out =
       let off : page ≡ f.rec.page → ⊥ = λ e. out (name_of f.rec) s.of_names (sym e) in
       elim (cases_eq (newest l page) 0) [
@@ -90,12 +89,12 @@ module _ (p : Protocol) (l l' : List Found) (logical : ℕ) (names : List Link) 
           subst (λ q. (q.version ≤ cur p l' logical q.page) × (is_clear p l' q ≡ true)) (sym (t.asked u after.0 after.1 here))
           (omega arith, clear_at_newest p l' after.0 (omega arith)))
       | inr out ↦ elim (s.one.cases u here) [
-        | inl e ↦ absurd (out (subst (IsIn names) (sym e) s.of_names))
+        | inl e ↦ absurd (out (subst (Contains names) (sym e) s.of_names))
         | inr before ↦ elim (cases_page names u.page) [
           | inl of_page ↦ (
               let done = completed of_page.0 of_page.1 in
               let same : u ≡ of_page.0 = same_name u of_page.0 (sym of_page.2) (at ∙ ap (cur p l' logical) (sym of_page.2) ∙ done) in
-              absurd (out (subst (IsIn names) (sym same) of_page.1)))
+              absurd (out (subst (Contains names) (sym same) of_page.1)))
           | inr off ↦ (
               let law = m.counted u before (at ∙ elsewhere u.page off) in
               let link = link_of l u in

@@ -1,7 +1,6 @@
 -- An equal copy of a record changes nothing, under either protocol: a list counts as the set of its records.
 use Rattle.std.proofs.Common.{◌≡◌, ℕ, zero, suc, eqb, ltb, Bool, List, sym, refl, ap, ◌∙◌, ⊎_elim, if◌then◌else◌}
 use Rattle.std.proofs.lemmas.Bool.{cases_Bool, both_ways, false_from_ne_true}
-use Rattle.list_facts.proofs.Membership.{in_from}
 use Rattle.tx_types.specs.declared.record.Link.{Link}
 use Rattle.tx_types.specs.declared.config.Protocol.{Protocol}
 use Rattle.tx_types.specs.declared.config.Protocol.TheVariants.{Scc, Bpcc}
@@ -73,7 +72,7 @@ copy_law p l m n f sound c =
       there = among_of l m (in_inserted l m f c.added);
       back = record {
         among = λ g i. ⊎_elim
-            (λ e. record { at = c.source.1; is_in = in_from l c.source.1 (c.source.0, c.source.2, c.source.3); is = c.source.4 ∙ ap (λ (x : Found). x.rec) e })
+            (λ e. record { at = c.source.1; is_in = (c.source.0, c.source.2, c.source.3); is = c.source.4 ∙ ap (λ (x : Found). x.rec) e })
             (λ old. record { at = g; is_in = old; is = refl })
             (inserted_in l m f c.added g i);
       };

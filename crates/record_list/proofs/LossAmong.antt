@@ -1,8 +1,7 @@
 -- Lists of which one has its records among those of the other: what the other shares with it. A list counts as the set of
 -- its records, where records of one name are equal.
-use Rattle.std.proofs.Common.{◌≡◌, ℕ, ◌≤◌, true, false, List, refl, sym, ap, ◌∙◌, ⊎_elim, arith}
+use Rattle.std.proofs.Common.{◌≡◌, ℕ, ◌≤◌, true, false, List, refl, sym, ap, ◌∙◌, ⊎_elim, arith, Contains}
 use Rattle.std.proofs.lemmas.Bool.{cases_Bool, false_from_ne_true, both_ways}
-use Rattle.list_facts.proofs.Membership.{IsIn}
 use Rattle.tx_types.specs.declared.record.Link.{Link}
 use Rattle.tx_types.specs.declared.record.Rec.{Rec}
 use Rattle.tx_types.specs.declared.config.Protocol.{Protocol}
@@ -15,20 +14,20 @@ use Rattle.record_list.proofs.Names.{same_record, greatest_bound, greatest_least
 -- a record of the list that is equal to this one
 pub record IsEqual (l : List Found) (r : Rec) : Type 0 where
   pub at : Found
-  pub is_in : IsIn l at
+  pub is_in : Contains l at
   pub is : at.rec ≡ r
 
 -- each record of the first list is equal to one of the second
 pub record IsAmong (l m : List Found) : Type 0 where
-  pub among : (f : Found) → IsIn l f → IsEqual m f.rec
+  pub among : (f : Found) → Contains l f → IsEqual m f.rec
 
 -- as where each record of the first is in the second
-pub among_of : (l m : List Found) → ((f : Found) → IsIn l f → IsIn m f) → IsAmong l m
+pub among_of : (l m : List Found) → ((f : Found) → Contains l f → Contains m f) → IsAmong l m
 among_of l m sub = record { among = λ f i. record { at = f; is_in = sub f i; is = refl } }
 
 -- records of one name are equal, whatever their slots
 pub record IsOneEach (l : List Found) : Type 0 where
-  pub same : (f g : Found) → IsIn l f → IsIn l g → name_of f.rec ≡ name_of g.rec → f.rec ≡ g.rec
+  pub same : (f g : Found) → Contains l f → Contains l g → name_of f.rec ≡ name_of g.rec → f.rec ≡ g.rec
 
 -- in a sound list
 pub one_each : (p : Protocol) (l : List Found) (n : ℕ) → IsSoundMap p l n → IsOneEach l
@@ -49,7 +48,7 @@ one_each_among l m a o = record {
 }
 
 -- records of one name in both lists are equal
-pub among_named : (l m : List Found) → IsAmong m l → IsOneEach l → (name : Link) (f g : Found) → IsIn m f → name_of f.rec ≡ name → IsIn l g → name_of g.rec ≡ name → f.rec ≡ g.rec
+pub among_named : (l m : List Found) → IsAmong m l → IsOneEach l → (name : Link) (f g : Found) → Contains m f → name_of f.rec ≡ name → Contains l g → name_of g.rec ≡ name → f.rec ≡ g.rec
 among_named l m a o name f g cf ef cg eg =
     let x : IsEqual l f.rec = a.among f cf in
     sym x.is ∙ o.same x.at g x.is_in cg (ap name_of x.is ∙ (ef ∙ sym eg))

@@ -1,8 +1,9 @@
 -- Current and held names are present, so that what each current and each held record keeps may be said of names.
-use Rattle.std.proofs.Common.{◌≡◌, ℕ, ◌<◌, ◌≤◌, ◌⊎◌, ◌==◌, leb, ltb, Bool, true, false, ◌&&◌, List, All, sym, refl, ◌∙◌, subst, inl, inr, ⊎_elim, arith}
+use Rattle.std.proofs.Common.{◌≡◌, ℕ, ◌<◌, ◌≤◌, ◌⊎◌, ◌==◌, leb, ltb, Bool, true, false, ◌&&◌, List, All, sym, refl, ◌∙◌, subst, inl, inr, ⊎_elim, arith, Contains}
 use Rattle.std.proofs.lemmas.Bool.{cases_lt, and_parts, both_ways, eqb-true, ltb-true, leb-true}
+use Rattle.std.proofs.lemmas.List.Elements.{All-contains}
+use Rattle.list_facts.proofs.Membership.{all_from}
 use Rattle.list_facts.proofs.Values.{if_positive}
-use Rattle.list_facts.proofs.Membership.{IsIn, all_from, all_at}
 use Rattle.list_facts.proofs.Tests.{any_of}
 use Rattle.tx_types.specs.declared.record.Link.{Link}
 use Rattle.tx_types.specs.declared.record.Rec.{Rec}
@@ -22,7 +23,7 @@ use Rattle.record_list.proofs.Names.{named, same_name, greatest_attained, found_
 -- the record that is responsible for loose records with this link
 pub record IsResponsible (p : Protocol) (l : List Found) (n : ℕ) (name : Link) : Type 0 where
   pub at : Found
-  pub is_in : IsIn l at
+  pub is_in : Contains l at
   pub page : at.rec.page ≡ name.page
   pub version : at.rec.version ≡ responsible p l n name
   pub counts : straddling_upto (cur p l n name.page) name at.rec ≡ responsible p l n name
@@ -87,11 +88,11 @@ counted_names p l n keep sound k = record {
   kept = λ name low h c.
       let x = found_named l name (counted_present p l n sound name h c) in
       subst (λ m. is_present (left keep l) m ≡ true) x.2
-      (all_at (λ f. IsCurrent p l n f.rec ⊎ (is_held p l n (name_of f.rec) ≡ true) → is_present (left keep l) (name_of f.rec) ≡ true) l x.0 k x.1
+      (All-contains (λ f. IsCurrent p l n f.rec ⊎ (is_held p l n (name_of f.rec) ≡ true) → is_present (left keep l) (name_of f.rec) ≡ true) l x.0 k x.1
       (subst (λ (m : Link). (m.version ≡ cur p l n m.page) ⊎ (is_held p l n m ≡ true)) (sym x.2) c));
 }
 
 -- and back
 pub counted_records : (p : Protocol) (l : List Found) (n : ℕ) (keep : ℕ → Bool) → All (λ f. (1 ≤ f.rec.version) × (1 ≤ f.rec.next.version)) l → IsSoundList p l n → IsCountedKept p l n keep → KeepsCounted p l n keep
 counted_records p l n keep versions sound k = all_from (λ f. IsCurrent p l n f.rec ⊎ (is_held p l n (name_of f.rec) ≡ true) → is_present (left keep l) (name_of f.rec) ≡ true) l (λ f i h.
-    k.kept (name_of f.rec) (all_at (PagesExist n) l f (sound Pages) i).0 (all_at (λ f. (1 ≤ f.rec.version) × (1 ≤ f.rec.next.version)) l f versions i).0 h)
+    k.kept (name_of f.rec) (All-contains (PagesExist n) l f (sound Pages) i).0 (All-contains (λ f. (1 ≤ f.rec.version) × (1 ≤ f.rec.next.version)) l f versions i).0 h)

@@ -2,7 +2,8 @@
 -- where the current versions are the same, the laws stay, nothing more is held, and what is in progress stays so.
 use Rattle.std.proofs.Common.{◌≡◌, ◌≢◌, ℕ, zero, suc, ◌^◌, ◌<◌, ◌≤◌, ◌⊎◌, true, false, List, All, Contains, sym, refl, ap, ◌∙◌, subst, inl, inr, ⊎_elim, arith}
 use Rattle.std.proofs.lemmas.Bool.{cases_Bool, cases_lt}
-use Rattle.list_facts.proofs.Membership.{all_from, all_at}
+use Rattle.std.proofs.lemmas.List.Elements.{All-contains}
+use Rattle.list_facts.proofs.Membership.{all_from}
 use Rattle.list_facts.proofs.Tests.{any_of, any_from}
 use Rattle.tx_types.specs.declared.record.Link.{Link}
 use Rattle.tx_types.specs.declared.record.Rec.{Rec}
@@ -168,12 +169,12 @@ reduced_progress p l m n r names t = record {
     asked = all_from (λ f. IsAsked p m n names f.rec) m (λ f c.
         let x : IsEqual l f.rec = r.loss.among.among f c in
         asked_same p l m n names
-        (λ a i. r.same a.page (all_at (λ b. (b.page < n) × (1 ≤ b.version) × (b.version ≤ 2 ^ 62)) names a t.begun.transaction.in_range i).0)
-        f.rec (subst (λ y. IsAsked p l n names y) x.is (all_at (λ g. IsAsked p l n names g.rec) l x.at t.begun.asked x.is_in)));
+        (λ a i. r.same a.page (All-contains (λ b. (b.page < n) × (1 ≤ b.version) × (b.version ≤ 2 ^ 62)) names a t.begun.transaction.in_range i).0)
+        f.rec (subst (λ y. IsAsked p l n names y) x.is (All-contains (λ g. IsAsked p l n names g.rec) l x.at t.begun.asked x.is_in)));
     others = all_from (λ f. (Contains names (name_of f.rec) → ⊥) → All (λ name. mentioned_at name.page f.rec < name.version) names) m (λ f c.
         let x : IsEqual l f.rec = r.loss.among.among f c in
         subst (λ (y : Rec). (Contains names (name_of y) → ⊥) → All (λ name. mentioned_at name.page y < name.version) names) x.is
-        (all_at (λ g. (Contains names (name_of g.rec) → ⊥) → All (λ name. mentioned_at name.page g.rec < name.version) names) l x.at t.begun.others x.is_in));
+        (All-contains (λ g. (Contains names (name_of g.rec) → ⊥) → All (λ name. mentioned_at name.page g.rec < name.version) names) l x.at t.begun.others x.is_in));
   };
   absent = (t.absent.0, t.absent.1, t.absent.2, t.absent.3, among_absent m l r.loss.among t.absent.1 t.absent.4);
 }

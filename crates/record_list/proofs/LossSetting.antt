@@ -1,7 +1,6 @@
 -- The loss of records from a sound list: each name that is current or held stays present.
-use Rattle.std.proofs.Common.{◌≡◌, ◌≢◌, ℕ, ◌<◌, ◌≤◌, ◌⊎◌, true, List, sym, refl, ap, ◌∙◌, subst, inl, inr, ⊎_elim, arith}
+use Rattle.std.proofs.Common.{◌≡◌, ◌≢◌, ℕ, ◌<◌, ◌≤◌, ◌⊎◌, true, List, sym, refl, ap, ◌∙◌, subst, inl, inr, ⊎_elim, arith, Contains}
 use Rattle.std.proofs.lemmas.Bool.{cases_lt}
-use Rattle.list_facts.proofs.Membership.{IsIn}
 use Rattle.list_facts.proofs.Tests.{any_from}
 use Rattle.tx_types.specs.declared.record.Link.{Link}
 use Rattle.tx_types.specs.declared.record.Rec.{Rec}
@@ -52,7 +51,7 @@ module _ (p : Protocol) (l m : List Found) (n : ℕ) (r : IsLoss p l m n) where
   }
 
   -- the records left are as their names say
-  pub lost_copies : (f : Found) → IsIn m f → (f.rec.next ≡ link_of m (name_of f.rec)) × (f.rec.back ≡ back_of m (name_of f.rec))
+  pub lost_copies : (f : Found) → Contains m f → (f.rec.next ≡ link_of m (name_of f.rec)) × (f.rec.back ≡ back_of m (name_of f.rec))
   lost_copies f c =
       let x : IsEqual l f.rec = r.among.among f c in
       let h : is_present m (name_of f.rec) ≡ true = present_in m f c in

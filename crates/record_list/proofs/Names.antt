@@ -1,9 +1,9 @@
--- The records of a list by their names: the items of a list, greatest numbers, and what a present name says.
-use Rattle.std.proofs.Common.{◌≡◌, ℕ, ◌<◌, ◌≤◌, Bool, true, false, ◌&&◌, ◌||◌, eqb, ltb, List, [], ◌∷◌, refl, sym, ap, ap₂, ◌∙◌, subst, inl, inr, arith, eqb-true, eq-eqb, lt-ltb, ltb-true, le_trans}
+-- The records of a list by their names: greatest numbers, and what a present name says.
+use Rattle.std.proofs.Common.{◌≡◌, ℕ, ◌<◌, ◌≤◌, Bool, true, false, ◌&&◌, ◌||◌, eqb, ltb, List, [], ◌∷◌, refl, sym, ap, ap₂, ◌∙◌, subst, inl, inr, arith, eqb-true, eq-eqb, lt-ltb, ltb-true, le_trans, Contains}
 use Rattle.std.proofs.Math.Nat.{le-max_left, le-max_right, max-le, max-eq_left, max-eq_right}
 use Rattle.std.proofs.lemmas.Bool.{false≢true, cases_Bool, cases_lt, cond-true, cond-false, and_parts, and_from, or_left, or_right, or_parts}
+use Rattle.list_facts.proofs.Membership.{Contains-cases, Contains-first, Contains-nil, Contains-rest}
 use Rattle.list_facts.proofs.Values.{if_positive}
-use Rattle.list_facts.proofs.Membership.{IsIn}
 use Rattle.tx_types.specs.declared.record.Link.{Link}
 use Rattle.tx_types.specs.declared.record.Rec.{Rec}
 use Rattle.record_list.specs.declared.found.Found.{Found}
@@ -37,33 +37,35 @@ same_record r s e f g =
     the_record n m b = record { page = n.page; version = n.version; next = m; back = b }
 
 -- a greatest number bounds that of each record
-pub greatest_bound : (of : Rec → ℕ) (l : List Found) (f : Found) → IsIn l f → of f.rec ≤ greatest of l
-greatest_bound of [] f i = absurd i
-greatest_bound of (g ∷ gs) f (inl e) = subst (λ x. of x.rec ≤ greatest of (g ∷ gs)) e (le-max_left (of g.rec) (greatest of gs))
-greatest_bound of (g ∷ gs) f (inr i) = le_trans (greatest_bound of gs f i) (le-max_right (of g.rec) (greatest of gs))
+pub greatest_bound : (of : Rec → ℕ) (l : List Found) (f : Found) → Contains l f → of f.rec ≤ greatest of l
+greatest_bound of [] f c = absurd (Contains-nil f c)
+greatest_bound of (g ∷ gs) f c = elim (Contains-cases g gs f c) [
+  | inl e ↦ subst (λ x. of x.rec ≤ greatest of (g ∷ gs)) e (le-max_left (of g.rec) (greatest of gs))
+  | inr i ↦ le_trans (greatest_bound of gs f i) (le-max_right (of g.rec) (greatest of gs))
+]
 
 -- what bounds each record bounds the greatest
-pub greatest_least : (of : Rec → ℕ) (l : List Found) (m : ℕ) → ((f : Found) → IsIn l f → of f.rec ≤ m) → greatest of l ≤ m
+pub greatest_least : (of : Rec → ℕ) (l : List Found) (m : ℕ) → ((f : Found) → Contains l f → of f.rec ≤ m) → greatest of l ≤ m
 greatest_least of [] m h = omega arith
-greatest_least of (g ∷ gs) m h = max-le (h g (inl refl)) (greatest_least of gs m (λ f i. h f (inr i)))
+greatest_least of (g ∷ gs) m h = max-le (h g (Contains-first g gs)) (greatest_least of gs m (λ f i. h f (Contains-rest g gs f i)))
 
 -- a record has the greatest number, where this is not 0
-pub greatest_attained : (of : Rec → ℕ) (l : List Found) → 0 < greatest of l → (f : Found) × IsIn l f × (of f.rec ≡ greatest of l)
+pub greatest_attained : (of : Rec → ℕ) (l : List Found) → 0 < greatest of l → (f : Found) × Contains l f × (of f.rec ≡ greatest of l)
 greatest_attained of [] h = absurd (omega arith)
 greatest_attained of (g ∷ gs) h = elim (cases_lt (of g.rec) (greatest of gs)) [
   | inl less ↦ (let ih = greatest_attained of gs (omega arith) in
-      (ih.0, inr ih.1, ih.2 ∙ sym (max-eq_right (omega arith))))
-  | inr more ↦ (g, inl refl, sym (max-eq_left more))
+      (ih.0, Contains-rest g gs ih.0 ih.1, ih.2 ∙ sym (max-eq_right (omega arith))))
+  | inr more ↦ (g, Contains-first g gs, sym (max-eq_left more))
 ]
 
 -- the record that a present name has
 pub found_named : (l : List Found) (u : Link) → is_present l u ≡ true →
-    (f : Found) × IsIn l f × (name_of f.rec ≡ u) × (f.rec.next ≡ link_of l u) × (f.rec.back ≡ back_of l u)
+    (f : Found) × Contains l f × (name_of f.rec ≡ u) × (f.rec.next ≡ link_of l u) × (f.rec.back ≡ back_of l u)
 found_named [] u h = absurd (false≢true h)
 found_named (f ∷ fs) u h = elim (cases_Bool (has_name u f.rec)) [
-  | inl e ↦ (f, inl refl, has_name_true u f.rec e, sym (cond-true (has_name u f.rec) f.rec.next (link_of fs u) e), sym (cond-true (has_name u f.rec) f.rec.back (back_of fs u) e))
+  | inl e ↦ (f, Contains-first f fs, has_name_true u f.rec e, sym (cond-true (has_name u f.rec) f.rec.next (link_of fs u) e), sym (cond-true (has_name u f.rec) f.rec.back (back_of fs u) e))
   | inr e ↦ (let ih = found_named fs u (present_rest (has_name u f.rec) (is_present fs u) e h) in
-      (ih.0, inr ih.1, ih.2, ih.3 ∙ sym (cond-false (has_name u f.rec) f.rec.next (link_of fs u) e), ih.4 ∙ sym (cond-false (has_name u f.rec) f.rec.back (back_of fs u) e)))
+      (ih.0, Contains-rest f fs ih.0 ih.1, ih.2, ih.3 ∙ sym (cond-false (has_name u f.rec) f.rec.next (link_of fs u) e), ih.4 ∙ sym (cond-false (has_name u f.rec) f.rec.back (back_of fs u) e)))
 ]
   where
     present_rest : (a b : Bool) → a ≡ false → (a || b) ≡ true → b ≡ true
@@ -71,13 +73,15 @@ found_named (f ∷ fs) u h = elim (cases_Bool (has_name u f.rec)) [
     present_rest false b e k = k
 
 -- the name of a record in the list is present
-pub present_in : (l : List Found) (f : Found) → IsIn l f → is_present l (name_of f.rec) ≡ true
-present_in [] f i = absurd i
-present_in (g ∷ gs) f (inl e) = or_left (has_name (name_of f.rec) g.rec) (is_present gs (name_of f.rec)) (has_own_name (name_of f.rec) g.rec (ap (λ x. name_of x.rec) e))
-present_in (g ∷ gs) f (inr i) = or_right (has_name (name_of f.rec) g.rec) (is_present gs (name_of f.rec)) (present_in gs f i)
+pub present_in : (l : List Found) (f : Found) → Contains l f → is_present l (name_of f.rec) ≡ true
+present_in [] f c = absurd (Contains-nil f c)
+present_in (g ∷ gs) f c = elim (Contains-cases g gs f c) [
+  | inl e ↦ or_left (has_name (name_of f.rec) g.rec) (is_present gs (name_of f.rec)) (has_own_name (name_of f.rec) g.rec (ap (λ x. name_of x.rec) e))
+  | inr i ↦ or_right (has_name (name_of f.rec) g.rec) (is_present gs (name_of f.rec)) (present_in gs f i)
+]
 
 -- a name that a record has is present
-pub present_as : (l : List Found) (f : Found) (name : Link) → IsIn l f → name_of f.rec ≡ name → is_present l name ≡ true
+pub present_as : (l : List Found) (f : Found) (name : Link) → Contains l f → name_of f.rec ≡ name → is_present l name ≡ true
 present_as l f name i e = subst (λ u. is_present l u ≡ true) e (present_in l f i)
 
 -- an absent name leads no further

@@ -1,9 +1,10 @@
 -- One record more in a list, under a name that was absent.
-use Rattle.std.proofs.Common.{◌≡◌, ℕ, ◌<◌, ◌≤◌, max, Bool, true, false, cond, ◌&&◌, ◌||◌, eqb, ltb, ◌⊎◌, List, [], ◌∷◌, ◌++◌, All, refl, sym, ap, ◌∙◌, subst, inl, inr, arith, if◌then◌else◌, ne_eqb, eq-eqb, le-ltb}
+use Rattle.std.proofs.Common.{◌≡◌, ℕ, ◌<◌, ◌≤◌, max, Bool, true, false, cond, ◌&&◌, ◌||◌, eqb, ltb, ◌⊎◌, List, [], ◌∷◌, ◌++◌, All, refl, sym, ap, ◌∙◌, subst, inl, inr, arith, if◌then◌else◌, ne_eqb, eq-eqb, le-ltb, Contains}
 use Rattle.std.specs.List.{list_any}
 use Rattle.std.proofs.lemmas.Bool.{false≢true, cases_Bool, cases_lt, cond-true, cond-false, or_cases, or_left, or_right, or_parts, and_left}
+use Rattle.std.proofs.lemmas.List.Elements.{All-contains, Contains-append_right}
+use Rattle.list_facts.proofs.Membership.{from_more, in_more, all_from, Contains-first}
 use Rattle.list_facts.proofs.Tests.{any_more}
-use Rattle.list_facts.proofs.Membership.{from_more, in_more, IsIn, all_from, all_at}
 use Rattle.tx_types.specs.declared.record.Link.{Link}
 use Rattle.tx_types.specs.declared.record.Rec.{Rec}
 use Rattle.tx_types.specs.declared.config.Protocol.{Protocol}
@@ -61,28 +62,24 @@ module _ (f : Found) (after : List Found) where
   greatest_more of (x ∷ xs) = let ih = greatest_more of xs in omega arith
 
 module _ {X : Type 0} where
-  pub inserted_in : (l l' : List X) (x : X) → IsInserted l x l' → (y : X) → IsIn l' y → (x ≡ y) ⊎ IsIn l y
-  inserted_in l l' x ins y i = elim (from_more ins.before ins.after x y (subst (λ zs. IsIn zs y) ins.now i)) [
+  pub inserted_in : (l l' : List X) (x : X) → IsInserted l x l' → (y : X) → Contains l' y → (x ≡ y) ⊎ Contains l y
+  inserted_in l l' x ins y i = elim (from_more ins.before ins.after x y (subst (λ zs. Contains zs y) ins.now i)) [
     | inl e ↦ inl e
-    | inr j ↦ inr (subst (λ zs. IsIn zs y) (sym ins.was) j)
+    | inr j ↦ inr (subst (λ zs. Contains zs y) (sym ins.was) j)
   ]
 
-  pub in_inserted : (l l' : List X) (x : X) → IsInserted l x l' → (y : X) → IsIn l y → IsIn l' y
-  in_inserted l l' x ins y i = subst (λ zs. IsIn zs y) (sym ins.now) (in_more ins.before ins.after x y (subst (λ zs. IsIn zs y) ins.was i))
+  pub in_inserted : (l l' : List X) (x : X) → IsInserted l x l' → (y : X) → Contains l y → Contains l' y
+  in_inserted l l' x ins y i = subst (λ zs. Contains zs y) (sym ins.now) (in_more ins.before ins.after x y (subst (λ zs. Contains zs y) ins.was i))
 
   -- and the new one is there
-  pub new_in : (l l' : List X) (x : X) → IsInserted l x l' → IsIn l' x
-  new_in l l' x ins = subst (λ zs. IsIn zs x) (sym ins.now) (behind ins.before)
-    where
-      behind : (before : List X) → IsIn (before ++ x ∷ ins.after) x
-      behind [] = inl refl
-      behind (z ∷ zs) = inr (behind zs)
+  pub new_in : (l l' : List X) (x : X) → IsInserted l x l' → Contains l' x
+  new_in l l' x ins = subst (λ zs. Contains zs x) (sym ins.now) (Contains-append_right ins.before (x ∷ ins.after) x (Contains-first x ins.after))
 
 -- what is so of all and of the new record is so of all
 pub inserted_all : (P : Found → Type 0) (l l' : List Found) (f : Found) → IsInserted l f l' → All P l → P f → All P l'
 inserted_all P l l' f ins all own = all_from P l' (λ g i. elim (inserted_in l l' f ins g i) [
   | inl e ↦ subst P e own
-  | inr j ↦ all_at P l g all j
+  | inr j ↦ All-contains P l g all j
 ])
 
 -- a test passes for some record of the longer list where it does for the new one or an old one
@@ -122,7 +119,7 @@ one_more l l' f ins fresh =
 pub record IsStep (l l' : List Found) (logical : ℕ) (names : List Link) (r : Rec) : Type 0 where
   pub one : IsOneMore l l' r
   pub underway : IsUnderway l logical names
-  pub of_names : IsIn names (name_of r)
+  pub of_names : Contains names (name_of r)
   pub next : (b : Link) → Follows names (name_of r) b → r.next ≡ b
 
 module _ (l l' : List Found) (logical : ℕ) (names : List Link) (r : Rec) (s : IsStep l l' logical names r) where
@@ -204,10 +201,10 @@ module _ (l l' : List Found) (logical : ℕ) (names : List Link) (r : Rec) (s : 
       | inr old ↦ s.one.links a (λ e. false≢true (sym s.one.fresh ∙ subst (λ n. is_present l n ≡ true) e old)) ∙ s.underway.asked a b i old
     ];
     lower = λ u here out a i. elim (s.one.cases u here) [
-      | inl e ↦ absurd (out (subst (IsIn names) (sym e) s.of_names))
+      | inl e ↦ absurd (out (subst (Contains names) (sym e) s.of_names))
       | inr old ↦ (
           let low = s.underway.lower u old out a i in
-          let e = s.one.links u (λ same. out (subst (IsIn names) (sym same) s.of_names)) in
+          let e = s.one.links u (λ same. out (subst (Contains names) (sym same) s.of_names)) in
           (low.0, subst (λ n. n.page ≡ a.page → n.version < a.version) (sym e) low.1))
     ];
   }
@@ -219,7 +216,7 @@ module _ (l l' : List Found) (logical : ℕ) (names : List Link) (r : Rec) (s : 
       subst (λ n. Follows names (name_of r) n) (sym (s.next after.0 after.1)) after.1
 
   -- it is one of the names
-  pub next_in : IsIn names r.next
+  pub next_in : Contains names r.next
   next_in = (follows_in names (name_of r) r.next next_after).1
 
   -- an old name is not the new one, and has its link and back version

@@ -1,7 +1,6 @@
 -- A write that leaves a name absent, for either protocol: every current version stays, and laws 1 to 5 hold.
-use Rattle.std.proofs.Common.{◌≡◌, ℕ, ◌≤◌, true, false, ◌&&◌, eqb, ltb, List, refl, sym, ap, ◌∙◌, subst, inl, inr, arith, le-ltb}
+use Rattle.std.proofs.Common.{◌≡◌, ℕ, ◌≤◌, true, false, ◌&&◌, eqb, ltb, List, refl, sym, ap, ◌∙◌, subst, inl, inr, arith, le-ltb, Contains}
 use Rattle.std.proofs.lemmas.Bool.{cases_eq, cond-false, and_left, and_right}
-use Rattle.list_facts.proofs.Membership.{IsIn}
 use Rattle.tx_types.specs.declared.record.Link.{Link}
 use Rattle.tx_types.specs.declared.record.Rec.{Rec}
 use Rattle.tx_types.specs.declared.config.Protocol.{Protocol}
@@ -40,8 +39,8 @@ clear_stays Bpcc l l' logical names r s back q clear le = elim (cases_eq q.page 
 
 -- each record of the longer list agrees with its name
 pub step_copies : (l l' : List Found) (logical : ℕ) (names : List Link) (f : Found) → IsInserted l f l' → IsStep l l' logical names f.rec →
-    ((g : Found) → IsIn l g → (g.rec.next ≡ link_of l (name_of g.rec)) × (g.rec.back ≡ back_of l (name_of g.rec))) →
-    (g : Found) → IsIn l' g → (g.rec.next ≡ link_of l' (name_of g.rec)) × (g.rec.back ≡ back_of l' (name_of g.rec))
+    ((g : Found) → Contains l g → (g.rec.next ≡ link_of l (name_of g.rec)) × (g.rec.back ≡ back_of l (name_of g.rec))) →
+    (g : Found) → Contains l' g → (g.rec.next ≡ link_of l' (name_of g.rec)) × (g.rec.back ≡ back_of l' (name_of g.rec))
 step_copies l l' logical names f ins s copies g i = elim (inserted_in l l' f ins g i) [
   | inl e ↦ subst (λ x. (x.rec.next ≡ link_of l' (name_of x.rec)) × (x.rec.back ≡ back_of l' (name_of x.rec))) e (sym s.one.link, sym s.one.back)
   | inr j ↦ (
@@ -52,7 +51,7 @@ step_copies l l' logical names f ins s copies g i = elim (inserted_in l l' f ins
 
 module _ (p : Protocol) (l l' : List Found) (logical : ℕ) (names : List Link) (f : Found) (s : IsStep l l' logical names f.rec) (m : IsSoundMap p l logical)
     (old : OldLinks p l l' logical names f.rec) (own : cur p l' logical f.rec.page ≡ cur p l logical f.rec.page)
-    (gone : Link) (j : IsIn names gone) (absent' : is_present l' gone ≡ false) where
+    (gone : Link) (j : Contains names gone) (absent' : is_present l' gone ≡ false) where
   -- every current version stays
   pub partial_cur : (page : ℕ) → cur p l' logical page ≡ cur p l logical page
   partial_cur page = elim (cases_eq page f.rec.page) [

@@ -1,7 +1,8 @@
 -- Simple Cyclic Commit: what a write keeps that completes its cycle.
-use Rattle.std.proofs.Common.{◌≡◌, ◌≢◌, ◌<◌, true}
+use Rattle.std.proofs.Common.{◌≡◌, ◌≢◌, ◌<◌, true, Contains}
 use Rattle.std.proofs.lemmas.Bool.{false≢true}
-use Rattle.list_facts.proofs.Membership.{IsIn, all_from, all_at}
+use Rattle.std.proofs.lemmas.List.Elements.{All-contains}
+use Rattle.list_facts.proofs.Membership.{all_from}
 use Rattle.tx_types.specs.declared.record.Link.{Link}
 use Rattle.tx_types.specs.declared.config.Protocol.TheVariants.{Scc}
 use Rattle.record_list.specs.Records.{is_present}
@@ -19,12 +20,12 @@ scc_completing_write l l' logical names f sound w every =
     let s = step_of Scc l l' logical names f w in
     let m = sound_map Scc l logical sound w.scanned in
     let old = scc_old_links l l' logical names f.rec s m w.clear in
-    let all : (a : Link) → IsIn names a → is_present l' a ≡ true = λ a i. all_at (λ n. is_present l' n ≡ true) names a every i in
+    let all : (a : Link) → Contains names a → is_present l' a ≡ true = λ a i. All-contains (λ n. is_present l' n ≡ true) names a every i in
     record {
       sound = sound_list Scc l' logical (completing_map Scc l l' logical names f s m old all w.added
           (back_of_step Scc l l' logical names f w f.rec.next (next_after l l' logical names f.rec s)) tt tt);
       committed = all_from (λ n. cur Scc l' logical n.page ≡ n.version) names (completed Scc l l' logical names f s m old all);
-      elsewhere = λ page below out. elsewhere Scc l l' logical names f s m old all page (λ a i. all_at (λ n. n.page ≢ page) names a out i);
+      elsewhere = λ page below out. elsewhere Scc l l' logical names f s m old all page (λ a i. All-contains (λ n. n.page ≢ page) names a out i);
       rises = all_from (λ n. cur Scc l logical n.page < n.version) names (was_lower Scc l l' logical names f s m old all);
       held = λ name is. absurd (false≢true is);
       responsible = tt;

@@ -1,7 +1,7 @@
 -- Simple Cyclic Commit: what a write keeps that leaves a name absent.
-use Rattle.std.proofs.Common.{◌≡◌, ℕ, ◌<◌, true, false, ◌&&◌, eqb, ltb, List, refl, sym, ap, ◌∙◌, subst, inl, inr, arith, eq-eqb, lt-ltb}
+use Rattle.std.proofs.Common.{◌≡◌, ℕ, ◌<◌, true, false, ◌&&◌, eqb, ltb, List, refl, sym, ap, ◌∙◌, subst, inl, inr, arith, eq-eqb, lt-ltb, Contains}
 use Rattle.std.proofs.lemmas.Bool.{false≢true, cases_lt, cases_eq, cases_order, and_from, or_left, or_right, false_from_ne_true}
-use Rattle.list_facts.proofs.Membership.{IsIn, all_at}
+use Rattle.std.proofs.lemmas.List.Elements.{All-contains}
 use Rattle.tx_types.specs.declared.record.Link.{Link}
 use Rattle.tx_types.specs.declared.record.Rec.{Rec}
 use Rattle.tx_types.specs.declared.config.Protocol.TheVariants.{Scc}
@@ -25,7 +25,7 @@ pub none_below : (l : List Found) (logical : ℕ) (r : Rec) → NothingMustGo Sc
     (u.page ≡ r.page → u.version < r.version → ⊥) × ((link_of l u).page ≡ r.page → (link_of l u).version < r.version → ⊥)
 none_below l logical r clear u here loose =
     let f = found_named l u here in
-    let stays = all_at (λ g. must_go Scc l logical r.page r.version g.rec ≡ false) l f.0 clear f.1 in
+    let stays = All-contains (λ g. must_go Scc l logical r.page r.version g.rec ≡ false) l f.0 clear f.1 in
     let page : f.0.rec.page ≡ u.page = ap (λ n. n.page) f.2 in
     let version : f.0.rec.version ≡ u.version = ap (λ n. n.version) f.2 in
     let current = ap (cur Scc l logical) page in
@@ -81,7 +81,7 @@ module _ (l l' : List Found) (logical : ℕ) (names : List Link) (r : Rec) (s : 
   )
 
   -- the page that is written keeps its current version while a name is absent
-  pub scc_own_cur : (gone : Link) → IsIn names gone → is_present l' gone ≡ false → cur Scc l' logical r.page ≡ cur Scc l logical r.page
+  pub scc_own_cur : (gone : Link) → Contains names gone → is_present l' gone ≡ false → cur Scc l' logical r.page ≡ cur Scc l logical r.page
   scc_own_cur gone j absent' =
       let top = newest_own l l' logical names r s in
       let positive = (s.underway.range (name_of r) s.of_names).1 in

@@ -1,8 +1,8 @@
 -- The laws of a sound list by names: each name that is present has one link and one back version.
-use Rattle.std.proofs.Common.{◌≡◌, ◌≢◌, ℕ, ◌<◌, ◌≤◌, Bool, true, false, eqb, ◌⊎◌, List, All, refl, sym, ap, ◌∙◌, subst, inl, inr, arith, eqb-true, eq-eqb, if◌then◌else◌}
-use Rattle.std.proofs.lemmas.List.Elements.{All-weaker}
+use Rattle.std.proofs.Common.{◌≡◌, ◌≢◌, ℕ, ◌<◌, ◌≤◌, Bool, true, false, eqb, ◌⊎◌, List, All, refl, sym, ap, ◌∙◌, subst, inl, inr, arith, eqb-true, eq-eqb, if◌then◌else◌, Contains}
+use Rattle.std.proofs.lemmas.List.Elements.{All-weaker, All-contains}
+use Rattle.list_facts.proofs.Membership.{all_from}
 use Rattle.list_facts.proofs.Pairs.{in_order}
-use Rattle.list_facts.proofs.Membership.{IsIn, all_from, all_at}
 use Rattle.tx_types.specs.declared.record.Link.{Link}
 use Rattle.tx_types.specs.declared.config.Protocol.{Protocol}
 use Rattle.tx_types.specs.declared.config.Protocol.TheVariants.{Scc, Bpcc}
@@ -35,7 +35,7 @@ own_pages l logical all = All-weaker (PagesExist logical) (OwnPageExists logical
 
 -- laws 1 to 7 by names
 pub record IsSoundMap (p : Protocol) (l : List Found) (logical : ℕ) : Type 0 where
-  pub copies : (f : Found) → IsIn l f → (f.rec.next ≡ link_of l (name_of f.rec)) × (f.rec.back ≡ back_of l (name_of f.rec))
+  pub copies : (f : Found) → Contains l f → (f.rec.next ≡ link_of l (name_of f.rec)) × (f.rec.back ≡ back_of l (name_of f.rec))
   pub linked : IsLinked l logical
   pub present : (page : ℕ) → 0 < newest l page → (cur p l logical page ≡ 0) ⊎ (is_present l (current_name p l logical page) ≡ true)
   pub counted : (u : Link) → is_present l u ≡ true → u.version ≡ cur p l logical u.page →
@@ -61,13 +61,13 @@ clear_gives l q h = eqb-true (straddling l q) 0 (choice (eqb (straddling l q) 0)
 
 module _ (p : Protocol) (l : List Found) (logical : ℕ) (sound : IsSoundList p l logical) (scanned : IsScanned l) where
   -- law 2 by names: each record agrees with its name
-  copies_of : (f : Found) → IsIn l f → (f.rec.next ≡ link_of l (name_of f.rec)) × (f.rec.back ≡ back_of l (name_of f.rec))
+  copies_of : (f : Found) → Contains l f → (f.rec.next ≡ link_of l (name_of f.rec)) × (f.rec.back ≡ back_of l (name_of f.rec))
   copies_of f i =
       let g = found_named l (name_of f.rec) (present_in l f i) in
       let same : f.rec ≡ g.0.rec = elim (in_order (λ x y. x.slot.0 < y.slot.0) l f g.0 scanned.ascending i g.1) [
         | inl e ↦ ap (λ x. x.rec) e
-        | inr (inl less) ↦ all_at (λ h. h.slot.0 < g.0.slot.0 → name_of h.rec ≡ name_of g.0.rec → h.rec ≡ g.0.rec) l f (all_at (CopiesAgree l) l g.0 (sound Copies) g.1) i less (sym g.2)
-        | inr (inr more) ↦ sym (all_at (λ h. h.slot.0 < f.slot.0 → name_of h.rec ≡ name_of f.rec → h.rec ≡ f.rec) l g.0 (all_at (CopiesAgree l) l f (sound Copies) i) g.1 more g.2)
+        | inr (inl less) ↦ All-contains (λ h. h.slot.0 < g.0.slot.0 → name_of h.rec ≡ name_of g.0.rec → h.rec ≡ g.0.rec) l f (All-contains (CopiesAgree l) l g.0 (sound Copies) g.1) i less (sym g.2)
+        | inr (inr more) ↦ sym (All-contains (λ h. h.slot.0 < f.slot.0 → name_of h.rec ≡ name_of f.rec → h.rec ≡ f.rec) l g.0 (All-contains (CopiesAgree l) l f (sound Copies) i) g.1 more g.2)
       ] in
       (ap (λ r. r.next) same ∙ g.3, ap (λ r. r.back) same ∙ g.4)
 
@@ -76,11 +76,11 @@ module _ (p : Protocol) (l : List Found) (logical : ℕ) (sound : IsSoundList p 
   linked_of = record {
     pages = λ u h.
         let f = found_named l u h in
-        let law = all_at (PagesExist logical) l f.0 (sound Pages) f.1 in
+        let law = All-contains (PagesExist logical) l f.0 (sound Pages) f.1 in
         (subst (λ n. n.page < logical) f.2 law.0, subst (λ n. n.page < logical) f.3 law.1);
     versions = λ u h.
         let f = found_named l u h in
-        let law = all_at (λ g. (1 ≤ g.rec.version) × (1 ≤ g.rec.next.version)) l f.0 scanned.versions f.1 in
+        let law = All-contains (λ g. (1 ≤ g.rec.version) × (1 ≤ g.rec.next.version)) l f.0 scanned.versions f.1 in
         (subst (λ n. 1 ≤ n.version) f.2 law.0, subst (λ n. 1 ≤ n.version) f.3 law.1);
     once = λ u v hu hv e.
         let f = found_named l u hu in
@@ -88,8 +88,8 @@ module _ (p : Protocol) (l : List Found) (logical : ℕ) (sound : IsSoundList p 
         let links : f.0.rec.next ≡ g.0.rec.next = f.3 ∙ e ∙ sym g.3 in
         let names : name_of f.0.rec ≡ name_of g.0.rec = elim (in_order (λ x y. x.slot.0 < y.slot.0) l f.0 g.0 scanned.ascending f.1 g.1) [
           | inl same ↦ ap (λ x. name_of x.rec) same
-          | inr (inl less) ↦ all_at (λ h. h.slot.0 < g.0.slot.0 → h.rec.next ≡ g.0.rec.next → name_of h.rec ≡ name_of g.0.rec) l f.0 (all_at (LinksDiffer l) l g.0 (sound Links) g.1) f.1 less links
-          | inr (inr more) ↦ sym (all_at (λ h. h.slot.0 < f.0.slot.0 → h.rec.next ≡ f.0.rec.next → name_of h.rec ≡ name_of f.0.rec) l g.0 (all_at (LinksDiffer l) l f.0 (sound Links) f.1) g.1 more (sym links))
+          | inr (inl less) ↦ All-contains (λ h. h.slot.0 < g.0.slot.0 → h.rec.next ≡ g.0.rec.next → name_of h.rec ≡ name_of g.0.rec) l f.0 (All-contains (LinksDiffer l) l g.0 (sound Links) g.1) f.1 less links
+          | inr (inr more) ↦ sym (All-contains (λ h. h.slot.0 < f.0.slot.0 → h.rec.next ≡ f.0.rec.next → name_of h.rec ≡ name_of f.0.rec) l g.0 (All-contains (LinksDiffer l) l f.0 (sound Links) f.1) g.1 more (sym links))
         ] in
         sym f.2 ∙ names ∙ g.2;
   }
@@ -98,7 +98,7 @@ module _ (p : Protocol) (l : List Found) (logical : ℕ) (sound : IsSoundList p 
   present_of : (page : ℕ) → 0 < newest l page → (cur p l logical page ≡ 0) ⊎ (is_present l (current_name p l logical page) ≡ true)
   present_of page has =
       let f = found_named l (newest_name l page) (newest_present l page has) in
-      let law = all_at (CurrentIsPresent p l logical) l f.0 (sound Present) f.1 in
+      let law = All-contains (CurrentIsPresent p l logical) l f.0 (sound Present) f.1 in
       let at_page : f.0.rec.page ≡ page = ap (λ n. n.page) f.2 in
       let at : f.0.rec.version ≡ newest l f.0.rec.page = ap (λ n. n.version) f.2 ∙ ap (newest l) (sym at_page) in
       subst (λ q. (cur p l logical q ≡ 0) ⊎ (is_present l (current_name p l logical q) ≡ true)) at_page (law at)
@@ -122,7 +122,7 @@ counted_back Bpcc l logical f k law = λ at.
     (subst (λ q. q.version ≤ cur Bpcc l logical q.page) (sym k) (law at).0, subst (λ q. straddling l q ≡ 0) (sym k) (clear_gives l (link_of l (name_of f.rec)) (law at).1))
 
 -- law 6
-loose_names : (p : Protocol) (l : List Found) (logical : ℕ) → ((f : Found) → IsIn l f → LooseIsShown p l logical f) → LooseNames p l logical
+loose_names : (p : Protocol) (l : List Found) (logical : ℕ) → ((f : Found) → Contains l f → LooseIsShown p l logical f) → LooseNames p l logical
 unfolding LooseIsShown
 loose_names Scc l logical h = tt
 loose_names Bpcc l logical h = λ u here at.
@@ -134,7 +134,7 @@ loose_names Bpcc l logical h = λ u here at.
     )
 
 -- and back to a record
-loose_back : (p : Protocol) (l : List Found) (logical : ℕ) → LooseNames p l logical → (f : Found) → IsIn l f →
+loose_back : (p : Protocol) (l : List Found) (logical : ℕ) → LooseNames p l logical → (f : Found) → Contains l f →
     f.rec.next ≡ link_of l (name_of f.rec) → f.rec.back ≡ back_of l (name_of f.rec) → LooseIsShown p l logical f
 unfolding LooseIsShown
 loose_back Scc l logical h f i k b = tt
@@ -146,7 +146,7 @@ loose_back Bpcc l logical h f i k b = λ at.
     )
 
 -- law 7
-ending_names : (p : Protocol) (l : List Found) (logical : ℕ) → ((f : Found) → IsIn l f → LooseEnds p l logical f) → EndingNames p l logical
+ending_names : (p : Protocol) (l : List Found) (logical : ℕ) → ((f : Found) → Contains l f → LooseEnds p l logical f) → EndingNames p l logical
 unfolding LooseEnds
 ending_names Scc l logical h = tt
 ending_names Bpcc l logical h = λ u here at.
@@ -154,7 +154,7 @@ ending_names Bpcc l logical h = λ u here at.
     subst (λ q. ((n : ℕ) × (is_present l (follow l q n) ≡ false))) f.3 (h f.0 f.1 (subst (λ n. cur Bpcc l logical n.page < n.version) (sym f.2) at))
 
 -- and back to a record
-ending_back : (p : Protocol) (l : List Found) (logical : ℕ) → EndingNames p l logical → (f : Found) → IsIn l f →
+ending_back : (p : Protocol) (l : List Found) (logical : ℕ) → EndingNames p l logical → (f : Found) → Contains l f →
     f.rec.next ≡ link_of l (name_of f.rec) → LooseEnds p l logical f
 unfolding LooseEnds
 ending_back Scc l logical h f i k = tt
@@ -169,9 +169,9 @@ sound_map p l logical sound scanned = record {
   present = present_of p l logical sound scanned;
   counted = λ u here at.
       let f = found_named l u here in
-      counted_at p l logical u f.0 (all_at (LinkHasCounted p l logical) l f.0 (sound Counted) f.1) f.2 f.3 at;
-  loose = loose_names p l logical (λ f i. all_at (LooseIsShown p l logical) l f (sound Loose) i);
-  ending = ending_names p l logical (λ f i. all_at (LooseEnds p l logical) l f (sound Ending) i);
+      counted_at p l logical u f.0 (All-contains (LinkHasCounted p l logical) l f.0 (sound Counted) f.1) f.2 f.3 at;
+  loose = loose_names p l logical (λ f i. All-contains (LooseIsShown p l logical) l f (sound Loose) i);
+  ending = ending_names p l logical (λ f i. All-contains (LooseEnds p l logical) l f (sound Ending) i);
 }
 
 -- and back

@@ -1,7 +1,6 @@
 -- The pages whose newest record a write does not touch: each counts afterwards exactly where it counted before.
-use Rattle.std.proofs.Common.{◌≡◌, ℕ, ◌<◌, true, false, ◌⊎◌, List, refl, sym, ap, ◌∙◌, subst, inl, inr, arith}
+use Rattle.std.proofs.Common.{◌≡◌, ℕ, ◌<◌, true, false, ◌⊎◌, List, refl, sym, ap, ◌∙◌, subst, inl, inr, arith, Contains}
 use Rattle.std.proofs.lemmas.Bool.{cases_Bool, cases_eq}
-use Rattle.list_facts.proofs.Membership.{IsIn}
 use Rattle.list_facts.proofs.Values.{one_test}
 use Rattle.tx_types.specs.declared.record.Link.{Link}
 use Rattle.tx_types.specs.declared.record.Rec.{Rec}
@@ -19,7 +18,7 @@ use Rattle.record_list.proofs.OneMore.{IsStep, newest_own, newest_else, older_el
 
 -- another page than the new record's, with a newest record that is no name of the transaction
 abbrev pub IsUntouched : List Found → List Link → Rec → ℕ → Type 0
-IsUntouched l names r page = (0 < newest l page) × (page ≡ r.page → ⊥) × (IsIn names (newest_name l page) → ⊥)
+IsUntouched l names r page = (0 < newest l page) × (page ≡ r.page → ⊥) × (Contains names (newest_name l page) → ⊥)
 
 -- an old link into the new record's page goes on exactly where it is clear afterwards
 abbrev pub OldLinks : Protocol → List Found → List Found → ℕ → List Link → Rec → Type 0
@@ -29,7 +28,7 @@ OldLinks p l l' logical names r = (page : ℕ) → IsUntouched l names r page �
 
 module _ (p : Protocol) (l l' : List Found) (logical : ℕ) (names : List Link) (r : Rec) (s : IsStep l l' logical names r) (linked : IsLinked l logical) (old : OldLinks p l l' logical names r) where
   -- its link is lower than the transaction at each of its pages
-  link_lower : (page : ℕ) → IsUntouched l names r page → (a : Link) → IsIn names a → (top_link l page).page ≡ a.page → (top_link l page).version < a.version
+  link_lower : (page : ℕ) → IsUntouched l names r page → (a : Link) → Contains names a → (top_link l page).page ≡ a.page → (top_link l page).version < a.version
   link_lower page k a i e = (s.underway.lower (newest_name l page) (newest_present l page k.0) k.2 a i).1 e
 
   -- a page that it leads to at the newest version is untouched too
@@ -128,7 +127,7 @@ module _ (p : Protocol) (l l' : List Found) (logical : ℕ) (names : List Link) 
       bare_page p l' logical (step_linked l l' logical names r s linked) page (newest_else l l' logical names r s page off ∙ none) ∙ sym (bare_page p l logical linked page none)
 
   -- and a page of a present name, where some name stays absent
-  pub named_cur : (gone : Link) → IsIn names gone → is_present l' gone ≡ false → (a : Link) → IsIn names a → is_present l a ≡ true → (a.page ≡ r.page → ⊥) →
+  pub named_cur : (gone : Link) → Contains names gone → is_present l' gone ≡ false → (a : Link) → Contains names a → is_present l a ≡ true → (a.page ≡ r.page → ⊥) →
       newest l a.page ≡ a.version → is_present l gone ≡ false → cur p l' logical a.page ≡ cur p l logical a.page
   named_cur gone j absent' a i here off top absent =
       let e = newest_else l l' logical names r s a.page off in

@@ -2,9 +2,8 @@
 use Rattle.std.proofs.Common.{◌≡◌, ℕ, true, ◌||◌, eqb, ◌⊎◌, List, Contains, refl, sym, subst, inl, inr, eqb-true, eq-eqb}
 use Rattle.std.specs.List.{list_any}
 use Rattle.std.proofs.lemmas.Bool.{or_cases, or_left, or_right}
-use Rattle.std.proofs.lemmas.List.Elements.{All-weaker}
+use Rattle.std.proofs.lemmas.List.Elements.{All-weaker, All-contains}
 use Rattle.list_facts.proofs.Tests.{any_of, any_from}
-use Rattle.list_facts.proofs.Membership.{all_at, in_from, contains_from}
 use Rattle.tx_types.specs.declared.record.Link.{Link}
 use Rattle.tx_types.specs.declared.record.Rec.{Rec}
 use Rattle.tx_types.specs.declared.config.Protocol.{Protocol}
@@ -18,12 +17,12 @@ use Rattle.record_list.proofs.Names.{found_named, has_name_true, has_own_name}
 
 -- a name of a list is the record's, by test
 name_among : (names : List Link) (r : Rec) → Contains names (name_of r) → list_any (λ name. has_name name r) names ≡ true
-name_among names r c = any_from (λ name. has_name name r) names (name_of r) (in_from names (name_of r) c) (has_own_name (name_of r) r refl)
+name_among names r c = any_from (λ name. has_name name r) names (name_of r) c (has_own_name (name_of r) r refl)
 
 among_name : (names : List Link) (r : Rec) → list_any (λ name. has_name name r) names ≡ true → Contains names (name_of r)
 among_name names r h =
     let any = any_of (λ name. has_name name r) names h in
-    subst (Contains names) (sym (has_name_true any.0 r any.2)) (contains_from names any.0 any.1)
+    subst (Contains names) (sym (has_name_true any.0 r any.2)) any.1
 
 module _ (p : Protocol) (l : List Found) (logical : ℕ) (pinned : List Link) (r : Rec) where
   -- a wanted record is current, held or pinned
@@ -64,5 +63,5 @@ pub dispensable_pinned : (p : Protocol) (l : List Found) (logical : ℕ) (pinned
     is_present (left (is_outside shape block) l) name ≡ true
 dispensable_pinned p l logical pinned shape block kept name pin here =
     let f = found_named l name here in
-    let stays = all_at (λ g. is_wanted p l logical pinned g.rec ≡ true → is_present (left (is_outside shape block) l) (name_of g.rec) ≡ true) l f.0 kept f.1 in
+    let stays = All-contains (λ g. is_wanted p l logical pinned g.rec ≡ true → is_present (left (is_outside shape block) l) (name_of g.rec) ≡ true) l f.0 kept f.1 in
     subst (λ u. is_present (left (is_outside shape block) l) u ≡ true) f.2 (stays (pinned_wanted p l logical pinned f.0.rec (subst (Contains pinned) (sym f.2) pin)))

@@ -2,8 +2,8 @@
 -- stays removable.
 use Rattle.std.proofs.Common.{◌≡◌, ◌≢◌, ℕ, ◌<◌, ◌≤◌, ◌⊎◌, Bool, true, false, List, All, Any, Contains, sym, ap, ◌∙◌, subst, inl, inr, ⊎_elim}
 use Rattle.std.proofs.lemmas.Bool.{both_ways}
-use Rattle.std.proofs.lemmas.List.Elements.{All-filter}
-use Rattle.list_facts.proofs.Membership.{IsIn, all_from, all_at, in_from, contains_from}
+use Rattle.std.proofs.lemmas.List.Elements.{All-filter, All-contains}
+use Rattle.list_facts.proofs.Membership.{all_from}
 use Rattle.tx_types.specs.declared.record.Link.{Link}
 use Rattle.tx_types.specs.declared.config.Protocol.{Protocol}
 use Rattle.record_list.specs.declared.found.Found.{Found}
@@ -27,7 +27,7 @@ IsCounted p l n name = (name.version ≡ cur p l n name.page) ⊎ (is_held p l n
 
 -- with more records the same block is removable, where each name that counts then counted before or lies outside it
 counted_grows : (p : Protocol) (l m : List Found) (n : ℕ) (keep : ℕ → Bool) →
-    IsSoundList p l n → IsScanned l → IsScanned m → IsSoundList p m n → ((f : Found) → IsIn l f → IsIn m f) →
+    IsSoundList p l n → IsScanned l → IsScanned m → IsSoundList p m n → ((f : Found) → Contains l f → Contains m f) →
     ((name : Link) → name.page < n → IsCounted p m n name → IsCounted p l n name ⊎ (is_present (left keep m) name ≡ true)) →
     KeepsCounted p l n keep → KeepsCounted p m n keep
 unfolding IsCounted
@@ -43,7 +43,7 @@ counted_grows p l m n keep sl scanned s sm sub was k =
 
 -- an absent name is no record's
 pub fresh_bytes : (l : List Written) (w : Written) → is_present (records_of l) (name_of w.rec) ≡ false →
-    (v : Written) → IsIn l v → name_of v.rec ≡ name_of w.rec → v.bytes ≡ w.bytes
+    (v : Written) → Contains l v → name_of v.rec ≡ name_of w.rec → v.bytes ≡ w.bytes
 fresh_bytes l w fresh v c e = absurd (both_ways (is_present (records_of l) (name_of w.rec)) fresh (present_as (records_of l) (found_of v) (name_of w.rec) (in_records l v c) e))
 
 -- a write that leaves a name absent: the same block stays removable
@@ -82,13 +82,13 @@ written_completing_write p law l m n shape names w sound i write all room =
               (λ name low c. elim c [
                 | inl e ↦ elim (cases_page names name.page) [
                   | inl t ↦ inr (subst (λ a. is_present (left (is_outside shape room.block) (records_of m)) a ≡ true)
-                      (same_name t.0 name t.2 (sym (all_at (λ a. cur p (records_of m) n a.page ≡ a.version) names t.0 k.committed t.1) ∙ (ap (cur p (records_of m) n) t.2 ∙ sym e)))
-                      (all_at (λ a. is_present (left (is_outside shape room.block) (records_of m)) a ≡ true) names t.0 room.outside t.1))
+                      (same_name t.0 name t.2 (sym (All-contains (λ a. cur p (records_of m) n a.page ≡ a.version) names t.0 k.committed t.1) ∙ (ap (cur p (records_of m) n) t.2 ∙ sym e)))
+                      (All-contains (λ a. is_present (left (is_outside shape room.block) (records_of m)) a ≡ true) names t.0 room.outside t.1))
                   | inr other ↦ inl (inl (e ∙ k.elsewhere name.page low (all_from (λ a. a.page ≢ name.page) names other)))
                 ]
                 | inr h ↦ elim (k.held name h) [
                   | inl old ↦ inl (inr old)
-                  | inr t ↦ inr (all_at (λ a. is_present (left (is_outside shape room.block) (records_of m)) a ≡ true) names name room.outside (in_from names name t))
+                  | inr t ↦ inr (All-contains (λ a. is_present (left (is_outside shape room.block) (records_of m)) a ≡ true) names name room.outside t)
                 ]
               ])
               room.removable;
@@ -102,14 +102,14 @@ module _ (l m : List Written) (w : Written) (i : IsInserted l w m) (scanned : Is
   pub copied : IsScanned (records_of m) → IsCopy (records_of l) (records_of m) (found_of w)
   copied scanned' =
       let v = source.1 in
-      let at : Contains (records_of l) (found_of v) = contains_from (records_of l) (found_of v) (in_records l v (in_from l v (source.0, source.2, source.3))) in
+      let at : Contains (records_of l) (found_of v) = in_records l v (source.0, source.2, source.3) in
       record { scanned = scanned; scanned' = scanned'; added = inserted_records l m w i; source = (at.0, found_of v, at.1, at.2, source.4.0) }
 
   -- and the bytes agree
   pub bytes_copied : All (BytesAgree l) l → All (BytesAgree m) m
   bytes_copied bytes =
       let v = source.1 in
-      let there : IsIn l v = in_from l v (source.0, source.2, source.3) in
+      let there : Contains l v = (source.0, source.2, source.3) in
       bytes_inserted l m w i bytes (λ u c e. (one_text l scanned bytes).same u v c there (e ∙ sym (ap name_of source.4.0)) ∙ source.4.1)
 
 -- a copy: the same block stays removable

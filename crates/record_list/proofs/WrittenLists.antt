@@ -1,8 +1,9 @@
 -- Lists of records with bytes: their records, one item more, and the slots outside a block.
-use Rattle.std.proofs.Common.{◌≡◌, ℕ, ◌<◌, Bool, true, false, cond, List, [], ◌∷◌, length, filter, All, AllPairs, inl, inr, sym, refl, ap, ◌∙◌, subst, subst₂, arith}
+use Rattle.std.proofs.Common.{◌≡◌, ℕ, ◌<◌, Bool, true, false, cond, List, [], ◌∷◌, length, filter, All, AllPairs, inl, inr, sym, refl, ap, ◌∙◌, subst, subst₂, arith, Contains}
 use Rattle.std.proofs.lemmas.List.{map-append, get_or-map, length-map}
+use Rattle.std.proofs.lemmas.List.Elements.{All-contains}
+use Rattle.list_facts.proofs.Membership.{all_from, in_filter, from_filter, map_in}
 use Rattle.list_facts.proofs.Pairs.{of_any_two}
-use Rattle.list_facts.proofs.Membership.{IsIn, all_from, all_at, in_filter, from_filter}
 use Rattle.record_list.specs.declared.found.Found.{Found}
 use Rattle.record_list.specs.Records.{name_of, IsScanned}
 use Rattle.record_list.specs.Changes.{IsInserted, left}
@@ -10,10 +11,8 @@ use Rattle.record_list.specs.Written.{Written, found_of, records_of, BytesAgree}
 use Rattle.record_list.proofs.OneMore.{inserted_in}
 
 -- an item's record is among the records
-pub in_records : (l : List Written) (w : Written) → IsIn l w → IsIn (records_of l) (found_of w)
-in_records [] w i = absurd i
-in_records (v ∷ vs) w (inl e) = inl (ap found_of e)
-in_records (v ∷ vs) w (inr i) = inr (in_records vs w i)
+pub in_records : (l : List Written) (w : Written) → Contains l w → Contains (records_of l) (found_of w)
+in_records l w c = map_in found_of l w c
 
 -- one item more is one record more
 pub inserted_records : (l m : List Written) (w : Written) → IsInserted l w m → IsInserted (records_of l) (found_of w) (records_of m)
@@ -34,19 +33,19 @@ ascending_written l s i j d lt lj =
 
 -- items of one name have the same bytes, whatever their slots
 pub record IsOneText (l : List Written) : Type 0 where
-  pub same : (v w : Written) → IsIn l v → IsIn l w → name_of v.rec ≡ name_of w.rec → v.bytes ≡ w.bytes
+  pub same : (v w : Written) → Contains l v → Contains l w → name_of v.rec ≡ name_of w.rec → v.bytes ≡ w.bytes
 
 -- in a list that keeps the law on bytes
 pub one_text : (l : List Written) → IsScanned (records_of l) → All (BytesAgree l) l → IsOneText l
 one_text l s b = record {
   same = of_any_two (λ w. w.slot.0) l (ascending_written l s) (λ v w. name_of v.rec ≡ name_of w.rec → v.bytes ≡ w.bytes)
       (λ v w h e. sym (h (sym e))) (λ v e. refl)
-      (λ v w cv cw lt e. sym (all_at (λ u. u.slot.0 < v.slot.0 → name_of u.rec ≡ name_of v.rec → u.bytes ≡ v.bytes) l w (all_at (BytesAgree l) l v b cv) cw lt (sym e)));
+      (λ v w cv cw lt e. sym (All-contains (λ u. u.slot.0 < v.slot.0 → name_of u.rec ≡ name_of v.rec → u.bytes ≡ v.bytes) l w (All-contains (BytesAgree l) l v b cv) cw lt (sym e)));
 }
 
 -- with one item more the bytes agree, if they agree with it
 pub bytes_inserted : (l m : List Written) (w : Written) → IsInserted l w m → All (BytesAgree l) l →
-    ((v : Written) → IsIn l v → name_of v.rec ≡ name_of w.rec → v.bytes ≡ w.bytes) → All (BytesAgree m) m
+    ((v : Written) → Contains l v → name_of v.rec ≡ name_of w.rec → v.bytes ≡ w.bytes) → All (BytesAgree m) m
 bytes_inserted l m w i b new = all_from (BytesAgree m) m (λ u cu. all_from (λ v. v.slot.0 < u.slot.0 → name_of v.rec ≡ name_of u.rec → v.bytes ≡ u.bytes) m (λ v cv lt e.
     elim (inserted_in l m w i u cu) [
       | inl wu ↦ elim (inserted_in l m w i v cv) [
@@ -55,15 +54,15 @@ bytes_inserted l m w i b new = all_from (BytesAgree m) m (λ u cu. all_from (λ 
       ]
       | inr ou ↦ elim (inserted_in l m w i v cv) [
         | inl wv ↦ ap (λ (x : Written). x.bytes) (sym wv) ∙ sym (new u ou (sym e ∙ ap (λ (x : Written). name_of x.rec) (sym wv)))
-        | inr ov ↦ all_at (λ x. x.slot.0 < u.slot.0 → name_of x.rec ≡ name_of u.rec → x.bytes ≡ u.bytes) l v (all_at (BytesAgree l) l u b ou) ov lt e
+        | inr ov ↦ All-contains (λ x. x.slot.0 < u.slot.0 → name_of x.rec ≡ name_of u.rec → x.bytes ≡ u.bytes) l v (All-contains (BytesAgree l) l u b ou) ov lt e
       ]
     ]))
 
 -- fewer items agree in their bytes as before
 pub bytes_filtered : (p : Written → Bool) (l : List Written) → All (BytesAgree l) l → All (BytesAgree (filter p l)) (filter p l)
 bytes_filtered p l b = all_from (BytesAgree (filter p l)) (filter p l) (λ u cu. all_from (λ v. v.slot.0 < u.slot.0 → name_of v.rec ≡ name_of u.rec → v.bytes ≡ u.bytes) (filter p l) (λ v cv.
-    all_at (λ x. x.slot.0 < u.slot.0 → name_of x.rec ≡ name_of u.rec → x.bytes ≡ u.bytes) l v
-    (all_at (BytesAgree l) l u b (from_filter p u l cu).0) (from_filter p v l cv).0))
+    All-contains (λ x. x.slot.0 < u.slot.0 → name_of x.rec ≡ name_of u.rec → x.bytes ≡ u.bytes) l v
+    (All-contains (BytesAgree l) l u b (from_filter p u l cu).0) (from_filter p v l cv).0))
 
 -- the records of a chosen list
 map_cond : (b : Bool) (w : Written) (us vs : List Written) → records_of (cond b (w ∷ us) vs) ≡ cond b (found_of w ∷ records_of us) (records_of vs)
@@ -78,8 +77,8 @@ records_left keep (w ∷ ws) =
     ∙ ap (λ z. cond (keep w.slot.0) (found_of w ∷ z) z) (records_left keep ws)
 
 -- more records leave more, and what is left once is left twice
-pub left_more : (keep : ℕ → Bool) (l m : List Found) → ((f : Found) → IsIn l f → IsIn m f) → (f : Found) → IsIn (left keep l) f → IsIn (left keep m) f
+pub left_more : (keep : ℕ → Bool) (l m : List Found) → ((f : Found) → Contains l f → Contains m f) → (f : Found) → Contains (left keep l) f → Contains (left keep m) f
 left_more keep l m sub f c = let k = from_filter (λ f. keep f.slot.0) f l c in in_filter (λ f. keep f.slot.0) f m (sub f k.0) k.1
 
-pub left_twice : (keep : ℕ → Bool) (l : List Found) (f : Found) → IsIn (left keep l) f → IsIn (left keep (left keep l)) f
+pub left_twice : (keep : ℕ → Bool) (l : List Found) (f : Found) → Contains (left keep l) f → Contains (left keep (left keep l)) f
 left_twice keep l f c = in_filter (λ f. keep f.slot.0) f (left keep l) c (from_filter (λ f. keep f.slot.0) f l c).1

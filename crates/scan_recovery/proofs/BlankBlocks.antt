@@ -1,9 +1,9 @@
 -- A block that is all blank is removable, and what becomes the spare.
-use Rattle.std.proofs.Common.{◌≡◌, ℕ, ◌+◌, ◌-◌, ◌*◌, ◌<◌, ◌⊎◌, true, List, map, length, get_or, Option, Some, None, refl, sym, ap, ◌∙◌, subst, inl, inr, arith}
+use Rattle.std.proofs.Common.{◌≡◌, ℕ, ◌+◌, ◌-◌, ◌*◌, ◌<◌, ◌⊎◌, true, List, map, length, get_or, Option, Some, None, refl, sym, ap, ◌∙◌, subst, inl, inr, arith, Contains}
 use Rattle.std.proofs.lemmas.Bool.{false≢true, cases_Bool}
 use Rattle.std.proofs.lemmas.Option.{none-some, same_Some}
 use Rattle.std.proofs.lemmas.List.Folds.{list_all_at}
-use Rattle.list_facts.proofs.Membership.{map_in, IsIn, all_from, in_filter}
+use Rattle.list_facts.proofs.Membership.{map_in, all_from, in_filter}
 use Rattle.list_facts.proofs.Chunks.{chunk_at, length-chunk}
 use Rattle.tx_types.specs.declared.config.Protocol.{Protocol}
 use Rattle.tx_types.specs.declared.config.Shape.{Shape}
@@ -33,7 +33,7 @@ complete_is slot Blank s e = absurd (none-some s e)
 complete_is slot Damaged s e = absurd (none-some s e)
 complete_is slot Complete s e = (sym (same_Some slot s e), refl)
 
-complete_reads : (slots : List Seen) (s : ℕ) → IsIn (complete_slots slots) s → ReadsComplete slots s
+complete_reads : (slots : List Seen) (s : ℕ) → Contains (complete_slots slots) s → ReadsComplete slots s
 complete_reads slots s i =
     let h = given_from numbered_complete 0 slots s i in
     let parts = complete_is (0 + h.at) (get_or slots h.at Blank) s (h.from Blank) in
@@ -45,12 +45,12 @@ complete_reads slots s i =
     }
 
 -- each slot with a record reads complete
-pub found_complete : (slots : List Seen) (list : List Found) (f : Found) → map (λ g. g.slot.0) list ≡ complete_slots slots → IsIn list f →
+pub found_complete : (slots : List Seen) (list : List Found) (f : Found) → map (λ g. g.slot.0) list ≡ complete_slots slots → Contains list f →
     get_or slots f.slot.0 Blank ≡ Complete
-found_complete slots list f e i = (complete_reads slots f.slot.0 (subst (λ l. IsIn l f.slot.0) e (map_in (λ (g : Found). g.slot.0) list f i))).reads
+found_complete slots list f e i = (complete_reads slots f.slot.0 (subst (λ l. Contains l f.slot.0) e (map_in (λ (g : Found). g.slot.0) list f i))).reads
 
-slot_within : (slots : List Seen) (list : List Found) (f : Found) → map (λ g. g.slot.0) list ≡ complete_slots slots → IsIn list f → f.slot.0 < length slots
-slot_within slots list f e i = (complete_reads slots f.slot.0 (subst (λ l. IsIn l f.slot.0) e (map_in (λ (g : Found). g.slot.0) list f i))).within
+slot_within : (slots : List Seen) (list : List Found) (f : Found) → map (λ g. g.slot.0) list ≡ complete_slots slots → Contains list f → f.slot.0 < length slots
+slot_within slots list f e i = (complete_reads slots f.slot.0 (subst (λ l. Contains l f.slot.0) e (map_in (λ (g : Found). g.slot.0) list f i))).within
 
 -- no complete slot lies in a block that is all blank
 outside_blank : (shape : Shape) (slots : List Seen) (block at : ℕ) → 0 < shape.pages_per_block → IsBlankBlock shape slots block →

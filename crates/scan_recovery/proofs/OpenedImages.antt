@@ -1,13 +1,13 @@
 -- From the records of a scan to the image: what a device is opened with, and the first law that an image breaks.
-use Rattle.std.proofs.Common.{◌≡◌, ℕ, ◌+◌, ◌*◌, ◌<◌, false, List, [], ◌∷◌, map, replicate, length, get_or, All, Any, Option, None, Some, IsSomeAnd, Result, Ok, Err, refl, sym, ap, ◌∙◌, subst, inl, inr, arith}
+use Rattle.std.proofs.Common.{◌≡◌, ℕ, ◌+◌, ◌*◌, ◌<◌, false, List, [], ◌∷◌, map, replicate, length, get_or, All, Any, Option, None, Some, IsSomeAnd, Result, Ok, Err, refl, sym, ap, ◌∙◌, subst, inl, inr, arith, Contains}
 use Rattle.std.specs.Prelude.{OnOk, IfErr}
 use Rattle.std.specs.List.{cons_option, range_with_len}
 use Rattle.std.specs.Option.{option_map}
 use Rattle.std.proofs.lemmas.Bool.{false≢true}
 use Rattle.std.proofs.lemmas.Result.{on_ok_weaker, IfErr-weaker}
 use Rattle.std.proofs.lemmas.List.{length-map, get_or-map, get_or_default}
-use Rattle.std.proofs.lemmas.List.Elements.{All-map, All-head, All-tail}
-use Rattle.list_facts.proofs.Membership.{IsIn, all_from, all_at}
+use Rattle.std.proofs.lemmas.List.Elements.{All-map, All-head, All-tail, All-contains}
+use Rattle.list_facts.proofs.Membership.{all_from}
 use Rattle.tx_types.specs.declared.config.Config.{Config}
 use Rattle.tx_types.specs.declared.config.Protocol.{Protocol}
 use Rattle.tx_types.specs.declared.config.Shape.{Shape}
@@ -74,7 +74,7 @@ module _ (p : Protocol) (logical : ℕ) (image : List Contents) (slots : List Se
       subst (All (OwnPageExists logical)) (sym scan.records)
       (All-map (OwnPageExists logical) found_of (written_in p image)
       (all_from (λ w. w.rec.page < logical) (written_in p image)
-      (λ w i. (all_at (KeepsWritten p (written_in p image) logical Pages) (written_in p image) w (pages_hold p logical 0 image scan.reads) i).0)))
+      (λ w i. (All-contains (KeepsWritten p (written_in p image) logical Pages) (written_in p image) w (pages_hold p logical 0 image scan.reads) i).0)))
 
 -- the tables of the scan are those of the image
 noted_of_parts : (n : Noted) (config : Config) (notes : List Note) (mentions : List ℕ) (spare : ℕ) → n.config ≡ config → n.notes ≡ notes →
@@ -127,11 +127,11 @@ module _ (p : Protocol) (logical : ℕ) (shape : Shape) (image : List Contents) 
   without_bytes Loose w k = k
   without_bytes Ending w k = k
 
-  agree : (w : Written) → IsIn ws w → BytesAgree ws w
-  agree w i = (all_at (KeepsWritten p ws logical Copies) ws w copies i).1
+  agree : (w : Written) → Contains ws w → BytesAgree ws w
+  agree w i = (All-contains (KeepsWritten p ws logical Copies) ws w copies i).1
 
   all_with_bytes : (l : Law) → All (Keeps p records logical l) records → All (KeepsWritten p ws logical l) ws
-  all_with_bytes l h = all_from (KeepsWritten p ws logical l) ws (λ w i. with_bytes l w (agree w i) (all_at (Keeps p records logical l) records (found_of w) h (in_records ws w i)))
+  all_with_bytes l h = all_from (KeepsWritten p ws logical l) ws (λ w i. with_bytes l w (agree w i) (All-contains (Keeps p records logical l) records (found_of w) h (in_records ws w i)))
 
   pub sound_image : IsSoundList p records logical × HasRemovable p records logical shape → IsSoundImage p logical shape image
   sound_image h = record {
@@ -165,7 +165,7 @@ module _ (p : Protocol) (logical : ℕ) (shape : Shape) (image : List Contents) 
         );
         earlier_laws = λ l less. all_with_bytes l (h.earlier_laws l less);
         earlier_slots = all_from (λ v. v.slot.0 < b.slot.0 → KeepsWritten p ws logical h.law v) ws (λ v j less.
-            with_bytes h.law v (agree v j) (all_at (λ f. f.slot.0 < b.slot.0 → Keeps p records logical h.law f) records (found_of v) h.earlier_slots (in_records ws v j) less));
+            with_bytes h.law v (agree v j) (All-contains (λ f. f.slot.0 < b.slot.0 → Keeps p records logical h.law f) records (found_of v) h.earlier_slots (in_records ws v j) less));
       }
 
   pub broken_image : (b : Breach) → IsBroken p records logical shape b → IsLeastImageBreach p logical shape image b
@@ -180,7 +180,7 @@ module _ (p : Protocol) (logical : ℕ) (shape : Shape) (image : List Contents) 
   none_breaks P slot all (i, f, inside, is, both) = both.1 (subst P is (all i f inside))
 
   all_without_bytes : (l : Law) → All (KeepsWritten p ws logical l) ws → All (Keeps p records logical l) records
-  all_without_bytes l h = All-map (Keeps p records logical l) found_of ws (all_from (λ w. Keeps p records logical l (found_of w)) ws (λ w i. without_bytes l w (all_at (KeepsWritten p ws logical l) ws w h i)))
+  all_without_bytes l h = All-map (Keeps p records logical l) found_of ws (all_from (λ w. Keeps p records logical l (found_of w)) ws (λ w i. without_bytes l w (All-contains (KeepsWritten p ws logical l) ws w h i)))
 
   -- the law that is broken is neither law 1 nor law 2
   broken_law : (b : Breach) (l : Law) → number l ≡ b.law → Any (λ f. (f.slot.0 ≡ b.slot.0) × (Keeps p records logical l f → ⊥)) records →

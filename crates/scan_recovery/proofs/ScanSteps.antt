@@ -1,10 +1,10 @@
 -- A scan of an image, one slot after another.
-use Rattle.std.proofs.Common.{◌≡◌, ℕ, ◌+◌, ◌<◌, List, [], ◌∷◌, ◌++◌, map, length, take, All, Option, Some, None, unwrap_or, sym, ap, ap₂, ◌∙◌, subst, inl, inr, arith}
+use Rattle.std.proofs.Common.{◌≡◌, ℕ, ◌+◌, ◌<◌, List, [], ◌∷◌, ◌++◌, map, length, take, All, Option, Some, None, unwrap_or, sym, ap, ap₂, ◌∙◌, subst, arith}
 use Rattle.std.specs.Prelude.{MatchOption}
 use Rattle.std.specs.List.{cons_option}
 use Rattle.std.proofs.lemmas.List.{length-map, get_or-map, take-map, map-append, take_more, get_or-take, length-take-le}
 use Rattle.std.proofs.lemmas.List.Elements.{All-append}
-use Rattle.list_facts.proofs.Membership.{all_from}
+use Rattle.list_facts.proofs.Membership.{all_from, Contains-one}
 use Rattle.tx_types.specs.declared.config.Protocol.{Protocol}
 use Rattle.tx_types.specs.declared.config.Slot.{Slot}
 use Rattle.flash_model.specs.declared.flash.Seen.{Seen}
@@ -65,10 +65,7 @@ module _ (p : Protocol) (logical : ℕ) (image : List Contents) (at : ℕ) (with
   }
     where
       one_reads : SlotReads p logical (slot_at image at) → All (SlotReads p logical) (slot_at image at ∷ [])
-      one_reads reads = all_from (SlotReads p logical) (slot_at image at ∷ []) (λ x i. elim i [
-        | inl e ↦ subst (SlotReads p logical) e reads
-        | inr none ↦ absurd none
-      ])
+      one_reads reads = all_from (SlotReads p logical) (slot_at image at ∷ []) (λ x i. subst (SlotReads p logical) (Contains-one (slot_at image at) x i) reads)
 
   abbrev pub IsFoundTo : ℕ → Option Slot → List Seen → List Found → Type 0
   IsFoundTo to unread slots list = MatchOption unread (IsScanTo p logical image to slots list) (λ slot. IsUnreadTo p logical image to slot.0)

@@ -1,10 +1,12 @@
 -- Counting the records up to one slot of an ascending list.
-use Rattle.std.proofs.Common.{◌≡◌, ℕ, zero, suc, ◌+◌, ◌<◌, ◌≤◌, Bool, false, ◌&&◌, cond, List, [], ◌∷◌, length, get_or, take, count_by, AllPairs, Some, refl, sym, ap, ap₂, ◌∙◌, inl, inr, arith}
+use Rattle.std.proofs.Common.{◌≡◌, ℕ, zero, suc, ◌+◌, ◌<◌, ◌≤◌, Bool, false, ◌&&◌, cond, List, [], ◌∷◌, length, get_or, take, count_by, AllPairs, Some, sym, ap, ap₂, ◌∙◌, arith, Contains}
 use Rattle.std.specs.Prelude.{nat_le}
 use Rattle.std.proofs.lemmas.Bool.{le-leb, lt-leb}
 use Rattle.std.proofs.lemmas.List.Sums.{sum_by-cons}
+use Rattle.std.proofs.lemmas.List.Elements.{Contains-get_or}
+use Rattle.list_facts.proofs.Tests.{none_counted}
+use Rattle.list_facts.proofs.Membership.{all_from}
 use Rattle.list_facts.proofs.Pairs.{pairs_head, pairs_tail}
-use Rattle.list_facts.proofs.Membership.{IsIn, in_at}
 use Rattle.record_list.specs.declared.found.Found.{Found}
 use Rattle.record_list.specs.Records.{nothing}
 use Rattle.scan_recovery.specs.Twins.{is_compared, compared_upto, compared_to}
@@ -12,12 +14,8 @@ use Rattle.scan_recovery.specs.Twins.{is_compared, compared_upto, compared_to}
 counted : (p : Found → Bool) (x : Found) (xs : List Found) → count_by p (x ∷ xs) ≡ cond (p x) 1 0 + count_by p xs
 counted p x xs = sum_by-cons (λ f. cond (p f) 1 0) x xs
 
-count_none : (p : Found → Bool) (xs : List Found) → ((f : Found) → IsIn xs f → p f ≡ false) → count_by p xs ≡ 0
-count_none p [] h = refl
-count_none p (x ∷ xs) h =
-    let none : cond (p x) 1 0 ≡ 0 = ap (λ b. cond b 1 0) (h x (inl refl)) in
-    let rest : count_by p xs ≡ 0 = count_none p xs (λ f i. h f (inr i)) in
-    counted p x xs ∙ ap₂ (λ (m n : ℕ). m + n) none rest
+count_none : (p : Found → Bool) (xs : List Found) → ((f : Found) → Contains xs f → p f ≡ false) → count_by p xs ≡ 0
+count_none p xs h = none_counted p xs (all_from (λ f. p f ≡ false) xs h)
 
 -- the records up to this slot
 abbrev upto : ℕ → (Found → Bool) → Found → Bool
@@ -40,7 +38,7 @@ count_upto p (x ∷ xs) zero up within =
     ∙ sym (counted p x [])
 count_upto p (x ∷ xs) (suc at) up within =
     let top = (get_or xs at nothing).slot.0 in
-    let low : x.slot.0 < top = pairs_head (λ f g. f.slot.0 < g.slot.0) x xs (get_or xs at nothing) up (in_at xs at nothing (omega arith)) in
+    let low : x.slot.0 < top = pairs_head (λ f g. f.slot.0 < g.slot.0) x xs (get_or xs at nothing) up (Contains-get_or xs at nothing (omega arith)) in
     counted (upto top p) x xs
     ∙ ap₂ (λ (b : Bool) (n : ℕ). cond b 1 0 + n) (passes top p x (omega arith))
     (count_upto p xs at (pairs_tail (λ f g. f.slot.0 < g.slot.0) x xs up) (omega arith))

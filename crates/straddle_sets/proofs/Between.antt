@@ -1,7 +1,6 @@
 -- Back Pointer Cyclic Commit: which records of a sound list straddle a name, by where its version lies.
-use Rattle.std.proofs.Common.{◌≡◌, ℕ, ◌<◌, ◌≤◌, true, List, ap, ◌∙◌, inl, inr, arith}
+use Rattle.std.proofs.Common.{◌≡◌, ℕ, ◌<◌, ◌≤◌, true, List, ap, ◌∙◌, inl, inr, arith, Contains}
 use Rattle.std.proofs.lemmas.Bool.{cases_lt}
-use Rattle.list_facts.proofs.Membership.{IsIn}
 use Rattle.tx_types.specs.declared.record.Link.{Link}
 use Rattle.tx_types.specs.declared.config.Protocol.TheVariants.{Bpcc}
 use Rattle.record_list.specs.declared.found.Found.{Found}
@@ -16,11 +15,11 @@ use Rattle.straddle_sets.proofs.BpccLinks.{clear_low}
 
 module _ (l : List Found) (logical : ℕ) (m : IsSoundMap Bpcc l logical) where
   -- a loose record begins to straddle at the current version of its page
-  pub loose_back_is : (f : Found) → IsIn l f → cur Bpcc l logical f.rec.page < f.rec.version → f.rec.back ≡ cur Bpcc l logical f.rec.page
+  pub loose_back_is : (f : Found) → Contains l f → cur Bpcc l logical f.rec.page < f.rec.version → f.rec.back ≡ cur Bpcc l logical f.rec.page
   loose_back_is f i at = (m.copies f i).1 ∙ (m.loose (name_of f.rec) (present_in l f i) at).0
 
   -- so a record that straddles a name at most the current version there is itself at most that
-  pub straddles_low : (f : Found) (q : Link) → IsIn l f → Straddles f.rec q → q.version ≤ cur Bpcc l logical q.page → f.rec.version ≤ cur Bpcc l logical q.page
+  pub straddles_low : (f : Found) (q : Link) → Contains l f → Straddles f.rec q → q.version ≤ cur Bpcc l logical q.page → f.rec.version ≤ cur Bpcc l logical q.page
   straddles_low f q i h le = elim (cases_lt (cur Bpcc l logical q.page) f.rec.version) [
     | inl loose ↦ (
         let page = ap (cur Bpcc l logical) h.0 in

@@ -1,7 +1,7 @@
 -- Back Pointer Cyclic Commit: which records are loose after a write that completes its cycle, and which answer for them.
-use Rattle.std.proofs.Common.{◌≡◌, ℕ, ◌<◌, ◌≤◌, true, List, zip, sym, ap, ◌∙◌, inl, inr, arith}
+use Rattle.std.proofs.Common.{◌≡◌, ℕ, ◌<◌, ◌≤◌, true, List, zip, sym, ap, ◌∙◌, inl, inr, arith, Contains}
 use Rattle.std.proofs.lemmas.Bool.{cases_lt}
-use Rattle.list_facts.proofs.Membership.{IsIn, all_at}
+use Rattle.std.proofs.lemmas.List.Elements.{All-contains}
 use Rattle.tx_types.specs.declared.record.Link.{Link}
 use Rattle.tx_types.specs.declared.config.Protocol.{Protocol}
 use Rattle.tx_types.specs.declared.config.Protocol.TheVariants.{Bpcc}
@@ -21,20 +21,20 @@ use Rattle.straddle_sets.proofs.Straddle.{upto_is, upto_none, upto_cases, upto_l
 
 -- a name that is present has the back version that its transaction asks for
 pub name_back : (p : Protocol) (l : List Found) (logical : ℕ) (names : List Link) → IsBegun p l logical names →
-    (a : Link) → IsIn names a → is_present l a ≡ true → back_of l a ≡ back_version p l logical a.page
+    (a : Link) → Contains names a → is_present l a ≡ true → back_of l a ≡ back_version p l logical a.page
 name_back p l logical names begun a i here =
     let f = found_named l a here in
     let after = follows_of names a i in
-    let asks = all_at (λ g. IsAsked p l logical names g.rec) l f.0 begun.asked f.1 in
-    let pair = all_at (λ (x : Link × Link). name_of f.0.rec ≡ x.0 → (f.0.rec.next ≡ x.1) × (f.0.rec.back ≡ back_version p l logical x.0.page)) (zip names (rounded names)) (a, after.0) asks after.1 in
+    let asks = All-contains (λ g. IsAsked p l logical names g.rec) l f.0 begun.asked f.1 in
+    let pair = All-contains (λ (x : Link × Link). name_of f.0.rec ≡ x.0 → (f.0.rec.next ≡ x.1) × (f.0.rec.back ≡ back_version p l logical x.0.page)) (zip names (rounded names)) (a, after.0) asks after.1 in
     sym f.4 ∙ (pair f.2).1
 
 module _ (l l' : List Found) (logical : ℕ) (names : List Link) (f : Found) (s : IsStep l l' logical names f.rec) (m : IsSoundMap Bpcc l logical)
-    (back : f.rec.back ≡ cur Bpcc l logical f.rec.page) (old : OldLinks Bpcc l l' logical names f.rec) (all : (a : Link) → IsIn names a → is_present l' a ≡ true)
-    (backs : (a : Link) → IsIn names a → is_present l a ≡ true → back_of l a ≡ cur Bpcc l logical a.page) where
+    (back : f.rec.back ≡ cur Bpcc l logical f.rec.page) (old : OldLinks Bpcc l l' logical names f.rec) (all : (a : Link) → Contains names a → is_present l' a ≡ true)
+    (backs : (a : Link) → Contains names a → is_present l a ≡ true → back_of l a ≡ cur Bpcc l logical a.page) where
   -- a loose record is an old one, of a page that is none of the names', and was loose
   pub was_loose : (u : Link) → is_present l' u ≡ true → cur Bpcc l' logical u.page < u.version →
-      ((a : Link) → IsIn names a → a.page ≡ u.page → ⊥) × (is_present l u ≡ true) × (cur Bpcc l' logical u.page ≡ cur Bpcc l logical u.page)
+      ((a : Link) → Contains names a → a.page ≡ u.page → ⊥) × (is_present l u ≡ true) × (cur Bpcc l' logical u.page ≡ cur Bpcc l logical u.page)
   was_loose u here at = elim (cases_page names u.page) [
     | inl of_page ↦ (
         let a = of_page.0 in
@@ -55,7 +55,7 @@ module _ (l l' : List Found) (logical : ℕ) (names : List Link) (f : Found) (s 
   ]
 
   -- at another page the same record answers
-  pub answer_elsewhere : (q : Link) → ((a : Link) → IsIn names a → a.page ≡ q.page → ⊥) → responsible Bpcc l' logical q ≡ responsible Bpcc l logical q
+  pub answer_elsewhere : (q : Link) → ((a : Link) → Contains names a → a.page ≡ q.page → ⊥) → responsible Bpcc l' logical q ≡ responsible Bpcc l logical q
   answer_elsewhere q out =
       let top = cur Bpcc l' logical q.page in
       let e = s.one.greatest_is (straddling_upto top q) in
@@ -64,7 +64,7 @@ module _ (l l' : List Found) (logical : ℕ) (names : List Link) (f : Found) (s 
       more ∙ ap (λ t. greatest (straddling_upto t q) l) (elsewhere Bpcc l l' logical names f s m old all q.page out)
 
   -- at a name's page, above the version that was current, the name's record answers
-  pub answer_name : (q a : Link) → IsIn names a → a.page ≡ q.page → cur Bpcc l logical q.page < q.version → q.version < a.version → responsible Bpcc l' logical q ≡ a.version
+  pub answer_name : (q a : Link) → Contains names a → a.page ≡ q.page → cur Bpcc l logical q.page < q.version → q.version < a.version → responsible Bpcc l' logical q ≡ a.version
   answer_name q a i e above below =
       let top = cur Bpcc l' logical q.page in
       let level : cur Bpcc l' logical q.page ≡ a.version = ap (cur Bpcc l' logical) (sym e) ∙ completed Bpcc l l' logical names f s m old all a i in
@@ -81,7 +81,7 @@ module _ (l l' : List Found) (logical : ℕ) (names : List Link) (f : Found) (s 
       omega arith
 
   -- and below it the same record as before
-  pub answer_below : (q a : Link) → IsIn names a → a.page ≡ q.page → q.version < cur Bpcc l logical q.page → responsible Bpcc l' logical q ≡ responsible Bpcc l logical q
+  pub answer_below : (q a : Link) → Contains names a → a.page ≡ q.page → q.version < cur Bpcc l logical q.page → responsible Bpcc l' logical q ≡ responsible Bpcc l logical q
   answer_below q a i e below =
       let top = cur Bpcc l' logical q.page in
       let c = cur Bpcc l logical q.page in

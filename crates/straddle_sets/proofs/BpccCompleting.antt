@@ -1,8 +1,9 @@
 -- Back Pointer Cyclic Commit: what a write keeps that completes its cycle.
 use Rattle.std.proofs.Common.{◌≡◌, ◌≢◌, ℕ, ◌<◌, true, ◌⊎◌, List, Contains, refl, sym, ap, ◌∙◌, subst, inl, inr, arith}
 use Rattle.std.proofs.lemmas.Bool.{cases_order}
+use Rattle.std.proofs.lemmas.List.Elements.{All-contains}
+use Rattle.list_facts.proofs.Membership.{all_from}
 use Rattle.list_facts.proofs.Tests.{any_of, any_from}
-use Rattle.list_facts.proofs.Membership.{IsIn, all_from, all_at, contains_from}
 use Rattle.tx_types.specs.declared.record.Link.{Link}
 use Rattle.tx_types.specs.declared.config.Protocol.TheVariants.{Bpcc}
 use Rattle.record_list.specs.declared.found.Found.{Found}
@@ -23,13 +24,13 @@ use Rattle.straddle_sets.proofs.Ending.{ends_out}
 use Rattle.record_list.proofs.Held.{answer_of, answers}
 
 module _ (l l' : List Found) (logical : ℕ) (names : List Link) (f : Found) (s : IsStep l l' logical names f.rec) (m : IsSoundMap Bpcc l logical)
-    (back : f.rec.back ≡ cur Bpcc l logical f.rec.page) (old : OldLinks Bpcc l l' logical names f.rec) (all : (a : Link) → IsIn names a → is_present l' a ≡ true)
-    (backs : (a : Link) → IsIn names a → is_present l a ≡ true → back_of l a ≡ cur Bpcc l logical a.page) where
+    (back : f.rec.back ≡ cur Bpcc l logical f.rec.page) (old : OldLinks Bpcc l l' logical names f.rec) (all : (a : Link) → Contains names a → is_present l' a ≡ true)
+    (backs : (a : Link) → Contains names a → is_present l a ≡ true → back_of l a ≡ cur Bpcc l logical a.page) where
   -- law 6 afterwards
   completing_loose : LooseNames Bpcc l' logical
   completing_loose u here at =
       let was = was_loose l l' logical names f s m back old all backs u here at in
-      let out : IsIn names u → ⊥ = λ i. was.0 u i refl in
+      let out : Contains names u → ⊥ = λ i. was.0 u i refl in
       let level = was.2 in
       let law = m.loose u was.1 (omega arith) in
       let q = link_of l u in
@@ -73,7 +74,7 @@ module _ (l l' : List Found) (logical : ℕ) (names : List Link) (f : Found) (s 
       let loose' = a.loose in
       let q = g.rec.next in
       let below' = a.below in
-      let inside : IsIn l g = elim (inserted_in l l' f ins g found.1) [
+      let inside : Contains l g = elim (inserted_in l l' f ins g found.1) [
         | inl e ↦ absurd (was.0 (name_of f.rec) s.of_names (ap (λ x. x.rec.page) e))
         | inr i ↦ i
       ] in
@@ -92,7 +93,7 @@ module _ (l l' : List Found) (logical : ℕ) (names : List Link) (f : Found) (s 
               | inr (inl below) ↦ inl (held_if (omega arith) (sym (answer_below l l' logical names f s m back old all backs q n of_page.1 of_page.2 below) ∙ a.version))
               | inr (inr above) ↦ (
                   let e : n ≡ name = same_name n name (of_page.2 ∙ a.page) (sym (answer_name l l' logical names f s m back old all backs q n of_page.1 of_page.2 above low) ∙ a.version) in
-                  inr (contains_from names name (subst (IsIn names) e of_page.1)))
+                  inr (subst (Contains names) e of_page.1))
             ])
         | inr off ↦ (
             let same = elsewhere Bpcc l l' logical names f s m old all q.page off in
@@ -107,7 +108,7 @@ module _ (l l' : List Found) (logical : ℕ) (names : List Link) (f : Found) (s 
       let was = was_loose l l' logical names f s m back old all backs (name_of g.rec) (present_in l' g i) at in
       let level = was.2 in
       let q = g.rec.next in
-      let inside : IsIn l g = elim (inserted_in l l' f ins g i) [
+      let inside : Contains l g = elim (inserted_in l l' f ins g i) [
         | inl e ↦ absurd (was.0 (name_of f.rec) s.of_names (ap (λ x. x.rec.page) e))
         | inr j ↦ j
       ] in
@@ -121,7 +122,7 @@ module _ (l l' : List Found) (logical : ℕ) (names : List Link) (f : Found) (s 
           | inl of_page ↦ elim (cases_order q.version (cur Bpcc l logical q.page)) [
             | inl same ↦ absurd (other (subst (λ z. z.version ≡ cur Bpcc l logical z.page) link same))
             | inr (inl below) ↦ answer_below l l' logical names f s m back old all backs q of_page.0 of_page.1 of_page.2 below
-            | inr (inr above) ↦ absurd (all_at (λ a. IsOvertaken l logical q a → ⊥) names of_page.0 none of_page.1 (of_page.2, above))
+            | inr (inr above) ↦ absurd (All-contains (λ a. IsOvertaken l logical q a → ⊥) names of_page.0 none of_page.1 (of_page.2, above))
           ]
           | inr off ↦ answer_elsewhere l l' logical names f s m back old all backs q off
         ];
@@ -134,13 +135,13 @@ bpcc_completing_write l l' logical names f sound w every =
     let m = sound_map Bpcc l logical sound w.scanned in
     let back = back_of_step Bpcc l l' logical names f w f.rec.next (next_after l l' logical names f.rec s) in
     let old = bpcc_old_links l l' logical names f.rec s m back in
-    let all : (a : Link) → IsIn names a → is_present l' a ≡ true = λ a i. all_at (λ n. is_present l' n ≡ true) names a every i in
+    let all : (a : Link) → Contains names a → is_present l' a ≡ true = λ a i. All-contains (λ n. is_present l' n ≡ true) names a every i in
     let backs = name_back Bpcc l logical names w.in_progress.begun in
     record {
       sound = sound_list Bpcc l' logical (completing_map Bpcc l l' logical names f s m old all w.added back
           (completing_loose l l' logical names f s m back old all backs) (completing_ending l l' logical names f s m back old all backs));
       committed = all_from (λ n. cur Bpcc l' logical n.page ≡ n.version) names (completed Bpcc l l' logical names f s m old all);
-      elsewhere = λ page below out. elsewhere Bpcc l l' logical names f s m old all page (λ a i. all_at (λ n. n.page ≢ page) names a out i);
+      elsewhere = λ page below out. elsewhere Bpcc l l' logical names f s m old all page (λ a i. All-contains (λ n. n.page ≢ page) names a out i);
       rises = all_from (λ n. cur Bpcc l logical n.page < n.version) names (was_lower Bpcc l l' logical names f s m old all);
       held = completing_held l l' logical names f s m back old all backs w.added;
       responsible = completing_answers l l' logical names f s m back old all backs w.added;

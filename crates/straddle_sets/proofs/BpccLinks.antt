@@ -1,7 +1,6 @@
 -- Back Pointer Cyclic Commit: old links into the page that is written, and that page's own current version.
-use Rattle.std.proofs.Common.{◌≡◌, ℕ, ◌<◌, ◌≤◌, true, false, List, refl, sym, ap, ◌∙◌, inl, inr, arith}
+use Rattle.std.proofs.Common.{◌≡◌, ℕ, ◌<◌, ◌≤◌, true, false, List, refl, sym, ap, ◌∙◌, inl, inr, arith, Contains}
 use Rattle.std.proofs.lemmas.Bool.{cases_Bool, cases_lt, cases_order, false_from_ne_true}
-use Rattle.list_facts.proofs.Membership.{IsIn}
 use Rattle.tx_types.specs.declared.record.Link.{Link}
 use Rattle.tx_types.specs.declared.record.Rec.{Rec}
 use Rattle.tx_types.specs.declared.config.Protocol.TheVariants.{Bpcc}
@@ -81,7 +80,7 @@ module _ (l l' : List Found) (logical : ℕ) (names : List Link) (r : Rec) (s : 
       )
 
   -- the page that is written keeps its current version while a name is absent: the new record's back version
-  pub bpcc_own_cur : (gone : Link) → IsIn names gone → is_present l' gone ≡ false → cur Bpcc l' logical r.page ≡ cur Bpcc l logical r.page
+  pub bpcc_own_cur : (gone : Link) → Contains names gone → is_present l' gone ≡ false → cur Bpcc l' logical r.page ≡ cur Bpcc l logical r.page
   bpcc_own_cur gone j absent' =
       let top = newest_own l l' logical names r s in
       let positive = (s.underway.range (name_of r) s.of_names).1 in

@@ -1,9 +1,9 @@
 -- Back Pointer Cyclic Commit: what a write keeps that leaves a name absent.
-use Rattle.std.proofs.Common.{◌≡◌, ℕ, ◌<◌, Bool, false, ◌&&◌, ◌||◌, eqb, ltb, List, sym, ap, ◌∙◌, subst, inl, inr, arith}
+use Rattle.std.proofs.Common.{◌≡◌, ℕ, ◌<◌, Bool, false, ◌&&◌, ◌||◌, eqb, ltb, List, sym, ap, ◌∙◌, subst, inl, inr, arith, Contains}
 use Rattle.std.specs.List.{list_any}
 use Rattle.std.proofs.lemmas.Bool.{false_from_ne_true}
+use Rattle.list_facts.proofs.Membership.{all_from}
 use Rattle.list_facts.proofs.Tests.{any_same}
-use Rattle.list_facts.proofs.Membership.{IsIn, all_from}
 use Rattle.tx_types.specs.declared.record.Link.{Link}
 use Rattle.tx_types.specs.declared.record.Rec.{Rec}
 use Rattle.tx_types.specs.declared.config.Protocol.TheVariants.{Bpcc}
@@ -25,9 +25,9 @@ use Rattle.record_list.proofs.Held.{answer_of}
 
 module _ (l l' : List Found) (logical : ℕ) (names : List Link) (f : Found) (s : IsStep l l' logical names f.rec) (m : IsSoundMap Bpcc l logical)
     (back : f.rec.back ≡ cur Bpcc l logical f.rec.page) (same : (page : ℕ) → cur Bpcc l' logical page ≡ cur Bpcc l logical page)
-    (gone : Link) (j : IsIn names gone) (absent' : is_present l' gone ≡ false) where
+    (gone : Link) (j : Contains names gone) (absent' : is_present l' gone ≡ false) where
   -- each name is above the current version of its page, before and after
-  above : (a : Link) → IsIn names a → cur Bpcc l logical a.page < a.version
+  above : (a : Link) → Contains names a → cur Bpcc l logical a.page < a.version
   above a i = name_loose l logical names s.underway Bpcc m gone j (absent_before l l' logical names f.rec s gone absent') a i
 
   -- the new record answers for none
@@ -72,7 +72,7 @@ module _ (l l' : List Found) (logical : ℕ) (names : List Link) (f : Found) (s 
   partial_ending u here at = elim (cases_in names u) [
     | inl i ↦ ends_names l l' logical names f.rec s gone j absent' u i here
     | inr out ↦ elim (s.one.cases u here) [
-      | inl e ↦ absurd (out (subst (IsIn names) (sym e) s.of_names))
+      | inl e ↦ absurd (out (subst (Contains names) (sym e) s.of_names))
       | inr before ↦ (
           let level = same u.page in
           ends_out l l' logical names f.rec s u before out (m.ending u before (omega arith)))

@@ -1,7 +1,6 @@
 -- Back Pointer Cyclic Commit: links that led to an absent name do so after a write.
-use Rattle.std.proofs.Common.{◌≡◌, ℕ, zero, suc, true, false, List, refl, sym, subst, inl, inr, arith}
+use Rattle.std.proofs.Common.{◌≡◌, ℕ, zero, suc, true, false, List, refl, sym, subst, inl, inr, arith, Contains}
 use Rattle.std.proofs.lemmas.Bool.{cases_Bool}
-use Rattle.list_facts.proofs.Membership.{IsIn}
 use Rattle.tx_types.specs.declared.record.Link.{Link}
 use Rattle.tx_types.specs.declared.record.Rec.{Rec}
 use Rattle.record_list.specs.declared.found.Found.{Found}
@@ -19,32 +18,32 @@ Ends l u = (n : ℕ) × (is_present l (follow l u n) ≡ false)
 
 module _ (l l' : List Found) (logical : ℕ) (names : List Link) (r : Rec) (s : IsStep l l' logical names r) where
   -- a link of a record that is no name leads to no name
-  pub link_out : (u : Link) → is_present l u ≡ true → (IsIn names u → ⊥) → IsIn names (link_of l u) → ⊥
+  pub link_out : (u : Link) → is_present l u ≡ true → (Contains names u → ⊥) → Contains names (link_of l u) → ⊥
   link_out u here out i = (let low = (s.underway.lower u here out (link_of l u) i).1 refl in omega arith)
 
   -- what is no name of the transaction is not the new name
-  out_new : (u : Link) → (IsIn names u → ⊥) → u ≡ name_of r → ⊥
-  out_new u out e = out (subst (IsIn names) (sym e) s.of_names)
+  out_new : (u : Link) → (Contains names u → ⊥) → u ≡ name_of r → ⊥
+  out_new u out e = out (subst (Contains names) (sym e) s.of_names)
 
   -- links from a name that is none of the transaction's lead as far as before
-  follow_out : (n : ℕ) (u : Link) → (IsIn names u → ⊥) → is_present l (follow l u n) ≡ false → is_present l' (follow l' u n) ≡ false
+  follow_out : (n : ℕ) (u : Link) → (Contains names u → ⊥) → is_present l (follow l u n) ≡ false → is_present l' (follow l' u n) ≡ false
   follow_out zero u out h = absent_still l l' logical names r s u (out_new u out) h
   follow_out (suc n) u out h =
       let step = follow_out n in
       let e : link_of l' u ≡ link_of l u = s.one.links u (out_new u out) in
-      let next_out : IsIn names (link_of l u) → ⊥ = elim (cases_Bool (is_present l u)) [
+      let next_out : Contains names (link_of l u) → ⊥ = elim (cases_Bool (is_present l u)) [
         | inl here ↦ link_out u here out
-        | inr gone ↦ (λ i. out (subst (IsIn names) (absent_link l u gone) i))
+        | inr gone ↦ (λ i. out (subst (Contains names) (absent_link l u gone) i))
       ] in
       subst (λ z. is_present l' (follow l' z n) ≡ false) (sym e) (step (link_of l u) next_out h)
 
   -- from a record that is no name
-  pub ends_out : (u : Link) → is_present l u ≡ true → (IsIn names u → ⊥) → Ends l (link_of l u) → Ends l' (link_of l' u)
+  pub ends_out : (u : Link) → is_present l u ≡ true → (Contains names u → ⊥) → Ends l (link_of l u) → Ends l' (link_of l' u)
   ends_out u here out h =
       (h.0, subst (λ z. is_present l' (follow l' z h.0) ≡ false) (sym (s.one.links u (out_new u out))) (follow_out h.0 (link_of l u) (link_out u here out) h.1))
 
   -- from each name, where one is absent
-  pub ends_names : (gone : Link) → IsIn names gone → is_present l' gone ≡ false → (a : Link) → IsIn names a → is_present l' a ≡ true → Ends l' (link_of l' a)
+  pub ends_names : (gone : Link) → Contains names gone → is_present l' gone ≡ false → (a : Link) → Contains names a → is_present l' a ≡ true → Ends l' (link_of l' a)
   ends_names gone j absent' a i here =
       let t = step_underway l l' logical names r s in
       let all = round_back (Ends l') names (λ c d k h. elim (cases_Bool (is_present l' c)) [

@@ -1,11 +1,11 @@
 -- Where the record stands that is responsible for another, and whether there is one.
-use Rattle.std.proofs.Common.{◌≡◌, ℕ, ◌+◌, ◌<◌, Bool, true, false, not, ◌&&◌, eqb, ltb, List, [], ◌∷◌, None, Some, length, refl, sym, ap, ◌∙◌, inl, inr, arith, lt-ltb, le-ltb}
+use Rattle.std.proofs.Common.{◌≡◌, ℕ, ◌+◌, ◌<◌, Bool, true, false, not, ◌&&◌, eqb, ltb, List, [], ◌∷◌, None, Some, length, refl, sym, ap, ◌∙◌, inl, inr, arith, lt-ltb, le-ltb, Contains}
 use Rattle.std.specs.List.{list_any, position, position_or_len}
 use Rattle.std.specs.Option.{is_some}
 use Rattle.std.proofs.lemmas.Bool.{cases_Bool, both_ways, cond-true, cond-false, or_parts, not_from_true, not_from_false}
 use Rattle.std.proofs.lemmas.List.Folds.{list_any_none}
+use Rattle.list_facts.proofs.Membership.{all_from, Contains-cases, Contains-nil}
 use Rattle.list_facts.proofs.Tests.{any_of}
-use Rattle.list_facts.proofs.Membership.{IsIn, all_from}
 use Rattle.tx_types.specs.declared.record.Rec.{Rec}
 use Rattle.tx_types.specs.declared.config.Protocol.TheVariants.{Bpcc}
 use Rattle.record_list.specs.declared.found.Found.{Found}
@@ -14,11 +14,11 @@ use Rattle.record_list.specs.Current.{is_loose, responsible}
 use Rattle.straddle_sets.specs.Responsible.{is_responsible, responsible_index}
 
 -- the first item that passes comes no later than one that does
-passes_within : (test : Found → Bool) (l : List Found) (f : Found) → IsIn l f → test f ≡ true → position_or_len test l < length l
-passes_within test [] f i h = absurd i
+passes_within : (test : Found → Bool) (l : List Found) (f : Found) → Contains l f → test f ≡ true → position_or_len test l < length l
+passes_within test [] f i h = absurd (Contains-nil f i)
 passes_within test (x ∷ xs) f i h = elim (cases_Bool (test x)) [
   | inl yes' ↦ (let first = cond-false (not (test x)) (1 + position_or_len test xs) 0 (not_from_true (test x) yes') in omega arith)
-  | inr no' ↦ elim i [
+  | inr no' ↦ elim (Contains-cases x xs f i) [
     | inl same ↦ absurd (both_ways (test x) no' (ap test same ∙ h))
     | inr later ↦ (
         let rest = passes_within test xs f later h in

@@ -4,7 +4,6 @@ use Rattle.std.specs.List.{list_any}
 use Rattle.std.specs.Option.{is_some}
 use Rattle.std.proofs.lemmas.Bool.{and_parts, and_from}
 use Rattle.list_facts.proofs.Tests.{any_of, any_from, any_same}
-use Rattle.list_facts.proofs.Membership.{IsIn, in_from}
 use Rattle.list_facts.proofs.Values.{one_test}
 use Rattle.tx_types.specs.declared.record.Link.{Link}
 use Rattle.tx_types.specs.declared.record.Rec.{Rec}
@@ -58,7 +57,7 @@ module _ (l : List Found) (logical : ℕ) where
 
   -- a responsible version that is not 0 is a record's
   pub has_responsible : (q : Link) → 0 < responsible Bpcc l logical q →
-      (f : Found) × IsIn l f × Straddles f.rec q × (f.rec.version ≡ responsible Bpcc l logical q)
+      (f : Found) × Contains l f × Straddles f.rec q × (f.rec.version ≡ responsible Bpcc l logical q)
   has_responsible q some =
       let top = cur Bpcc l logical q.page in
       let f = greatest_attained (straddling_upto top q) l some in
@@ -92,7 +91,7 @@ has_home l logical r =
     let f = has_responsible l logical r.next (ltb-true 0 (responsible Bpcc l logical r.next) parts.1) in
     any_from test l f.0 f.1 (from_parts l logical f.0.rec r (record { loose = parts.0; straddles = f.2; version = f.3 })))
 
-module _ (l : List Found) (logical : ℕ) (m : IsSoundMap Bpcc l logical) (s : Found) (i : IsIn l s) where
+module _ (l : List Found) (logical : ℕ) (m : IsSoundMap Bpcc l logical) (s : Found) (i : Contains l s) where
   -- on a sound list the record of a name is responsible where the name is
   answers_same : (r : Rec) → answers_for Bpcc l logical (name_of s.rec) r ≡ is_responsible l logical s.rec r
   answers_same r = one_test (answers_for Bpcc l logical (name_of s.rec) r) (is_responsible l logical s.rec r)
@@ -129,4 +128,4 @@ pub held_responsible : (l : List Found) (logical : ℕ) (s : Found) → IsScanne
     is_held Bpcc l logical (name_of s.rec) ≡ list_any (λ f. is_responsible l logical s.rec f.rec) l
 held_responsible l logical s scanned sound within =
     any_same (λ f. answers_for Bpcc l logical (name_of s.rec) f.rec) (λ f. is_responsible l logical s.rec f.rec) l
-    (λ f. answers_same l logical (sound_map Bpcc l logical sound scanned) s (in_from l s within) f.rec)
+    (λ f. answers_same l logical (sound_map Bpcc l logical sound scanned) s within f.rec)

@@ -1,7 +1,6 @@
 -- Back Pointer Cyclic Commit: records that straddle a version, up to a version of their own.
-use Rattle.std.proofs.Common.{◌≡◌, ℕ, ◌<◌, ◌≤◌, true, ◌&&◌, eqb, ltb, leb, ◌⊎◌, List, ap, ◌∙◌, inl, inr, arith, eq-eqb, eqb-true, lt-ltb, ltb-true, le-leb, leb-true}
+use Rattle.std.proofs.Common.{◌≡◌, ℕ, ◌<◌, ◌≤◌, true, ◌&&◌, eqb, ltb, leb, ◌⊎◌, List, ap, ◌∙◌, inl, inr, arith, eq-eqb, eqb-true, lt-ltb, ltb-true, le-leb, leb-true, Contains}
 use Rattle.std.proofs.lemmas.Bool.{cases_Bool, cond-true, cond-false, and_parts, and_from}
-use Rattle.list_facts.proofs.Membership.{IsIn}
 use Rattle.tx_types.specs.declared.record.Link.{Link}
 use Rattle.tx_types.specs.declared.record.Rec.{Rec}
 use Rattle.record_list.specs.declared.found.Found.{Found}
@@ -83,7 +82,7 @@ upto_more top top' q r le = elim (upto_cases top q r) [
 ]
 
 -- a greatest number is at most another where each record's is
-pub greatest_more : (of of' : Rec → ℕ) (l : List Found) → ((f : Found) → IsIn l f → of f.rec ≤ of' f.rec) → greatest of l ≤ greatest of' l
+pub greatest_more : (of of' : Rec → ℕ) (l : List Found) → ((f : Found) → Contains l f → of f.rec ≤ of' f.rec) → greatest of l ≤ greatest of' l
 greatest_more of of' l h = greatest_least of l (greatest of' l) (λ f i.
     let here = h f i in
     let bound = greatest_bound of' l f i in

@@ -1,13 +1,13 @@
 -- What is so of a batch that is not refused.
-use Rattle.std.proofs.Common.{◌≡◌, ◌≢◌, ℕ, ◌-◌, ◌<◌, ◌≤◌, Bool, true, false, cond, List, [], ◌∷◌, ◌++◌, length, find, All, AllPairs, Option, Some, None, refl, sym, ap, ◌∙◌, inl, inr, arith, nat_lt, nat_le, ltb-true, leb-true}
+use Rattle.std.proofs.Common.{◌≡◌, ◌≢◌, ℕ, ◌-◌, ◌<◌, ◌≤◌, Bool, true, false, cond, List, [], ◌∷◌, ◌++◌, length, find, All, AllPairs, Option, Some, None, refl, sym, ap, ◌∙◌, inl, inr, arith, nat_lt, nat_le, ltb-true, leb-true, Contains}
 use Rattle.std.specs.Prelude.{option_map}
 use Rattle.std.specs.List.{list_any}
 use Rattle.std.proofs.lemmas.Bool.{eqb-false}
-use Rattle.std.proofs.lemmas.List.Elements.{All-cons, All-nil}
+use Rattle.std.proofs.lemmas.List.Elements.{All-cons, All-nil, All-contains, Contains-append_left, Contains-push}
+use Rattle.list_facts.proofs.Membership.{all_from, Contains-cases, Contains-nil}
 use Rattle.list_facts.proofs.Pairs.{pairs_cons}
 use Rattle.list_facts.proofs.Options.{map_none}
 use Rattle.list_facts.proofs.Tests.{any_none, none_parts, none_found}
-use Rattle.list_facts.proofs.Membership.{in_last, in_front, IsIn, all_from, all_at}
 use Rattle.tx_types.specs.Batch.{PageWrite}
 use Rattle.tx_engine.specs.ArrayState.{Entry, has_tag, pending_pages}
 use Rattle.tx_engine.specs.Submit.{Limits, is_of, is_owner, or_else, first_refusal, empty, range, repeated, tag_used, overlap, free_of, spent_page, first_refusals}
@@ -45,21 +45,21 @@ none_cond true e h = cc
 none_cond false e h = refl
 
 -- no page stood earlier
-none_earlier : (earlier ws : List PageWrite) → repeated earlier ws ≡ None → (v w : PageWrite) → IsIn earlier v → IsIn ws w → v.page ≢ w.page
-none_earlier earlier [] h v w i j = absurd j
-none_earlier earlier (x ∷ xs) h v w i (inl same) =
+none_earlier : (earlier ws : List PageWrite) → repeated earlier ws ≡ None → (v w : PageWrite) → Contains earlier v → Contains ws w → v.page ≢ w.page
+none_earlier earlier [] h v w i j = absurd (Contains-nil w j)
+none_earlier earlier (x ∷ xs) h v w i j =
     let parts = none_parts (list_any (is_of x.page) earlier) (refused.Repeated x.page) (repeated (earlier ++ x ∷ []) xs) h in
-    λ e. eqb-false v.page x.page (any_none (is_of x.page) earlier parts.0 v i) (e ∙ ap (λ (y : PageWrite). y.page) (sym same))
-none_earlier earlier (x ∷ xs) h v w i (inr j) =
-    let parts = none_parts (list_any (is_of x.page) earlier) (refused.Repeated x.page) (repeated (earlier ++ x ∷ []) xs) h in
-    none_earlier (earlier ++ x ∷ []) xs parts.1 v w (in_front v earlier (x ∷ []) i) j
+    elim (Contains-cases x xs w j) [
+      | inl same ↦ λ e. eqb-false v.page x.page (any_none (is_of x.page) earlier parts.0 v i) (e ∙ ap (λ (y : PageWrite). y.page) (sym same))
+      | inr later ↦ none_earlier (earlier ++ x ∷ []) xs parts.1 v w (Contains-append_left earlier (x ∷ []) v i) later
+    ]
 
 none_repeated : (earlier ws : List PageWrite) → repeated earlier ws ≡ None → AllPairs (λ v w. v.page ≢ w.page) ws
 none_repeated earlier [] h = λ i j d less below. absurd (omega arith)
 none_repeated earlier (x ∷ xs) h =
     let parts = none_parts (list_any (is_of x.page) earlier) (refused.Repeated x.page) (repeated (earlier ++ x ∷ []) xs) h in
     pairs_cons (λ (v : PageWrite) (w : PageWrite). v.page ≢ w.page) x xs
-    (λ w i. none_earlier (earlier ++ x ∷ []) xs parts.1 x w (in_last earlier x) i)
+    (λ w i. none_earlier (earlier ++ x ∷ []) xs parts.1 x w (Contains-push earlier x) i)
     (none_repeated (earlier ++ x ∷ []) xs parts.1)
 
 -- no open transaction has the page
@@ -70,7 +70,7 @@ none_owned entries ws h =
     all_from (λ e. All (λ v. v.page ≢ w.page) e.writes) entries (λ e j.
     all_from (λ v. v.page ≢ w.page) e.writes (λ v k.
     let none = map_none (λ f. refused.Overlap w.page f.tag) (find (is_owner w.page) entries)
-    (all_at (λ w. option_map (λ e. refused.Overlap w.page e.tag) (find (is_owner w.page) entries) ≡ None) ws w refusals i) in
+    (All-contains (λ w. option_map (λ e. refused.Overlap w.page e.tag) (find (is_owner w.page) entries) ≡ None) ws w refusals i) in
     eqb-false v.page w.page (any_none (is_of w.page) e.writes (none_found (is_owner w.page) entries none e j) v k))))
 
 pub accepted : (limits : Limits) (entries : List Entry) (tag : ℕ) (ws : List PageWrite) → first_refusals limits entries tag ws ≡ None → IsAccepted limits entries tag ws
@@ -84,7 +84,7 @@ accepted limits entries tag ws h =
       some = not_empty ws first.0;
       in_range = all_from (λ w. w.page < limits.logical) ws (λ w i.
           ltb-true w.page limits.logical (cond_none (nat_lt w.page limits.logical) (refused.Range w.page)
-          (all_at (λ v. cond (nat_lt v.page limits.logical) None (Some (refused.Range v.page)) ≡ None) ws w
+          (All-contains (λ v. cond (nat_lt v.page limits.logical) None (Some (refused.Range v.page)) ≡ None) ws w
           (none_refused (λ v. cond (nat_lt v.page limits.logical) None (Some (refused.Range v.page))) ws second.0) i)));
       distinct = none_repeated [] ws third.0;
       unused = all_from (λ e. e.tag ≢ tag) entries (λ e i.
@@ -97,5 +97,5 @@ accepted limits entries tag ws h =
 pub unspent : (spent : ℕ → Bool) (ws : List PageWrite) → spent_page spent ws ≡ None → All (λ w. spent w.page ≡ false) ws
 unspent spent ws h = all_from (λ w. spent w.page ≡ false) ws (λ w i.
     none_cond (spent w.page) (refused.Spent w.page)
-    (all_at (λ v. cond (spent v.page) (Some (refused.Spent v.page)) None ≡ None) ws w
+    (All-contains (λ v. cond (spent v.page) (Some (refused.Spent v.page)) None ≡ None) ws w
     (none_refused (λ v. cond (spent v.page) (Some (refused.Spent v.page)) None) ws h) i))

@@ -1,10 +1,10 @@
 -- The spare is made blank, and then the block with the most garbage is collected: what both calls do together.
-use Rattle.std.proofs.Common.{◌≡◌, ◌≢◌, ℕ, ◌*◌, ◌/◌, ◌<◌, Bool, true, false, if◌then◌else◌, not, ◌||◌, List, [], ◌∷◌, ◌++◌, length, filter, count_by, Some, refl, sym, ap, ◌∙◌, subst, inl, inr, arith, eq-eqb, append_assoc}
+use Rattle.std.proofs.Common.{◌≡◌, ◌≢◌, ℕ, ◌*◌, ◌/◌, ◌<◌, Bool, true, false, if◌then◌else◌, not, ◌||◌, List, [], ◌∷◌, ◌++◌, length, filter, count_by, Some, refl, sym, ap, ◌∙◌, subst, inl, inr, arith, eq-eqb, append_assoc, Contains}
 use Rattle.std.proofs.lemmas.Bool.{cases_Bool, cond-true}
 use Rattle.std.proofs.lemmas.List.Sums.{length-filter}
 use Rattle.std.proofs.Math.Nat.{div-eq_of_lt-le}
+use Rattle.list_facts.proofs.Membership.{all_from, from_filter, Contains-first, Contains-nil, Contains-one}
 use Rattle.list_facts.proofs.Ranges.{range_all, range_bounds}
-use Rattle.list_facts.proofs.Membership.{IsIn, all_from, contains_from, from_filter}
 use Rattle.tx_types.specs.Config.{shape_of, blocks_of}
 use Rattle.tx_types.specs.declared.config.Shape.{Shape}
 use Rattle.tx_types.specs.declared.config.BlockState.{BlockState}
@@ -30,12 +30,12 @@ use Rattle.collector.proofs.NotesLeft.{note_at-in}
 use Rattle.collector.proofs.CopyLists.{copies_same}
 use Rattle.tx_engine.specs.Collections.{CollectsOne}
 
-first_in : (list : List ℕ) → 0 < length list → (k : ℕ) × IsIn list k
+first_in : (list : List ℕ) → 0 < length list → (k : ℕ) × Contains list k
 first_in [] some = absurd (omega arith)
-first_in (k ∷ rest) some = (k, inl refl)
+first_in (k ∷ rest) some = (k, Contains-first k rest)
 
 -- where some are counted, there is one
-one_counted : (p : ℕ → Bool) (list : List ℕ) → 0 < count_by p list → (k : ℕ) × IsIn list k × (p k ≡ true)
+one_counted : (p : ℕ → Bool) (list : List ℕ) → 0 < count_by p list → (k : ℕ) × Contains list k × (p k ≡ true)
 one_counted p list some =
     let counted = length-filter p list in
     let one = first_in (filter p list) (omega (arith, some, counted)) in
@@ -78,8 +78,7 @@ module _ (n : Noted) (t : BlockTable) (spare : n.spare ≡ Some t.spare) (victim
     | inr other ↦
         (let counted = other_garbage n victim (is_shut (block_state t victim)) other in
         let one = one_counted (is_garbage_at n (shut_or_part (is_shut (block_state t victim)))) (slots_in n victim) (omega (arith, some, counted)) in
-        let k = contains_from (slots_in n victim) one.0 one.1 in
-        (k.0, one.0, k.1, k.2, not_needed (shut_or_part (is_shut (block_state t victim))) (is_blank (note_at n.notes one.0)) (needed_of n one.0) one.2))
+        (one.1.0, one.0, one.1.1, one.1.2, not_needed (shut_or_part (is_shut (block_state t victim))) (is_blank (note_at n.notes one.0)) (needed_of n one.0) one.2))
   ]
 
 module _ (s s1 : FlashState) (n n1 : Noted) (t : BlockTable) (m : Matches s n t unsure.Nothing) (m1 : Matches s1 n1 t unsure.Nothing)
@@ -109,19 +108,16 @@ module _ (s s1 : FlashState) (n n1 : Noted) (t : BlockTable) (m : Matches s n t 
   off_spare k apart = by_case (is_blank_block n s.image t.spare)
     where
       by_case : (b : Bool) → StayOff s.shape (k / s.shape.pages_per_block) (if b then [] else erase t.spare ∷ [])
-      by_case true = all_from (λ o. WorksIn s.shape o (k / s.shape.pages_per_block) → ⊥) [] (λ o i. absurd i)
+      by_case true = all_from (λ o. WorksIn s.shape o (k / s.shape.pages_per_block) → ⊥) [] (λ o i. absurd (Contains-nil o i))
       by_case false = all_from (λ o. WorksIn s.shape o (k / s.shape.pages_per_block) → ⊥) (erase t.spare ∷ [])
-          (λ o i. elim i [
-            | inl e ↦ λ same. apart (sym (subst (λ o'. WorksIn s.shape o' (k / s.shape.pages_per_block)) (sym e) same))
-            | inr gone ↦ absurd gone
-          ])
+          (λ o i same. apart (sym (subst (λ o'. WorksIn s.shape o' (k / s.shape.pages_per_block)) (sym (Contains-one (erase t.spare) o i)) same)))
 
   -- a slot of another block holds what it held
   same_slot : (k : ℕ) → k / s.shape.pages_per_block ≢ t.spare → slot_at s1.image k ≡ slot_at s.image k
   same_slot k apart = slot_at-does s.shape (moment_of s) (moment_of s1) (cleaning n s.image t.spare) k m.flash cleans (off_spare k apart)
 
   module _ (block : ℕ) (apart : block ≢ t.spare) where
-    same_needed : (k : ℕ) → IsIn (needed_slots n1 block) k → slot_at s1.image k ≡ slot_at s.image k
+    same_needed : (k : ℕ) → Contains (needed_slots n1 block) k → slot_at s1.image k ≡ slot_at s.image k
     same_needed k i =
         let place = range_bounds (block * n1.config.pages_per_block) n1.config.pages_per_block k (from_filter (needed_of n1) k (slots_in n1 block) i).0 in
         let here : k / n1.config.pages_per_block ≡ block = div-eq_of_lt-le n1.config.pages_per_block place.0 (let high = place.1 in omega arith) in

@@ -4,7 +4,8 @@ use Rattle.std.proofs.lemmas.Bool.{cases_eq, cond-true, cond-false}
 use Rattle.std.proofs.lemmas.List.{append-nil}
 use Rattle.std.proofs.lemmas.List.Elements.{All-head, All-tail, All-contains}
 use Rattle.std.proofs.lemmas.Option.{slice_get-get_or}
-use Rattle.list_facts.proofs.Membership.{IsIn, in_from, contains_from}
+use Rattle.list_facts.proofs.Tests.{find_stands}
+use Rattle.list_facts.proofs.Membership.{Contains-cases, Contains-here, Contains-nil, Contains-rest, in_map}
 use Rattle.flash_model.specs.Flash.{Contents}
 use Rattle.version_index.specs.Noted.{Noted}
 use Rattle.collector.specs.declared.unsure.Unsure.{Unsure}
@@ -26,33 +27,25 @@ settled_sure true Doubt h = cc
 settled_sure false Doubt h = cc
 settled_sure there Whole h = cc
 
-settled_entries : (there : Bool) (es : List Entry) (e : Entry) → IsIn (map (settled_entry there) es) e → e.mark ≡ Doubt → ⊥
-settled_entries there [] e i h = i
-settled_entries there (x ∷ xs) e (inl same) h = settled_sure there x.mark (ap (λ (y : Entry). y.mark) same ∙ h)
-settled_entries there (x ∷ xs) e (inr i) h = settled_entries there xs e i h
+settled_entries : (there : Bool) (es : List Entry) (e : Entry) → Contains (map (settled_entry there) es) e → e.mark ≡ Doubt → ⊥
+settled_entries there es e c h =
+    let at = in_map (settled_entry there) es e c in
+    settled_sure there at.0.mark (ap (λ (y : Entry). y.mark) at.2 ∙ h)
 
 -- an entry that is in doubt in place of the one with a tag is the new one
-replaced_step : (b : Bool) (new x e : Entry) (xs rest : List Entry) → (IsIn xs e → ⊥) → (x ≡ e → ⊥) → (IsIn rest e → new ≡ e) → IsIn (cond b (new ∷ xs) (x ∷ rest)) e → new ≡ e
-replaced_step true new x e xs rest no_tail no_head by (inl same) = same
-replaced_step true new x e xs rest no_tail no_head by (inr i) = absurd (no_tail i)
-replaced_step false new x e xs rest no_tail no_head by (inl same) = absurd (no_head same)
-replaced_step false new x e xs rest no_tail no_head by (inr i) = by i
+replaced_step : (b : Bool) (new x e : Entry) (xs rest : List Entry) → (Contains xs e → ⊥) → (x ≡ e → ⊥) → (Contains rest e → new ≡ e) → Contains (cond b (new ∷ xs) (x ∷ rest)) e → new ≡ e
+replaced_step true new x e xs rest no_tail no_head by c = elim (Contains-cases new xs e c) [ inl same ↦ same | inr i ↦ absurd (no_tail i) ]
+replaced_step false new x e xs rest no_tail no_head by c = elim (Contains-cases x rest e c) [ inl same ↦ absurd (no_head same) | inr i ↦ by i ]
 
-replaced : (tag : ℕ) (new : Entry) (es : List Entry) (e : Entry) → (IsIn es e → ⊥) → IsIn (with_entry tag new es) e → new ≡ e
-replaced tag new [] e none i = absurd i
+replaced : (tag : ℕ) (new : Entry) (es : List Entry) (e : Entry) → (Contains es e → ⊥) → Contains (with_entry tag new es) e → new ≡ e
+replaced tag new [] e none i = absurd (Contains-nil e i)
 replaced tag new (x ∷ xs) e none i =
-    replaced_step (has_tag tag x) new x e xs (with_entry tag new xs) (λ j. none (inr j)) (λ same. none (inl same))
-    (replaced tag new xs e (λ j. none (inr j))) i
+    replaced_step (has_tag tag x) new x e xs (with_entry tag new xs) (λ j. none (Contains-rest x xs e j)) (λ same. none (Contains-here x xs e same))
+    (replaced tag new xs e (λ j. none (Contains-rest x xs e j))) i
 
 -- the open transaction with a tag is one of them, and has the tag
-found_step : (tag : ℕ) (x e : Entry) (xs : List Entry) (b : Bool) → has_tag tag x ≡ b → (entry_of tag xs ≡ Some e → IsIn xs e × (has_tag tag e ≡ true)) →
-    cond b (Some x) (entry_of tag xs) ≡ Some e → ((x ≡ e) ⊎ IsIn xs e) × (has_tag tag e ≡ true)
-found_step tag x e xs true is by h = let same : x ≡ e = cc in (inl same, ap (has_tag tag) (sym same) ∙ is)
-found_step tag x e xs false is by h = let rest = by h in (inr rest.0, rest.1)
-
-pub found_entry : (tag : ℕ) (es : List Entry) (e : Entry) → entry_of tag es ≡ Some e → IsIn es e × (has_tag tag e ≡ true)
-found_entry tag [] e h = cc
-found_entry tag (x ∷ xs) e h = found_step tag x e xs (has_tag tag x) refl (found_entry tag xs e) h
+pub found_entry : (tag : ℕ) (es : List Entry) (e : Entry) → entry_of tag es ≡ Some e → Contains es e × (has_tag tag e ≡ true)
+found_entry tag es e h = find_stands (has_tag tag) es e h
 
 -- Where at most one transaction is in doubt, the writes in doubt are its writes.
 none_doubted : (es : List Entry) → All (λ e. is_doubted e.mark ≡ false) es → doubted es ≡ []
@@ -97,7 +90,7 @@ module _ (Q : Entry → Type 0) (s : ArrayState) (pages : Pages) where
 
   as_settled : (there : Bool) → StandsFor (settled there s) pages → CutLeaves Q s (idle pages)
   as_settled there (inl same) = (there, inl same, refl)
-  as_settled there (inr (e, c, h, taken)) = absurd (settled_entries there s.entries e (in_from (map (settled_entry there) s.entries) e c) h)
+  as_settled there (inr (e, c, h, taken)) = absurd (settled_entries there s.entries e c h)
 
   pub cut_settled : (there : Bool) (new : ArrayState) (image : List Contents) (n : Noted) (namings : List Naming) (u : Unsure) → DoubtsAs image n new.entries namings u → StandsFor new pages →
       (new ≡ s) ⊎ (new ≡ settled there s) → CutLeaves Q s (idle pages)
@@ -118,10 +111,10 @@ last_doubted old there tag pages e found last (inr (f, c, h, taken)) =
     let new : Entry = record (settled_entry there e) { mark = Doubt } in
     let is = replaced tag new (map (settled_entry there) old.entries) f
     (λ i. settled_entries there old.entries f i h)
-    (in_from (with_entry tag new (map (settled_entry there) old.entries)) f c) in
+    c in
     let at = found_entry tag old.entries e found in
     let writes : f.writes ≡ e.writes = sym (ap (λ (g : Entry). g.writes) is) in
-    (there, inr (e, (contains_from old.entries e at.0, (eqb-true e.tag tag at.1, last)), taken ∙ ap (put (settled there old).pages) writes), refl)
+    (there, inr (e, (at.0, (eqb-true e.tag tag at.1, last)), taken ∙ ap (put (settled there old).pages) writes), refl)
 
 -- the answer to a step that met a fault
 abbrev pub faulted : Result Progress StepError

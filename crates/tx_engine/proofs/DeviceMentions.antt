@@ -1,9 +1,10 @@
 -- At which versions the records of a device's flash mention its pages.
-use Rattle.std.proofs.Common.{◌≡◌, ◌≢◌, ◌⊎◌, ℕ, ◌<◌, ◌≤◌, ◌==◌, ◌^◌, max, List, length, get_or, Any, refl, sym, ap, ◌∙◌, subst, inl, inr, arith, eqb-true}
+use Rattle.std.proofs.Common.{◌≡◌, ◌≢◌, ◌⊎◌, ℕ, ◌<◌, ◌≤◌, ◌==◌, ◌^◌, max, List, length, get_or, Any, refl, sym, ap, ◌∙◌, subst, inl, inr, arith, eqb-true, Contains}
 use Rattle.std.proofs.lemmas.Bool.{cases_lt}
+use Rattle.std.proofs.lemmas.List.Elements.{All-contains}
+use Rattle.list_facts.proofs.Membership.{any_in}
 use Rattle.list_facts.proofs.Quantifiers.{any_got}
 use Rattle.list_facts.proofs.Values.{if_positive}
-use Rattle.list_facts.proofs.Membership.{any_in, IsIn, all_at}
 use Rattle.tx_types.specs.declared.config.Protocol.{Protocol}
 use Rattle.tx_types.specs.declared.config.Slot.{Slot}
 use Rattle.tx_types.specs.declared.record.Link.{Link}
@@ -28,10 +29,10 @@ use Rattle.tx_engine.proofs.Tools.{Settles}
 use Rattle.tx_engine.proofs.Noting.{next_named}
 
 module _ (image : List Contents) (n : Noted) (entries : List Entry) (namings : List Naming) (at : Slot) (rec : Rec) (own : IsOwn image n entries namings at rec) where
-  named_at : (name : Link) → IsIn own.next.names name → IsNamedAt namings name.page name.version
+  named_at : (name : Link) → Contains own.next.names name → IsNamedAt namings name.page name.version
   named_at name i =
       any_got (λ (x : Naming). Any (λ a. (a.page ≡ name.page) × (a.version ≡ name.version)) x.names) namings own.place own.naming own.is_naming
-      (any_in (λ (a : Link). (a.page ≡ name.page) × (a.version ≡ name.version)) own.naming.names name (subst (λ ns. IsIn ns name) own.its i) (refl, refl))
+      (any_in (λ (a : Link). (a.page ≡ name.page) × (a.version ≡ name.version)) own.naming.names name (subst (λ ns. Contains ns name) own.its i) (refl, refl))
 
   -- once it is noted, a page is mentioned as before, or as a transaction names it
   raised_named : (p : Protocol) → IsNoted p n → (page : ℕ) → page < n.config.logical →
@@ -39,7 +40,7 @@ module _ (image : List Contents) (n : Noted) (entries : List Entry) (namings : L
       ⊎ ((version : ℕ) × IsNamedAt namings page version × (mention_of (programmed n at.0 rec) page ≤ version))
   raised_named p noted page within =
       let names = next_named n rec own.next in
-      let range = λ (a : Link) (i : IsIn own.next.names a). (all_at (λ a. (a.page < n.config.logical) × (1 ≤ a.version) × (a.version ≤ 2 ^ 62)) own.next.names a own.next.in_progress.begun.transaction.in_range i).0 in
+      let range = λ (a : Link) (i : Contains own.next.names a). (All-contains (λ a. (a.page < n.config.logical) × (1 ≤ a.version) × (a.version ≤ 2 ^ 62)) own.next.names a own.next.in_progress.begun.transaction.in_range i).0 in
       let own_within : rec.page < length n.mentions = omega (arith, range (name_of rec) names.0, noted.mentions) in
       let next_within : rec.next.page < length n.mentions = omega (arith, range rec.next names.1, noted.mentions) in
       let is = raised_at rec n.mentions page own_within next_within in

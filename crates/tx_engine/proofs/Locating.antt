@@ -1,9 +1,10 @@
 -- The slot from which the current record of a page is read has the bytes that are known of the page.
-use Rattle.std.proofs.Common.{◌≡◌, ◌⊎◌, ℕ, ◌<◌, ◌≤◌, Bool, true, false, ◌&&◌, eqb, eqb-true, List, [], ◌∷◌, find, Option, Some, None, IsNone, IfSome, IfNone, IsSomeAnd, ◌↔◌, refl, sym, ap, ◌∙◌, subst, inl, inr, arith}
+use Rattle.std.proofs.Common.{◌≡◌, ◌⊎◌, ℕ, ◌<◌, ◌≤◌, Bool, true, false, ◌&&◌, eqb, eqb-true, List, [], ◌∷◌, find, Option, Some, None, IsNone, IfSome, IfNone, IsSomeAnd, ◌↔◌, refl, sym, ap, ◌∙◌, subst, inl, inr, arith, Contains}
 use Rattle.std.specs.Option.{option_map, option_or}
 use Rattle.std.proofs.lemmas.Bool.{false≢true, cases_Bool, cond-true, cond-false, and_parts, and_from, not_from_true}
 use Rattle.std.proofs.lemmas.Option.{none-some}
-use Rattle.list_facts.proofs.Membership.{IsIn, all_at, from_filter}
+use Rattle.std.proofs.lemmas.List.Elements.{All-contains}
+use Rattle.list_facts.proofs.Membership.{from_filter, Contains-cases, Contains-nil}
 use Rattle.tx_types.specs.declared.config.Block.{Block}
 use Rattle.tx_types.specs.declared.config.Protocol.{Protocol}
 use Rattle.tx_types.specs.declared.config.Slot.{Slot}
@@ -48,11 +49,11 @@ holds_it (Holds r) rec e = ap held e
     held (Some r) = Holds r
 
 -- the first slot of a record that passes a test is found where some record does
-first_some : (test : Found → Bool) (list : List Found) (f : Found) → IsIn list f → test f ≡ true → first_slot test list ≡ None → ⊥
-first_some test [] f i pass none = i
+first_some : (test : Found → Bool) (list : List Found) (f : Found) → Contains list f → test f ≡ true → first_slot test list ≡ None → ⊥
+first_some test [] f i pass none = Contains-nil f i
 first_some test (g ∷ gs) f i pass none = elim (cases_Bool (test g)) [
   | inl here ↦ none-some g.slot.0 (sym none ∙ ap (option_map (λ (x : Found). x.slot.0)) (cond-true (test g) (Some g) (find test gs) here))
-  | inr not_here ↦ elim i [
+  | inr not_here ↦ elim (Contains-cases g gs f i) [
     | inl same ↦ false≢true (sym not_here ∙ ap test same ∙ pass)
     | inr later ↦ first_some test gs f later pass (sym (ap (option_map (λ (x : Found). x.slot.0)) (cond-false (test g) (Some g) (find test gs) not_here)) ∙ none)
   ]
@@ -102,7 +103,7 @@ module _ (s : FlashState) (n : Noted) (t : BlockTable) (u : Unsure) (m : Matches
       bytes_absent list name (elim (cases_Bool (is_present (records_of list) name)) [
         | inl here ↦
             (let f = found_named (records_of list) name here in
-            let positive = (all_at (λ f. (1 ≤ f.rec.version) × (1 ≤ f.rec.next.version)) (records_of list) f.0 (records_scanned n.config.protocol s.image).versions f.1).0 in
+            let positive = (All-contains (λ f. (1 ≤ f.rec.version) × (1 ≤ f.rec.next.version)) (records_of list) f.0 (records_scanned n.config.protocol s.image).versions f.1).0 in
             let version = ap (λ (x : Link). x.version) f.2 in
             absurd (omega (arith, positive, version, none)))
         | inr gone ↦ gone
@@ -117,7 +118,7 @@ module _ (s : FlashState) (n : Noted) (t : BlockTable) (u : Unsure) (m : Matches
       let current : IsCurrent n.config.protocol list n.config.logical f.0.rec =
       ap (λ (x : Link). x.version) f.2 ∙ ap (λ (x : Link). cur n.config.protocol list n.config.logical x.page) (sym f.2) in
       subst (λ x. is_present (left (is_outside (shape_of n.config) block) list) x ≡ true) f.2
-      (all_at (λ f. is_wanted n.config.protocol list n.config.logical (pinned_names n.pins) f.rec ≡ true →
+      (All-contains (λ f. is_wanted n.config.protocol list n.config.logical (pinned_names n.pins) f.rec ≡ true →
       is_present (left (is_outside (shape_of n.config) block) list) (name_of f.rec) ≡ true) list f.0 spared f.1
       (counted_wanted n.config.protocol list n.config.logical (pinned_names n.pins) f.0.rec (inl current)))
 

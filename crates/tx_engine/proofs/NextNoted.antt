@@ -4,8 +4,8 @@ use Rattle.std.proofs.Common.{◌≡◌, ◌≢◌, ◌⊎◌, ℕ, ◌+◌, ◌
 use Rattle.std.specs.Prelude.{slice_set}
 use Rattle.std.proofs.lemmas.Bool.{cases_eq, cases_order, cond_both, eqb-false}
 use Rattle.std.proofs.lemmas.List.{length-map, length-set, get_or-set_same, get_or-set_other, get_or-map}
-use Rattle.std.proofs.lemmas.List.Elements.{All-from_get_or}
-use Rattle.list_facts.proofs.Membership.{all_at, all_from}
+use Rattle.std.proofs.lemmas.List.Elements.{All-from_get_or, All-contains}
+use Rattle.list_facts.proofs.Membership.{all_from}
 use Rattle.tx_types.specs.Batch.{no_write}
 use Rattle.tx_types.specs.Config.{shape_of, slots_of}
 use Rattle.tx_types.specs.declared.config.Protocol.{Protocol}
@@ -130,8 +130,8 @@ module _ (p : Protocol) (notes : NotesWrites p) (n : Noted) (at : ℕ) (rec : Re
     | inr more ↦ inr (next_stays more page low, same_page stay page low (next_stays more page low))
     | inl last ↦ elim (cases_page o.naming.names page) [
       | inl found ↦ inl (
-          let up = all_at (λ a. current_of n a.page < a.version) o.naming.names found.0 (last_rises last) found.1 in
-          let now = all_at (λ a. current_of after a.page ≡ a.version) o.naming.names found.0 (last_current last) found.1 in
+          let up = All-contains (λ a. current_of n a.page < a.version) o.naming.names found.0 (last_rises last) found.1 in
+          let now = All-contains (λ a. current_of after a.page ≡ a.version) o.naming.names found.0 (last_current last) found.1 in
           subst (λ q. current_of n q < current_of after q) found.2 (omega (arith, up, now)))
       | inr none ↦ (
           let others : All (λ (a : Link). a.page ≢ page) o.naming.names = all_from (λ (a : Link). a.page ≢ page) o.naming.names none in

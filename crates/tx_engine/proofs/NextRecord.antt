@@ -1,16 +1,16 @@
 -- The record that an open transaction writes next: it may be programmed once nothing must go before it.
-use Rattle.std.proofs.Common.{◌≡◌, ℕ, zero, suc, ◌+◌, ◌-◌, ◌*◌, ◌^◌, ◌<◌, ◌≤◌, ◌==◌, true, false, List, [], ◌∷◌, ◌++◌, length, map, get_or, All, Contains, None, refl, sym, ap, ap₂, ◌∙◌, subst, inl, inr, arith}
+use Rattle.std.proofs.Common.{◌≡◌, ℕ, zero, suc, ◌+◌, ◌-◌, ◌*◌, ◌^◌, ◌<◌, ◌≤◌, ◌==◌, true, false, List, [], ◌∷◌, length, map, get_or, All, Contains, None, refl, sym, ap, ap₂, ◌∙◌, subst, inl, inr, arith}
 use Rattle.std.specs.Prelude.{Any, find, if◌then◌else◌}
 use Rattle.std.specs.List.{flat_map, sum, sum_by}
 use Rattle.std.proofs.lemmas.List.Sums.{sum-map}
 use Rattle.std.proofs.lemmas.Bool.{cases_eq, both_ways, le-ltb}
 use Rattle.std.proofs.lemmas.List.{get_or_default}
 use Rattle.std.proofs.lemmas.List.Concat.{length-flat_map}
-use Rattle.std.proofs.lemmas.List.Elements.{All-contains, Contains-get_or}
+use Rattle.std.proofs.lemmas.List.Elements.{All-contains, Contains-get_or, Contains-append_left, Contains-append_right}
 use Rattle.std.proofs.Math.Nat.{mul-le-mul_right}
+use Rattle.list_facts.proofs.Membership.{all_from}
 use Rattle.list_facts.proofs.Tests.{none_found}
 use Rattle.list_facts.proofs.Options.{map_none}
-use Rattle.list_facts.proofs.Membership.{IsIn, all_at, in_from, contains_from, all_from}
 use Rattle.tx_types.specs.Config.{shape_of, blocks_of}
 use Rattle.tx_types.specs.declared.config.Protocol.{Protocol}
 use Rattle.tx_types.specs.declared.config.Protocol.TheVariants.{Scc, Bpcc}
@@ -70,17 +70,16 @@ current_below n is names name going own absent =
           let f = found_named (found_in n.notes) q there in
           elim (cases_in names q) [
             | inl also ↦ (
-                let c = contains_from names q also in
-                elim (cases_eq c.0 own.0) [
+                elim (cases_eq also.0 own.0) [
                   | inl same ↦ (
-                      let is_name : q ≡ name = sym c.2 ∙ get_or_default names c.0 q name c.1 ∙ ap (λ k. get_or names k name) same ∙ own.2 in
+                      let is_name : q ≡ name = sym also.2 ∙ get_or_default names also.0 q name also.1 ∙ ap (λ k. get_or names k name) same ∙ own.2 in
                       absurd (both_ways (is_present (found_in n.notes) name) absent (subst (λ a. is_present (found_in n.notes) a ≡ true) is_name there)))
-                  | inr other ↦ absurd (apart_pages names c.0 own.0 going.begun.transaction.distinct c.1 own.1 other
-                      (ap (λ (a : Link). a.page) (get_or_default names c.0 no_name q c.1 ∙ c.2) ∙ ap (λ (a : Link). a.page) (sym (get_or_default names own.0 no_name name own.1 ∙ own.2))))
+                  | inr other ↦ absurd (apart_pages names also.0 own.0 going.begun.transaction.distinct also.1 own.1 other
+                      (ap (λ (a : Link). a.page) (get_or_default names also.0 no_name q also.1 ∙ also.2) ∙ ap (λ (a : Link). a.page) (sym (get_or_default names own.0 no_name name own.1 ∙ own.2))))
                 ])
             | inr foreign ↦ (
-                let below = all_at (λ (g : Found). (Contains names (name_of g.rec) → ⊥) → All (λ (a : Link). mentioned_at a.page g.rec < a.version) names) (found_in n.notes) f.0 going.begun.others f.1
-                (λ c. foreign (in_from names q (subst (Contains names) f.2 c))) in
+                let below = All-contains (λ (g : Found). (Contains names (name_of g.rec) → ⊥) → All (λ (a : Link). mentioned_at a.page g.rec < a.version) names) (found_in n.notes) f.0 going.begun.others f.1
+                (λ c. foreign (subst (Contains names) f.2 c)) in
                 let less = All-contains (λ (a : Link). mentioned_at a.page f.0.rec < a.version) names name below own in
                 let part = (mention_parts f.0.rec name less).0 (ap (λ (a : Link). a.page) f.2) in
                 let version : f.0.rec.version ≡ current_of n name.page = ap (λ (a : Link). a.version) f.2 in
@@ -98,26 +97,17 @@ is_back n Bpcc rec is back below =
     let its : rec.back ≡ cur Bpcc (found_in n.notes) n.config.logical rec.page = back ∙ ap (λ q. back_version q (found_in n.notes) n.config.logical rec.page) is in
     omega (arith, below, now, its)
 
-in_flat : (all : List Opening) (name : Link) → Any (λ o. Contains o.naming.names name) all → IsIn (flat_map (λ o. o.naming.names) all) name
+in_flat : (all : List Opening) (name : Link) → Any (λ o. Contains o.naming.names name) all → Contains (flat_map (λ o. o.naming.names) all) name
 in_flat all name any =
     let c = any.4 in
     let its = get_or all any.0 no_opening in
-    let own : IsIn its.naming.names name = in_from its.naming.names name (subst (λ (x : Opening). Contains x.naming.names name) (sym (get_or_default all any.0 no_opening any.1 any.2 ∙ any.3)) c) in
+    let own : Contains its.naming.names name = subst (λ (x : Opening). Contains x.naming.names name) (sym (get_or_default all any.0 no_opening any.1 any.2 ∙ any.3)) c in
     go all any.0 any.2 own
   where
-    left_in : (xs ys : List Link) → IsIn xs name → IsIn (xs ++ ys) name
-    left_in [] ys h = absurd h
-    left_in (x ∷ xs) ys (inl e) = inl e
-    left_in (x ∷ xs) ys (inr i) = inr (left_in xs ys i)
-
-    right_in : (xs ys : List Link) → IsIn ys name → IsIn (xs ++ ys) name
-    right_in [] ys h = h
-    right_in (x ∷ xs) ys h = inr (right_in xs ys h)
-
-    go : (os : List Opening) (j : ℕ) → j < length os → IsIn (get_or os j no_opening).naming.names name → IsIn (flat_map (λ o. o.naming.names) os) name
+    go : (os : List Opening) (j : ℕ) → j < length os → Contains (get_or os j no_opening).naming.names name → Contains (flat_map (λ o. o.naming.names) os) name
     go [] j h i = absurd (omega arith)
-    go (o ∷ os) zero h i = left_in o.naming.names (flat_map (λ o. o.naming.names) os) i
-    go (o ∷ os) (suc j) h i = right_in o.naming.names (flat_map (λ o. o.naming.names) os) (go os j (omega arith) i)
+    go (o ∷ os) zero h i = Contains-append_left o.naming.names (flat_map (λ o. o.naming.names) os) name i
+    go (o ∷ os) (suc j) h i = Contains-append_right o.naming.names (flat_map (λ o. o.naming.names) os) name (go os j (omega arith) i)
 
 sum_same : (all : List Opening) (f g : Opening → ℕ) → ((j : ℕ) → j < length all → f (get_or all j no_opening) ≡ g (get_or all j no_opening)) → sum_by f all ≡ sum_by g all
 sum_same all f g h = sym (sum-map f all) ∙ ap sum (same all h) ∙ sum-map g all

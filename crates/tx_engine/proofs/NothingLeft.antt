@@ -5,7 +5,6 @@ use Rattle.std.proofs.lemmas.Bool.{cases_eq, cond_both, cond-true}
 use Rattle.std.proofs.lemmas.List.{length-map, get_or_default, get_or-map}
 use Rattle.std.proofs.lemmas.List.Elements.{All-contains, Contains-get_or}
 use Rattle.std.proofs.Math.Nat.{mul_comm}
-use Rattle.list_facts.proofs.Membership.{IsIn, all_at, in_from, contains_from}
 use Rattle.tx_types.specs.Batch.{no_write}
 use Rattle.tx_types.specs.Config.{shape_of, blocks_of}
 use Rattle.tx_types.specs.declared.config.Protocol.{Protocol}
@@ -64,7 +63,7 @@ cleaned_blank s n t u m slot within in_spare =
     note_at-in (shape_of n.config) some n.notes m.noted.slots t.spare below Blank slot (omega arith) (omega arith)
 
 -- a record of a transaction in progress is the newest of its page
-pub newest_own : (p : Protocol) (l : List Found) (logical : ℕ) (names : List Link) (f : Found) → InProgress p l logical names → IsIn l f → Contains names (name_of f.rec) →
+pub newest_own : (p : Protocol) (l : List Found) (logical : ℕ) (names : List Link) (f : Found) → InProgress p l logical names → Contains l f → Contains names (name_of f.rec) →
     f.rec.version ≡ newest l f.rec.page
 newest_own p l logical names f going i own =
     let least = greatest_bound (version_of f.rec.page) l f i in
@@ -75,19 +74,17 @@ newest_own p l logical names f going i own =
     let page = eqb-true g.rec.page f.rec.page is in
     elim (cases_in names (name_of g.rec)) [
       | inl also ↦ (
-          let c = contains_from names (name_of g.rec) also in
-          elim (cases_eq c.0 own.0) [
+          elim (cases_eq also.0 own.0) [
             | inl same ↦ (
                 let name : name_of g.rec ≡ name_of f.rec =
-                sym c.2 ∙ get_or_default names c.0 (name_of g.rec) (name_of f.rec) c.1 ∙ ap (λ k. get_or names k (name_of f.rec)) same ∙ own.2 in
+                sym also.2 ∙ get_or_default names also.0 (name_of g.rec) (name_of f.rec) also.1 ∙ ap (λ k. get_or names k (name_of f.rec)) same ∙ own.2 in
                 let version : g.rec.version ≡ f.rec.version = ap (λ (a : Link). a.version) name in omega arith)
-            | inr other ↦ absurd (apart_pages names c.0 own.0 going.begun.transaction.distinct c.1 own.1 other
-                (ap (λ (a : Link). a.page) (get_or_default names c.0 no_name (name_of g.rec) c.1 ∙ c.2) ∙ page
+            | inr other ↦ absurd (apart_pages names also.0 own.0 going.begun.transaction.distinct also.1 own.1 other
+                (ap (λ (a : Link). a.page) (get_or_default names also.0 no_name (name_of g.rec) also.1 ∙ also.2) ∙ page
                 ∙ ap (λ (a : Link). a.page) (sym (get_or_default names own.0 no_name (name_of f.rec) own.1 ∙ own.2))))
           ])
       | inr foreign ↦ (
-          let below = all_at (λ (g : Found). (Contains names (name_of g.rec) → ⊥) → All (λ (a : Link). mentioned_at a.page g.rec < a.version) names) l g going.begun.others j
-          (λ c. foreign (in_from names (name_of g.rec) c)) in
+          let below = All-contains (λ (g : Found). (Contains names (name_of g.rec) → ⊥) → All (λ (a : Link). mentioned_at a.page g.rec < a.version) names) l g going.begun.others j foreign in
           let less = All-contains (λ (a : Link). mentioned_at a.page g.rec < a.version) names (name_of f.rec) below own in
           let part : g.rec.version < f.rec.version = (mention_parts g.rec (name_of f.rec) less).0 page in
           omega arith)
@@ -100,14 +97,14 @@ whole_current : (n : Noted) (x : Naming) (f : Found) → Contains x.names (name_
 unfolding current_of
 whole_current n x f own all = sym (All-contains (λ (a : Link). current_of n a.page ≡ a.version) x.names (name_of f.rec) all own)
 
-current_marked : (image : List Contents) (n : Noted) (e : Entry) (x : Naming) (m : Mark) (f : Found) → IsAsMarked image n e x m → IsIn (found_in n.notes) f → Contains x.names (name_of f.rec) →
+current_marked : (image : List Contents) (n : Noted) (e : Entry) (x : Naming) (m : Mark) (f : Found) → IsAsMarked image n e x m → Contains (found_in n.notes) f → Contains x.names (name_of f.rec) →
     IsCurrent n.config.protocol (found_in n.notes) n.config.logical f.rec ⊎ (f.rec.version ≡ newest (found_in n.notes) f.rec.page)
 current_marked image n e x Plain f w i own = inr (newest_own n.config.protocol (found_in n.notes) n.config.logical x.names f w.in_progress i own)
 current_marked image n e x Doubt f w i own = inr (newest_own n.config.protocol (found_in n.notes) n.config.logical x.names f w.0.in_progress i own)
 current_marked image n e x Whole f w i own = inl (whole_current n x f own w)
 
 -- a pinned record is current, or the newest of a page of an open transaction
-pinned_wanted : (s : FlashState) (n : Noted) (t : BlockTable) (u : Unsure) (o : OpenTable) → IsKept s n t u o → (f : Found) → IsIn (found_in n.notes) f → Contains (pinned_names n.pins) (name_of f.rec) →
+pinned_wanted : (s : FlashState) (n : Noted) (t : BlockTable) (u : Unsure) (o : OpenTable) → IsKept s n t u o → (f : Found) → Contains (found_in n.notes) f → Contains (pinned_names n.pins) (name_of f.rec) →
     IsCurrent n.config.protocol (found_in n.notes) n.config.logical f.rec
     ⊎ (Any (λ e. Any (λ w. w.page ≡ f.rec.page) e.writes) (entries_of o) × (f.rec.version ≡ newest (found_in n.notes) f.rec.page))
 pinned_wanted s n t u o k f i pin =
@@ -165,8 +162,7 @@ nothing_left state S S' O tidy settles t u s m table h sure nothing =
         | inr (inl held) ↦ inr (inl held)
         | inr (inr pin) ↦ (
             let f = get_or (records_in n'.config.protocol (state S'.flash).image) j d in
-            let there : IsIn (found_in n'.notes) f = subst (λ l. IsIn l f) records (in_from (records_in n'.config.protocol (state S'.flash).image) f
-            (Contains-get_or (records_in n'.config.protocol (state S'.flash).image) j d inside)) in
+            let there : Contains (found_in n'.notes) f = subst (λ l. Contains l f) records (Contains-get_or (records_in n'.config.protocol (state S'.flash).image) j d inside) in
             elim (pinned_wanted (state S'.flash) n' S'.table S'.unsure O k f there pin) [
               | inl current ↦ inl (subst (λ l. IsCurrent n'.config.protocol l n'.config.logical f.rec) (sym records) current)
               | inr own ↦ inr (inr (own.0, subst (λ l. f.rec.version ≡ newest l f.rec.page) (sym records) own.1))

@@ -3,8 +3,8 @@
 use Rattle.std.proofs.Common.{◌≡◌, ◌≢◌, ◌⊎◌, ℕ, ◌+◌, ◌<◌, ◌≤◌, ◌==◌, ◌^◌, max, List, length, get_or, All, Any, Contains, Some, refl, sym, ap, ◌∙◌, subst, inl, inr, arith, eqb-true}
 use Rattle.std.proofs.lemmas.Bool.{cases_Bool, cases_lt, cases_eq, both_ways, lt-ltb, le-ltb, cond_both, eqb-false}
 use Rattle.std.specs.List.{zip}
+use Rattle.std.proofs.lemmas.List.Elements.{All-contains}
 use Rattle.list_facts.proofs.Values.{if_positive}
-use Rattle.list_facts.proofs.Membership.{IsIn, in_from, all_at, contains_from}
 use Rattle.tx_types.specs.Config.{shape_of, slots_of}
 use Rattle.tx_types.specs.declared.config.Protocol.{Protocol}
 use Rattle.tx_types.specs.declared.record.Link.{Link}
@@ -33,17 +33,17 @@ use Rattle.tx_engine.proofs.Tools.{NotesWrites}
 abbrev pub HasName : List Link → ℕ → ℕ → Type 0
 HasName names page version = Any (λ name. (name.page ≡ page) × (name.version ≡ version)) names
 
-has_item : (names : List Link) (name : Link) → IsIn names name → HasName names name.page name.version
-has_item names name i = let c = contains_from names name i in (c.0, name, c.1, c.2, (refl, refl))
+has_item : (names : List Link) (name : Link) → Contains names name → HasName names name.page name.version
+has_item names name i = (i.0, name, i.1, i.2, (refl, refl))
 
 -- the record that a transaction writes next links to one of its names
-pub next_named : (n : Noted) (rec : Rec) (next : IsNextRecord n rec) → IsIn next.names (name_of rec) × IsIn next.names rec.next
+pub next_named : (n : Noted) (rec : Rec) (next : IsNextRecord n rec) → Contains next.names (name_of rec) × Contains next.names rec.next
 next_named n rec next =
-    let i = in_from next.names (name_of rec) next.named in
+    let i = next.named in
     let follows = follows_of next.names (name_of rec) i in
-    let asked = all_at (λ (name, after). name_of rec ≡ name → (rec.next ≡ after) × (rec.back ≡ back_version n.config.protocol (found_in n.notes) n.config.logical name.page))
+    let asked = All-contains (λ (name, after). name_of rec ≡ name → (rec.next ≡ after) × (rec.back ≡ back_version n.config.protocol (found_in n.notes) n.config.logical name.page))
     (zip next.names (rounded next.names)) (name_of rec, follows.0) next.asked follows.1 refl in
-    (i, subst (IsIn next.names) (sym asked.0) (follows_in next.names (name_of rec) follows.0 follows.1).1)
+    (i, subst (Contains next.names) (sym asked.0) (follows_in next.names (name_of rec) follows.0 follows.1).1)
 
 -- a mention stays, or rises to that of a name of the transaction
 pub raised_mention : (p : Protocol) (n : Noted) (at : ℕ) (rec : Rec) (next : IsNextRecord n rec) → IsNoted p n → (page : ℕ) → page < n.config.logical →
@@ -51,7 +51,7 @@ pub raised_mention : (p : Protocol) (n : Noted) (at : ℕ) (rec : Rec) (next : I
     ⊎ ((mention_of n page < mention_of (programmed n at rec) page) × HasName next.names page (mention_of (programmed n at rec) page))
 raised_mention p n at rec next noted page within =
     let names = next_named n rec next in
-    let range = λ (a : Link) (i : IsIn next.names a). (all_at (λ a. (a.page < n.config.logical) × (1 ≤ a.version) × (a.version ≤ 2 ^ 62)) next.names a next.in_progress.begun.transaction.in_range i).0 in
+    let range = λ (a : Link) (i : Contains next.names a). (All-contains (λ a. (a.page < n.config.logical) × (1 ≤ a.version) × (a.version ≤ 2 ^ 62)) next.names a next.in_progress.begun.transaction.in_range i).0 in
     let own_within : rec.page < length n.mentions = omega (arith, range (name_of rec) names.0, noted.mentions) in
     let next_within : rec.next.page < length n.mentions = omega (arith, range rec.next names.1, noted.mentions) in
     let is = raised_at rec n.mentions page own_within next_within in
@@ -187,4 +187,4 @@ next_opening p notes n is_noted rule at rec next within was image o named under 
     })
 
 pub next_has : (n : Noted) (rec : Rec) (next : IsNextRecord n rec) → Contains next.names rec.next
-next_has n rec next = contains_from next.names rec.next (next_named n rec next).1
+next_has n rec next = (next_named n rec next).1

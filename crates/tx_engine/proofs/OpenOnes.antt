@@ -1,7 +1,7 @@
 -- The open transactions of a device, by their places, and the one of which it is not known whether its record is there.
 use Rattle.std.proofs.Common.{◌≡◌, ◌≢◌, true, List, Any, Contains, refl}
 use Rattle.std.proofs.lemmas.List.Elements.{All-same}
-use Rattle.list_facts.proofs.Membership.{all_from, contains_from}
+use Rattle.list_facts.proofs.Membership.{all_from}
 use Rattle.list_facts.proofs.Quantifiers.{any_got}
 use Rattle.tx_types.specs.declared.record.Link.{Link}
 use Rattle.flash_model.specs.Flash.{Contents}
@@ -41,7 +41,7 @@ take_unsure image n t entries namings (unsure.Own at rec) own spared pinned = re
       (all_from (λ name. is_present (found_in n.notes) name ≡ true → is_present (left (is_outside (shape_of n.config) t.spare) (found_in n.notes)) name ≡ true)
       own.naming.names (λ name i here.
       dispensable_pinned n.config.protocol (found_in n.notes) n.config.logical (pinned_names n.pins) (shape_of n.config) t.spare spared name
-      (pinned name (any_got (λ (x : Naming). Contains x.names name) namings own.place own.naming own.is_naming (contains_from own.naming.names name i))) here));
+      (pinned name (any_got (λ (x : Naming). Contains x.names name) namings own.place own.naming own.is_naming i)) here));
 }
 take_unsure image n t entries namings (unsure.Copy from to) doubt spared pinned = tt
 take_unsure image n t entries namings unsure.SpareErase doubt spared pinned = tt

@@ -4,8 +4,9 @@ use Rattle.std.specs.List.{cons_option}
 use Rattle.std.specs.Prelude.{◌↔◌}
 use Rattle.std.proofs.lemmas.Bool.{cases_eq, cond-true, cond-false}
 use Rattle.std.proofs.lemmas.List.{length-set, get_or-set_same, get_or-set_other}
+use Rattle.std.proofs.lemmas.List.Elements.{All-contains}
+use Rattle.list_facts.proofs.Membership.{Contains-cases, Contains-first, Contains-here, Contains-nil, Contains-rest}
 use Rattle.list_facts.proofs.Pairs.{pairs_head, pairs_tail}
-use Rattle.list_facts.proofs.Membership.{IsIn, in_from, contains_from, all_at}
 use Rattle.tx_types.specs.declared.record.Link.{Link}
 use Rattle.record_list.proofs.Names.{same_name}
 use Rattle.record_list.proofs.Rounds.{cases_page}
@@ -42,12 +43,13 @@ in_more n v vs name h = record {
   some = h.some;
 }
 
-in_given : (n : ℕ) (pins : List ℕ) (name : Link) → IsIn (given numbered_pin n pins) name → IsPinFrom n pins name
-in_given n [] name h = absurd h
+in_given : (n : ℕ) (pins : List ℕ) (name : Link) → Contains (given numbered_pin n pins) name → IsPinFrom n pins name
+in_given n [] name h = absurd (Contains-nil name h)
 in_given n (v ∷ vs) name h = elim (cases_eq v 0) [
-  | inl none ↦ in_more n v vs name (in_given (n + 1) vs name (subst (λ o. IsIn (cons_option o (given numbered_pin (n + 1) vs)) name) (pinned_none n v none) h))
-  | inr some ↦ (let either : (record { page = n; version = v } ≡ name) ⊎ IsIn (given numbered_pin (n + 1) vs) name =
-      subst (λ o. IsIn (cons_option o (given numbered_pin (n + 1) vs)) name) (pinned_some n v some) h in
+  | inl none ↦ in_more n v vs name (in_given (n + 1) vs name (subst (λ o. Contains (cons_option o (given numbered_pin (n + 1) vs)) name) (pinned_none n v none) h))
+  | inr some ↦ (let either : (record { page = n; version = v } ≡ name) ⊎ Contains (given numbered_pin (n + 1) vs) name =
+      Contains-cases {X = Link} (record { page = n; version = v }) (given numbered_pin (n + 1) vs) name
+      (subst (λ o. Contains (cons_option o (given numbered_pin (n + 1) vs)) name) (pinned_some n v some) h) in
       elim either [
         | inl is ↦ record {
           place = 0;
@@ -60,23 +62,25 @@ in_given n (v ∷ vs) name h = elim (cases_eq v 0) [
       ])
 ]
 
-to_given : (n : ℕ) (pins : List ℕ) (i : ℕ) → i < length pins → get_or pins i 0 ≢ 0 → IsIn (given numbered_pin n pins) (record { page = n + i; version = get_or pins i 0 })
+to_given : (n : ℕ) (pins : List ℕ) (i : ℕ) → i < length pins → get_or pins i 0 ≢ 0 → Contains (given numbered_pin n pins) (record { page = n + i; version = get_or pins i 0 })
 to_given n [] i within some = absurd (omega arith)
 to_given n (v ∷ vs) zero within some =
-    subst (λ o. IsIn (cons_option o (given numbered_pin (n + 1) vs)) (record { page = n + 0; version = v })) (sym (pinned_some n v some))
-    (inl (ap (λ k. record { page = k; version = v }) (omega arith)))
+    subst (λ o. Contains (cons_option o (given numbered_pin (n + 1) vs)) (record { page = n + 0; version = v })) (sym (pinned_some n v some))
+    (Contains-here {X = Link} (record { page = n; version = v }) (given numbered_pin (n + 1) vs) (record { page = n + 0; version = v })
+    (ap (λ k. record { page = k; version = v }) (omega arith)))
 to_given n (v ∷ vs) (suc i) within some =
     let later = to_given (n + 1) vs i (omega arith) some in
-    let here : IsIn (given numbered_pin (n + 1) vs) (record { page = n + suc i; version = get_or vs i 0 }) =
-    subst (λ k. IsIn (given numbered_pin (n + 1) vs) (record { page = k; version = get_or vs i 0 })) (omega arith) later in
+    let here : Contains (given numbered_pin (n + 1) vs) (record { page = n + suc i; version = get_or vs i 0 }) =
+    subst (λ k. Contains (given numbered_pin (n + 1) vs) (record { page = k; version = get_or vs i 0 })) (omega arith) later in
     elim (cases_eq v 0) [
-      | inl none ↦ subst (λ o. IsIn (cons_option o (given numbered_pin (n + 1) vs)) (record { page = n + suc i; version = get_or vs i 0 })) (sym (pinned_none n v none)) here
-      | inr there ↦ subst (λ o. IsIn (cons_option o (given numbered_pin (n + 1) vs)) (record { page = n + suc i; version = get_or vs i 0 })) (sym (pinned_some n v there)) (inr here)
+      | inl none ↦ subst (λ o. Contains (cons_option o (given numbered_pin (n + 1) vs)) (record { page = n + suc i; version = get_or vs i 0 })) (sym (pinned_none n v none)) here
+      | inr there ↦ subst (λ o. Contains (cons_option o (given numbered_pin (n + 1) vs)) (record { page = n + suc i; version = get_or vs i 0 })) (sym (pinned_some n v there))
+          (Contains-rest {X = Link} (record { page = n; version = v }) (given numbered_pin (n + 1) vs) (record { page = n + suc i; version = get_or vs i 0 }) here)
     ]
 
 pub pin_of : (pins : List ℕ) (name : Link) → Contains (pinned_names pins) name → IsPin pins name
 pin_of pins name c =
-    let h = in_given 0 pins name (in_from (pinned_names pins) name c) in
+    let h = in_given 0 pins name c in
     let at : name.page ≡ h.place = omega (arith, h.page) in
     record {
       page = let w = h.within in omega arith;
@@ -87,8 +91,7 @@ pin_of pins name c =
 pub pin_to : (pins : List ℕ) (name : Link) → IsPin pins name → Contains (pinned_names pins) name
 pin_to pins name h =
     let there = to_given 0 pins name.page h.page (λ zero. h.some (sym h.version ∙ zero)) in
-    contains_from (pinned_names pins) name
-    (subst (IsIn (pinned_names pins)) (same_name (record { page = 0 + name.page; version = get_or pins name.page 0 }) name (omega arith) h.version) there)
+    subst (Contains (pinned_names pins)) (same_name (record { page = 0 + name.page; version = get_or pins name.page 0 }) name (omega arith) h.version) there
 
 -- without the pin of a page
 pub unpinned_from : (pins : List ℕ) (page : ℕ) (name : Link) → IsPin (set pins page 0) name → IsPin pins name × (name.page ≢ page)
@@ -125,18 +128,18 @@ one_fewer n [] i = omega arith
 one_fewer n (v ∷ vs) zero = length_some (pinned_at n v) (given numbered_pin (n + 1) vs)
 one_fewer n (v ∷ vs) (suc i) = length_cons (pinned_at n v) (given numbered_pin (n + 1) vs) (given numbered_pin (n + 1) (set vs i 0)) (one_fewer (n + 1) vs i)
 
-no_item : (xs : List Link) → ((x : Link) → IsIn xs x → ⊥) → length xs ≡ 0
+no_item : (xs : List Link) → ((x : Link) → Contains xs x → ⊥) → length xs ≡ 0
 no_item [] h = refl
-no_item (x ∷ xs) h = absurd (h x (inl refl))
+no_item (x ∷ xs) h = absurd (h x (Contains-first x xs))
 
 -- no more names are pinned than a list has that has all of them
-pub few_pinned : (names : List Link) (pins : List ℕ) → ((name : Link) → IsPin pins name → IsIn names name) → length (pinned_names pins) ≤ length names
+pub few_pinned : (names : List Link) (pins : List ℕ) → ((name : Link) → IsPin pins name → Contains names name) → length (pinned_names pins) ≤ length names
 few_pinned [] pins h =
-    let none = no_item (pinned_names pins) (λ name i. h name (pin_of pins name (contains_from (pinned_names pins) name i))) in omega arith
+    let none = no_item (pinned_names pins) (λ name i. Contains-nil name (h name (pin_of pins name i))) in omega arith
 few_pinned (a ∷ names) pins h =
     let rest = few_pinned names (set pins a.page 0) (λ name pin.
     let both = unpinned_from pins a.page name pin in
-    elim (h name both.0) [
+    elim (Contains-cases a names name (h name both.0)) [
       | inl same ↦ absurd (both.1 (ap (λ (b : Link). b.page) (sym same)))
       | inr later ↦ later
     ]) in
@@ -167,35 +170,37 @@ pub length_pins : (names : List Link) (pins : List ℕ) → length (with_pins pi
 length_pins [] pins = refl
 length_pins (a ∷ rest) pins = length_pins rest (set pins a.page a.version) ∙ length-set pins a.page a.version
 
-pub other_pin : (names : List Link) (pins : List ℕ) (page : ℕ) → ((a : Link) → IsIn names a → a.page ≡ page → ⊥) → get_or (with_pins pins names) page 0 ≡ get_or pins page 0
+pub other_pin : (names : List Link) (pins : List ℕ) (page : ℕ) → ((a : Link) → Contains names a → a.page ≡ page → ⊥) → get_or (with_pins pins names) page 0 ≡ get_or pins page 0
 other_pin [] pins page none = refl
 other_pin (a ∷ rest) pins page none =
-    other_pin rest (set pins a.page a.version) page (λ b i. none b (inr i))
-    ∙ get_or-set_other pins a.page page a.version 0 (λ e. none a (inl refl) (sym e))
+    other_pin rest (set pins a.page a.version) page (λ b i. none b (Contains-rest a rest b i))
+    ∙ get_or-set_other pins a.page page a.version 0 (λ e. none a (Contains-first a rest) (sym e))
 
-pub own_pin : (names : List Link) (pins : List ℕ) → AllPairs (λ a b. a.page ≢ b.page) names → (a : Link) → IsIn names a → a.page < length pins →
+pub own_pin : (names : List Link) (pins : List ℕ) → AllPairs (λ a b. a.page ≢ b.page) names → (a : Link) → Contains names a → a.page < length pins →
     get_or (with_pins pins names) a.page 0 ≡ a.version
-own_pin [] pins distinct a i within = absurd i
-own_pin (b ∷ rest) pins distinct a (inl same) within =
-    let first = pairs_head (λ (u : Link) (v : Link). u.page ≢ v.page) b rest in
-    other_pin rest (set pins b.page b.version) a.page (λ c j e. first c distinct j (ap (λ (u : Link). u.page) same ∙ sym e))
-    ∙ ap (λ (u : Link). get_or (set pins b.page b.version) u.page 0) (sym same)
-    ∙ get_or-set_same pins b.page b.version 0 (subst (λ k. k < length pins) (sym (ap (λ (u : Link). u.page) same)) within)
-    ∙ ap (λ (u : Link). u.version) same
-own_pin (b ∷ rest) pins distinct a (inr i) within =
-    own_pin rest (set pins b.page b.version) (pairs_tail (λ (u : Link) (v : Link). u.page ≢ v.page) b rest distinct) a i (omega (arith, within, length-set pins b.page b.version))
+own_pin [] pins distinct a i within = absurd (Contains-nil a i)
+own_pin (b ∷ rest) pins distinct a i within = elim (Contains-cases b rest a i) [
+  | inl same ↦ (
+      let first = pairs_head (λ (u : Link) (v : Link). u.page ≢ v.page) b rest in
+      other_pin rest (set pins b.page b.version) a.page (λ c j e. first c distinct j (ap (λ (u : Link). u.page) same ∙ sym e))
+      ∙ ap (λ (u : Link). get_or (set pins b.page b.version) u.page 0) (sym same)
+      ∙ get_or-set_same pins b.page b.version 0 (subst (λ k. k < length pins) (sym (ap (λ (u : Link). u.page) same)) within)
+      ∙ ap (λ (u : Link). u.version) same)
+  | inr later ↦ own_pin rest (set pins b.page b.version) (pairs_tail (λ (u : Link) (v : Link). u.page ≢ v.page) b rest distinct) a later
+      (omega (arith, within, length-set pins b.page b.version))
+]
 
 -- the names that are pinned then
 pub pinned_then : (names : List Link) (pins : List ℕ) → AllPairs (λ a b. a.page ≢ b.page) names → All (λ a. (a.page < length pins) × (1 ≤ a.version)) names →
-    ((a b : Link) → Contains (pinned_names pins) a → IsIn names b → a.page ≢ b.page) →
-    (name : Link) → Contains (pinned_names (with_pins pins names)) name ↔ (Contains (pinned_names pins) name ⊎ IsIn names name)
+    ((a b : Link) → Contains (pinned_names pins) a → Contains names b → a.page ≢ b.page) →
+    (name : Link) → Contains (pinned_names (with_pins pins names)) name ↔ (Contains (pinned_names pins) name ⊎ Contains names name)
 pinned_then names pins distinct range apart name = (
   λ c. (let h = pin_of (with_pins pins names) name c in
       elim (cases_page names name.page) [
         | inl at ↦ (
-            let own = own_pin names pins distinct at.0 at.1 (all_at (λ (a : Link). (a.page < length pins) × (1 ≤ a.version)) names at.0 range at.1).0 in
+            let own = own_pin names pins distinct at.0 at.1 (All-contains (λ (a : Link). (a.page < length pins) × (1 ≤ a.version)) names at.0 range at.1).0 in
             let version : at.0.version ≡ name.version = sym own ∙ ap (λ k. get_or (with_pins pins names) k 0) at.2 ∙ h.version in
-            inr (subst (IsIn names) (same_name at.0 name at.2 version) at.1))
+            inr (subst (Contains names) (same_name at.0 name at.2 version) at.1))
         | inr none ↦ inl (pin_to pins name (record {
           page = omega (arith, h.page, length_pins names pins);
           version = sym (other_pin names pins name.page none) ∙ h.version;
@@ -209,7 +214,7 @@ pinned_then names pins distinct range apart name = (
           version = other_pin names pins name.page (λ b i e. apart name b c i (sym e)) ∙ h.version;
           some = h.some;
         }))
-    | inr i ↦ (let range_at = all_at (λ (a : Link). (a.page < length pins) × (1 ≤ a.version)) names name range i in
+    | inr i ↦ (let range_at = All-contains (λ (a : Link). (a.page < length pins) × (1 ≤ a.version)) names name range i in
         pin_to (with_pins pins names) name (record {
           page = omega (arith, range_at.0, length_pins names pins);
           version = own_pin names pins distinct name i range_at.0;

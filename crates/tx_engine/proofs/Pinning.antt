@@ -3,7 +3,8 @@ use Rattle.std.proofs.Common.{◌≡◌, ◌⊎◌, ℕ, ◌<◌, true, false, L
 use Rattle.std.proofs.lemmas.Bool.{cases_Bool, cases_eq, false≢true, cond-true, cond-false}
 use Rattle.std.proofs.lemmas.Option.{none-some, same_Some}
 use Rattle.std.proofs.lemmas.List.{length-set, get_or-set_same, get_or-set_other}
-use Rattle.list_facts.proofs.Membership.{IsIn, all_at, all_from, contains_from, in_from}
+use Rattle.std.proofs.lemmas.List.Elements.{All-contains}
+use Rattle.list_facts.proofs.Membership.{all_from}
 use Rattle.tx_types.specs.Config.{shape_of}
 use Rattle.tx_types.specs.declared.record.Link.{Link}
 use Rattle.flash_model.specs.Flash.{FlashState, Contents}
@@ -35,7 +36,7 @@ pinned_name page version name e = elim (cases_Bool (eqb version 0)) [
 pub pinned_before : (pins : List ℕ) (page version : ℕ) (name : Link) → Contains (pinned_names (set pins page version)) name →
     (name ≡ record { page = page; version = version }) ⊎ Contains (pinned_names pins) name
 pinned_before pins page version name pin =
-    let h = given_from numbered_pin 0 (set pins page version) name (in_from (pinned_names (set pins page version)) name pin) in
+    let h = given_from numbered_pin 0 (set pins page version) name pin in
     let within : h.at < length pins = (let w = h.within in omega (arith, w, length-set pins page version)) in
     let gives : pinned_at h.at (get_or (set pins page version) h.at 0) ≡ Some name =
     subst (λ i. pinned_at i (get_or (set pins page version) h.at 0) ≡ Some name) (zero-add h.at) (h.from 0) in
@@ -43,10 +44,9 @@ pinned_before pins page version name pin =
       | inl here ↦ inl (pinned_name page version name
           (ap (λ v. pinned_at page v) (sym (get_or-set_same pins page version 0 (omega (arith, within, here))))
           ∙ ap (λ i. pinned_at i (get_or (set pins page version) i 0)) (sym here) ∙ gives))
-      | inr other ↦ inr (contains_from (pinned_names pins) name
-          (given_in numbered_pin 0 pins h.at 0 name within
+      | inr other ↦ inr (given_in numbered_pin 0 pins h.at 0 name within
           (subst (λ i. pinned_at i (get_or pins h.at 0) ≡ Some name) (sym (zero-add h.at))
-          (ap (pinned_at h.at) (sym (get_or-set_other pins page h.at version 0 other)) ∙ gives))))
+          (ap (pinned_at h.at) (sym (get_or-set_other pins page h.at version 0 other)) ∙ gives)))
     ]
 
 module _ (n : Noted) (page version : ℕ) where
@@ -56,8 +56,8 @@ module _ (n : Noted) (page version : ℕ) where
       let p = n.config.protocol in
       let old = found_in n.notes in
       let keep = is_outside (shape_of n.config) block in
-      let stays : (f : Found) → IsIn old f → is_wanted p old n.config.logical (pinned_names n.pins) f.rec ≡ true → is_present (left keep old) (name_of f.rec) ≡ true =
-      λ f i w. all_at (λ f. is_wanted p old n.config.logical (pinned_names n.pins) f.rec ≡ true → is_present (left keep old) (name_of f.rec) ≡ true) old f spared i w in
+      let stays : (f : Found) → Contains old f → is_wanted p old n.config.logical (pinned_names n.pins) f.rec ≡ true → is_present (left keep old) (name_of f.rec) ≡ true =
+      λ f i w. All-contains (λ f. is_wanted p old n.config.logical (pinned_names n.pins) f.rec ≡ true → is_present (left keep old) (name_of f.rec) ≡ true) old f spared i w in
       all_from (λ f. is_wanted p old n.config.logical (pinned_names (set n.pins page version)) f.rec ≡ true → is_present (left keep old) (name_of f.rec) ≡ true) old
       (λ f i w. elim (wanted_cases p old n.config.logical (pinned_names (set n.pins page version)) f.rec w) [
         | inl current ↦ stays f i (counted_wanted p old n.config.logical (pinned_names n.pins) f.rec (inl current))

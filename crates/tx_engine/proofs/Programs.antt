@@ -1,9 +1,10 @@
 -- A record that a transaction asks for is programmed in a free slot: what is left where the program is done, and where it is
 -- broken.
-use Rattle.std.proofs.Common.{◌≡◌, ◌≢◌, ℕ, ◌+◌, ◌*◌, ◌/◌, ◌%◌, ◌<◌, ◌≤◌, Bool, true, eq-eqb, List, length, set, refl, sym, ap, ◌∙◌, subst, inl, inr, arith}
+use Rattle.std.proofs.Common.{◌≡◌, ◌≢◌, ℕ, ◌+◌, ◌*◌, ◌/◌, ◌%◌, ◌<◌, ◌≤◌, Bool, true, eq-eqb, List, length, set, refl, sym, ap, ◌∙◌, subst, inl, inr, arith, Contains}
 use Rattle.std.proofs.lemmas.List.{get_or-set_same, get_or-set_other}
 use Rattle.std.proofs.Math.Nat.{mod-add-div', div-eq_of_lt-le}
-use Rattle.list_facts.proofs.Membership.{IsIn, all_at, all_from, contains_from, in_filter, from_filter}
+use Rattle.std.proofs.lemmas.List.Elements.{All-contains}
+use Rattle.list_facts.proofs.Membership.{all_from, in_filter, from_filter}
 use Rattle.tx_types.specs.Config.{shape_of, slots_of, blocks_of}
 use Rattle.tx_types.specs.declared.config.Protocol.{Protocol}
 use Rattle.tx_types.specs.declared.config.Shape.{Shape}
@@ -117,7 +118,7 @@ module _ (s : FlashState) (n : Noted) (t : BlockTable) (m : Matches s n t unsure
   keep = is_outside s.shape t.spare
 
   -- each name that is there has a slot outside the spare
-  name_outside : (name : Link) → IsIn names name → is_present new name ≡ true → is_present (left keep new) name ≡ true
+  name_outside : (name : Link) → Contains names name → is_present new name ≡ true → is_present (left keep new) name ≡ true
   name_outside name i here =
       let f = found_named new name here in
       elim (inserted_in old new (found_of (written at.0 rec bytes)) added f.0 f.1) [
@@ -128,7 +129,7 @@ module _ (s : FlashState) (n : Noted) (t : BlockTable) (m : Matches s n t unsure
             (ap (λ (g : Found). name_of g.rec) is ∙ f.2))
         | inr j ↦
             (let was : is_present (found_in n.notes) name ≡ true = ap (λ l. is_present l name) same ∙ present_as old f.0 name j f.2 in
-            let outside = all_at (λ name. is_present (found_in n.notes) name ≡ true →
+            let outside = All-contains (λ name. is_present (found_in n.notes) name ≡ true →
             is_present (left (is_outside (shape_of n.config) t.spare) (found_in n.notes)) name ≡ true) names name take.outside i was in
             let outside' : is_present (left keep old) name ≡ true =
             subst (λ l. is_present (left keep l) name ≡ true) same
@@ -139,7 +140,7 @@ module _ (s : FlashState) (n : Noted) (t : BlockTable) (m : Matches s n t unsure
             (in_filter (λ f. keep f.slot.0) g.0 new (in_inserted old new (found_of (written at.0 rec bytes)) added g.0 parts.0) parts.1) g.2)
       ]
 
-  room : ((name : Link) → IsIn names name → is_present new name ≡ true) → HasRoomAround p old new n.config.logical s.shape names
+  room : ((name : Link) → Contains names name → is_present new name ≡ true) → HasRoomAround p old new n.config.logical s.shape names
   room each = record {
     block = t.spare;
     exists = (let w = m.table.spare_within in omega (arith, w, ap blocks_of m.blocks));
@@ -159,8 +160,7 @@ module _ (s : FlashState) (n : Noted) (t : BlockTable) (m : Matches s n t unsure
         (let kept = completing n.config.logical s.shape s.image names at.0 bytes rec asks (all_from (λ name. is_present new name ≡ true) names each) (room each) in
         record { sound = kept.sound; stay = kept.old_bytes; come = kept.new_bytes })
     | missing name i absent ↦
-        (let k = contains_from names name i in
-        let kept = partial n.config.logical s.shape s.image names at.0 bytes rec asks (k.0, name, k.1, k.2, absent) in
+        (let kept = partial n.config.logical s.shape s.image names at.0 bytes rec asks (i.0, name, i.1, i.2, absent) in
         record { sound = kept.sound; stay = kept.old_bytes; come = kept.new_bytes })
   ]
 

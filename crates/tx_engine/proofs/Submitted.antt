@@ -8,10 +8,10 @@ use Rattle.std.proofs.lemmas.List.Elements.{All-push, All-contains, Contains-get
 use Rattle.std.proofs.lemmas.List.Quantifiers.{all_pairs_push, Any-push}
 use Rattle.std.proofs.lemmas.Option.{slice_get-get_or}
 use Rattle.std.proofs.lemmas.Slice.Zip.{AllZip-long}
+use Rattle.list_facts.proofs.Membership.{all_from, in_map, map_in}
 use Rattle.list_facts.proofs.Quantifiers.{any_before, any_push_cases}
 use Rattle.list_facts.proofs.Lists.{got_before, got_push}
 use Rattle.list_facts.proofs.Pairs.{pairs_cons, pairs_head, pairs_tail, zip_weaker, zip_push, zip_at}
-use Rattle.list_facts.proofs.Membership.{IsIn, all_from, all_at, in_from, contains_from, in_map, map_in}
 use Rattle.tx_types.specs.Batch.{PageWrite}
 use Rattle.tx_types.specs.declared.config.Protocol.{Protocol}
 use Rattle.tx_types.specs.declared.record.Link.{Link}
@@ -115,10 +115,10 @@ distinct_names n (w ∷ ws) all =
     (distinct_names n ws (pairs_tail (λ (v : PageWrite) (u : PageWrite). v.page ≢ u.page) w ws all))
 
 -- a name of an open transaction has the page of one of its writes
-write_of_name : (names : List Link) (ws : List PageWrite) → map (λ (a : Link). a.page) names ≡ map (λ (w : PageWrite). w.page) ws → (a : Link) → IsIn names a →
-    (w : PageWrite) × IsIn ws w × (w.page ≡ a.page)
+write_of_name : (names : List Link) (ws : List PageWrite) → map (λ (a : Link). a.page) names ≡ map (λ (w : PageWrite). w.page) ws → (a : Link) → Contains names a →
+    (w : PageWrite) × Contains ws w × (w.page ≡ a.page)
 write_of_name names ws pages a i =
-    in_map (λ (w : PageWrite). w.page) ws a.page (subst (λ ps. IsIn ps a.page) pages (map_in (λ (b : Link). b.page) names a i))
+    in_map (λ (w : PageWrite). w.page) ws a.page (subst (λ ps. Contains ps a.page) pages (map_in (λ (b : Link). b.page) names a i))
 
 module _ {F : Type 0} (state : F → FlashState) (p : Protocol) (s : Stored F) (t : OpenTable) (stands : Stands state (standing_in state s t)) (rule : s.noted.config.protocol ≡ p)
     (tag : ℕ) (ws : List PageWrite) (ok : IsAccepted (limits_of s.noted.config) (entries_of t) tag ws)
@@ -139,9 +139,9 @@ module _ {F : Type 0} (state : F → FlashState) (p : Protocol) (s : Stored F) (
   pins = with_pins n.pins names
 
   -- a page is mentioned below the version of its new name
-  below : (w : PageWrite) → IsIn ws w → mention (found_in n.notes) w.page < mention_of n w.page + 1
+  below : (w : PageWrite) → Contains ws w → mention (found_in n.notes) w.page < mention_of n w.page + 1
   below w i =
-      let within = all_at (λ v. v.page < n.config.logical) ws w ok.in_range i in
+      let within = All-contains (λ v. v.page < n.config.logical) ws w ok.in_range i in
       let bound = stands.matches.noted.mentioned w.page within in
       omega arith
 
@@ -150,8 +150,8 @@ module _ {F : Type 0} (state : F → FlashState) (p : Protocol) (s : Stored F) (
     distinct = distinct_names n ws ok.distinct;
     in_range = all_from (λ a. (a.page < n.config.logical) × (1 ≤ a.version) × (a.version ≤ 2 ^ 62)) names (λ a i.
         let of_write = in_map (next_name n) ws a i in
-        let within = all_at (λ v. v.page < n.config.logical) ws of_write.0 ok.in_range of_write.1 in
-        let less = all_at (λ v. mention_of n v.page < 2 ^ 62) ws of_write.0 unspent of_write.1 in
+        let within = All-contains (λ v. v.page < n.config.logical) ws of_write.0 ok.in_range of_write.1 in
+        let less = All-contains (λ v. mention_of n v.page < 2 ^ 62) ws of_write.0 unspent of_write.1 in
         subst (λ (b : Link). (b.page < n.config.logical) × (1 ≤ b.version) × (b.version ≤ 2 ^ 62)) of_write.2 (within, omega arith, omega arith));
   }
 
@@ -182,47 +182,47 @@ module _ {F : Type 0} (state : F → FlashState) (p : Protocol) (s : Stored F) (
   }
 
   -- a name of an open transaction and a new one are of two pages
-  apart_open : (e : Entry) (x : Naming) → IsIn (entries_of t) e → IsNamed n.config.page_bytes n.config.logical e x → (a b : Link) → IsIn x.names a → IsIn names b → a.page ≢ b.page
+  apart_open : (e : Entry) (x : Naming) → Contains (entries_of t) e → IsNamed n.config.page_bytes n.config.logical e x → (a b : Link) → Contains x.names a → Contains names b → a.page ≢ b.page
   apart_open e x i named a b j k =
       let v = write_of_name x.names e.writes named.pages a j in
       let w = in_map (next_name n) ws b k in
-      let of_new = all_at (λ w. All (λ e. All (λ v. v.page ≢ w.page) e.writes) (entries_of t)) ws w.0 ok.unowned w.1 in
-      let of_entry = all_at (λ e. All (λ v. v.page ≢ w.0.page) e.writes) (entries_of t) e of_new i in
-      let other = all_at (λ v. v.page ≢ w.0.page) e.writes v.0 of_entry v.1 in
+      let of_new = All-contains (λ w. All (λ e. All (λ v. v.page ≢ w.page) e.writes) (entries_of t)) ws w.0 ok.unowned w.1 in
+      let of_entry = All-contains (λ e. All (λ v. v.page ≢ w.0.page) e.writes) (entries_of t) e of_new i in
+      let other = All-contains (λ v. v.page ≢ w.0.page) e.writes v.0 of_entry v.1 in
       λ same. other (v.2 ∙ same ∙ sym (ap (λ (c : Link). c.page) w.2))
 
-  apart_at : (k : ℕ) (d : Naming) → k < length (namings_of t) → (a b : Link) → IsIn (get_or (namings_of t) k d).names a → IsIn names b → a.page ≢ b.page
+  apart_at : (k : ℕ) (d : Naming) → k < length (namings_of t) → (a b : Link) → Contains (get_or (namings_of t) k d).names a → Contains names b → a.page ≢ b.page
   apart_at k d inside =
       let long = AllZip-long (IsOpenAs image n) (entries_of t) (namings_of t) stands.each in
       let within : k < length (entries_of t) = omega arith in
       let e = get_or (entries_of t) k the_opening.entry in
       let o = zip_at (IsOpenAs image n) (entries_of t) (namings_of t) k e (get_or (namings_of t) k d) stands.each
       (slice_get-get_or (entries_of t) k the_opening.entry within) (slice_get-get_or (namings_of t) k d inside) in
-      apart_open e (get_or (namings_of t) k d) (in_from (entries_of t) e (Contains-get_or (entries_of t) k the_opening.entry within)) o.named
+      apart_open e (get_or (namings_of t) k d) (Contains-get_or (entries_of t) k the_opening.entry within) o.named
 
   -- what was pinned is of other pages
-  apart_pinned : (a b : Link) → Contains (pinned_names n.pins) a → IsIn names b → a.page ≢ b.page
+  apart_pinned : (a b : Link) → Contains (pinned_names n.pins) a → Contains names b → a.page ≢ b.page
   apart_pinned a b c j =
       let any = (stands.pinned a).0 c in
       apart_at any.0 any.1 any.2 a b
-      (subst (λ (x : Naming). IsIn x.names a) (sym any.3) (in_from any.1.names a any.4)) j
+      (subst (λ (x : Naming). Contains x.names a) (sym any.3) any.4) j
 
   pub pinned_now : (name : Link) → Contains (pinned_names pins) name ↔ Any (λ x. Contains x.names name) (namings_of t ++ the_opening.naming ∷ [])
   pinned_now name =
       let then = pinned_then names n.pins transaction.distinct
       (all_from (λ a. (a.page < length n.pins) × (1 ≤ a.version)) names (λ a i.
-      let range = all_at (λ a. (a.page < n.config.logical) × (1 ≤ a.version) × (a.version ≤ 2 ^ 62)) names a transaction.in_range i in
+      let range = All-contains (λ a. (a.page < n.config.logical) × (1 ≤ a.version) × (a.version ≤ 2 ^ 62)) names a transaction.in_range i in
       let long = stands.matches.noted.pages in
       (omega arith, range.1)))
       apart_pinned name in
       let P : Naming → Type 0 = λ x. Contains x.names name in (
         λ c. elim (then.0 c) [
           | inl before ↦ any_before P (namings_of t) the_opening.naming ((stands.pinned name).0 before)
-          | inr new ↦ Any-push P (namings_of t) the_opening.naming (contains_from names name new)
+          | inr new ↦ Any-push P (namings_of t) the_opening.naming new
         ],
         λ any. elim (any_push_cases P (namings_of t) the_opening.naming any) [
           | inl before ↦ then.1 (inl ((stands.pinned name).1 before))
-          | inr new ↦ then.1 (inr (in_from names name new))
+          | inr new ↦ then.1 (inr new)
         ],
       )
 

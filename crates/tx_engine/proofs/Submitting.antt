@@ -2,8 +2,8 @@
 use Rattle.std.proofs.Common.{◌≡◌, ℕ, ◌+◌, ◌^◌, ◌<◌, Bool, false, List, [], ◌∷◌, ◌++◌, length, map, take, get_or, set, All, Option, None, Ok, refl, sym, ap, ap₂, ◌∙◌, arith, leb-false}
 use Rattle.std.specs.List.{AllZip}
 use Rattle.std.proofs.lemmas.List.{take_more, map_push}
-use Rattle.std.proofs.lemmas.List.Elements.{All-cons, All-nil}
-use Rattle.list_facts.proofs.Membership.{all_from, all_at}
+use Rattle.std.proofs.lemmas.List.Elements.{All-cons, All-nil, All-contains}
+use Rattle.list_facts.proofs.Membership.{all_from}
 use Rattle.tx_types.specs.Batch.{PageWrite, no_write}
 use Rattle.tx_types.specs.declared.config.Config.{Config}
 use Rattle.tx_types.specs.declared.record.Link.{Link}
@@ -42,7 +42,7 @@ pub version_left : (mentions : List ℕ) (ws : List PageWrite) → spent_page (i
 version_left mentions ws h =
     let each = unspent (is_spent mentions) ws h in
     all_from (λ w. get_or mentions w.page 0 < 2 ^ 62) ws (λ w i.
-    leb-false (2 ^ 62) (get_or mentions w.page 0) (all_at (λ v. is_spent mentions v.page ≡ false) ws w each i))
+    leb-false (2 ^ 62) (get_or mentions w.page 0) (All-contains (λ v. is_spent mentions v.page ≡ false) ws w each i))
 
 both : (a b : Option SubmitError) → a ≡ None → b ≡ None → or_else a b ≡ None
 both a b h k = ap (λ o. or_else o b) h ∙ k

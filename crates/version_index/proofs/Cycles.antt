@@ -1,6 +1,7 @@
 -- The names of a complete cycle are current.
-use Rattle.std.proofs.Common.{◌≡◌, ℕ, ◌<◌, true, List, length, zip, All, refl, sym, ap, ◌∙◌, subst, inr, arith}
-use Rattle.list_facts.proofs.Membership.{IsIn, all_from, all_at}
+use Rattle.std.proofs.Common.{◌≡◌, ℕ, ◌<◌, true, List, length, zip, All, refl, sym, ap, ◌∙◌, subst, inr, arith, Contains}
+use Rattle.std.proofs.lemmas.List.Elements.{All-contains}
+use Rattle.list_facts.proofs.Membership.{all_from}
 use Rattle.tx_types.specs.declared.record.Link.{Link}
 use Rattle.tx_types.specs.declared.record.Rec.{Rec}
 use Rattle.tx_types.specs.declared.config.Protocol.{Protocol}
@@ -32,13 +33,13 @@ module _ (protocol : Protocol) (n : Noted) (k : IsNoted protocol n) (names : Lis
 
   closed : (a b : Link) → Follows names a b → IsClosed a b
   closed a b i =
-      let parts = all_at (λ (x : Link × Link).
+      let parts = All-contains (λ (x : Link × Link).
       (is_present (found_in n.notes) x.0 ≡ true) × (newest (found_in n.notes) x.0.page ≡ x.0.version) × (link_of (found_in n.notes) x.0 ≡ x.1))
       (zip names (rounded names)) (a, b) cycle i in
       record { here = parts.0; top = parts.1; link = parts.2 }
 
   abbrev pub OnCycle : ℕ → Type 0
-  OnCycle page = (a : Link) × IsIn names a × (a.page ≡ page)
+  OnCycle page = (a : Link) × Contains names a × (a.page ≡ page)
 
   cycle_safe : IsSafe protocol (found_in n.notes) n.config.logical OnCycle
   cycle_safe = record {
@@ -79,5 +80,5 @@ cycle_written protocol n k at rec exists was next all =
     let t = step_underway (found_in n.notes) list' n.config.logical next.names rec (step_of n.config.protocol (found_in n.notes) list' n.config.logical next.names (found at rec) write) in
     all_from (λ (x : Link × Link). (is_present list' x.0 ≡ true) × (newest list' x.0.page ≡ x.0.version) × (link_of list' x.0 ≡ x.1)) (zip next.names (rounded next.names)) (λ x i.
     let own = (follows_in next.names x.0 x.1 i).0 in
-    let here = all_at (λ name. is_present list' name ≡ true) next.names x.0 all own in
+    let here = All-contains (λ name. is_present list' name ≡ true) next.names x.0 all own in
     (here, name_newest list' n.config.logical next.names t x.0 own here, t.asked x.0 x.1 i here))

@@ -1,10 +1,9 @@
 -- The noted records as notes are added and changed.
-use Rattle.std.proofs.Common.{◌≡◌, ℕ, ◌+◌, ◌*◌, ◌<◌, ◌≤◌, true, List, [], ◌∷◌, ◌++◌, length, set, take, AllPairs, Option, Some, None, is_some, IsSome, refl, sym, ap, ◌∙◌, subst, inl, inr, arith}
+use Rattle.std.proofs.Common.{◌≡◌, ℕ, ◌+◌, ◌*◌, ◌<◌, ◌≤◌, true, List, [], ◌∷◌, ◌++◌, length, set, take, AllPairs, Option, Some, None, is_some, IsSome, refl, sym, ap, ◌∙◌, subst, inl, inr, arith, Contains}
 use Rattle.std.specs.List.{cons_option}
 use Rattle.std.proofs.lemmas.Option.{none-some, same_Some}
 use Rattle.std.proofs.lemmas.List.{length-take-le, take_more, get_or_past}
 use Rattle.std.proofs.lemmas.Bool.{false≢true, cases_lt}
-use Rattle.list_facts.proofs.Membership.{IsIn}
 use Rattle.tx_types.specs.declared.record.Rec.{Rec}
 use Rattle.tx_types.specs.declared.config.Shape.{Shape}
 use Rattle.record_list.specs.declared.found.Found.{Found}
@@ -45,7 +44,7 @@ found_at_some slot Damaged f e = absurd (none-some f e)
 found_at_some slot (Holds rec) f e = let same = same_Some (found slot rec) f e in (ap (λ g. g.slot.0) (sym same), ap (λ g. Holds g.rec) same)
 
 -- a noted record stands in the notes
-pub noted_from : (notes : List Note) (f : Found) → IsIn (found_in notes) f → (f.slot.0 < length notes) × (note_at notes f.slot.0 ≡ Holds f.rec)
+pub noted_from : (notes : List Note) (f : Found) → Contains (found_in notes) f → (f.slot.0 < length notes) × (note_at notes f.slot.0 ≡ Holds f.rec)
 unfolding found_in
 noted_from notes f i =
     let h = given_from numbered 0 notes f i in
@@ -55,7 +54,7 @@ noted_from notes f i =
     (omega arith, ap (note_at notes) at ∙ parts.1)
 
 -- and the other way round
-pub noted_in : (notes : List Note) (at : ℕ) (rec : Rec) → at < length notes → note_at notes at ≡ Holds rec → IsIn (found_in notes) (found at rec)
+pub noted_in : (notes : List Note) (at : ℕ) (rec : Rec) → at < length notes → note_at notes at ≡ Holds rec → Contains (found_in notes) (found at rec)
 unfolding found_in
 noted_in notes at rec within here =
     given_in numbered 0 notes at Blank (found at rec) within (ap (λ note. found_at (0 + at) note) here ∙ ap (λ k. Some (found k rec)) (omega arith))

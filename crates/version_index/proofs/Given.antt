@@ -1,12 +1,12 @@
 -- What the numbered items of a list give, one after the other: with an item more or another one, without a part, in
 -- ascending order, and item by item.
-use Rattle.std.proofs.Common.{◌≡◌, ℕ, zero, suc, ◌+◌, ◌<◌, Bool, true, false, List, [], ◌∷◌, ◌++◌, length, get_or, set, take, drop, filter, filter_map, AllPairs, Option, Some, None, unwrap_or, cond, ◌⊎◌, refl, sym, ap, ap₂, ◌∙◌, subst, inl, inr, arith, if◌then◌else◌}
+use Rattle.std.proofs.Common.{◌≡◌, ℕ, zero, suc, ◌+◌, ◌<◌, Bool, true, false, List, [], ◌∷◌, ◌++◌, length, get_or, set, take, drop, filter, filter_map, AllPairs, Option, Some, None, unwrap_or, cond, ◌⊎◌, refl, sym, ap, ap₂, ◌∙◌, subst, inl, inr, arith, if◌then◌else◌, Contains}
 use Rattle.std.specs.List.{enumerate_from, cons_option}
 use Rattle.std.proofs.lemmas.Bool.{false≢true}
 use Rattle.std.proofs.lemmas.Option.{none-some}
 use Rattle.std.proofs.lemmas.List.{length-take-le, set_split, set-get_or}
 use Rattle.std.proofs.lemmas.List.Kept.{AllPairs-cons}
-use Rattle.list_facts.proofs.Membership.{IsIn, all_from}
+use Rattle.list_facts.proofs.Membership.{all_from, Contains-cases, Contains-here, Contains-nil, Contains-rest}
 use Rattle.record_list.specs.Changes.{IsInserted}
 
 -- what the items give, the first with the number n
@@ -70,33 +70,32 @@ module _ {X Y : Type 0} (of : ℕ × X → Option Y) where
     pub within : at < length xs
     pub from : (d : X) → of (n + at, get_or xs at d) ≡ Some z
 
-  cases_cons : (o : Option Y) (zs : List Y) (z : Y) → IsIn (cons_option o zs) z → (o ≡ Some z) ⊎ IsIn zs z
-  cases_cons None zs z i = inr i
-  cases_cons (Some y) zs z (inl e) = inl (ap Some e)
-  cases_cons (Some y) zs z (inr i) = inr i
+  cases_cons : (o : Option Y) (zs : List Y) (z : Y) → Contains (cons_option o zs) z → (o ≡ Some z) ⊎ Contains zs z
+  cases_cons None zs z c = inr c
+  cases_cons (Some y) zs z c = elim (Contains-cases y zs z c) [ inl e ↦ inl (ap Some e) | inr i ↦ inr i ]
 
-  in_cons : (o : Option Y) (zs : List Y) (z : Y) → (o ≡ Some z) ⊎ IsIn zs z → IsIn (cons_option o zs) z
+  in_cons : (o : Option Y) (zs : List Y) (z : Y) → (o ≡ Some z) ⊎ Contains zs z → Contains (cons_option o zs) z
   in_cons None zs z (inl e) = absurd (none-some z e)
   in_cons None zs z (inr i) = i
-  in_cons (Some y) zs z (inl e) = inl (ap (λ o. unwrap_or o y) e)
-  in_cons (Some y) zs z (inr i) = inr i
+  in_cons (Some y) zs z (inl e) = Contains-here y zs z (ap (λ o. unwrap_or o y) e)
+  in_cons (Some y) zs z (inr i) = Contains-rest y zs z i
 
-  pub given_from : (n : ℕ) (xs : List X) (z : Y) → IsIn (given of n xs) z → IsGiven n xs z
-  given_from n [] z i = absurd i
+  pub given_from : (n : ℕ) (xs : List X) (z : Y) → Contains (given of n xs) z → IsGiven n xs z
+  given_from n [] z i = absurd (Contains-nil z i)
   given_from n (x ∷ xs) z i = elim (cases_cons (of (n, x)) (given of (n + 1) xs) z i) [
     | inl e ↦ record { at = 0; within = omega arith; from = λ d. subst (λ k. of (k, x) ≡ Some z) (omega arith) e }
     | inr later ↦ (let h = given_from (n + 1) xs z later in
         record { at = suc h.at; within = (let w = h.within in omega arith); from = λ d. subst (λ k. of (k, get_or xs h.at d) ≡ Some z) (omega arith) (h.from d) })
   ]
 
-  pub given_in : (n : ℕ) (xs : List X) (i : ℕ) (d : X) (z : Y) → i < length xs → of (n + i, get_or xs i d) ≡ Some z → IsIn (given of n xs) z
+  pub given_in : (n : ℕ) (xs : List X) (i : ℕ) (d : X) (z : Y) → i < length xs → of (n + i, get_or xs i d) ≡ Some z → Contains (given of n xs) z
   given_in n [] i d z within e = absurd (omega arith)
   given_in n (x ∷ xs) zero d z within e = in_cons (of (n, x)) (given of (n + 1) xs) z (inl (subst (λ k. of (k, x) ≡ Some z) (omega arith) e))
   given_in n (x ∷ xs) (suc i) d z within e = in_cons (of (n, x)) (given of (n + 1) xs) z
       (inr (given_in (n + 1) xs i d z (omega arith) (subst (λ k. of (k, get_or xs i d) ≡ Some z) (omega arith) e)))
 
   module _ (place : Y → ℕ) (placed : (m : ℕ) (x : X) (z : Y) → of (m, x) ≡ Some z → place z ≡ m) where
-    ascending_cons : (n : ℕ) (x : X) (o : Option Y) (zs : List Y) → ((z : Y) → o ≡ Some z → place z ≡ n) → ((z : Y) → IsIn zs z → n < place z) →
+    ascending_cons : (n : ℕ) (x : X) (o : Option Y) (zs : List Y) → ((z : Y) → o ≡ Some z → place z ≡ n) → ((z : Y) → Contains zs z → n < place z) →
         AllPairs (λ y z. place y < place z) zs → AllPairs (λ y z. place y < place z) (cons_option o zs)
     ascending_cons n x None zs first later up = up
     ascending_cons n x (Some y) zs first later up =

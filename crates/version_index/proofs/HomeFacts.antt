@@ -1,9 +1,9 @@
 -- Homes: a present name has one, and it holds the record of the name.
-use Rattle.std.proofs.Common.{◌≡◌, ℕ, Bool, true, false, ◌&&◌, List, [], ◌∷◌, find, Option, Some, None, ◌⊎◌, refl, sym, ap, ◌∙◌, inl, inr}
+use Rattle.std.proofs.Common.{◌≡◌, ℕ, Bool, true, false, ◌&&◌, List, [], ◌∷◌, find, Option, Some, None, ◌⊎◌, sym, ap, ◌∙◌, inl, inr, Contains}
 use Rattle.std.specs.Option.{option_map, option_or}
 use Rattle.std.proofs.lemmas.Bool.{false≢true, cases_Bool, cond-true, cond-false, and_parts, or_cases}
 use Rattle.std.proofs.lemmas.Option.{none-some, same_Some}
-use Rattle.list_facts.proofs.Membership.{IsIn}
+use Rattle.list_facts.proofs.Membership.{Contains-first, Contains-rest}
 use Rattle.list_facts.proofs.Options.{cases_Option, option_or_none}
 use Rattle.tx_types.specs.declared.record.Link.{Link}
 use Rattle.tx_types.specs.declared.config.Shape.{Shape}
@@ -15,7 +15,7 @@ use Rattle.record_list.proofs.Names.{has_name_true, present_as}
 -- a record in a slot that passes a test
 pub record StandsAt (test : Found → Bool) (list : List Found) (at : ℕ) : Type 0 where
   pub found : Found
-  pub is_in : IsIn list found
+  pub is_in : Contains list found
   pub its_slot : found.slot.0 ≡ at
   pub passes : test found ≡ true
 
@@ -24,13 +24,13 @@ first_stands test [] at e = absurd (none-some at e)
 first_stands test (f ∷ fs) at e = elim (cases_Bool (test f)) [
   | inl pass ↦ record {
     found = f;
-    is_in = inl refl;
+    is_in = Contains-first f fs;
     its_slot = same_Some f.slot.0 at (sym (ap (option_map (λ g. g.slot.0)) (cond-true (test f) (Some f) (find test fs) pass)) ∙ e);
     passes = pass;
   }
   | inr fail ↦ (
       let h = first_stands test fs at (sym (ap (option_map (λ g. g.slot.0)) (cond-false (test f) (Some f) (find test fs) fail)) ∙ e) in
-      record { found = h.found; is_in = inr h.is_in; its_slot = h.its_slot; passes = h.passes })
+      record { found = h.found; is_in = Contains-rest f fs h.found h.is_in; its_slot = h.its_slot; passes = h.passes })
 ]
 
 -- a present name has one

@@ -1,9 +1,9 @@
 -- The commit laws of images, from those of lists.
-use Rattle.std.proofs.Common.{◌≡◌, ℕ, ◌+◌, ◌*◌, ◌^◌, ◌++◌, ◌<◌, ◌≤◌, true, List, set, take, drop, replicate, All, Option, None, Some, refl, sym, ap, ◌∙◌, subst, inl, inr, arith}
+use Rattle.std.proofs.Common.{◌≡◌, ℕ, ◌+◌, ◌*◌, ◌^◌, ◌++◌, ◌<◌, ◌≤◌, true, List, set, take, drop, replicate, All, Option, None, Some, refl, sym, ap, ◌∙◌, subst, inl, inr, arith, Contains}
 use Rattle.std.specs.Prelude.{slice_index_or, IsSomeAnd}
 use Rattle.std.proofs.lemmas.List.FromFn.{get_or-map-range_with_len}
-use Rattle.std.proofs.lemmas.List.Elements.{All-append, All-take, All-drop, All-replicate, All-set}
-use Rattle.list_facts.proofs.Membership.{IsIn, all_at, all_from, contains_from, from_filter}
+use Rattle.std.proofs.lemmas.List.Elements.{All-append, All-take, All-drop, All-replicate, All-set, All-contains}
+use Rattle.list_facts.proofs.Membership.{all_from, from_filter}
 use Rattle.tx_types.specs.declared.record.Link.{Link}
 use Rattle.tx_types.specs.declared.record.Rec.{Rec}
 use Rattle.flash_model.specs.Flash.{IsImage}
@@ -107,7 +107,7 @@ sound_with p logical shape image at bytes spare rec sound spells added written' 
     let there = in_records m (written at rec bytes) (new_in (written_in p image) m (written at rec bytes) added) in
     record {
       reads = All-set (SlotReads p logical) image at (complete bytes spare)
-          (slot_reads p logical bytes spare rec spells (all_at (PagesExist logical) (records_of m) (found_of (written at rec bytes)) (written'.records Pages) there))
+          (slot_reads p logical bytes spare rec spells (All-contains (PagesExist logical) (records_of m) (found_of (written at rec bytes)) (written'.records Pages) there))
           sound.reads;
       written = written';
     }
@@ -140,8 +140,8 @@ image_completing_law p law logical shape image names at bytes rec a present room
       sound = sound_with p logical shape image at bytes (spelling p rec) rec a.sound how.spells how.added kept.0;
       records = kept.1;
       taken = all_from (λ name. slice_index_or (array_in p logical image') name.page None ≡ bytes_at m name) names (λ name i.
-          array_at p logical image' name.page (all_at (λ n. (n.page < logical) × (1 ≤ n.version) × (n.version ≤ 2 ^ 62)) names name ranged i).0
-          ∙ page_committed p m logical name (all_at (λ n. cur p (records_of m) logical n.page ≡ n.version) names name (kept.1).committed i));
+          array_at p logical image' name.page (All-contains (λ n. (n.page < logical) × (1 ≤ n.version) × (n.version ≤ 2 ^ 62)) names name ranged i).0
+          ∙ page_committed p m logical name (All-contains (λ n. cur p (records_of m) logical n.page ≡ n.version) names name (kept.1).committed i));
       elsewhere = λ page within others.
           array_at p logical image' page within
           ∙ page_elsewhere p l m logical page w a.sound.written.records (records_scanned p image) (records_scanned p image') (kept.0).bytes how.added
@@ -173,10 +173,9 @@ image_copy_law p law logical shape image from to bytes spare sound from_within t
     let w = written to has.rec bytes in
     let added = written_inserted p image to bytes spare has.rec to_within was has.spells in
     let there = read_slot p image from bytes spare has.rec from_within source has.spells in
-    let at = contains_from l (written from has.rec bytes) there in
     let kept = law l m logical shape w sound.written added (records_scanned p image) (records_scanned p image')
-    (at.0, written from has.rec bytes, at.1, at.2, (refl, refl)) in
-    let in_old : (f : Found) (name : Link) → IsIn (records_of m) f → name_of f.rec ≡ name → is_present (records_of l) name ≡ true =
+    (there.0, written from has.rec bytes, there.1, there.2, (refl, refl)) in
+    let in_old : (f : Found) (name : Link) → Contains (records_of m) f → name_of f.rec ≡ name → is_present (records_of l) name ≡ true =
     λ f name i e. elim (inserted_in (records_of l) (records_of m) (found_of w) (inserted_records l m w added) f i) [
       | inl is ↦ present_as (records_of l) (found_of (written from has.rec bytes)) name (in_records l (written from has.rec bytes) there)
           (ap (λ (g : Found). name_of g.rec) is ∙ e)

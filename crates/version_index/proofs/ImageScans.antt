@@ -1,9 +1,9 @@
 -- The records of an image as its slots change.
-use Rattle.std.proofs.Common.{◌≡◌, ℕ, ◌+◌, ◌*◌, ◌<◌, ◌≤◌, List, length, get_or, set, AllPairs, Option, Some, None, refl, sym, ap, ◌∙◌, subst, arith}
+use Rattle.std.proofs.Common.{◌≡◌, ℕ, ◌+◌, ◌*◌, ◌<◌, ◌≤◌, List, length, get_or, set, AllPairs, Option, Some, None, refl, sym, ap, ◌∙◌, subst, arith, Contains}
 use Rattle.std.specs.Option.{option_map}
 use Rattle.std.proofs.lemmas.Option.{none-some, same_Some}
 use Rattle.std.proofs.lemmas.List.Elements.{All-map}
-use Rattle.list_facts.proofs.Membership.{IsIn, all_from}
+use Rattle.list_facts.proofs.Membership.{all_from}
 use Rattle.list_facts.proofs.Pairs.{pairs_to}
 use Rattle.tx_types.specs.Config.{blocks_of}
 use Rattle.tx_types.specs.declared.config.Protocol.{Protocol}
@@ -70,9 +70,9 @@ pub record IsRead (p : Protocol) (image : List Contents) (w : Written) : Type 0 
   pub within : w.slot.0 < length image
   pub reads : Reads p w.slot.0 (slot_at image w.slot.0) w
 
-pub is_read : (p : Protocol) (image : List Contents) (w : Written) → IsIn (written_in p image) w → IsRead p image w
+pub is_read : (p : Protocol) (image : List Contents) (w : Written) → Contains (written_in p image) w → IsRead p image w
 is_read p image w i =
-    let h = given_from (read_at p) 0 image w (subst (λ l. IsIn l w) (written_in_is p image) i) in
+    let h = given_from (read_at p) 0 image w (subst (λ l. Contains l w) (written_in_is p image) i) in
     let r = reads p (0 + h.at) (get_or image h.at blank) w (h.from blank) in
     let at : w.slot.0 ≡ h.at = (let e = r.place in omega arith) in
     let back : h.at ≡ w.slot.0 = sym at in
@@ -88,7 +88,7 @@ ascending_written p image =
     subst (λ l. AllPairs (λ v w. v.slot.0 < w.slot.0) l) (sym (written_in_is p image))
     (given_ascending (read_at p) (λ w. w.slot.0) (placed p) 0 image)
 
-versions_written : (p : Protocol) (image : List Contents) (w : Written) → IsIn (written_in p image) w → (1 ≤ w.rec.version) × (1 ≤ w.rec.next.version)
+versions_written : (p : Protocol) (image : List Contents) (w : Written) → Contains (written_in p image) w → (1 ≤ w.rec.version) × (1 ≤ w.rec.next.version)
 versions_written p image w i =
     let r = (is_read p image w i).reads in
     let spelled = (record_of-some p r.spare w.rec r.spells).0 in
@@ -107,9 +107,9 @@ read_complete p slot bytes spare rec e = ap (option_map (λ r. written slot r by
 
 -- a complete slot's record is one of the image's
 pub read_slot : (p : Protocol) (image : List Contents) (at : ℕ) (bytes spare : List ℕ) (rec : Rec) → at < length image →
-    slot_at image at ≡ complete bytes spare → record_of p spare ≡ Some rec → IsIn (written_in p image) (written at rec bytes)
+    slot_at image at ≡ complete bytes spare → record_of p spare ≡ Some rec → Contains (written_in p image) (written at rec bytes)
 read_slot p image at bytes spare rec within is spells =
-    subst (λ l. IsIn l (written at rec bytes)) (sym (written_in_is p image))
+    subst (λ l. Contains l (written at rec bytes)) (sym (written_in_is p image))
     (given_in (read_at p) 0 image at blank (written at rec bytes) within
     (ap (written_at p (0 + at)) is ∙ subst (λ k. written_at p k (complete bytes spare) ≡ Some (written at rec bytes)) (omega arith) (read_complete p at bytes spare rec spells)))
 

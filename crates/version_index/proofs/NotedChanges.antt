@@ -1,10 +1,10 @@
 -- Each change of what was noted leaves what a device can have noted.
-use Rattle.std.proofs.Common.{◌≡◌, ℕ, ◌+◌, ◌*◌, ◌<◌, ◌≤◌, ◌^◌, true, false, ◌⊎◌, List, [], ◌∷◌, length, get_or, set, zip, All, Any, None, IsSome, IfSome, Ok, refl, sym, ap, ◌∙◌, subst, inl, inr, arith}
+use Rattle.std.proofs.Common.{◌≡◌, ℕ, ◌+◌, ◌*◌, ◌<◌, ◌≤◌, ◌^◌, true, false, ◌⊎◌, List, [], ◌∷◌, length, get_or, set, zip, All, Any, None, IsSome, IfSome, Ok, refl, sym, ap, ◌∙◌, subst, inl, inr, arith, Contains}
 use Rattle.std.proofs.lemmas.Bool.{false≢true, cases_Bool}
 use Rattle.std.proofs.lemmas.List.{length-set, length-map, length-replicate}
 use Rattle.std.proofs.lemmas.List.FromFn.{length-map-range_with_len, get_or-map-range_with_len}
-use Rattle.std.proofs.lemmas.List.Elements.{All-filter}
-use Rattle.list_facts.proofs.Membership.{IsIn, all_from, all_at, contains_from, in_from, from_filter}
+use Rattle.std.proofs.lemmas.List.Elements.{All-filter, All-contains}
+use Rattle.list_facts.proofs.Membership.{all_from, from_filter, Contains-cases, Contains-first, Contains-nil, Contains-rest, any_in}
 use Rattle.tx_types.specs.declared.record.Link.{Link}
 use Rattle.tx_types.specs.declared.record.Rec.{Rec}
 use Rattle.tx_types.specs.declared.config.Config.{Config}
@@ -32,18 +32,18 @@ use Rattle.version_index.proofs.Mentions.{length-raised, raised_bounds}
 -- a name of a list is absent, or all are present
 cases_present : (list : List Found) (names : List Link) → Any (λ name. is_present list name ≡ false) names ⊎ All (λ name. is_present list name ≡ true) names
 cases_present list names = elim (cases_names names) [
-  | inl gone ↦ inl (let c = contains_from names gone.0 gone.1 in (c.0, gone.0, c.1, c.2, gone.2))
+  | inl gone ↦ inl (any_in (λ name. is_present list name ≡ false) names gone.0 gone.1 gone.2)
   | inr here ↦ inr (all_from (λ name. is_present list name ≡ true) names here)
 ]
   where
-    cases_names : (all : List Link) → ((name : Link) × IsIn all name × (is_present list name ≡ false)) ⊎ ((name : Link) → IsIn all name → is_present list name ≡ true)
-    cases_names [] = inr (λ name i. absurd i)
+    cases_names : (all : List Link) → ((name : Link) × Contains all name × (is_present list name ≡ false)) ⊎ ((name : Link) → Contains all name → is_present list name ≡ true)
+    cases_names [] = inr (λ name i. absurd (Contains-nil name i))
     cases_names (name ∷ rest) = elim (cases_Bool (is_present list name)) [
       | inl here ↦ elim (cases_names rest) [
-        | inl gone ↦ inl (gone.0, inr gone.1, gone.2)
-        | inr others ↦ inr (λ other i. elim i [ inl same ↦ subst (λ u. is_present list u ≡ true) same here | inr later ↦ others other later ])
+        | inl gone ↦ inl (gone.0, Contains-rest name rest gone.0 gone.1, gone.2)
+        | inr others ↦ inr (λ other i. elim (Contains-cases name rest other i) [ inl same ↦ subst (λ u. is_present list u ≡ true) same here | inr later ↦ others other later ])
       ]
-      | inr absent ↦ inl (name, inl refl, absent)
+      | inr absent ↦ inl (name, Contains-first name rest, absent)
     ]
 
 -- each page and link page of a name's record exists, and no version is 0
@@ -54,17 +54,17 @@ pub record IsSpelledOut (logical : ℕ) (rec : Rec) : Type 0 where
   pub next_version : 1 ≤ rec.next.version
 
 module _ (n : Noted) (rec : Rec) (next : IsNextRecord n rec) where
-  names_in : IsIn next.names (name_of rec)
-  names_in = in_from next.names (name_of rec) next.named
+  names_in : Contains next.names (name_of rec)
+  names_in = next.named
 
-  in_range : (name : Link) → IsIn next.names name → (name.page < n.config.logical) × (1 ≤ name.version) × (name.version ≤ 2 ^ 62)
-  in_range name i = all_at (λ a. (a.page < n.config.logical) × (1 ≤ a.version) × (a.version ≤ 2 ^ 62)) next.names name next.in_progress.begun.transaction.in_range i
+  in_range : (name : Link) → Contains next.names name → (name.page < n.config.logical) × (1 ≤ name.version) × (name.version ≤ 2 ^ 62)
+  in_range name i = All-contains (λ a. (a.page < n.config.logical) × (1 ≤ a.version) × (a.version ≤ 2 ^ 62)) next.names name next.in_progress.begun.transaction.in_range i
 
   -- the link is the name that follows
   pub next_follows : Follows next.names (name_of rec) rec.next
   next_follows =
       let after = follows_of next.names (name_of rec) names_in in
-      let asked = all_at (λ (x : Link × Link). name_of rec ≡ x.0 → (rec.next ≡ x.1) × (rec.back ≡ back_version n.config.protocol (found_in n.notes) n.config.logical x.0.page)) (zip next.names (rounded next.names)) (name_of rec, after.0) next.asked after.1 in
+      let asked = All-contains (λ (x : Link × Link). name_of rec ≡ x.0 → (rec.next ≡ x.1) × (rec.back ≡ back_version n.config.protocol (found_in n.notes) n.config.logical x.0.page)) (zip next.names (rounded next.names)) (name_of rec, after.0) next.asked after.1 in
       subst (Follows next.names (name_of rec)) (sym (asked refl).0) after.1
 
   pub next_spelled : IsSpelledOut n.config.logical rec
@@ -183,14 +183,13 @@ module _ (protocol : Protocol) (n : Noted) (k : IsNoted protocol n) where
           let same : set n.notes to (note_at n.notes from) ≡ set n.notes to (Holds rec) = ap (set n.notes to) is in
           let list' = found_in (set n.notes to (Holds rec)) in
           let added = found_in_programmed n.notes to rec within was in
-          let own = all_at HasVersions (found_in n.notes) (found from rec) k.scanned.versions source in
+          let own = All-contains HasVersions (found_in n.notes) (found from rec) k.scanned.versions source in
           let versions = inserted_all HasVersions (found_in n.notes) list' (found to rec) added k.scanned.versions own in
-          let c = contains_from (found_in n.notes) (found from rec) source in
           let keeps = copy (found_in n.notes) list' n.config.logical (found to rec) k.sound (record {
             scanned = k.scanned;
             scanned' = record { ascending = found_in_ascending (set n.notes to (Holds rec)); versions = versions };
             added = added;
-            source = (c.0, found from rec, c.1, c.2, refl);
+            source = (source.0, found from rec, source.1, source.2, refl);
           }) in
           subst (λ notes. IsNoted protocol (record n { notes = notes })) (sym same) (next_noted (record n { notes = set n.notes to (Holds rec) }) (record {
             config = refl;

@@ -1,10 +1,10 @@
 -- The one record of a slot, and the first record that passes a test.
-use Rattle.std.proofs.Common.{◌≡◌, ◌≢◌, ℕ, ◌<◌, Bool, false, ◌&&◌, eqb, List, length, get_or, AllPairs, Option, sym, ap, ◌∙◌, inl, inr, arith, eqb-true, eq-eqb}
+use Rattle.std.proofs.Common.{◌≡◌, ◌≢◌, ℕ, ◌<◌, Bool, false, ◌&&◌, eqb, List, length, get_or, AllPairs, Option, sym, ap, ◌∙◌, inl, inr, arith, eqb-true, eq-eqb, Contains}
 use Rattle.std.specs.List.{list_any}
 use Rattle.std.proofs.lemmas.Bool.{false≢true, cases_Bool, and_parts, and_from}
+use Rattle.std.proofs.lemmas.List.Elements.{Contains-get_or}
 use Rattle.list_facts.proofs.Tests.{any_of, any_from}
 use Rattle.list_facts.proofs.Pairs.{in_order}
-use Rattle.list_facts.proofs.Membership.{in_at, IsIn}
 use Rattle.tx_types.specs.declared.record.Link.{Link}
 use Rattle.tx_types.specs.declared.config.Protocol.{Protocol}
 use Rattle.tx_types.specs.declared.config.Shape.{Shape}
@@ -16,7 +16,7 @@ abbrev pub Ascending : List Found → Type 0
 Ascending list = AllPairs (λ f g. f.slot.0 < g.slot.0) list
 
 -- two records of one slot are one
-pub one_in_slot : (list : List Found) (f g : Found) → Ascending list → IsIn list f → IsIn list g → f.slot.0 ≡ g.slot.0 → f ≡ g
+pub one_in_slot : (list : List Found) (f g : Found) → Ascending list → Contains list f → Contains list g → f.slot.0 ≡ g.slot.0 → f ≡ g
 one_in_slot list f g up i j e = elim (in_order (λ x y. x.slot.0 < y.slot.0) list f g up i j) [
   | inl same ↦ same
   | inr (inl low) ↦ absurd (omega arith)
@@ -28,7 +28,7 @@ pub any_in_slot : (list : List Found) (at i : ℕ) (t u : Found → Bool) → As
     list_any (λ f. eqb f.slot.0 at && t f && u f) list ≡ (t (get_or list i nothing) && u (get_or list i nothing))
 any_in_slot list at i t u up within here =
     let e = get_or list i nothing in
-    let i_e = in_at list i nothing within in
+    let i_e = Contains-get_or list i nothing within in
     let p : Found → Bool = λ f. eqb f.slot.0 at && t f && u f in
     elim (cases_Bool (t e && u e)) [
       | inl pass ↦ (
@@ -46,7 +46,7 @@ any_in_slot list at i t u up within here =
     ]
 
 -- no record passes where none stands in the slot
-pub none_in_slot : (list : List Found) (at : ℕ) (t u : Found → Bool) → ((f : Found) → IsIn list f → f.slot.0 ≢ at) →
+pub none_in_slot : (list : List Found) (at : ℕ) (t u : Found → Bool) → ((f : Found) → Contains list f → f.slot.0 ≢ at) →
     list_any (λ f. eqb f.slot.0 at && t f && u f) list ≡ false
 none_in_slot list at t u off =
     let p : Found → Bool = λ f. eqb f.slot.0 at && t f && u f in
@@ -60,7 +60,7 @@ none_in_slot list at t u off =
 
 module _ (p : Protocol) (list : List Found) (logical : ℕ) (shape : Shape) (spare : Option ℕ) (pinned : List Link) (at : ℕ) where
   -- a slot without a record is not needed
-  pub needed_none : ((f : Found) → IsIn list f → f.slot.0 ≢ at) → is_needed p list logical shape spare pinned at ≡ false
+  pub needed_none : ((f : Found) → Contains list f → f.slot.0 ≢ at) → is_needed p list logical shape spare pinned at ≡ false
   needed_none off = none_in_slot list at (λ f. is_slot at (home shape spare list (name_of f.rec))) (λ f. is_wanted p list logical pinned f.rec) off
 
   -- a slot with one is needed where it is its home and the record is wanted

@@ -6,7 +6,7 @@ use Rattle.tx_types.specs.Config.{shape_of}
 use Rattle.tx_types.specs.declared.config.Config.{Config}
 use Rattle.version_index.specs.Notes.{note_at}
 use Rattle.version_index.specs.Noted.{is_blank}
-use Rattle.collector.proofs.Ranges.{blank_seen}
+use Rattle.collector.proofs.BlankNotes.{blank_seen}
 use Rattle.collector.specs.Collecting.{reads_blank}
 use Rattle.collector.proofs.cleaning.is_noted_blank.Goals as goal
 

@@ -1,11 +1,11 @@
 use Rattle.std.proofs.Common.{◌<◌, sym}
+use Rattle.std.proofs.lemmas.List.Elements.{All-contains}
 use Rattle.list_facts.proofs.Tests.{find_stands}
-use Rattle.list_facts.proofs.Membership.{all_at}
 use Rattle.tx_types.specs.Config.{slots_of}
 use Rattle.record_list.specs.Records.{has_name, name_of}
 use Rattle.scan_recovery.proofs.twins.agrees.Goals as goal
 
 pub same_bytes-requires-clause-first : goal.same_bytes-requires-clause-first
 same_bytes-requires-clause-first g c =
-    all_at (λ f. f.slot.0 < slots_of (g.F.Flash.state c.args.flash.now).shape) c.args.list.now c.in-Some.lowest c.requires.exists
+    All-contains (λ f. f.slot.0 < slots_of (g.F.Flash.state c.args.flash.now).shape) c.args.list.now c.in-Some.lowest c.requires.exists
     (find_stands (λ f. has_name (name_of c.args.found.rec) f.rec) c.args.list.now c.in-Some.lowest (sym c.in-Some.ensures)).0

@@ -1,4 +1,4 @@
--- Tests of the numbers of a range.
+-- What is noted as blank, and reads so.
 use Rattle.std.proofs.Common.{◌≡◌, true, refl}
 use Rattle.version_index.specs.declared.note.Note.{Note}
 use Rattle.version_index.specs.declared.note.Note.TheVariants.{Blank, Damaged, Holds}
