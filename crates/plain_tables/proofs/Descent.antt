@@ -1,0 +1,155 @@
+-- The way down from the single cell to the first greatest number.
+use Rattle.std.proofs.Common.{◌≡◌, ◌≢◌, ℕ, zero, suc, ◌+◌, ◌-◌, ◌*◌, ◌/◌, ◌%◌, ◌<◌, ◌≤◌, inl, inr, true, eqb, ltb, Some, List, length, get_or, take, drop, refl, sym, ◌∙◌, ap, arith}
+use Rattle.std.specs.List.{All, position, position_or_len}
+use Rattle.std.proofs.lemmas.Bool.{cases_lt, cases_eq}
+use Rattle.std.proofs.lemmas.Bool.Decides.{nat_tests}
+use Rattle.std.proofs.lemmas.List.{length-drop, drop-drop, get_or-drop, get_or_default}
+use Rattle.std.proofs.lemmas.List.Quantifiers.{position-Some}
+use Rattle.std.proofs.lemmas.List.Sums.{fails_before_first}
+use Rattle.plain_tables.specs.Greatest.{greatest, sixteen_of, IsFirstGreatest}
+use Rattle.plain_tables.specs.Levels.{under, level_start, ArePeaks, IsShape}
+use Rattle.plain_tables.proofs.GreatestNumbers.{at_most_greatest, greatest_stands}
+use Rattle.plain_tables.proofs.Tree.{length-under, get_or-under}
+
+-- a level begins before each later one
+pub level_start_below : (level levels : ℕ) → level < levels → 16 * level_start level + 1 ≤ level_start levels
+level_start_below level zero l = absurd (omega arith)
+level_start_below level (suc levels) l = elim (cases_eq level levels) [
+  | inl same ↦ rw same (omega arith)
+  | inr other ↦ let rest = level_start_below level levels (omega arith) in omega arith
+]
+
+-- and all above it come in sixteens, but for the first cell
+level_start_whole : (levels : ℕ) → 0 < levels → (m : ℕ) × (level_start levels ≡ 16 * m + 1)
+level_start_whole zero l = absurd (omega arith)
+level_start_whole (suc levels) l = (level_start levels, refl)
+
+-- a number that stands in a list has a first place there
+pub first_place : (xs : List ℕ) (number k : ℕ) → k < length xs → get_or xs k 0 ≡ number → (n : ℕ) × (position (λ x. eqb x number) xs ≡ Some n)
+first_place xs number k l is =
+    let first = position_or_len (λ x. eqb x number) xs in
+    elim (cases_lt first (length xs)) [
+      | inl low ↦ let inside : ltb first (length xs) ≡ true = grind (arith, nat_tests) in (first, rw inside refl)
+      | inr past ↦ let fails = fails_before_first (λ x. eqb x number) xs k 0 (omega arith) in absurd (grind (arith, nat_tests))
+    ]
+
+-- on the way down: this cell of a level has the greatest number, and those before it in the level are less
+pub record IsOnWay (cells : List ℕ) (level from place : ℕ) : Type 0 where
+  pub begins : from ≡ level_start level
+  pub lies : place ≤ 15 * from
+  pub within : from + place < length cells
+  pub here : get_or cells (from + place) 0 ≡ get_or cells 0 0
+  pub first : (k : ℕ) → k < place → get_or cells (from + k) 0 < get_or cells 0 0
+
+module _ (cells : List ℕ) (levels start : ℕ) (shape : IsShape levels start (length cells)) (peaks : ArePeaks cells start) where
+  -- no cell is greater than the one over it
+  pub at_most_over : (cell : ℕ) → 0 < cell → cell < length cells → get_or cells cell 0 ≤ get_or cells ((cell - 1) / 16) 0
+  at_most_over cell later l =
+      let over = (cell - 1) / 16 in
+      let low : over < start = omega (arith, shape.most) in
+      let inside : (cell - 1) % 16 < length (under cells over) = rw (length-under cells over) (omega arith) in
+      let place : 16 * over + 1 + (cell - 1) % 16 ≡ cell = omega arith in
+      let most = at_most_greatest (under cells over) ((cell - 1) % 16) inside in
+      let is = get_or-under cells over ((cell - 1) % 16) (omega arith) ∙ ap (λ c. get_or cells c 0) place in
+      let peak = peaks over low in
+      omega arith
+
+  -- so none is greater than the first one
+  at_most_first : (fuel cell : ℕ) → cell < fuel → cell < length cells → get_or cells cell 0 ≤ get_or cells 0 0
+  at_most_first zero cell f l = absurd (omega arith)
+  at_most_first (suc fuel) zero f l = omega arith
+  at_most_first (suc fuel) (suc cell) f l =
+      let step = at_most_over (suc cell) (omega arith) l in
+      let rest = at_most_first fuel ((suc cell - 1) / 16) (omega arith) (omega arith) in
+      omega arith
+
+  pub number_at_most_first : (k : ℕ) → k < length (drop start cells) → get_or (drop start cells) k 0 ≤ get_or cells 0 0
+  number_at_most_first k l =
+      let long = length-drop start cells in
+      rw (get_or-drop start cells k 0) (at_most_first (suc (start + k)) (start + k) (omega arith) (omega arith))
+
+  -- a cell on the way of a level above the numbers lies above them
+  pub way_above : (level from place : ℕ) → IsOnWay cells level from place → level < levels → from + place < start
+  way_above level from place way l =
+      let below = level_start_below level levels l in
+      let lies = way.lies in
+      omega (arith, way.begins, shape.begins)
+
+  -- one of the cells under it has the greatest number too
+  pub peak_under : (level from place : ℕ) → IsOnWay cells level from place → level < levels → 0 < get_or cells 0 0
+      → (k : ℕ) × (k < length (under cells (from + place))) × (get_or (under cells (from + place)) k 0 ≡ get_or cells 0 0)
+  peak_under level from place way l some =
+      let is : greatest (under cells (from + place)) ≡ get_or cells 0 0 = sym (peaks (from + place) (way_above level from place way l)) ∙ way.here in
+      let stands = greatest_stands (under cells (from + place)) (omega arith) in
+      (stands.0, stands.1, stands.2 ∙ is)
+
+  -- and the way goes on at the first such one
+  pub way_down : (level from place k : ℕ) → IsOnWay cells level from place → level < levels
+      → position (λ x. eqb x (get_or cells 0 0)) (under cells (from + place)) ≡ Some k → IsOnWay cells (level + 1) (16 * from + 1) (16 * place + k)
+  way_down level from place k way l found =
+      let at = position-Some (λ x. eqb x (get_or cells 0 0)) (under cells (from + place)) k 0 found in
+      let long = length-under cells (from + place) in
+      let one : level + 1 ≡ suc level = omega arith in
+      let cell : 16 * (from + place) + 1 + k ≡ 16 * from + 1 + (16 * place + k) = omega arith in
+      let is : get_or (under cells (from + place)) k 0 ≡ get_or cells 0 0 = grind (arith, nat_tests, at.1) in
+      record {
+        begins = rw one (ap (λ n. 16 * n + 1) way.begins);
+        lies = let lies = way.lies in omega (arith, at.0);
+        within = omega (arith, at.0);
+        here = rw (← cell) (sym (get_or-under cells (from + place) k (omega (arith, at.0))) ∙ is);
+        first = λ j sooner. elim (cases_lt j (16 * place)) [
+          | inl low ↦
+              let over : (16 * from + 1 + j - 1) / 16 ≡ from + j / 16 = omega arith in
+              let most = rw over at (at_most_over (16 * from + 1 + j) (omega arith) (omega (arith, at.0))) in
+              let less = way.first (j / 16) (omega arith) in
+              omega arith
+          | inr high ↦
+              let m = j - 16 * place in
+              let is_cell : 16 * (from + place) + 1 + m ≡ 16 * from + 1 + j = omega arith in
+              let reads = get_or-under cells (from + place) m (omega (arith, at.0)) ∙ ap (λ c. get_or cells c 0) is_cell in
+              let most = at_most_greatest (under cells (from + place)) m (omega (arith, at.0)) in
+              let peak = peaks (from + place) (way_above level from place way l) in
+              let same = way.here in
+              let other : get_or (under cells (from + place)) m 0 ≢ get_or cells 0 0 = grind (arith, nat_tests, at.2 m (omega arith)) in
+              omega arith
+        ];
+      }
+
+  -- it begins at the first cell
+  pub way_begins : IsOnWay cells 0 0 0
+  way_begins = record {
+    begins = refl;
+    lies = omega arith;
+    within = let some = level_start_below 0 levels shape.levels_least in omega (arith, shape.begins, shape.least);
+    here = refl;
+    first = λ k l. absurd (omega arith);
+  }
+
+  -- and ends at the first greatest number
+  pub way_ends : (from place : ℕ) → IsOnWay cells levels from place → IsFirstGreatest (drop start cells) place × (get_or (drop start cells) place 0 ≡ get_or cells 0 0)
+  way_ends from place way =
+      let same : from ≡ start = way.begins ∙ sym shape.begins in
+      let number = get_or-drop start cells place 0 ∙ ap (λ n. get_or cells (n + place) 0) (sym same) ∙ way.here in (
+        record {
+          within = let l = way.within in omega (arith, length-drop start cells);
+          greatest = λ k d l. let most = number_at_most_first k l in rw (get_or_default (drop start cells) k d 0 l, number) most;
+          first = λ k l. let less = rw same at (way.first k l) in rw (get_or-drop start cells k 0, number) less;
+        },
+        number,
+      )
+
+  -- all numbers are 0 where the first cell is
+  pub all_zero : get_or cells 0 0 ≡ 0 → All (λ x. x ≡ 0) (drop start cells)
+  all_zero none k d l = let most = number_at_most_first k l in rw (get_or_default (drop start cells) k d 0 l) (omega arith)
+
+  -- the greatest of a sixteen of the numbers is the cell over them
+  pub sixteen_peak : (sixteen : ℕ) → 16 * sixteen < length (drop start cells)
+      → ((start - 1) / 16 + sixteen < start) × (get_or cells ((start - 1) / 16 + sixteen) 0 ≡ greatest (sixteen_of (drop start cells) sixteen))
+  unfolding sixteen_of under
+  sixteen_peak sixteen l =
+      let long = length-drop start cells in
+      let below = level_start_below 0 levels shape.levels_least in
+      let rows = level_start_whole levels shape.levels_least in
+      let whole : 16 * ((start - 1) / 16 + sixteen) + 1 ≡ start + 16 * sixteen = omega (arith, shape.begins, rows.1) in
+      let low : (start - 1) / 16 + sixteen < start = omega (arith, shape.most) in
+      (low, peaks _ low ∙ ap (λ xs. greatest (take 16 xs)) (ap (λ n. drop n cells) whole ∙ sym (drop-drop (16 * sixteen) start cells)))

@@ -1,0 +1,6 @@
+pub mod Linked
+pub mod Chained
+pub mod ChainCalls
+pub mod GreatestNumbers
+pub mod Tree
+pub mod Descent

@@ -1,0 +1,4 @@
+pub mod ChainLists
+pub mod Links
+pub mod Greatest
+pub mod Levels

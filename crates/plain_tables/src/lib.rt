@@ -1,0 +1,9 @@
+//! Tables of numbers that are kept step by step: lists of places, one for each key, and numbers of which
+//! the greatest is known. After `new` no call takes memory.
+#![tactic(auto)]
+
+mod chains;
+mod peaks;
+
+pub use chains::Chains;
+pub use peaks::Peaks;
