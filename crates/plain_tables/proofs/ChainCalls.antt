@@ -1,9 +1,11 @@
 -- What the calls of `Chains` leave, and what they read.
-use Rattle.std.proofs.Common.{◌≡◌, ℕ, zero, suc, ◌+◌, ◌<◌, ◌≤◌, inl, inr, Some, None, List, ◌∷◌, length, get_or, set, drop, ltb, cond, true, false, refl, ◌∙◌, ap, arith, length-set}
+use Rattle.std.proofs.Common.{◌≡◌, ℕ, zero, suc, ◌+◌, ◌<◌, ◌≤◌, inl, inr, Some, None, List, ◌∷◌, length, get_or, set, drop, ltb, cond, true, false, refl, ◌∙◌, ap, arith, rules, length-set}
 use Rattle.std.specs.List.{Contains, slice_get}
 use Rattle.std.proofs.lemmas.Bool.{cases_lt}
 use Rattle.std.proofs.lemmas.Bool.Decides.{nat_tests}
 use Rattle.std.proofs.lemmas.List.{get_or_past, get_or_default, drop_more, drop_all}
+use Rattle.std.specs.Option.{IfSome}
+use Rattle.std.proofs.lemmas.List.Elements.{Contains-get_or}
 use Rattle.std.proofs.lemmas.Option.{slice_get-get_or, slice_get_past}
 use Rattle.plain_tables.specs.ChainLists.{ChainLists, list_of, IsListed, AreDisjoint, index_in, next_in, rest_from, with_first, with_behind, without}
 use Rattle.plain_tables.specs.Links.{paths, IsLinked, AreLinked}
@@ -68,6 +70,13 @@ module _ (next before next' before' : List ℕ) (old : ChainLists) (h : AreLinke
       (stand _ _ (without (lists_of next before) key at)
       (rw index (rw found.1.2 at (removed next before (paths next (length before)) h key found.0 i found.1.1)))
       (length-set before _ _))
+
+-- what is read at an index of a list stands in it
+pub contains_read : (xs : List ℕ) (i : ℕ) → IfSome (slice_get xs i) (Contains xs)
+contains_read xs i = elim (cases_lt i (length xs)) [
+  | inl inside ↦ rw (slice_get-get_or xs i 0 inside) (Contains-get_or xs i 0 inside)
+  | inr past ↦ rw (slice_get_past xs i past) (search rules)
+]
 
 -- the rest of a linked list from the place at an index on
 rest_at : (next before : List ℕ) (root : ℕ) (xs : List ℕ) → IsLinked next before root xs → length before ≤ root → (i : ℕ)

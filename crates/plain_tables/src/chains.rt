@@ -1,4 +1,4 @@
-ghost use Rattle.std.specs.Prelude.{◌≡◌, ℕ, ◌+◌, ◌<◌, ◌≤◌, ◌^◌, ◌∷◌, Some, None, nat_lt, cond, length, slice_index, slice_set, vec_len, IfOk};
+ghost use Rattle.std.specs.Prelude.{◌≡◌, ℕ, ◌+◌, ◌<◌, ◌≤◌, ◌^◌, ◌∷◌, Some, None, nat_lt, cond, length, slice_index, slice_set, vec_len, IfOk, IfSome};
 ghost use Rattle.std.specs.List.{Contains, slice_get};
 ghost use Rattle.plain_tables.specs.ChainLists.{AreDisjoint, IsListed, list_of, next_in, rest_from, empty_lists, with_first, with_behind, without};
 
@@ -47,6 +47,7 @@ impl Chains {
     pub fn first(&self, key: u32) -> Option<u32>
         requires { key < length self.now.lists }
         ensures first { result ≡ slice_get (list_of self.now key) 0 }
+        ensures listed { IfSome result (Contains (list_of self.now key)) }
         ensures order { rest_from (list_of self.now key) result ≡ list_of self.now key }
         ensures lists { AreDisjoint self.now }
     {
@@ -59,6 +60,7 @@ impl Chains {
     pub fn next(&self, at: u32) -> Option<u32>
         requires { IsListed self.now at }
         ensures next { (key : ℕ) → Contains (list_of self.now key) at → result ≡ next_in (list_of self.now key) at }
+        ensures listed { (key : ℕ) → Contains (list_of self.now key) at → IfSome result (Contains (list_of self.now key)) }
         ensures order { (key : ℕ) → Contains (list_of self.now key) at →
             rest_from (list_of self.now key) (Some at) ≡ at ∷ rest_from (list_of self.now key) result }
         ensures lists { AreDisjoint self.now }

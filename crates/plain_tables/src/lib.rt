@@ -4,6 +4,8 @@
 
 mod chains;
 mod peaks;
+#[cfg(test)]
+mod tests;
 
 pub use chains::Chains;
 pub use peaks::Peaks;

@@ -3,7 +3,7 @@ use Rattle.std.specs.List.{slice_get}
 use Rattle.std.proofs.lemmas.List.{get_or_default}
 use Rattle.plain_tables.specs.ChainLists.{list_of, rest_from}
 use Rattle.plain_tables.specs.Links.{paths}
-use Rattle.plain_tables.proofs.ChainCalls.{first_read, now_disjoint}
+use Rattle.plain_tables.proofs.ChainCalls.{contains_read, first_read, now_disjoint}
 use Rattle.plain_tables.proofs.chains.Chains.first.Goals as goal
 
 reads : (c : goal.After-place) → (c.place.result ≡ slice_get (list_of c.args.self.now c.args.key) 0)
@@ -19,6 +19,9 @@ reads c =
 
 pub returns-clause-first : goal.returns-clause-first
 returns-clause-first c = (reads c).0
+
+pub returns-clause-listed : goal.returns-clause-listed
+returns-clause-listed c = rw (reads c).0 (contains_read (list_of c.args.self.now c.args.key) 0)
 
 pub returns-clause-order : goal.returns-clause-order
 returns-clause-order c = rw (reads c).0 (reads c).1

@@ -1,8 +1,8 @@
-use Rattle.std.proofs.Common.{◌≡◌, ℕ, ◌∷◌, length, get_or, Some, ◌∙◌, arith}
+use Rattle.std.proofs.Common.{◌≡◌, ℕ, ◌+◌, ◌∷◌, length, get_or, Some, ◌∙◌, arith}
 use Rattle.std.specs.List.{Contains}
 use Rattle.std.proofs.lemmas.List.{get_or_default}
-use Rattle.plain_tables.specs.ChainLists.{list_of, next_in, rest_from}
-use Rattle.plain_tables.proofs.ChainCalls.{next_read, listed_below, now_disjoint}
+use Rattle.plain_tables.specs.ChainLists.{list_of, index_in, next_in, rest_from}
+use Rattle.plain_tables.proofs.ChainCalls.{contains_read, next_read, listed_below, now_disjoint}
 use Rattle.plain_tables.proofs.chains.Chains.next.Goals as goal
 
 pub index-requires : goal.index-requires
@@ -23,6 +23,9 @@ reads c key has =
 
 pub returns-clause-next : goal.returns-clause-next
 returns-clause-next c key has = (reads c key has).0
+
+pub returns-clause-listed : goal.returns-clause-listed
+returns-clause-listed c key has = rw (reads c key has).0 (contains_read (list_of c.args.self.now key) (index_in (list_of c.args.self.now key) c.args.at + 1))
 
 pub returns-clause-order : goal.returns-clause-order
 returns-clause-order c key has = rw (reads c key has).0 (reads c key has).1
