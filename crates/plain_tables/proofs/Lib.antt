@@ -1,6 +1,7 @@
 pub mod Linked
 pub mod Chained
 pub mod ChainCalls
+pub mod Membership
 pub mod GreatestNumbers
 pub mod Tree
 pub mod Descent

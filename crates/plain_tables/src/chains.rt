@@ -72,7 +72,7 @@ impl Chains {
     pub fn push(&mut self, key: u32, at: u32)
         requires key { key < length self.old.lists }
         requires place { at < self.old.places }
-        requires free { ¬ (IsListed self.old at) }
+        requires free { IsListed self.old at → ⊥ }
         ensures first { self.new ≡ with_first self.old key at }
         ensures lists { AreDisjoint self.new }
     {
@@ -84,7 +84,7 @@ impl Chains {
     pub fn insert_after(&mut self, key: u32, prev: u32, at: u32)
         requires prev { Contains (list_of self.old key) prev }
         requires place { at < self.old.places }
-        requires free { ¬ (IsListed self.old at) }
+        requires free { IsListed self.old at → ⊥ }
         ensures behind { self.new ≡ with_behind self.old key prev at }
         ensures lists { AreDisjoint self.new }
     {
@@ -95,6 +95,7 @@ impl Chains {
     pub fn remove(&mut self, key: u32, at: u32)
         requires { Contains (list_of self.old key) at }
         ensures without { self.new ≡ without self.old key at }
+        ensures free { IsListed self.new at → ⊥ }
         ensures lists { AreDisjoint self.new }
     {
         unlink(&mut self.next, &mut self.before, at);

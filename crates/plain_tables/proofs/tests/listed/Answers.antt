@@ -1,5 +1,4 @@
-use Rattle.std.proofs.Common.{◌≡◌, ◌++◌, ap, append_assoc, sym, ◌∙◌}
-use Rattle.plain_tables.specs.ChainLists.{list_of}
+use Rattle.std.proofs.Common.{◌++◌, ap, append_assoc, sym, ◌∙◌}
 use Rattle.plain_tables.proofs.tests.listed.Goals as goal
 
 pub loop-at-preserved : goal.loop-at-preserved

@@ -1,6 +1,7 @@
-use Rattle.std.proofs.Common.{arith}
-use Rattle.plain_tables.specs.ChainLists.{without}
-use Rattle.plain_tables.proofs.ChainCalls.{Stand, taken_out, listed_below, before_lies}
+use Rattle.std.proofs.Common.{arith, sym, subst}
+use Rattle.plain_tables.specs.ChainLists.{IsListed, without}
+use Rattle.plain_tables.proofs.ChainCalls.{Stand, taken_out, listed_below, before_lies, now_disjoint}
+use Rattle.plain_tables.proofs.Membership.{not_listed_without}
 use Rattle.plain_tables.proofs.chains.Chains.remove.Goals as goal
 
 pub unlink-requires-clause-place : goal.unlink-requires-clause-place
@@ -26,3 +27,9 @@ returns-clause-without c = (stands c).view
 
 pub returns-clause-lists : goal.returns-clause-lists
 returns-clause-lists c = (stands c).disjoint
+
+pub returns-clause-free : goal.returns-clause-free
+returns-clause-free c =
+    let p = c.self.inside in
+    let was = now_disjoint p.next.items p.before.items c.args.self.now c.self.invariant c.self.view_is in
+    subst (λ lists. IsListed lists c.args.at → ⊥) (sym (stands c).view) (not_listed_without c.args.self.now c.args.key c.args.at was c.requires)
