@@ -80,7 +80,8 @@ impl Chains {
         link(&mut self.next, &mut self.before, root, at);
     }
 
-    /// Puts a place that is in no list behind a place in the list of a key.
+    /// Puts a place that is in no list behind a place in the list of a key. The links find that list: the
+    /// key is there for the contract.
     pub fn insert_after(&mut self, key: u32, prev: u32, at: u32)
         requires prev { Contains (list_of self.old key) prev }
         requires place { at < self.old.places }
@@ -91,7 +92,7 @@ impl Chains {
         link(&mut self.next, &mut self.before, prev, at);
     }
 
-    /// Takes a place out of the list of a key.
+    /// Takes a place out of the list of a key, which is there for the contract, as in `insert_after`.
     pub fn remove(&mut self, key: u32, at: u32)
         requires { Contains (list_of self.old key) at }
         ensures without { self.new ≡ without self.old key at }
