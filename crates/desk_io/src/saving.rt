@@ -5,18 +5,22 @@ ghost use Rattle.desk_io.specs.Saving.{Chooses, IsLate, refusal_of, sync_answer}
 
 use crate::beside::{MAX_TRIES, folder_of, name_beside};
 use std::fs::{File, Metadata, OpenFile, OpenOptions, Permissions};
-use std::io::{Error, ErrorKind, Write};
+use std::io::{Error, ErrorKind, Seek, SeekFrom, Write};
 use std::os::unix::fs::{MetadataExt, OpenOptionsExt, lchown};
 use std::path::PathBuf;
 use std::rt::Files;
 use std::{fs, io};
 
-/// Whose a file is, and who may do what with it.
+/// How many bytes of a file that is written in place are zeros until the rest is there.
+const HEAD_BYTES: usize = 64;
+
+/// Whose a file is, who may do what with it, and the device that it stands on.
 #[derive(Drop)]
 pub struct Owner {
     user: u32,
     group: u32,
     permissions: Permissions,
+    device: u64,
 }
 
 /// How the bytes of a save come to a name.
@@ -37,20 +41,44 @@ pub enum Replaced {
 }
 
 /// Makes these the bytes of the file of this name, or of the one that a link of this name leads to.
-/// After Ok they are in the system's store.
+/// After Ok they are in the system's store, as far as it tells.
 pub fn save_file<R: Files + AllocGlobal>(rt: &R, name: &str, bytes: &[u8]) -> io::Result<()> {
     let found = fs::symlink_metadata(rt, name);
     if !matches!(&found, Ok(old) if old.is_symlink()) {
         return save_at(rt, name, found, bytes);
     }
+    // Who may not write through a link may not replace what it leads to.
+    let file = match to_write(false).open(rt, name) {
+        Ok(file) => file,
+        Err(error) if error.kind() == ErrorKind::NotFound => return make_through(rt, name, bytes),
+        Err(error) => return Err(error),
+    };
     match fs::canonicalize(rt, name) {
         Ok(target) => {
             let found = fs::symlink_metadata(rt, target.as_str());
             save_at(rt, target.as_str(), found, bytes)
         }
         Err(error) if error.kind() == ErrorKind::OutOfMemory => Err(error),
-        // The link leads nowhere: what becomes of it is left to the system.
-        Err(_) => write_through(to_write(true).open(rt, name)?, bytes),
+        Err(_) => write_through(file, bytes),
+    }
+}
+
+/// Makes the file that a link leads to.
+fn make_through<R: Files + AllocGlobal>(rt: &R, name: &str, bytes: &[u8]) -> io::Result<()> {
+    write_through(to_write(true).open(rt, name)?, bytes)?;
+    match fs::canonicalize(rt, name) {
+        Ok(target) => sync_folder_of(rt, target.as_str()),
+        Err(error) => late(Err(error)),
+    }
+}
+
+/// Waits until the name of a file that was made is in the system's store. A folder that may not be
+/// read can't be synced.
+fn sync_folder_of<R: Files>(rt: &R, name: &str) -> io::Result<()> {
+    match File::open(rt, folder_of(name)) {
+        Ok(folder) => late(synced(folder.sync_all())),
+        Err(error) if error.kind() == ErrorKind::PermissionDenied => Ok(()),
+        Err(error) => late(Err(error)),
     }
 }
 
@@ -83,7 +111,7 @@ fn make<R: Files + AllocGlobal>(rt: &R, name: &str, bytes: &[u8]) -> io::Result<
         Replaced::Done => Ok(()),
         Replaced::Refused => {
             write_through(to_write(true).open(rt, name)?, bytes)?;
-            late(File::open(rt, folder_of(name)).and_then(|folder| synced(folder.sync_all())))
+            sync_folder_of(rt, name)
         }
     }
 }
@@ -97,6 +125,7 @@ fn way_of(old: &Metadata, names: u64) -> Way
             user: old.uid(),
             group: old.gid(),
             permissions: old.permissions(),
+            device: old.dev(),
         })
     } else {
         Way::InPlace
@@ -111,20 +140,28 @@ fn to_write(makes: bool) -> OpenOptions {
 }
 
 /// Writes to what is there.
-fn write_through<F: Write + OpenFile + Drop>(file: F, bytes: &[u8]) -> io::Result<()> {
-    late(write_over(file, bytes))
+fn write_through<F: Write + Seek + OpenFile + Drop>(file: F, bytes: &[u8]) -> io::Result<()> {
+    let mut file = file;
+    late(write_over(&mut file, bytes))
 }
 
-/// Writes over the bytes of an open file, and where it is a plain one, ends it behind them and waits
-/// for the system's store.
-fn write_over<F: Write + OpenFile + Drop>(file: F, bytes: &[u8]) -> io::Result<()> {
-    let mut file = file;
-    file.write_all(bytes)?;
-    if file.metadata()?.is_file() {
-        file.set_len(bytes.len() as u64)?;
-        file.sync_all()?;
+/// Writes over the bytes of an open file. The first bytes of a plain file are zeros until the rest
+/// is in the system's store, so that a part of a save is told from a whole one.
+fn write_over<F: Write + Seek + OpenFile>(file: &mut F, bytes: &[u8]) -> io::Result<()> {
+    if !file.metadata()?.is_file() {
+        file.write_all(bytes)?;
+        return synced(file.sync_all());
     }
-    Ok(())
+    let (head, rest) = bytes.split_at(bytes.len().min(HEAD_BYTES));
+    file.write_all(&[0; HEAD_BYTES])?;
+    file.sync_all()?;
+    file.seek(SeekFrom::Start(head.len() as u64))?;
+    file.write_all(rest)?;
+    file.set_len(bytes.len() as u64)?;
+    file.sync_all()?;
+    file.seek(SeekFrom::Start(0))?;
+    file.write_all(head)?;
+    file.sync_all()
 }
 
 /// An answer that comes when the file may have changed. Then it is no want of memory, after which
@@ -150,11 +187,22 @@ fn replace<R: Files + AllocGlobal>(
         Ok(folder) => folder,
         Err(error) => return refused(error),
     };
-    let (file, beside) = match new_file(rt, name, owner.is_some()) {
+    // A file on another device than its folder is a mount point, which can't be replaced.
+    if let Some(old) = &owner {
+        if folder.metadata()?.dev() != old.device {
+            return Ok(Replaced::Refused);
+        }
+    }
+    let (mut file, beside) = match new_file(rt, name, owner.is_some()) {
         Ok(made) => made,
         Err(error) => return refused(error),
     };
-    let filled = fill(rt, file, beside.as_str(), owner, bytes);
+    let filled = fill(rt, &mut file, beside.as_str(), owner, bytes);
+    // What somebody else put at this name is neither renamed nor removed.
+    let named = fs::symlink_metadata(rt, beside.as_str())?;
+    if !is_same(&file.metadata()?, &named) {
+        return Err(Error::from(ErrorKind::Other));
+    }
     let done = match filled {
         Ok(Replaced::Done) => match fs::rename(rt, beside.as_str(), name) {
             Ok(()) => return late(synced(folder.sync_all())).map(|()| Replaced::Done),
@@ -162,8 +210,13 @@ fn replace<R: Files + AllocGlobal>(
         },
         other => other,
     };
-    let _ = fs::remove_file(rt, beside.as_str());
+    fs::remove_file(rt, beside.as_str())?;
     done
+}
+
+/// Whether two findings are of one file.
+fn is_same(one: &Metadata, other: &Metadata) -> bool {
+    one.dev() == other.dev() && one.ino() == other.ino()
 }
 
 /// Whether the system gives no leave for a new file in this folder or of this name, or to put one in
@@ -207,19 +260,18 @@ fn new_file<R: Files + AllocGlobal>(
 /// Gives a new file its owner and mode, if it is to have them, and then its bytes.
 fn fill<R: Files>(
     rt: &R,
-    file: R::File,
+    file: &mut R::File,
     beside: &str,
     owner: Option<Owner>,
     bytes: &[u8],
 ) -> io::Result<Replaced> {
-    let mut file = file;
     if let Some(owner) = owner {
         let given = lchown(rt, beside, Some(owner.user), Some(owner.group));
         if given.is_err() || file.set_permissions(owner.permissions).is_err() {
             return Ok(Replaced::Refused);
         }
     }
-    write_whole(&mut file, bytes)?;
+    write_whole(file, bytes)?;
     Ok(Replaced::Done)
 }
 

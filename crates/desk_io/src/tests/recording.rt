@@ -4,6 +4,7 @@ use std::fmt::Display;
 use std::fs::{Metadata, OpenFile, OpenOptions, Permissions};
 use std::io;
 use std::io::{Error, ErrorKind, Read, Seek, SeekFrom, Write};
+use std::os::unix::fs::PermissionsExt;
 use std::path::{Path, PathBuf};
 use std::rt::Files;
 
@@ -208,8 +209,15 @@ impl<'a, R: Files + AllocGlobal> Files for Recorder<'a, R> {
         self.rt.canonicalize(alloc, path)
     }
 
+    /// A file that nobody else may open yet.
     fn lchown(&self, path: &str, uid: Option<u32>, gid: Option<u32>) -> io::Result<()> {
-        self.log.note("chown", path)?;
+        let mode = self.rt.symlink_metadata(path)?.permissions().mode() & 0o777;
+        let call = if mode == 0o600 {
+            "chown"
+        } else {
+            "chown too open"
+        };
+        self.log.note(call, path)?;
         self.rt.lchown(path, uid, gid)
     }
 }

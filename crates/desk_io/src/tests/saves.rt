@@ -43,32 +43,32 @@ const CASES: [Case; 6] = [
     Case {
         before: Before::Nothing,
         name: "saves/f",
-        calls: "stat f; open saves; create f.saving; write f.saving; sync f.saving; rename f.saving; sync saves; ",
+        calls: "stat f; open saves; create f.saving; write f.saving; sync f.saving; stat f.saving; rename f.saving; sync saves; ",
     },
     Case {
         before: Before::File,
         name: "saves/f",
-        calls: "stat f; open f; open saves; create f.saving; chown f.saving; chmod f.saving; write f.saving; sync f.saving; rename f.saving; sync saves; ",
+        calls: "stat f; open f; open saves; create f.saving; chown f.saving; chmod f.saving; write f.saving; sync f.saving; stat f.saving; rename f.saving; sync saves; ",
     },
     Case {
         before: Before::Link,
         name: "saves/link",
-        calls: "stat link; resolve link; stat f; open f; open saves; create f.saving; chown f.saving; chmod f.saving; write f.saving; sync f.saving; rename f.saving; sync saves; ",
+        calls: "stat link; open link; resolve link; stat f; open f; open saves; create f.saving; chown f.saving; chmod f.saving; write f.saving; sync f.saving; stat f.saving; rename f.saving; sync saves; ",
     },
     Case {
         before: Before::Nowhere,
         name: "saves/link",
-        calls: "stat link; resolve link; open link; write link; length link; sync link; ",
+        calls: "stat link; open link; open link; write link; sync link; length link; sync link; write link; sync link; resolve link; open saves; sync saves; ",
     },
     Case {
         before: Before::Twice,
         name: "saves/f",
-        calls: "stat f; open f; write f; length f; sync f; ",
+        calls: "stat f; open f; write f; sync f; length f; sync f; write f; sync f; ",
     },
     Case {
         before: Before::Leftover,
         name: "saves/f",
-        calls: "stat f; open f; open saves; create f.saving; create f.saving2; chown f.saving2; chmod f.saving2; write f.saving2; sync f.saving2; rename f.saving2; sync saves; ",
+        calls: "stat f; open f; open saves; create f.saving; create f.saving2; chown f.saving2; chmod f.saving2; write f.saving2; sync f.saving2; stat f.saving2; rename f.saving2; sync saves; ",
     },
 ];
 
@@ -174,10 +174,12 @@ fn fail_in_turn<R: Files + Print + AllocGlobal + Abort>(
         let in_place = calls.contains("write f; ") || calls.contains("write link; ");
         let is_old = has(rt, OLD) || matches!(it.before, Before::Nothing | Before::Nowhere);
         assert!(rt; is_new || in_place || is_old, "{calls}");
+        // A new file of which it can't be told whose it is stays.
+        let stays = calls.ends_with("stat f.saving; ") || calls.ends_with("stat f.saving2; ");
         if it.before != Before::Leftover {
-            assert_eq!(rt; fs::exists(rt, "saves/f.saving")?, false);
+            assert_eq!(rt; fs::exists(rt, "saves/f.saving")?, stays);
         }
-        assert_eq!(rt; fs::exists(rt, "saves/f.saving2")?, false);
+        assert!(rt; stays || !fs::exists(rt, "saves/f.saving2")?, "{calls}");
     }
     Err(Fail::new("a save makes too many calls"))
 }

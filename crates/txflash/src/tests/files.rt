@@ -6,6 +6,7 @@ use std::alloc::{Allocator, Global};
 use std::fmt::Display;
 use std::fs::{Metadata, OpenOptions};
 use std::io::Write;
+use std::path::PathBuf;
 use std::rt::Files;
 use std::test::Fail;
 use std::{fs, io};
@@ -86,6 +87,14 @@ impl<R: Files> Files for Printing<'_, R> {
 
     fn remove_dir_all<B: Allocator>(&self, alloc: B, path: &str) -> io::Result<()> {
         self.rt.remove_dir_all(alloc, path)
+    }
+
+    fn canonicalize<B: Allocator>(&self, alloc: B, path: &str) -> io::Result<PathBuf<B>> {
+        self.rt.canonicalize(alloc, path)
+    }
+
+    fn lchown(&self, path: &str, uid: Option<u32>, gid: Option<u32>) -> io::Result<()> {
+        self.rt.lchown(path, uid, gid)
     }
 }
 
