@@ -8,14 +8,14 @@ ghost use Rattle.tx_types.specs.declared.config.Protocol.TheVariants.{Bpcc as Bp
 use crate::audit::first_breach;
 use record_list::{Breach, CommitRule, Found, Verdict, Why, current_version, reason};
 use straddle_sets::answers_for;
-use tx_types::{Link, Protocol};
+use tx_types::Protocol;
 
 /// The rules of Back Pointer Cyclic Commit.
 #[derive(Clone, Copy, Debug, PartialEq, Eq)]
 pub struct Bpcc;
 
 impl CommitRule for Bpcc {
-    ghost kept = { BpccRule };
+    ghost protocol = { BpccRule };
 
     fn protocol() -> Protocol {
         Protocol::Bpcc
@@ -37,12 +37,8 @@ impl CommitRule for Bpcc {
 
     fn held(list: &[Found], logical: u32, at: usize) -> bool {
         let rec = list[at].rec;
-        let name = Link {
-            page: rec.page,
-            version: rec.version,
-        };
         list.iter()
-            .any(|found| answers_for(list, logical, name, found.rec))
+            .any(|found| answers_for(list, logical, rec, found.rec))
     }
 
     fn audit(list: &[Found], logical: u32) -> Option<Breach> {

@@ -22,6 +22,8 @@ fn found(slot: u32, name: (u32, u64), next: (u32, u64), back: u64) -> Found {
                 version: next.1,
             },
             back,
+            count: 0,
+            discard: false,
         },
     }
 }
@@ -137,6 +139,14 @@ fn records_that_answer(rt: HostRuntime) {
     ];
     let pages = [(Some(Why::Straddled(3)), 0), (cycle, 3), (None, 0)];
     expect::<Bpcc>(&rt, &both, pages, &[2], None);
+    // of two unequal records of one name, which breaks law 2, the one that straddles the link is held
+    let namesakes = [
+        found(0, (0, 1), (1, 1), 0),
+        found(1, (1, 2), (1, 2), 1),
+        found(2, (1, 2), (1, 3), 0),
+    ];
+    let pages = [(Some(Why::Straddled(2)), 0), (cycle, 2), (None, 0)];
+    expect::<Bpcc>(&rt, &namesakes, pages, &[2], breach(2, 2));
     // a record that straddles its own link is loose, and nobody answers for it
     let own = [found(0, (1, 3), (1, 1), 0)];
     let pages = [(None, 0), (Some(Why::Straddled(3)), 0), (None, 0)];

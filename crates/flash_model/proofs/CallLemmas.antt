@@ -2,14 +2,14 @@
 use Rattle.std.proofs.Common.{◌≡◌, ℕ, ◌+◌, Bool, true, false, Option, None, Some, refl, ap, ◌∙◌, arith}
 use Rattle.std.specs.Prelude.{IsSomeAnd}
 use Rattle.flash_model.specs.Flash.{FlashState, Told, counted_by, IsSteady}
-use Rattle.flash_model.specs.Calls.{BothTell, NoMore, Spends, Carries}
+use Rattle.flash_model.specs.Calls.{BothTell, NoMoreToCome, Spends, Carries}
 
 -- a count that goes up twice
 pub counted_by-twice : (more most n : ℕ) → counted_by most (counted_by more n) ≡ counted_by (more + most) n
 counted_by-twice more most n = omega arith
 
 -- what a flash tells stays told, and no more is to come
-pub no_more_then : (a b c : Option Told) → BothTell NoMore a b → BothTell NoMore b c → BothTell NoMore a c
+pub no_more_then : (a b c : Option Told) → BothTell NoMoreToCome a b → BothTell NoMoreToCome b c → BothTell NoMoreToCome a c
 no_more_then None None None ab bc = tt
 no_more_then None None (Some z) ab bc = absurd bc
 no_more_then None (Some y) c ab bc = absurd ab
@@ -18,11 +18,11 @@ no_more_then (Some x) (Some y) None ab bc = absurd bc
 no_more_then (Some x) (Some y) (Some z) ab bc = (omega (arith, ab.0, bc.0), omega (arith, ab.1, bc.1))
 
 -- where it tells the same, none more is to come
-pub no_more_same : (a : Option Told) → BothTell NoMore a a
+pub no_more_same : (a : Option Told) → BothTell NoMoreToCome a a
 no_more_same None = tt
 no_more_same (Some x) = (omega arith, omega arith)
 
-spends_then : (live : Bool) (a b c : Option Told) → BothTell NoMore a b → BothTell (Spends live) b c → BothTell (Spends live) a c
+spends_then : (live : Bool) (a b c : Option Told) → BothTell NoMoreToCome a b → BothTell (Spends live) b c → BothTell (Spends live) a c
 spends_then live None None None ab bc = tt
 spends_then live None None (Some z) ab bc = absurd bc
 spends_then live None (Some y) c ab bc = absurd ab
@@ -84,7 +84,7 @@ none_spent live (Some x) None none spends = spends
 none_spent true (Some x) (Some y) none spends = omega (arith, none.1, spends)
 none_spent false (Some x) (Some y) none spends = omega (arith, none.0, spends)
 
-none_comes_still : (a b : Option Told) → NoneComes a → BothTell NoMore a b → NoneComes b
+none_comes_still : (a b : Option Told) → NoneComes a → BothTell NoMoreToCome a b → NoneComes b
 none_comes_still None b none no_more = absurd none
 none_comes_still (Some x) None none no_more = absurd no_more
 none_comes_still (Some x) (Some y) none no_more =

@@ -62,8 +62,8 @@ IsImage-set shape image at contents h whole = record {
 pub IsImage-left : (shape : Shape) (image : List Contents) (o : Operation) (how : Outcome) → IsImage shape image → CanDo shape image o
     → IsImage shape (image_left shape image o how)
 IsImage-left shape image o outcome.None h can = h
-IsImage-left shape image (program at bytes spare) outcome.All h can = IsImage-set shape image at (complete bytes spare) h (can.1, can.2)
-IsImage-left shape image (program at bytes spare) outcome.Bad h can = IsImage-set shape image at damaged h tt
+IsImage-left shape image (program at bytes spare_area) outcome.All h can = IsImage-set shape image at (complete bytes spare_area) h (can.1, can.2)
+IsImage-left shape image (program at bytes spare_area) outcome.Bad h can = IsImage-set shape image at damaged h tt
 IsImage-left shape image (erase block) outcome.All h can = IsImage-with_block shape image h block can blank tt
 IsImage-left shape image (erase block) outcome.Bad h can = IsImage-with_block shape image h block can damaged tt
 
@@ -79,7 +79,7 @@ IsImage-does shape a b (o ∷ rest) h does =
 -- one outcome says what a broken operation left
 left_so : (shape : Shape) (image : List Contents) (o : Operation) (new : List Contents) → MayLeave shape image o new
     → (how : Outcome) × (new ≡ image_left shape image o how)
-left_so shape image (program at bytes spare) new left = left
+left_so shape image (program at bytes spare_area) new left = left
 left_so shape image (erase block) new left = left
 
 IsImage-torn : (shape : Shape) (a b : Moment) (o : Operation) → IsImage shape a.image → CanDo shape a.image o → Torn shape a o b → IsImage shape b.image
@@ -112,9 +112,9 @@ outside_block per block k other =
 pub slot_at-left : (shape : Shape) (image : List Contents) (o : Operation) (how : Outcome) (k : ℕ) → IsImage shape image
     → CanDo shape image o → (WorksIn shape o (k / shape.pages_per_block) → ⊥) → slot_at (image_left shape image o how) k ≡ slot_at image k
 slot_at-left shape image o outcome.None k h can other = refl
-slot_at-left shape image (program at bytes spare) outcome.All k h can other =
-    get_or-set_other image at k (complete bytes spare) blank (λ same. other (ap (λ n. n / shape.pages_per_block) (sym same)))
-slot_at-left shape image (program at bytes spare) outcome.Bad k h can other =
+slot_at-left shape image (program at bytes spare_area) outcome.All k h can other =
+    get_or-set_other image at k (complete bytes spare_area) blank (λ same. other (ap (λ n. n / shape.pages_per_block) (sym same)))
+slot_at-left shape image (program at bytes spare_area) outcome.Bad k h can other =
     get_or-set_other image at k damaged blank (λ same. other (ap (λ n. n / shape.pages_per_block) (sym same)))
 slot_at-left shape image (erase block) outcome.All k h can other =
     slot_at-with_block_out shape image h block can blank k (outside_block shape.pages_per_block block k (λ same. other (sym same)))

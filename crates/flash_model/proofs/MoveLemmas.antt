@@ -73,9 +73,9 @@ FlashMoves-then a b c broken shape first second =
     (subst (λ (s : Shape). Moves s (moment_of b) broken (moment_of c)) shape second)
 
 -- a read
-pub FlashMoves-reads : (old new : FlashState) (at : ℕ) (bytes spare : List ℕ) (result : Result Seen Broken) (broken : Bool)
-    → Reads old new at bytes spare result → FlashMoves old new broken
-FlashMoves-reads old new at bytes spare result broken reads =
+pub FlashMoves-reads : (old new : FlashState) (at : ℕ) (bytes spare_area : List ℕ) (result : Result Seen Broken) (broken : Bool)
+    → Reads old new at bytes spare_area result → FlashMoves old new broken
+FlashMoves-reads old new at bytes spare_area result broken reads =
     FlashMoves-nothing old new broken (same_moments (moment_of new) (moment_of old) reads.image reads.programs reads.erases)
 
 -- a program or an erase

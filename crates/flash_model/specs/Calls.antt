@@ -21,8 +21,8 @@ BothTell P None (Some new) = ⊥
 BothTell P (Some old) None = ⊥
 
 -- no cut and no fault more are to come
-abbrev pub NoMore : Told → Told → Type 0
-NoMore old new = (new.cuts ≤ old.cuts) × (new.breaks ≤ old.breaks)
+abbrev pub NoMoreToCome : Told → Told → Type 0
+NoMoreToCome old new = (new.cuts ≤ old.cuts) × (new.breaks ≤ old.breaks)
 
 -- one of the faults that were to come is used up where the flash is live still, and else one of the cuts
 abbrev pub Spends : Bool → Told → Told → Type 0
@@ -40,7 +40,7 @@ pub record Carries (old new : FlashState) (broken : Bool) : Type 0 where
   pub quiet : OnFalse broken (new.faults ≡ old.faults)
   pub lives : OnFalse broken (new.live ≡ old.live)
   pub dead : old.live ≡ false → new ≡ record old { faults = new.faults }
-  pub no_more : BothTell NoMore old.told new.told
+  pub no_more : BothTell NoMoreToCome old.told new.told
   pub extras : new.extras ≡ old.extras
   pub spends : OnTrue broken (old.live ≡ true → BothTell (Spends new.live) old.told new.told)
 
@@ -48,32 +48,32 @@ pub record Carries (old new : FlashState) (broken : Bool) : Type 0 where
 abbrev pub seen_of : Contents → Seen
 seen_of blank = seen.Blank
 seen_of damaged = seen.Damaged
-seen_of (complete bytes spare) = seen.Complete
+seen_of (complete bytes spare_area) = seen.Complete
 
 -- n bytes as a slot with these contents shows them where it has none of its own
 abbrev pub page_of : ℕ → Contents → List ℕ
 page_of n blank = replicate n 255
 page_of n damaged = replicate n 0
-page_of n (complete bytes spare) = bytes
+page_of n (complete bytes spare_area) = bytes
 
-abbrev pub spare_of : Contents → List ℕ
-spare_of blank = replicate spare_bytes 255
-spare_of damaged = replicate spare_bytes 0
-spare_of (complete bytes spare) = spare
+abbrev pub spare_area_of : Contents → List ℕ
+spare_area_of blank = replicate spare_bytes 255
+spare_area_of damaged = replicate spare_bytes 0
+spare_area_of (complete bytes spare_area) = spare_area
 
 -- the contents as a read shows them
 pub record Shows (page_bytes : ℕ) (contents : Contents) (how : Seen)
-    (bytes spare : List ℕ) : Type 0 where
+    (bytes spare_area : List ℕ) : Type 0 where
   pub how_it_reads : how ≡ seen_of contents
   pub its_page : bytes ≡ page_of page_bytes contents
-  pub its_spare : spare ≡ spare_of contents
+  pub its_spare_area : spare_area ≡ spare_area_of contents
 
 -- a read changes no slot and no count of what was done, and counts itself where power is on
-pub record Reads (old new : FlashState) (at : ℕ) (bytes spare : List ℕ)
+pub record Reads (old new : FlashState) (at : ℕ) (bytes spare_area : List ℕ)
     (result : Result Seen Broken) : Type 0 where
   pub carries : Carries old new (is_err result)
   pub powered : OnOk result (old.live ≡ true)
-  pub done : IfOk result (λ how. Shows old.shape.page_bytes (slot_at old.image at) how bytes spare)
+  pub done : IfOk result (λ how. Shows old.shape.page_bytes (slot_at old.image at) how bytes spare_area)
   pub image : new.image ≡ old.image
   pub programs : new.programs ≡ old.programs
   pub erases : new.erases ≡ old.erases
@@ -90,7 +90,7 @@ pub record Operates (old new : FlashState) (o : Operation)
 
 abbrev pub Programs : FlashState → FlashState → ℕ → List ℕ → List ℕ → Result (Unit {0}) Broken →
     Type 0
-Programs old new at bytes spare result = Operates old new (program at bytes spare) result
+Programs old new at bytes spare_area result = Operates old new (program at bytes spare_area) result
 
 abbrev pub Erases : FlashState → FlashState → ℕ → Result (Unit {0}) Broken → Type 0
 Erases old new block result = Operates old new (erase block) result

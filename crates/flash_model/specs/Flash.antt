@@ -9,7 +9,7 @@ use Rattle.flash_model.specs.declared.outcome.Arm.{Arm}
 pub data Contents : Type 0 where
   blank : Contents
   damaged : Contents
-  complete : (bytes spare : List ℕ) → Contents
+  complete : (bytes spare_area : List ℕ) → Contents
 
 -- What a flash tells of the breaks to come: how many power cuts and how many faults it may still give by itself, and
 -- its arms, which are the power cut and the fault that are to come, and the count of the read that is to fail.
@@ -57,8 +57,8 @@ slot_at image at = slice_index_or image at blank
 
 -- a complete slot has a page of contents and a spare area
 abbrev pub IsWhole : ℕ → Contents → Type 0
-IsWhole page_bytes (complete bytes spare) =
-    (length bytes ≡ page_bytes) × (length spare ≡ spare_bytes)
+IsWhole page_bytes (complete bytes spare_area) =
+    (length bytes ≡ page_bytes) × (length spare_area ≡ spare_bytes)
 IsWhole page_bytes blank = Unit {0}
 IsWhole page_bytes damaged = Unit {0}
 

@@ -8,7 +8,7 @@ use Rattle.flash_model.specs.declared.outcome.Outcome.TheVariants as outcome
 use Rattle.flash_model.specs.Flash.{Contents, FlashState, blank, damaged, complete, slot_at, counted}
 
 pub data Operation : Type 0 where
-  program : (at : ℕ) → (bytes spare : List ℕ) → Operation
+  program : (at : ℕ) → (bytes spare_area : List ℕ) → Operation
   erase : (block : ℕ) → Operation
 
 -- what a flash holds, and how many programs and erases it has counted
@@ -31,14 +31,14 @@ pub record CanProgram (shape : Shape) (image : List Contents) (at : ℕ) : Type 
 
 -- what an operation needs: a slot that may be programmed, a page of contents and a spare area; a block that exists
 abbrev pub CanDo : Shape → List Contents → Operation → Type 0
-CanDo shape image (program at bytes spare) =
-    CanProgram shape image at × (length bytes ≡ shape.page_bytes) × (length spare ≡ spare_bytes)
+CanDo shape image (program at bytes spare_area) =
+    CanProgram shape image at × (length bytes ≡ shape.page_bytes) × (length spare_area ≡ spare_bytes)
 CanDo shape image (erase block) = block < blocks_of shape
 
 -- an operation works in this block
 abbrev pub WorksIn : Shape → Operation → ℕ → Type 0
-WorksIn shape (program at bytes spare) block = at / shape.pages_per_block ≡ block
-WorksIn shape (erase its) block = its ≡ block
+WorksIn shape (program at bytes spare_area) block = at / shape.pages_per_block ≡ block
+WorksIn shape (erase erased) block = erased ≡ block
 
 -- the image with these contents in each slot of a block
 abbrev pub with_block : Shape → List Contents → ℕ → Contents → List Contents
@@ -48,12 +48,12 @@ with_block shape image block contents =
 
 -- the image once the operation is done
 abbrev pub image_after : Shape → List Contents → Operation → List Contents
-image_after shape image (program at bytes spare) = slice_set image at (complete bytes spare)
+image_after shape image (program at bytes spare_area) = slice_set image at (complete bytes spare_area)
 image_after shape image (erase block) = with_block shape image block blank
 
 -- the image where the operation has damaged its slot, or all slots of its block
 abbrev pub image_damaged : Shape → List Contents → Operation → List Contents
-image_damaged shape image (program at bytes spare) = slice_set image at damaged
+image_damaged shape image (program at bytes spare_area) = slice_set image at damaged
 image_damaged shape image (erase block) = with_block shape image block damaged
 
 -- the image where the operation was broken with this outcome
@@ -64,11 +64,11 @@ image_left shape image o outcome.Bad = image_damaged shape image o
 
 -- the counts once the operation is done: one program or one erase more
 abbrev pub programs_after : Operation → ℕ → ℕ
-programs_after (program at bytes spare) count = counted count
+programs_after (program at bytes spare_area) count = counted count
 programs_after (erase block) count = count
 
 abbrev pub erases_after : Operation → ℕ → ℕ
-erases_after (program at bytes spare) count = count
+erases_after (program at bytes spare_area) count = count
 erases_after (erase block) count = counted count
 
 abbrev pub after : Shape → Moment → Operation → Moment
@@ -86,8 +86,8 @@ pub record Done (shape : Shape) (old : Moment) (o : Operation) (new : Moment) : 
 
 -- what a broken operation may leave: what one of the outcomes says
 abbrev pub MayLeave : Shape → List Contents → Operation → List Contents → Type 0
-MayLeave shape old (program at bytes spare) new =
-    (how : Outcome) × (new ≡ image_left shape old (program at bytes spare) how)
+MayLeave shape old (program at bytes spare_area) new =
+    (how : Outcome) × (new ≡ image_left shape old (program at bytes spare_area) how)
 MayLeave shape old (erase block) new = (how : Outcome) × (new ≡ image_left shape old (erase block) how)
 
 -- an operation that is broken leaves what it may leave, and is not counted

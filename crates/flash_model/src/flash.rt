@@ -50,17 +50,17 @@ pub trait Flash {
 
     /// Reads a slot: its contents and its spare area, all 0xff where it is blank and all 0x00 where it is
     /// damaged. A broken read leaves any bytes in both.
-    fn read(&mut self, at: Slot, into: &mut [u8], spare: &mut [u8; 64]) -> Result<Seen, Broken>
+    fn read(&mut self, at: Slot, into: &mut [u8], spare_area: &mut [u8; 64]) -> Result<Seen, Broken>
         requires exists { at.0 < slots_of (state self.old).shape }
         requires page { length into.old ≡ (state self.old).shape.page_bytes }
-        ensures { Reads (state self.old) (state self.new) at.0 into.new spare.new result };
+        ensures { Reads (state self.old) (state self.new) at.0 into.new spare_area.new result };
 
     /// Programs a slot with contents and a spare area. A broken program leaves the slot blank, or complete
     /// as asked for, or damaged, and all else as it was.
-    fn program(&mut self, at: Slot, bytes: &[u8], spare: &[u8; 64]) -> Result<(), Broken>
+    fn program(&mut self, at: Slot, bytes: &[u8], spare_area: &[u8; 64]) -> Result<(), Broken>
         requires blank { CanProgram (state self.old).shape (state self.old).image at.0 }
         requires page { length bytes.now ≡ (state self.old).shape.page_bytes }
-        ensures { Programs (state self.old) (state self.new) at.0 bytes.now spare.now result };
+        ensures { Programs (state self.old) (state self.new) at.0 bytes.now spare_area.now result };
 
     /// Erases a block: all its slots are blank. A broken erase leaves the block as it was, or all its slots
     /// damaged, or all blank, and all else as it was.

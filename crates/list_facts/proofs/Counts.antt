@@ -1,5 +1,5 @@
 -- How many numbers of a range pass a test.
-use Rattle.std.proofs.Common.{ℕ, Bool, cond, ◌≡◌, ◌+◌, ◌-◌, count_by, sym, ap, ◌∙◌, ◌≤◌, arith, true, false, suc, zero, ◌<◌, refl, inl, inr, ◌≢◌, ap₂}
+use Rattle.std.proofs.Common.{ℕ, Bool, cond, ◌≡◌, ◌+◌, ◌-◌, count_by, sym, ap, ◌∙◌, ◌≤◌, arith, true, false, suc, zero, ◌<◌, refl, inl, inr, ap₂}
 use Rattle.std.specs.List.{range_with_len}
 use Rattle.std.proofs.lemmas.Bool.{cases_eq, false≢true, cases_lt, cases_Bool}
 use Rattle.std.proofs.lemmas.List.{map-id}

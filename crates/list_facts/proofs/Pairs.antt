@@ -1,5 +1,5 @@
 -- Relations along a list, and between two lists.
-use Rattle.std.proofs.Common.{◌≡◌, ◌⊎◌, List, get_or, AllPairs, Contains, sym, ap, ◌∙◌, subst, inl, inr, suc, ◌∷◌, arith, zero, ℕ, ◌<◌, length, map, [], subst₂, slice_get, Some, ◌++◌, ◌+◌, refl}
+use Rattle.std.proofs.Common.{◌≡◌, ◌⊎◌, List, get_or, AllPairs, Contains, sym, ap, ◌∙◌, subst, inl, inr, suc, ◌∷◌, arith, zero, ℕ, ◌<◌, length, map, [], subst₂, slice_get, Some, ◌++◌, refl}
 use Rattle.std.specs.List.{AllZip}
 use Rattle.std.proofs.lemmas.Bool.{cases_order}
 use Rattle.std.proofs.lemmas.List.{get_or_default, length-map, get_or-map}

@@ -1,5 +1,5 @@
 -- A record has one spelling, and what breaks no rule is one.
-use Rattle.std.proofs.Common.{◌≡◌, ◌↔◌, ℕ, ◌^◌, ◌<◌, ◌≤◌, ◌&&◌, Bool, true, false, cond, not, eqb, ltb, leb, List, [], ◌∷◌, ◌++◌, length, get_or, take, drop, replicate, find, slice_range, ◌%◌, Option, Some, None, refl, sym, ap, subst, ◌∙◌, arith, lit≤}
+use Rattle.std.proofs.Common.{◌≡◌, ◌↔◌, ℕ, ◌^◌, ◌<◌, ◌≤◌, ◌&&◌, Bool, true, false, cond, not, eqb, ltb, leb, List, [], ◌∷◌, ◌++◌, length, get_or, take, drop, replicate, find, slice_range, ◌%◌, Option, Some, None, refl, sym, ap, ap₂, subst, ◌∙◌, arith, lit≤}
 use Rattle.std.specs.Int.{w32, w64}
 use Rattle.std.specs.List.{list_all}
 use Rattle.std.specs.Option.{is_some, is_none}
@@ -93,6 +93,14 @@ BreaksNone-spelling p r can =
       rest_holds = refl;
     }
 
+-- a record with no count and no discard is known by its other parts
+plain : (r : Rec) → r.count ≡ 0 → r.discard ≡ false →
+    record { page = r.page; version = r.version; next = r.next; back = r.back; count = 0; discard = false } ≡ r
+plain r count discard = ap₂ the_record (sym count) (sym discard)
+  where
+    the_record : ℕ → Bool → Rec
+    the_record c d = record { page = r.page; version = r.version; next = r.next; back = r.back; count = c; discard = d }
+
 -- the record that stands in a spelling
 pub fields_of-spelling : (p : Protocol) (r : Rec) → CanBeSpelled p r → fields_of (spelling p r) ≡ r
 fields_of-spelling p r can =
@@ -101,7 +109,7 @@ fields_of-spelling p r can =
     let version = number_at-version p r (omega arith) in
     let next_version = number_at-next_version p r (omega arith) in
     let back = number_at-back p r (back_below p r.version r.back can.version_most can.back) in
-    rw (page, next_page, version, next_version, back) refl
+    rw (page, next_page, version, next_version, back) (plain r can.count can.discard)
 
 -- ---- what breaks no rule is spelled
 
@@ -149,6 +157,8 @@ can_be_spelled p bytes fits h =
       next_version_least = next_version.0;
       next_version_most = next_version.1;
       back = is_back_is p (number_at w64 16 bytes) (number_at w64 32 bytes) h.back_holds;
+      count = refl;
+      discard = refl;
     }
 
 zeros_at : (n : ℕ) (bytes : List ℕ) → length bytes ≡ n → are_zeros bytes ≡ true → bytes ≡ replicate n 0

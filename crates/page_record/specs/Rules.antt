@@ -21,6 +21,8 @@ fields_of bytes = record {
   version = number_at w64 16 bytes;
   next = record { page = number_at w32 12 bytes; version = number_at w64 24 bytes };
   back = number_at w64 32 bytes;
+  count = 0;
+  discard = false;
 }
 
 abbrev pub are_zeros : List ℕ → Bool

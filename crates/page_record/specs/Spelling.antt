@@ -1,5 +1,5 @@
 -- The one spelling of a record in the bytes of a spare area. Numbers are unsigned and little endian.
-use Rattle.std.specs.Prelude.{◌≡◌, ℕ, ◌<◌, ◌≤◌, ◌^◌, List, [], ◌∷◌, ◌++◌, replicate, codes}
+use Rattle.std.specs.Prelude.{◌≡◌, ℕ, ◌<◌, ◌≤◌, ◌^◌, false, List, [], ◌∷◌, ◌++◌, replicate, codes}
 use Rattle.std.specs.Int.{w32, w64, to_le_bytes}
 use Rattle.tx_types.specs.Limits.{max_version}
 use Rattle.tx_types.specs.declared.config.Protocol.{Protocol}
@@ -28,7 +28,7 @@ abbrev pub IsBack : Protocol → ℕ → ℕ → Type 0
 IsBack Scc version back = back ≡ 0
 IsBack Bpcc version back = back < version
 
--- the record has a spelling
+-- the record has a spelling: it says no count, and is no discard
 pub record CanBeSpelled (protocol : Protocol) (rec : Rec) : Type 0 where
   pub page : rec.page < 2 ^ 32
   pub next_page : rec.next.page < 2 ^ 32
@@ -37,3 +37,5 @@ pub record CanBeSpelled (protocol : Protocol) (rec : Rec) : Type 0 where
   pub next_version_least : 1 ≤ rec.next.version
   pub next_version_most : rec.next.version ≤ max_version
   pub back : IsBack protocol rec.version rec.back
+  pub count : rec.count ≡ 0
+  pub discard : rec.discard ≡ false

@@ -10,43 +10,43 @@ use crate::layout::{FORMAT, MARK, code};
 use tx_types::{Link, MAX_VERSION, Protocol, Rec};
 
 /// The record that a spare area spells under this protocol, or the first rule that its bytes break.
-pub fn read_spare(spare: &[u8; 64], protocol: Protocol) -> Result<Rec, SpareError>
+pub fn read_spare(spare_area: &[u8; 64], protocol: Protocol) -> Result<Rec, SpareError>
     // What is read is spelled so.
     ensures spelled { IfOk result (λ rec.
-        CanBeSpelled protocol rec × (spare.now ≡ spelling protocol rec)) }
+        CanBeSpelled protocol rec × (spare_area.now ≡ spelling protocol rec)) }
     // What is spelled so is read.
-    ensures only { (rec : Rec) → CanBeSpelled protocol rec → spare.now ≡ spelling protocol rec →
+    ensures only { (rec : Rec) → CanBeSpelled protocol rec → spare_area.now ≡ spelling protocol rec →
         result ≡ Ok rec }
 
     // Both answers as functions of the bytes: the error is the first rule in the table that is broken.
-    ensures found { result_ok result ≡ record_of protocol spare.now }
-    ensures error { result_err result ≡ first_broken protocol spare.now }
+    ensures found { result_ok result ≡ record_of protocol spare_area.now }
+    ensures error { result_err result ≡ first_broken protocol spare_area.now }
 {
-    match broken_rule(spare, protocol) {
+    match broken_rule(spare_area, protocol) {
         Some(rule) => Err(rule),
-        None => Ok(fields(spare)),
+        None => Ok(fields(spare_area)),
     }
 }
 
 /// The first rule that the bytes break.
 #[tactic(auto, unfolding(crate::specs::Rules::first_broken))]
-fn broken_rule(spare: &[u8; 64], protocol: Protocol) -> Option<SpareError>
-    ensures { result ≡ first_broken protocol spare.now }
+fn broken_rule(spare_area: &[u8; 64], protocol: Protocol) -> Option<SpareError>
+    ensures { result ≡ first_broken protocol spare_area.now }
 {
-    let rec = fields(spare);
-    if !spare.starts_with(&MARK) {
+    let rec = fields(spare_area);
+    if !spare_area.starts_with(&MARK) {
         Some(SpareError::Mark)
-    } else if spare[4] != FORMAT {
+    } else if spare_area[4] != FORMAT {
         Some(SpareError::Format)
-    } else if spare[5] != code(protocol) {
+    } else if spare_area[5] != code(protocol) {
         Some(SpareError::Protocol)
-    } else if !are_zeros(&spare[6..8]) {
+    } else if !are_zeros(&spare_area[6..8]) {
         Some(SpareError::Flags)
     } else if !has_versions(rec) {
         Some(SpareError::Version)
     } else if !is_back(protocol, rec.version, rec.back) {
         Some(SpareError::Back)
-    } else if !are_zeros(&spare[40..]) {
+    } else if !are_zeros(&spare_area[40..]) {
         Some(SpareError::Rest)
     } else {
         None
@@ -54,37 +54,39 @@ fn broken_rule(spare: &[u8; 64], protocol: Protocol) -> Option<SpareError>
 }
 
 /// The record whose numbers stand in the bytes.
-fn fields(spare: &[u8; 64]) -> Rec
-    ensures { result ≡ fields_of spare.now }
+fn fields(spare_area: &[u8; 64]) -> Rec
+    ensures { result ≡ fields_of spare_area.now }
 {
     Rec {
-        page: u32_at(spare, 8),
-        version: u64_at(spare, 16),
+        page: u32_at(spare_area, 8),
+        version: u64_at(spare_area, 16),
         next: Link {
-            page: u32_at(spare, 12),
-            version: u64_at(spare, 24),
+            page: u32_at(spare_area, 12),
+            version: u64_at(spare_area, 24),
         },
-        back: u64_at(spare, 32),
+        back: u64_at(spare_area, 32),
+        count: 0,
+        discard: false,
     }
 }
 
 /// The number in the four bytes at an offset.
 #[tactic(auto, unfolding(crate::specs::Rules::number_at))]
-fn u32_at(spare: &[u8; 64], offset: usize) -> u32
+fn u32_at(spare_area: &[u8; 64], offset: usize) -> u32
     requires { offset + 4 ≤ 64 }
-    ensures { result ≡ number_at w32 offset spare.now }
+    ensures { result ≡ number_at w32 offset spare_area.now }
 {
-    let bytes = &spare[offset..offset + 4];
+    let bytes = &spare_area[offset..offset + 4];
     u32::from_le_bytes([bytes[0], bytes[1], bytes[2], bytes[3]])
 }
 
 /// The number in the eight bytes at an offset.
 #[tactic(auto, unfolding(crate::specs::Rules::number_at))]
-fn u64_at(spare: &[u8; 64], offset: usize) -> u64
+fn u64_at(spare_area: &[u8; 64], offset: usize) -> u64
     requires { offset + 8 ≤ 64 }
-    ensures { result ≡ number_at w64 offset spare.now }
+    ensures { result ≡ number_at w64 offset spare_area.now }
 {
-    let bytes = &spare[offset..offset + 8];
+    let bytes = &spare_area[offset..offset + 8];
     u64::from_le_bytes([
         bytes[0], bytes[1], bytes[2], bytes[3], bytes[4], bytes[5], bytes[6], bytes[7],
     ])

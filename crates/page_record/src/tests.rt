@@ -43,12 +43,14 @@ fn rec(page: u32, version: u64, link_page: u32, link_version: u64, back: u64) ->
             version: link_version,
         },
         back,
+        count: 0,
+        discard: false,
     }
 }
 
 /// The bytes with other values at some places.
-fn changed(spare: &[u8; 64], changes: &[(usize, u8)]) -> [u8; 64] {
-    let mut bytes = *spare;
+fn changed(spare_area: &[u8; 64], changes: &[(usize, u8)]) -> [u8; 64] {
+    let mut bytes = *spare_area;
     for (place, byte) in changes {
         if let Some(b) = bytes.get_mut(*place) {
             *b = *byte;
@@ -69,6 +71,8 @@ fn writes_over_what_stood_there(rt: HostRuntime) {
         version: 1,
         next: link,
         back: 0,
+        count: 0,
+        discard: false,
     };
     write_spare(first, Scc, &mut area);
     assert!(rt; area == SCC);
@@ -82,6 +86,8 @@ fn writes_over_what_stood_there(rt: HostRuntime) {
         version: 3,
         next: link,
         back: 2,
+        count: 0,
+        discard: false,
     };
     write_spare(alone, Bpcc, &mut area);
     assert!(rt; area == BPCC);
@@ -95,6 +101,8 @@ fn writes_over_what_stood_there(rt: HostRuntime) {
         version: 0x1112131415161718,
         next: link,
         back: 0x1032333435363738,
+        count: 0,
+        discard: false,
     };
     write_spare(wide, Bpcc, &mut area);
     assert!(rt; area == WIDE);
@@ -181,8 +189,8 @@ const BROKEN: [Broken; 26] = [
 
 #[test]
 fn names_the_first_broken_rule(rt: HostRuntime) {
-    for (spare, changes, protocol, want) in BROKEN {
-        let found = read_spare(&changed(spare, changes), protocol);
+    for (spare_area, changes, protocol, want) in BROKEN {
+        let found = read_spare(&changed(spare_area, changes), protocol);
         assert_eq!(rt; found, Err(want), "after {changes:?}");
     }
 }
@@ -216,8 +224,8 @@ fn reads_the_record(rt: HostRuntime) {
             rec(0xff0000ff, 1, 0xff0000ff, 1, 0),
         ),
     ];
-    for (spare, changes, protocol, want) in cases {
-        let found = read_spare(&changed(spare, changes), protocol);
+    for (spare_area, changes, protocol, want) in cases {
+        let found = read_spare(&changed(spare_area, changes), protocol);
         assert_eq!(rt; found, Ok(want), "after {changes:?}");
     }
 }

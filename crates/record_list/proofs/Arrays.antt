@@ -1,6 +1,6 @@
 -- What the four changes do to the array that a list with bytes stands for, from what they keep of its records.
 use Rattle.std.proofs.Common.{◌≡◌, ℕ, ◌<◌, ◌≤◌, ◌⊎◌, true, false, Some, None, List, [], ◌∷◌, All, refl, sym, ap, ◌∙◌, subst, inl, inr, arith, Contains}
-use Rattle.std.specs.Prelude.{find}
+use Rattle.std.specs.Prelude.{find, option_and_then}
 use Rattle.std.specs.Option.{option_map}
 use Rattle.std.proofs.lemmas.Bool.{cases_Bool, cases_lt, cond-true, cond-false, or_from, both_ways}
 use Rattle.std.proofs.lemmas.List.Elements.{All-contains}
@@ -15,7 +15,7 @@ use Rattle.record_list.specs.Current.{cur, IsCurrent, is_held}
 use Rattle.record_list.specs.SoundList.{current_name, IsSoundList}
 use Rattle.record_list.specs.Changes.{IsInserted, IsWrite, SameCurrent, left, PartialWriteLaw, CompletingWriteLaw, CopyLaw, LossLaw}
 use Rattle.record_list.specs.ArrayChanges.{PartialWriteLeavesArray, CompletingWriteTakesTransaction, CopyLeavesArray, BlockLossLeavesArray}
-use Rattle.record_list.specs.Written.{Written, found_of, records_of, bytes_at, page_at, array_of, BytesAgree, is_outside, IsRemovable}
+use Rattle.record_list.specs.Written.{Written, found_of, records_of, text_of, text_at, value_of, value_at, page_at, array_of, BytesAgree, is_outside, IsRemovable}
 use Rattle.record_list.specs.WrittenChanges.{left_outside}
 use Rattle.record_list.proofs.Names.{has_name_true, found_named, present_as}
 use Rattle.record_list.proofs.SoundNames.{sound_map}
@@ -30,52 +30,52 @@ current_present : (p : Protocol) (l : List Found) (n page : ℕ) → IsSoundList
     is_present l (current_name p l n page) ≡ true
 current_present p l n page sound scanned some = counted_present p l n (sound_map p l n sound scanned) (current_name p l n page) some (inl refl)
 
--- a name has the bytes of one of its records, or has none
-pub data HasBytes (l : List Written) (name : Link) : Type 0 where
-  there : (w : Written) → Contains l w → name_of w.rec ≡ name → bytes_at l name ≡ Some w.bytes → HasBytes l name
-  nowhere : bytes_at l name ≡ None → is_present (records_of l) name ≡ false → HasBytes l name
+-- a name has the text of one of its records, or has none
+pub data HasText (l : List Written) (name : Link) : Type 0 where
+  there : (w : Written) → Contains l w → name_of w.rec ≡ name → text_at l name ≡ Some (text_of w) → HasText l name
+  nowhere : text_at l name ≡ None → is_present (records_of l) name ≡ false → HasText l name
 
-pub has_bytes : (l : List Written) (name : Link) → HasBytes l name
-has_bytes [] name = nowhere refl refl
-has_bytes (v ∷ vs) name = elim (cases_Bool (has_name name v.rec)) [
+pub has_text : (l : List Written) (name : Link) → HasText l name
+has_text [] name = nowhere refl refl
+has_text (v ∷ vs) name = elim (cases_Bool (has_name name v.rec)) [
   | inl named ↦ there v (Contains-first v vs) (has_name_true name v.rec named)
-      (ap (option_map (λ w. w.bytes)) (cond-true (has_name name v.rec) (Some v) (find (λ w. has_name name w.rec) vs) named))
+      (ap (option_map text_of) (cond-true (has_name name v.rec) (Some v) (find (λ w. has_name name w.rec) vs) named))
   | inr other ↦
-      (let skips : bytes_at (v ∷ vs) name ≡ bytes_at vs name =
-      ap (option_map (λ w. w.bytes)) (cond-false (has_name name v.rec) (Some v) (find (λ w. has_name name w.rec) vs) other) in
-      elim (has_bytes vs name) [
+      (let skips : text_at (v ∷ vs) name ≡ text_at vs name =
+      ap (option_map text_of) (cond-false (has_name name v.rec) (Some v) (find (λ w. has_name name w.rec) vs) other) in
+      elim (has_text vs name) [
         | there w is_in named is ↦ there w (Contains-rest v vs w is_in) named (skips ∙ is)
         | nowhere is absent ↦ nowhere (skips ∙ is) (or_from (has_name name v.rec) (is_present (records_of vs) name) other absent)
       ])
 ]
 
--- a record in the list, whatever its slot, has the bytes of its name
-pub bytes_of : (l : List Written) (w : Written) → IsOneText l → Contains l w → bytes_at l (name_of w.rec) ≡ Some w.bytes
-bytes_of l w text is_in = elim (has_bytes l (name_of w.rec)) [
+-- a record in the list, whatever its slot, has the text of its name
+pub text_named : (l : List Written) (w : Written) → IsOneText l → Contains l w → text_at l (name_of w.rec) ≡ Some (text_of w)
+text_named l w text is_in = elim (has_text l (name_of w.rec)) [
   | there v v_in named is ↦ is ∙ ap Some (text.same v w v_in is_in named)
   | nowhere is absent ↦ absurd (both_ways (is_present (records_of l) (name_of w.rec)) absent (present_as (records_of l) (found_of w) (name_of w.rec) (in_records l w is_in) refl))
 ]
 
--- a present name has some bytes
-pub bytes_present : (l : List Written) (name : Link) → is_present (records_of l) name ≡ true →
-    (w : Written) × Contains l w × (name_of w.rec ≡ name) × (bytes_at l name ≡ Some w.bytes)
-bytes_present l name h = elim (has_bytes l name) [
+-- a present name has some text
+pub text_present : (l : List Written) (name : Link) → is_present (records_of l) name ≡ true →
+    (w : Written) × Contains l w × (name_of w.rec ≡ name) × (text_at l name ≡ Some (text_of w))
+text_present l name h = elim (has_text l name) [
   | there w is_in named is ↦ (w, is_in, named, is)
   | nowhere is absent ↦ absurd (both_ways (is_present (records_of l) name) absent h)
 ]
 
-pub bytes_absent : (l : List Written) (name : Link) → is_present (records_of l) name ≡ false → bytes_at l name ≡ None
-bytes_absent l name h = elim (has_bytes l name) [
+pub text_absent : (l : List Written) (name : Link) → is_present (records_of l) name ≡ false → text_at l name ≡ None
+text_absent l name h = elim (has_text l name) [
   | there w is_in named is ↦ absurd (both_ways (is_present (records_of l) name) h (present_as (records_of l) (found_of w) name (in_records l w is_in) named))
   | nowhere is absent ↦ is
 ]
 
--- a name that was present has its bytes still, with more records
-pub bytes_grow : (l m : List Written) (name : Link) → IsOneText m → ((w : Written) → Contains l w → Contains m w) →
-    is_present (records_of l) name ≡ true → bytes_at m name ≡ bytes_at l name
-bytes_grow l m name text more h =
-    let v = bytes_present l name h in
-    subst (λ n. bytes_at m n ≡ Some v.0.bytes) v.2 (bytes_of m v.0 text (more v.0 v.1)) ∙ sym v.3
+-- a name that was present has its text still, with more records
+pub text_grows : (l m : List Written) (name : Link) → IsOneText m → ((w : Written) → Contains l w → Contains m w) →
+    is_present (records_of l) name ≡ true → text_at m name ≡ text_at l name
+text_grows l m name text more h =
+    let v = text_present l name h in
+    subst (λ n. text_at m n ≡ Some (text_of v.0)) v.2 (text_named m v.0 text (more v.0 v.1)) ∙ sym v.3
 
 -- an array is known by its pages
 pub same_array : (p : Protocol) (l m : List Written) (n : ℕ) → ((page : ℕ) → page < n → page_at p m n page ≡ page_at p l n page) →
@@ -96,8 +96,8 @@ zero_absent l page scanned = elim (cases_Bool (is_present l (record { page = pag
 -- a page without a current version is blank
 pub blank_page : (p : Protocol) (l : List Written) (n page : ℕ) → IsScanned (records_of l) → cur p (records_of l) n page ≡ 0 → page_at p l n page ≡ None
 blank_page p l n page scanned none =
-    bytes_absent l (current_name p (records_of l) n page)
-    (subst (λ v. is_present (records_of l) (record { page = page; version = v }) ≡ false) (sym none) (zero_absent (records_of l) page scanned))
+    ap (option_and_then value_of) (text_absent l (current_name p (records_of l) n page)
+    (subst (λ v. is_present (records_of l) (record { page = page; version = v }) ≡ false) (sym none) (zero_absent (records_of l) page scanned)))
 
 -- a page whose current version stays holds what it held: with more records
 pub page_grows : (p : Protocol) (l m : List Written) (n page : ℕ) → IsSoundList p (records_of l) n → IsScanned (records_of l) → IsScanned (records_of m) →
@@ -105,8 +105,9 @@ pub page_grows : (p : Protocol) (l m : List Written) (n page : ℕ) → IsSoundL
     cur p (records_of m) n page ≡ cur p (records_of l) n page → page_at p m n page ≡ page_at p l n page
 page_grows p l m n page sound scanned scanned' text more same = elim (cases_lt 0 (cur p (records_of l) n page)) [
   | inl some ↦
-      ap (λ v. bytes_at m (record { page = page; version = v })) same
-      ∙ bytes_grow l m (current_name p (records_of l) n page) text more (current_present p (records_of l) n page sound scanned some)
+      ap (λ v. value_at m (record { page = page; version = v })) same
+      ∙ ap (option_and_then value_of)
+      (text_grows l m (current_name p (records_of l) n page) text more (current_present p (records_of l) n page sound scanned some))
   | inr low ↦
       (let none : cur p (records_of l) n page ≡ 0 = omega arith in
       blank_page p m n page scanned' (same ∙ none) ∙ sym (blank_page p l n page scanned none))
@@ -119,8 +120,8 @@ pub page_left : (p : Protocol) (l m : List Written) (n page : ℕ) → IsSoundLi
     cur p (records_of m) n page ≡ cur p (records_of l) n page → page_at p m n page ≡ page_at p l n page
 page_left p l m n page sound scanned scanned' text fewer stays same = elim (cases_lt 0 (cur p (records_of l) n page)) [
   | inl some ↦
-      ap (λ v. bytes_at m (record { page = page; version = v })) same
-      ∙ sym (bytes_grow m l (current_name p (records_of l) n page) text fewer (stays some))
+      ap (λ v. value_at m (record { page = page; version = v })) same
+      ∙ sym (ap (option_and_then value_of) (text_grows m l (current_name p (records_of l) n page) text fewer (stays some)))
   | inr low ↦
       (let none : cur p (records_of l) n page ≡ 0 = omega arith in
       blank_page p m n page scanned' (same ∙ none) ∙ sym (blank_page p l n page scanned none))
@@ -128,10 +129,10 @@ page_left p l m n page sound scanned scanned' text fewer stays same = elim (case
 
 -- the array stays at a partial write and at a copy
 pub array_grows : (p : Protocol) (l m : List Written) (n : ℕ) (w : Written) → IsSoundList p (records_of l) n → IsScanned (records_of l) → IsScanned (records_of m) →
-    All (BytesAgree m) m → IsInserted l w m → SameCurrent p (records_of l) (records_of m) n → array_of p m n ≡ array_of p l n
-array_grows p l m n w sound scanned scanned' bytes added same =
+    IsOneText m → IsInserted l w m → SameCurrent p (records_of l) (records_of m) n → array_of p m n ≡ array_of p l n
+array_grows p l m n w sound scanned scanned' text added same =
     same_array p l m n (λ page within.
-    page_grows p l m n page sound scanned scanned' (one_text m scanned' bytes) (in_inserted l m w added) (same page within))
+    page_grows p l m n page sound scanned scanned' text (in_inserted l m w added) (same page within))
 
 -- and at the loss of a block
 pub array_left : (p : Protocol) (l : List Written) (n : ℕ) (shape : Shape) (block : ℕ) → IsSoundList p (records_of l) n → IsScanned (records_of l) →
@@ -140,7 +141,7 @@ pub array_left : (p : Protocol) (l : List Written) (n : ℕ) (shape : Shape) (bl
 array_left p l n shape block sound scanned scanned' bytes removable same =
     let m = left_outside shape block l in
     same_array p l m n (λ page within.
-    page_left p l m n page sound scanned scanned' (one_text l scanned bytes) (λ v c. (from_filter (λ w. is_outside shape block w.slot.0) v l c).0)
+    page_left p l m n page sound scanned scanned' (one_text p l n sound scanned bytes) (λ v c. (from_filter (λ w. is_outside shape block w.slot.0) v l c).0)
     (λ some.
     let name = current_name p (records_of l) n page in
     let f = found_named (records_of l) name (current_present p (records_of l) n page sound scanned some) in
@@ -148,30 +149,29 @@ array_left p l n shape block sound scanned scanned' bytes removable same =
     let version : f.0.rec.version ≡ cur p (records_of l) n page = ap (λ (y : Link). y.version) f.2 in
     let current : f.0.rec.version ≡ cur p (records_of l) n f.0.rec.page = version ∙ ap (cur p (records_of l) n) (sym at_page) in
     let kept : is_present (left (is_outside shape block) (records_of l)) (name_of f.0.rec) ≡ true =
-    All-contains (λ g. IsCurrent p (records_of l) n g.rec ⊎ (is_held p (records_of l) n (name_of g.rec) ≡ true) → is_present (left (is_outside shape block) (records_of l)) (name_of g.rec) ≡ true)
+    All-contains (λ g. IsCurrent p (records_of l) n g.rec ⊎ (is_held p (records_of l) n g.rec ≡ true) → is_present (left (is_outside shape block) (records_of l)) (name_of g.rec) ≡ true)
     (records_of l) f.0 removable f.1 (inl current) in
     subst (λ fs. is_present fs name ≡ true) (sym (records_left (is_outside shape block) l))
     (subst (λ u. is_present (left (is_outside shape block) (records_of l)) u ≡ true) f.2 kept))
     (same page within))
 
--- at a completing write the pages of the transaction hold the bytes of its records, and every other page what it held
+-- at a completing write the pages of the transaction hold what its records say, and every other page what it held
 pub page_committed : (p : Protocol) (m : List Written) (n : ℕ) (name : Link) → cur p (records_of m) n name.page ≡ name.version →
-    page_at p m n name.page ≡ bytes_at m name
-page_committed p m n name is = ap (λ v. bytes_at m (record { page = name.page; version = v })) is
+    page_at p m n name.page ≡ value_at m name
+page_committed p m n name is = ap (λ v. value_at m (record { page = name.page; version = v })) is
 
-pub bytes_new : (l m : List Written) (w : Written) → IsScanned (records_of m) → All (BytesAgree m) m → IsInserted l w m →
-    bytes_at m (name_of w.rec) ≡ Some w.bytes
-bytes_new l m w scanned' bytes added = bytes_of m w (one_text m scanned' bytes) (new_in l m w added)
+pub text_new : (l m : List Written) (w : Written) → IsOneText m → IsInserted l w m → text_at m (name_of w.rec) ≡ Some (text_of w)
+text_new l m w text added = text_named m w text (new_in l m w added)
 
-pub bytes_old : (l m : List Written) (w : Written) (name : Link) → IsScanned (records_of m) → All (BytesAgree m) m → IsInserted l w m →
-    is_present (records_of l) name ≡ true → bytes_at m name ≡ bytes_at l name
-bytes_old l m w name scanned' bytes added h = bytes_grow l m name (one_text m scanned' bytes) (in_inserted l m w added) h
+pub text_old : (l m : List Written) (w : Written) (name : Link) → IsOneText m → IsInserted l w m →
+    is_present (records_of l) name ≡ true → text_at m name ≡ text_at l name
+text_old l m w name text added h = text_grows l m name text (in_inserted l m w added) h
 
 pub page_elsewhere : (p : Protocol) (l m : List Written) (n page : ℕ) (w : Written) → IsSoundList p (records_of l) n → IsScanned (records_of l) →
-    IsScanned (records_of m) → All (BytesAgree m) m → IsInserted l w m → cur p (records_of m) n page ≡ cur p (records_of l) n page →
+    IsScanned (records_of m) → IsOneText m → IsInserted l w m → cur p (records_of m) n page ≡ cur p (records_of l) n page →
     page_at p m n page ≡ page_at p l n page
-page_elsewhere p l m n page w sound scanned scanned' bytes added same =
-    page_grows p l m n page sound scanned scanned' (one_text m scanned' bytes) (in_inserted l m w added) same
+page_elsewhere p l m n page w sound scanned scanned' text added same =
+    page_grows p l m n page sound scanned scanned' text (in_inserted l m w added) same
 
 -- the bytes of the longer list agree, where the new item has a fresh name
 bytes_written : (p : Protocol) (l m : List Written) (n : ℕ) (names : List Link) (w : Written) → All (BytesAgree l) l → IsInserted l w m →
@@ -181,26 +181,28 @@ bytes_written p l m n names w bytes added write = bytes_inserted l m w added byt
 -- the four changes, each by its law
 pub partial_write_leaves_array : (p : Protocol) → PartialWriteLaw p → PartialWriteLeavesArray p
 partial_write_leaves_array p law l m n names w sound bytes added write some =
-    array_grows p l m n w sound write.scanned write.scanned' (bytes_written p l m n names w bytes added write) added
-    (law (records_of l) (records_of m) n names (found_of w) sound write some).same_current
+    let keeps = law (records_of l) (records_of m) n names (found_of w) sound write some in
+    array_grows p l m n w sound write.scanned write.scanned'
+    (one_text p m n keeps.sound write.scanned' (bytes_written p l m n names w bytes added write)) added keeps.same_current
 
 pub completing_write_takes_transaction : (p : Protocol) → CompletingWriteLaw p → CompletingWriteTakesTransaction p
 completing_write_takes_transaction p law l m n names w sound bytes added write all =
     let keeps = law (records_of l) (records_of m) n names (found_of w) sound write all in
-    let bytes' = bytes_written p l m n names w bytes added write in
-    let committed : (a : Link) → Contains names a → page_at p m n a.page ≡ bytes_at m a = λ a i.
+    let text = one_text p m n keeps.sound write.scanned' (bytes_written p l m n names w bytes added write) in
+    let committed : (a : Link) → Contains names a → page_at p m n a.page ≡ value_at m a = λ a i.
     page_committed p m n a (All-contains (λ b. cur p (records_of m) n b.page ≡ b.version) names a keeps.committed i) in
     record {
-      last = committed (name_of w.rec) write.named ∙ bytes_new l m w write.scanned' bytes' added;
-      earlier = all_from (λ a. is_present (records_of l) a ≡ true → page_at p m n a.page ≡ bytes_at l a) names
-          (λ a i there. committed a i ∙ bytes_old l m w a write.scanned' bytes' added there);
-      elsewhere = λ page within other. page_elsewhere p l m n page w sound write.scanned write.scanned' bytes' added (keeps.elsewhere page within other);
+      last = committed (name_of w.rec) write.named ∙ ap (option_and_then value_of) (text_new l m w text added);
+      earlier = all_from (λ a. is_present (records_of l) a ≡ true → page_at p m n a.page ≡ value_at l a) names
+          (λ a i there. committed a i ∙ ap (option_and_then value_of) (text_old l m w a text added there));
+      elsewhere = λ page within other. page_elsewhere p l m n page w sound write.scanned write.scanned' text added (keeps.elsewhere page within other);
     }
 
 pub copy_leaves_array : (p : Protocol) → CopyLaw p → CopyLeavesArray p
 copy_leaves_array p law l m n w sound bytes added scanned scanned' source =
-    array_grows p l m n w sound scanned scanned' (bytes_copied l m w added scanned source bytes) added
-    (law (records_of l) (records_of m) n (found_of w) sound (copied l m w added scanned source scanned')).same_current
+    let keeps = law (records_of l) (records_of m) n (found_of w) sound (copied l m w added scanned source scanned') in
+    array_grows p l m n w sound scanned scanned'
+    (one_text p m n keeps.sound scanned' (bytes_copied l m w added scanned source bytes)) added keeps.same_current
 
 pub block_loss_leaves_array : (p : Protocol) → LossLaw p → BlockLossLeavesArray p
 block_loss_leaves_array p law l n shape block sound bytes scanned removable =

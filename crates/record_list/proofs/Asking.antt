@@ -12,7 +12,7 @@ use Rattle.tx_types.specs.declared.record.Rec.{Rec}
 use Rattle.tx_types.specs.declared.config.Protocol.{Protocol}
 use Rattle.record_list.specs.declared.found.Found.{Found}
 use Rattle.record_list.specs.Records.{mention, mentioned_at, name_of, is_present}
-use Rattle.record_list.specs.Transaction.{IsTransaction, rounded, back_version, IsAsked, InProgress}
+use Rattle.record_list.specs.Transaction.{IsTransaction, next_names, back_version, IsAsked, InProgress}
 use Rattle.record_list.proofs.Progress.{mention_parts}
 use Rattle.record_list.proofs.Names.{greatest_bound, found_named}
 
@@ -26,12 +26,12 @@ zip_within xs ys i h = let shorter = length-zip xs ys in (omega arith, omega ari
 
 -- a record is as a transaction asks where it has the k-th name, the link to the one that follows, and the back version
 pub asked_at : (p : Protocol) (l : List Found) (logical : ℕ) (names : List Link) (k : ℕ) (r : Rec) (d : Link) → IsTransaction logical names →
-    k < length names → name_of r ≡ get_or names k d → r.next ≡ get_or (rounded names) k d → r.back ≡ back_version p l logical r.page →
+    k < length names → name_of r ≡ get_or names k d → r.next ≡ get_or (next_names names) k d → r.back ≡ back_version p l logical r.page →
     IsAsked p l logical names r
 asked_at p l logical names k r d transaction within named next back i dd inside =
-    let both = zip_within names (rounded names) i inside in
+    let both = zip_within names (next_names names) i inside in
     subst (λ (pair : Link × Link). name_of r ≡ pair.0 → (r.next ≡ pair.1) × (r.back ≡ back_version p l logical pair.0.page))
-    (sym (get_or-zip names (rounded names) i dd both.0 both.1))
+    (sym (get_or-zip names (next_names names) i dd both.0 both.1))
     (λ same.
     let page : (get_or names i d).page ≡ (get_or names k d).page =
     ap (λ (n : Link). n.page) (get_or_default names i d dd.0 both.0 ∙ sym same ∙ named) in
@@ -42,12 +42,12 @@ asked_at p l logical names k r d transaction within named next back i dd inside 
         | inr after ↦ absurd (transaction.distinct k i d after both.0 (sym page))
       ]
     ] in (
-      next ∙ ap (λ n. get_or (rounded names) n d) (sym at) ∙ get_or_default (rounded names) i d dd.1 both.1,
+      next ∙ ap (λ n. get_or (next_names names) n d) (sym at) ∙ get_or_default (next_names names) i d dd.1 both.1,
       back ∙ ap (λ (n : Link). back_version p l logical n.page) same,
     ))
 
 -- the name that follows, by its place
-pub rounded_at : (names : List Link) (k : ℕ) (d : Link) → k < length names → get_or (rounded names) k d ≡ get_or names (following names k) d
+pub rounded_at : (names : List Link) (k : ℕ) (d : Link) → k < length names → get_or (next_names names) k d ≡ get_or names (following names k) d
 rounded_at [] k d within = absurd (omega arith)
 rounded_at (a ∷ rest) k d within = elim (cases_eq (k + 1) (length (a ∷ rest))) [
   | inl last ↦
@@ -81,9 +81,9 @@ begins p l logical names transaction some below =
       begun = record {
         transaction = transaction;
         asked = all_from (λ f. IsAsked p l logical names f.rec) l (λ f i k dd inside same.
-            let both = zip_within names (rounded names) k inside in
+            let both = zip_within names (next_names names) k inside in
             let a = get_or names k dd.0 in
-            let is : (get_or (zip names (rounded names)) k dd).0 ≡ a = ap (λ (pair : Link × Link). pair.0) (get_or-zip names (rounded names) k dd both.0 both.1) in
+            let is : (get_or (zip names (next_names names)) k dd).0 ≡ a = ap (λ (pair : Link × Link). pair.0) (get_or-zip names (next_names names) k dd both.0 both.1) in
             absurd (no_record f i a (k, both.0, get_or_default names k a dd.0 both.0) (same ∙ is)));
         others = all_from (λ f. (Contains names (name_of f.rec) → ⊥) → All (λ a. mentioned_at a.page f.rec < a.version) names) l
             (λ f i none. all_from (λ a. mentioned_at a.page f.rec < a.version) names (lower f i));

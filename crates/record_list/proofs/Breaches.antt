@@ -31,9 +31,9 @@ pub least_breach : (protocol : Protocol) (list : List Found) (logical : ℕ) (la
     number law ≡ b.law → b.slot ≡ (get_or list i nothing).slot →
     ((l : Law) → number l < number law → All (Keeps protocol list logical l) list) →
     IsLeastBreach protocol list logical b
-least_breach protocol list logical law i b scanned (inside, fails, before) is_its at earlier = record {
+least_breach protocol list logical law i b scanned (inside, fails, before) law_number at earlier = record {
   law = law;
-  is_its = is_its;
+  law_number = law_number;
   breaks = (i, get_or list i nothing, inside, get_or_default list i (get_or list i nothing) nothing inside, (sym (ap (λ s. s.0) at), fails nothing));
   earlier_laws = earlier;
   earlier_slots = λ k d within below.

@@ -99,10 +99,10 @@ copy_law p l m n f sound c =
     record {
       sound = sound_list p m n now;
       same_current = λ page low. sym (same_cur l m s one' p n page);
-      same_held = λ name. ⊎_elim
-          (λ e. e ∙ sym (reduced_held p l m n forth name e))
-          (λ e. e ∙ sym (false_from_ne_true (is_held p l n name) (λ t. both_ways (is_held p m n name) e (reduced_held p m l n back name t))))
-          (cases_Bool (is_held p m n name));
+      same_held = λ r. ⊎_elim
+          (λ e. e ∙ sym (reduced_held p l m n forth r e))
+          (λ e. e ∙ sym (false_from_ne_true (is_held p l n r) (λ t. both_ways (is_held p m n r) e (reduced_held p m l n back r t))))
+          (cases_Bool (is_held p m n r));
       responsible = reduced_answers p l m n forth;
       in_progress = reduced_progress p l m n forth;
     }

@@ -4,13 +4,16 @@ use Rattle.std.proofs.lemmas.Bool.{false≢true}
 use Rattle.tx_types.specs.declared.config.Protocol.TheVariants.{Bpcc}
 use Rattle.record_list.specs.Records.{is_present}
 use Rattle.record_list.specs.SoundList.{LooseIsShown, LooseEnds, follow}
-use Rattle.record_list.specs.Examples.{name, found, StraddledVerdict, StraddledIsHeld, CopiedHome, unanswered, UnansweredBreaks, misled, MisledBreaks, closed, ClosedBreaks, TwiceMentioned}
+use Rattle.record_list.specs.Examples.{name, found, StraddledVerdict, StraddledIsHeld, NamesakeIsHeld, CopiedHome, unanswered, UnansweredBreaks, misled, MisledBreaks, closed, ClosedBreaks, TwiceMentioned}
 
 pub straddled_verdict : StraddledVerdict
 straddled_verdict = (refl, refl, refl, refl, refl)
 
 pub straddled_is_held : StraddledIsHeld
 straddled_is_held = (refl, refl, refl, refl, refl, refl)
+
+pub namesake_is_held : NamesakeIsHeld
+namesake_is_held = (refl, refl, refl)
 
 pub copied_home : CopiedHome
 copied_home = (refl, refl, refl, refl)

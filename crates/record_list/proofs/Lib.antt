@@ -29,3 +29,4 @@ pub mod Examples
 pub mod SccCurrent
 pub mod Asking
 pub mod Wanted
+pub mod Follow

@@ -7,9 +7,9 @@ use Rattle.tx_types.specs.declared.record.Rec.{Rec}
 use Rattle.tx_types.specs.declared.config.Protocol.{Protocol}
 use Rattle.record_list.specs.declared.found.Found.{Found}
 use Rattle.record_list.specs.Records.{greatest, name_of, is_present}
-use Rattle.record_list.specs.Verdict.{link_of, back_of}
+use Rattle.record_list.specs.Verdict.{record_named, link_of, back_of}
 use Rattle.record_list.proofs.SoundNames.{IsSoundMap}
-use Rattle.record_list.proofs.Names.{same_record, greatest_bound, greatest_least, found_named, present_as, absent_link, absent_back}
+use Rattle.record_list.proofs.Names.{greatest_bound, greatest_least, found_named, present_as, links_from, backs_from, absent_record}
 
 -- a record of the list that is equal to this one
 pub record IsEqual (l : List Found) (r : Rec) : Type 0 where
@@ -33,9 +33,7 @@ pub record IsOneEach (l : List Found) : Type 0 where
 pub one_each : (p : Protocol) (l : List Found) (n : ℕ) → IsSoundMap p l n → IsOneEach l
 one_each p l n sound = record {
   same = λ f g i j e.
-      let a = sound.copies f i in
-      let b = sound.copies g j in
-      same_record f.rec g.rec e (a.0 ∙ (ap (link_of l) e ∙ sym b.0)) (a.1 ∙ (ap (back_of l) e ∙ sym b.1));
+      sound.copies f i ∙ ap (record_named l) e ∙ sym (sound.copies g j);
 }
 
 -- and in a list whose records are among its records
@@ -72,22 +70,14 @@ module _ (l m : List Found) (a : IsAmong l m) where
   pub among_absent : (name : Link) → is_present m name ≡ false → is_present l name ≡ false
   among_absent name h = false_from_ne_true (is_present l name) (λ t. both_ways (is_present m name) h (among_present name t))
 
-  -- the links and back versions of present names
-  pub among_link : IsOneEach m → (name : Link) → is_present l name ≡ true → link_of l name ≡ link_of m name
-  among_link o name h =
+  -- the records of present names
+  pub among_record : IsOneEach m → (name : Link) → is_present l name ≡ true → record_named l name ≡ record_named m name
+  among_record o name h =
       let f = found_named l name h in
       let x : IsEqual m f.0.rec = a.among f.0 f.1 in
       let g = found_named m name (among_present name h) in
       let e : x.at.rec ≡ g.0.rec = o.same x.at g.0 x.is_in g.1 (ap name_of x.is ∙ (f.2 ∙ sym g.2)) in
-      sym f.3 ∙ (ap (λ (r : Rec). r.next) (sym x.is ∙ e) ∙ g.3)
-
-  pub among_back : IsOneEach m → (name : Link) → is_present l name ≡ true → back_of l name ≡ back_of m name
-  among_back o name h =
-      let f = found_named l name h in
-      let x : IsEqual m f.0.rec = a.among f.0 f.1 in
-      let g = found_named m name (among_present name h) in
-      let e : x.at.rec ≡ g.0.rec = o.same x.at g.0 x.is_in g.1 (ap name_of x.is ∙ (f.2 ∙ sym g.2)) in
-      sym f.4 ∙ (ap (λ (r : Rec). r.back) (sym x.is ∙ e) ∙ g.4)
+      sym f.5 ∙ (sym x.is ∙ (e ∙ g.5))
 
 -- the same, of two lists with the same records
 pub record IsSame (l m : List Found) : Type 0 where
@@ -95,7 +85,7 @@ pub record IsSame (l m : List Found) : Type 0 where
   pub back : IsAmong m l
 
 module _ (l m : List Found) (s : IsSame l m) where
-  -- they have the same greatest numbers, present names, links and back versions
+  -- they have the same greatest numbers, present names, records, links and back versions
   pub same_greatest : (of : Rec → ℕ) → greatest of l ≡ greatest of m
   same_greatest of =
       let x : greatest of l ≤ greatest of m = among_greatest l m s.there of in
@@ -108,16 +98,15 @@ module _ (l m : List Found) (s : IsSame l m) where
       (λ e. e ∙ sym (among_absent m l s.back name e))
       (cases_Bool (is_present l name))
 
-  pub same_link : IsOneEach m → (name : Link) → link_of l name ≡ link_of m name
-  same_link o name =
+  same_named : IsOneEach m → (name : Link) → record_named l name ≡ record_named m name
+  same_named o name =
       ⊎_elim
-      (λ e. among_link l m s.there o name e)
-      (λ e. absent_link l name e ∙ sym (absent_link m name (among_absent m l s.back name e)))
+      (λ e. among_record l m s.there o name e)
+      (λ e. absent_record l name e ∙ sym (absent_record m name (among_absent m l s.back name e)))
       (cases_Bool (is_present l name))
 
+  pub same_link : IsOneEach m → (name : Link) → link_of l name ≡ link_of m name
+  same_link o name = links_from l m name name (same_named o name)
+
   pub same_back : IsOneEach m → (name : Link) → back_of l name ≡ back_of m name
-  same_back o name =
-      ⊎_elim
-      (λ e. among_back l m s.there o name e)
-      (λ e. absent_back l name e ∙ sym (absent_back m name (among_absent m l s.back name e)))
-      (cases_Bool (is_present l name))
+  same_back o name = backs_from l m name name (same_named o name)

@@ -20,8 +20,8 @@ use Rattle.record_list.proofs.Safe.{is_clear}
 use Rattle.record_list.proofs.SoundNames.{IsSoundMap, LooseNames, EndingNames}
 use Rattle.record_list.proofs.Held.{IsAnswer, answer_of, answers}
 use Rattle.record_list.proofs.LossAmong.{IsEqual, among_absent}
-use Rattle.record_list.proofs.LossSetting.{IsLoss, was_present, link_was, back_was, low, link_low, lost_linked, lost_copies, lost_clear, lost_responsible}
-use Rattle.record_list.proofs.LossCounted.{responsible_high}
+use Rattle.record_list.proofs.LossSetting.{IsLoss, was_present, link_was, back_was, low, link_low, lost_linked, lost_copies, lost_link, lost_clear, lost_responsible}
+use Rattle.record_list.proofs.LossCounted.{responsible_high, answered_below}
 use Rattle.record_list.proofs.Keeping.{asked_same}
 use Rattle.record_list.proofs.Names.{present_as, newest_present}
 
@@ -93,28 +93,25 @@ module _ (l m : List Found) (n : ℕ) (r : IsReduced Bpcc l m n) where
       let law = r.loss.sound.ending u (was_present Bpcc l m n r.loss u h) (subst (λ c. c < u.version) (r.same u.page (low Bpcc l m n r.loss u h)) at) in
       reduced_ends law.0 (link_of m u) (subst (λ x. is_present l (follow l x law.0) ≡ false) (link_was Bpcc l m n r.loss u h) law.1)
 
-  -- a name that is held was held
-  reduced_held_bpcc : (name : Link) → is_held Bpcc m n name ≡ true → is_held Bpcc l n name ≡ true
-  reduced_held_bpcc name held =
-      let f = any_of (λ g. answers_for Bpcc m n name g.rec) m held in
+  -- a record that is held was held
+  reduced_held_bpcc : (s : Rec) → is_held Bpcc m n s ≡ true → is_held Bpcc l n s ≡ true
+  reduced_held_bpcc s held =
+      let f = any_of (λ g. answers_for Bpcc m n s g.rec) m held in
       let y : Rec = f.0.rec in
-      let a : IsAnswer m n name y = answer_of m n name y f.2 in
+      let a : IsAnswer m n s y = answer_of m n s y f.2 in
       let x : IsEqual l y = r.loss.among.among f.0 f.1 in
       let u : Link = name_of y in
       let h : is_present m u ≡ true = present_as m f.0 u f.1 refl in
       let was : is_present l u ≡ true = was_present Bpcc l m n r.loss u h in
-      let links : link_of l u ≡ y.next = link_was Bpcc l m n r.loss u h ∙ sym (lost_copies Bpcc l m n r.loss f.0 f.1).0 in
-      let in_range : (link_of l u).page < n = link_low Bpcc l m n r.loss u h in
-      let same_page : (link_of l u).page ≡ name.page = ap (λ (k : Link). k.page) links ∙ a.page in
-      let e : cur Bpcc m n name.page ≡ cur Bpcc l n name.page = r.same name.page (subst (λ k. k < n) same_page in_range) in
+      let links : link_of l u ≡ y.next = lost_link Bpcc l m n r.loss f.0 f.1 in
+      let e : cur Bpcc m n (link_of l u).page ≡ cur Bpcc l n (link_of l u).page = r.same (link_of l u).page (link_low Bpcc l m n r.loss u h) in
       let loose : cur Bpcc l n u.page < u.version = subst (λ c. c < u.version) (r.same u.page (low Bpcc l m n r.loss u h)) a.loose in
-      let below : y.next.version < cur Bpcc l n name.page = subst (λ c. y.next.version < c) e a.below in
-      let below' : (link_of l u).version < cur Bpcc l n (link_of l u).page =
-      subst (λ k. (link_of l u).version < cur Bpcc l n k) (sym same_page) (subst (λ (k : Link). k.version < cur Bpcc l n name.page) (sym links) below) in
-      let is : responsible Bpcc l n y.next ≡ name.version =
-      sym (subst (λ k. responsible Bpcc m n k ≡ responsible Bpcc l n k) links (reduced_responsible u was loose below' ((r.loss.sound.loose u was loose).2 below'))) ∙ a.version in
-      any_from (λ g. answers_for Bpcc l n name g.rec) l x.at x.is_in
-      (subst (λ z. answers_for Bpcc l n name z ≡ true) (sym x.is) (answers l n name y (record { loose = loose; page = a.page; below = below; some = a.some; version = is })))
+      let below : (link_of l u).version < cur Bpcc l n (link_of l u).page =
+      subst (λ c. (link_of l u).version < c) e (subst (λ (k : Link). k.version < cur Bpcc m n k.page) (sym links) (answered_below m n s y a)) in
+      let is : responsible Bpcc l n y.next ≡ s.version =
+      sym (subst (λ k. responsible Bpcc m n k ≡ responsible Bpcc l n k) links (reduced_responsible u was loose below ((r.loss.sound.loose u was loose).2 below))) ∙ a.version in
+      any_from (λ g. answers_for Bpcc l n s g.rec) l x.at x.is_in
+      (subst (λ z. answers_for Bpcc l n s z ≡ true) (sym x.is) (answers l n s y (record { loose = loose; page = a.page; from = a.from; under = a.under; version = is })))
 
   -- each record that is loose has the responsible record that it had
   reduced_same_responsible : SameResponsible Bpcc l m n
@@ -123,7 +120,7 @@ module _ (l m : List Found) (n : ℕ) (r : IsReduced Bpcc l m n) where
       let h : is_present m u ≡ true = present_as m f u i refl in
       let was : is_present l u ≡ true = was_present Bpcc l m n r.loss u h in
       let q : Link = link_of l u in
-      let link : q ≡ f.rec.next = link_was Bpcc l m n r.loss u h ∙ sym (lost_copies Bpcc l m n r.loss f i).0 in
+      let link : q ≡ f.rec.next = lost_link Bpcc l m n r.loss f i in
       let loose : cur Bpcc l n u.page < u.version = subst (λ c. c < u.version) (r.same u.page (low Bpcc l m n r.loss u h)) at in
       let e : cur Bpcc m n q.page ≡ cur Bpcc l n q.page = r.same q.page (link_low Bpcc l m n r.loss u h) in
       subst (λ k. responsible Bpcc m n k ≡ responsible Bpcc l n k) link (elim (cases_lt q.version (cur Bpcc l n q.page)) [
@@ -152,9 +149,9 @@ reduced_sound p l m n r = record {
 }
 
 -- nothing more is held
-pub reduced_held : (p : Protocol) (l m : List Found) (n : ℕ) → IsReduced p l m n → (name : Link) → is_held p m n name ≡ true → is_held p l n name ≡ true
-reduced_held Scc l m n r name h = h
-reduced_held Bpcc l m n r name h = reduced_held_bpcc l m n r name h
+pub reduced_held : (p : Protocol) (l m : List Found) (n : ℕ) → IsReduced p l m n → (s : Rec) → is_held p m n s ≡ true → is_held p l n s ≡ true
+reduced_held Scc l m n r s h = h
+reduced_held Bpcc l m n r s h = reduced_held_bpcc l m n r s h
 
 -- each loose record keeps its responsible record
 pub reduced_answers : (p : Protocol) (l m : List Found) (n : ℕ) → IsReduced p l m n → SameResponsible p l m n

@@ -1,5 +1,5 @@
 -- The records of a list by their names: greatest numbers, and what a present name says.
-use Rattle.std.proofs.Common.{◌≡◌, ℕ, ◌<◌, ◌≤◌, Bool, true, false, ◌&&◌, ◌||◌, eqb, ltb, List, [], ◌∷◌, refl, sym, ap, ap₂, ◌∙◌, subst, inl, inr, arith, eqb-true, eq-eqb, lt-ltb, ltb-true, le_trans, Contains}
+use Rattle.std.proofs.Common.{◌≡◌, ℕ, ◌<◌, ◌≤◌, Bool, true, false, ◌&&◌, ◌||◌, eqb, ltb, List, [], ◌∷◌, refl, sym, ap, ap₂, ◌∙◌, subst, inl, inr, arith, cond, eqb-true, eq-eqb, lt-ltb, ltb-true, le_trans, Contains}
 use Rattle.std.proofs.Math.Nat.{le-max_left, le-max_right, max-le, max-eq_left, max-eq_right}
 use Rattle.std.proofs.lemmas.Bool.{false≢true, cases_Bool, cases_lt, cond-true, cond-false, and_parts, and_from, or_left, or_right, or_parts}
 use Rattle.list_facts.proofs.Membership.{Contains-cases, Contains-first, Contains-nil, Contains-rest}
@@ -8,7 +8,7 @@ use Rattle.tx_types.specs.declared.record.Link.{Link}
 use Rattle.tx_types.specs.declared.record.Rec.{Rec}
 use Rattle.record_list.specs.declared.found.Found.{Found}
 use Rattle.record_list.specs.Records.{greatest, version_of, version_below, newest, next_older, name_of, has_name, is_present}
-use Rattle.record_list.specs.Verdict.{newest_name, link_of, back_of}
+use Rattle.record_list.specs.Verdict.{newest_name, record_named, link_of, back_of}
 
 -- a name from its parts
 abbrev pub named : ℕ → ℕ → Link
@@ -28,13 +28,36 @@ has_name_true u r h =
 pub has_own_name : (u : Link) (r : Rec) → name_of r ≡ u → has_name u r ≡ true
 has_own_name u r e = and_from (eqb r.page u.page) (eqb r.version u.version) (eq-eqb _ _ (ap (λ n. n.page) e)) (eq-eqb _ _ (ap (λ n. n.version) e))
 
--- two records with equal parts are one
-pub same_record : (r s : Rec) → name_of r ≡ name_of s → r.next ≡ s.next → r.back ≡ s.back → r ≡ s
-same_record r s e f g =
-    ap₂ (λ (n : Link) (m : Link). the_record n m r.back) e f ∙ ap (λ b. the_record (name_of s) s.next b) g
-  where
-    the_record : Link → Link → ℕ → Rec
-    the_record n m b = record { page = n.page; version = n.version; next = m; back = b }
+-- a part of a choice is a choice of parts
+part_of : {X : Type 0} (of : Rec → X) (b : Bool) (r s : Rec) (x : X) → of s ≡ x → of (cond b r s) ≡ cond b (of r) x
+part_of of true r s x e = refl
+part_of of false r s x e = e
+
+-- the link of a name is that of its record
+pub named_link : (l : List Found) (u : Link) → (record_named l u).next ≡ link_of l u
+named_link [] u = refl
+named_link (f ∷ fs) u = part_of (λ r. r.next) (has_name u f.rec) f.rec (record_named fs u) (link_of fs u) (named_link fs u)
+
+-- and its back version
+pub named_back : (l : List Found) (u : Link) → (record_named l u).back ≡ back_of l u
+named_back [] u = refl
+named_back (f ∷ fs) u = part_of (λ r. r.back) (has_name u f.rec) f.rec (record_named fs u) (back_of fs u) (named_back fs u)
+
+-- two lists with one record of a name have one link of it
+pub links_from : (l m : List Found) (u v : Link) → record_named l u ≡ record_named m v → link_of l u ≡ link_of m v
+links_from l m u v e = sym (named_link l u) ∙ ap (λ r. r.next) e ∙ named_link m v
+
+-- and one back version
+pub backs_from : (l m : List Found) (u v : Link) → record_named l u ≡ record_named m v → back_of l u ≡ back_of m v
+backs_from l m u v e = sym (named_back l u) ∙ ap (λ r. r.back) e ∙ named_back m v
+
+-- a name is that of its record
+pub named_name : (l : List Found) (u : Link) → name_of (record_named l u) ≡ u
+named_name [] u = refl
+named_name (f ∷ fs) u = elim (cases_Bool (has_name u f.rec)) [
+  | inl e ↦ ap name_of (cond-true (has_name u f.rec) f.rec (record_named fs u) e) ∙ has_name_true u f.rec e
+  | inr e ↦ ap name_of (cond-false (has_name u f.rec) f.rec (record_named fs u) e) ∙ named_name fs u
+]
 
 -- a greatest number bounds that of each record
 pub greatest_bound : (of : Rec → ℕ) (l : List Found) (f : Found) → Contains l f → of f.rec ≤ greatest of l
@@ -59,18 +82,25 @@ greatest_attained of (g ∷ gs) h = elim (cases_lt (of g.rec) (greatest of gs)) 
 ]
 
 -- the record that a present name has
-pub found_named : (l : List Found) (u : Link) → is_present l u ≡ true →
-    (f : Found) × Contains l f × (name_of f.rec ≡ u) × (f.rec.next ≡ link_of l u) × (f.rec.back ≡ back_of l u)
-found_named [] u h = absurd (false≢true h)
-found_named (f ∷ fs) u h = elim (cases_Bool (has_name u f.rec)) [
-  | inl e ↦ (f, Contains-first f fs, has_name_true u f.rec e, sym (cond-true (has_name u f.rec) f.rec.next (link_of fs u) e), sym (cond-true (has_name u f.rec) f.rec.back (back_of fs u) e))
-  | inr e ↦ (let ih = found_named fs u (present_rest (has_name u f.rec) (is_present fs u) e h) in
-      (ih.0, Contains-rest f fs ih.0 ih.1, ih.2, ih.3 ∙ sym (cond-false (has_name u f.rec) f.rec.next (link_of fs u) e), ih.4 ∙ sym (cond-false (has_name u f.rec) f.rec.back (back_of fs u) e)))
+first_named : (l : List Found) (u : Link) → is_present l u ≡ true →
+    (f : Found) × Contains l f × (name_of f.rec ≡ u) × (f.rec ≡ record_named l u)
+first_named [] u h = absurd (false≢true h)
+first_named (f ∷ fs) u h = elim (cases_Bool (has_name u f.rec)) [
+  | inl e ↦ (f, Contains-first f fs, has_name_true u f.rec e, sym (cond-true (has_name u f.rec) f.rec (record_named fs u) e))
+  | inr e ↦ (let ih = first_named fs u (present_rest (has_name u f.rec) (is_present fs u) e h) in
+      (ih.0, Contains-rest f fs ih.0 ih.1, ih.2, ih.3 ∙ sym (cond-false (has_name u f.rec) f.rec (record_named fs u) e)))
 ]
   where
     present_rest : (a b : Bool) → a ≡ false → (a || b) ≡ true → b ≡ true
     present_rest true b e k = absurd (false≢true (sym e))
     present_rest false b e k = k
+
+-- it, its link and its back version
+pub found_named : (l : List Found) (u : Link) → is_present l u ≡ true →
+    (f : Found) × Contains l f × (name_of f.rec ≡ u) × (f.rec.next ≡ link_of l u) × (f.rec.back ≡ back_of l u) × (f.rec ≡ record_named l u)
+found_named l u h =
+    let f = first_named l u h in
+    (f.0, f.1, f.2, ap (λ r. r.next) f.3 ∙ named_link l u, ap (λ r. r.back) f.3 ∙ named_back l u, f.3)
 
 -- the name of a record in the list is present
 pub present_in : (l : List Found) (f : Found) → Contains l f → is_present l (name_of f.rec) ≡ true
@@ -84,19 +114,20 @@ present_in (g ∷ gs) f c = elim (Contains-cases g gs f c) [
 pub present_as : (l : List Found) (f : Found) (name : Link) → Contains l f → name_of f.rec ≡ name → is_present l name ≡ true
 present_as l f name i e = subst (λ u. is_present l u ≡ true) e (present_in l f i)
 
--- an absent name leads no further
-pub absent_link : (l : List Found) (u : Link) → is_present l u ≡ false → link_of l u ≡ u
-absent_link [] u h = refl
-absent_link (f ∷ fs) u h =
+-- an absent name has the record of an empty list
+pub absent_record : (l : List Found) (u : Link) → is_present l u ≡ false → record_named l u ≡ record_named [] u
+absent_record [] u h = refl
+absent_record (f ∷ fs) u h =
     let parts = or_parts (has_name u f.rec) (is_present fs u) h in
-    cond-false (has_name u f.rec) f.rec.next (link_of fs u) parts.0 ∙ absent_link fs u parts.1
+    cond-false (has_name u f.rec) f.rec (record_named fs u) parts.0 ∙ absent_record fs u parts.1
+
+-- so it leads no further
+pub absent_link : (l : List Found) (u : Link) → is_present l u ≡ false → link_of l u ≡ u
+absent_link l u h = links_from l [] u u (absent_record l u h)
 
 -- and has no back version
 pub absent_back : (l : List Found) (u : Link) → is_present l u ≡ false → back_of l u ≡ 0
-absent_back [] u h = refl
-absent_back (f ∷ fs) u h =
-    let parts = or_parts (has_name u f.rec) (is_present fs u) h in
-    cond-false (has_name u f.rec) f.rec.back (back_of fs u) parts.0 ∙ absent_back fs u parts.1
+absent_back l u h = backs_from l [] u u (absent_record l u h)
 
 -- the newest version of a page bounds the present ones
 pub newest_bound : (l : List Found) (u : Link) → is_present l u ≡ true → u.version ≤ newest l u.page

@@ -12,9 +12,9 @@ use Rattle.tx_types.specs.declared.config.Protocol.TheVariants.{Scc, Bpcc}
 use Rattle.record_list.specs.declared.found.Found.{Found}
 use Rattle.record_list.specs.declared.found.Why.TheVariants.{Passed, Straddled}
 use Rattle.record_list.specs.Records.{greatest, version_of, version_below, newest, next_older, name_of, has_name, is_present}
-use Rattle.record_list.specs.Verdict.{newest_name, link_of, back_of, straddles, straddling_version, straddling, is_committed}
+use Rattle.record_list.specs.Verdict.{newest_name, record_named, link_of, back_of, straddles, straddling_version, straddling, is_committed}
 use Rattle.record_list.specs.Changes.{IsInserted}
-use Rattle.record_list.proofs.Names.{has_name_true, has_own_name, newest_present, newest_bound, older_bound, older_name, named}
+use Rattle.record_list.proofs.Names.{has_name_true, has_own_name, newest_present, newest_bound, older_bound, older_name, named, named_link, named_back, links_from, backs_from}
 use Rattle.record_list.proofs.Safe.{top_link, is_clear, IsLinked}
 use Rattle.record_list.proofs.Rounds.{Follows, follows_of, follows_in}
 use Rattle.record_list.proofs.Progress.{IsUnderway, name_ahead, links_to_name}
@@ -25,36 +25,37 @@ pub record IsOneMore (l l' : List Found) (r : Rec) : Type 0 where
   pub kept : (u : Link) → is_present l u ≡ true → is_present l' u ≡ true
   pub cases : (u : Link) → is_present l' u ≡ true → (u ≡ name_of r) ⊎ (is_present l u ≡ true)
   pub own : is_present l' (name_of r) ≡ true
-  pub links : (u : Link) → (u ≡ name_of r → ⊥) → link_of l' u ≡ link_of l u
-  pub backs : (u : Link) → (u ≡ name_of r → ⊥) → back_of l' u ≡ back_of l u
-  pub link : link_of l' (name_of r) ≡ r.next
-  pub back : back_of l' (name_of r) ≡ r.back
+  pub others : (u : Link) → (u ≡ name_of r → ⊥) → record_named l' u ≡ record_named l u
+  pub its : record_named l' (name_of r) ≡ r
   pub greatest_is : (of : Rec → ℕ) → greatest of l' ≡ max (of r) (greatest of l)
 
+module _ {l l' : List Found} {r : Rec} (one : IsOneMore l l' r) where
+  -- other names keep their links and back versions
+  pub links_else : (u : Link) → (u ≡ name_of r → ⊥) → link_of l' u ≡ link_of l u
+  links_else u off = links_from l' l u u (one.others u off)
+
+  pub backs_else : (u : Link) → (u ≡ name_of r → ⊥) → back_of l' u ≡ back_of l u
+  backs_else u off = backs_from l' l u u (one.others u off)
+
+  -- the new name has the new record's
+  pub its_link : link_of l' (name_of r) ≡ r.next
+  its_link = sym (named_link l' (name_of r)) ∙ ap (λ x. x.next) one.its
+
+  pub its_back : back_of l' (name_of r) ≡ r.back
+  its_back = sym (named_back l' (name_of r)) ∙ ap (λ x. x.back) one.its
+
 module _ (f : Found) (after : List Found) where
-  -- the links of other names
-  links_more : (before : List Found) (u : Link) → has_name u f.rec ≡ false → link_of (before ++ f ∷ after) u ≡ link_of (before ++ after) u
-  links_more [] u h = cond-false (has_name u f.rec) f.rec.next (link_of after u) h
-  links_more (x ∷ xs) u h = ap (λ n. if has_name u x.rec then x.rec.next else n) (links_more xs u h)
+  -- the records of other names
+  others_more : (before : List Found) (u : Link) → has_name u f.rec ≡ false → record_named (before ++ f ∷ after) u ≡ record_named (before ++ after) u
+  others_more [] u h = cond-false (has_name u f.rec) f.rec (record_named after u) h
+  others_more (x ∷ xs) u h = ap (λ r. if has_name u x.rec then x.rec else r) (others_more xs u h)
 
-  -- the back versions of other names
-  backs_more : (before : List Found) (u : Link) → has_name u f.rec ≡ false → back_of (before ++ f ∷ after) u ≡ back_of (before ++ after) u
-  backs_more [] u h = cond-false (has_name u f.rec) f.rec.back (back_of after u) h
-  backs_more (x ∷ xs) u h = ap (λ n. if has_name u x.rec then x.rec.back else n) (backs_more xs u h)
-
-  -- the link of the new name
-  link_new : (before : List Found) → is_present (before ++ after) (name_of f.rec) ≡ false → link_of (before ++ f ∷ after) (name_of f.rec) ≡ f.rec.next
-  link_new [] h = cond-true (has_name (name_of f.rec) f.rec) f.rec.next (link_of after (name_of f.rec)) (has_own_name (name_of f.rec) f.rec refl)
-  link_new (x ∷ xs) h =
+  -- the record of the new name
+  its_more : (before : List Found) → is_present (before ++ after) (name_of f.rec) ≡ false → record_named (before ++ f ∷ after) (name_of f.rec) ≡ f.rec
+  its_more [] h = cond-true (has_name (name_of f.rec) f.rec) f.rec (record_named after (name_of f.rec)) (has_own_name (name_of f.rec) f.rec refl)
+  its_more (x ∷ xs) h =
       let parts = or_parts (has_name (name_of f.rec) x.rec) (is_present (xs ++ after) (name_of f.rec)) h in
-      cond-false (has_name (name_of f.rec) x.rec) x.rec.next (link_of (xs ++ f ∷ after) (name_of f.rec)) parts.0 ∙ link_new xs parts.1
-
-  -- the back version of the new name
-  back_new : (before : List Found) → is_present (before ++ after) (name_of f.rec) ≡ false → back_of (before ++ f ∷ after) (name_of f.rec) ≡ f.rec.back
-  back_new [] h = cond-true (has_name (name_of f.rec) f.rec) f.rec.back (back_of after (name_of f.rec)) (has_own_name (name_of f.rec) f.rec refl)
-  back_new (x ∷ xs) h =
-      let parts = or_parts (has_name (name_of f.rec) x.rec) (is_present (xs ++ after) (name_of f.rec)) h in
-      cond-false (has_name (name_of f.rec) x.rec) x.rec.back (back_of (xs ++ f ∷ after) (name_of f.rec)) parts.0 ∙ back_new xs parts.1
+      cond-false (has_name (name_of f.rec) x.rec) x.rec (record_named (xs ++ f ∷ after) (name_of f.rec)) parts.0 ∙ its_more xs parts.1
 
   -- greatest numbers
   greatest_more : (of : Rec → ℕ) (before : List Found) → greatest of (before ++ f ∷ after) ≡ max (of f.rec) (greatest of (before ++ after))
@@ -108,10 +109,8 @@ one_more l l' f ins fresh =
         | inr e ↦ inr e
       ];
       own = present (name_of f.rec) ∙ or_left (has_name (name_of f.rec) f.rec) (is_present l (name_of f.rec)) (has_own_name (name_of f.rec) f.rec refl);
-      links = λ u off. ap (λ x. link_of x u) ins.now ∙ links_more f a b u (other u off) ∙ ap (λ x. link_of x u) (sym ins.was);
-      backs = λ u off. ap (λ x. back_of x u) ins.now ∙ backs_more f a b u (other u off) ∙ ap (λ x. back_of x u) (sym ins.was);
-      link = ap (λ x. link_of x (name_of f.rec)) ins.now ∙ link_new f a b fresh';
-      back = ap (λ x. back_of x (name_of f.rec)) ins.now ∙ back_new f a b fresh';
+      others = λ u off. ap (λ x. record_named x u) ins.now ∙ others_more f a b u (other u off) ∙ ap (λ x. record_named x u) (sym ins.was);
+      its = ap (λ x. record_named x (name_of f.rec)) ins.now ∙ its_more f a b fresh';
       greatest_is = λ of. ap (greatest of) ins.now ∙ greatest_more f a of b ∙ ap (λ x. max (of f.rec) (greatest of x)) (sym ins.was);
     }
 
@@ -152,11 +151,11 @@ module _ (l l' : List Found) (logical : ℕ) (names : List Link) (r : Rec) (s : 
 
   -- and their newest link
   pub top_else : (page : ℕ) → (page ≡ r.page → ⊥) → top_link l' page ≡ top_link l page
-  top_else page off = ap (link_of l') (name_else page off) ∙ s.one.links (newest_name l page) (λ e. off (ap (λ n. n.page) e))
+  top_else page off = ap (link_of l') (name_else page off) ∙ links_else s.one (newest_name l page) (λ e. off (ap (λ n. n.page) e))
 
   -- and its back version
   pub back_else : (page : ℕ) → (page ≡ r.page → ⊥) → back_of l' (newest_name l' page) ≡ back_of l (newest_name l page)
-  back_else page off = ap (back_of l') (name_else page off) ∙ s.one.backs (newest_name l page) (λ e. off (ap (λ n. n.page) e))
+  back_else page off = ap (back_of l') (name_else page off) ∙ backs_else s.one (newest_name l page) (λ e. off (ap (λ n. n.page) e))
 
   -- the new record straddles no name of another page
   pub straddling_else : (q : Link) → (q.page ≡ r.page → ⊥) → straddling l' q ≡ straddling l q
@@ -197,14 +196,14 @@ module _ (l l' : List Found) (logical : ℕ) (names : List Link) (r : Rec) (s : 
     apart = s.underway.apart;
     range = s.underway.range;
     asked = λ a b i here. elim (s.one.cases a here) [
-      | inl e ↦ ap (link_of l') e ∙ s.one.link ∙ s.next b (subst (λ n. Follows names n b) e i)
-      | inr old ↦ s.one.links a (λ e. false≢true (sym s.one.fresh ∙ subst (λ n. is_present l n ≡ true) e old)) ∙ s.underway.asked a b i old
+      | inl e ↦ ap (link_of l') e ∙ its_link s.one ∙ s.next b (subst (λ n. Follows names n b) e i)
+      | inr old ↦ links_else s.one a (λ e. false≢true (sym s.one.fresh ∙ subst (λ n. is_present l n ≡ true) e old)) ∙ s.underway.asked a b i old
     ];
     lower = λ u here out a i. elim (s.one.cases u here) [
       | inl e ↦ absurd (out (subst (Contains names) (sym e) s.of_names))
       | inr old ↦ (
           let low = s.underway.lower u old out a i in
-          let e = s.one.links u (λ same. out (subst (Contains names) (sym same) s.of_names)) in
+          let e = links_else s.one u (λ same. out (subst (Contains names) (sym same) s.of_names)) in
           (low.0, subst (λ n. n.page ≡ a.page → n.version < a.version) (sym e) low.1))
     ];
   }
@@ -219,17 +218,20 @@ module _ (l l' : List Found) (logical : ℕ) (names : List Link) (r : Rec) (s : 
   pub next_in : Contains names r.next
   next_in = (follows_in names (name_of r) r.next next_after).1
 
-  -- an old name is not the new one, and has its link and back version
+  -- an old name is not the new one, and has its record
   pub not_new : (u : Link) → is_present l u ≡ true → u ≡ name_of r → ⊥
   not_new u old e = false≢true (sym s.one.fresh ∙ subst (λ n. is_present l n ≡ true) e old)
 
+  pub old_record : (u : Link) → is_present l u ≡ true → record_named l' u ≡ record_named l u
+  old_record u old = s.one.others u (not_new u old)
+
   -- its link
   pub old_link : (u : Link) → is_present l u ≡ true → link_of l' u ≡ link_of l u
-  old_link u old = s.one.links u (not_new u old)
+  old_link u old = links_else s.one u (not_new u old)
 
   -- its back version
   pub old_back : (u : Link) → is_present l u ≡ true → back_of l' u ≡ back_of l u
-  old_back u old = s.one.backs u (not_new u old)
+  old_back u old = backs_else s.one u (not_new u old)
 
   -- no old record links where the new one does
   before_next : (u : Link) → is_present l u ≡ true → link_of l u ≡ r.next → u ≡ name_of r
@@ -240,21 +242,21 @@ module _ (l l' : List Found) (logical : ℕ) (names : List Link) (r : Rec) (s : 
   step_linked linked = record {
     pages = λ u here. elim (s.one.cases u here) [
       | inl e ↦ subst (λ n. (n.page < logical) × ((link_of l' n).page < logical)) (sym e)
-          ((s.underway.range (name_of r) s.of_names).0, subst (λ n. n.page < logical) (sym s.one.link) (s.underway.range r.next next_in).0)
+          ((s.underway.range (name_of r) s.of_names).0, subst (λ n. n.page < logical) (sym (its_link s.one)) (s.underway.range r.next next_in).0)
       | inr old ↦ (let h = linked.pages u old in (h.0, subst (λ n. n.page < logical) (sym (old_link u old)) h.1))
     ];
     versions = λ u here. elim (s.one.cases u here) [
       | inl e ↦ subst (λ n. (1 ≤ n.version) × (1 ≤ (link_of l' n).version)) (sym e)
-          ((s.underway.range (name_of r) s.of_names).1, subst (λ n. 1 ≤ n.version) (sym s.one.link) (s.underway.range r.next next_in).1)
+          ((s.underway.range (name_of r) s.of_names).1, subst (λ n. 1 ≤ n.version) (sym (its_link s.one)) (s.underway.range r.next next_in).1)
       | inr old ↦ (let h = linked.versions u old in (h.0, subst (λ n. 1 ≤ n.version) (sym (old_link u old)) h.1))
     ];
     once = λ u v hu hv same. elim (s.one.cases u hu) [
       | inl e ↦ elim (s.one.cases v hv) [
         | inl f ↦ e ∙ sym f
-        | inr old ↦ e ∙ sym (before_next v old (sym (old_link v old) ∙ sym same ∙ ap (link_of l') e ∙ s.one.link))
+        | inr old ↦ e ∙ sym (before_next v old (sym (old_link v old) ∙ sym same ∙ ap (link_of l') e ∙ its_link s.one))
       ]
       | inr oldu ↦ elim (s.one.cases v hv) [
-        | inl f ↦ before_next u oldu (sym (old_link u oldu) ∙ same ∙ ap (link_of l') f ∙ s.one.link) ∙ sym f
+        | inl f ↦ before_next u oldu (sym (old_link u oldu) ∙ same ∙ ap (link_of l') f ∙ its_link s.one) ∙ sym f
         | inr oldv ↦ linked.once u v oldu oldv (sym (old_link u oldu) ∙ same ∙ old_link v oldv)
       ]
     ];

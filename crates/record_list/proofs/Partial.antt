@@ -7,7 +7,7 @@ use Rattle.tx_types.specs.declared.config.Protocol.{Protocol}
 use Rattle.tx_types.specs.declared.config.Protocol.TheVariants.{Scc, Bpcc}
 use Rattle.record_list.specs.declared.found.Found.{Found}
 use Rattle.record_list.specs.Records.{newest, name_of, is_present}
-use Rattle.record_list.specs.Verdict.{newest_name, link_of, back_of, straddles, straddling_version}
+use Rattle.record_list.specs.Verdict.{newest_name, record_named, link_of, straddles, straddling_version}
 use Rattle.record_list.specs.Current.{cur}
 use Rattle.record_list.specs.SoundList.{current_name}
 use Rattle.record_list.specs.Transaction.{back_version}
@@ -18,7 +18,7 @@ use Rattle.record_list.proofs.SoundNames.{IsSoundMap, LooseNames, EndingNames, c
 use Rattle.record_list.proofs.Facts.{cur_present}
 use Rattle.record_list.proofs.Rounds.{cases_in}
 use Rattle.record_list.proofs.Progress.{name_loose}
-use Rattle.record_list.proofs.OneMore.{inserted_in, IsStep, step_linked, clear_else, old_link, old_back}
+use Rattle.record_list.proofs.OneMore.{inserted_in, IsStep, step_linked, clear_else, old_record, old_link}
 use Rattle.record_list.proofs.Untouched.{OldLinks, untouched_cur, bare_cur, named_cur}
 use Rattle.record_list.proofs.Keeping.{absent_before}
 
@@ -39,14 +39,10 @@ clear_stays Bpcc l l' logical names r s back q clear le = elim (cases_eq q.page 
 
 -- each record of the longer list agrees with its name
 pub step_copies : (l l' : List Found) (logical : ℕ) (names : List Link) (f : Found) → IsInserted l f l' → IsStep l l' logical names f.rec →
-    ((g : Found) → Contains l g → (g.rec.next ≡ link_of l (name_of g.rec)) × (g.rec.back ≡ back_of l (name_of g.rec))) →
-    (g : Found) → Contains l' g → (g.rec.next ≡ link_of l' (name_of g.rec)) × (g.rec.back ≡ back_of l' (name_of g.rec))
+    ((g : Found) → Contains l g → g.rec ≡ record_named l (name_of g.rec)) → (g : Found) → Contains l' g → g.rec ≡ record_named l' (name_of g.rec)
 step_copies l l' logical names f ins s copies g i = elim (inserted_in l l' f ins g i) [
-  | inl e ↦ subst (λ x. (x.rec.next ≡ link_of l' (name_of x.rec)) × (x.rec.back ≡ back_of l' (name_of x.rec))) e (sym s.one.link, sym s.one.back)
-  | inr j ↦ (
-      let old = copies g j in
-      let here = present_in l g j in
-      (old.0 ∙ sym (old_link l l' logical names f.rec s (name_of g.rec) here), old.1 ∙ sym (old_back l l' logical names f.rec s (name_of g.rec) here)))
+  | inl e ↦ subst (λ x. x.rec ≡ record_named l' (name_of x.rec)) e (sym s.one.its)
+  | inr j ↦ copies g j ∙ sym (old_record l l' logical names f.rec s (name_of g.rec) (present_in l g j))
 ]
 
 module _ (p : Protocol) (l l' : List Found) (logical : ℕ) (names : List Link) (f : Found) (s : IsStep l l' logical names f.rec) (m : IsSoundMap p l logical)

@@ -4,12 +4,12 @@ use Rattle.std.proofs.lemmas.Bool.{cases_eq}
 use Rattle.list_facts.proofs.Membership.{Contains-cases, Contains-first, Contains-here, Contains-nil, Contains-one, Contains-rest}
 use Rattle.list_facts.proofs.Pairs.{pairs_head, pairs_tail}
 use Rattle.tx_types.specs.declared.record.Link.{Link}
-use Rattle.record_list.specs.Transaction.{rounded}
+use Rattle.record_list.specs.Transaction.{next_names}
 use Rattle.record_list.proofs.Names.{same_name}
 
 -- a name of the cycle and the name after it
 abbrev pub Follows : List Link → Link → Link → Type 0
-Follows names a b = Contains (zip names (rounded names)) (a, b)
+Follows names a b = Contains (zip names (next_names names)) (a, b)
 
 -- each name with the next, the last with `end`
 abbrev chain : Link → List Link → Link → List (Link × Link)

@@ -27,7 +27,7 @@ scc_completing_write l l' logical names f sound w every =
       committed = all_from (λ n. cur Scc l' logical n.page ≡ n.version) names (completed Scc l l' logical names f s m old all);
       elsewhere = λ page below out. elsewhere Scc l l' logical names f s m old all page (λ a i. All-contains (λ n. n.page ≢ page) names a out i);
       rises = all_from (λ n. cur Scc l logical n.page < n.version) names (was_lower Scc l l' logical names f s m old all);
-      held = λ name is. absurd (false≢true is);
+      held = λ r is. absurd (false≢true is);
       responsible = tt;
       others = λ others share h. others_on Scc l l' logical names f w others share
           (λ b j. elsewhere Scc l l' logical names f s m old all b.page (λ a i e. page_apart Scc l l' logical names f w others share a b i j e)) h;

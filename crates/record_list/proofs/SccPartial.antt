@@ -102,7 +102,7 @@ scc_partial_write l l' logical names f sound w any =
       sound = sound_list Scc l' logical (partial_map Scc l l' logical names f s m old own gone.0 gone.1 gone.2 w.added
           (back_of_step Scc l l' logical names f w f.rec.next (next_after l l' logical names f.rec s)) tt tt);
       same_current = λ page below. same page;
-      same_held = λ name. refl;
+      same_held = λ r. refl;
       responsible = tt;
       in_progress = record { begun = begun_on Scc l l' logical names f w (λ a i. same a.page); absent = any };
       others = λ others share h. others_on Scc l l' logical names f w others share (λ b i. same b.page) h;

@@ -9,10 +9,10 @@ use Rattle.tx_types.specs.declared.config.Protocol.TheVariants.{Scc, Bpcc}
 use Rattle.record_list.specs.declared.found.Found.{Found}
 use Rattle.record_list.specs.declared.found.Why.TheVariants.{Passed, Straddled}
 use Rattle.record_list.specs.Records.{newest, name_of, is_present, IsScanned}
-use Rattle.record_list.specs.Verdict.{newest_name, link_of, back_of, straddling, is_committed}
+use Rattle.record_list.specs.Verdict.{newest_name, record_named, link_of, back_of, straddling, is_committed}
 use Rattle.record_list.specs.Current.{cur, responsible}
 use Rattle.record_list.specs.SoundList.{Pages, Copies, Links, Present, Counted, Loose, Ending, OwnPageExists, PagesExist, CopiesAgree, LinksDiffer, CurrentIsPresent, LinkHasCounted, LooseIsShown, LooseEnds, current_name, follow, IsSoundList}
-use Rattle.record_list.proofs.Names.{same_record, found_named, present_in, newest_present}
+use Rattle.record_list.proofs.Names.{found_named, present_in, newest_present, named_link, named_back}
 use Rattle.record_list.proofs.Safe.{is_clear, IsLinked}
 
 -- law 6 by names
@@ -35,13 +35,21 @@ own_pages l logical all = All-weaker (PagesExist logical) (OwnPageExists logical
 
 -- laws 1 to 7 by names
 pub record IsSoundMap (p : Protocol) (l : List Found) (logical : ℕ) : Type 0 where
-  pub copies : (f : Found) → Contains l f → (f.rec.next ≡ link_of l (name_of f.rec)) × (f.rec.back ≡ back_of l (name_of f.rec))
+  pub copies : (f : Found) → Contains l f → f.rec ≡ record_named l (name_of f.rec)
   pub linked : IsLinked l logical
   pub present : (page : ℕ) → 0 < newest l page → (cur p l logical page ≡ 0) ⊎ (is_present l (current_name p l logical page) ≡ true)
   pub counted : (u : Link) → is_present l u ≡ true → u.version ≡ cur p l logical u.page →
       ((link_of l u).version ≤ cur p l logical (link_of l u).page) × (is_clear p l (link_of l u) ≡ true)
   pub loose : LooseNames p l logical
   pub ending : EndingNames p l logical
+
+-- each record has the link of its name
+pub map_link : {p : Protocol} {l : List Found} {logical : ℕ} → IsSoundMap p l logical → (f : Found) → Contains l f → f.rec.next ≡ link_of l (name_of f.rec)
+map_link {l = l} m f i = ap (λ r. r.next) (m.copies f i) ∙ named_link l (name_of f.rec)
+
+-- and its back version
+pub map_back : {p : Protocol} {l : List Found} {logical : ℕ} → IsSoundMap p l logical → (f : Found) → Contains l f → f.rec.back ≡ back_of l (name_of f.rec)
+map_back {l = l} m f i = ap (λ r. r.back) (m.copies f i) ∙ named_back l (name_of f.rec)
 
 -- under Back Pointer Cyclic Commit a name is clear exactly where no record straddles it
 pub clear_from : (l : List Found) (q : Link) → straddling l q ≡ 0 → is_clear Bpcc l q ≡ true
@@ -61,7 +69,7 @@ clear_gives l q h = eqb-true (straddling l q) 0 (choice (eqb (straddling l q) 0)
 
 module _ (p : Protocol) (l : List Found) (logical : ℕ) (sound : IsSoundList p l logical) (scanned : IsScanned l) where
   -- law 2 by names: each record agrees with its name
-  copies_of : (f : Found) → Contains l f → (f.rec.next ≡ link_of l (name_of f.rec)) × (f.rec.back ≡ back_of l (name_of f.rec))
+  copies_of : (f : Found) → Contains l f → f.rec ≡ record_named l (name_of f.rec)
   copies_of f i =
       let g = found_named l (name_of f.rec) (present_in l f i) in
       let same : f.rec ≡ g.0.rec = elim (in_order (λ x y. x.slot.0 < y.slot.0) l f g.0 scanned.ascending i g.1) [
@@ -69,7 +77,7 @@ module _ (p : Protocol) (l : List Found) (logical : ℕ) (sound : IsSoundList p 
         | inr (inl less) ↦ All-contains (λ h. h.slot.0 < g.0.slot.0 → name_of h.rec ≡ name_of g.0.rec → h.rec ≡ g.0.rec) l f (All-contains (CopiesAgree l) l g.0 (sound Copies) g.1) i less (sym g.2)
         | inr (inr more) ↦ sym (All-contains (λ h. h.slot.0 < f.slot.0 → name_of h.rec ≡ name_of f.rec → h.rec ≡ f.rec) l g.0 (All-contains (CopiesAgree l) l f (sound Copies) i) g.1 more g.2)
       ] in
-      (ap (λ r. r.next) same ∙ g.3, ap (λ r. r.back) same ∙ g.4)
+      same ∙ g.5
 
   -- its pages exist, no version is 0, and two names have two links
   linked_of : IsLinked l logical
@@ -178,19 +186,19 @@ sound_map p l logical sound scanned = record {
 pub sound_list : (p : Protocol) (l : List Found) (logical : ℕ) → IsSoundMap p l logical → IsSoundList p l logical
 sound_list p l logical m Pages = all_from (PagesExist logical) l (λ f i.
     let law = m.linked.pages (name_of f.rec) (present_in l f i) in
-    (law.0, subst (λ q. q.page < logical) (sym (m.copies f i).0) law.1))
+    (law.0, subst (λ q. q.page < logical) (sym (map_link m f i)) law.1))
 sound_list p l logical m Copies = all_from (CopiesAgree l) l (λ f i.
     all_from (λ g. g.slot.0 < f.slot.0 → name_of g.rec ≡ name_of f.rec → g.rec ≡ f.rec) l (λ g j less e.
-    same_record g.rec f.rec e ((m.copies g j).0 ∙ ap (link_of l) e ∙ sym (m.copies f i).0) ((m.copies g j).1 ∙ ap (back_of l) e ∙ sym (m.copies f i).1)))
+    m.copies g j ∙ ap (record_named l) e ∙ sym (m.copies f i)))
 sound_list p l logical m Links = all_from (LinksDiffer l) l (λ f i.
     all_from (λ g. g.slot.0 < f.slot.0 → g.rec.next ≡ f.rec.next → name_of g.rec ≡ name_of f.rec) l (λ g j less e.
-    m.linked.once (name_of g.rec) (name_of f.rec) (present_in l g j) (present_in l f i) (sym (m.copies g j).0 ∙ e ∙ (m.copies f i).0)))
+    m.linked.once (name_of g.rec) (name_of f.rec) (present_in l g j) (present_in l f i) (sym (map_link m g j) ∙ e ∙ (map_link m f i))))
 sound_list p l logical m Present = all_from (CurrentIsPresent p l logical) l (λ f i at.
     let positive = (m.linked.versions (name_of f.rec) (present_in l f i)).0 in
     m.present f.rec.page (omega arith))
 sound_list p l logical m Counted = all_from (LinkHasCounted p l logical) l (λ f i.
-    counted_back p l logical f (m.copies f i).0 (m.counted (name_of f.rec) (present_in l f i)))
+    counted_back p l logical f (map_link m f i) (m.counted (name_of f.rec) (present_in l f i)))
 sound_list p l logical m Loose = all_from (LooseIsShown p l logical) l (λ f i.
-    loose_back p l logical m.loose f i (m.copies f i).0 (m.copies f i).1)
+    loose_back p l logical m.loose f i (map_link m f i) (map_back m f i))
 sound_list p l logical m Ending = all_from (LooseEnds p l logical) l (λ f i.
-    ending_back p l logical m.ending f i (m.copies f i).0)
+    ending_back p l logical m.ending f i (map_link m f i))

@@ -26,9 +26,9 @@ among_name names r h =
 
 module _ (p : Protocol) (l : List Found) (logical : ℕ) (pinned : List Link) (r : Rec) where
   -- a wanted record is current, held or pinned
-  pub wanted_cases : is_wanted p l logical pinned r ≡ true → IsCurrent p l logical r ⊎ ((is_held p l logical (name_of r) ≡ true) ⊎ Contains pinned (name_of r))
-  wanted_cases h = elim (or_cases (eqb r.version (cur p l logical r.page) || is_held p l logical (name_of r)) (list_any (λ name. has_name name r) pinned) h) [
-    | inl counted ↦ elim (or_cases (eqb r.version (cur p l logical r.page)) (is_held p l logical (name_of r)) counted) [
+  pub wanted_cases : is_wanted p l logical pinned r ≡ true → IsCurrent p l logical r ⊎ ((is_held p l logical r ≡ true) ⊎ Contains pinned (name_of r))
+  wanted_cases h = elim (or_cases (eqb r.version (cur p l logical r.page) || is_held p l logical r) (list_any (λ name. has_name name r) pinned) h) [
+    | inl counted ↦ elim (or_cases (eqb r.version (cur p l logical r.page)) (is_held p l logical r) counted) [
       | inl e ↦ inl (eqb-true r.version (cur p l logical r.page) e)
       | inr held ↦ inr (inl held)
     ]
@@ -36,17 +36,17 @@ module _ (p : Protocol) (l : List Found) (logical : ℕ) (pinned : List Link) (r
   ]
 
   -- a current or held record is wanted
-  pub counted_wanted : IsCurrent p l logical r ⊎ (is_held p l logical (name_of r) ≡ true) → is_wanted p l logical pinned r ≡ true
+  pub counted_wanted : IsCurrent p l logical r ⊎ (is_held p l logical r ≡ true) → is_wanted p l logical pinned r ≡ true
   counted_wanted c =
-      or_left (eqb r.version (cur p l logical r.page) || is_held p l logical (name_of r)) (list_any (λ name. has_name name r) pinned) (elim c [
-        | inl e ↦ or_left (eqb r.version (cur p l logical r.page)) (is_held p l logical (name_of r)) (eq-eqb r.version (cur p l logical r.page) e)
-        | inr held ↦ or_right (eqb r.version (cur p l logical r.page)) (is_held p l logical (name_of r)) held
+      or_left (eqb r.version (cur p l logical r.page) || is_held p l logical r) (list_any (λ name. has_name name r) pinned) (elim c [
+        | inl e ↦ or_left (eqb r.version (cur p l logical r.page)) (is_held p l logical r) (eq-eqb r.version (cur p l logical r.page) e)
+        | inr held ↦ or_right (eqb r.version (cur p l logical r.page)) (is_held p l logical r) held
       ])
 
   -- and so is a pinned one
   pub pinned_wanted : Contains pinned (name_of r) → is_wanted p l logical pinned r ≡ true
   pinned_wanted c =
-      or_right (eqb r.version (cur p l logical r.page) || is_held p l logical (name_of r)) (list_any (λ name. has_name name r) pinned) (name_among pinned r c)
+      or_right (eqb r.version (cur p l logical r.page) || is_held p l logical r) (list_any (λ name. has_name name r) pinned) (name_among pinned r c)
 
 -- a dispensable block is removable, whatever is pinned
 pub dispensable_removable : (p : Protocol) (l : List Found) (logical : ℕ) (pinned : List Link) (shape : Shape) (block : ℕ) →
@@ -54,7 +54,7 @@ pub dispensable_removable : (p : Protocol) (l : List Found) (logical : ℕ) (pin
 dispensable_removable p l logical pinned shape block =
     All-weaker
     (λ f. is_wanted p l logical pinned f.rec ≡ true → is_present (left (is_outside shape block) l) (name_of f.rec) ≡ true)
-    (λ f. IsCurrent p l logical f.rec ⊎ (is_held p l logical (name_of f.rec) ≡ true) → is_present (left (is_outside shape block) l) (name_of f.rec) ≡ true)
+    (λ f. IsCurrent p l logical f.rec ⊎ (is_held p l logical f.rec ≡ true) → is_present (left (is_outside shape block) l) (name_of f.rec) ≡ true)
     (λ f kept c. kept (counted_wanted p l logical pinned f.rec c)) l
 
 -- without such a block the pinned names that were present are present still

@@ -4,11 +4,16 @@ use Rattle.std.proofs.lemmas.List.{map-append, get_or-map, length-map}
 use Rattle.std.proofs.lemmas.List.Elements.{All-contains}
 use Rattle.list_facts.proofs.Membership.{all_from, in_filter, from_filter, map_in}
 use Rattle.list_facts.proofs.Pairs.{of_any_two}
+use Rattle.tx_types.specs.declared.record.Rec.{Rec}
+use Rattle.tx_types.specs.declared.config.Protocol.{Protocol}
 use Rattle.record_list.specs.declared.found.Found.{Found}
 use Rattle.record_list.specs.Records.{name_of, IsScanned}
+use Rattle.record_list.specs.Verdict.{record_named}
+use Rattle.record_list.specs.SoundList.{IsSoundList}
 use Rattle.record_list.specs.Changes.{IsInserted, left}
-use Rattle.record_list.specs.Written.{Written, found_of, records_of, BytesAgree}
+use Rattle.record_list.specs.Written.{Written, found_of, records_of, text_of, BytesAgree}
 use Rattle.record_list.proofs.OneMore.{inserted_in}
+use Rattle.record_list.proofs.SoundNames.{sound_map}
 
 -- an item's record is among the records
 pub in_records : (l : List Written) (w : Written) → Contains l w → Contains (records_of l) (found_of w)
@@ -31,16 +36,33 @@ ascending_written l s i j d lt lj =
     subst₂ (λ (f g : Found). f.slot.0 < g.slot.0) (get_or-map found_of l i d (found_of d) (omega arith)) (get_or-map found_of l j d (found_of d) lj)
     (s.ascending i j (found_of d) lt high)
 
--- items of one name have the same bytes, whatever their slots
-pub record IsOneText (l : List Written) : Type 0 where
-  pub same : (v w : Written) → Contains l v → Contains l w → name_of v.rec ≡ name_of w.rec → v.bytes ≡ w.bytes
+-- items of one name have the same bytes, whatever their slots, in a list that keeps the law on bytes
+pub same_bytes : (l : List Written) → IsScanned (records_of l) → All (BytesAgree l) l →
+    (v w : Written) → Contains l v → Contains l w → name_of v.rec ≡ name_of w.rec → v.bytes ≡ w.bytes
+same_bytes l s b =
+    of_any_two (λ w. w.slot.0) l (ascending_written l s) (λ v w. name_of v.rec ≡ name_of w.rec → v.bytes ≡ w.bytes)
+    (λ v w h e. sym (h (sym e))) (λ v e. refl)
+    (λ v w cv cw lt e. sym (All-contains (λ u. u.slot.0 < v.slot.0 → name_of u.rec ≡ name_of v.rec → u.bytes ≡ v.bytes) l w (All-contains (BytesAgree l) l v b cv) cw lt (sym e)))
 
--- in a list that keeps the law on bytes
-pub one_text : (l : List Written) → IsScanned (records_of l) → All (BytesAgree l) l → IsOneText l
-one_text l s b = record {
-  same = of_any_two (λ w. w.slot.0) l (ascending_written l s) (λ v w. name_of v.rec ≡ name_of w.rec → v.bytes ≡ w.bytes)
-      (λ v w h e. sym (h (sym e))) (λ v e. refl)
-      (λ v w cv cw lt e. sym (All-contains (λ u. u.slot.0 < v.slot.0 → name_of u.rec ≡ name_of v.rec → u.bytes ≡ v.bytes) l w (All-contains (BytesAgree l) l v b cv) cw lt (sym e)));
+-- items of one name have one text, whatever their slots
+pub record IsOneText (l : List Written) : Type 0 where
+  pub same : (v w : Written) → Contains l v → Contains l w → name_of v.rec ≡ name_of w.rec → text_of v ≡ text_of w
+
+-- records that are equal and have the same bytes have one text
+pub same_text : (v w : Written) → v.rec ≡ w.rec → v.bytes ≡ w.bytes → text_of v ≡ text_of w
+same_text v w rec bytes =
+    ap (λ (r : Rec). record { discard = r.discard; bytes = v.bytes }) rec
+    ∙ ap (λ (b : List ℕ). record { discard = w.rec.discard; bytes = b }) bytes
+
+-- in a list that keeps law 2 on records and on bytes
+pub one_text : (p : Protocol) (l : List Written) (logical : ℕ) → IsSoundList p (records_of l) logical → IsScanned (records_of l) →
+    All (BytesAgree l) l → IsOneText l
+one_text p l logical sound scanned bytes = record {
+  same = λ v w cv cw e.
+      let copies = (sound_map p (records_of l) logical sound scanned).copies in
+      same_text v w
+      (copies (found_of v) (in_records l v cv) ∙ ap (record_named (records_of l)) e ∙ sym (copies (found_of w) (in_records l w cw)))
+      (same_bytes l scanned bytes v w cv cw e);
 }
 
 -- with one item more the bytes agree, if they agree with it

@@ -1,13 +1,13 @@
 -- What the four changes of a list of records with bytes make of the array that it stands for. The list keeps
 -- laws 1 to 7, bytes included.
-use Rattle.std.specs.Prelude.{◌≡◌, ◌≢◌, ℕ, ◌<◌, true, false, Some, List, All, Any}
+use Rattle.std.specs.Prelude.{◌≡◌, ◌≢◌, ℕ, ◌<◌, true, false, List, All, Any}
 use Rattle.tx_types.specs.declared.record.Link.{Link}
 use Rattle.tx_types.specs.declared.config.Protocol.{Protocol}
 use Rattle.tx_types.specs.declared.config.Shape.{Shape}
 use Rattle.record_list.specs.Records.{is_present, IsScanned}
 use Rattle.record_list.specs.SoundList.{IsSoundList}
 use Rattle.record_list.specs.Changes.{IsInserted, IsWrite}
-use Rattle.record_list.specs.Written.{Written, found_of, records_of, bytes_at, page_at, array_of, BytesAgree, IsRemovable}
+use Rattle.record_list.specs.Written.{Written, found_of, records_of, text_of, value_of, value_at, page_at, array_of, BytesAgree, IsRemovable}
 use Rattle.record_list.specs.WrittenChanges.{left_outside}
 
 -- a partial write leaves the array
@@ -24,13 +24,13 @@ PartialWriteLeavesArray protocol =
 -- the array takes all pages of a transaction at once
 pub record TakesTransaction (protocol : Protocol) (list list' : List Written) (logical : ℕ)
     (names : List Link) (w : Written) : Type 0 where
-  -- the page of the last record holds its bytes
-  pub last : page_at protocol list' logical w.rec.page ≡ Some w.bytes
-  -- each other page of the transaction holds the bytes of its record, which was present before
+  -- the page of the last record holds what its text says
+  pub last : page_at protocol list' logical w.rec.page ≡ value_of (text_of w)
+  -- each other page of the transaction holds what its record says, which was present before
   pub earlier :
       All
       (λ name. is_present (records_of list) name ≡ true →
-      page_at protocol list' logical name.page ≡ bytes_at list name)
+      page_at protocol list' logical name.page ≡ value_at list name)
       names
   -- every other page holds what it held
   pub elsewhere :

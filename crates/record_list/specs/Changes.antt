@@ -43,7 +43,7 @@ SameCurrent protocol list list' logical =
 -- the held records stay
 abbrev pub SameHeld : Protocol → List Found → List Found → ℕ → Type 0
 SameHeld protocol list list' logical =
-    (name : Link) → is_held protocol list' logical name ≡ is_held protocol list logical name
+    (r : Rec) → is_held protocol list' logical r ≡ is_held protocol list logical r
 
 -- under Back Pointer Cyclic Commit each record that is loose afterwards has the responsible record that it
 -- had, or none as before
@@ -113,8 +113,8 @@ pub record CompletingWriteKeeps (protocol : Protocol) (list list' : List Found) 
       (page : ℕ) → page < logical → All (λ name. name.page ≢ page) names →
       cur protocol list' logical page ≡ cur protocol list logical page
   pub held :
-      (name : Link) → is_held protocol list' logical name ≡ true →
-      (is_held protocol list logical name ≡ true) ⊎ Contains names name
+      (r : Rec) → is_held protocol list' logical r ≡ true →
+      (is_held protocol list logical r ≡ true) ⊎ Contains names (name_of r)
   pub responsible : NewResponsible protocol list list' logical names
   pub others : OthersStay protocol list list' logical names
 
@@ -158,7 +158,7 @@ abbrev pub KeepsCounted : Protocol → List Found → ℕ → (ℕ → Bool) →
 KeepsCounted protocol list logical keep =
     All
     (λ f. IsCurrent protocol list logical f.rec
-    ⊎ (is_held protocol list logical (name_of f.rec) ≡ true) →
+    ⊎ (is_held protocol list logical f.rec ≡ true) →
     is_present (left keep list) (name_of f.rec) ≡ true)
     list
 
@@ -166,8 +166,8 @@ KeepsCounted protocol list logical keep =
 pub record LossKeeps (protocol : Protocol) (list list' : List Found) (logical : ℕ) : Type 0 where
   pub sound : IsSoundList protocol list' logical
   pub same_current : SameCurrent protocol list list' logical
-  pub held : (name : Link) → is_held protocol list' logical name ≡ true →
-      is_held protocol list logical name ≡ true
+  pub held : (r : Rec) → is_held protocol list' logical r ≡ true →
+      is_held protocol list logical r ≡ true
   pub responsible : SameResponsible protocol list list' logical
   pub in_progress : (names : List Link) → InProgress protocol list logical names →
       InProgress protocol list' logical names

@@ -49,16 +49,16 @@ abbrev pub responsible : Protocol → List Found → ℕ → Link → ℕ
 responsible protocol list logical name =
     greatest (straddling_upto (cur protocol list logical name.page) name) list
 
--- whether the record of this name is responsible for the record r; version 0 is no record's
-abbrev pub answers_for : Protocol → List Found → ℕ → Link → Rec → Bool
-answers_for protocol list logical name r =
+-- whether the record s is responsible for the record r: r is loose, s straddles its link, and s has the
+-- greatest version that does so up to the current one of its page
+abbrev pub answers_for : Protocol → List Found → ℕ → Rec → Rec → Bool
+answers_for protocol list logical s r =
     is_loose protocol list logical r
-    && (r.next.page == name.page)
-    && nat_lt r.next.version (cur protocol list logical name.page)
-    && nat_lt 0 name.version
-    && (responsible protocol list logical r.next == name.version)
+    && (s.page == r.next.page)
+    && straddles s r.next.version
+    && (s.version == responsible protocol list logical r.next)
 
--- whether the record of this name is responsible for some loose record; under Simple Cyclic Commit none is
-abbrev pub is_held : Protocol → List Found → ℕ → Link → Bool
-is_held Scc list logical name = false
-is_held Bpcc list logical name = list_any (λ f. answers_for Bpcc list logical name f.rec) list
+-- whether the record is responsible for some loose record; under Simple Cyclic Commit none is
+abbrev pub is_held : Protocol → List Found → ℕ → Rec → Bool
+is_held Scc list logical r = false
+is_held Bpcc list logical r = list_any (λ f. answers_for Bpcc list logical r f.rec) list

@@ -17,7 +17,7 @@ name page version = record { page = page; version = version }
 abbrev pub found : ℕ → ℕ → ℕ → ℕ → ℕ → ℕ → Found
 found slot page version to at back = record {
   slot = record { 0 = slot };
-  rec = record { page = page; version = version; next = name to at; back = back };
+  rec = record { page = page; version = version; next = name to at; back = back; count = 0; discard = false };
 }
 
 abbrev pub shape : Shape
@@ -38,8 +38,8 @@ StraddledVerdict =
 abbrev pub StraddledIsHeld : Type 0
 StraddledIsHeld =
     (responsible Bpcc straddled 3 (name 1 1) ≡ 2)
-    × (is_held Bpcc straddled 3 (name 1 2) ≡ true)
-    × (is_held Bpcc straddled 3 (name 1 3) ≡ false)
+    × (is_held Bpcc straddled 3 (found 1 1 2 1 2 0).rec ≡ true)
+    × (is_held Bpcc straddled 3 (found 2 1 3 1 3 2).rec ≡ false)
     × (is_needed Bpcc straddled 3 shape (Some 7) [] 1 ≡ true)
     × (is_needed Bpcc straddled 3 shape (Some 7) [] 0 ≡ false)
     × (is_needed Bpcc straddled 3 shape (Some 7) (name 0 1 ∷ []) 0 ≡ true)
@@ -59,12 +59,23 @@ CopiedHome =
 abbrev pub unanswered : List Found
 unanswered = found 0 0 1 1 2 0 ∷ found 1 0 2 2 9 0 ∷ found 2 1 5 1 5 4 ∷ []
 
--- it breaks law 6, and no name is held for it
+-- it breaks law 6, and no record is held for it
 abbrev pub UnansweredBreaks : Type 0
 UnansweredBreaks =
     (LooseIsShown Bpcc unanswered 3 (found 0 0 1 1 2 0) → ⊥)
-    × (is_held Bpcc unanswered 3 (name 1 0) ≡ false)
-    × (is_held Bpcc unanswered 3 (name 1 5) ≡ false)
+    × (is_held Bpcc unanswered 3 (found 1 0 2 2 9 0).rec ≡ false)
+    × (is_held Bpcc unanswered 3 (found 2 1 5 1 5 4).rec ≡ false)
+
+-- two unequal records of one name, of which one straddles the link of a loose record
+abbrev pub namesakes : List Found
+namesakes = found 0 0 1 1 1 0 ∷ found 1 1 2 1 2 1 ∷ found 2 1 2 1 3 0 ∷ []
+
+-- that one alone is held
+abbrev pub NamesakeIsHeld : Type 0
+NamesakeIsHeld =
+    (responsible Bpcc namesakes 3 (name 1 1) ≡ 2)
+    × (is_held Bpcc namesakes 3 (found 1 1 2 1 2 1).rec ≡ false)
+    × (is_held Bpcc namesakes 3 (found 2 1 2 1 3 0).rec ≡ true)
 
 -- a loose record whose back version is not the current one
 abbrev pub misled : List Found

@@ -1,5 +1,5 @@
 -- What a list of records says of pages: newest versions, mentions, and which names are present.
-use Rattle.std.specs.Prelude.{ℕ, ◌<◌, ◌≤◌, ◌==◌, max, Bool, ◌&&◌, ◌||◌, nat_lt, if◌then◌else◌, List, [], ◌∷◌, slice_index_or, All, AllPairs}
+use Rattle.std.specs.Prelude.{ℕ, ◌<◌, ◌≤◌, ◌==◌, max, Bool, false, ◌&&◌, ◌||◌, nat_lt, if◌then◌else◌, List, [], ◌∷◌, slice_index_or, All, AllPairs}
 use Rattle.std.specs.List.{list_any}
 use Rattle.tx_types.specs.declared.record.Link.{Link}
 use Rattle.tx_types.specs.declared.record.Rec.{Rec}
@@ -62,7 +62,14 @@ is_present list name = list_any (λ f. has_name name f.rec) list
 abbrev pub nothing : Found
 nothing = record {
   slot = record { 0 = 0 };
-  rec = record { page = 0; version = 0; next = record { page = 0; version = 0 }; back = 0 };
+  rec = record {
+    page = 0;
+    version = 0;
+    next = record { page = 0; version = 0 };
+    back = 0;
+    count = 0;
+    discard = false;
+  };
 }
 
 -- the record at this index

@@ -102,7 +102,7 @@ IsSoundList protocol list logical = (law : Law) → All (Keeps protocol list log
 pub record IsLeastBreach (protocol : Protocol) (list : List Found) (logical : ℕ)
     (b : Breach) : Type 0 where
   pub law : Law
-  pub is_its : number law ≡ b.law
+  pub law_number : number law ≡ b.law
   pub breaks : Any (λ f. (f.slot.0 ≡ b.slot.0) × (Keeps protocol list logical law f → ⊥)) list
   pub earlier_laws : (l : Law) → number l < number law → All (Keeps protocol list logical l) list
   pub earlier_slots : All (λ f. f.slot.0 < b.slot.0 → Keeps protocol list logical law f) list

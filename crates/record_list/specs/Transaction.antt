@@ -15,10 +15,10 @@ pub record IsTransaction (logical : ℕ) (names : List Link) : Type 0 where
   pub distinct : AllPairs (λ a b. a.page ≢ b.page) names
   pub in_range : All (λ a. (a.page < logical) × (1 ≤ a.version) × (a.version ≤ max_version)) names
 
--- the names from the second on, and then the first: `zip names (rounded names)` has each name with the one that follows it
-abbrev pub rounded : List Link → List Link
-rounded [] = []
-rounded (name ∷ names) = names ++ name ∷ []
+-- the names from the second on, and then the first: `zip names (next_names names)` has each name with the one that follows it
+abbrev pub next_names : List Link → List Link
+next_names [] = []
+next_names (name ∷ names) = names ++ name ∷ []
 
 -- the back version of a record of this page that is written now
 abbrev pub back_version : Protocol → List Found → ℕ → ℕ → ℕ
@@ -31,7 +31,7 @@ IsAsked protocol list logical names r =
     All
     (λ (name, next). name_of r ≡ name →
     (r.next ≡ next) × (r.back ≡ back_version protocol list logical name.page))
-    (zip names (rounded names))
+    (zip names (next_names names))
 
 -- the records of the transaction are as it asks, and every other record mentions its pages below its versions
 pub record IsBegun (protocol : Protocol) (list : List Found) (logical : ℕ)

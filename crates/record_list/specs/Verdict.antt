@@ -15,6 +15,18 @@ use Rattle.record_list.specs.Records.{greatest, newest, has_name, is_same}
 abbrev pub newest_name : List Found → ℕ → Link
 newest_name list page = record { page = page; version = newest list page }
 
+-- the first record with this name, and where no record has it one that links to itself and has nothing else
+abbrev pub record_named : List Found → Link → Rec
+record_named [] name = record {
+  page = name.page;
+  version = name.version;
+  next = name;
+  back = 0;
+  count = 0;
+  discard = false;
+}
+record_named (f ∷ fs) name = if has_name name f.rec then f.rec else record_named fs name
+
 -- the link of the first record with this name, and the name itself where no record has it
 abbrev pub link_of : List Found → Link → Link
 link_of [] name = name

@@ -1,7 +1,7 @@
--- A list of records with the bytes of their slots: the array that it stands for, laws 1 to 8, homes and
+-- A list of records with the bytes of their slots: the texts that it has, the array that it stands for, laws 1 to 8, homes and
 -- garbage. Law 1 is here its part on pages: a slot whose spare area does not read has no record, so that part
 -- of the law comes with the image, above this crate.
-use Rattle.std.specs.Prelude.{◌≡◌, ℕ, ◌/◌, ◌<◌, ◌==◌, ◌⊎◌, Bool, true, false, not, ◌&&◌, ◌||◌, Option, Some, None, List, All, Any, map, find}
+use Rattle.std.specs.Prelude.{◌≡◌, ℕ, ◌/◌, ◌<◌, ◌==◌, ◌⊎◌, Bool, true, false, not, ◌&&◌, ◌||◌, Option, Some, None, option_and_then, List, All, Any, map, find}
 use Rattle.std.specs.List.{list_any, range_with_len}
 use Rattle.std.specs.Option.{option_map, option_or}
 use Rattle.tx_types.specs.declared.record.Link.{Link}
@@ -31,14 +31,30 @@ found_of w = record { slot = w.slot; rec = w.rec }
 abbrev pub records_of : List Written → List Found
 records_of list = map found_of list
 
--- the bytes of the first record with this name
-abbrev pub bytes_at : List Written → Link → Option (List ℕ)
-bytes_at list name = option_map (λ w. w.bytes) (find (λ w. has_name name w.rec) list)
+-- what a record says of its page: whether the page is discarded, and the bytes of the slot
+pub record PageText : Type 0 where
+  pub discard : Bool
+  pub bytes : List ℕ
 
--- what a page holds: the bytes of its current record, nothing where it has none
+abbrev pub text_of : Written → PageText
+text_of w = record { discard = w.rec.discard; bytes = w.bytes }
+
+-- the text of the first record with this name
+abbrev pub text_at : List Written → Link → Option PageText
+text_at list name = option_map text_of (find (λ w. has_name name w.rec) list)
+
+-- what a page holds by a text: its bytes
+abbrev pub value_of : PageText → Option (List ℕ)
+value_of text = Some text.bytes
+
+-- what a page holds by the first record with this name, nothing where there is none
+abbrev pub value_at : List Written → Link → Option (List ℕ)
+value_at list name = option_and_then value_of (text_at list name)
+
+-- what a page holds by its current record, nothing where it has none
 abbrev pub page_at : Protocol → List Written → ℕ → ℕ → Option (List ℕ)
 page_at protocol list logical page =
-    bytes_at list (current_name protocol (records_of list) logical page)
+    value_at list (current_name protocol (records_of list) logical page)
 
 -- the array of pages that the list stands for
 abbrev pub array_of : Protocol → List Written → ℕ → List (Option (List ℕ))
@@ -62,7 +78,7 @@ IsRemovable protocol list logical shape block =
 abbrev pub is_wanted : Protocol → List Found → ℕ → List Link → Rec → Bool
 is_wanted protocol list logical pinned r =
     (r.version == cur protocol list logical r.page)
-    || is_held protocol list logical (name_of r)
+    || is_held protocol list logical r
     || list_any (λ name. has_name name r) pinned
 
 -- each current, each held and each pinned record of the list has a slot outside the block
@@ -105,10 +121,10 @@ KeepsWritten protocol list logical Ending w =
     Keeps protocol (records_of list) logical Ending (found_of w)
 
 -- the first of laws 1 to 7 that is broken, and the slot that it names
-pub record IsFirstBroken (protocol : Protocol) (list : List Written) (logical : ℕ)
+pub record IsFirstBrokenLaw (protocol : Protocol) (list : List Written) (logical : ℕ)
     (b : Breach) : Type 0 where
   pub law : Law
-  pub is_its : number law ≡ b.law
+  pub law_number : number law ≡ b.law
   pub breaks : Any
       (λ w. (w.slot.0 ≡ b.slot.0) × (KeepsWritten protocol list logical law w → ⊥)) list
   pub earlier_laws : (l : Law) → number l < number law →
@@ -126,7 +142,7 @@ pub record IsUnremovable (protocol : Protocol) (list : List Written) (logical : 
 -- the first of laws 1 to 8 that is broken by records and bytes, and the slot that it names
 abbrev pub IsLeastWrittenBreach : Protocol → List Written → ℕ → Shape → Breach → Type 0
 IsLeastWrittenBreach protocol list logical shape b =
-    IsFirstBroken protocol list logical b ⊎ IsUnremovable protocol list logical shape b
+    IsFirstBrokenLaw protocol list logical b ⊎ IsUnremovable protocol list logical shape b
 
 -- a slot lies outside the spare, if there is one
 abbrev pub is_outside_spare : Shape → Option ℕ → ℕ → Bool

@@ -8,7 +8,7 @@ ghost use Rattle.record_list.specs.Verdict.{newest_name, link_of, walk, why};
 ghost use Rattle.record_list.specs.SoundList.{CurrentIsPresent, IsSoundList};
 ghost use Rattle.record_list.specs.Changes.{PartialWriteLaw, CompletingWriteLaw, CopyLaw, LossLaw};
 ghost use Rattle.record_list.specs.ArrayChanges.{PartialWriteLeavesArray, CompletingWriteTakesTransaction, CopyLeavesArray, BlockLossLeavesArray};
-ghost use Rattle.record_list.specs.Examples.{StraddledVerdict, StraddledIsHeld, CopiedHome, UnansweredBreaks, MisledBreaks, ClosedBreaks, TwiceMentioned};
+ghost use Rattle.record_list.specs.Examples.{StraddledVerdict, StraddledIsHeld, NamesakeIsHeld, CopiedHome, UnansweredBreaks, MisledBreaks, ClosedBreaks, TwiceMentioned};
 
 /// On a sound list as many links as there are pages decide a verdict: a walk that may look at more of
 /// them ends alike.
@@ -41,6 +41,7 @@ pub fn array_changes()
 pub fn worked_examples()
     ensures straddled_verdict { StraddledVerdict }
     ensures straddled_is_held { StraddledIsHeld }
+    ensures namesake_is_held { NamesakeIsHeld }
     ensures copied_home { CopiedHome }
     ensures unanswered { UnansweredBreaks }
     ensures misled { MisledBreaks }

@@ -16,7 +16,7 @@ use tx_types::Protocol;
 pub struct Scc;
 
 impl CommitRule for Scc {
-    ghost kept = { SccRule };
+    ghost protocol = { SccRule };
 
     fn protocol() -> Protocol {
         Protocol::Scc

@@ -9,14 +9,14 @@ use Rattle.record_list.specs.Verdict.{straddling_version, straddling}
 use Rattle.record_list.specs.Current.{cur, straddling_upto, responsible}
 use Rattle.record_list.proofs.Names.{greatest_least, present_in}
 use Rattle.record_list.proofs.Safe.{is_clear}
-use Rattle.record_list.proofs.SoundNames.{IsSoundMap, clear_from}
+use Rattle.record_list.proofs.SoundNames.{IsSoundMap, map_back, clear_from}
 use Rattle.straddle_sets.proofs.Straddle.{Straddles, straddling_cases, straddling_none, upto_is, upto_below, greatest_more}
 use Rattle.straddle_sets.proofs.BpccLinks.{clear_low}
 
 module _ (l : List Found) (logical : ℕ) (m : IsSoundMap Bpcc l logical) where
   -- a loose record begins to straddle at the current version of its page
   pub loose_back_is : (f : Found) → Contains l f → cur Bpcc l logical f.rec.page < f.rec.version → f.rec.back ≡ cur Bpcc l logical f.rec.page
-  loose_back_is f i at = (m.copies f i).1 ∙ (m.loose (name_of f.rec) (present_in l f i) at).0
+  loose_back_is f i at = map_back m f i ∙ (m.loose (name_of f.rec) (present_in l f i) at).0
 
   -- so a record that straddles a name at most the current version there is itself at most that
   pub straddles_low : (f : Found) (q : Link) → Contains l f → Straddles f.rec q → q.version ≤ cur Bpcc l logical q.page → f.rec.version ≤ cur Bpcc l logical q.page

@@ -9,12 +9,12 @@ use Rattle.record_list.specs.declared.found.Found.{Found}
 use Rattle.record_list.specs.Records.{newest, greatest, name_of, is_present}
 use Rattle.record_list.specs.Verdict.{back_of}
 use Rattle.record_list.specs.Current.{cur, straddling_upto, responsible}
-use Rattle.record_list.specs.Transaction.{rounded, back_version, IsAsked, IsBegun}
+use Rattle.record_list.specs.Transaction.{next_names, back_version, IsAsked, IsBegun}
 use Rattle.record_list.proofs.Names.{greatest_bound, greatest_least, found_named, newest_bound, present_in}
-use Rattle.record_list.proofs.SoundNames.{IsSoundMap}
+use Rattle.record_list.proofs.SoundNames.{IsSoundMap, map_back}
 use Rattle.record_list.proofs.Rounds.{cases_page, follows_of}
 use Rattle.record_list.proofs.Progress.{name_newest}
-use Rattle.record_list.proofs.OneMore.{IsStep, step_underway, old_back}
+use Rattle.record_list.proofs.OneMore.{its_back, IsStep, step_underway, old_back}
 use Rattle.record_list.proofs.Untouched.{OldLinks}
 use Rattle.record_list.proofs.Completing.{completed, elsewhere, was_lower}
 use Rattle.straddle_sets.proofs.Straddle.{upto_is, upto_none, upto_cases, upto_le, upto_more, greatest_more}
@@ -26,7 +26,7 @@ name_back p l logical names begun a i here =
     let f = found_named l a here in
     let after = follows_of names a i in
     let asks = All-contains (λ g. IsAsked p l logical names g.rec) l f.0 begun.asked f.1 in
-    let pair = All-contains (λ (x : Link × Link). name_of f.0.rec ≡ x.0 → (f.0.rec.next ≡ x.1) × (f.0.rec.back ≡ back_version p l logical x.0.page)) (zip names (rounded names)) (a, after.0) asks after.1 in
+    let pair = All-contains (λ (x : Link × Link). name_of f.0.rec ≡ x.0 → (f.0.rec.next ≡ x.1) × (f.0.rec.back ≡ back_version p l logical x.0.page)) (zip names (next_names names)) (a, after.0) asks after.1 in
     sym f.4 ∙ (pair f.2).1
 
 module _ (l l' : List Found) (logical : ℕ) (names : List Link) (f : Found) (s : IsStep l l' logical names f.rec) (m : IsSoundMap Bpcc l logical)
@@ -72,7 +72,7 @@ module _ (l l' : List Found) (logical : ℕ) (names : List Link) (f : Found) (s 
       let g = found_named l' a (all a i) in
       let version : g.0.rec.version ≡ a.version = ap (λ n. n.version) g.2 in
       let back_is : back_of l' a ≡ cur Bpcc l logical a.page = elim (s.one.cases a (all a i)) [
-        | inl new ↦ ap (back_of l') new ∙ s.one.back ∙ back ∙ ap (λ n. cur Bpcc l logical n.page) (sym new)
+        | inl new ↦ ap (back_of l') new ∙ its_back s.one ∙ back ∙ ap (λ n. cur Bpcc l logical n.page) (sym new)
         | inr before ↦ old_back l l' logical names f.rec s a before ∙ backs a i before
       ] in
       let low : g.0.rec.back ≡ cur Bpcc l logical q.page = g.4 ∙ back_is ∙ ap (cur Bpcc l logical) e in
@@ -100,7 +100,7 @@ module _ (l l' : List Found) (logical : ℕ) (names : List Link) (f : Found) (s 
               let page = ap (cur Bpcc l logical) h.0.0 in
               let low = h.0.1 in
               let law = (m.loose (name_of g.rec) (present_in l g j) (omega arith)).0 in
-              let copy = (m.copies g j).1 in
+              let copy = map_back m g j in
               absurd (omega arith))
           | inr le ↦ (let at = h.2 in let same = upto_is c q g.rec h.0 le in omega arith)
         ]

@@ -5,6 +5,7 @@ use Rattle.std.proofs.lemmas.List.Elements.{All-contains}
 use Rattle.list_facts.proofs.Membership.{all_from}
 use Rattle.list_facts.proofs.Tests.{any_of, any_from}
 use Rattle.tx_types.specs.declared.record.Link.{Link}
+use Rattle.tx_types.specs.declared.record.Rec.{Rec}
 use Rattle.tx_types.specs.declared.config.Protocol.TheVariants.{Bpcc}
 use Rattle.record_list.specs.declared.found.Found.{Found}
 use Rattle.record_list.specs.Records.{name_of, is_present}
@@ -12,7 +13,7 @@ use Rattle.record_list.specs.Verdict.{link_of, back_of}
 use Rattle.record_list.specs.Current.{cur, IsLoose, responsible, answers_for, is_held}
 use Rattle.record_list.specs.Changes.{IsInserted, IsOvertaken, IsAnsweredAfter, NewResponsible, CompletingWriteLaw}
 use Rattle.record_list.proofs.Names.{same_name, present_in}
-use Rattle.record_list.proofs.SoundNames.{IsSoundMap, LooseNames, EndingNames, sound_map, sound_list}
+use Rattle.record_list.proofs.SoundNames.{IsSoundMap, LooseNames, EndingNames, sound_map, sound_list, map_link}
 use Rattle.record_list.proofs.Rounds.{cases_page}
 use Rattle.record_list.proofs.OneMore.{IsStep, inserted_in, old_link, old_back, next_after}
 use Rattle.record_list.proofs.Untouched.{OldLinks}
@@ -22,6 +23,7 @@ use Rattle.straddle_sets.proofs.BpccLinks.{bpcc_old_links}
 use Rattle.straddle_sets.proofs.BpccAnswers.{name_back, was_loose, answer_elsewhere, answer_name, answer_below}
 use Rattle.straddle_sets.proofs.Ending.{ends_out}
 use Rattle.record_list.proofs.Held.{answer_of, answers}
+use Rattle.record_list.proofs.LossCounted.{answered_below}
 
 module _ (l l' : List Found) (logical : ℕ) (names : List Link) (f : Found) (s : IsStep l l' logical names f.rec) (m : IsSoundMap Bpcc l logical)
     (back : f.rec.back ≡ cur Bpcc l logical f.rec.page) (old : OldLinks Bpcc l l' logical names f.rec) (all : (a : Link) → Contains names a → is_present l' a ≡ true)
@@ -64,42 +66,38 @@ module _ (l l' : List Found) (logical : ℕ) (names : List Link) (f : Found) (s 
       ends_out l l' logical names f.rec s u was.1 (λ i. was.0 u i refl) (m.ending u was.1 (omega arith))
 
   -- a record that is held was held, or is one of the names'
-  completing_held : IsInserted l f l' → (name : Link) → is_held Bpcc l' logical name ≡ true → (is_held Bpcc l logical name ≡ true) ⊎ Contains names name
-  completing_held ins name held =
-      let found = any_of (λ g. answers_for Bpcc l' logical name g.rec) l' held in
+  completing_held : IsInserted l f l' → (x : Rec) → is_held Bpcc l' logical x ≡ true → (is_held Bpcc l logical x ≡ true) ⊎ Contains names (name_of x)
+  completing_held ins x held =
+      let found = any_of (λ g. answers_for Bpcc l' logical x g.rec) l' held in
       let g = found.0 in
-      let a = answer_of l' logical name g.rec found.2 in
+      let a = answer_of l' logical x g.rec found.2 in
       let was = was_loose l l' logical names f s m back old all backs (name_of g.rec) (present_in l' g found.1) a.loose in
       let level = was.2 in
       let loose' = a.loose in
       let q = g.rec.next in
-      let below' = a.below in
+      let below' = answered_below l' logical x g.rec a in
       let inside : Contains l g = elim (inserted_in l l' f ins g found.1) [
         | inl e ↦ absurd (was.0 (name_of f.rec) s.of_names (ap (λ x. x.rec.page) e))
         | inr i ↦ i
       ] in
       let before : cur Bpcc l logical g.rec.page < g.rec.version = omega arith in
-      let held_if : q.version < cur Bpcc l logical name.page → responsible Bpcc l logical q ≡ name.version → is_held Bpcc l logical name ≡ true = λ below version.
-      any_from (λ h. answers_for Bpcc l logical name h.rec) l g inside (answers l logical name g.rec (record { loose = before; page = a.page; below = below; some = a.some; version = version })) in
+      let held_if : responsible Bpcc l logical q ≡ x.version → is_held Bpcc l logical x ≡ true = λ version.
+      any_from (λ h. answers_for Bpcc l logical x h.rec) l g inside (answers l logical x g.rec (record { loose = before; page = a.page; from = a.from; under = a.under; version = version })) in
       elim (cases_page names q.page) [
         | inl of_page ↦ (
             let n = of_page.0 in
-            let link = (m.copies g inside).0 in
+            let link = map_link m g inside in
             let law = (m.loose (name_of g.rec) was.1 before).1 in
             let low : q.version < n.version = subst (λ z. z.page ≡ n.page → z.version < n.version) (sym link) (s.underway.lower (name_of g.rec) was.1 (λ i. was.0 (name_of g.rec) i refl) n of_page.1).1 (sym of_page.2) in
-            let page = ap (cur Bpcc l logical) a.page in
             elim (cases_order q.version (cur Bpcc l logical q.page)) [
               | inl at ↦ absurd (law (subst (λ z. z.version ≡ cur Bpcc l logical z.page) link at))
-              | inr (inl below) ↦ inl (held_if (omega arith) (sym (answer_below l l' logical names f s m back old all backs q n of_page.1 of_page.2 below) ∙ a.version))
+              | inr (inl below) ↦ inl (held_if (sym (answer_below l l' logical names f s m back old all backs q n of_page.1 of_page.2 below) ∙ a.version))
               | inr (inr above) ↦ (
-                  let e : n ≡ name = same_name n name (of_page.2 ∙ a.page) (sym (answer_name l l' logical names f s m back old all backs q n of_page.1 of_page.2 above low) ∙ a.version) in
+                  let e : n ≡ name_of x = same_name n (name_of x) (of_page.2 ∙ a.page) (sym (answer_name l l' logical names f s m back old all backs q n of_page.1 of_page.2 above low) ∙ a.version) in
                   inr (subst (Contains names) e of_page.1))
             ])
         | inr off ↦ (
-            let same = elsewhere Bpcc l l' logical names f s m old all q.page off in
-            let page = ap (cur Bpcc l logical) a.page in
-            let page' = ap (cur Bpcc l' logical) a.page in
-            inl (held_if (omega arith) (sym (answer_elsewhere l l' logical names f s m back old all backs q off) ∙ a.version)))
+            inl (held_if (sym (answer_elsewhere l l' logical names f s m back old all backs q off) ∙ a.version)))
       ]
 
   -- which record is responsible for each that is loose
@@ -112,7 +110,7 @@ module _ (l l' : List Found) (logical : ℕ) (names : List Link) (f : Found) (s 
         | inl e ↦ absurd (was.0 (name_of f.rec) s.of_names (ap (λ x. x.rec.page) e))
         | inr j ↦ j
       ] in
-      let link : q ≡ link_of l (name_of g.rec) = (m.copies g inside).0 in
+      let link : q ≡ link_of l (name_of g.rec) = map_link m g inside in
       let other = (m.loose (name_of g.rec) was.1 (omega arith)).1 in record {
         anew = all_from (λ a. IsOvertaken l logical q a → responsible Bpcc l' logical q ≡ a.version) names (λ a j over.
             let low : q.version < a.version = subst (λ z. z.page ≡ a.page → z.version < a.version) (sym link)

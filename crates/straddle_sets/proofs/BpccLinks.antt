@@ -13,7 +13,7 @@ use Rattle.record_list.proofs.Safe.{top_link, is_clear}
 use Rattle.record_list.proofs.SoundNames.{IsSoundMap, clear_from, clear_gives}
 use Rattle.record_list.proofs.Facts.{cur_le, cur_committed, cur_uncommitted, current_counts}
 use Rattle.record_list.proofs.Progress.{name_uncounted}
-use Rattle.record_list.proofs.OneMore.{IsStep, newest_own, step_underway, step_linked}
+use Rattle.record_list.proofs.OneMore.{its_back, IsStep, newest_own, step_underway, step_linked}
 use Rattle.record_list.proofs.Untouched.{OldLinks}
 use Rattle.record_list.proofs.Completing.{clear_at_newest}
 use Rattle.straddle_sets.proofs.Straddle.{straddling_is, straddling_none, blocks}
@@ -86,4 +86,4 @@ module _ (l l' : List Found) (logical : ℕ) (names : List Link) (r : Rec) (s : 
       let positive = (s.underway.range (name_of r) s.of_names).1 in
       let not' : is_committed (why Bpcc l' logical r.page) ≡ false = false_from_ne_true (is_committed (why Bpcc l' logical r.page)) (λ h.
       name_uncounted l' logical names (step_underway l l' logical names r s) Bpcc (step_linked l l' logical names r s m.linked) gone j absent' (name_of r) s.of_names s.one.own (omega arith, h)) in
-      cur_uncommitted Bpcc l' logical r.page not' ∙ ap (back_of l') (same_name (newest_name l' r.page) (name_of r) refl top) ∙ s.one.back ∙ back
+      cur_uncommitted Bpcc l' logical r.page not' ∙ ap (back_of l') (same_name (newest_name l' r.page) (name_of r) refl top) ∙ its_back s.one ∙ back

@@ -9,19 +9,20 @@ use Rattle.tx_types.specs.declared.record.Rec.{Rec}
 use Rattle.tx_types.specs.declared.config.Protocol.TheVariants.{Bpcc}
 use Rattle.record_list.specs.declared.found.Found.{Found}
 use Rattle.record_list.specs.Records.{greatest, name_of, is_present}
-use Rattle.record_list.specs.Verdict.{link_of, back_of}
+use Rattle.record_list.specs.Verdict.{link_of, back_of, straddles}
 use Rattle.record_list.specs.Current.{cur, IsLoose, straddling_upto, responsible, answers_for, is_held}
 use Rattle.record_list.specs.Changes.{IsInserted, PartialWriteLaw}
 use Rattle.record_list.proofs.SoundNames.{IsSoundMap, LooseNames, EndingNames, sound_map, sound_list}
 use Rattle.record_list.proofs.Rounds.{cases_in}
 use Rattle.record_list.proofs.Progress.{name_loose, absent_name}
-use Rattle.record_list.proofs.OneMore.{IsStep, inserted_any, old_link, old_back, next_after, next_in}
+use Rattle.record_list.proofs.OneMore.{its_link, its_back, IsStep, inserted_any, old_link, old_back, next_after, next_in}
 use Rattle.record_list.proofs.Keeping.{step_of, back_of_step, begun_on, others_on, absent_before}
 use Rattle.record_list.proofs.Partial.{partial_cur, partial_map}
 use Rattle.straddle_sets.proofs.Straddle.{upto_none}
 use Rattle.straddle_sets.proofs.BpccLinks.{bpcc_old_links, bpcc_own_cur}
 use Rattle.straddle_sets.proofs.Ending.{ends_out, ends_names}
 use Rattle.record_list.proofs.Held.{answer_of}
+use Rattle.record_list.proofs.LossCounted.{answered_below}
 
 module _ (l l' : List Found) (logical : ℕ) (names : List Link) (f : Found) (s : IsStep l l' logical names f.rec) (m : IsSoundMap Bpcc l logical)
     (back : f.rec.back ≡ cur Bpcc l logical f.rec.page) (same : (page : ℕ) → cur Bpcc l' logical page ≡ cur Bpcc l logical page)
@@ -47,10 +48,10 @@ module _ (l l' : List Found) (logical : ℕ) (names : List Link) (f : Found) (s 
   partial_loose : LooseNames Bpcc l' logical
   partial_loose u here at = elim (s.one.cases u here) [
     | inl e ↦ (
-        let link : link_of l' u ≡ f.rec.next = ap (link_of l') e ∙ s.one.link in
+        let link : link_of l' u ≡ f.rec.next = ap (link_of l') e ∙ its_link s.one in
         let up = above f.rec.next (next_in l l' logical names f.rec s) in
         let level = same f.rec.next.page in (
-          ap (back_of l') e ∙ s.one.back ∙ back ∙ sym (same f.rec.page) ∙ ap (λ n. cur Bpcc l' logical n.page) (sym e),
+          ap (back_of l') e ∙ its_back s.one ∙ back ∙ sym (same f.rec.page) ∙ ap (λ n. cur Bpcc l' logical n.page) (sym e),
           subst (λ q. q.version ≡ cur Bpcc l' logical q.page → ⊥) (sym link) (λ x. omega arith),
           subst (λ q. q.version < cur Bpcc l' logical q.page → responsible Bpcc l' logical q ≡ 0 → ⊥) (sym link) (λ x. absurd (omega arith)),
         ))
@@ -80,25 +81,21 @@ module _ (l l' : List Found) (logical : ℕ) (names : List Link) (f : Found) (s 
   ]
 
   -- each record answers for the same ones
-  same_answers : (name : Link) (r : Rec) → answers_for Bpcc l' logical name r ≡ answers_for Bpcc l logical name r
-  same_answers name r =
-      let g : ℕ → ℕ → ℕ → Bool = λ c d v. ltb c r.version && eqb r.next.page name.page && ltb r.next.version d && ltb 0 name.version && eqb v name.version in
-      ap (λ c. g c (cur Bpcc l' logical name.page) (responsible Bpcc l' logical r.next)) (same r.page)
-      ∙ ap (λ d. g (cur Bpcc l logical r.page) d (responsible Bpcc l' logical r.next)) (same name.page)
-      ∙ ap (g (cur Bpcc l logical r.page) (cur Bpcc l logical name.page)) (same_responsible r.next)
+  same_answers : (x r : Rec) → answers_for Bpcc l' logical x r ≡ answers_for Bpcc l logical x r
+  same_answers x r =
+      let g : ℕ → ℕ → Bool = λ c v. ltb c r.version && eqb x.page r.next.page && straddles x r.next.version && eqb x.version v in
+      ap (λ c. g c (responsible Bpcc l' logical r.next)) (same r.page) ∙ ap (g (cur Bpcc l logical r.page)) (same_responsible r.next)
 
   -- so the same records are held
-  partial_held : IsInserted l f l' → (name : Link) → is_held Bpcc l' logical name ≡ is_held Bpcc l logical name
-  partial_held ins name =
-      let test : Found → Bool = λ g. answers_for Bpcc l' logical name g.rec in
-      let none : answers_for Bpcc l' logical name f.rec ≡ false = false_from_ne_true (answers_for Bpcc l' logical name f.rec) (λ h.
-      let a = answer_of l' logical name f.rec h in
+  partial_held : IsInserted l f l' → (x : Rec) → is_held Bpcc l' logical x ≡ is_held Bpcc l logical x
+  partial_held ins x =
+      let test : Found → Bool = λ g. answers_for Bpcc l' logical x g.rec in
+      let none : answers_for Bpcc l' logical x f.rec ≡ false = false_from_ne_true (answers_for Bpcc l' logical x f.rec) (λ h.
       let up = above f.rec.next (next_in l l' logical names f.rec s) in
-      let below = a.below in
+      let below = answered_below l' logical x f.rec (answer_of l' logical x f.rec h) in
       let level = same f.rec.next.page in
-      let page = ap (cur Bpcc l' logical) a.page in
       omega arith) in
-      inserted_any test l l' f ins ∙ ap (λ b. b || list_any test l) none ∙ any_same test (λ g. answers_for Bpcc l logical name g.rec) l (λ g. same_answers name g.rec)
+      inserted_any test l l' f ins ∙ ap (λ b. b || list_any test l) none ∙ any_same test (λ g. answers_for Bpcc l logical x g.rec) l (λ g. same_answers x g.rec)
 
 -- the law of a write that leaves a name absent
 pub bpcc_partial_write : PartialWriteLaw Bpcc

@@ -9,7 +9,7 @@ use Rattle.record_list.specs.Verdict.{link_of}
 use Rattle.record_list.specs.SoundList.{follow}
 use Rattle.record_list.proofs.Names.{absent_link}
 use Rattle.record_list.proofs.Rounds.{follows_in, round_back, follows_of}
-use Rattle.record_list.proofs.OneMore.{IsStep, step_underway}
+use Rattle.record_list.proofs.OneMore.{links_else, IsStep, step_underway}
 use Rattle.record_list.proofs.Keeping.{absent_still}
 
 -- so many links lead from a name to an absent one
@@ -30,7 +30,7 @@ module _ (l l' : List Found) (logical : ℕ) (names : List Link) (r : Rec) (s : 
   follow_out zero u out h = absent_still l l' logical names r s u (out_new u out) h
   follow_out (suc n) u out h =
       let step = follow_out n in
-      let e : link_of l' u ≡ link_of l u = s.one.links u (out_new u out) in
+      let e : link_of l' u ≡ link_of l u = links_else s.one u (out_new u out) in
       let next_out : Contains names (link_of l u) → ⊥ = elim (cases_Bool (is_present l u)) [
         | inl here ↦ link_out u here out
         | inr gone ↦ (λ i. out (subst (Contains names) (absent_link l u gone) i))
@@ -40,7 +40,7 @@ module _ (l l' : List Found) (logical : ℕ) (names : List Link) (r : Rec) (s : 
   -- from a record that is no name
   pub ends_out : (u : Link) → is_present l u ≡ true → (Contains names u → ⊥) → Ends l (link_of l u) → Ends l' (link_of l' u)
   ends_out u here out h =
-      (h.0, subst (λ z. is_present l' (follow l' z h.0) ≡ false) (sym (s.one.links u (out_new u out))) (follow_out h.0 (link_of l u) (link_out u here out) h.1))
+      (h.0, subst (λ z. is_present l' (follow l' z h.0) ≡ false) (sym (links_else s.one u (out_new u out))) (follow_out h.0 (link_of l u) (link_out u here out) h.1))
 
   -- from each name, where one is absent
   pub ends_names : (gone : Link) → Contains names gone → is_present l' gone ≡ false → (a : Link) → Contains names a → is_present l' a ≡ true → Ends l' (link_of l' a)

@@ -10,8 +10,8 @@ use Rattle.tx_types.specs.declared.record.Rec.{Rec}
 use Rattle.tx_types.specs.declared.config.Protocol.TheVariants.{Bpcc}
 use Rattle.record_list.specs.declared.found.Found.{Found}
 use Rattle.record_list.specs.Verdict.{straddles}
-use Rattle.record_list.specs.Current.{is_loose, responsible}
-use Rattle.straddle_sets.specs.Responsible.{is_responsible, responsible_index}
+use Rattle.record_list.specs.Current.{is_loose, responsible, answers_for}
+use Rattle.straddle_sets.specs.Responsible.{responsible_index}
 
 -- the first item that passes comes no later than one that does
 passes_within : (test : Found → Bool) (l : List Found) (f : Found) → Contains l f → test f ≡ true → position_or_len test l < length l
@@ -55,6 +55,6 @@ some_passes test l = elim (cases_Bool (list_any test l)) [
 -- a record that is not loose has no responsible record
 pub unanswered : (list : List Found) (logical : ℕ) (r : Rec) → is_loose Bpcc list logical r ≡ false → responsible_index list logical r ≡ None
 unanswered list logical r fixed =
-    let test : Found → Bool = λ f. is_responsible list logical f.rec r in
+    let test : Found → Bool = λ f. answers_for Bpcc list logical f.rec r in
     none_passes test list (list_any_none test list (all_from (λ f. test f ≡ false) list (λ f i.
     ap (λ b. b && eqb f.rec.page r.next.page && straddles f.rec r.next.version && eqb f.rec.version (responsible Bpcc list logical r.next)) fixed)))

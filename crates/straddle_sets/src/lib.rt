@@ -7,5 +7,5 @@ mod straddling;
 mod tests;
 mod theorems;
 
-pub use straddling::{answers_for, responsible, responsible_version, straddles};
+pub use straddling::{answers_for, responsible, responsible_of, responsible_version, straddles};
 pub use theorems::{responsible_records, straddlers_by_place};

@@ -1,9 +1,9 @@
-ghost use Rattle.std.specs.Prelude.{◌≡◌, ◌<◌, length};
+ghost use Rattle.std.specs.Prelude.{◌≡◌, ◌≢◌, ◌<◌, true, false, AllPairs, IfSome, IfNone, length, slice_index_or};
 ghost use Rattle.tx_types.specs.declared.config.Protocol.TheVariants.{Bpcc};
-ghost use Rattle.record_list.specs.Records.{greatest, record_at};
+ghost use Rattle.record_list.specs.Records.{greatest, nothing, record_at};
 ghost use Rattle.record_list.specs.Verdict.{straddles};
 ghost use Rattle.record_list.specs.Current.{answers_for, responsible, straddling_upto};
-ghost use Rattle.straddle_sets.specs.Responsible.{responsible_index};
+ghost use Rattle.straddle_sets.specs.Responsible.{responsible_index, may_answer, IsBehind, FindsAnswer};
 
 use record_list::{Found, current_version, is_loose};
 use tx_types::{Link, Protocol, Rec};
@@ -39,16 +39,15 @@ pub fn responsible_version(list: &[Found], logical: u32, name: Link) -> u64
     straddling_up_to(list, name, top)
 }
 
-/// Whether the record of this name is responsible for this one.
-pub fn answers_for(list: &[Found], logical: u32, name: Link, rec: Rec) -> bool
-    ensures { result ≡ answers_for Bpcc list.now logical name rec }
+/// Whether the first record is responsible for the second.
+pub fn answers_for(list: &[Found], logical: u32, first: Rec, second: Rec) -> bool
+    ensures { result ≡ answers_for Bpcc list.now logical first second }
 {
     // the walks come last: most records link to another page
-    rec.next.page == name.page
-        && name.version > 0
-        && rec.next.version < current_version(Protocol::Bpcc, list, logical, name.page)
-        && responsible_version(list, logical, rec.next) == name.version
-        && is_loose(Protocol::Bpcc, list, logical, rec)
+    first.page == second.next.page
+        && straddles(first, second.next.version)
+        && first.version == responsible_version(list, logical, second.next)
+        && is_loose(Protocol::Bpcc, list, logical, second)
 }
 
 /// The index of the record that is responsible for the one at this index, in its lowest slot. There
@@ -68,4 +67,47 @@ pub fn responsible(list: &[Found], logical: u32, at: usize) -> Option<usize>
             && straddles(other.rec, rec.next.version)
             && other.rec.version == version
     })
+}
+
+/// The index of the record that answers for a link, by the current version of its page: of those of the
+/// page that straddle the link, with versions up to the current one, that of the greatest version, in its
+/// lowest slot. The slots of the list are distinct, in any order.
+pub fn responsible_of(list: &[Found], link: Link, current: u64) -> Option<usize>
+    requires { AllPairs (λ f g. f.slot.0 ≢ g.slot.0) list.now }
+    ensures { FindsAnswer list.now link current (length list.now) result }
+{
+    let mut answer = None;
+    for at in 0..list.len() {
+        if may_answer(list[at].rec, link, current) && comes_before(list, at, answer) {
+            answer = Some(at);
+        }
+    }
+    answer
+}
+
+/// Whether a record may answer for a link, by the current version of the link's page.
+fn may_answer(rec: Rec, link: Link, current: u64) -> bool
+    ensures { result ≡ may_answer link current rec }
+{
+    rec.page == link.page && straddles(rec, link.version) && rec.version <= current
+}
+
+/// Whether a record has a greater version than another one, or the same in a lower slot.
+fn comes_before(list: &[Found], at: usize, other: Option<usize>) -> bool
+    requires at { at < length list.now }
+    requires other { IfSome other (λ k. k < length list.now) }
+    ensures before { IfSome other (λ k. result ≡ true →
+        IsBehind (slice_index_or list.now k nothing) (slice_index_or list.now at nothing)) }
+    ensures behind { IfSome other (λ k. result ≡ false →
+        IsBehind (slice_index_or list.now at nothing) (slice_index_or list.now k nothing)) }
+    ensures first { IfNone other (result ≡ true) }
+{
+    match other {
+        None => true,
+        Some(k) => {
+            let (one, two) = (&list[at], &list[k]);
+            two.rec.version < one.rec.version
+                || one.rec.version == two.rec.version && one.slot.0 < two.slot.0
+        }
+    }
 }

@@ -1,5 +1,7 @@
+ghost use Rattle.std.specs.Prelude.{◌≢◌, IsTrue, AllPairs};
+
 use crate::straddling::straddling_up_to;
-use crate::{answers_for, responsible, responsible_version, straddles};
+use crate::{answers_for, responsible, responsible_of, responsible_version, straddles};
 use record_list::{Found, straddling};
 use std::process::Abort;
 use tx_types::{Link, Rec, Slot};
@@ -17,6 +19,8 @@ fn found(slot: u32, name: (u32, u64), next: (u32, u64), back: u64) -> Found {
             version: name.1,
             next: link(next.0, next.1),
             back,
+            count: 0,
+            discard: false,
         },
     }
 }
@@ -103,7 +107,56 @@ fn straddlers_of_all_records_and_of_counted_ones(rt: HostRuntime) {
     // the newest record is not committed, and its back version is 0
     assert_eq!(rt; responsible_version(&list, 3, link(1, 1)), 0);
     assert_eq!(rt; responsible_version(&list[..4], 3, link(1, 1)), 2);
-    assert!(rt; answers_for(&list[..4], 3, link(1, 2), list[0].rec));
-    assert!(rt; !answers_for(&list[..4], 3, link(1, 3), list[0].rec));
-    assert!(rt; !answers_for(&list[..4], 3, link(1, 2), list[1].rec));
+    assert!(rt; answers_for(&list[..4], 3, list[1].rec, list[0].rec));
+    assert!(rt; !answers_for(&list[..4], 3, list[2].rec, list[0].rec));
+    assert!(rt; !answers_for(&list[..4], 3, list[1].rec, list[1].rec));
+    // of two records of one name, which no sound list has, the one that straddles the link
+    let namesakes = [
+        found(0, (0, 1), (1, 1), 0),
+        found(1, (1, 2), (1, 2), 1),
+        found(2, (1, 2), (1, 3), 0),
+    ];
+    assert!(rt; !answers_for(&namesakes, 3, namesakes[1].rec, namesakes[0].rec));
+    assert!(rt; answers_for(&namesakes, 3, namesakes[2].rec, namesakes[0].rec));
+}
+
+/// Whether no two records of a list stand in one slot.
+fn has_distinct_slots(list: &[Found]) -> bool
+    ensures { IsTrue result → AllPairs (λ f g. f.slot.0 ≢ g.slot.0) list.now }
+{
+    let mut low = 0;
+    for found in list {
+        if u64::from(found.slot.0) < low {
+            return false;
+        }
+        low = u64::from(found.slot.0) + 1;
+    }
+    true
+}
+
+#[test]
+fn the_answer_of_a_few_records(rt: HostRuntime) {
+    // page 1 has the current version 5, with versions 3 and 4 that straddle 2, the latter in two slots
+    let list = [
+        found(0, (1, 4), (1, 4), 1),
+        found(1, (1, 3), (1, 3), 1),
+        found(2, (1, 4), (1, 4), 1),
+        found(3, (2, 9), (2, 9), 0),
+        found(4, (1, 5), (1, 5), 4),
+        found(5, (1, 7), (2, 1), 0),
+    ];
+    assert!(rt; has_distinct_slots(&list));
+    for (name, current, want) in [
+        (link(1, 2), 5, Some(0)),
+        (link(1, 2), 3, Some(1)),
+        (link(1, 2), 7, Some(5)),
+        (link(1, 1), 5, None),
+        (link(0, 2), 5, None),
+    ] {
+        assert_eq!(rt;
+            responsible_of(&list, name, current),
+            want,
+            "{name:?} {current}"
+        );
+    }
 }

@@ -1,16 +1,16 @@
 //! What holds of records that straddle and of those that are responsible. The functions do nothing:
 //! each is there for what it ensures.
-ghost use Rattle.std.specs.Prelude.{◌≡◌, ◌↔◌, ◌<◌, ◌≤◌, ◌&&◌, ℕ, nat_lt, is_some, List, Contains};
+ghost use Rattle.std.specs.Prelude.{◌≡◌, ◌↔◌, ◌<◌, ◌≤◌, ◌&&◌, ℕ, nat_lt, is_some, List};
 ghost use Rattle.std.specs.List.{list_any};
 ghost use Rattle.tx_types.specs.declared.config.Protocol.TheVariants.{Bpcc};
 ghost use Rattle.tx_types.specs.declared.record.Link.{Link};
 ghost use Rattle.tx_types.specs.declared.record.Rec.{Rec};
 ghost use Rattle.record_list.specs.declared.found.Found.{Found};
-ghost use Rattle.record_list.specs.Records.{name_of, newest, IsScanned};
+ghost use Rattle.record_list.specs.Records.{newest, IsScanned};
 ghost use Rattle.record_list.specs.Verdict.{straddling};
-ghost use Rattle.record_list.specs.Current.{cur, is_held, is_loose, responsible};
+ghost use Rattle.record_list.specs.Current.{answers_for, cur, is_held, is_loose, responsible};
 ghost use Rattle.record_list.specs.SoundList.{IsSoundList};
-ghost use Rattle.straddle_sets.specs.Responsible.{is_responsible, responsible_index};
+ghost use Rattle.straddle_sets.specs.Responsible.{responsible_index};
 
 /// Whether a record of a sound list straddles a name goes by the current version of its page. Below
 /// it, the greatest straddling version is that of the responsible record; nothing straddles the
@@ -28,13 +28,12 @@ pub fn straddlers_by_place()
 {}
 
 /// A record has a responsible one exactly where it is loose and some version is responsible for its
-/// link. On a sound list a record is held exactly where it is responsible for some record.
+/// link. A record is held exactly where it is responsible for some record.
 pub fn responsible_records()
     ensures some { (list : List Found) (logical : ℕ) (r : Rec) →
         is_some (responsible_index list logical r)
         ≡ (is_loose Bpcc list logical r && nat_lt 0 (responsible Bpcc list logical r.next)) }
-    ensures held { (list : List Found) (logical : ℕ) (found : Found) → IsScanned list →
-        IsSoundList Bpcc list logical → Contains list found →
-        is_held Bpcc list logical (name_of found.rec)
-        ≡ list_any (λ other. is_responsible list logical found.rec other.rec) list }
+    ensures held { (list : List Found) (logical : ℕ) (r : Rec) →
+        is_held Bpcc list logical r
+        ≡ list_any (λ other. answers_for Bpcc list logical r other.rec) list }
 {}

@@ -1,4 +1,4 @@
-use Rattle.record_list.proofs.Examples.{straddled_verdict, straddled_is_held, copied_home, unanswered_breaks, misled_breaks, closed_breaks, twice_mentioned}
+use Rattle.record_list.proofs.Examples.{straddled_verdict, straddled_is_held, namesake_is_held, copied_home, unanswered_breaks, misled_breaks, closed_breaks, twice_mentioned}
 use Rattle.record_list.proofs.theorems.worked_examples.Goals as goal
 
 pub returns-clause-straddled_verdict : goal.returns-clause-straddled_verdict
@@ -6,6 +6,9 @@ returns-clause-straddled_verdict c = straddled_verdict
 
 pub returns-clause-straddled_is_held : goal.returns-clause-straddled_is_held
 returns-clause-straddled_is_held c = straddled_is_held
+
+pub returns-clause-namesake_is_held : goal.returns-clause-namesake_is_held
+returns-clause-namesake_is_held c = namesake_is_held
 
 pub returns-clause-copied_home : goal.returns-clause-copied_home
 returns-clause-copied_home c = copied_home
