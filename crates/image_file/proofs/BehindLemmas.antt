@@ -9,62 +9,59 @@ use Rattle.image_file.specs.Rules.{shape_in, states_in, cells_in, image_in, all_
 use Rattle.image_file.proofs.SlotLemmas.{AreFilled-tested}
 use Rattle.image_file.proofs.RefusalLemmas.{broken-nothing}
 
--- the states and the bytes of the slots, as they were cut out of the file
-pub record IsBehind (bytes : List ℕ) (shape : Shape) (slots : ℕ) (seen : List Seen) (cells : List ℕ) : Type 0 where
+-- what is behind the first k bytes, as a range that is open above
+pub rest_is : (k : ℕ) (bytes : List ℕ) → take (length bytes - k) (drop k bytes) ≡ drop k bytes
+rest_is k bytes = take_all _ _ (simp length-drop (omega arith))
+
+-- the states and the bytes of the slots, which stand in front of and behind the end of the head
+pub record IsBehind (bytes : List ℕ) (shape : Shape) (head : ℕ) (seen : List Seen) : Type 0 where
   pub is_shape : shape ≡ shape_in bytes
-  pub is_slots : slots ≡ slots_of shape
+  pub is_head : head ≡ 64 + slots_of shape
   pub long : length bytes ≡ image_bytes shape
-  pub known : wrong_state (slice_range bytes 64 (64 + slots)) ≡ None
-  pub read : seen ≡ all_seen (slice_range bytes 64 (64 + slots))
-  pub copied : cells ≡ take (length bytes - (64 + slots)) (drop (64 + slots) bytes)
-  pub fits : wrong_bytes (cell_bytes shape.page_bytes) seen cells ≡ None
+  pub known : wrong_state (slice_range bytes 64 head) ≡ None
+  pub read : seen ≡ all_seen (slice_range bytes 64 head)
 
 -- the rest of the file has the bytes of each slot
-pub cells_fit : (bytes : List ℕ) (shape : Shape) (slots : ℕ) (seen : List Seen) → slots ≡ slots_of shape → length bytes ≡ image_bytes shape
-    → seen ≡ all_seen (slice_range bytes 64 (64 + slots))
-    → length (take (length bytes - (64 + slots)) (drop (64 + slots) bytes)) ≡ length seen * cell_bytes shape.page_bytes
-cells_fit bytes shape slots seen is_slots is_long read =
-    let long : length bytes ≡ 64 + slots * (65 + shape.page_bytes) = is_long ∙ ap (λ n. 64 + n * (65 + shape.page_bytes)) (sym is_slots) in
+pub cells_fit : (bytes : List ℕ) (shape : Shape) (head : ℕ) (seen : List Seen) → IsBehind bytes shape head seen
+    → length (drop head bytes) ≡ length seen * cell_bytes shape.page_bytes
+cells_fit bytes shape head seen h =
+    let slots = slots_of shape in
+    let long : length bytes ≡ 64 + slots * (65 + shape.page_bytes) = h.long in
     let many : length seen ≡ slots =
-    ap length read ∙ length-map (slice_range bytes 64 (64 + slots)) _
-    ∙ omega (arith, long, length-take (64 + slots - 64) (drop 64 bytes), length-drop 64 bytes) in
-    let all : length (take (length bytes - (64 + slots)) (drop (64 + slots) bytes)) ≡ slots * cell_bytes shape.page_bytes =
-    omega (arith, long, length-take (length bytes - (64 + slots)) (drop (64 + slots) bytes), length-drop (64 + slots) bytes) in
+    ap length h.read ∙ length-map (slice_range bytes 64 head) _
+    ∙ omega (arith, h.is_head, long, length-take (head - 64) (drop 64 bytes), length-drop 64 bytes) in
+    let all : length (drop head bytes) ≡ slots * cell_bytes shape.page_bytes = omega (arith, h.is_head, long, length-drop head bytes) in
     all ∙ ap (λ n. n * cell_bytes shape.page_bytes) (sym many)
 
-module _ (bytes : List ℕ) (shape : Shape) (slots : ℕ) (seen : List Seen) (cells : List ℕ) (h : IsBehind bytes shape slots seen cells) where
-  slots_are : slots ≡ slots_of (shape_in bytes)
-  slots_are = h.is_slots ∙ ap slots_of h.is_shape
+module _ (bytes : List ℕ) (shape : Shape) (head : ℕ) (seen : List Seen) (h : IsBehind bytes shape head seen) (fits : wrong_bytes (cell_bytes shape.page_bytes) seen (drop head bytes) ≡ None) where
+  head_is : head ≡ 64 + slots_of (shape_in bytes)
+  head_is = h.is_head ∙ ap (λ (s : Shape). 64 + slots_of s) h.is_shape
 
   length-bytes : length bytes ≡ image_bytes (shape_in bytes)
   length-bytes = h.long ∙ ap image_bytes h.is_shape
 
-  states_are : slice_range bytes 64 (64 + slots) ≡ states_in bytes
-  states_are = ap (λ n. slice_range bytes 64 (64 + n)) slots_are
+  states_are : slice_range bytes 64 head ≡ states_in bytes
+  states_are = ap (λ n. slice_range bytes 64 n) head_is
 
-  cells_are : cells ≡ cells_in bytes
-  cells_are =
-      h.copied ∙ take_all _ (drop (64 + slots) bytes) (omega (arith, length-drop (64 + slots) bytes))
-      ∙ ap (λ n. drop (64 + n) bytes) slots_are
+  cells_are : drop head bytes ≡ cells_in bytes
+  cells_are = ap (λ n. drop n bytes) head_is
 
   seen_are : seen ≡ all_seen (states_in bytes)
   seen_are = h.read ∙ ap all_seen states_are
 
-  length-cells : length cells ≡ length seen * cell_bytes shape.page_bytes
-  length-cells = ap length h.copied ∙ cells_fit bytes shape slots seen h.is_slots h.long h.read
-
-  pub filled : AreFilled shape.page_bytes seen cells
-  filled = AreFilled-tested shape.page_bytes seen cells length-cells h.fits
+  pub filled : AreFilled shape.page_bytes seen (drop head bytes)
+  filled = AreFilled-tested shape.page_bytes seen (drop head bytes) (cells_fit bytes shape head seen h) fits
 
   pub slots_hold : broken_slots bytes ≡ None
   slots_hold =
       let page_is : shape.page_bytes ≡ (shape_in bytes).page_bytes = ap (λ (s : Shape). s.page_bytes) h.is_shape in
       broken-nothing bytes length-bytes (sym (ap wrong_state states_are) ∙ h.known)
-      (sym (ap (λ n. wrong_bytes (cell_bytes n) (all_seen (states_in bytes)) (cells_in bytes)) page_is
-      ) ∙ sym (ap (λ s. wrong_bytes (cell_bytes shape.page_bytes) s (cells_in bytes)) seen_are) ∙ sym (ap (wrong_bytes (cell_bytes shape.page_bytes) seen) cells_are) ∙ h.fits)
+      (sym (ap (λ n. wrong_bytes (cell_bytes n) (all_seen (states_in bytes)) (cells_in bytes)) page_is)
+      ∙ sym (ap (λ s. wrong_bytes (cell_bytes shape.page_bytes) s (cells_in bytes)) seen_are)
+      ∙ sym (ap (wrong_bytes (cell_bytes shape.page_bytes) seen) cells_are) ∙ fits)
 
-  pub image_is : image_of shape.page_bytes seen cells ≡ image_in bytes
+  pub image_is : image_of shape.page_bytes seen (drop head bytes) ≡ image_in bytes
   image_is =
-      ap (λ (s : Shape). image_of s.page_bytes seen cells) h.is_shape
-      ∙ ap (λ s. image_of (shape_in bytes).page_bytes s cells) seen_are
+      ap (λ (s : Shape). image_of s.page_bytes seen (drop head bytes)) h.is_shape
+      ∙ ap (λ s. image_of (shape_in bytes).page_bytes s (drop head bytes)) seen_are
       ∙ ap (image_of (shape_in bytes).page_bytes (all_seen (states_in bytes))) cells_are

@@ -4,3 +4,4 @@ mod HeaderLemmas
 mod SpellingLemmas
 mod RefusalLemmas
 mod BehindLemmas
+mod BlankLemmas

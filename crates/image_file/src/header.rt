@@ -1,4 +1,4 @@
-ghost use Rattle.std.specs.Prelude.{◌≡◌, ◌+◌, ◌≤◌, length, None, Some, MatchResult};
+ghost use Rattle.std.specs.Prelude.{◌≡◌, ◌+◌, ◌<◌, ◌≤◌, length, All, None, Some, MatchResult};
 ghost use Rattle.tx_types.specs.Config.{checked, shape_of, image_bytes, IsShape};
 ghost use Rattle.tx_types.specs.declared.config.Shape.{Shape};
 ghost use Rattle.image_file.specs.Spelling.{code_of, header_of};
@@ -21,10 +21,11 @@ const RESERVED: usize = 36;
 /// The configuration in the header of an image file with its shape, or the first rule of the header
 /// that the bytes break.
 pub(crate) fn read_header(bytes: &[u8]) -> Result<(Config, Shape), ImageError>
-    ensures { MatchResult result
+    ensures answer { MatchResult result
         (λ r. (broken_header bytes.now ≡ None) × (r.0 ≡ config_in bytes.now)
         × (r.1 ≡ shape_of r.0) × IsShape r.1)
         (λ e. broken_header bytes.now ≡ Some e) }
+    ensures bytes { All (λ b. b < 256) bytes.now }
 {
     if bytes.len() < HEADER_BYTES {
         return Err(ImageError::Short);

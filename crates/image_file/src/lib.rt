@@ -5,10 +5,13 @@ mod error;
 mod header;
 mod image;
 mod laws;
+mod sizes;
 mod slots;
 #[cfg(test)]
 mod tests;
+mod writing;
 
 pub use error::ImageError;
-pub use image::{read_image, write_image};
+pub use image::{read_image, take_image};
 pub use laws::{one_spelling, spelled_images};
+pub use writing::{blank_image, into_image, write_image};

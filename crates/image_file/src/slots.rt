@@ -16,7 +16,7 @@ pub(crate) fn read_states(alloc: Global, states: &[u8]) -> Result<Vec<Seen>, Ima
         (λ seen. (wrong_state states.now ≡ None) × (seen.items ≡ all_seen states.now))
         (IsRefusal (broken_states states.now)) }
 {
-    let mut seen = Vec::new(alloc);
+    let mut seen = Vec::with_capacity(alloc, states.len())?;
     for (at, state) in states.iter().enumerate() {
         let Some(how) = seen_from(*state) else {
             return Err(ImageError::SlotState(Slot(at as u32)));

@@ -50,6 +50,8 @@ fn a_blank_flash_is_spelled(rt: HostRuntime) -> Result<(), Fail> {
     let flash = MemFlash::new(rt.alloc(), SMALL.check()?)?;
     let bytes = write_image(rt.alloc(), &SMALL, &flash)?;
     assert_eq!(rt; bytes, blank_image(rt.alloc())?);
+    let shape = SMALL.check()?;
+    assert_eq!(rt; crate::blank_image(rt.alloc(), &SMALL, shape)?, bytes);
 
     let ordinary = Config {
         protocol: Protocol::Bpcc,
@@ -93,6 +95,9 @@ fn slots_of_each_kind_are_written_and_read(rt: HostRuntime) -> Result<(), Fail> 
         (true, 0, 0)
     );
     assert_eq!(rt; write_image(rt.alloc(), &config, &flash)?, want);
+    assert_eq!(rt; into_image(rt.alloc(), &config, flash)?, want);
+    let (config, flash) = take_image(rt.alloc(), bytes)?;
+    assert_eq!(rt; into_image(rt.alloc(), &config, flash)?, want);
 
     // The last byte of the damaged slot.
     if let Some(byte) = want.get_mut(495) {

@@ -1,5 +1,5 @@
 -- A flat list as chunks of one size: reading one, writing over one, and filling some.
-use Rattle.std.proofs.Common.{◌≡◌, ℕ, ◌+◌, ◌-◌, ◌*◌, ◌<◌, ◌≤◌, List, length, get_or, arith, rules}
+use Rattle.std.proofs.Common.{◌≡◌, ℕ, ◌+◌, ◌-◌, ◌*◌, ◌<◌, ◌≤◌, List, length, get_or, drop, arith, rules}
 use Rattle.std.specs.Fork.{slice_chunk}
 use Rattle.std.proofs.lemmas.List.{places, same_lists, length-append, length-take, length-drop}
 use Rattle.std.proofs.Math.Nat.{mul-le-mul_right}
@@ -34,6 +34,11 @@ module _ {A : Type 0} (old : List A) (from : ℕ) (new : List A) (within : from 
   pub slice_chunk-overwritten_in : (size i j : ℕ) → i * size ≡ from + j * size → j * size + size ≤ length new
       → slice_chunk (overwritten old from new) size i ≡ slice_chunk new size j
   slice_chunk-overwritten_in size i j there inside = same_lists _ _ (search (rules, places)) (λ k d h. grind (arith, places))
+
+-- writing over a part behind a head
+pub drop-overwritten : {A : Type 0} (old : List A) (head from : ℕ) (new : List A) → head + from + length new ≤ length old
+    → drop head (overwritten old (head + from) new) ≡ overwritten (drop head old) from new
+drop-overwritten old head from new within = same_lists _ _ (search (rules, places)) (λ k d h. grind (arith, places))
 
 -- writing over m chunks, from chunk i on
 module _ {A : Type 0} (old : List A) (size i m : ℕ) (new : List A) (long : length new ≡ m * size) (within : (i + m) * size ≤ length old) where

@@ -1,13 +1,13 @@
 -- What the slots hold by their states and their bytes: slot by slot, after a program, and after an erase.
 use Rattle.std.proofs.Common.{◌≡◌, ℕ, zero, suc, ◌+◌, ◌-◌, ◌*◌, ◌<◌, ◌≤◌, List, [], ◌∷◌, length, get_or, take, drop, replicate, refl, ap, sym, ◌∙◌, arith}
 use Rattle.std.specs.Fork.{slice_chunk}
-use Rattle.std.specs.List.{All}
+use Rattle.std.specs.List.{All, flat_map}
 use Rattle.std.proofs.lemmas.List.{take-replicate, drop-replicate, take-append-drop, length-take, length-drop, length-replicate, get_or-replicate}
 use Rattle.list_facts.proofs.Chunks.{chunk_end, length-slice_chunk, slice_chunk-suc, slice_chunk-replicate}
 use Rattle.flash_model.specs.declared.flash.Seen.{Seen}
 use Rattle.flash_model.specs.declared.flash.Seen.TheVariants.{Blank, Damaged, Complete}
 use Rattle.flash_model.specs.Flash.{Contents, blank, IsWhole}
-use Rattle.flash_model.specs.Calls.{seen_of, page_of, spare_of}
+use Rattle.flash_model.specs.Calls.{seen_of, page_of, spare_area_of}
 use Rattle.mem_flash.specs.Slots.{cell_bytes, cell_of, contents_of, image_of, IsFilled, AreFilled}
 
 -- one slot
@@ -25,14 +25,14 @@ page_of-contents_of n Complete cell filled = refl
 spare_is : (n x : ℕ) → replicate 64 x ≡ drop n (replicate (n + 64) x)
 spare_is n x = let left : 64 ≡ n + 64 - n = omega arith in rw drop-replicate (ap (λ (m : ℕ). replicate m x) left)
 
-pub spare_of-contents_of : (n : ℕ) (state : Seen) (cell : List ℕ) → IsFilled n state cell → spare_of (contents_of n state cell) ≡ drop n cell
-spare_of-contents_of n Blank cell filled = rw filled (spare_is n 255)
-spare_of-contents_of n Damaged cell filled = rw filled (spare_is n 0)
-spare_of-contents_of n Complete cell filled = refl
+pub spare_area_of-contents_of : (n : ℕ) (state : Seen) (cell : List ℕ) → IsFilled n state cell → spare_area_of (contents_of n state cell) ≡ drop n cell
+spare_area_of-contents_of n Blank cell filled = rw filled (spare_is n 255)
+spare_area_of-contents_of n Damaged cell filled = rw filled (spare_is n 0)
+spare_area_of-contents_of n Complete cell filled = refl
 
 pub cell_of-contents_of : (n : ℕ) (state : Seen) (cell : List ℕ) → IsFilled n state cell → cell_of n (contents_of n state cell) ≡ cell
 cell_of-contents_of n state cell filled =
-    rw (page_of-contents_of n state cell filled, spare_of-contents_of n state cell filled) (take-append-drop n cell)
+    rw (page_of-contents_of n state cell filled, spare_area_of-contents_of n state cell filled) (take-append-drop n cell)
 
 pub IsWhole-contents_of : (n : ℕ) (state : Seen) (cell : List ℕ) → length cell ≡ cell_bytes n → IsWhole n (contents_of n state cell)
 IsWhole-contents_of n Blank cell long = tt
@@ -74,3 +74,23 @@ AreFilled-blank n count k below =
     let within : k < count = omega (arith, length-replicate count Blank) in
     rw (get_or-replicate count k Blank Blank within)
     (slice_chunk-replicate (count * cell_bytes n) (cell_bytes n) k 255 (chunk_end (cell_bytes n) k count within))
+
+-- the bytes that all slots show
+
+AreFilled-rest : (n : ℕ) (state : Seen) (states : List Seen) (cells : List ℕ) → AreFilled n (state ∷ states) cells
+    → AreFilled n states (drop (cell_bytes n) cells)
+AreFilled-rest n state states cells filled k below =
+    rw (slice_chunk-suc cells (cell_bytes n) k) at (filled (suc k) (omega arith))
+
+pub cells-image_of : (n : ℕ) (states : List Seen) (cells : List ℕ) → length cells ≡ length states * cell_bytes n
+    → AreFilled n states cells → flat_map (cell_of n) (image_of n states cells) ≡ cells
+cells-image_of n [] [] long filled = refl
+cells-image_of n [] (b ∷ bytes) long filled = absurd (omega arith)
+cells-image_of n (state ∷ states) cells long filled =
+    let size = cell_bytes n in
+    let start : 0 * size ≡ 0 = omega arith in
+    let its : IsFilled n state (take size cells) = rw start at (filled 0 (omega arith)) in
+    let rest_long : length (drop size cells) ≡ length states * size = simp length-drop (omega arith) in
+    let first = cell_of-contents_of n state (take size cells) its in
+    let others = cells-image_of n states (drop size cells) rest_long (AreFilled-rest n state states cells filled) in
+    rw (first, others) (take-append-drop size cells)

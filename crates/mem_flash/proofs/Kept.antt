@@ -1,7 +1,8 @@
 -- What the slots are after the calls, by what these write.
 use Rattle.std.proofs.Common.{◌≡◌, ◌≢◌, ℕ, add-one, ◌+◌, ◌*◌, ◌<◌, ◌≤◌, List, [], ◌++◌, length, get_or, set, take, drop, replicate, refl, ap, sym, ◌∙◌, arith}
 use Rattle.std.specs.Fork.{slice_chunk}
-use Rattle.std.proofs.lemmas.List.{length-set, get_or_read, set_split}
+use Rattle.std.specs.List.{flat_map}
+use Rattle.std.proofs.lemmas.List.{length-set, get_or_read, set_split, length-append, length-drop, length-replicate}
 use Rattle.std.proofs.Math.Nat.{mul-le-mul_right}
 use Rattle.list_facts.proofs.Chunks.{chunk_end}
 use Rattle.tx_types.specs.Config.{slots_of}
@@ -9,13 +10,14 @@ use Rattle.tx_types.specs.declared.config.Shape.{Shape}
 use Rattle.flash_model.specs.declared.flash.Seen.{Seen}
 use Rattle.flash_model.specs.declared.flash.Seen.TheVariants.{Blank, Complete}
 use Rattle.flash_model.specs.Flash.{Contents, blank, complete, slot_at, IsImage}
-use Rattle.flash_model.specs.Calls.{seen_of, page_of, spare_of}
+use Rattle.flash_model.specs.Calls.{seen_of, page_of, spare_area_of}
 use Rattle.mem_flash.specs.Slots.{overwritten, cell_bytes, cell_of, contents_of, filler, image_of, IsFilled, AreFilled}
-use Rattle.mem_flash.specs.SlotsInside.{AreStored}
+use Rattle.mem_flash.specs.SlotsInside.{AreStored, cells_of}
 use Rattle.mem_flash.specs.declared.slots.Slots.TheInside.{Inside}
-use Rattle.mem_flash.proofs.Images.{length-image_of, All-image_of, AreFilled-blank, image_of-blank, get_or-image_of, seen_of-contents_of, cell_of-contents_of, page_of-contents_of, spare_of-contents_of}
-use Rattle.mem_flash.proofs.Programmed.{image_of-programmed, AreFilled-programmed, length-programmed}
-use Rattle.mem_flash.proofs.Filled.{image_of-filled, AreFilled-filled, length-filled_states, length-filled_cells}
+use Rattle.mem_flash.proofs.Images.{length-image_of, cells-image_of, All-image_of, AreFilled-blank, image_of-blank, get_or-image_of, seen_of-contents_of, cell_of-contents_of, page_of-contents_of, spare_area_of-contents_of}
+use Rattle.mem_flash.proofs.Chunks.{length-overwritten, drop-overwritten}
+use Rattle.mem_flash.proofs.Programmed.{image_of-programmed, AreFilled-programmed}
+use Rattle.mem_flash.proofs.Filled.{image_of-filled, AreFilled-filled, length-filled_states}
 
 -- new slots, all of them blank
 pub AreFilled-new : (shape : Shape) (states : List Seen) (cells : List ℕ) → states ≡ replicate (slots_of shape) Blank
@@ -38,20 +40,27 @@ module _ (f : Inside) (stored : AreStored f) where
   states = f.seen.items
 
   abbrev cells : List ℕ
-  cells = f.cells.items
+  cells = cells_of f
+
+  cells_long : length cells ≡ slots_of f.shape * size
+  cells_long = simp length-drop (omega (arith, stored.bytes))
 
   bytes_long : length cells ≡ length states * size
-  bytes_long = stored.bytes ∙ ap (λ (n : ℕ). n * size) (sym stored.slots)
+  bytes_long = cells_long ∙ ap (λ (n : ℕ). n * size) (sym stored.slots)
 
-  pub cell_within : (at : ℕ) → at < slots_of f.shape → at * size + size ≤ length cells
+  pub cell_within : (at : ℕ) → at < slots_of f.shape → f.head + at * size + size ≤ length f.bytes.items
   cell_within at below =
       let ends : at * size + size ≤ slots_of f.shape * size = chunk_end size at (slots_of f.shape) below in
-      rw stored.bytes ends
+      omega (arith, stored.bytes)
 
-  pub cells_within : (i m : ℕ) → i + m ≤ slots_of f.shape → i * size + m * size ≤ length cells
+  pub cells_within : (i m : ℕ) → i + m ≤ slots_of f.shape → f.head + i * size + m * size ≤ length f.bytes.items
   cells_within i m within =
       let ends : (i + m) * size ≤ slots_of f.shape * size = mul-le-mul_right size within in
-      rw stored.bytes (omega arith)
+      omega (arith, stored.bytes)
+
+  -- what all slots show
+  pub flat-cells : flat_map (cell_of page) (image_of page states cells) ≡ cells
+  flat-cells = cells-image_of page states cells bytes_long stored.filled
 
   pub IsImage-stored : IsImage f.shape (image_of page states cells)
   IsImage-stored = record {
@@ -84,27 +93,38 @@ module _ (f : Inside) (stored : AreStored f) where
     pub page_of-slot : page_of page (slot_at (image_of page states cells) at) ≡ take page cell
     page_of-slot = rw is (page_of-contents_of page state cell filled)
 
-    pub spare_of-slot : spare_of (slot_at (image_of page states cells) at) ≡ drop page cell
-    spare_of-slot = rw is (spare_of-contents_of page state cell filled)
+    pub spare_area_of-slot : spare_area_of (slot_at (image_of page states cells) at) ≡ drop page cell
+    spare_area_of-slot = rw is (spare_area_of-contents_of page state cell filled)
 
   -- after a program
-  module _ (at : ℕ) (bytes spare : List ℕ) (below : at < slots_of f.shape) (whole : length bytes ≡ page) (tail : length spare ≡ 64) where
+  module _ (at : ℕ) (bytes spare_area : List ℕ) (below : at < slots_of f.shape) (whole : length bytes ≡ page) (tail : length spare_area ≡ 64) where
     inside : at < length states
     inside = rw stored.slots below
 
-    pub image-programmed : (new_states : List Seen) (new_cells : List ℕ)
-        → new_states ≡ set states at Complete → new_cells ≡ overwritten cells (at * size) (bytes ++ spare)
-        → image_of page new_states new_cells ≡ set (image_of page states cells) at (complete bytes spare)
-    image-programmed new_states new_cells states_are cells_are =
-        rw (states_are, cells_are) (image_of-programmed page states cells bytes_long at bytes spare inside whole tail)
+    written_within : f.head + at * size + length (bytes ++ spare_area) ≤ length f.bytes.items
+    written_within =
+        let ends : at * size + size ≤ slots_of f.shape * size = chunk_end size at (slots_of f.shape) below in
+        simp length-append (omega (arith, stored.bytes))
 
-    pub AreStored-programmed : (g : Inside) → g.shape ≡ f.shape
-        → g.seen.items ≡ set states at Complete → g.cells.items ≡ overwritten cells (at * size) (bytes ++ spare) → AreStored g
-    AreStored-programmed g same states_are cells_are = record {
+    written : (new_bytes : List ℕ) → new_bytes ≡ overwritten f.bytes.items (f.head + at * size) (bytes ++ spare_area)
+        → drop f.head new_bytes ≡ overwritten cells (at * size) (bytes ++ spare_area)
+    written new_bytes bytes_are =
+        rw bytes_are (drop-overwritten f.bytes.items f.head (at * size) (bytes ++ spare_area) written_within)
+
+    pub image-programmed : (new_states : List Seen) (new_bytes : List ℕ)
+        → new_states ≡ set states at Complete → new_bytes ≡ overwritten f.bytes.items (f.head + at * size) (bytes ++ spare_area)
+        → image_of page new_states (drop f.head new_bytes) ≡ set (image_of page states cells) at (complete bytes spare_area)
+    image-programmed new_states new_bytes states_are bytes_are =
+        rw (states_are, written new_bytes bytes_are) (image_of-programmed page states cells bytes_long at bytes spare_area inside whole tail)
+
+    pub AreStored-programmed : (g : Inside) → g.shape ≡ f.shape → g.head ≡ f.head
+        → g.seen.items ≡ set states at Complete → g.bytes.items ≡ overwritten f.bytes.items (f.head + at * size) (bytes ++ spare_area)
+        → AreStored g
+    AreStored-programmed g same same_head states_are bytes_are = record {
       shape = rw same stored.shape;
       slots = rw (states_are, same) (length-set states at Complete ∙ stored.slots);
-      bytes = rw (cells_are, same) (length-programmed page states cells bytes_long at bytes spare inside whole tail ∙ stored.bytes);
-      filled = rw (states_are, cells_are, same) (AreFilled-programmed page states cells bytes_long at bytes spare inside whole tail stored.filled);
+      bytes = rw (bytes_are, same, same_head) (length-overwritten f.bytes.items (f.head + at * size) (bytes ++ spare_area) written_within ∙ stored.bytes);
+      filled = rw (states_are, same, same_head, written g.bytes.items bytes_are) (AreFilled-programmed page states cells bytes_long at bytes spare_area inside whole tail stored.filled);
     }
 
   -- after the m slots from slot i on have lost their contents
@@ -112,20 +132,28 @@ module _ (f : Inside) (stored : AreStored f) where
     all_inside : i + m ≤ length states
     all_inside = rw stored.slots within
 
-    pub image-filled : (new_states : List Seen) (new_cells : List ℕ)
-        → new_states ≡ overwritten states i (replicate m how) → new_cells ≡ overwritten cells (i * size) (replicate (m * size) (filler how))
-        → image_of page new_states new_cells ≡ overwritten (image_of page states cells) i (replicate m (contents_of page how []))
-    image-filled new_states new_cells states_are cells_are =
-        rw (states_are, cells_are) (image_of-filled page states cells bytes_long i m all_inside how bare)
+    filled_bytes : (new_bytes : List ℕ) → new_bytes ≡ overwritten f.bytes.items (f.head + i * size) (replicate (m * size) (filler how))
+        → drop f.head new_bytes ≡ overwritten cells (i * size) (replicate (m * size) (filler how))
+    filled_bytes new_bytes bytes_are =
+        rw bytes_are (drop-overwritten f.bytes.items f.head (i * size) (replicate (m * size) (filler how))
+        (simp length-replicate (cells_within i m within)))
 
-    pub AreStored-filled : (g : Inside) → g.shape ≡ f.shape
-        → g.seen.items ≡ overwritten states i (replicate m how) → g.cells.items ≡ overwritten cells (i * size) (replicate (m * size) (filler how))
-        → AreStored g
-    AreStored-filled g same states_are cells_are = record {
+    pub image-filled : (new_states : List Seen) (new_bytes : List ℕ)
+        → new_states ≡ overwritten states i (replicate m how)
+        → new_bytes ≡ overwritten f.bytes.items (f.head + i * size) (replicate (m * size) (filler how))
+        → image_of page new_states (drop f.head new_bytes) ≡ overwritten (image_of page states cells) i (replicate m (contents_of page how []))
+    image-filled new_states new_bytes states_are bytes_are =
+        rw (states_are, filled_bytes new_bytes bytes_are) (image_of-filled page states cells bytes_long i m all_inside how bare)
+
+    pub AreStored-filled : (g : Inside) → g.shape ≡ f.shape → g.head ≡ f.head
+        → g.seen.items ≡ overwritten states i (replicate m how)
+        → g.bytes.items ≡ overwritten f.bytes.items (f.head + i * size) (replicate (m * size) (filler how)) → AreStored g
+    AreStored-filled g same same_head states_are bytes_are = record {
       shape = rw same stored.shape;
       slots = rw (states_are, same) (length-filled_states page states cells bytes_long i m all_inside how bare ∙ stored.slots);
-      bytes = rw (cells_are, same) (length-filled_cells page states cells bytes_long i m all_inside how bare ∙ stored.bytes);
-      filled = rw (states_are, cells_are, same) (AreFilled-filled page states cells bytes_long i m all_inside how bare stored.filled);
+      bytes = rw (bytes_are, same, same_head) (length-overwritten f.bytes.items (f.head + i * size) (replicate (m * size) (filler how))
+          (simp length-replicate (cells_within i m within)) ∙ stored.bytes);
+      filled = rw (states_are, same, same_head, filled_bytes g.bytes.items bytes_are) (AreFilled-filled page states cells bytes_long i m all_inside how bare stored.filled);
     }
 
 -- one slot written over

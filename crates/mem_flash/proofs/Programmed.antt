@@ -13,46 +13,46 @@ use Rattle.mem_flash.proofs.Chunks.{length-overwritten, slice_chunk-written, sli
 use Rattle.mem_flash.proofs.Images.{length-image_of, get_or-image_of}
 
 module _ (n : ℕ) (states : List Seen) (cells : List ℕ) (long : length cells ≡ length states * cell_bytes n)
-    (at : ℕ) (bytes spare : List ℕ) (inside : at < length states) (page : length bytes ≡ n) (tail : length spare ≡ 64) where
+    (at : ℕ) (bytes spare_area : List ℕ) (inside : at < length states) (page : length bytes ≡ n) (tail : length spare_area ≡ 64) where
   abbrev new_states : List Seen
   new_states = set states at Complete
 
   abbrev new_cells : List ℕ
-  new_cells = overwritten cells (at * cell_bytes n) (bytes ++ spare)
+  new_cells = overwritten cells (at * cell_bytes n) (bytes ++ spare_area)
 
-  whole : length (bytes ++ spare) ≡ cell_bytes n
-  whole = omega (arith, length-append bytes spare)
+  whole : length (bytes ++ spare_area) ≡ cell_bytes n
+  whole = omega (arith, length-append bytes spare_area)
 
   room : (at + 1) * cell_bytes n ≤ length cells
   room = let wide : (at + 1) * cell_bytes n ≤ length states * cell_bytes n = mul-le-mul_right (cell_bytes n) (omega arith) in omega arith
 
-  one : length (bytes ++ spare) ≡ 1 * cell_bytes n
+  one : length (bytes ++ spare_area) ≡ 1 * cell_bytes n
   one = omega (arith, whole)
 
   pub length-programmed : length new_cells ≡ length cells
-  length-programmed = length-overwritten cells (at * cell_bytes n) (bytes ++ spare) (omega (arith, whole, room))
+  length-programmed = length-overwritten cells (at * cell_bytes n) (bytes ++ spare_area) (omega (arith, whole, room))
 
-  chunk_here : slice_chunk new_cells (cell_bytes n) at ≡ bytes ++ spare
+  chunk_here : slice_chunk new_cells (cell_bytes n) at ≡ bytes ++ spare_area
   chunk_here =
-      slice_chunk-written cells (cell_bytes n) at 1 (bytes ++ spare) one room at 0 (omega arith) (omega arith)
-      ∙ slice_chunk-only (bytes ++ spare) (cell_bytes n) whole
+      slice_chunk-written cells (cell_bytes n) at 1 (bytes ++ spare_area) one room at 0 (omega arith) (omega arith)
+      ∙ slice_chunk-only (bytes ++ spare_area) (cell_bytes n) whole
 
   chunk_other : (k : ℕ) → k ≢ at → slice_chunk new_cells (cell_bytes n) k ≡ slice_chunk cells (cell_bytes n) k
   chunk_other k other =
       elim (cases_lt k at) [
-        | inl before ↦ slice_chunk-written_before cells (cell_bytes n) at 1 (bytes ++ spare) one room k before
-        | inr behind ↦ slice_chunk-written_behind cells (cell_bytes n) at 1 (bytes ++ spare) one room k (omega arith)
+        | inl before ↦ slice_chunk-written_before cells (cell_bytes n) at 1 (bytes ++ spare_area) one room k before
+        | inr behind ↦ slice_chunk-written_behind cells (cell_bytes n) at 1 (bytes ++ spare_area) one room k (omega arith)
       ]
 
-  image_here : get_or (image_of n new_states new_cells) at blank ≡ complete bytes spare
+  image_here : get_or (image_of n new_states new_cells) at blank ≡ complete bytes spare_area
   image_here =
       let below : at < length new_states = omega (arith, length-set states at Complete) in
       rw (
         get_or-image_of n new_states new_cells at blank below,
         get_or-set_same states at Complete Blank inside,
         chunk_here,
-        take_at bytes spare n page,
-        drop_at bytes spare n page,
+        take_at bytes spare_area n page,
+        drop_at bytes spare_area n page,
       )
       refl
 
@@ -68,19 +68,19 @@ module _ (n : ℕ) (states : List Seen) (cells : List ℕ) (long : length cells 
       refl
 
   image_at : (k : ℕ) → k < length states → (k ≡ at) ⊎ (k ≢ at)
-      → get_or (image_of n new_states new_cells) k blank ≡ get_or (set (image_of n states cells) at (complete bytes spare)) k blank
+      → get_or (image_of n new_states new_cells) k blank ≡ get_or (set (image_of n states cells) at (complete bytes spare_area)) k blank
   image_at k below (inl here) =
       let stands : at < length (image_of n states cells) = omega (arith, length-image_of n states cells) in
-      rw (here, image_here) (sym (get_or-set_same (image_of n states cells) at (complete bytes spare) blank stands))
+      rw (here, image_here) (sym (get_or-set_same (image_of n states cells) at (complete bytes spare_area) blank stands))
   image_at k below (inr other) =
-      image_other k below other ∙ sym (get_or-set_other (image_of n states cells) at k (complete bytes spare) blank other)
+      image_other k below other ∙ sym (get_or-set_other (image_of n states cells) at k (complete bytes spare_area) blank other)
 
   -- the slot holds what was written, and the others what they held
-  pub image_of-programmed : image_of n new_states new_cells ≡ set (image_of n states cells) at (complete bytes spare)
+  pub image_of-programmed : image_of n new_states new_cells ≡ set (image_of n states cells) at (complete bytes spare_area)
   image_of-programmed =
       ext_get_or blank _ _
       (length-image_of n new_states new_cells ∙ length-set states at Complete ∙ sym (length-image_of n states cells)
-      ∙ sym (length-set (image_of n states cells) at (complete bytes spare)))
+      ∙ sym (length-set (image_of n states cells) at (complete bytes spare_area)))
       (λ k below.
       let within : k < length states = omega (arith, length-image_of n new_states new_cells, length-set states at Complete) in
       image_at k within (cases_eq k at))

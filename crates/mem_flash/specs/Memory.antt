@@ -18,15 +18,15 @@ pub record MemoryState : Type 0 where
   pub extras : Extras
 
 -- how many breaks an arm will give
-abbrev pub breaks_of : {T : Type 0} → Option T → ℕ
-breaks_of None = 0
-breaks_of (Some arm) = 1
+abbrev pub breaks_to_come : {T : Type 0} → Option T → ℕ
+breaks_to_come None = 0
+breaks_to_come (Some arm) = 1
 
 -- one cut may come where one is armed, and a fault for each of the two other arms
 abbrev pub told_of : Armed → Told
 told_of armed = record {
-  cuts = breaks_of armed.cut;
-  breaks = breaks_of armed.fault + breaks_of armed.bad_read;
+  cuts = breaks_to_come armed.cut;
+  breaks = breaks_to_come armed.fault + breaks_to_come armed.bad_read;
   cut = armed.cut;
   fault = armed.fault;
   bad_read = armed.bad_read;

@@ -6,7 +6,7 @@ use Rattle.tx_types.specs.declared.config.Shape.{Shape}
 use Rattle.flash_model.specs.declared.flash.Seen.{Seen}
 use Rattle.flash_model.specs.declared.flash.Seen.TheVariants.{Blank, Damaged, Complete}
 use Rattle.flash_model.specs.Flash.{Contents, blank, damaged, complete}
-use Rattle.flash_model.specs.Calls.{page_of, spare_of}
+use Rattle.flash_model.specs.Calls.{page_of, spare_area_of}
 
 -- the slots of a flash of this shape, in order
 pub record SlotImage : Type 0 where
@@ -23,7 +23,7 @@ cell_bytes page_bytes = page_bytes + spare_bytes
 
 -- the bytes that a slot with these contents shows
 abbrev pub cell_of : ℕ → Contents → List ℕ
-cell_of page_bytes contents = page_of page_bytes contents ++ spare_of contents
+cell_of page_bytes contents = page_of page_bytes contents ++ spare_area_of contents
 
 -- what a slot holds that reads this way and has these bytes
 abbrev pub contents_of : ℕ → Seen → List ℕ → Contents

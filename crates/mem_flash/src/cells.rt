@@ -1,11 +1,12 @@
-ghost use Rattle.std.specs.Prelude.{◌≡◌, ◌+◌, ◌-◌, ◌*◌, ◌≤◌, ◌++◌, length, take, drop, replicate};
+ghost use Rattle.std.specs.Prelude.{◌≡◌, ◌+◌, ◌-◌, ◌*◌, ◌≤◌, ◌++◌, length, take, drop, replicate, IfOk};
 ghost use Rattle.std.specs.Fork.{slice_chunk};
 ghost use Rattle.mem_flash.specs.Slots.{cell_bytes, filler, overwritten};
 ghost use Rattle.tx_types.specs.Config.{IsShape};
 ghost use Rattle.tx_types.specs.Limits.{spare_bytes};
 
 use flash_model::{SPARE_BYTES, Seen};
-use tx_types::Shape;
+use std::alloc::Global;
+use tx_types::{Memory, Shape};
 
 /// The bytes of a slot: a page of contents and its spare area.
 pub fn cell_bytes(shape: Shape) -> usize
@@ -25,35 +26,45 @@ pub fn filler(how: Seen) -> u8
     }
 }
 
-/// The bytes of the slot at this index, where each slot has `size` bytes.
-pub fn cell_at(cells: &[u8], size: usize, at: usize) -> &[u8]
-    requires { at * size + size ≤ length cells.now }
-    ensures cell { result.now ≡ slice_chunk cells.now size at }
+/// The bytes of the slot at this index, where each slot has `size` bytes and the first stands behind a head.
+pub fn cell_at(bytes: &[u8], head: usize, size: usize, at: usize) -> &[u8]
+    requires { head + at * size + size ≤ length bytes.now }
+    ensures cell { result.now ≡ slice_chunk (drop head bytes.now) size at }
     ensures whole { length result.now ≡ size }
 {
-    let from = at * size;
-    &cells[from..from + size]
+    let from = head + at * size;
+    &bytes[from..from + size]
+}
+
+/// A copy of the bytes of slots behind a head of this many bytes.
+pub fn behind(alloc: Global, cells: &[u8], head: usize) -> Result<Vec<u8>, Memory>
+    ensures cells { IfOk result (λ bytes. drop head bytes.items ≡ cells.now) }
+    ensures whole { IfOk result (λ bytes. head ≤ length bytes.items) }
+{
+    let mut bytes = vec![in alloc; 0; head]?;
+    bytes.extend_from_slice(cells)?;
+    Ok(bytes)
 }
 
 /// Copies a slot's contents and its spare area out of its bytes.
-pub fn read_cell(cell: &[u8], into: &mut [u8], spare: &mut [u8; 64])
+pub fn read_cell(cell: &[u8], into: &mut [u8], spare_area: &mut [u8; 64])
     requires { length cell.now ≡ length into.old + spare_bytes }
     ensures page { into.new ≡ take (length into.old) cell.now }
-    ensures spare { spare.new ≡ drop (length into.old) cell.now }
+    ensures spare_area { spare_area.new ≡ drop (length into.old) cell.now }
 {
     let (page, rest) = cell.split_at(into.len());
     into.copy_from_slice(page);
-    spare.copy_from_slice(rest);
+    spare_area.copy_from_slice(rest);
 }
 
 /// Writes a page of contents and its spare area, from an index of the bytes on.
-pub fn write_cell(cells: &mut [u8], from: usize, bytes: &[u8], spare: &[u8; 64])
+pub fn write_cell(cells: &mut [u8], from: usize, bytes: &[u8], spare_area: &[u8; 64])
     requires { from + length bytes.now + spare_bytes ≤ length cells.old }
-    ensures { cells.new ≡ overwritten cells.old from (bytes.now ++ spare.now) }
+    ensures { cells.new ≡ overwritten cells.old from (bytes.now ++ spare_area.now) }
 {
     let middle = from + bytes.len();
     cells[from..middle].copy_from_slice(bytes);
-    cells[middle..middle + spare.len()].copy_from_slice(spare);
+    cells[middle..middle + spare_area.len()].copy_from_slice(spare_area);
 }
 
 /// Writes a byte this many times, from an index on.

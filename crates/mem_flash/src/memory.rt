@@ -1,4 +1,5 @@
-ghost use Rattle.std.specs.Prelude.{◌≡◌, ◌<◌, ◌≤◌, ◌+◌, ◌*◌, length, Some, true, IfOk, OnErr};
+ghost use Rattle.std.specs.Prelude.{◌≡◌, ◌<◌, ◌≤◌, ◌+◌, ◌*◌, length, drop, Some, true, IfOk, OnErr};
+ghost use Rattle.std.specs.List.{flat_map};
 ghost use Rattle.std.specs.Result.{is_err};
 ghost use Rattle.tx_types.specs.Config.{IsShape, slots_of, blocks_of};
 ghost use Rattle.tx_types.specs.Limits.{spare_bytes};
@@ -79,8 +80,26 @@ impl MemFlash {
         ensures { IfOk result (λ f.
             f ≡ fresh shape (image_of shape.page_bytes seen.items cells.items)) }
     {
+        MemFlash::from_bytes(alloc, shape, seen, cells, 0)
+    }
+
+    /// The same with the cells behind a head of this many bytes, which may be any.
+    pub fn from_bytes(
+        alloc: Global,
+        shape: Shape,
+        seen: Vec<Seen>,
+        bytes: Vec<u8>,
+        head: usize,
+    ) -> Result<MemFlash, Memory>
+        requires shape { IsShape shape }
+        requires slots { length seen.items ≡ slots_of shape }
+        requires bytes { length bytes.items ≡ head + slots_of shape * cell_bytes shape.page_bytes }
+        requires filled { AreFilled shape.page_bytes seen.items (drop head bytes.items) }
+        ensures { IfOk result (λ f.
+            f ≡ fresh shape (image_of shape.page_bytes seen.items (drop head bytes.items))) }
+    {
         Ok(MemFlash {
-            slots: Slots::new(shape, seen, cells),
+            slots: Slots::new(shape, seen, bytes, head),
             live: true,
             armed: Armed {
                 cut: None,
@@ -114,6 +133,16 @@ impl MemFlash {
         ensures whole { length result.now ≡ self.now.shape.page_bytes + spare_bytes }
     {
         self.slots.cell(at)
+    }
+
+    /// The contents and the spare areas of all slots, behind a head of this many bytes, which may be any. No
+    /// byte is copied where the flash was made of bytes with such a head.
+    pub fn into_bytes(self, alloc: Global, head: usize) -> Result<Vec<u8>, Memory>
+        ensures cells { IfOk result (λ bytes.
+            drop head bytes.items ≡ flat_map (cell_of self.shape.page_bytes) self.image) }
+        ensures whole { IfOk result (λ bytes. head ≤ length bytes.items) }
+    {
+        self.slots.into_bytes(alloc, head)
     }
 
     /// The number of reads that were asked for while power was on. It stands still at its type's end.
@@ -186,32 +215,32 @@ impl Flash for MemFlash {
         self.erases
     }
 
-    fn read(&mut self, at: Slot, into: &mut [u8], spare: &mut [u8; 64]) -> Result<Seen, Broken>
+    fn read(&mut self, at: Slot, into: &mut [u8], spare_area: &mut [u8; 64]) -> Result<Seen, Broken>
         requires exists { at.0 < slots_of self.old.shape }
         requires page { length into.old ≡ self.old.shape.page_bytes }
         ensures next { self.new ≡ after_read self.old }
         ensures answer { is_err result ≡ is_read_broken self.old }
-        ensures kept { OnErr result ((into.new ≡ into.old) × (spare.new ≡ spare.old)) }
+        ensures kept { OnErr result ((into.new ≡ into.old) × (spare_area.new ≡ spare_area.old)) }
         ensures reads { Reads (state_of self.old) (state_of self.new)
-            at.0 into.new spare.new result }
+            at.0 into.new spare_area.new result }
     {
         if self.meet_bad_read() {
             return Err(Broken);
         }
-        Ok(self.slots.read(at, into, spare))
+        Ok(self.slots.read(at, into, spare_area))
     }
 
-    fn program(&mut self, at: Slot, bytes: &[u8], spare: &[u8; 64]) -> Result<(), Broken>
+    fn program(&mut self, at: Slot, bytes: &[u8], spare_area: &[u8; 64]) -> Result<(), Broken>
         requires blank { CanProgram self.old.shape self.old.image at.0 }
         requires page { length bytes.now ≡ self.old.shape.page_bytes }
-        ensures next { self.new ≡ operated self.old (program at.0 bytes.now spare.now) }
+        ensures next { self.new ≡ operated self.old (program at.0 bytes.now spare_area.now) }
         ensures answer { result ≡ answered (broken_by self.old) }
         ensures programs { Programs (state_of self.old) (state_of self.new)
-            at.0 bytes.now spare.now result }
+            at.0 bytes.now spare_area.now result }
     {
         let broken = self.meet_arms();
         let how = broken.unwrap_or(Outcome::All);
-        self.slots.program(at, bytes, spare, how);
+        self.slots.program(at, bytes, spare_area, how);
         if broken.is_some() {
             return Err(Broken);
         }

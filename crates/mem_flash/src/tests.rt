@@ -224,15 +224,15 @@ fn calls_break_where_an_arm_comes_due(rt: HostRuntime) -> Result<(), Fail> {
 fn a_slot_reads_as_it_was_programmed(rt: HostRuntime) -> Result<(), Fail> {
     let mut flash = MemFlash::new(rt.alloc(), SHAPE)?;
     let bytes = *b"0123456789abcdef";
-    let spare = [0x54; 64];
+    let spare_area = [0x54; 64];
     let mut page = [0; 16];
     let mut rest = [0; 64];
-    flash.program(Slot(3), &bytes, &spare)?;
+    flash.program(Slot(3), &bytes, &spare_area)?;
     assert_eq!(rt;
         flash.read(Slot(3), &mut page, &mut rest),
         Ok(Seen::Complete)
     );
-    assert_eq!(rt; (page, rest), (bytes, spare));
+    assert_eq!(rt; (page, rest), (bytes, spare_area));
     flash.arm_fault(1, Bad);
     assert!(rt; flash.erase(Block(1)).is_err());
     assert_eq!(rt;

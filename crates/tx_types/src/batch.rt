@@ -1,23 +1,19 @@
-ghost use Rattle.std.specs.Prelude.{◌≡◌, ◌<◌, ◌≤◌, ◌↔◌, [], ◌++◌, length, IsTrue, IfOk, OnOk, OnErr};
+ghost use Rattle.std.specs.Prelude.{◌≡◌, ◌<◌, ◌+◌, ◌*◌, ◌≤◌, ◌↔◌, [], ◌++◌, length, IsTrue, OnOk, OnErr};
+ghost use Rattle.std.specs.Fork.{slice_chunk};
 ghost use Rattle.tx_types.specs.Batch.{padded, with_entry, entry_at};
 
 use crate::Memory;
 use std::alloc::Global;
 use std::marker::Model;
 
-/// A logical page and what it is to hold.
-#[derive(Debug, Drop)]
-struct Entry {
-    page: u32,
-    bytes: Vec<u8>,
-}
-
 /// The pages that one transaction writes, seen as the size of a page and the list of the writes.
 #[derive(Debug, Drop)]
 pub struct Batch {
-    alloc: Global,
     page_bytes: u32,
-    entries: Vec<Entry>,
+    /// The logical page of each entry.
+    pages: Vec<u32>,
+    /// The bytes of each entry, a whole page one behind another.
+    bytes: Vec<u8>,
 }
 
 impl Model for Batch {
@@ -27,9 +23,9 @@ impl Model for Batch {
 
     ghost use Rattle.tx_types.specs.Entries.{writes_of, AreWhole};
 
-    ghost view = { λ b. writes_of b.page_bytes b.entries.items };
+    ghost view = { λ b. writes_of b.page_bytes b.pages.items b.bytes.items };
 
-    ghost invariant = { λ b. AreWhole b.page_bytes b.entries.items };
+    ghost invariant = { λ b. AreWhole b.page_bytes b.pages.items b.bytes.items };
 }
 
 impl Batch {
@@ -38,9 +34,9 @@ impl Batch {
         ensures { result ≡ record { page_bytes = page_bytes; entries = [] } }
     {
         Batch {
-            alloc,
             page_bytes,
-            entries: Vec::new(alloc),
+            pages: Vec::new(alloc),
+            bytes: Vec::new(alloc),
         }
     }
 
@@ -51,8 +47,9 @@ impl Batch {
         ensures ok { OnOk result (self.new ≡ with_entry self.old page bytes.now) }
         ensures err { OnErr result (self.new ≡ self.old) }
     {
-        let bytes = filled(self.alloc, bytes, self.page_bytes)?;
-        self.entries.push(Entry { page, bytes })?;
+        self.pages.reserve(1)?;
+        add_padded(&mut self.bytes, bytes, self.page_bytes as usize)?;
+        self.pages.push_reserved(page);
         Ok(())
     }
 
@@ -60,14 +57,14 @@ impl Batch {
     pub fn len(&self) -> usize
         ensures { result ≡ length self.now.entries }
     {
-        self.entries.len()
+        self.pages.len()
     }
 
     /// Whether there is no entry.
     pub fn is_empty(&self) -> bool
         ensures { IsTrue result ↔ (self.now.entries ≡ []) }
     {
-        self.entries.is_empty()
+        self.pages.is_empty()
     }
 
     /// The bytes of a page.
@@ -82,7 +79,7 @@ impl Batch {
         requires { i < length self.now.entries }
         ensures { result ≡ (entry_at self.now i).page }
     {
-        self.entries[i].page
+        self.pages[i]
     }
 
     /// The bytes of the entry at this index, as many as a page has.
@@ -91,18 +88,29 @@ impl Batch {
         ensures bytes { result.now ≡ (entry_at self.now i).bytes }
         ensures whole { length result.now ≡ self.now.page_bytes }
     {
-        &self.entries[i].bytes
+        page_at(&self.bytes, self.page_bytes as usize, i)
     }
 }
 
-/// The bytes with zeros after them, up to a length.
-fn filled(alloc: Global, bytes: &[u8], page_bytes: u32) -> Result<Vec<u8>, Memory>
-    requires { length bytes.now ≤ page_bytes }
-    ensures filled { IfOk result (λ v. v.items ≡ padded page_bytes bytes.now) }
-    ensures whole { IfOk result (λ v. length v.items ≡ page_bytes) }
+/// Adds the bytes at the end, with zeros after them up to `size` bytes, or nothing where there is no memory.
+fn add_padded(all: &mut Vec<u8>, bytes: &[u8], size: usize) -> Result<(), Memory>
+    requires { length bytes.now ≤ size }
+    ensures ok { OnOk result (all.new.items ≡ all.old.items ++ padded size bytes.now) }
+    ensures err { OnErr result (all.new.items ≡ all.old.items) }
 {
-    let mut all = Vec::new(alloc);
-    all.extend_from_slice(bytes)?;
-    all.resize(page_bytes as usize, 0)?;
-    Ok(all)
+    all.reserve(size)?;
+    let end = all.len() + size;
+    all.extend_from_slice(bytes).unwrap();
+    all.resize(end, 0).unwrap();
+    Ok(())
+}
+
+/// The page at this index, of `size` bytes each.
+fn page_at(bytes: &[u8], size: usize, i: usize) -> &[u8]
+    requires { i * size + size ≤ length bytes.now }
+    ensures page { result.now ≡ slice_chunk bytes.now size i }
+    ensures whole { length result.now ≡ size }
+{
+    let from = i * size;
+    &bytes[from..from + size]
 }

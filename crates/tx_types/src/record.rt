@@ -23,4 +23,8 @@ pub struct Rec {
     /// Under Back Pointer Cyclic Commit the version that was current when the record was written, 0 for
     /// none; under Simple Cyclic Commit 0.
     pub back: u64,
+    /// How many records the transaction has, 0 where its records do not say.
+    pub count: u32,
+    /// Whether the page was discarded: it then has no contents.
+    pub discard: bool,
 }

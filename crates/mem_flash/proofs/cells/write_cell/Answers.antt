@@ -12,5 +12,5 @@ two_parts cells from m xs ys long within = same_lists _ _ (search (rules, places
 
 pub returns : goal.returns
 returns c =
-    let whole = two_parts c.args.cells.now c.args.from 64 c.args.bytes.now c.args.spare.now (omega arith) c.requires in
+    let whole = two_parts c.args.cells.now c.args.from 64 c.args.bytes.now c.args.spare_area.now (omega arith) c.requires in
     rw (c.copy_from_slice.ensures.after, c.copy_from_slice-2.ensures.after) (cc)

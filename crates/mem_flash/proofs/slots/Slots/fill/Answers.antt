@@ -15,8 +15,8 @@ pub invariant_of-self : goal.invariant_of-self
 invariant_of-self c =
     let exist = rw (← c.self.view_is) at c.requires.exist in
     let marked = with_items_is c.self.inside.seen c.mark.new.states (omega arith) in
-    let filled = with_items_is c.self.inside.cells c.fill_cells.new.cells (omega arith) in
-    AreStored-filled c.self.inside c.self.invariant c.args.first c.args.count c.args.how exist c.requires.bare _ refl (cc) (cc)
+    let filled = with_items_is c.self.inside.bytes c.fill_cells.new.cells (omega arith) in
+    AreStored-filled c.self.inside c.self.invariant c.args.first c.args.count c.args.how exist c.requires.bare _ refl refl (cc) (cc)
 
 pub returns-clause-slots : goal.returns-clause-slots
 returns-clause-slots c = rw (← c.self.view_is) ((IsImage-stored c.self.inside c.self.invariant).slots)
@@ -25,7 +25,7 @@ pub returns-clause-filled : goal.returns-clause-filled
 returns-clause-filled c =
     let exist = rw (← c.self.view_is) at c.requires.exist in
     let marked = with_items_is c.self.inside.seen c.mark.new.states (omega arith) in
-    let filled = with_items_is c.self.inside.cells c.fill_cells.new.cells (omega arith) in
+    let filled = with_items_is c.self.inside.bytes c.fill_cells.new.cells (omega arith) in
     let slots : List Contents → SlotImage = λ image. record { shape = c.self.inside.shape; image = image } in
     rw (← c.self.view_is)
     (ap slots (image-filled c.self.inside c.self.invariant c.args.first c.args.count c.args.how exist c.requires.bare _ _ (cc) (cc)))

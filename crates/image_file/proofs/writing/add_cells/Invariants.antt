@@ -1,7 +1,7 @@
 use Rattle.std.proofs.Common.{◌≡◌, ◌++◌, take}
 use Rattle.std.specs.List.{flat_map}
 use Rattle.mem_flash.specs.Slots.{cell_of}
-use Rattle.image_file.proofs.image.add_cells.Given as goal
+use Rattle.image_file.proofs.writing.add_cells.Given as goal
 
 abbrev pub invariant-loop-slot : goal.invariant-loop-slot
 invariant-loop-slot l = l.bytes.items ≡ l.fn.bytes.items ++ flat_map (cell_of l.flash.shape.page_bytes) (take l.slot l.flash.image)

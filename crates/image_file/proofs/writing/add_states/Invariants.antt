@@ -1,7 +1,7 @@
 use Rattle.std.proofs.Common.{◌≡◌, ◌++◌, map, take}
 use Rattle.flash_model.specs.Calls.{seen_of}
 use Rattle.image_file.specs.Spelling.{state_byte}
-use Rattle.image_file.proofs.image.add_states.Given as goal
+use Rattle.image_file.proofs.writing.add_states.Given as goal
 
 abbrev pub invariant-loop-slot : goal.invariant-loop-slot
 invariant-loop-slot l = l.bytes.items ≡ l.fn.bytes.items ++ map (λ slot. state_byte (seen_of slot)) (take l.slot l.flash.image)

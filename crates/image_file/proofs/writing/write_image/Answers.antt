@@ -1,6 +1,6 @@
 use Rattle.std.proofs.Common.{rules}
 use Rattle.image_file.proofs.SpellingLemmas.{written}
-use Rattle.image_file.proofs.image.write_image.Goals as goal
+use Rattle.image_file.proofs.writing.write_image.Goals as goal
 
 pub returns : goal.returns
 returns c =
