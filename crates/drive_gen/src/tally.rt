@@ -1,6 +1,6 @@
 ghost use Rattle.std.specs.Prelude.{◌≡◌, [], ◌∷◌, codes, if◌then◌else◌};
 ghost use Rattle.host_protocol.specs.Lines.{lines_of};
-ghost use Rattle.drive_gen.specs.Summary.{begins_with, last_stats, page_sum};
+ghost use Rattle.drive_gen.specs.Summary.{begins_with, last_stats, page_sum, word_or};
 ghost use Rattle.drive_gen.specs.Tally.{IsCounted, plus, tally_of};
 
 use crate::hexadecimal::sum_of_bytes;
@@ -40,20 +40,22 @@ pub fn count_lines(replies: &[u8]) -> (Tally, &[u8])
     let mut stats = &replies[..0];
     let mut rest = replies;
     while let Some((line, behind)) = first_line(rest) {
-        tally = tally.plus(tally_of(line));
-        stats = later_stats(stats, line);
+        let word = word_at(line, 0, b"");
+        tally = tally.plus(tally_of(line, word));
+        stats = later_stats(stats, line, word);
         rest = behind;
     }
     (tally, stats)
 }
 
-/// The line, if it is one of the numbers of a device, else the one before.
+/// The line, if it is one of the numbers of a device, else the one before. `word` is its first word.
 #[tactic(auto, unfolding(crate::specs::Summary::begins_with))]
-fn later_stats<'a>(before: &'a [u8], line: &'a [u8]) -> &'a [u8]
+fn later_stats<'a>(before: &'a [u8], line: &'a [u8], word: &[u8]) -> &'a [u8]
+    requires { word.now ≡ word_or line.now 0 [] }
     ensures { let is_stats = begins_with (codes "stats") line.now in
         result.now ≡ (if is_stats then line.now else before.now) }
 {
-    if word_at(line, 0, b"") == b"stats".as_slice() {
+    if word == b"stats".as_slice() {
         line
     } else {
         before
@@ -77,28 +79,29 @@ impl Tally {
     }
 }
 
-/// The counts of one line.
+/// The counts of one line. `word` is its first word.
 #[tactic(auto, unfolding(crate::specs::Summary::begins_with))]
-fn tally_of(line: &[u8]) -> Tally
+fn tally_of(line: &[u8], word: &[u8]) -> Tally
+    requires { word.now ≡ word_or line.now 0 [] }
     ensures { result ≡ tally_of (line.now ∷ []) }
 {
-    let word = word_at(line, 0, b"");
     Tally {
         done: u64::from(word == b"done".as_slice()),
         aborted: u64::from(word == b"aborted".as_slice()),
         cut: u64::from(word == b"cut".as_slice()),
         refused: u64::from(word == b"refused".as_slice()),
         unknown: u64::from(word == b"unknown".as_slice()),
-        sum: sum_of_page(line),
+        sum: sum_of_page(line, word),
     }
 }
 
-/// The sum of the bytes of the line of a page, 0 for any other line.
+/// The sum of the bytes of the line of a page, 0 for any other line. `word` is its first word.
 #[tactic(auto, unfolding(crate::specs::Summary::begins_with))]
-fn sum_of_page(line: &[u8]) -> u128
+fn sum_of_page(line: &[u8], word: &[u8]) -> u128
+    requires { word.now ≡ word_or line.now 0 [] }
     ensures { result ≡ page_sum line.now }
 {
-    if word_at(line, 0, b"") == b"page".as_slice() {
+    if word == b"page".as_slice() {
         sum_of_bytes(word_at(line, 2, b""))
     } else {
         0

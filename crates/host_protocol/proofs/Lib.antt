@@ -7,3 +7,4 @@ pub mod PartLemmas
 pub mod ReadingLemmas
 pub mod ReplyLemmas
 pub mod WordLemmas
+mod SearchLemmas

@@ -6,6 +6,7 @@ ghost use Rattle.host_protocol.specs.Reading.{AnswersAs};
 
 use crate::error::LineError;
 use crate::numbers::number;
+use memchr::memchr;
 use std::alloc::Global;
 
 /// The page and the bytes that an entry gives, without the zeros that fill the page.
@@ -49,10 +50,11 @@ pub fn around_equals(word: &[u8]) -> Option<(&[u8], &[u8])>
 }
 
 /// Where the first equals sign stands.
+#[tactic(auto, using(crate::proofs::SearchLemmas::found_first))]
 fn first_equals(word: &[u8]) -> Option<usize>
     ensures { result ≡ position is_equals word.now }
 {
-    word.iter().position(|b| *b == b'=')
+    memchr(b'=', word)
 }
 
 /// The bytes of a page, by their text: none for a dash, else one to all of them by hexadecimal digits.

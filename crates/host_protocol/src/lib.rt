@@ -9,6 +9,7 @@ mod laws;
 mod line;
 mod lines;
 mod numbers;
+mod numbers_line;
 mod operands;
 mod reply;
 mod verb;

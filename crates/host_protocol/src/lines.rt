@@ -2,6 +2,8 @@ ghost use Rattle.std.specs.Prelude.{◌≡◌, ◌<◌, [], ◌∷◌, length, p
 ghost use Rattle.std.specs.Str.Lines.{strip_carriage_return};
 ghost use Rattle.host_protocol.specs.Lines.{lines_of, is_line_feed};
 
+use memchr::memchr;
+
 /// The first line of a file, and what is behind it.
 pub fn first_line(bytes: &[u8]) -> Option<(&[u8], &[u8])>
     ensures line { let lines = lines_of bytes.now in
@@ -19,10 +21,11 @@ pub fn first_line(bytes: &[u8]) -> Option<(&[u8], &[u8])>
 }
 
 /// Where the first line feed stands.
+#[tactic(auto, using(crate::proofs::SearchLemmas::found_first))]
 fn first_line_feed(bytes: &[u8]) -> Option<usize>
     ensures { result ≡ position is_line_feed bytes.now }
 {
-    bytes.iter().position(|b| *b == b'\n')
+    memchr(b'\n', bytes)
 }
 
 /// The line without a carriage return at its end.

@@ -2,6 +2,7 @@ ghost use Rattle.std.specs.Prelude.{◌≡◌, ◌++◌, IfOk, IsOkAnd, OnOk, On
 ghost use Rattle.std.specs.String.{string_bytes};
 ghost use Rattle.host_protocol.specs.Replies.{text_of, line_of, page_words, stats_words, flash_stats};
 
+use crate::numbers_line::add_line;
 use std::alloc::{AllocError, Global};
 use tx_types::{Bytes, Memory, Stats};
 
@@ -60,28 +61,26 @@ pub fn reply_text(alloc: Global, reply: &Reply, out: &mut Vec<u8>) -> Result<(),
     ensures err { OnErr result (out.new.items ≡ out.old.items) }
 {
     match reply {
-        Reply::Blank(page) => push(format!(in alloc; "blank {page}\n"), out),
+        Reply::Blank(page) => add_line(b"blank", &[*page], out),
         Reply::Page(page, bytes) => push(page_line(alloc, *page, bytes.as_slice()), out),
-        Reply::Opened(tag, pages) => push(format!(in alloc; "open {tag} {pages}\n"), out),
-        Reply::Wrote(tag, done, all) => push(format!(in alloc; "wrote {tag} {done} {all}\n"), out),
-        Reply::Done(tag) => push(format!(in alloc; "done {tag}\n"), out),
-        Reply::Aborted(tag) => push(format!(in alloc; "aborted {tag}\n"), out),
-        Reply::Late(tag) => push(format!(in alloc; "late {tag}\n"), out),
-        Reply::Unknown(tag) => push(format!(in alloc; "unknown {tag}\n"), out),
+        Reply::Opened(tag, pages) => add_line(b"open", &[*tag, *pages], out),
+        Reply::Wrote(tag, done, all) => add_line(b"wrote", &[*tag, *done, *all], out),
+        Reply::Done(tag) => add_line(b"done", &[*tag], out),
+        Reply::Aborted(tag) => add_line(b"aborted", &[*tag], out),
+        Reply::Late(tag) => add_line(b"late", &[*tag], out),
+        Reply::Unknown(tag) => add_line(b"unknown", &[*tag], out),
         Reply::Collected => append(b"collected\n", out),
         Reply::Nothing => append(b"nothing\n", out),
         Reply::Armed => append(b"armed\n", out),
         Reply::Cut => append(b"cut\n", out),
         Reply::Fault => append(b"fault\n", out),
         Reply::RefusedEmpty => append(b"refused empty\n", out),
-        Reply::RefusedRange(page) => push(format!(in alloc; "refused range {page}\n"), out),
-        Reply::RefusedRepeated(page) => push(format!(in alloc; "refused repeated {page}\n"), out),
-        Reply::RefusedTag(tag) => push(format!(in alloc; "refused tag {tag}\n"), out),
-        Reply::RefusedOverlap(page, tag) => {
-            push(format!(in alloc; "refused overlap {page} {tag}\n"), out)
-        }
-        Reply::RefusedFull(free) => push(format!(in alloc; "refused full {free}\n"), out),
-        Reply::RefusedSpent(page) => push(format!(in alloc; "refused spent {page}\n"), out),
+        Reply::RefusedRange(page) => add_line(b"refused range", &[*page], out),
+        Reply::RefusedRepeated(page) => add_line(b"refused repeated", &[*page], out),
+        Reply::RefusedTag(tag) => add_line(b"refused tag", &[*tag], out),
+        Reply::RefusedOverlap(page, tag) => add_line(b"refused overlap", &[*page, *tag], out),
+        Reply::RefusedFull(free) => add_line(b"refused full", &[*free], out),
+        Reply::RefusedSpent(page) => add_line(b"refused spent", &[*page], out),
         Reply::Stats(stats) => push(stats_line(alloc, stats), out),
         Reply::Report(text) => append(text.as_slice(), out),
     }

@@ -1,6 +1,8 @@
 ghost use Rattle.std.specs.Prelude.{◌≡◌, ◌<◌, [], ◌∷◌, length, not, position, IfSome, IfNone};
 ghost use Rattle.host_protocol.specs.Lines.{words_of, is_space_or_tab};
 
+use memchr::memchr2;
+
 /// The first word of a line, and what is behind it.
 pub fn first_word(line: &[u8]) -> Option<(&[u8], &[u8])>
     ensures word { let words = words_of line.now in
@@ -22,8 +24,9 @@ fn first_filled(line: &[u8]) -> Option<usize>
 }
 
 /// Where the first space or tab stands.
+#[tactic(auto, using(crate::proofs::SearchLemmas::found_first))]
 fn first_blank(line: &[u8]) -> Option<usize>
     ensures { result ≡ position is_space_or_tab line.now }
 {
-    line.iter().position(|b| *b == b' ' || *b == b'\t')
+    memchr2(b' ', b'\t', line)
 }

@@ -1,0 +1,39 @@
+//! Lines of a few numbers behind some words.
+ghost use Rattle.std.specs.Prelude.{◌≡◌, ◌+◌, ◌*◌, ◌<◌, ◌≤◌, ◌∷◌, ◌++◌, length, map, vec_len, vec_capacity, OnOk, OnErr};
+ghost use Rattle.std.specs.Fmt.{decimal};
+ghost use Rattle.host_protocol.specs.Replies.{line_of};
+
+use itoa::Buffer;
+use tx_types::Memory;
+
+/// The most bytes of a number of 32 bits with a space before it.
+const NUMBER_BYTES: usize = 11;
+
+/// Appends the line of these words and of the numbers behind them, or nothing where there is no memory.
+pub fn add_line(words: &[u8], numbers: &[u32], out: &mut Vec<u8>) -> Result<(), Memory>
+    requires { length words.now + NUMBER_BYTES * length numbers.now < 100 }
+    ensures ok { OnOk result
+        (out.new.items ≡ out.old.items ++ line_of (words.now ∷ map decimal numbers.now)) }
+    ensures err { OnErr result (out.new.items ≡ out.old.items) }
+{
+    out.reserve(words.len() + NUMBER_BYTES * numbers.len() + 1)?;
+    out.extend_from_slice(words).unwrap();
+    for number in numbers {
+        add_number(*number, out);
+    }
+    out.push_reserved(b'\n');
+    Ok(())
+}
+
+/// Appends a space and a number, for which there is room.
+fn add_number(number: u32, out: &mut Vec<u8>)
+    requires { vec_len out.old + NUMBER_BYTES ≤ vec_capacity out.old }
+    ensures items { out.new.items ≡ out.old.items ++ 32 ∷ decimal number }
+    ensures len { vec_len out.new ≤ vec_len out.old + NUMBER_BYTES }
+    ensures capacity { vec_capacity out.old ≤ vec_capacity out.new }
+{
+    let mut digits = Buffer::new();
+    out.push_reserved(b' ');
+    out.extend_from_slice(digits.format(number).as_bytes())
+        .unwrap();
+}
