@@ -1,0 +1,11 @@
+use Rattle.std.proofs.Common.{◌≡◌, ◌≢◌, ℕ, ◌<◌, []}
+use Rattle.record_chart.specs.declared.seen.Seen.TheVariants.{New}
+use Rattle.record_chart.specs.Seen.{seen_at, IsFollowed}
+use Rattle.record_chart.proofs.orbits.Orbits.new.Given as goal
+
+abbrev pub invariant-loop-start : goal.invariant-loop-start
+invariant-loop-start l = record {
+  path : l.path.items ≡ [];
+  followed : IsFollowed l.graph l.seen.items [];
+  before : (i : ℕ) → i < l.start → seen_at l.seen.items i ≢ New;
+}

@@ -1,0 +1,11 @@
+use Rattle.std.proofs.Common.{rules}
+use Rattle.std.proofs.lemmas.List.Sorted.{IsPartitionPoint-from_clause}
+use Rattle.record_list.specs.Records.{name_of}
+use Rattle.record_chart.specs.Charts.{is_below}
+use Rattle.record_chart.proofs.Order.{parted_by_name}
+use Rattle.record_chart.proofs.search.count_below.Goals as goal
+
+pub returns-clause-first : goal.returns-clause-first
+returns-clause-first c =
+    IsPartitionPoint-from_clause (λ f. is_below (name_of f.rec) c.args.name) c.args.records.now c.partition_point.result
+    c.partition_point.ensures.partitioned (parted_by_name c.args.records.now c.args.name c.requires) (λ a r q k. search rules)

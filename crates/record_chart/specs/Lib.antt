@@ -1,0 +1,7 @@
+pub mod Charts
+pub mod Inside
+pub mod InsideStanding
+pub mod Minima
+pub mod Orbits
+pub mod Seen
+pub mod Standings

@@ -1,0 +1,172 @@
+ghost use Rattle.std.specs.Prelude.{◌≡◌, ◌<◌, ◌^◌, position, filter, IfOk, length};
+ghost use Rattle.tx_types.specs.declared.config.Protocol.TheVariants.{Bpcc};
+ghost use Rattle.record_list.specs.Records.{greatest, has_name, is_present, newest, next_older};
+ghost use Rattle.record_list.specs.Verdict.{link_of, back_of, straddling, why};
+ghost use Rattle.record_list.specs.Current.{cur, responsible, straddling_upto};
+ghost use Rattle.record_chart.specs.Charts.{IsInOrder, Sorts, IsOrbitOfNewest};
+
+use crate::group::{straddling, straddling_up_to};
+use crate::in_order::{back_of, find, link_of, named, newest, next_older, sort};
+use crate::minima::minima;
+use crate::walks::{links, shown};
+use crate::{Orbit, Orbits};
+use record_list::{Found, Verdict, Why};
+use std::alloc::{AllocError, Global};
+use std::marker::Model;
+use tx_types::{Link, Protocol};
+
+/// Records in order of their names, by page and then by version, and where their links lead.
+#[derive(Debug, Drop)]
+pub struct Chart {
+    records: Vec<Found>,
+    least: Vec<u64>,
+    orbits: Orbits,
+}
+
+impl Model for Chart {
+    ghost use Rattle.std.specs.Prelude.{List};
+    ghost use Rattle.record_list.specs.declared.found.Found.{Found};
+
+    ghost Value = { List Found };
+
+    ghost use Rattle.record_chart.specs.Inside.{IsCharted};
+
+    ghost view = { λ c. c.records.items };
+
+    ghost invariant = { IsCharted };
+}
+
+impl Chart {
+    /// Sorts the records, and finds where their links lead. Records of one name stay in the order that
+    /// they have. For more than `u32::MAX` of them there is no room.
+    pub fn new(alloc: Global, mut records: Vec<Found>) -> Result<Chart, AllocError>
+        ensures { IfOk result (λ chart. Sorts records.items chart) }
+    {
+        if records.len() > u32::MAX as usize {
+            return Err(AllocError);
+        }
+        sort(&mut records)?;
+        let least = minima(alloc, &records, &[])?;
+        let links = links(alloc, &records)?;
+        let orbits = Orbits::new(alloc, &links)?;
+        Ok(Chart {
+            records,
+            least,
+            orbits,
+        })
+    }
+
+    /// The records, in order.
+    pub fn records(&self) -> &[Found]
+        ensures records { result.now ≡ self.now }
+        ensures order { IsInOrder result.now }
+        ensures few { length result.now < 2 ^ 32 }
+    {
+        self.records.as_slice()
+    }
+
+    /// The place of the first record with this name.
+    pub fn find(&self, name: Link) -> Option<u32>
+        ensures { result ≡ position (λ f. has_name name f.rec) self.now }
+    {
+        find(&self.records, name)
+    }
+
+    /// The records with this name.
+    pub fn named(&self, name: Link) -> &[Found]
+        ensures { result.now ≡ filter (λ f. has_name name f.rec) self.now }
+    {
+        named(&self.records, name)
+    }
+
+    /// Whether some record has this name.
+    pub fn is_present(&self, name: Link) -> bool
+        ensures { result ≡ is_present self.now name }
+    {
+        self.find(name).is_some()
+    }
+
+    /// The greatest version of a page, 0 for none.
+    pub fn newest(&self, page: u32) -> u64
+        ensures { result ≡ newest self.now page }
+    {
+        newest(&self.records, page)
+    }
+
+    /// The greatest version of a page below a version, 0 for none.
+    pub fn next_older(&self, page: u32, below: u64) -> u64
+        ensures { result ≡ next_older self.now page below }
+    {
+        next_older(&self.records, page, below)
+    }
+
+    /// The greatest version of a record that straddles this name, 0 for none.
+    pub fn straddling(&self, name: Link) -> u64
+        ensures { result ≡ straddling self.now name }
+    {
+        straddling(&self.records, &self.least, name)
+    }
+
+    /// The link of the first record with this name, and the name itself where no record has it.
+    pub fn link_of(&self, name: Link) -> Link
+        ensures { result ≡ link_of self.now name }
+    {
+        link_of(&self.records, name)
+    }
+
+    /// The back version of the first record with this name, 0 where no record has it.
+    pub fn back_of(&self, name: Link) -> u64
+        ensures { result ≡ back_of self.now name }
+    {
+        back_of(&self.records, name)
+    }
+
+    /// Where the links of newest records lead from that of a page; nothing where the page has no record.
+    pub fn orbit(&self, page: u32) -> Option<Orbit>
+        ensures { IsOrbitOfNewest self.now page result }
+    {
+        let version = self.newest(page);
+        let place = self.find(Link { page, version })?;
+        Some(self.orbits.orbit(place))
+    }
+
+    /// What decides the verdict on the newest record of a page: where the walk from it ends.
+    pub fn why(&self, protocol: Protocol, logical: u32, page: u32) -> Why
+        ensures { result ≡ why protocol self.now logical page }
+    {
+        match self.orbit(page) {
+            Some(orbit) => shown(protocol, &self.records, &self.least, logical, orbit),
+            None => Why::Cycle,
+        }
+    }
+
+    /// The current version of a page, 0 for none.
+    pub fn current(&self, protocol: Protocol, logical: u32, page: u32) -> u64
+        ensures { result ≡ cur protocol self.now logical page }
+    {
+        let version = self.newest(page);
+        match self.why(protocol, logical, page).verdict() {
+            Verdict::Committed => version,
+            Verdict::Uncommitted => match protocol {
+                Protocol::Scc => self.next_older(page, version),
+                Protocol::Bpcc => self.back_of(Link { page, version }),
+            },
+        }
+    }
+
+    /// The greatest version, up to `top`, of a record that straddles this name, 0 for none.
+    pub fn straddling_up_to(&self, name: Link, top: u64) -> u64
+        ensures { result ≡ greatest (straddling_upto top name) self.now }
+    {
+        straddling_up_to(&self.records, name, top)
+    }
+
+    /// Under Back Pointer Cyclic Commit the version of the record that is responsible for the loose
+    /// records which link to this name, 0 for none.
+    pub fn responsible(&self, logical: u32, name: Link) -> u64
+        ensures { result ≡ responsible Bpcc self.now logical name }
+    {
+        let top = self.current(Protocol::Bpcc, logical, name.page);
+        self.straddling_up_to(name, top)
+    }
+}

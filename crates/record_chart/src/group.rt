@@ -1,0 +1,84 @@
+//! The records of one page, in records that are in order of their names.
+ghost use Rattle.std.specs.Prelude.{◌≡◌, ◌≢◌, ℕ, ◌<◌, [], length, slice_index_or};
+ghost use Rattle.tx_types.specs.declared.record.Rec.{Rec};
+ghost use Rattle.record_list.specs.Records.{greatest};
+ghost use Rattle.record_list.specs.Verdict.{straddling};
+ghost use Rattle.record_list.specs.Current.{straddling_upto};
+ghost use Rattle.record_chart.specs.Charts.{IsInOrder};
+ghost use Rattle.record_chart.specs.Minima.{AreMinima};
+
+use crate::in_order::{names_up_to, pages_up_to};
+use crate::minima::{count_below, last_above};
+use crate::search::names_below;
+use record_list::Found;
+use straddle_sets::straddles;
+use tx_types::Link;
+
+/// The greatest version of a record that straddles this name, 0 for none, by the least back versions of
+/// the records.
+pub fn straddling(records: &[Found], least: &[u64], name: Link) -> u64
+    requires order { IsInOrder records.now }
+    requires minima { AreMinima records.now [] least.now }
+    ensures { result ≡ straddling records.now name }
+{
+    let from = names_below(records, Link { version: 0, ..name });
+    let end = pages_up_to(records, name.page);
+    let count = count_below(&least[from..end], name.version);
+    last_above(records, from, count, name.version)
+}
+
+/// The greatest version, up to the bound of its page, of a record that straddles this name, 0 for none,
+/// by the least back versions of the records up to their bounds.
+pub fn straddling_up_to_bound(records: &[Found], tops: &[u64], least: &[u64], name: Link) -> u64
+    requires order { IsInOrder records.now }
+    requires minima { AreMinima records.now tops.now least.now }
+    requires bound { name.page < length tops.now }
+    ensures { result
+        ≡ greatest (straddling_upto (slice_index_or tops.now name.page 0) name) records.now }
+{
+    let top = tops[name.page as usize];
+    let from = names_below(records, Link { version: 0, ..name });
+    let end = names_up_to(
+        records,
+        Link {
+            version: top,
+            ..name
+        },
+    );
+    let count = count_below(&least[from..end], name.version);
+    last_above(records, from, count, name.version)
+}
+
+/// The greatest version, up to `top`, of a record that straddles this name, 0 for none.
+pub fn straddling_up_to(records: &[Found], name: Link, top: u64) -> u64
+    requires { IsInOrder records.now }
+    ensures { result ≡ greatest (straddling_upto top name) records.now }
+{
+    greatest_up_to(group(records, name.page), name, top)
+}
+
+/// The greatest version, up to `top`, of one of these records that straddles this name, 0 for none.
+#[tactic(auto, using(record_list::proofs::Greatest::greatest_step))]
+fn greatest_up_to(group: &[Found], name: Link, top: u64) -> u64
+    ensures { result ≡ greatest (straddling_upto top name) group.now }
+{
+    let mut best = 0;
+    for found in group {
+        let rec = found.rec;
+        if rec.page == name.page && straddles(rec, name.version) && rec.version <= top {
+            best = rec.version.max(best);
+        }
+    }
+    best
+}
+
+/// The records of a page: what is 0 for those of other pages has the same greatest value among them.
+fn group(records: &[Found], page: u32) -> &[Found]
+    requires { IsInOrder records.now }
+    ensures { (of : Rec → ℕ) → ((r : Rec) → r.page ≢ page → of r ≡ 0) →
+        greatest of result.now ≡ greatest of records.now }
+{
+    let from = names_below(records, Link { page, version: 0 });
+    let to = pages_up_to(records, page);
+    &records[from..to]
+}

@@ -1,0 +1,145 @@
+//! What records say that are in order of their names.
+ghost use Rattle.std.specs.Prelude.{◌≡◌, ◌<◌, ◌≤◌, ◌^◌, true, false, position, filter, OnOk, length};
+ghost use Rattle.std.specs.List.Sorted.{IsPartitionPoint};
+ghost use Rattle.record_list.specs.Records.{name_of, has_name, newest, next_older};
+ghost use Rattle.record_list.specs.Verdict.{link_of, back_of};
+ghost use Rattle.record_chart.specs.Charts.{is_below, IsInOrder, Sorts, SortsByLink, last_version};
+
+use crate::search::names_below;
+use record_list::Found;
+use std::alloc::AllocError;
+use tx_types::{Link, Rec};
+
+/// Puts records in order of their names. Those of one name stay in the order that they have.
+pub fn sort(records: &mut Vec<Found>) -> Result<(), AllocError>
+    ensures { OnOk result (Sorts records.old.items records.new.items) }
+{
+    records.sort_by_key(|found| (found.rec.page, found.rec.version))?;
+    Ok(())
+}
+
+/// Puts records in order of their links. Those of one link stay in the order that they have.
+pub fn sort_by_link(records: &mut Vec<Found>) -> Result<(), AllocError>
+    ensures { OnOk result (SortsByLink records.old.items records.new.items) }
+{
+    records.sort_by_key(|found| (found.rec.next.page, found.rec.next.version))?;
+    Ok(())
+}
+
+/// The place of the first record with this name.
+pub fn find(records: &[Found], name: Link) -> Option<u32>
+    requires order { IsInOrder records.now }
+    requires few { length records.now < 2 ^ 32 }
+    ensures { result ≡ position (λ f. has_name name f.rec) records.now }
+{
+    let at = names_below(records, name);
+    if at < records.len() && has_name(&records[at].rec, name) {
+        Some(at as u32)
+    } else {
+        None
+    }
+}
+
+/// The records with this name.
+pub fn named(records: &[Found], name: Link) -> &[Found]
+    requires { IsInOrder records.now }
+    ensures { result.now ≡ filter (λ f. has_name name f.rec) records.now }
+{
+    let from = names_below(records, name);
+    let to = names_up_to(records, name);
+    &records[from..to]
+}
+
+/// The link of the first record with this name, and the name itself where no record has it.
+#[tactic(auto, using(crate::proofs::WalkOrbits::link_found, crate::proofs::WalkOrbits::link_nowhere))]
+pub fn link_of(records: &[Found], name: Link) -> Link
+    requires order { IsInOrder records.now }
+    requires few { length records.now < 2 ^ 32 }
+    ensures { result ≡ link_of records.now name }
+{
+    match find(records, name) {
+        Some(place) => records[place as usize].rec.next,
+        None => name,
+    }
+}
+
+/// The back version of the first record with this name, 0 where no record has it.
+#[tactic(auto, using(crate::proofs::WalkOrbits::back_found, crate::proofs::WalkOrbits::back_nowhere))]
+pub fn back_of(records: &[Found], name: Link) -> u64
+    requires order { IsInOrder records.now }
+    requires few { length records.now < 2 ^ 32 }
+    ensures { result ≡ back_of records.now name }
+{
+    match find(records, name) {
+        Some(place) => records[place as usize].rec.back,
+        None => 0,
+    }
+}
+
+/// The greatest version of a page, 0 for none.
+pub fn newest(records: &[Found], page: u32) -> u64
+    requires { IsInOrder records.now }
+    ensures { result ≡ newest records.now page }
+{
+    last_version(records, pages_up_to(records, page), page)
+}
+
+/// The greatest version of a page below a version, 0 for none.
+pub fn next_older(records: &[Found], page: u32, below: u64) -> u64
+    requires { IsInOrder records.now }
+    ensures { result ≡ next_older records.now page below }
+{
+    let name = Link {
+        page,
+        version: below,
+    };
+    last_version(records, names_below(records, name), page)
+}
+
+/// Whether a record has this name.
+fn has_name(rec: &Rec, name: Link) -> bool
+    ensures { result ≡ has_name name rec.now }
+{
+    rec.page == name.page && rec.version == name.version
+}
+
+/// How many of the records have names up to this one: they are the first.
+pub fn names_up_to(records: &[Found], name: Link) -> usize
+    requires { IsInOrder records.now }
+    ensures within { result ≤ length records.now }
+    ensures first { IsPartitionPoint (λ f. is_below name (name_of f.rec) ≡ false)
+        (λ f. is_below name (name_of f.rec) ≡ true) records.now result }
+{
+    match name.version.checked_add(1) {
+        Some(version) => names_below(records, Link { version, ..name }),
+        None => records.partition_point(|found| {
+            found.rec.page < name.page
+                || found.rec.page == name.page && found.rec.version <= name.version
+        }),
+    }
+}
+
+/// How many of the records are of pages up to this one: they are the first.
+pub fn pages_up_to(records: &[Found], page: u32) -> usize
+    requires { IsInOrder records.now }
+    ensures within { result ≤ length records.now }
+    ensures first { IsPartitionPoint (λ f. f.rec.page ≤ page) (λ f. page < f.rec.page)
+        records.now result }
+{
+    match page.checked_add(1) {
+        Some(page) => names_below(records, Link { page, version: 0 }),
+        None => records.partition_point(|found| found.rec.page <= page),
+    }
+}
+
+/// The version of the record before this place, where it is of this page, else 0.
+fn last_version(records: &[Found], end: usize, page: u32) -> u64
+    requires { end ≤ length records.now }
+    ensures { result ≡ last_version records.now end page }
+{
+    if end == 0 {
+        return 0;
+    }
+    let rec = records[end - 1].rec;
+    if rec.page == page { rec.version } else { 0 }
+}

@@ -1,0 +1,26 @@
+//! Records in order of their names, and where their links lead: the orbits of a graph in which each node
+//! has at most one next.
+#![tactic(auto)]
+
+mod chart;
+mod follow;
+mod group;
+mod in_order;
+mod minima;
+mod orbit;
+mod orbits;
+mod path_end;
+mod search;
+mod seen;
+mod standing;
+#[cfg(test)]
+mod tests;
+mod theorems;
+mod walks;
+
+pub use chart::Chart;
+pub use in_order::sort_by_link;
+pub use orbit::Orbit;
+pub use orbits::Orbits;
+pub use standing::Standing;
+pub use theorems::{one_orbit, sorted_says_the_same};

@@ -1,0 +1,116 @@
+ghost use Rattle.std.specs.Prelude.{◌≡◌, IfOk, map};
+ghost use Rattle.std.specs.List.{range_with_len};
+ghost use Rattle.record_list.specs.Records.{greatest};
+ghost use Rattle.record_list.specs.Current.{cur, responsible, is_loose, straddling_upto};
+ghost use Rattle.record_chart.specs.Standings.{Judged};
+
+use crate::Chart;
+use crate::group::straddling_up_to_bound;
+use crate::minima::minima;
+use std::alloc::{AllocError, Global};
+use std::marker::Model;
+use tx_types::{Link, Protocol, Rec};
+
+/// A chart, and where its pages stand under a protocol: the current version of each, and the least back
+/// versions of the records up to it.
+#[derive(Debug, Drop)]
+pub struct Standing {
+    chart: Chart,
+    protocol: Protocol,
+    logical: u32,
+    current: Vec<u64>,
+    settled: Vec<u64>,
+}
+
+impl Model for Standing {
+    ghost use Rattle.record_chart.specs.Standings.{Judged};
+
+    ghost Value = { Judged };
+
+    ghost use Rattle.record_chart.specs.InsideStanding.{IsStanding};
+
+    ghost view = { λ s. record { protocol = s.protocol; logical = s.logical; list = s.chart } };
+
+    ghost invariant = { IsStanding };
+}
+
+impl Standing {
+    /// Finds the current version of each page below `logical`.
+    pub fn new(
+        alloc: Global,
+        chart: Chart,
+        protocol: Protocol,
+        logical: u32,
+    ) -> Result<Standing, AllocError>
+        ensures { IfOk result (λ s. s ≡ record { protocol = protocol; logical = logical; list = chart }) }
+    {
+        let current = current_versions(alloc, &chart, protocol, logical)?;
+        let settled = minima(alloc, chart.records(), &current)?;
+        Ok(Standing {
+            chart,
+            protocol,
+            logical,
+            current,
+            settled,
+        })
+    }
+
+    /// The chart.
+    pub fn chart(&self) -> &Chart
+        ensures { result.now ≡ self.now.list }
+    {
+        &self.chart
+    }
+
+    /// The protocol.
+    pub fn protocol(&self) -> Protocol
+        ensures { result ≡ self.now.protocol }
+    {
+        self.protocol
+    }
+
+    /// The current version of a page, 0 for none.
+    pub fn current(&self, page: u32) -> u64
+        ensures { result ≡ cur self.now.protocol self.now.list self.now.logical page }
+    {
+        if page < self.logical {
+            self.current[page as usize]
+        } else {
+            self.chart.current(self.protocol, self.logical, page)
+        }
+    }
+
+    /// Whether a record's version is above the current one of its page.
+    pub fn is_loose(&self, rec: Rec) -> bool
+        ensures { result ≡ is_loose self.now.protocol self.now.list self.now.logical rec }
+    {
+        rec.version > self.current(rec.page)
+    }
+
+    /// The version of the record that is responsible for the loose records which link to this name, 0
+    /// for none.
+    pub fn responsible(&self, name: Link) -> u64
+        ensures { result ≡ responsible self.now.protocol self.now.list self.now.logical name }
+    {
+        if name.page < self.logical {
+            straddling_up_to_bound(self.chart.records(), &self.current, &self.settled, name)
+        } else {
+            let top = self.current(name.page);
+            self.chart.straddling_up_to(name, top)
+        }
+    }
+}
+
+/// The current version of each page, in order.
+fn current_versions(
+    alloc: Global,
+    chart: &Chart,
+    protocol: Protocol,
+    logical: u32,
+) -> Result<Vec<u64>, AllocError>
+    ensures { IfOk result (λ v. v.items ≡ map (cur protocol chart.now logical) (range_with_len 0 logical)) }
+{
+    (0..logical)
+        .map(|page| chart.current(protocol, logical, page))
+        .collect(alloc)
+}

@@ -1,0 +1,88 @@
+//! Where the walks along the links of newest records lead, in records that are in order of their names.
+ghost use Rattle.std.specs.Prelude.{◌≡◌, ◌<◌, ◌^◌, [], IfOk, length};
+ghost use Rattle.record_list.specs.Verdict.{passed};
+ghost use Rattle.record_chart.specs.Minima.{AreMinima};
+ghost use Rattle.record_chart.specs.Charts.{IsInOrder, EndsBelow, place_of, link_graph, ending, shown};
+
+use crate::Orbit;
+use crate::group::straddling;
+use crate::in_order::{find, newest};
+use record_list::{Found, Why};
+use std::alloc::{AllocError, Global};
+use tx_types::{Link, Protocol};
+
+/// For each record the place to which its link leads: that of the first record of this name, where this
+/// is the newest of its page.
+pub fn links(alloc: Global, records: &[Found]) -> Result<Vec<Option<u32>>, AllocError>
+    requires order { IsInOrder records.now }
+    requires few { length records.now < 2 ^ 32 }
+    ensures { IfOk result (λ links. links.items ≡ link_graph records.now) }
+{
+    records
+        .iter()
+        .map(|found| place(records, found.rec.next))
+        .collect(alloc)
+}
+
+/// The place to which a link leads.
+fn place(records: &[Found], link: Link) -> Option<u32>
+    requires order { IsInOrder records.now }
+    requires few { length records.now < 2 ^ 32 }
+    ensures { result ≡ place_of records.now link }
+{
+    if newest(records, link.page) == link.version {
+        find(records, link)
+    } else {
+        None
+    }
+}
+
+/// What decides the verdict on the newest record of a page, from the orbit of its place.
+pub fn shown(
+    protocol: Protocol,
+    records: &[Found],
+    least: &[u64],
+    logical: u32,
+    orbit: Orbit,
+) -> Why
+    requires order { IsInOrder records.now }
+    requires minima { AreMinima records.now [] least.now }
+    requires within { EndsBelow (length records.now) orbit }
+    ensures { result ≡ shown protocol records.now logical orbit }
+{
+    match orbit {
+        Orbit::Ends { after, at } if after <= logical => {
+            ending(protocol, records, least, records[at as usize].rec.next)
+        }
+        Orbit::Round { length } if u64::from(length) <= u64::from(logical) + 1 => Why::Cycle,
+        _ => Why::Absent,
+    }
+}
+
+/// What a link shows at which a walk ends, if it is not that to its start.
+fn ending(protocol: Protocol, records: &[Found], least: &[u64], link: Link) -> Why
+    requires order { IsInOrder records.now }
+    requires minima { AreMinima records.now [] least.now }
+    ensures { result ≡ ending protocol records.now link }
+{
+    if link.version < newest(records, link.page) {
+        passed(protocol, records, least, link)
+    } else {
+        Why::Absent
+    }
+}
+
+/// What a link shows that leads below the newest version of its page.
+fn passed(protocol: Protocol, records: &[Found], least: &[u64], link: Link) -> Why
+    requires order { IsInOrder records.now }
+    requires minima { AreMinima records.now [] least.now }
+    ensures { result ≡ passed protocol records.now link }
+{
+    match protocol {
+        Protocol::Scc => Why::Passed,
+        Protocol::Bpcc => match straddling(records, least, link) {
+            0 => Why::Passed,
+            version => Why::Straddled(version),
+        },
+    }
+}
