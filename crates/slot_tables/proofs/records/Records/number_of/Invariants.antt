@@ -1,0 +1,12 @@
+use Rattle.std.proofs.Common.{length}
+use Rattle.std.specs.List.{Contains}
+use Rattle.std.specs.Option.{IfSome}
+use Rattle.plain_tables.specs.ChainLists.{list_of, rest_from}
+use Rattle.slot_tables.proofs.Numbering.{IsAhead}
+use Rattle.slot_tables.proofs.records.Records.number_of.Given as goal
+
+abbrev pub invariant-loop-next : goal.invariant-loop-next
+invariant-loop-next l = IsAhead l.self-inside l.page l.version l.next × IfSome l.next (Contains (list_of l.self-inside.lists l.page))
+
+abbrev pub decreases-loop-next : goal.decreases-loop-next
+decreases-loop-next l = length (rest_from (list_of l.self-inside.lists l.page) l.next)

@@ -1,0 +1,65 @@
+-- The homes of the old and of the new record, before and after, are settled.
+use Rattle.std.proofs.Common.{◌<◌, length}
+use Rattle.slot_tables.proofs.SlotSetting.{slot_set, set_sized, old_lies}
+use Rattle.slot_tables.proofs.tables.Tables.set_slot.Goals as goal
+
+pub settle-requires-clause-slot : goal.settle-requires-clause-slot
+settle-requires-clause-slot c =
+    let t = c.self.inside in
+    let h = c.self.invariant in
+    let low : c.args.at.0 < length t.given.slots = rw h.sized.kept.slots (rw (← c.self.view_is) at c.requires.slot) in
+    let numbered = rw (← c.self.view_is) at c.requires.number in
+    rw (c.home_of-old.ensures, c.set.ensures) (old_lies t h c.args.at.0 c.args.to low numbered c.number_in-left.result)
+
+pub settle-requires-2-clause-sized : goal.settle-requires-2-clause-sized
+settle-requires-2-clause-sized c =
+    let t = c.self.inside in
+    let h = c.self.invariant in
+    let low : c.args.at.0 < length t.given.slots = rw h.sized.kept.slots (rw (← c.self.view_is) at c.requires.slot) in
+    let numbered = rw (← c.self.view_is) at c.requires.number in
+    rw c.set.ensures (set_sized t h c.args.at.0 c.args.to low numbered)
+
+pub settle-requires-2-clause-slot : goal.settle-requires-2-clause-slot
+settle-requires-2-clause-slot c =
+    let t = c.self.inside in
+    let h = c.self.invariant in
+    let low : c.args.at.0 < length t.given.slots = rw h.sized.kept.slots (rw (← c.self.view_is) at c.requires.slot) in
+    let numbered = rw (← c.self.view_is) at c.requires.number in
+    rw (c.home_of-other.ensures, c.set.ensures) (old_lies t h c.args.at.0 c.args.to low numbered c.number_in-joined.result)
+
+pub settle_home-requires-clause-sized : goal.settle_home-requires-clause-sized
+settle_home-requires-clause-sized c =
+    let t = c.self.inside in
+    let h = c.self.invariant in
+    let low : c.args.at.0 < length t.given.slots = rw h.sized.kept.slots (rw (← c.self.view_is) at c.requires.slot) in
+    let numbered = rw (← c.self.view_is) at c.requires.number in
+    rw c.set.ensures (set_sized t h c.args.at.0 c.args.to low numbered)
+
+pub settle_home-requires-2-clause-sized : goal.settle_home-requires-2-clause-sized
+settle_home-requires-2-clause-sized c =
+    let t = c.self.inside in
+    let h = c.self.invariant in
+    let low : c.args.at.0 < length t.given.slots = rw h.sized.kept.slots (rw (← c.self.view_is) at c.requires.slot) in
+    let numbered = rw (← c.self.view_is) at c.requires.number in
+    rw c.set.ensures (set_sized t h c.args.at.0 c.args.to low numbered)
+
+pub invariant_of-self : goal.invariant_of-self
+invariant_of-self c =
+    let t = c.self.inside in
+    let h = c.self.invariant in
+    let low : c.args.at.0 < length t.given.slots = rw h.sized.kept.slots (rw (← c.self.view_is) at c.requires.slot) in
+    let numbered = rw (← c.self.view_is) at c.requires.number in
+    rw (
+      c.settle_home-2.ensures,
+      c.settle_home.ensures,
+      c.settle-2.ensures,
+      c.settle.ensures,
+      c.set-2.ensures,
+      c.home_of-other.ensures,
+      c.home_of-old.ensures,
+      c.set.ensures,
+      c.number_in-joined.ensures,
+      c.number_in-left.ensures,
+      c.get.ensures,
+    )
+    (slot_set t h c.args.at.0 c.args.to low numbered c.is_blank.result c.is_blank.ensures)

@@ -1,0 +1,12 @@
+-- How the records that wait are kept.
+use Rattle.std.specs.Prelude.{◌≤◌, length}
+use Rattle.slot_tables.specs.declared.waits.Waits.TheInside.{Inside}
+use Rattle.slot_tables.specs.Waiting.{Waiting, AreWaiting}
+
+abbrev pub waiting_of : Inside → Waiting
+waiting_of w = record { pages = length w.waiting.lists; waits = w.waits.items }
+
+-- the lists have those that wait
+pub record AreWaits (w : Inside) : Type 0 where
+  pub small : length w.waits.items ≤ 65536
+  pub waiting : AreWaiting (waiting_of w) w.waiting

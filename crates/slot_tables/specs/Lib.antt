@@ -1,0 +1,14 @@
+pub mod Kept
+pub mod Counts
+pub mod Copies
+pub mod Versions
+pub mod Waiting
+pub mod Given
+pub mod Tallied
+pub mod NeededSlots
+pub mod KeptSlots
+pub mod KeptRecords
+pub mod KeptAnswers
+pub mod KeptWaits
+pub mod KeptCurrent
+pub mod Tables

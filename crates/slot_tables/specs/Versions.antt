@@ -1,0 +1,19 @@
+-- The records by their numbers, and those of a page in the order of their versions.
+use Rattle.std.specs.Prelude.{◌≡◌, ℕ, ◌<◌, Option, None, List, length}
+use Rattle.tx_types.specs.declared.record.Rec.{Rec}
+use Rattle.slot_tables.specs.Kept.{record_at}
+
+-- the record of each number, and of each page the numbers of its records
+pub record Numbered : Type 0 where
+  pub records : List (Option Rec)
+  pub pages : List (List ℕ)
+
+-- a record has this page and this version
+abbrev pub Names : ℕ → ℕ → Rec → Type 0
+Names page version r = (r.page ≡ page) × (r.version ≡ version)
+
+-- some number has no record
+pub record HasFree (records : List (Option Rec)) : Type 0 where
+  pub number : ℕ
+  pub within : number < length records
+  pub free : record_at records number ≡ None

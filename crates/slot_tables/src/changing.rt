@@ -1,0 +1,117 @@
+ghost use Rattle.std.specs.Prelude.{◌≡◌, ℕ, ◌<◌, [], length, slice_set, Some, None, IfSome, IsSomeAnd};
+ghost use Rattle.tx_types.specs.Config.{slots_of, blocks_of};
+ghost use Rattle.slot_tables.specs.Kept.{record_at, added, given_up, IsNewest, copies_of};
+ghost use Rattle.slot_tables.specs.Versions.{HasFree};
+ghost use Rattle.slot_tables.specs.Copies.{NumbersBelow};
+
+use crate::Tables;
+use crate::slots::{SlotUse, is_blank, number_in};
+use tx_types::{Block, Rec, Slot};
+
+impl Tables {
+    /// Gives a record, newer than those of its page, a number that has none.
+    pub fn add(&mut self, rec: Rec) -> u32
+        requires page { rec.page < length self.old.pages }
+        requires free { HasFree self.old.records }
+        requires newest { IsNewest self.old.records rec }
+        ensures free { record_at self.old.records result ≡ None }
+        ensures within { result < slots_of self.old.shape }
+        ensures added { self.new ≡ added self.old result rec }
+    {
+        let number = self.given.records.add(rec);
+        self.given.settle_home(&mut self.needs, Some(number));
+        number
+    }
+
+    /// Takes away the record of a number, which no slot holds.
+    pub fn give_up(&mut self, page: u32, number: u32)
+        requires within { number < slots_of self.old.shape }
+        requires record { IsSomeAnd (record_at self.old.records number) (λ r. r.page ≡ page) }
+        requires copies { copies_of self.old.slots number ≡ [] }
+        ensures { self.new ≡ given_up self.old page number }
+    {
+        self.given.records.give_up(page, number);
+    }
+
+    /// Says what a slot holds. Where it is a record this goes through its copies below the slot.
+    pub fn set_slot(&mut self, at: Slot, to: SlotUse)
+        requires slot { at.0 < slots_of self.old.shape }
+        requires number { NumbersBelow (slots_of self.old.shape) to }
+        ensures { self.new ≡ record self.old { slots = slice_set self.old.slots at.0 to } }
+    {
+        let left = number_in(self.given.slots.get(at.0));
+        let joined = number_in(to);
+        let old = self.given.home_of(left);
+        let other = self.given.home_of(joined);
+        self.given.slots.set(at.0, to);
+        self.blanks.set(at.0, is_blank(to));
+        self.given.settle(&mut self.needs, old);
+        self.given.settle(&mut self.needs, other);
+        self.given.settle_home(&mut self.needs, left);
+        self.given.settle_home(&mut self.needs, joined);
+    }
+
+    /// Says which record of a page is current.
+    pub fn set_current(&mut self, page: u32, to: Option<u32>)
+        requires page { page < length self.old.pages }
+        requires number { IfSome to (λ number. number < slots_of self.old.shape) }
+        ensures { self.new ≡ record self.old { current = slice_set self.old.current page to } }
+    {
+        let before = self.given.current.get(page);
+        self.given.current.set(page, to);
+        self.given.settle_home(&mut self.needs, before);
+        self.given.settle_home(&mut self.needs, to);
+    }
+
+    /// Says which record answers for a record.
+    pub fn set_answerer(&mut self, number: u32, to: Option<u32>)
+        requires number { number < slots_of self.old.shape }
+        requires answerer { IfSome to (λ other. other < slots_of self.old.shape) }
+        ensures { self.new
+            ≡ record self.old { answerers = slice_set self.old.answerers number to } }
+    {
+        let before = self.given.answers.get(number);
+        self.given.answers.set(number, to);
+        self.given.settle_home(&mut self.needs, before);
+        self.given.settle_home(&mut self.needs, to);
+    }
+
+    /// Says for which page a record waits.
+    pub fn set_waits(&mut self, number: u32, to: Option<u32>)
+        requires number { number < slots_of self.old.shape }
+        requires page { IfSome to (λ page. page < length self.old.pages) }
+        ensures { self.new ≡ record self.old { waits = slice_set self.old.waits number to } }
+    {
+        self.given.waits.set(number, to);
+    }
+
+    /// Pins a page at a version, in place of an older one. Version 0 pins none. This goes through the
+    /// records of the page that are above the lower one of the two versions.
+    pub fn pin(&mut self, page: u32, version: u64)
+        requires { page < length self.old.pages }
+        ensures { self.new ≡ record self.old { pins = slice_set self.old.pins page version } }
+    {
+        let before = self
+            .given
+            .records
+            .number_of(page, self.given.pins[page as usize]);
+        let now = self.given.records.number_of(page, version);
+        self.given.pins[page as usize] = version;
+        self.given.settle_home(&mut self.needs, before);
+        self.given.settle_home(&mut self.needs, now);
+    }
+
+    /// Makes a block the spare. This goes through the slots of the old and the new spare.
+    pub fn set_spare(&mut self, block: Block)
+        requires { block.0 < blocks_of self.old.shape }
+        ensures { self.new ≡ record self.old { spare = Some block.0 } }
+    {
+        let before = self.given.spare;
+        self.given.spare = Some(block);
+        self.needs.set_spare(block);
+        if let Some(old) = before {
+            self.given.settle_block(&mut self.needs, before, old);
+        }
+        self.given.settle_block(&mut self.needs, before, block);
+    }
+}

@@ -1,0 +1,157 @@
+ghost use Rattle.std.specs.Prelude.{◌≡◌, ℕ, ◌<◌, length, IfSome};
+ghost use Rattle.std.specs.Option.{option_map, option_and_then};
+ghost use Rattle.tx_types.specs.Config.{blocks_of};
+ghost use Rattle.record_list.specs.Written.{is_slot};
+ghost use Rattle.slot_tables.specs.Kept.{home, home_in, is_wanted, is_needed, first_below};
+ghost use Rattle.slot_tables.specs.Given.{kept_of, settled, held_settled, IsSized, IsSettledFrom};
+
+use crate::answers::Answers;
+use crate::current::Current;
+use crate::needs::Needs;
+use crate::records::Records;
+use crate::slots::{Slots, number_in};
+use crate::waits::Waits;
+use tx_types::{Block, Shape};
+
+/// What the tables are given.
+#[derive(Debug, Drop)]
+pub struct Given {
+    pub shape: Shape,
+    pub slots: Slots,
+    pub records: Records,
+    pub current: Current,
+    pub answers: Answers,
+    pub waits: Waits,
+    pub pins: Vec<u64>,
+    pub spare: Option<Block>,
+}
+
+impl Given {
+    /// The home of the record of a number, if there is one.
+    pub fn home_of(&self, number: Option<u32>) -> Option<u32>
+        requires sized { IsSized self.now }
+        requires number { IfSome number (λ number. number < length self.now.slots) }
+        ensures { result ≡ option_and_then (home (kept_of self.now)) number }
+    {
+        self.home_by(self.spare, number)
+    }
+
+    /// The home of the record of a number where this is the spare.
+    fn home_by(&self, spare: Option<Block>, number: Option<u32>) -> Option<u32>
+        requires sized { IsSized self.now }
+        requires number { IfSome number (λ number. number < length self.now.slots) }
+        ensures { result ≡ option_and_then
+            (home_in self.now.shape (option_map (λ b. b.0) spare) self.now.slots) number }
+    {
+        match number {
+            None => None,
+            Some(number) => self.slots.home(self.shape, spare, number),
+        }
+    }
+
+    /// Whether the record of a number is current, answers for another one, or is pinned.
+    pub fn is_wanted(&self, number: u32) -> bool
+        requires sized { IsSized self.now }
+        requires number { number < length self.now.slots }
+        ensures { result ≡ is_wanted (kept_of self.now) number }
+    {
+        match self.records.get(number) {
+            None => false,
+            Some(rec) => {
+                self.current.get(rec.page) == Some(number)
+                    || self.answers.has(number)
+                    || rec.version == self.pins[rec.page as usize]
+            }
+        }
+    }
+
+    /// Whether a slot is the home of a record that is wanted.
+    pub fn is_needed(&self, at: u32) -> bool
+        requires sized { IsSized self.now }
+        requires slot { at < length self.now.slots }
+        ensures { result ≡ is_needed (kept_of self.now) at }
+    {
+        let held = number_in(self.slots.get(at));
+        match held {
+            None => false,
+            Some(number) => is_at(self.home_of(held), at) && self.is_wanted(number),
+        }
+    }
+
+    /// The lowest slot of the record of a number where its link's version is below this one.
+    pub fn first_below(&self, number: u32, below: u64) -> Option<u32>
+        requires sized { IsSized self.now }
+        requires number { number < length self.now.slots }
+        ensures { result ≡ first_below (kept_of self.now) below number }
+    {
+        match self.records.get(number) {
+            Some(rec) if rec.next.version < below => self.slots.first(number),
+            _ => None,
+        }
+    }
+
+    /// Says anew whether the home of the record of a number is needed.
+    pub fn settle_home(&self, needs: &mut Needs, number: Option<u32>)
+        requires sized { IsSized self.now }
+        requires number { IfSome number (λ number. number < length self.now.slots) }
+        requires needs { length needs.old.needed ≡ length self.now.slots }
+        ensures { let at = option_and_then (home (kept_of self.now)) number in
+            needs.new ≡ record needs.old { needed = settled (kept_of self.now) needs.old.needed at } }
+    {
+        self.settle(needs, self.home_of(number));
+    }
+
+    /// Says anew whether a slot is needed, if there is one.
+    pub fn settle(&self, needs: &mut Needs, at: Option<u32>)
+        requires sized { IsSized self.now }
+        requires slot { IfSome at (λ at. at < length self.now.slots) }
+        requires needs { length needs.old.needed ≡ length self.now.slots }
+        ensures { needs.new ≡ record needs.old {
+          needed = settled (kept_of self.now) needs.old.needed at;
+        } }
+    {
+        if let Some(at) = at {
+            needs.set(at, self.is_needed(at));
+        }
+    }
+
+    /// Says anew whether each slot is needed that is or was, by an older spare, the home of a record with a
+    /// slot in this block.
+    pub fn settle_block(&self, needs: &mut Needs, older: Option<Block>, block: Block)
+        requires sized { IsSized self.now }
+        requires block { block.0 < blocks_of self.now.shape }
+        requires needs { length needs.old.needed ≡ length self.now.slots }
+        ensures { IsSettledFrom (kept_of self.now) (option_map (λ b. b.0) older) block.0
+            needs.old needs.new }
+    {
+        let first = block.0 * self.shape.pages_per_block;
+        for at in first..first + self.shape.pages_per_block {
+            self.settle_held(needs, older, number_in(self.slots.get(at)));
+        }
+    }
+
+    /// Says anew whether the home of the record of a number is needed, and its home by an older spare.
+    fn settle_held(&self, needs: &mut Needs, older: Option<Block>, number: Option<u32>)
+        requires sized { IsSized self.now }
+        requires number { IfSome number (λ number. number < length self.now.slots) }
+        requires needs { length needs.old.needed ≡ length self.now.slots }
+        ensures { needs.new ≡ record needs.old {
+          needed =
+              held_settled (kept_of self.now) (option_map (λ b. b.0) older) needs.old.needed number;
+        } }
+    {
+        let home = self.home_by(older, number);
+        self.settle(needs, home);
+        self.settle_home(needs, number);
+    }
+}
+
+/// Whether a slot is this one, if there is one.
+fn is_at(slot: Option<u32>, at: u32) -> bool
+    ensures { result ≡ is_slot at slot }
+{
+    match slot {
+        None => false,
+        Some(slot) => slot == at,
+    }
+}

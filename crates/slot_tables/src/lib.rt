@@ -1,0 +1,19 @@
+//! Tables of the slots of a flash and of the records that they hold, kept step by step. What is given is
+//! which record each slot holds, and of each record by its number whether it counts for something. What
+//! follows from it is looked up: where a record is read, which slots are needed, and how many are garbage.
+#![tactic(auto)]
+
+mod answers;
+mod changing;
+mod current;
+mod given;
+mod needs;
+mod reading;
+mod records;
+mod slots;
+mod tables;
+mod tally;
+mod waits;
+
+pub use slots::SlotUse;
+pub use tables::Tables;

@@ -1,0 +1,132 @@
+ghost use Rattle.std.specs.Prelude.{◌≡◌, ℕ, ◌+◌, ◌-◌, ◌*◌, ◌/◌, ◌<◌, ◌≤◌, ◌↔◌, length, map, replicate, slice_set, Some, None, false, IfOk, IfSome, IsNone};
+ghost use Rattle.std.specs.List.{All, range_with_len};
+ghost use Rattle.std.specs.Option.{option_map};
+ghost use Rattle.record_list.specs.Written.{is_slot};
+ghost use Rattle.plain_tables.specs.Greatest.{greatest, sixteen_of, IsFirstGreatest};
+ghost use Rattle.slot_tables.specs.Counts.{is_marked, unmarked_in, unmarked_numbers};
+
+use crate::tally::Tally;
+use plain_tables::Peaks;
+use std::alloc::{AllocError, Global};
+use std::marker::Model;
+use tx_types::Block;
+
+/// Which slots are needed, and of each block but the spare how many are not.
+#[derive(Debug, Drop)]
+pub struct Needs {
+    needed: Tally,
+    unneeded: Peaks,
+    spare: Option<Block>,
+    size: u32,
+}
+
+impl Model for Needs {
+    ghost use Rattle.slot_tables.specs.Counts.{Needed};
+
+    ghost Value = { Needed };
+
+    ghost use Rattle.slot_tables.specs.NeededSlots.{needed_of, AreNeeds};
+
+    ghost view = { needed_of };
+
+    ghost invariant = { AreNeeds };
+}
+
+impl Needs {
+    /// No slot is needed, and there is no spare.
+    pub fn new(alloc: Global, blocks: u32, size: u32) -> Result<Needs, AllocError>
+        requires size { 0 < size }
+        requires small { blocks * size ≤ 65536 }
+        ensures { IfOk result (λ n. n
+            ≡ record { needed = replicate (blocks * size) false; size = size; blocks = blocks; spare = None }) }
+    {
+        let mut unneeded = Peaks::new(alloc, blocks as usize)?;
+        for block in 0..blocks {
+            unneeded.set(block as usize, size);
+        }
+        Ok(Needs {
+            needed: Tally::new(alloc, blocks, size, false)?,
+            unneeded,
+            spare: None,
+            size,
+        })
+    }
+
+    /// Whether a slot is needed.
+    pub fn is_needed(&self, at: u32) -> bool
+        requires { at < length self.now.needed }
+        ensures { result ≡ is_marked self.now.needed at }
+    {
+        self.needed.get(at)
+    }
+
+    /// Whether a block is the spare.
+    pub fn is_spare(&self, block: Block) -> bool
+        ensures { result ≡ is_slot block.0 self.now.spare }
+    {
+        is_spare(self.spare, block)
+    }
+
+    /// How many slots of a block are not needed, none where it is the spare.
+    pub fn unneeded(&self, block: Block) -> u32
+        requires { block.0 < self.now.blocks }
+        ensures { result ≡ unmarked_in self.now block.0 }
+    {
+        self.unneeded.get(block.0 as usize)
+    }
+
+    /// The first block of which the most slots are not needed.
+    pub fn most_unneeded(&self) -> Option<Block>
+        ensures none { IsNone result ↔ All (λ x. x ≡ 0) (unmarked_numbers self.now) }
+        ensures first { IfSome result (λ block. IsFirstGreatest (unmarked_numbers self.now) block.0) }
+    {
+        match self.unneeded.first_greatest() {
+            None => None,
+            Some(block) => Some(Block(block as u32)),
+        }
+    }
+
+    /// The most slots that are not needed among sixteen blocks.
+    pub fn most_among(&self, sixteen: u32) -> u32
+        requires { 16 * sixteen < self.now.blocks }
+        ensures { result ≡ greatest (sixteen_of (unmarked_numbers self.now) sixteen) }
+    {
+        self.unneeded.greatest_of(sixteen as usize)
+    }
+
+    /// Says whether a slot is needed.
+    pub fn set(&mut self, at: u32, needed: bool)
+        requires { at < length self.old.needed }
+        ensures { self.new ≡ record self.old { needed = slice_set self.old.needed at needed } }
+    {
+        self.needed.set(at, needed);
+        let block = Block(at / self.size);
+        if !is_spare(self.spare, block) {
+            let count = self.needed.count(block.0);
+            self.unneeded.set(block.0 as usize, self.size - count);
+        }
+    }
+
+    /// Makes a block the spare.
+    pub fn set_spare(&mut self, block: Block)
+        requires { block.0 < self.old.blocks }
+        ensures { self.new ≡ record self.old { spare = Some block.0 } }
+    {
+        if let Some(old) = self.spare {
+            let count = self.needed.count(old.0);
+            self.unneeded.set(old.0 as usize, self.size - count);
+        }
+        self.unneeded.set(block.0 as usize, 0);
+        self.spare = Some(block);
+    }
+}
+
+/// Whether a block is the spare.
+fn is_spare(spare: Option<Block>, block: Block) -> bool
+    ensures { result ≡ is_slot block.0 (option_map (λ b. b.0) spare) }
+{
+    match spare {
+        None => false,
+        Some(spare) => spare.0 == block.0,
+    }
+}

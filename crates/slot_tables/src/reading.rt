@@ -1,0 +1,266 @@
+ghost use Rattle.std.specs.Prelude.{◌≡◌, ℕ, ◌+◌, ◌*◌, ◌<◌, ◌≤◌, ◌↔◌, length, slice_index, Some, None, IsNone, IfSome, IfNone, IsSomeAnd};
+ghost use Rattle.std.specs.List.{All, slice_get};
+ghost use Rattle.std.specs.Option.{option_map, option_and_then};
+ghost use Rattle.tx_types.specs.Config.{slots_of, blocks_of};
+ghost use Rattle.tx_types.specs.declared.record.Rec.{Rec};
+ghost use Rattle.plain_tables.specs.ChainLists.{next_in};
+ghost use Rattle.plain_tables.specs.Greatest.{greatest, sixteen_of, IsFirstGreatest};
+ghost use Rattle.slot_tables.specs.Kept.{use_at, record_at, numbers_at, number_at, home, copy_off, is_answerer, is_wanted, is_needed, garbage_of, garbage_numbers, blanks_of, written_of, WaitsBelow, IsLowestToGo, lower, IsKept};
+ghost use Rattle.slot_tables.specs.declared.slots.SlotUse.TheVariants as slot;
+ghost use Rattle.slot_tables.specs.Versions.{Names};
+
+use crate::Tables;
+use crate::slots::SlotUse;
+use tx_types::{Block, Rec, Shape, Slot};
+
+impl Tables {
+    /// The shape of the flash.
+    pub fn shape(&self) -> Shape
+        ensures shape { result ≡ self.now.shape }
+        ensures kept { IsKept self.now }
+    {
+        self.given.shape
+    }
+
+    /// What a slot holds.
+    pub fn slot(&self, at: Slot) -> SlotUse
+        requires { at.0 < slots_of self.now.shape }
+        ensures { result ≡ use_at self.now.slots at.0 }
+    {
+        self.given.slots.get(at.0)
+    }
+
+    /// The record of a number.
+    pub fn record(&self, number: u32) -> Option<Rec>
+        requires { number < slots_of self.now.shape }
+        ensures { result ≡ record_at self.now.records number }
+    {
+        self.given.records.get(number)
+    }
+
+    /// The number of the newest record of a page.
+    pub fn newest(&self, page: u32) -> Option<u32>
+        requires { page < length self.now.pages }
+        ensures { result ≡ slice_get (numbers_at self.now.pages page) 0 }
+    {
+        self.given.records.newest(page)
+    }
+
+    /// The number of the next older record of the page of this one.
+    pub fn older(&self, number: u32) -> Option<u32>
+        requires { number < slots_of self.now.shape }
+        ensures { IfSome (record_at self.now.records number) (λ r.
+            result ≡ next_in (numbers_at self.now.pages r.page) number) }
+    {
+        self.given.records.older(number)
+    }
+
+    /// The number of the record of a page with this version. This goes through the records of the page
+    /// that are above it.
+    pub fn number_of(&self, page: u32, version: u64) -> Option<u32>
+        requires { page < length self.now.pages }
+        ensures found { IfSome result (λ number.
+            IsSomeAnd (record_at self.now.records number) (Names page version)) }
+        ensures names { (number : ℕ) (r : Rec) → record_at self.now.records number ≡ Some r →
+            Names page version r ↔ (result ≡ Some number) }
+    {
+        self.given.records.number_of(page, version)
+    }
+
+    /// The number of the current record of a page.
+    pub fn current(&self, page: u32) -> Option<u32>
+        requires { page < length self.now.pages }
+        ensures { result ≡ number_at self.now.current page }
+    {
+        self.given.current.get(page)
+    }
+
+    /// How many pages have a current record.
+    pub fn written(&self) -> usize
+        ensures { result ≡ written_of self.now }
+    {
+        self.given.current.written()
+    }
+
+    /// The number of the record that answers for this one.
+    pub fn answerer(&self, number: u32) -> Option<u32>
+        requires { number < slots_of self.now.shape }
+        ensures { result ≡ number_at self.now.answerers number }
+    {
+        self.given.answers.get(number)
+    }
+
+    /// Whether a record answers for another one.
+    pub fn is_answerer(&self, number: u32) -> bool
+        requires { number < slots_of self.now.shape }
+        ensures { result ≡ is_answerer self.now.answerers number }
+    {
+        self.given.answers.has(number)
+    }
+
+    /// The page that a record waits for.
+    pub fn waits(&self, number: u32) -> Option<u32>
+        requires { number < slots_of self.now.shape }
+        ensures { result ≡ number_at self.now.waits number }
+    {
+        self.given.waits.get(number)
+    }
+
+    /// The number of some record that waits for a page.
+    pub fn waiting(&self, page: u32) -> Option<u32>
+        requires { page < length self.now.pages }
+        ensures some { IfSome result (λ number. number_at self.now.waits number ≡ Some page) }
+        ensures none { IfNone result ((number : ℕ) → number_at self.now.waits number ≡ Some page → ⊥) }
+    {
+        self.given.waits.by_page().first(page)
+    }
+
+    /// The lowest slot of a record that waits for a page at a version below this one.
+    pub fn lowest_waiting(&self, page: u32, below: u64) -> Option<Slot>
+        requires { page < length self.now.pages }
+        ensures some { IfSome result (λ at. IsLowestToGo self.now page below at.0) }
+        ensures none { IfNone result ((at number : ℕ) →
+            use_at self.now.slots at ≡ slot.Holds number → WaitsBelow self.now page below number → ⊥) }
+    {
+        let waiting = self.given.waits.by_page();
+        let mut lowest = None;
+        let mut next = waiting.first(page);
+        while let Some(number) = next {
+            lowest = lower(lowest, self.given.first_below(number, below));
+            next = waiting.next(number);
+        }
+        match lowest {
+            None => None,
+            Some(at) => Some(Slot(at)),
+        }
+    }
+
+    /// The version at which a page is pinned, 0 for none.
+    pub fn pinned(&self, page: u32) -> u64
+        requires { page < length self.now.pages }
+        ensures { result ≡ slice_index self.now.pins page }
+    {
+        self.given.pins[page as usize]
+    }
+
+    /// The spare block, once it is chosen.
+    pub fn spare(&self) -> Option<Block>
+        ensures { option_map (λ block. block.0) result ≡ self.now.spare }
+    {
+        self.given.spare
+    }
+
+    /// Where the record of a number is read: its lowest slot outside the spare, or its lowest slot where it
+    /// has none outside. This goes through its copies in the spare.
+    pub fn home(&self, number: u32) -> Option<Slot>
+        requires { number < slots_of self.now.shape }
+        ensures { option_map (λ at. at.0) result ≡ home self.now number }
+    {
+        self.given.home_of(Some(number)).map(Slot)
+    }
+
+    /// The lowest slot outside a block that holds the record of a number. This goes through its copies in
+    /// the block.
+    pub fn copy_off(&self, number: u32, block: Block) -> Option<Slot>
+        requires { number < slots_of self.now.shape }
+        ensures { option_map (λ at. at.0) result ≡ copy_off self.now block.0 number }
+    {
+        self.given
+            .slots
+            .first_off(self.given.shape, Some(block), number)
+            .map(Slot)
+    }
+
+    /// Where the current record of a page is read.
+    pub fn locate(&self, page: u32) -> Option<Slot>
+        requires { page < length self.now.pages }
+        ensures { option_map (λ at. at.0) result
+            ≡ option_and_then (home self.now) (number_at self.now.current page) }
+    {
+        self.given.home_of(self.given.current.get(page)).map(Slot)
+    }
+
+    /// The lowest slot outside a block that holds the current record of a page.
+    pub fn locate_off(&self, page: u32, block: Block) -> Option<Slot>
+        requires { page < length self.now.pages }
+        ensures { option_map (λ at. at.0) result
+            ≡ option_and_then (copy_off self.now block.0) (number_at self.now.current page) }
+    {
+        match self.given.current.get(page) {
+            None => None,
+            Some(number) => self
+                .given
+                .slots
+                .first_off(self.given.shape, Some(block), number)
+                .map(Slot),
+        }
+    }
+
+    /// Whether the record of a number is current, answers for another one, or is pinned.
+    pub fn is_wanted(&self, number: u32) -> bool
+        requires { number < slots_of self.now.shape }
+        ensures { result ≡ is_wanted self.now number }
+    {
+        self.given.is_wanted(number)
+    }
+
+    /// Whether a slot is the home of a record that is current, answers for another one, or is pinned.
+    pub fn needed(&self, at: Slot) -> bool
+        requires { at.0 < slots_of self.now.shape }
+        ensures { result ≡ is_needed self.now at.0 }
+    {
+        self.needs.is_needed(at.0)
+    }
+
+    /// The number of blank slots of a block.
+    pub fn blanks(&self, block: Block) -> u32
+        requires { block.0 < blocks_of self.now.shape }
+        ensures { result ≡ blanks_of self.now block.0 }
+    {
+        self.blanks.count(block.0)
+    }
+
+    /// The number of garbage slots of a block: those that are not needed, without its blank ones where it
+    /// is not shut. The spare has none.
+    pub fn garbage(&self, block: Block, shut: bool) -> u32
+        requires { block.0 < blocks_of self.now.shape }
+        ensures { result ≡ garbage_of self.now shut block.0 }
+    {
+        let unneeded = self.needs.unneeded(block);
+        if shut {
+            return unneeded;
+        }
+        if self.needs.is_spare(block) {
+            return unneeded;
+        }
+        unneeded - self.blanks.count(block.0)
+    }
+
+    /// The first block with the most garbage if all blocks are shut. Where there is none at all there is
+    /// no such block.
+    pub fn most_garbage(&self) -> Option<Block>
+        ensures none { IsNone result ↔ All (λ x. x ≡ 0) (garbage_numbers self.now) }
+        ensures first { IfSome result (λ block. IsFirstGreatest (garbage_numbers self.now) block.0) }
+    {
+        self.needs.most_unneeded()
+    }
+
+    /// The most garbage that one of sixteen blocks has if all are shut.
+    pub fn most_garbage_among(&self, sixteen: u32) -> u32
+        requires { 16 * sixteen < blocks_of self.now.shape }
+        ensures { result ≡ greatest (sixteen_of (garbage_numbers self.now) sixteen) }
+    {
+        self.needs.most_among(sixteen)
+    }
+}
+
+/// The lower one of two slots, where there are such.
+fn lower(at: Option<u32>, other: Option<u32>) -> Option<u32>
+    ensures { result ≡ lower at other }
+{
+    match (at, other) {
+        (None, _) => other,
+        (Some(_), None) => at,
+        (Some(a), Some(b)) => Some(a.min(b)),
+    }
+}

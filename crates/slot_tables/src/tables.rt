@@ -1,0 +1,63 @@
+ghost use Rattle.std.specs.Prelude.{◌≡◌, ◌≤◌, replicate, None, [], IfOk};
+ghost use Rattle.tx_types.specs.Config.{IsShape, slots_of};
+ghost use Rattle.slot_tables.specs.declared.slots.SlotUse.TheVariants as slot;
+ghost use Rattle.slot_tables.specs.Kept.{blank_tables, IsKept};
+
+use crate::answers::Answers;
+use crate::current::Current;
+use crate::given::Given;
+use crate::needs::Needs;
+use crate::records::Records;
+use crate::slots::Slots;
+use crate::tally::Tally;
+use crate::waits::Waits;
+use std::alloc::{AllocError, Global};
+use std::marker::Model;
+use tx_types::Shape;
+
+/// What each slot of a flash holds, and of each record, by its number, whether it is current, answers for
+/// another one, or is pinned. Which slots are needed, how many are garbage, and where a record is read is
+/// looked up. All memory is taken when the tables are made.
+#[derive(Debug, Drop)]
+pub struct Tables {
+    pub(crate) given: Given,
+    pub(crate) blanks: Tally,
+    pub(crate) needs: Needs,
+}
+
+impl Model for Tables {
+    ghost use Rattle.slot_tables.specs.Kept.{Kept};
+
+    ghost Value = { Kept };
+
+    ghost use Rattle.slot_tables.specs.Tables.{tables_of, AreTables};
+
+    ghost view = { tables_of };
+
+    ghost invariant = { AreTables };
+}
+
+impl Tables {
+    /// The tables of a flash with nothing but blank slots, for so many logical pages.
+    pub fn new(alloc: Global, shape: Shape, logical: u32) -> Result<Tables, AllocError>
+        requires shape { IsShape shape }
+        requires pages { logical ≤ slots_of shape }
+        ensures { IfOk result (λ t. t ≡ blank_tables shape logical) }
+    {
+        let slots = shape.slots();
+        Ok(Tables {
+            given: Given {
+                shape,
+                slots: Slots::new(alloc, slots)?,
+                records: Records::new(alloc, logical, slots)?,
+                current: Current::new(alloc, logical)?,
+                answers: Answers::new(alloc, slots)?,
+                waits: Waits::new(alloc, logical, slots)?,
+                pins: vec![in alloc; 0; logical as usize]?,
+                spare: None,
+            },
+            blanks: Tally::new(alloc, shape.blocks(), shape.pages_per_block, true)?,
+            needs: Needs::new(alloc, shape.blocks(), shape.pages_per_block)?,
+        })
+    }
+}
