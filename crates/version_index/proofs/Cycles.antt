@@ -9,7 +9,7 @@ use Rattle.tx_types.specs.Config.{shape_of, slots_of}
 use Rattle.record_list.specs.Records.{newest, is_present}
 use Rattle.record_list.specs.Verdict.{newest_name, link_of}
 use Rattle.record_list.specs.Current.{cur}
-use Rattle.record_list.specs.Transaction.{rounded}
+use Rattle.record_list.specs.Transaction.{next_names}
 use Rattle.record_list.proofs.Names.{same_name}
 use Rattle.record_list.proofs.Rounds.{Follows, follows_of, follows_in}
 use Rattle.record_list.proofs.Safe.{top_link, Goes, IsSafe, counts_from}
@@ -35,7 +35,7 @@ module _ (protocol : Protocol) (n : Noted) (k : IsNoted protocol n) (names : Lis
   closed a b i =
       let parts = All-contains (λ (x : Link × Link).
       (is_present (found_in n.notes) x.0 ≡ true) × (newest (found_in n.notes) x.0.page ≡ x.0.version) × (link_of (found_in n.notes) x.0 ≡ x.1))
-      (zip names (rounded names)) (a, b) cycle i in
+      (zip names (next_names names)) (a, b) cycle i in
       record { here = parts.0; top = parts.1; link = parts.2 }
 
   abbrev pub OnCycle : ℕ → Type 0
@@ -78,7 +78,7 @@ cycle_written protocol n k at rec exists was next all =
     let within : at < length n.notes = (let slots = k.slots in omega arith) in
     let write = next_write protocol n k at rec within was next in
     let t = step_underway (found_in n.notes) list' n.config.logical next.names rec (step_of n.config.protocol (found_in n.notes) list' n.config.logical next.names (found at rec) write) in
-    all_from (λ (x : Link × Link). (is_present list' x.0 ≡ true) × (newest list' x.0.page ≡ x.0.version) × (link_of list' x.0 ≡ x.1)) (zip next.names (rounded next.names)) (λ x i.
+    all_from (λ (x : Link × Link). (is_present list' x.0 ≡ true) × (newest list' x.0.page ≡ x.0.version) × (link_of list' x.0 ≡ x.1)) (zip next.names (next_names next.names)) (λ x i.
     let own = (follows_in next.names x.0 x.1 i).0 in
     let here = All-contains (λ name. is_present list' name ≡ true) next.names x.0 all own in
     (here, name_newest list' n.config.logical next.names t x.0 own here, t.asked x.0 x.1 i here))

@@ -15,14 +15,14 @@ use Rattle.record_list.specs.declared.found.Found.{Found}
 use Rattle.record_list.specs.Records.{name_of, is_present, IsScanned}
 use Rattle.record_list.specs.SoundList.{Pages, PagesExist, IsSoundList}
 use Rattle.record_list.specs.Changes.{IsInserted, IsWrite, SameCurrent, LossKeeps}
-use Rattle.record_list.specs.Written.{found_of, page_at, bytes_at, BytesAgree, is_outside, IsRemovable}
+use Rattle.record_list.specs.Written.{found_of, page_at, text_at, value_at, is_outside, IsRemovable}
 use Rattle.record_list.specs.Current.{cur}
 use Rattle.tx_types.specs.Config.{blocks_of}
 use Rattle.record_list.specs.WrittenChanges.{WrittenPartialWriteLaw, WrittenCompletingWriteLaw, WrittenCopyLaw, WrittenLossLaw, left_outside}
 use Rattle.record_list.proofs.Names.{found_named, present_as}
 use Rattle.record_list.proofs.OneMore.{new_in, inserted_in}
-use Rattle.record_list.proofs.WrittenLists.{in_records, inserted_records, one_text}
-use Rattle.record_list.proofs.Arrays.{array_grows, array_left, bytes_grow, bytes_new, bytes_old, page_committed, page_elsewhere}
+use Rattle.record_list.proofs.WrittenLists.{in_records, inserted_records, IsOneText, one_text}
+use Rattle.record_list.proofs.Arrays.{array_grows, array_left, text_grows, text_new, text_old, page_committed, page_elsewhere}
 use Rattle.tx_types.specs.declared.config.Protocol.{Protocol}
 use Rattle.tx_types.specs.declared.config.Shape.{Shape}
 use Rattle.flash_model.specs.Flash.{Contents, blank, damaged, complete}
@@ -31,6 +31,10 @@ use Rattle.version_index.specs.Images.{written_in, records_in, array_in, SlotRea
 use Rattle.version_index.specs.ImageChanges.{image_with, AsksFor, KeepsLost}
 use Rattle.version_index.specs.ImageLaws.{ImagePartialLaw, ImageCompletingLaw, ImageCopyLaw, ImageLossLaw, ImageDamageLaw}
 use Rattle.version_index.proofs.ImageScans.{written, written_inserted, written_damaged, records_scanned, HasNone, written_left, read_slot}
+
+-- each name of a sound image has one text
+pub image_text : (p : Protocol) (logical : ℕ) (shape : Shape) (image : List Contents) → IsSoundWritten p (written_in p image) logical shape → IsOneText (written_in p image)
+image_text p logical shape image sound = one_text p (written_in p image) logical sound.records (records_scanned p image) sound.bytes
 
 -- the array is that of the records
 array_same : (p : Protocol) (logical : ℕ) (image image' : List Contents) → written_in p image' ≡ written_in p image →
@@ -59,11 +63,11 @@ array_at p logical image page within =
 
 -- with a record more, and the same current versions, the array is the same
 grown : (p : Protocol) (logical : ℕ) (image image' : List Contents) (w : Written) → IsSoundList p (records_in p image) logical →
-    All (BytesAgree (written_in p image')) (written_in p image') → IsInserted (written_in p image) w (written_in p image') →
+    IsOneText (written_in p image') → IsInserted (written_in p image) w (written_in p image') →
     SameCurrent p (records_in p image) (records_in p image') logical → array_in p logical image' ≡ array_in p logical image
 unfolding array_in
-grown p logical image image' w sound bytes added same =
-    array_grows p (written_in p image) (written_in p image') logical w sound (records_scanned p image) (records_scanned p image') bytes added same
+grown p logical image image' w sound text added same =
+    array_grows p (written_in p image) (written_in p image') logical w sound (records_scanned p image) (records_scanned p image') text added same
 
 -- a record that is asked for, in its slot
 record Writes (p : Protocol) (logical : ℕ) (image : List Contents) (names : List Link) (at : ℕ) (bytes : List ℕ) (rec : Rec) : Type 0 where
@@ -119,12 +123,13 @@ image_partial_law p law logical shape image names at bytes rec a absent =
     let w = written at rec bytes in
     let how = writes p logical shape image names at bytes rec a in
     let kept = law l m logical shape names w a.sound.written how.added how.write absent in
+    let text = image_text p logical shape (image_with p image at bytes rec) kept.0 in
     record {
       sound = sound_with p logical shape image at bytes (spelling p rec) rec a.sound how.spells how.added kept.0;
       records = kept.1;
-      array = grown p logical image (image_with p image at bytes rec) w a.sound.written.records (kept.0).bytes how.added (kept.1).same_current;
-      old_bytes = λ name h. bytes_old l m w name (records_scanned p (image_with p image at bytes rec)) (kept.0).bytes how.added h;
-      new_bytes = bytes_new l m w (records_scanned p (image_with p image at bytes rec)) (kept.0).bytes how.added;
+      array = grown p logical image (image_with p image at bytes rec) w a.sound.written.records text how.added (kept.1).same_current;
+      old_texts = λ name h. text_old l m w name text how.added h;
+      new_text = text_new l m w text how.added;
     }
 
 pub image_completing_law : (p : Protocol) → WrittenCompletingWriteLaw p → ImageCompletingLaw p
@@ -135,20 +140,21 @@ image_completing_law p law logical shape image names at bytes rec a present room
     let w = written at rec bytes in
     let how = writes p logical shape image names at bytes rec a in
     let kept = law l m logical shape names w a.sound.written how.added how.write present room in
+    let text = image_text p logical shape image' kept.0 in
     let ranged = a.in_progress.begun.transaction.in_range in
     record {
       sound = sound_with p logical shape image at bytes (spelling p rec) rec a.sound how.spells how.added kept.0;
       records = kept.1;
-      taken = all_from (λ name. slice_index_or (array_in p logical image') name.page None ≡ bytes_at m name) names (λ name i.
+      taken = all_from (λ name. slice_index_or (array_in p logical image') name.page None ≡ value_at m name) names (λ name i.
           array_at p logical image' name.page (All-contains (λ n. (n.page < logical) × (1 ≤ n.version) × (n.version ≤ 2 ^ 62)) names name ranged i).0
           ∙ page_committed p m logical name (All-contains (λ n. cur p (records_of m) logical n.page ≡ n.version) names name (kept.1).committed i));
       elsewhere = λ page within others.
           array_at p logical image' page within
-          ∙ page_elsewhere p l m logical page w a.sound.written.records (records_scanned p image) (records_scanned p image') (kept.0).bytes how.added
+          ∙ page_elsewhere p l m logical page w a.sound.written.records (records_scanned p image) (records_scanned p image') text how.added
           ((kept.1).elsewhere page within others)
           ∙ sym (array_at p logical image page within);
-      old_bytes = λ name h. bytes_old l m w name (records_scanned p image') (kept.0).bytes how.added h;
-      new_bytes = bytes_new l m w (records_scanned p image') (kept.0).bytes how.added;
+      old_texts = λ name h. text_old l m w name text how.added h;
+      new_text = text_new l m w text how.added;
     }
 
 -- the record of a complete slot of a sound image
@@ -175,6 +181,7 @@ image_copy_law p law logical shape image from to bytes spare sound from_within t
     let there = read_slot p image from bytes spare has.rec from_within source has.spells in
     let kept = law l m logical shape w sound.written added (records_scanned p image) (records_scanned p image')
     (there.0, written from has.rec bytes, there.1, there.2, (refl, refl)) in
+    let text = image_text p logical shape image' kept.0 in
     let in_old : (f : Found) (name : Link) → Contains (records_of m) f → name_of f.rec ≡ name → is_present (records_of l) name ≡ true =
     λ f name i e. elim (inserted_in (records_of l) (records_of m) (found_of w) (inserted_records l m w added) f i) [
       | inl is ↦ present_as (records_of l) (found_of (written from has.rec bytes)) name (in_records l (written from has.rec bytes) there)
@@ -185,8 +192,8 @@ image_copy_law p law logical shape image from to bytes spare sound from_within t
       names = λ name h. let f = found_named (records_of m) name h in in_old f.0 name f.1 f.2;
       sound = sound_with p logical shape image to bytes spare has.rec sound has.spells added kept.0;
       records = kept.1;
-      array = grown p logical image image' w sound.written.records (kept.0).bytes added (kept.1).same_current;
-      bytes = λ name h. bytes_old l m w name (records_scanned p image') (kept.0).bytes added h;
+      array = grown p logical image image' w sound.written.records text added (kept.1).same_current;
+      texts = λ name h. text_old l m w name text added h;
     }
 
 -- the block may hold anything without a record
@@ -211,10 +218,10 @@ lost p law logical shape image block contents sound whole below removable none r
       records = subst (λ x. LossKeeps p (records_of l) (records_of x) logical) (sym is) kept.1;
       array = ap (λ x. array_of p x logical) is
           ∙ array_left p l logical shape block sound.written.records (records_scanned p image) scanned' sound.written.bytes removable (kept.1).same_current;
-      bytes = λ name h.
-          bytes_grow m l name (one_text l (records_scanned p image) sound.written.bytes) (λ v i. (from_filter (λ w. is_outside shape block w.slot.0) v l i).0)
+      texts = λ name h.
+          text_grows m l name (image_text p logical shape image sound.written) (λ v i. (from_filter (λ w. is_outside shape block w.slot.0) v l i).0)
           (subst (λ x. is_present (records_of x) name ≡ true) is h)
-          ∙ sym (ap (λ x. bytes_at x name) is);
+          ∙ sym (ap (λ x. text_at x name) is);
     }
 
 pub image_loss_law : (p : Protocol) → WrittenLossLaw p → ImageLossLaw p

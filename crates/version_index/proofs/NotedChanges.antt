@@ -15,7 +15,7 @@ use Rattle.flash_model.specs.declared.flash.Seen.{Seen}
 use Rattle.record_list.specs.declared.found.Found.{Found}
 use Rattle.record_list.specs.Records.{mention, mentioned_at, name_of, is_present, IsScanned}
 use Rattle.record_list.specs.SoundList.{IsSoundList}
-use Rattle.record_list.specs.Transaction.{rounded, back_version}
+use Rattle.record_list.specs.Transaction.{next_names, back_version}
 use Rattle.record_list.specs.Changes.{IsWrite, PartialWriteLaw, CompletingWriteLaw, CopyLaw, LossLaw, left}
 use Rattle.record_list.specs.Written.{is_outside, IsRemovable}
 use Rattle.record_list.proofs.Names.{greatest_bound, greatest_least}
@@ -30,7 +30,7 @@ use Rattle.version_index.proofs.Blocks.{length-with_item}
 use Rattle.version_index.proofs.Mentions.{length-raised, raised_bounds}
 
 -- a name of a list is absent, or all are present
-cases_present : (list : List Found) (names : List Link) → Any (λ name. is_present list name ≡ false) names ⊎ All (λ name. is_present list name ≡ true) names
+pub cases_present : (list : List Found) (names : List Link) → Any (λ name. is_present list name ≡ false) names ⊎ All (λ name. is_present list name ≡ true) names
 cases_present list names = elim (cases_names names) [
   | inl gone ↦ inl (any_in (λ name. is_present list name ≡ false) names gone.0 gone.1 gone.2)
   | inr here ↦ inr (all_from (λ name. is_present list name ≡ true) names here)
@@ -64,7 +64,7 @@ module _ (n : Noted) (rec : Rec) (next : IsNextRecord n rec) where
   pub next_follows : Follows next.names (name_of rec) rec.next
   next_follows =
       let after = follows_of next.names (name_of rec) names_in in
-      let asked = All-contains (λ (x : Link × Link). name_of rec ≡ x.0 → (rec.next ≡ x.1) × (rec.back ≡ back_version n.config.protocol (found_in n.notes) n.config.logical x.0.page)) (zip next.names (rounded next.names)) (name_of rec, after.0) next.asked after.1 in
+      let asked = All-contains (λ (x : Link × Link). name_of rec ≡ x.0 → (rec.next ≡ x.1) × (rec.back ≡ back_version n.config.protocol (found_in n.notes) n.config.logical x.0.page)) (zip next.names (next_names next.names)) (name_of rec, after.0) next.asked after.1 in
       subst (Follows next.names (name_of rec)) (sym (asked refl).0) after.1
 
   pub next_spelled : IsSpelledOut n.config.logical rec

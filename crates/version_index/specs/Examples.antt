@@ -19,7 +19,7 @@ name page version = record { page = page; version = version }
 -- the record P.v -> Q.k b
 abbrev pub rec : ℕ → ℕ → ℕ → ℕ → ℕ → Rec
 rec page version to at back =
-    record { page = page; version = version; next = name to at; back = back }
+    record { page = page; version = version; next = name to at; back = back; count = 0; discard = false }
 
 -- two dies of two blocks of three slots
 abbrev pub config : Protocol → Config

@@ -9,7 +9,7 @@ use Rattle.page_record.specs.Spelling.{CanBeSpelled, spelling}
 use Rattle.record_list.specs.Records.{name_of, is_present}
 use Rattle.record_list.specs.Transaction.{IsAsked, InProgress}
 use Rattle.record_list.specs.Changes.{NothingMustGo, PartialWriteKeeps, CompletingWriteKeeps, CopyKeeps, LossKeeps}
-use Rattle.record_list.specs.Written.{bytes_at}
+use Rattle.record_list.specs.Written.{text_at, value_at}
 use Rattle.version_index.specs.Images.{written_in, records_in, array_in, IsSoundImage}
 
 -- the image with a page and its record in a slot
@@ -31,16 +31,17 @@ pub record AsksFor
   pub asked : IsAsked protocol (records_in protocol image) logical names rec
   pub clear : NothingMustGo protocol (records_in protocol image) logical rec
 
--- each name that was present has its bytes still
-abbrev pub BytesStay : Protocol → List Contents → List Contents → Type 0
-BytesStay protocol image image' =
+-- each name that was present has its text still
+abbrev pub TextsStay : Protocol → List Contents → List Contents → Type 0
+TextsStay protocol image image' =
     (name : Link) → is_present (records_in protocol image) name ≡ true →
-    bytes_at (written_in protocol image') name ≡ bytes_at (written_in protocol image) name
+    text_at (written_in protocol image') name ≡ text_at (written_in protocol image) name
 
--- the new record has its bytes
-abbrev pub BytesCome : Protocol → List Contents → Rec → List ℕ → Type 0
-BytesCome protocol image' rec bytes =
-    bytes_at (written_in protocol image') (name_of rec) ≡ Some bytes
+-- the name of the new record has its flag, and these bytes
+abbrev pub TextsCome : Protocol → List Contents → Rec → List ℕ → Type 0
+TextsCome protocol image' rec bytes =
+    text_at (written_in protocol image') (name_of rec)
+    ≡ Some (record { discard = rec.discard; bytes = bytes })
 
 -- what the image with a record more keeps where a name of the transaction stays absent: its array too
 pub record KeepsPartial
@@ -50,11 +51,11 @@ pub record KeepsPartial
   pub records : PartialWriteKeeps protocol (records_in protocol image)
       (records_in protocol image') logical names
   pub array : array_in protocol logical image' ≡ array_in protocol logical image
-  pub old_bytes : BytesStay protocol image image'
-  pub new_bytes : BytesCome protocol image' rec bytes
+  pub old_texts : TextsStay protocol image image'
+  pub new_text : TextsCome protocol image' rec bytes
 
--- What it keeps where it completes the cycle. The pages of the transaction hold the bytes of its records, and every
--- other page holds what it held.
+-- What it keeps where it completes the cycle. The pages of the transaction hold what its records say, and every other
+-- page holds what it held.
 pub record KeepsCompleting
     (protocol : Protocol) (logical : ℕ) (shape : Shape) (image image' : List Contents)
     (names : List Link) (rec : Rec) (bytes : List ℕ) : Type 0 where
@@ -63,12 +64,12 @@ pub record KeepsCompleting
       (records_in protocol image') logical names
   pub taken : All (λ name.
       slice_index_or (array_in protocol logical image') name.page None
-      ≡ bytes_at (written_in protocol image') name) names
+      ≡ value_at (written_in protocol image') name) names
   pub elsewhere : (page : ℕ) → page < logical → All (λ name. name.page ≢ page) names →
       slice_index_or (array_in protocol logical image') page None
       ≡ slice_index_or (array_in protocol logical image) page None
-  pub old_bytes : BytesStay protocol image image'
-  pub new_bytes : BytesCome protocol image' rec bytes
+  pub old_texts : TextsStay protocol image image'
+  pub new_text : TextsCome protocol image' rec bytes
 
 -- what the image with a copy more keeps: it has no name that it had not
 pub record KeepsCopied (protocol : Protocol) (logical : ℕ) (shape : Shape)
@@ -78,7 +79,7 @@ pub record KeepsCopied (protocol : Protocol) (logical : ℕ) (shape : Shape)
   pub sound : IsSoundImage protocol logical shape image'
   pub records : CopyKeeps protocol (records_in protocol image) (records_in protocol image') logical
   pub array : array_in protocol logical image' ≡ array_in protocol logical image
-  pub bytes : BytesStay protocol image image'
+  pub texts : TextsStay protocol image image'
 
 -- what the image without the records of a block keeps
 pub record KeepsLost (protocol : Protocol) (logical : ℕ) (shape : Shape)
@@ -86,7 +87,7 @@ pub record KeepsLost (protocol : Protocol) (logical : ℕ) (shape : Shape)
   pub sound : IsSoundImage protocol logical shape image'
   pub records : LossKeeps protocol (records_in protocol image) (records_in protocol image') logical
   pub array : array_in protocol logical image' ≡ array_in protocol logical image
-  pub bytes : BytesStay protocol image' image
+  pub texts : TextsStay protocol image' image
 
 -- a slot that was blank is damaged: the records are the same, with their bytes
 pub record KeepsDamaged (protocol : Protocol) (logical : ℕ) (shape : Shape)

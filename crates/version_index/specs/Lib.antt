@@ -5,3 +5,8 @@ pub mod Tables
 pub mod ImageChanges
 pub mod ImageLaws
 pub mod Examples
+pub mod Judged
+pub mod JudgedChanges
+pub mod JudgedLaws
+pub mod JudgedExamples
+pub mod Numbered

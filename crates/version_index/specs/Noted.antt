@@ -15,7 +15,7 @@ use Rattle.record_list.specs.Records.{newest, mention, name_of, has_name, is_pre
 use Rattle.record_list.specs.Verdict.{link_of}
 use Rattle.record_list.specs.Current.{cur, must_go, is_held}
 use Rattle.record_list.specs.SoundList.{IsSoundList}
-use Rattle.record_list.specs.Transaction.{IsAsked, InProgress, rounded}
+use Rattle.record_list.specs.Transaction.{IsAsked, InProgress, next_names}
 use Rattle.record_list.specs.Changes.{NothingMustGo}
 use Rattle.record_list.specs.Written.{is_outside, IsRemovable, first_slot, home, is_slot, is_needed, is_garbage}
 use Rattle.version_index.specs.declared.note.Note.{Note}
@@ -53,9 +53,9 @@ current_of n page = cur n.config.protocol (found_in n.notes) n.config.logical pa
 abbrev pub current_name_of : Noted → ℕ → Link
 current_name_of n page = record { page = page; version = current_of n page }
 
--- whether the record of this name is responsible for some loose record
-unfoldable pub held_of : Noted → Link → Bool
-held_of n name = is_held n.config.protocol (found_in n.notes) n.config.logical name
+-- whether the record is responsible for some loose record
+unfoldable pub held_of : Noted → Rec → Bool
+held_of n rec = is_held n.config.protocol (found_in n.notes) n.config.logical rec
 
 -- the home of the record of this name, if there is such a record
 unfoldable pub home_of : Noted → Link → Option ℕ
@@ -134,7 +134,7 @@ IsCompleteCycle n names =
     (λ (name, next). (is_present (found_in n.notes) name ≡ true)
     × (newest (found_in n.notes) name.page ≡ name.version)
     × (link_of (found_in n.notes) name ≡ next))
-    (zip names (rounded names))
+    (zip names (next_names names))
 
 -- the mentions once a name is mentioned too
 abbrev pub raised_to : Link → List ℕ → List ℕ

@@ -39,7 +39,7 @@ impl<R: CommitRule> Model for Index<R> {
 
     ghost view = { noted_of };
 
-    ghost invariant = { IsTabled R.kept };
+    ghost invariant = { IsTabled R.protocol };
 }
 
 impl<R: CommitRule> Index<R> {
@@ -52,11 +52,11 @@ impl<R: CommitRule> Index<R> {
         list: &[Found],
     ) -> Result<Index<R>, Memory>
         requires check { checked config ≡ Ok (shape_of config) }
-        requires rule { config.protocol ≡ R.kept }
+        requires rule { config.protocol ≡ R.protocol }
         requires seen { length seen.now ≡ slots_of (shape_of config) }
         requires complete { map (λ f. f.slot.0) list.now ≡ complete_slots seen.now }
         requires scanned { IsScanned list.now }
-        requires sound { IsSoundList R.kept list.now config.logical }
+        requires sound { IsSoundList R.protocol list.now config.logical }
         ensures { IfOk result (λ index. IsNotedFrom config seen.now list.now index) }
     {
         let Ok(shape) = config.check() else {
@@ -80,7 +80,7 @@ impl<R: CommitRule> Index<R> {
     /// The configuration of the device.
     pub fn config(&self) -> Config
         ensures config { result ≡ self.now.config }
-        ensures noted { IsNoted R.kept self.now }
+        ensures noted { IsNoted R.protocol self.now }
     {
         self.config
     }

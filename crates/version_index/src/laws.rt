@@ -11,20 +11,20 @@ pub fn image_damaged()
 
 /// A record that leaves its cycle open.
 pub fn partial_write<R: CommitRule>()
-    ensures { ImagePartialLaw R.kept }
+    ensures { ImagePartialLaw R.protocol }
 {}
 
 /// A record that completes its cycle.
 pub fn completing_write<R: CommitRule>()
-    ensures { ImageCompletingLaw R.kept }
+    ensures { ImageCompletingLaw R.protocol }
 {}
 
 /// An equal copy of a record.
 pub fn copy<R: CommitRule>()
-    ensures { ImageCopyLaw R.kept }
+    ensures { ImageCopyLaw R.protocol }
 {}
 
 /// A block without its records.
 pub fn block_loss<R: CommitRule>()
-    ensures { ImageLossLaw R.kept }
+    ensures { ImageLossLaw R.protocol }
 {}

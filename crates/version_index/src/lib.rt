@@ -4,6 +4,7 @@
 mod changing;
 mod homes;
 mod index;
+pub mod judging;
 pub mod laws;
 mod needs;
 mod note;

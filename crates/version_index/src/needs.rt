@@ -18,7 +18,7 @@ fn is_wanted<R: CommitRule>(list: &[Found], logical: u32, pins: &[u64], i: usize
     requires pins { length pins.now ≡ logical }
     requires within { i < length list.now }
     ensures { result
-        ≡ is_wanted R.kept list.now logical (pinned_names pins.now) (record_at list.now i) }
+        ≡ is_wanted R.protocol list.now logical (pinned_names pins.now) (record_at list.now i) }
 {
     let rec = list[i].rec;
     rec.version == R::current(list, logical, rec.page)
@@ -40,7 +40,7 @@ pub fn is_needed<R: CommitRule>(
     requires pins { length pins.now ≡ logical }
     requires shape { 0 < shape.pages_per_block }
     ensures { let numbered = option_map (λ block. block.0) spare in
-        result ≡ is_needed R.kept list.now logical shape numbered (pinned_names pins.now) at.0 }
+        result ≡ is_needed R.protocol list.now logical shape numbered (pinned_names pins.now) at.0 }
 {
     match index_at(list, at) {
         None => false,
@@ -75,7 +75,7 @@ pub fn block_to_go<R: CommitRule>(
     requires shape { 0 < shape.pages_per_block }
     ensures { option_map (λ block. block.0) result
         ≡ option_map (λ slot. slot / shape.pages_per_block)
-        (first_slot (λ f. must_go R.kept list.now logical page below f.rec) list.now) }
+        (first_slot (λ f. must_go R.protocol list.now logical page below f.rec) list.now) }
 {
     for i in 0..list.len() {
         if R::must_go(list, logical, i, page, below) {

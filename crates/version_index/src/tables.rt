@@ -1,4 +1,4 @@
-ghost use Rattle.std.specs.Prelude.{◌≡◌, ◌+◌, ◌*◌, ◌<◌, ◌≤◌, length, map, replicate, vec_capacity, IfOk};
+ghost use Rattle.std.specs.Prelude.{◌≡◌, ℕ, ◌+◌, ◌*◌, ◌<◌, ◌≤◌, ◌==◌, if◌then◌else◌, max, length, slice_index_or, map, replicate, vec_capacity, IfOk};
 ghost use Rattle.std.specs.List.{range_with_len};
 ghost use Rattle.record_list.specs.Records.{mention};
 ghost use Rattle.version_index.specs.Notes.{seen_as, found_at, found_in, complete_slots, with_block_noted};
@@ -6,7 +6,7 @@ ghost use Rattle.version_index.specs.Noted.{raised, raised_to};
 
 use crate::Note;
 use flash_model::Seen;
-use record_list::{Found, mention};
+use record_list::Found;
 use std::alloc::Global;
 use tx_types::{Block, Link, Memory, Rec, Shape, Slot};
 
@@ -45,11 +45,31 @@ pub fn first_mentions(alloc: Global, list: &[Found], logical: u32) -> Result<Vec
     ensures { IfOk result (λ mentions.
         mentions.items ≡ map (mention list.now) (range_with_len 0 logical)) }
 {
-    let mut mentions = Vec::with_capacity(alloc, logical as usize)?;
-    for page in 0..logical {
-        mentions.push(mention(list, page))?;
+    let mut mentions = vec![in alloc; 0; logical as usize]?;
+    for found in list {
+        let Rec {
+            page,
+            version,
+            next,
+            ..
+        } = found.rec;
+        raise_existing(&mut mentions, Link { page, version });
+        raise_existing(&mut mentions, next);
     }
     Ok(mentions)
+}
+
+/// Raises the greatest mention of a page to that of a name, where the page exists.
+fn raise_existing(mentions: &mut Vec<u64>, name: Link)
+    ensures size { length mentions.new.items ≡ length mentions.old.items }
+    ensures raised { (page : ℕ) → page < length mentions.old.items →
+        slice_index_or mentions.new.items page 0
+        ≡ max (slice_index_or mentions.old.items page 0)
+        (if name.page == page then name.version else 0) }
+{
+    if (name.page as usize) < mentions.len() {
+        raise_to(mentions, name);
+    }
 }
 
 /// Makes the list that of the noted records, in room that it has.

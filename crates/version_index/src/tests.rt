@@ -37,6 +37,8 @@ fn rec(name: (u32, u64), next: (u32, u64), back: u64) -> Rec {
             version: next.1,
         },
         back,
+        count: 0,
+        discard: false,
     }
 }
 
@@ -73,7 +75,7 @@ fn opened<R: CommitRule>(
     list: &[Found],
 ) -> Result<Index<R>, Memory>
     requires check { checked config ≡ Ok (shape_of config) }
-    requires rule { config.protocol ≡ R.kept }
+    requires rule { config.protocol ≡ R.protocol }
     requires seen { length seen.now ≡ slots_of (shape_of config) }
     requires complete { map (λ f. f.slot.0) list.now ≡ complete_slots seen.now }
 {

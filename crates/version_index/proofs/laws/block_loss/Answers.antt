@@ -2,4 +2,4 @@ use Rattle.version_index.proofs.ImageLaws.{image_loss_law}
 use Rattle.version_index.proofs.laws.block_loss.Goals as goal
 
 pub returns : goal.returns
-returns g c = image_loss_law g.R.CommitRule.kept g.met.R.CommitRule.written_block_loss
+returns g c = image_loss_law g.R.CommitRule.protocol g.met.R.CommitRule.written_block_loss

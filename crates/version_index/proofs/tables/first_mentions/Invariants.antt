@@ -1,7 +1,6 @@
-use Rattle.std.proofs.Common.{◌≡◌, map}
-use Rattle.std.specs.List.{range_with_len}
-use Rattle.record_list.specs.Records.{mention}
+use Rattle.std.proofs.Common.{take}
+use Rattle.version_index.proofs.Mentions.{AreMentions}
 use Rattle.version_index.proofs.tables.first_mentions.Given as goal
 
-abbrev pub invariant-loop-page : goal.invariant-loop-page
-invariant-loop-page l = l.mentions.items ≡ map (mention l.list) (range_with_len 0 l.page)
+abbrev pub invariant-loop-found : goal.invariant-loop-found
+invariant-loop-found l = AreMentions (take l.found-index l.list) l.fn.logical l.mentions.items
