@@ -2,3 +2,4 @@ pub mod FirstAnswers
 pub mod OpenBlocks
 pub mod NextSlots
 pub mod Changes
+pub mod RankedBlocks

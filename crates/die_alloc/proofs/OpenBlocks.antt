@@ -15,14 +15,14 @@ use Rattle.die_alloc.specs.NextSlot.{is_part, is_clean, lowest_block, open_block
 
 module _ (test : BlockState → Bool) (t : BlockTable) (die : ℕ) where
   -- the die lies in the table
-  abbrev Lies : Type 0
+  abbrev pub Lies : Type 0
   Lies = die * t.shape.blocks_per_die + t.shape.blocks_per_die ≤ length t.blocks
 
-  length_of_die : Lies → length (die_blocks t die) ≡ t.shape.blocks_per_die
+  pub length_of_die : Lies → length (die_blocks t die) ≡ t.shape.blocks_per_die
   length_of_die h = grind (arith, common_steps)
 
   -- the block at a place of the die, and in the table
-  place_of_die : (k : ℕ) → k < t.shape.blocks_per_die
+  pub place_of_die : (k : ℕ) → k < t.shape.blocks_per_die
       → get_or (die_blocks t die) k no_block ≡ get_or t.blocks (die * t.shape.blocks_per_die + k) no_block
   place_of_die k h = get_or-take _ _ k no_block h ∙ get_or-drop _ t.blocks k no_block
 

@@ -1,10 +1,13 @@
 -- How a block table is kept.
 use Rattle.die_alloc.specs.BlockTable.{BlockTable, IsBlockTable}
+use Rattle.die_alloc.specs.Ranks.{AreRanks}
 use Rattle.die_alloc.specs.declared.blocks.Blocks.TheInside.{Inside}
 
 abbrev pub table_of : Inside → BlockTable
 table_of b =
     record { shape = b.shape; blocks = b.blocks.items; spare = b.spare.0; cursor = b.cursor }
 
-abbrev pub IsKept : Inside → Type 0
-IsKept b = IsBlockTable (table_of b)
+-- its ranks are those of its blocks
+pub record IsKept (b : Inside) : Type 0 where
+  pub table : IsBlockTable (table_of b)
+  pub ranks : AreRanks b.shape b.blocks.items b.ranks.items

@@ -1,3 +1,4 @@
 pub mod BlockTable
 pub mod NextSlot
+pub mod Ranks
 pub mod Kept

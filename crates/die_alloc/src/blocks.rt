@@ -1,10 +1,12 @@
-ghost use Rattle.std.specs.Prelude.{◌≡◌, ◌≢◌, ◌-◌, ◌*◌, position, ◌/◌, ◌%◌, ◌<◌, ◌≤◌, ◌↔◌, IfOk, IfSome, IfNone, IsNone};
+ghost use Rattle.std.specs.Prelude.{◌≡◌, ◌≢◌, ◌-◌, ◌*◌, ◌/◌, ◌%◌, ◌<◌, ◌≤◌, ◌↔◌, IfOk, IfSome, IfNone, IsNone};
 ghost use Rattle.tx_types.specs.Config.{IsShape, slots_of, blocks_of};
 ghost use Rattle.die_alloc.specs.BlockTable.{IsBlockTable, MayHave, block_state, used_of, fresh_table, with_slot, with_use, table_with_spare, HasRoom, IsFree, IsFirstFree, IsFull};
-ghost use Rattle.die_alloc.specs.NextSlot.{next_slot, first_unused, next_block, open_block, after_next_slot, first_answer, is_part, is_clean};
+ghost use Rattle.die_alloc.specs.NextSlot.{next_slot, first_unused, next_block, open_block, after_next_slot, first_answer};
 ghost use Rattle.std.specs.List.{range_with_len};
 
 use crate::block_use::BlockUse;
+use crate::ranks::{keep, ranks};
+use plain_tables::Peaks;
 use std::alloc::Global;
 use std::marker::Model;
 use tx_types::{Block, BlockState, Memory, Shape, Slot};
@@ -17,6 +19,8 @@ pub struct Blocks {
     spare: Block,
     /// The die at which the search for a slot begins.
     cursor: u32,
+    /// Of each die the ranks of its blocks.
+    ranks: Vec<Peaks>,
 }
 
 impl Model for Blocks {
@@ -41,11 +45,13 @@ impl Blocks {
         let last = shape.blocks() - 1;
         let mut blocks = vec![in alloc; BlockUse::CLEAN; shape.blocks() as usize]?;
         blocks[last as usize] = BlockUse::SPARE;
+        let ranks = ranks(alloc, shape, &blocks)?;
         Ok(Blocks {
             shape,
             blocks,
             spare: Block(last),
             cursor: 0,
+            ranks,
         })
     }
 
@@ -106,20 +112,13 @@ impl Blocks {
         None
     }
 
-    /// The block of a die that has room.
-    #[tactic(auto, unfolding(crate::specs::NextSlot::open_block))]
+    /// The block of a die that has room: the lowest of the greatest rank.
     fn open_block(&self, die: u32) -> Option<u32>
         requires { die < self.now.shape.dies }
         ensures { result ≡ open_block self.now die }
     {
-        let first = die * self.shape.blocks_per_die;
-        let end = first + self.shape.blocks_per_die;
-        let blocks = &self.blocks[first as usize..end as usize];
-        let place = match lowest_part(blocks) {
-            Some(place) => place,
-            None => lowest_clean(blocks)?,
-        };
-        Some(first + place as u32)
+        let place = self.ranks[die as usize].first_greatest()?;
+        Some(die * self.shape.blocks_per_die + place as u32)
     }
 
     /// What a block is kept for.
@@ -160,7 +159,9 @@ impl Blocks {
         } else {
             BlockState::Part
         };
-        self.blocks[(at.0 / self.shape.pages_per_block) as usize] = BlockUse { state, used };
+        let block = at.0 / self.shape.pages_per_block;
+        let now = BlockUse { state, used };
+        keep(self.shape, &mut self.blocks, &mut self.ranks, block, now);
     }
 
     /// Gives a block that is not the spare this state and this number of used slots.
@@ -172,7 +173,8 @@ impl Blocks {
         ensures set { self.new ≡ with_use self.old block.0 state used }
         ensures table { IsBlockTable self.new }
     {
-        self.blocks[block.0 as usize] = BlockUse { state, used };
+        let now = BlockUse { state, used };
+        keep(self.shape, &mut self.blocks, &mut self.ranks, block.0, now);
     }
 
     /// Makes a block the spare. The one that was it before, where it is another block, is clean.
@@ -181,26 +183,21 @@ impl Blocks {
         ensures spare { self.new ≡ table_with_spare self.old block.0 }
         ensures table { IsBlockTable self.new }
     {
-        self.blocks[self.spare.0 as usize] = BlockUse::CLEAN;
-        self.blocks[block.0 as usize] = BlockUse::SPARE;
+        let (shape, old) = (self.shape, self.spare.0);
+        keep(
+            shape,
+            &mut self.blocks,
+            &mut self.ranks,
+            old,
+            BlockUse::CLEAN,
+        );
+        keep(
+            shape,
+            &mut self.blocks,
+            &mut self.ranks,
+            block.0,
+            BlockUse::SPARE,
+        );
         self.spare = block;
     }
-}
-
-/// The place of the first block with a blank tail.
-fn lowest_part(blocks: &[BlockUse]) -> Option<usize>
-    ensures { result ≡ position (λ b. is_part b.state) blocks.now }
-{
-    blocks
-        .iter()
-        .position(|b| matches!(b.state, BlockState::Part))
-}
-
-/// The place of the first block that is clean.
-fn lowest_clean(blocks: &[BlockUse]) -> Option<usize>
-    ensures { result ≡ position (λ b. is_clean b.state) blocks.now }
-{
-    blocks
-        .iter()
-        .position(|b| matches!(b.state, BlockState::Clean))
 }

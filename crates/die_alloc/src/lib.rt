@@ -3,6 +3,7 @@
 
 mod block_use;
 mod blocks;
+mod ranks;
 #[cfg(test)]
 mod tests;
 

@@ -7,9 +7,9 @@ use Rattle.die_alloc.proofs.blocks.Blocks.next_block.Goals as goal
 pub returns-in-Some-clause-room : goal.returns-in-Some-clause-room
 returns-in-Some-clause-room c =
     let is : next_block c.args.self.now ≡ Some c.in-Some.block = grind (arith, next_block_split) in
-    next_block_has_room _ (subst IsBlockTable c.self.view_is c.self.invariant) _ is
+    next_block_has_room _ (subst IsBlockTable c.self.view_is c.self.invariant.table) _ is
 
 pub returns-in-Some-clause-full : goal.returns-in-Some-clause-full
 returns-in-Some-clause-full c =
     let is : next_block c.args.self.now ≡ Some c.in-Some.block = grind (arith, next_block_split) in
-    rw is at (no_block_where_full c.args.self.now (subst IsBlockTable c.self.view_is c.self.invariant))
+    rw is at (no_block_where_full c.args.self.now (subst IsBlockTable c.self.view_is c.self.invariant.table))
