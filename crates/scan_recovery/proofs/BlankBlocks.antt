@@ -49,7 +49,7 @@ pub found_complete : (slots : List Seen) (list : List Found) (f : Found) → map
     get_or slots f.slot.0 Blank ≡ Complete
 found_complete slots list f e i = (complete_reads slots f.slot.0 (subst (λ l. Contains l f.slot.0) e (map_in (λ (g : Found). g.slot.0) list f i))).reads
 
-slot_within : (slots : List Seen) (list : List Found) (f : Found) → map (λ g. g.slot.0) list ≡ complete_slots slots → Contains list f → f.slot.0 < length slots
+pub slot_within : (slots : List Seen) (list : List Found) (f : Found) → map (λ g. g.slot.0) list ≡ complete_slots slots → Contains list f → f.slot.0 < length slots
 slot_within slots list f e i = (complete_reads slots f.slot.0 (subst (λ l. Contains l f.slot.0) e (map_in (λ (g : Found). g.slot.0) list f i))).within
 
 -- no complete slot lies in a block that is all blank
@@ -68,7 +68,7 @@ pub blank_removable : (p : Protocol) (list : List Found) (logical : ℕ) (shape 
     map (λ g. g.slot.0) list ≡ complete_slots slots → IsBlankBlock shape slots block → IsRemovable p list logical shape block
 blank_removable p list logical shape slots block some e blank =
     all_from
-    (λ f. IsCurrent p list logical f.rec ⊎ (is_held p list logical (name_of f.rec) ≡ true) → is_present (left (is_outside shape block) list) (name_of f.rec) ≡ true)
+    (λ f. IsCurrent p list logical f.rec ⊎ (is_held p list logical f.rec ≡ true) → is_present (left (is_outside shape block) list) (name_of f.rec) ≡ true)
     list (λ f i counted.
     let out = outside_blank shape slots block f.slot.0 some blank (slot_within slots list f e i) (found_complete slots list f e i) in
     present_in (left (is_outside shape block) list) f (in_filter (λ g. is_outside shape block g.slot.0) f list i out))

@@ -148,7 +148,7 @@ module _ (p : Protocol) (logical n : ℕ) (image : List Contents) where
         reads = reads;
         broken = inl (record {
           law = Copies;
-          is_its = sym law;
+          law_number = sym law;
           breaks = (
             i,
             w,

@@ -1,3 +1,12 @@
+pub mod SpareAlike
+pub mod RemovableBlocks
+pub mod Marks
+pub mod HeldPlaces
+pub mod TwinsAlike
+pub mod LeastBreaches
+pub mod NameOrbits
+pub mod LawsAlike
+pub mod SharedLinks
 pub mod ReadingSteps
 pub mod Used
 pub mod Highest

@@ -20,8 +20,8 @@ use Rattle.page_record.specs.Rules.{record_of}
 use Rattle.record_list.specs.declared.found.Found.{Found}
 use Rattle.record_list.specs.declared.found.Breach.{Breach}
 use Rattle.record_list.specs.Records.{mention, IsScanned}
-use Rattle.record_list.specs.SoundList.{Law, Pages, Copies, Links, Present, Counted, Loose, Ending, number, Keeps, OwnPageExists, IsSoundList, IsLeastBreach}
-use Rattle.record_list.specs.Written.{Written, found_of, records_of, BytesAgree, KeepsWritten, HasRemovable, IsFirstBroken}
+use Rattle.record_list.specs.SoundList.{Law, Pages, Copies, Links, Present, Counted, Loose, Ending, number, Keeps, PagesExist, CopiesAgree, IsSoundList, IsLeastBreach}
+use Rattle.record_list.specs.Written.{Written, found_of, records_of, BytesAgree, KeepsWritten, HasRemovable, IsFirstBrokenLaw}
 use Rattle.record_list.proofs.WrittenLists.{in_records}
 use Rattle.die_alloc.specs.BlockTable.{BlockTable}
 use Rattle.version_index.specs.declared.note.Note.{Note}
@@ -69,12 +69,17 @@ module _ (p : Protocol) (logical : ℕ) (image : List Contents) (slots : List Se
   pub scan_scanned : IsScanned list
   scan_scanned = subst (λ l. IsScanned l) (sym scan.records) (records_scanned p image)
 
-  pub scan_pages : All (OwnPageExists logical) list
+  pub scan_pages : All (PagesExist logical) list
   scan_pages =
-      subst (All (OwnPageExists logical)) (sym scan.records)
-      (All-map (OwnPageExists logical) found_of (written_in p image)
-      (all_from (λ w. w.rec.page < logical) (written_in p image)
-      (λ w i. (All-contains (KeepsWritten p (written_in p image) logical Pages) (written_in p image) w (pages_hold p logical 0 image scan.reads) i).0)))
+      subst (All (PagesExist logical)) (sym scan.records)
+      (All-map (PagesExist logical) found_of (written_in p image) (pages_hold p logical 0 image scan.reads))
+
+  pub copies_agree : All (KeepsWritten p (written_in p image) logical Copies) (written_in p image) → All (CopiesAgree list) list
+  copies_agree copies =
+      subst (λ l. All (CopiesAgree l) l) (sym scan.records)
+      (All-map (CopiesAgree (records_in p image)) found_of (written_in p image)
+      (all_from (λ w. CopiesAgree (records_in p image) (found_of w)) (written_in p image)
+      (λ w i. (All-contains (KeepsWritten p (written_in p image) logical Copies) (written_in p image) w copies i).0)))
 
 -- the tables of the scan are those of the image
 noted_of_parts : (n : Noted) (config : Config) (notes : List Note) (mentions : List ℕ) (spare : ℕ) → n.config ≡ config → n.notes ≡ notes →
@@ -143,7 +148,7 @@ module _ (p : Protocol) (logical : ℕ) (shape : Shape) (image : List Contents) 
     };
   }
 
-  broken_written : (b : Breach) → IsLeastBreach p records logical b → IsFirstBroken p ws logical b
+  broken_written : (b : Breach) → IsLeastBreach p records logical b → IsFirstBrokenLaw p ws logical b
   broken_written b h =
       let i = h.breaks.0 in
       let inside : i < length records = h.breaks.2 in
@@ -152,7 +157,7 @@ module _ (p : Protocol) (logical : ℕ) (shape : Shape) (image : List Contents) 
       let same : h.breaks.1 ≡ found_of w = sym h.breaks.3 ∙ get_or-map found_of ws i no_written h.breaks.1 within in
       record {
         law = h.law;
-        is_its = h.is_its;
+        law_number = h.law_number;
         breaks = (
           i,
           w,
@@ -160,7 +165,7 @@ module _ (p : Protocol) (logical : ℕ) (shape : Shape) (image : List Contents) 
           get_or_default ws i w no_written within,
           (
             ap (λ (f : Found). f.slot.0) (sym same) ∙ h.breaks.4.0,
-            λ kept. h.breaks.4.1 (subst (Keeps p records logical h.law) (sym same) (without_bytes h.law w kept)),
+            λ protocol. h.breaks.4.1 (subst (Keeps p records logical h.law) (sym same) (without_bytes h.law w protocol)),
           ),
         );
         earlier_laws = λ l less. all_with_bytes l (h.earlier_laws l less);
@@ -194,34 +199,34 @@ module _ (p : Protocol) (logical : ℕ) (shape : Shape) (image : List Contents) 
   broken_law b Ending is breaks = rw (← is) refl
 
   pub broken_reads : (b : Breach) → IsBroken p records logical shape b → reads_again records b ≡ 2 * compared records
-  broken_reads b (inl h) = broken_law b h.law h.is_its h.breaks
+  broken_reads b (inl h) = broken_law b h.law h.law_number h.breaks
   broken_reads b (inr h) = rw h.1 refl
 
-module _ {T : Type 0} (p kept : Protocol) (rule : p ≡ kept) (logical : ℕ) (a d : FlashState) (shape : Shape) (its : shape ≡ a.shape) (slots : List Seen) (list : List Found)
+module _ {T : Type 0} (p protocol : Protocol) (rule : p ≡ protocol) (logical : ℕ) (a d : FlashState) (shape : Shape) (its : shape ≡ a.shape) (slots : List Seen) (list : List Found)
     (scan : IsScanOf p logical a.image slots list) (copies : All (KeepsWritten p (written_in p a.image) logical Copies) (written_in p a.image)) (r : Result T RecoverError) where
   -- a fact on the records of the scan is one on those of the image
-  as_image : (P : Protocol → List Found → Shape → Type 0) → P kept list shape → P p (records_in p a.image) a.shape
-  as_image P h = subst (λ q. P q (records_in p a.image) a.shape) (sym rule) (subst (P kept (records_in p a.image)) its (subst (λ l. P kept l shape) scan.records h))
+  as_image : (P : Protocol → List Found → Shape → Type 0) → P protocol list shape → P p (records_in p a.image) a.shape
+  as_image P h = subst (λ q. P q (records_in p a.image) a.shape) (sym rule) (subst (P protocol (records_in p a.image)) its (subst (λ l. P protocol l shape) scan.records h))
 
-  pub recovered_sound : OnOk r (IsSoundList kept list logical × HasRemovable kept list logical shape) → OnOk r (IsSoundImage kept logical a.shape a.image)
+  pub recovered_sound : OnOk r (IsSoundList protocol list logical × HasRemovable protocol list logical shape) → OnOk r (IsSoundImage protocol logical a.shape a.image)
   recovered_sound h =
       on_ok_weaker r (λ both. subst (λ q. IsSoundImage q logical a.shape a.image) rule
       (sound_image p logical a.shape a.image scan.reads copies (as_image (λ q l s. IsSoundList q l logical × HasRemovable q l logical s) both))) h
 
-  pub recovered_unsound : IfErr r (λ e. IfUnsound e (IsBroken kept list logical shape)) → IfErr r (λ e. IfUnsound e (IsLeastImageBreach kept logical a.shape a.image))
-  recovered_unsound h = IfErr-weaker r (λ e. IfUnsound e (IsBroken kept list logical shape)) (λ e. IfUnsound e (IsLeastImageBreach kept logical a.shape a.image)) of_error h
+  pub recovered_unsound : IfErr r (λ e. IfUnsound e (IsBroken protocol list logical shape)) → IfErr r (λ e. IfUnsound e (IsLeastImageBreach protocol logical a.shape a.image))
+  recovered_unsound h = IfErr-weaker r (λ e. IfUnsound e (IsBroken protocol list logical shape)) (λ e. IfUnsound e (IsLeastImageBreach protocol logical a.shape a.image)) of_error h
     where
-      of_error : (e : RecoverError) → IfUnsound e (IsBroken kept list logical shape) → IfUnsound e (IsLeastImageBreach kept logical a.shape a.image)
+      of_error : (e : RecoverError) → IfUnsound e (IsBroken protocol list logical shape) → IfUnsound e (IsLeastImageBreach protocol logical a.shape a.image)
       of_error error.Fault k = k
       of_error (error.Unsound law slot) k =
           subst (λ q. IsLeastImageBreach q logical a.shape a.image (record { law = law; slot = slot })) rule
           (broken_image p logical a.shape a.image scan.reads copies (record { law = law; slot = slot }) (as_image (λ q l s. IsBroken q l logical s (record { law = law; slot = slot })) k))
       of_error error.Memory k = k
 
-  pub recovered_reads : ReadsAll a d (slots_of a.shape + 2 * compared (records_in p a.image)) → IfErr r (λ e. IfUnsound e (IsBroken kept list logical shape)) → is_read_failure r ≡ false → ReadsFor p a d r
+  pub recovered_reads : ReadsAll a d (slots_of a.shape + 2 * compared (records_in p a.image)) → IfErr r (λ e. IfUnsound e (IsBroken protocol list logical shape)) → is_read_failure r ≡ false → ReadsFor p a d r
   recovered_reads read h fault = of_result r h fault
     where
-      of_result : (x : Result T RecoverError) → IfErr x (λ e. IfUnsound e (IsBroken kept list logical shape)) → is_read_failure x ≡ false → ReadsFor p a d x
+      of_result : (x : Result T RecoverError) → IfErr x (λ e. IfUnsound e (IsBroken protocol list logical shape)) → is_read_failure x ≡ false → ReadsFor p a d x
       of_result (Ok x) k f = read
       of_result (Err error.Fault) k f = absurd (false≢true (sym f))
       of_result (Err (error.Unsound law slot)) k f =

@@ -29,7 +29,7 @@ first_use spare block = if block == spare then record { state = Spare; used = 0 
 pub record IsOpenedTo (shape : Shape) (slots : List Seen) (spare at : ℕ) (t : BlockTable) : Type 0 where
   pub table : IsBlockTable t
   pub its_shape : t.shape ≡ shape
-  pub its_spare : t.spare ≡ spare
+  pub its_spare_area : t.spare ≡ spare
   pub its_cursor : t.cursor ≡ 0
   pub done : (k : ℕ) → k < at → use_of t k ≡ use_in shape slots spare k
   pub others : (k : ℕ) → at ≤ k → k < blocks_of shape → use_of t k ≡ first_use spare k
@@ -80,10 +80,10 @@ module _ (shape : Shape) (slots : List Seen) (spare : ℕ) where
     | inl left ↦ subst (IsOpenedTo shape slots spare (at + 1)) (sym (ap (λ b. cond b t (with_use t at Shut (used_in (seen_in_block shape slots at)))) left)) (record {
       table = h.table;
       its_shape = h.its_shape;
-      its_spare = h.its_spare;
+      its_spare_area = h.its_spare_area;
       its_cursor = h.its_cursor;
       done = λ k below. split (λ j. use_of t j ≡ use_in shape slots spare j) at k below (h.done k)
-          (h.others at (omega arith) within ∙ left_use at (subst (λ s. (eqb (used_in (seen_in_block shape slots at)) 0 || eqb at s) ≡ true) h.its_spare left));
+          (h.others at (omega arith) within ∙ left_use at (subst (λ s. (eqb (used_in (seen_in_block shape slots at)) 0 || eqb at s) ≡ true) h.its_spare_area left));
       others = λ k low inside. h.others k (omega arith) inside;
     })
     | inr shut ↦
@@ -92,12 +92,12 @@ module _ (shape : Shape) (slots : List Seen) (spare : ℕ) where
         subst (IsOpenedTo shape slots spare (at + 1)) (sym same) (record {
           table = subst IsBlockTable same table;
           its_shape = h.its_shape;
-          its_spare = h.its_spare;
+          its_spare_area = h.its_spare_area;
           its_cursor = h.its_cursor;
           done = λ k below. split (λ j. use_of (with_use t at Shut (used_in (seen_in_block shape slots at))) j ≡ use_in shape slots spare j) at k below
               (λ less. use_of-with_use_other t at k Shut (used_in (seen_in_block shape slots at)) (λ e. omega arith) ∙ h.done k less)
               (use_of-with_use_same t h.table at Shut (used_in (seen_in_block shape slots at)) here
-              ∙ shut_use at (subst (λ s. (eqb (used_in (seen_in_block shape slots at)) 0 || eqb at s) ≡ false) h.its_spare shut));
+              ∙ shut_use at (subst (λ s. (eqb (used_in (seen_in_block shape slots at)) 0 || eqb at s) ≡ false) h.its_spare_area shut));
           others = λ k low inside. use_of-with_use_other t at k Shut (used_in (seen_in_block shape slots at)) (λ e. omega arith) ∙ h.others k (omega arith) inside;
         })
   ]
@@ -119,4 +119,4 @@ module _ (shape : Shape) (slots : List Seen) (spare : ℕ) where
       (same_lists t.blocks uses (long ∙ sym whole) (λ k d inside.
       get_or_default t.blocks k d no_block inside ∙ h.done k (omega arith)
       ∙ sym (get_or-map-range_with_len (use_in shape slots spare) 0 (blocks_of shape) k k d (omega arith) (omega arith))))
-      h.its_spare h.its_cursor
+      h.its_spare_area h.its_cursor

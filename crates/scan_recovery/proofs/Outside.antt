@@ -27,14 +27,14 @@ present_left keep (f ∷ fs) name =
 -- a block is removable where each record that is current or held stands outside it
 pub removable_all : (p : Protocol) (list : List Found) (logical : ℕ) (shape : Shape) (block : ℕ) →
     ((k : ℕ) → k < length list →
-    IsCurrent p list logical (record_at list k) ⊎ (is_held p list logical (name_of (record_at list k)) ≡ true) →
+    IsCurrent p list logical (record_at list k) ⊎ (is_held p list logical (record_at list k) ≡ true) →
     is_present (left (is_outside shape block) list) (name_of (record_at list k)) ≡ true) → IsRemovable p list logical shape block
 removable_all p list logical shape block h k d within =
-    subst (λ (f : Found). IsCurrent p list logical f.rec ⊎ (is_held p list logical (name_of f.rec) ≡ true) →
+    subst (λ (f : Found). IsCurrent p list logical f.rec ⊎ (is_held p list logical f.rec ≡ true) →
     is_present (left (is_outside shape block) list) (name_of f.rec) ≡ true) (get_or_default list k nothing d within) (h k within)
 
 -- it is not, where one of them does not
 pub removable_not : (p : Protocol) (list : List Found) (logical : ℕ) (shape : Shape) (block k : ℕ) → k < length list →
-    IsCurrent p list logical (record_at list k) ⊎ (is_held p list logical (name_of (record_at list k)) ≡ true) →
+    IsCurrent p list logical (record_at list k) ⊎ (is_held p list logical (record_at list k) ≡ true) →
     is_present (left (is_outside shape block) list) (name_of (record_at list k)) ≡ false → IsRemovable p list logical shape block → ⊥
 removable_not p list logical shape block k within counted gone removable = false≢true (sym gone ∙ removable k nothing within counted)

@@ -1,5 +1,7 @@
-pub mod Reading
-pub mod Scans
 pub mod Opening
-pub mod Twins
+pub mod Reading
 pub mod Recovered
+pub mod Removable
+pub mod Scans
+pub mod Searches
+pub mod Twins

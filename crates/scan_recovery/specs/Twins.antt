@@ -1,5 +1,5 @@
 -- Law 2 as a recovery tries it: each record beside the lowest one of its name.
-use Rattle.std.specs.Prelude.{◌≡◌, ℕ, ◌==◌, Bool, false, ◌&&◌, not, nat_le, List, find, count_by, Option, None, Some, IfSome, take, ◌+◌}
+use Rattle.std.specs.Prelude.{◌≡◌, ℕ, ◌==◌, Bool, false, ◌&&◌, not, nat_le, if◌then◌else◌, List, find, count_by, Option, None, Some, IfSome, take, ◌+◌}
 use Rattle.std.specs.Option.{option_map_or}
 use Rattle.tx_types.specs.declared.record.Rec.{Rec}
 use Rattle.flash_model.specs.Flash.{Contents, slot_at}
@@ -12,7 +12,9 @@ abbrev pub lowest_of : List Found → Rec → Option Found
 lowest_of list rec = find (λ g. has_name (name_of rec) g.rec) list
 
 abbrev pub is_equal : Rec → Rec → Bool
-is_equal a b = is_same (name_of a) (name_of b) && is_same a.next b.next && (a.back == b.back)
+is_equal a b =
+    is_same (name_of a) (name_of b) && is_same a.next b.next && (a.back == b.back)
+    && (a.count == b.count) && (if a.discard then b.discard else not b.discard)
 
 -- a record's slot shows these bytes
 abbrev pub bytes_shown : ℕ → List Contents → Found → List ℕ

@@ -2,11 +2,17 @@
 //! breaks.
 #![tactic(auto)]
 
+mod endings;
 mod error;
+mod held;
+mod laws;
+#[cfg(test)]
+mod list_tests;
 mod opening;
 mod recovery;
 mod removable;
 mod scan;
+mod shared_links;
 mod spare;
 #[cfg(test)]
 mod tests;

@@ -1,50 +1,58 @@
 ghost use Rattle.std.specs.Prelude.{◌≡◌, ◌+◌, ◌*◌, ◌<◌, ◌≤◌, All, map, length, Ok, OnOk, IfOk, IfErr, false};
 ghost use Rattle.tx_types.specs.Config.{IsShape, checked, shape_of, slots_of, blocks_of};
 ghost use Rattle.record_list.specs.Records.{IsScanned};
-ghost use Rattle.record_list.specs.SoundList.{OwnPageExists, IsSoundList};
+ghost use Rattle.record_list.specs.SoundList.{PagesExist, CopiesAgree, IsSoundList};
 ghost use Rattle.record_list.specs.Written.{HasRemovable};
+ghost use Rattle.record_chart.specs.Charts.{Sorts};
 ghost use Rattle.die_alloc.specs.BlockTable.{IsBlockTable};
 ghost use Rattle.version_index.specs.Notes.{complete_slots};
 ghost use Rattle.scan_recovery.specs.Opening.{used_in, opening_table, with_slots, IsOpenedFrom, IsBroken};
 ghost use Rattle.scan_recovery.specs.Recovered.{IfUnsound, is_read_failure};
 
 use crate::RecoverError;
+use crate::laws::first_breach;
 use crate::spare::{chosen_spare, is_blank, slots_in};
 use die_alloc::Blocks;
 use flash_model::Seen;
+use record_chart::Standing;
 use record_list::{Breach, CommitRule, Found};
 use std::alloc::Global;
 use tx_types::{Block, BlockState, Config, Memory, Shape, Slot};
 use version_index::Index;
 
-/// The tables of slots that read so and hold these records, or the first of laws 1 to 8 that the
-/// records break, and the slot that it names.
+/// The tables of slots that read so and hold these records, or the first of laws 3 to 8 that the
+/// records break, and the slot that it names. They keep laws 1 and 2.
 pub fn open_tables<R: CommitRule>(
     alloc: Global,
     config: Config,
     shape: Shape,
     seen: &[Seen],
     list: &[Found],
+    standing: &Standing,
 ) -> Result<(Index<R>, Blocks), RecoverError>
     requires check { checked config ≡ Ok shape }
-    requires rule { config.protocol ≡ R.kept }
+    requires rule { config.protocol ≡ R.protocol }
     requires seen { length seen.now ≡ slots_of shape }
     requires complete { map (λ f. f.slot.0) list.now ≡ complete_slots seen.now }
     requires scanned { IsScanned list.now }
-    requires pages { All (OwnPageExists config.logical) list.now }
+    requires pages { All (PagesExist config.logical) list.now }
+    requires copies { All (CopiesAgree list.now) list.now }
+    requires sorts { Sorts list.now standing.now.list }
+    requires protocol { standing.now.protocol ≡ R.protocol }
+    requires logical { standing.now.logical ≡ config.logical }
     ensures sound { OnOk result
-        (IsSoundList R.kept list.now config.logical
-        × HasRemovable R.kept list.now config.logical shape) }
+        (IsSoundList R.protocol list.now config.logical
+        × HasRemovable R.protocol list.now config.logical shape) }
     ensures tables { IfOk result (λ opened.
         IsOpenedFrom config seen.now list.now opened.0 opened.1) }
     ensures unsound { IfErr result (λ e. IfUnsound e
-        (IsBroken R.kept list.now config.logical shape)) }
+        (IsBroken R.protocol list.now config.logical shape)) }
     ensures no_fault { is_read_failure result ≡ false }
 {
-    if let Some(Breach { law, slot }) = R::audit(list, config.logical) {
+    if let Some(Breach { law, slot }) = first_breach(alloc, standing, list)? {
         return Err(RecoverError::Unsound { law, slot });
     }
-    let Some(spare) = chosen_spare::<R>(seen, list, config.logical, shape) else {
+    let Some(spare) = chosen_spare(alloc, seen, list, standing, shape)? else {
         return Err(RecoverError::Unsound {
             law: 8,
             slot: Slot(0),

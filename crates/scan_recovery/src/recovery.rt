@@ -5,6 +5,7 @@ ghost use Rattle.flash_model.specs.Operations.{moment_of};
 ghost use Rattle.version_index.specs.Images.{IsSoundImage, written_in, IsLeastImageBreach};
 ghost use Rattle.record_list.specs.SoundList.{Copies};
 ghost use Rattle.record_list.specs.Written.{KeepsWritten};
+ghost use Rattle.record_chart.specs.Charts.{Sorts};
 ghost use Rattle.scan_recovery.specs.Scans.{IsScanOf};
 ghost use Rattle.scan_recovery.specs.Opening.{IsOpened};
 ghost use Rattle.scan_recovery.specs.Recovered.{IfUnsound, is_read_failure, ReadsFor};
@@ -15,8 +16,9 @@ use crate::scan::{Scanned, scan};
 use crate::twins::first_contradiction;
 use die_alloc::Blocks;
 use flash_model::Flash;
-use record_list::CommitRule;
-use std::alloc::Global;
+use record_chart::{Chart, Standing};
+use record_list::{CommitRule, Found};
+use std::alloc::{AllocError, Global};
 use tx_types::Config;
 use version_index::Index;
 
@@ -38,16 +40,16 @@ pub fn recover<F: Flash, R: CommitRule>(
     config: Config,
 ) -> Result<(Index<R>, Blocks), RecoverError>
     requires check { checked config ≡ Ok (F.state flash.old).shape }
-    requires rule { config.protocol ≡ R.kept }
+    requires rule { config.protocol ≡ R.protocol }
     // The tables of a sound image.
     ensures sound { let old = F.state flash.old in
-        OnOk result (IsSoundImage R.kept config.logical old.shape old.image) }
+        OnOk result (IsSoundImage R.protocol config.logical old.shape old.image) }
     ensures tables { IfOk result (λ opened.
         IsOpened config (F.state flash.old).image opened.0 opened.1) }
     // Else the first law that is broken, and its slot.
     ensures unsound { let old = F.state flash.old in
         IfErr result (λ e. IfUnsound e
-        (IsLeastImageBreach R.kept config.logical old.shape old.image)) }
+        (IsLeastImageBreach R.protocol config.logical old.shape old.image)) }
     // So it is only where no read failed.
     ensures faultless { let faults = (F.state flash.old).faults in
         IfErr result (λ e. IfUnsound e (λ _. (F.state flash.new).faults ≡ faults)) }
@@ -57,19 +59,28 @@ pub fn recover<F: Flash, R: CommitRule>(
     ensures carries { Carries (F.state flash.old) (F.state flash.new) (is_read_failure result) }
     ensures reads { ReadsFor config.protocol (F.state flash.old) (F.state flash.new) result }
 {
-    let scanned = sound_scan(alloc, flash, config)?;
-    open_tables(alloc, config, flash.shape(), &scanned.seen, &scanned.list)
+    let (scanned, chart) = sound_scan(alloc, flash, config)?;
+    let standing = Standing::new(alloc, chart, config.protocol, config.logical)?;
+    open_tables(
+        alloc,
+        config,
+        flash.shape(),
+        &scanned.seen,
+        &scanned.list,
+        &standing,
+    )
 }
 
-/// Scans the flash, and tries laws 1 and 2.
+/// Scans the flash, puts the records in order of their names, and tries laws 1 and 2.
 fn sound_scan<F: Flash>(
     alloc: Global,
     flash: &mut F,
     config: Config,
-) -> Result<Scanned, RecoverError>
+) -> Result<(Scanned, Chart), RecoverError>
     ensures scan { let image = (F.state flash.old).image in
         IfOk result (λ s. IsScanOf config.protocol config.logical image
-        s.seen.items s.list.items) }
+        s.0.seen.items s.0.list.items) }
+    ensures sorts { IfOk result (λ s. Sorts s.0.list.items s.1) }
     ensures copies { let list = written_in config.protocol (F.state flash.old).image in
         OnOk result (All (KeepsWritten config.protocol list config.logical Copies) list) }
     ensures unsound { let old = F.state flash.old in
@@ -81,11 +92,19 @@ fn sound_scan<F: Flash>(
     let mut one = vec![in alloc; 0; size]?;
     let mut two = vec![in alloc; 0; size]?;
     let scanned = scan(alloc, flash, config, &mut one)?;
-    match first_contradiction(flash, &scanned.list, &mut one, &mut two)? {
-        None => Ok(scanned),
+    let chart = charted(alloc, &scanned.list)?;
+    match first_contradiction(flash, &scanned.list, &chart, &mut one, &mut two)? {
+        None => Ok((scanned, chart)),
         Some(at) => Err(RecoverError::Unsound {
             law: 2,
             slot: scanned.list[at].slot,
         }),
     }
+}
+
+/// The records of a list in order of their names.
+fn charted(alloc: Global, list: &[Found]) -> Result<Chart, AllocError>
+    ensures { IfOk result (λ chart. Sorts list.now chart) }
+{
+    Chart::new(alloc, list.to_vec(alloc)?)
 }

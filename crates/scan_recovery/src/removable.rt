@@ -1,68 +1,93 @@
-ghost use Rattle.std.specs.Prelude.{◌≡◌, ◌<◌, ◌&&◌, ◌↔◌, ◌⊎◌, true, ℕ, IsTrue, All, length, MatchOption};
+ghost use Rattle.std.specs.Prelude.{◌≡◌, ◌/◌, ◌<◌, false, All, IfOk, length, slice_index_or};
 ghost use Rattle.std.specs.List.{list_any};
-ghost use Rattle.tx_types.specs.Config.{IsShape, blocks_of};
-ghost use Rattle.record_list.specs.Records.{IsScanned, record_at, name_of, has_name};
-ghost use Rattle.record_list.specs.Current.{IsCurrent, is_held};
-ghost use Rattle.record_list.specs.SoundList.{OwnPageExists};
+ghost use Rattle.tx_types.specs.Config.{IsShape, slots_of, blocks_of};
+ghost use Rattle.record_list.specs.Records.{name_of, has_name, record_at, nothing};
 ghost use Rattle.record_list.specs.Written.{IsRemovable, is_outside};
 ghost use Rattle.scan_recovery.specs.Opening.{FindsHighest};
+ghost use Rattle.scan_recovery.specs.Removable.{AreCopies, AreHeld, AreFixed, is_counted, stands_outside, is_fixed};
 
-use record_list::{CommitRule, Found};
+use crate::held::{held_places, is_held, mark, name_of};
+use record_chart::Standing;
+use record_list::Found;
+use std::alloc::{AllocError, Global};
 use tx_types::{Block, Rec, Shape, Slot};
 
-/// The highest removable block, if there is one.
-pub fn highest_removable<R: CommitRule>(list: &[Found], logical: u32, shape: Shape) -> Option<Block>
-    requires scanned { IsScanned list.now }
-    requires pages { All (OwnPageExists logical) list.now }
+/// The highest removable block, if there is one. Records of one name are equal.
+pub fn highest_removable(
+    alloc: Global,
+    standing: &Standing,
+    shape: Shape,
+) -> Result<Option<Block>, AllocError>
+    requires copies { AreCopies standing.now.list }
+    requires exists { All (λ f. f.slot.0 < slots_of shape) standing.now.list }
     requires shape { IsShape shape }
-    ensures { FindsHighest (IsRemovable R.kept list.now logical shape) (blocks_of shape) result }
+    ensures { let s = standing.now in
+        IfOk result (FindsHighest (IsRemovable s.protocol s.list s.logical shape)
+        (blocks_of shape)) }
 {
-    let mut block = shape.blocks();
-    while block > 0 {
-        block -= 1;
-        if is_removable::<R>(list, logical, shape, Block(block)) {
-            return Some(Block(block));
-        }
-    }
-    None
+    let fixed = fixed_blocks(alloc, standing, shape)?;
+    Ok(highest_unmarked(&fixed, shape))
 }
 
-/// Whether each current and each held record has a slot outside a block.
-fn is_removable<R: CommitRule>(list: &[Found], logical: u32, shape: Shape, block: Block) -> bool
-    requires scanned { IsScanned list.now }
-    requires pages { All (OwnPageExists logical) list.now }
-    requires shape { 0 < shape.pages_per_block }
-    ensures { IsTrue result ↔ IsRemovable R.kept list.now logical shape block.0 }
+/// For each block whether a record is current or held and stands in this block alone.
+fn fixed_blocks(alloc: Global, standing: &Standing, shape: Shape) -> Result<Vec<bool>, AllocError>
+    requires copies { AreCopies standing.now.list }
+    requires exists { All (λ f. f.slot.0 < slots_of shape) standing.now.list }
+    requires shape { IsShape shape }
+    ensures { IfOk result (λ fixed. AreFixed standing.now shape standing.now.list fixed.items) }
 {
-    for at in 0..list.len() {
-        if is_counted::<R>(list, logical, at) && !stands_outside(list, shape, block, list[at].rec) {
-            return false;
+    let held = held_places(alloc, standing)?;
+    let mut fixed = vec![in alloc; false; shape.blocks() as usize]?;
+    let records = standing.chart().records();
+    for at in 0..records.len() {
+        let block = block_of(shape, records[at].slot);
+        if is_fixed(standing, &held, shape, at, block) {
+            mark(&mut fixed, block.0);
         }
     }
-    true
+    Ok(fixed)
+}
+
+/// Whether the record at an index is current or held and stands in a block alone.
+fn is_fixed(standing: &Standing, held: &[bool], shape: Shape, at: usize, block: Block) -> bool
+    requires copies { AreCopies standing.now.list }
+    requires held { AreHeld standing.now standing.now.list held.now }
+    requires within { at < length standing.now.list }
+    requires shape { 0 < shape.pages_per_block }
+    ensures { result ≡ is_fixed standing.now shape
+        (slice_index_or standing.now.list at nothing) block.0 }
+{
+    let rec = standing.chart().records()[at].rec;
+    is_counted(standing, held, at) && !stands_outside(standing, shape, block, rec)
 }
 
 /// Whether the record at an index is current or held.
-fn is_counted<R: CommitRule>(list: &[Found], logical: u32, at: usize) -> bool
-    requires scanned { IsScanned list.now }
-    requires pages { All (OwnPageExists logical) list.now }
-    requires within { at < length list.now }
-    ensures { let rec = record_at list.now at in
-        IsTrue result
-        ↔ (IsCurrent R.kept list.now logical rec
-        ⊎ (is_held R.kept list.now logical (name_of rec) ≡ true)) }
+fn is_counted(standing: &Standing, held: &[bool], at: usize) -> bool
+    requires copies { AreCopies standing.now.list }
+    requires held { AreHeld standing.now standing.now.list held.now }
+    requires within { at < length standing.now.list }
+    ensures { result ≡ is_counted standing.now (record_at standing.now.list at) }
 {
-    let rec = list[at].rec;
-    rec.version == R::current(list, logical, rec.page) || R::held(list, logical, at)
+    let rec = standing.chart().records()[at].rec;
+    rec.version == standing.current(rec.page) || is_held(standing, held, at)
 }
 
 /// Whether a slot outside a block holds a record of this record's name.
-fn stands_outside(list: &[Found], shape: Shape, block: Block, rec: Rec) -> bool
+fn stands_outside(standing: &Standing, shape: Shape, block: Block, rec: Rec) -> bool
     requires { 0 < shape.pages_per_block }
-    ensures { result ≡ list_any
-        (λ f. is_outside shape block.0 f.slot.0 && has_name (name_of rec) f.rec) list.now }
+    ensures { result ≡ stands_outside standing.now shape block.0 rec }
 {
-    list.iter().any(|found| is_outside(shape, block, found.slot) && has_name_of(&found.rec, &rec))
+    any_outside(standing.chart().named(name_of(rec)), shape, block)
+}
+
+/// Whether one of these records stands outside a block.
+fn any_outside(records: &[Found], shape: Shape, block: Block) -> bool
+    requires { 0 < shape.pages_per_block }
+    ensures { result ≡ list_any (λ f. is_outside shape block.0 f.slot.0) records.now }
+{
+    records
+        .iter()
+        .any(|found| is_outside(shape, block, found.slot))
 }
 
 /// Whether a slot lies outside a block.
@@ -70,7 +95,32 @@ fn is_outside(shape: Shape, block: Block, slot: Slot) -> bool
     requires { 0 < shape.pages_per_block }
     ensures { result ≡ is_outside shape block.0 slot.0 }
 {
-    slot.0 / shape.pages_per_block != block.0
+    block_of(shape, slot) != block
+}
+
+/// The block of a slot.
+fn block_of(shape: Shape, slot: Slot) -> Block
+    requires { 0 < shape.pages_per_block }
+    ensures { result.0 ≡ slot.0 / shape.pages_per_block }
+{
+    Block(slot.0 / shape.pages_per_block)
+}
+
+/// The highest block that is not marked, if there is one.
+fn highest_unmarked(marks: &[bool], shape: Shape) -> Option<Block>
+    requires size { length marks.now ≡ blocks_of shape }
+    requires shape { IsShape shape }
+    ensures { FindsHighest (λ block. slice_index_or marks.now block false ≡ false)
+        (blocks_of shape) result }
+{
+    let mut block = shape.blocks();
+    while block > 0 {
+        block -= 1;
+        if !marks[block as usize] {
+            return Some(Block(block));
+        }
+    }
+    None
 }
 
 /// Whether a record has the name of another one.

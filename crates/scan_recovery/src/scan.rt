@@ -46,7 +46,7 @@ pub fn scan<F: Flash>(
     let mut list = Vec::with_capacity(alloc, slots as usize)?;
     let mut unread = None;
     for at in 0..slots {
-        match look_at(flash, config, Slot(at), page)? {
+        match read_note(flash, config, Slot(at), page)? {
             Some(note) => add(&mut seen, &mut list, Slot(at), note),
             None => unread = first_of(unread, Slot(at)),
         }
@@ -86,7 +86,7 @@ fn add(seen: &mut Vec<Seen>, list: &mut Vec<Found>, slot: Slot, note: Note)
 }
 
 /// Reads a slot. What is noted of it, nothing where it breaks law 1.
-fn look_at<F: Flash>(
+fn read_note<F: Flash>(
     flash: &mut F,
     config: Config,
     at: Slot,
@@ -100,20 +100,20 @@ fn look_at<F: Flash>(
         (λ _. ReadsAll (F.state flash.old) (F.state flash.new) 1)
         (λ _. ReadsSome (F.state flash.old) (F.state flash.new) true 1) }
 {
-    let mut spare = [0; 64];
-    Ok(match flash.read(at, page, &mut spare)? {
+    let mut spare_area = [0; 64];
+    Ok(match flash.read(at, page, &mut spare_area)? {
         Seen::Blank => Some(Note::Blank),
         Seen::Damaged => Some(Note::Damaged),
-        Seen::Complete => record_in(&spare, config).map(Note::Holds),
+        Seen::Complete => record_in(&spare_area, config).map(Note::Holds),
     })
 }
 
 /// The record of a spare area, where it reads for the protocol and its page and its link's page
 /// exist.
-fn record_in(spare: &[u8; 64], config: Config) -> Option<Rec>
-    ensures { IsKeptRecord config.protocol config.logical spare.now result }
+fn record_in(spare_area: &[u8; 64], config: Config) -> Option<Rec>
+    ensures { IsKeptRecord config.protocol config.logical spare_area.now result }
 {
-    match read_spare(spare, config.protocol) {
+    match read_spare(spare_area, config.protocol) {
         Ok(rec) if rec.page < config.logical && rec.next.page < config.logical => Some(rec),
         _ => None,
     }

@@ -1,35 +1,40 @@
-ghost use Rattle.std.specs.Prelude.{◌≡◌, ◌+◌, ◌*◌, ◌<◌, ◌≤◌, All, map, length};
+ghost use Rattle.std.specs.Prelude.{◌≡◌, ◌+◌, ◌*◌, ◌<◌, ◌≤◌, All, IfOk, map, length};
 ghost use Rattle.std.specs.List.{list_all};
 ghost use Rattle.tx_types.specs.Config.{IsShape, slots_of, blocks_of};
 ghost use Rattle.record_list.specs.Records.{IsScanned};
-ghost use Rattle.record_list.specs.SoundList.{OwnPageExists};
+ghost use Rattle.record_list.specs.SoundList.{CopiesAgree};
+ghost use Rattle.record_chart.specs.Charts.{Sorts};
 ghost use Rattle.version_index.specs.Notes.{complete_slots};
 ghost use Rattle.scan_recovery.specs.Opening.{reads_blank, seen_in_block, IsBlankBlock, FindsHighest, FindsSpare};
 
 use crate::removable::highest_removable;
 use flash_model::Seen;
-use record_list::{CommitRule, Found};
+use record_chart::Standing;
+use record_list::Found;
+use std::alloc::{AllocError, Global};
 use tx_types::{Block, Shape};
 
 /// The block that becomes the spare: the highest one that is all blank, or, where there is none,
 /// the highest removable one. Nothing where no block is removable.
-#[tactic(auto, using(crate::proofs::BlankBlocks::chosen_blank, crate::proofs::BlankBlocks::chosen_removable))]
-pub fn chosen_spare<R: CommitRule>(
+pub fn chosen_spare(
+    alloc: Global,
     seen: &[Seen],
     list: &[Found],
-    logical: u32,
+    standing: &Standing,
     shape: Shape,
-) -> Option<Block>
+) -> Result<Option<Block>, AllocError>
     requires scanned { IsScanned list.now }
-    requires pages { All (OwnPageExists logical) list.now }
+    requires copies { All (CopiesAgree list.now) list.now }
+    requires sorts { Sorts list.now standing.now.list }
     requires shape { IsShape shape }
     requires seen { length seen.now ≡ slots_of shape }
     requires complete { map (λ f. f.slot.0) list.now ≡ complete_slots seen.now }
-    ensures { FindsSpare R.kept logical shape seen.now list.now result }
+    ensures { let s = standing.now in
+        IfOk result (FindsSpare s.protocol s.logical shape seen.now list.now) }
 {
     match highest_blank(seen, shape) {
-        Some(block) => Some(block),
-        None => highest_removable::<R>(list, logical, shape),
+        Some(block) => Ok(Some(block)),
+        None => highest_removable(alloc, standing, shape),
     }
 }
 

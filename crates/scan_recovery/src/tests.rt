@@ -67,10 +67,10 @@ fn has_slot<R: CommitRule>(index: &Index<R>, at: Slot) -> bool
 
 /// What is programmed: a slot with a record, which is its page and version, those of its link, and
 /// its back version, and the byte of which its page is full.
-type Item = (u32, (u32, u64), (u32, u64), u64, u8);
+pub type Item = (u32, (u32, u64), (u32, u64), u64, u8);
 
 /// The record of a page and a version, with its link and its back version.
-fn rec(name: (u32, u64), next: (u32, u64), back: u64) -> Rec {
+pub fn rec(name: (u32, u64), next: (u32, u64), back: u64) -> Rec {
     Rec {
         page: name.0,
         version: name.1,
@@ -79,11 +79,13 @@ fn rec(name: (u32, u64), next: (u32, u64), back: u64) -> Rec {
             version: next.1,
         },
         back,
+        count: 0,
+        discard: false,
     }
 }
 
 /// Programs a slot that is blank, as all later ones of its block are.
-fn program(rt: &impl Abort, flash: &mut MemFlash, at: u32, fill: u8, spare: &[u8; 64]) -> bool
+fn program(rt: &impl Abort, flash: &mut MemFlash, at: u32, fill: u8, spare_area: &[u8; 64]) -> bool
     requires { flash.old.shape ≡ SHAPE }
     ensures { flash.new.shape ≡ SHAPE }
 {
@@ -101,24 +103,25 @@ fn program(rt: &impl Abort, flash: &mut MemFlash, at: u32, fill: u8, spare: &[u8
         at % 4 >= 1 || flash.seen(Slot(at + 3)) == Seen::Blank,
         "slot {at}"
     );
-    flash.program(Slot(at), &[fill; 16], spare).is_ok()
+    flash.program(Slot(at), &[fill; 16], spare_area).is_ok()
 }
 
 /// The spare area of a record.
-fn spare_of(rt: &impl Abort, protocol: Protocol, rec: Rec) -> [u8; 64] {
+fn spare_area_of(rt: &impl Abort, protocol: Protocol, rec: Rec) -> [u8; 64] {
     assert!(rt; 1 <= rec.version && rec.version <= MAX_VERSION);
     assert!(rt; 1 <= rec.next.version && rec.next.version <= MAX_VERSION);
+    assert!(rt; rec.count == 0 && !rec.discard);
     match protocol {
         Protocol::Scc => assert!(rt; rec.back == 0),
         Protocol::Bpcc => assert!(rt; rec.back < rec.version),
     }
-    let mut spare = [0; 64];
-    write_spare(rec, protocol, &mut spare);
-    spare
+    let mut spare_area = [0; 64];
+    write_spare(rec, protocol, &mut spare_area);
+    spare_area
 }
 
 /// A flash on which these items were programmed.
-fn written(
+pub fn written(
     rt: &impl Abort,
     alloc: Global,
     protocol: Protocol,
@@ -128,14 +131,18 @@ fn written(
 {
     let mut flash = MemFlash::new(alloc, SHAPE)?;
     for (slot, name, next, back, fill) in items {
-        let spare = spare_of(rt, protocol, rec(*name, *next, *back));
-        assert!(rt; program(rt, &mut flash, *slot, *fill, &spare));
+        let spare_area = spare_area_of(rt, protocol, rec(*name, *next, *back));
+        assert!(rt; program(rt, &mut flash, *slot, *fill, &spare_area));
     }
     Ok(flash)
 }
 
 /// Why a flash is refused, if it is, and how many slots were read.
-fn refused(alloc: Global, flash: &mut MemFlash, protocol: Protocol) -> (Option<RecoverError>, u64)
+pub fn refused(
+    alloc: Global,
+    flash: &mut MemFlash,
+    protocol: Protocol,
+) -> (Option<RecoverError>, u64)
     requires { flash.old.shape ≡ SHAPE }
 {
     let config = config(protocol);
@@ -292,8 +299,8 @@ fn law_1_names_the_lowest_slot_of_both_kinds(rt: HostRuntime) -> Result<(), Fail
             assert!(rt; program(&rt, &mut flash, at, 0, &[0; SPARE_BYTES]));
         }
         if let Some(at) = far {
-            let spare = spare_of(&rt, S, rec((20, 1), (0, 1), 0));
-            assert!(rt; program(&rt, &mut flash, at, 0, &spare));
+            let spare_area = spare_area_of(&rt, S, rec((20, 1), (0, 1), 0));
+            assert!(rt; program(&rt, &mut flash, at, 0, &spare_area));
         }
         let refusal = RecoverError::Unsound {
             law: 1,

@@ -1,16 +1,16 @@
-ghost use Rattle.std.specs.Prelude.{◌≡◌, ◌*◌, ◌<◌, ◌↔◌, true, IsTrue, All, length, position, IfOk, IfSome, MatchResult, if◌then◌else◌};
+ghost use Rattle.std.specs.Prelude.{◌≡◌, ◌*◌, ◌<◌, ◌↔◌, true, IsTrue, All, length, IfOk, MatchResult, if◌then◌else◌};
 ghost use Rattle.tx_types.specs.Config.{slots_of};
 ghost use Rattle.flash_model.specs.Flash.{slot_at};
 ghost use Rattle.flash_model.specs.Calls.{page_of};
-ghost use Rattle.record_list.specs.Records.{has_name, name_of};
 ghost use Rattle.record_list.specs.Search.{FindsFirst};
+ghost use Rattle.record_chart.specs.Charts.{Sorts};
 ghost use Rattle.scan_recovery.specs.Reading.{ReadsAll, ReadsSome};
 ghost use Rattle.scan_recovery.specs.Twins.{lowest_of, is_compared, compared, AgreesWithLowest, compared_to};
 
-use crate::removable::has_name_of;
 use flash_model::{Broken, Flash};
+use record_chart::Chart;
 use record_list::Found;
-use tx_types::{Rec, Slot};
+use tx_types::{Link, Rec, Slot};
 
 /// The index of the first record that breaks law 2: it differs from the lowest record of its name,
 /// or the bytes of the two slots differ. Only where another slot is the lowest and the records are
@@ -18,9 +18,11 @@ use tx_types::{Rec, Slot};
 pub fn first_contradiction<F: Flash>(
     flash: &mut F,
     list: &[Found],
+    chart: &Chart,
     one: &mut [u8],
     two: &mut [u8],
 ) -> Result<Option<usize>, Broken>
+    requires sorts { Sorts list.now chart.now }
     requires exists { All (λ f. f.slot.0 < slots_of (F.state flash.old).shape) list.now }
     requires one { length one.old ≡ (F.state flash.old).shape.page_bytes }
     requires two { length two.old ≡ (F.state flash.old).shape.page_bytes }
@@ -33,7 +35,7 @@ pub fn first_contradiction<F: Flash>(
         (λ _. ReadsSome (F.state flash.old) (F.state flash.new) true (2 * compared list.now)) }
 {
     for at in 0..list.len() {
-        if !agrees(flash, list, list[at], one, two)? {
+        if !agrees(flash, chart, list[at], one, two)? {
             return Ok(Some(at));
         }
     }
@@ -43,24 +45,24 @@ pub fn first_contradiction<F: Flash>(
 /// Whether a record is equal to the lowest one of its name, and so are the bytes of the two slots.
 fn agrees<F: Flash>(
     flash: &mut F,
-    list: &[Found],
+    chart: &Chart,
     found: Found,
     one: &mut [u8],
     two: &mut [u8],
 ) -> Result<bool, Broken>
-    requires exists { All (λ f. f.slot.0 < slots_of (F.state flash.old).shape) list.now }
+    requires exists { All (λ f. f.slot.0 < slots_of (F.state flash.old).shape) chart.now }
     requires found { found.slot.0 < slots_of (F.state flash.old).shape }
     requires one { length one.old ≡ (F.state flash.old).shape.page_bytes }
     requires two { length two.old ≡ (F.state flash.old).shape.page_bytes }
     ensures agrees { let old = F.state flash.old in
         IfOk result (λ same. IsTrue same
-        ↔ AgreesWithLowest old.shape.page_bytes old.image list.now found) }
-    ensures reads { let count = if is_compared list.now found then 2 else 0 in
+        ↔ AgreesWithLowest old.shape.page_bytes old.image chart.now found) }
+    ensures reads { let count = if is_compared chart.now found then 2 else 0 in
         MatchResult result
         (λ _. ReadsAll (F.state flash.old) (F.state flash.new) count)
         (λ _. ReadsSome (F.state flash.old) (F.state flash.new) true count) }
 {
-    let Some(lowest) = lowest_of(list, found.rec) else {
+    let Some(lowest) = lowest_of(chart, found.rec) else {
         return Ok(true);
     };
     if lowest.rec != found.rec {
@@ -73,19 +75,14 @@ fn agrees<F: Flash>(
 }
 
 /// The lowest record of the name that a record has.
-fn lowest_of(list: &[Found], rec: Rec) -> Option<Found>
-    ensures { result ≡ lowest_of list.now rec }
+fn lowest_of(chart: &Chart, rec: Rec) -> Option<Found>
+    ensures { result ≡ lowest_of chart.now rec }
 {
-    let at = lowest_index(list, rec)?;
-    Some(list[at])
-}
-
-/// The index of the lowest record of the name that a record has.
-fn lowest_index(list: &[Found], rec: Rec) -> Option<usize>
-    ensures first { result ≡ position (λ g. has_name (name_of rec) g.rec) list.now }
-    ensures within { IfSome result (λ at. at < length list.now) }
-{
-    list.iter().position(|found| has_name_of(&found.rec, &rec))
+    let place = chart.find(Link {
+        page: rec.page,
+        version: rec.version,
+    })?;
+    Some(chart.records()[place as usize])
 }
 
 /// Reads two slots, and tells whether they show the same bytes.
@@ -108,8 +105,8 @@ fn same_bytes<F: Flash>(
         (λ _. ReadsAll (F.state flash.old) (F.state flash.new) 2)
         (λ _. ReadsSome (F.state flash.old) (F.state flash.new) true 2) }
 {
-    let mut spare = [0; 64];
-    flash.read(first, one, &mut spare)?;
-    flash.read(second, two, &mut spare)?;
+    let mut spare_area = [0; 64];
+    flash.read(first, one, &mut spare_area)?;
+    flash.read(second, two, &mut spare_area)?;
     Ok(&*one == &*two)
 }

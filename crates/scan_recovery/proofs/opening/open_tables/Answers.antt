@@ -1,5 +1,5 @@
 use Rattle.std.proofs.Common.{sym, ap, ◌∙◌, subst, subst₂}
-use Rattle.tx_types.specs.Config.{IsShape, slots_of}
+use Rattle.tx_types.specs.Config.{IsShape, shape_of, slots_of}
 use Rattle.tx_types.proofs.ConfigLemmas.{checked_config}
 use Rattle.scan_recovery.specs.Opening.{opening_table, IsChosenFrom}
 use Rattle.scan_recovery.proofs.opening.open_tables.Goals as goal
@@ -14,12 +14,17 @@ from_scan-requires-clause-seen g c = c.requires.seen ∙ ap slots_of (checked_co
 
 pub returns-clause-tables : goal.returns-clause-tables
 returns-clause-tables g c =
-    let same = (checked_config c.args.config c.args.shape c.requires.check).1 in
+    let config = c.args.config in
+    let standing = c.args.standing.now in
+    let spare = c.in-Some-2.spare.0 in
+    let same = (checked_config config c.args.shape c.requires.check).1 in
+    let finds = rw c.in-Some-2.is at c.in_ok-spare.ensures in
     record {
-      spare = c.in-Some-chosen_spare.spare.0;
-      chosen = subst₂ (λ p s. IsChosenFrom p c.args.config.logical s c.args.seen.now c.args.list.now c.in-Some-chosen_spare.spare.0) (sym c.requires.rule) same c.in-Some-chosen_spare.ensures.0;
+      spare = spare;
+      chosen = subst (λ n. IsChosenFrom config.protocol n (shape_of config) c.args.seen.now c.args.list.now spare) c.requires.logical
+          (subst₂ (λ p s. IsChosenFrom p standing.logical s c.args.seen.now c.args.list.now spare) (c.requires.protocol ∙ sym c.requires.rule) same finds.0);
       scan = c.in_ok-index.index;
       scanned = c.in_ok-index.ensures;
       noted_is = c.set_spare.ensures;
-      table_is = c.in_ok-blocks.ensures ∙ ap (λ s. opening_table s c.args.seen.now c.in-Some-chosen_spare.spare.0) same;
+      table_is = c.in_ok-blocks.ensures ∙ ap (λ s. opening_table s c.args.seen.now spare) same;
     }

@@ -1,7 +1,7 @@
 use Rattle.std.proofs.Common.{sym, ◌∙◌, subst₂}
 use Rattle.std.proofs.lemmas.Result.{IfOk-weaker}
 use Rattle.scan_recovery.specs.Scans.{IsScanOf}
-use Rattle.scan_recovery.proofs.OpenedImages.{scan_complete, scan_scanned, scan_pages, opened_image, recovered_sound, recovered_unsound, recovered_reads}
+use Rattle.scan_recovery.proofs.OpenedImages.{scan_complete, scan_scanned, scan_pages, copies_agree, opened_image, recovered_sound, recovered_unsound, recovered_reads}
 use Rattle.scan_recovery.proofs.recovery.recover.Goals as goal
 
 pub open_tables-requires-clause-complete : goal.open_tables-requires-clause-complete
@@ -19,11 +19,17 @@ open_tables-requires-clause-pages g c =
     scan_pages c.args.config.protocol c.args.config.logical (g.F.Flash.state c.args.flash.now).image c.deref.result.now c.deref-2.result.now
     (subst₂ (IsScanOf c.args.config.protocol c.args.config.logical (g.F.Flash.state c.args.flash.now).image) (sym c.deref.ensures.value) (sym c.deref-2.ensures.value) c.in_ok-scanned.ensures.scan)
 
+pub open_tables-requires-clause-copies : goal.open_tables-requires-clause-copies
+open_tables-requires-clause-copies g c =
+    copies_agree c.args.config.protocol c.args.config.logical (g.F.Flash.state c.args.flash.now).image c.deref.result.now c.deref-2.result.now
+    (subst₂ (IsScanOf c.args.config.protocol c.args.config.logical (g.F.Flash.state c.args.flash.now).image) (sym c.deref.ensures.value) (sym c.deref-2.ensures.value) c.in_ok-scanned.ensures.scan)
+    c.in_ok-scanned.ensures.copies
+
 pub returns-clause-sound : goal.returns-clause-sound
 returns-clause-sound g c =
     let a = g.F.Flash.state c.args.flash.now in
     let d = g.F.Flash.state c.sound_scan.new.flash in
-    recovered_sound c.args.config.protocol g.R.CommitRule.kept c.requires.rule c.args.config.logical a d c.shape.result
+    recovered_sound c.args.config.protocol g.R.CommitRule.protocol c.requires.rule c.args.config.logical a d c.shape.result
     (c.shape.ensures.shape ∙ c.in_ok-scanned.ensures.reads.carries.shape) c.deref.result.now c.deref-2.result.now
     (subst₂ (IsScanOf c.args.config.protocol c.args.config.logical a.image) (sym c.deref.ensures.value) (sym c.deref-2.ensures.value) c.in_ok-scanned.ensures.scan)
     c.in_ok-scanned.ensures.copies c.open_tables.result c.open_tables.ensures.sound
@@ -40,7 +46,7 @@ pub returns-clause-unsound : goal.returns-clause-unsound
 returns-clause-unsound g c =
     let a = g.F.Flash.state c.args.flash.now in
     let d = g.F.Flash.state c.sound_scan.new.flash in
-    recovered_unsound c.args.config.protocol g.R.CommitRule.kept c.requires.rule c.args.config.logical a d c.shape.result
+    recovered_unsound c.args.config.protocol g.R.CommitRule.protocol c.requires.rule c.args.config.logical a d c.shape.result
     (c.shape.ensures.shape ∙ c.in_ok-scanned.ensures.reads.carries.shape) c.deref.result.now c.deref-2.result.now
     (subst₂ (IsScanOf c.args.config.protocol c.args.config.logical a.image) (sym c.deref.ensures.value) (sym c.deref-2.ensures.value) c.in_ok-scanned.ensures.scan)
     c.in_ok-scanned.ensures.copies c.open_tables.result c.open_tables.ensures.unsound
@@ -49,7 +55,7 @@ pub returns-clause-reads : goal.returns-clause-reads
 returns-clause-reads g c =
     let a = g.F.Flash.state c.args.flash.now in
     let d = g.F.Flash.state c.sound_scan.new.flash in
-    recovered_reads c.args.config.protocol g.R.CommitRule.kept c.requires.rule c.args.config.logical a d c.shape.result
+    recovered_reads c.args.config.protocol g.R.CommitRule.protocol c.requires.rule c.args.config.logical a d c.shape.result
     (c.shape.ensures.shape ∙ c.in_ok-scanned.ensures.reads.carries.shape) c.deref.result.now c.deref-2.result.now
     (subst₂ (IsScanOf c.args.config.protocol c.args.config.logical a.image) (sym c.deref.ensures.value) (sym c.deref-2.ensures.value) c.in_ok-scanned.ensures.scan)
     c.in_ok-scanned.ensures.copies c.open_tables.result c.in_ok-scanned.ensures.reads c.open_tables.ensures.unsound c.open_tables.ensures.no_fault

@@ -15,7 +15,7 @@ pub first_contradiction-requires-clause-exists : goal.first_contradiction-requir
 first_contradiction-requires-clause-exists g c =
     let a = g.F.Flash.state c.args.flash.now in
     let b = g.F.Flash.state c.scan.new.flash in
-    subst (All (λ (f : Found). f.slot.0 < slots_of b.shape)) (sym c.deref.ensures.value)
+    subst (All (λ (f : Found). f.slot.0 < slots_of b.shape)) (sym c.deref-2.ensures.value)
     (scan_exists c.args.config.protocol c.args.config.logical a b b c.in_ok-scanned.scanned.seen.items c.in_ok-scanned.scanned.list.items c.in_ok-scanned.ensures.scan c.in_ok-scanned.ensures.reads
     c.shape-size.ensures.whole)
 
@@ -39,15 +39,15 @@ returns-in_err-first_contradiction-clause-reads g c =
     let p = err_from_is_err_and c.from_residual-in_err-first_contradiction.result c.from_residual-in_err-first_contradiction.ensures.1 in
     rw (p.1, p.2)
     (reads_fault c.args.config.protocol c.args.config.logical a b d c.in_ok-scanned.scanned.seen.items c.in_ok-scanned.scanned.list.items c.in_ok-scanned.ensures.scan c.in_ok-scanned.ensures.reads
-    (subst (λ l. ReadsSome b d true (2 * compared l)) c.deref.ensures.value c.in_err-first_contradiction.ensures.reads))
+    (subst (λ l. ReadsSome b d true (2 * compared l)) c.deref-2.ensures.value c.in_err-first_contradiction.ensures.reads))
 
 pub returns-in-None-clause-copies : goal.returns-in-None-clause-copies
 returns-in-None-clause-copies g c =
     let a = g.F.Flash.state c.args.flash.now in
     let b = g.F.Flash.state c.scan.new.flash in
     scan_copies c.args.config.protocol c.args.config.logical a b b c.in_ok-scanned.scanned.seen.items c.in_ok-scanned.scanned.list.items c.in_ok-scanned.ensures.scan c.in_ok-scanned.ensures.reads
-    (subst (λ l. All (AgreesWithLowest b.shape.page_bytes b.image l) l) c.deref.ensures.value
-    (subst (FindsFirst (AgreesWithLowest b.shape.page_bytes b.image c.deref.result.now) c.deref.result.now) c.in-None.is c.in_ok-first_contradiction.ensures.first))
+    (subst (λ l. All (AgreesWithLowest b.shape.page_bytes b.image l) l) c.deref-2.ensures.value
+    (subst (FindsFirst (AgreesWithLowest b.shape.page_bytes b.image c.deref-2.result.now) c.deref-2.result.now) c.in-None.is c.in_ok-first_contradiction.ensures.first))
 
 pub returns-in-None-clause-reads : goal.returns-in-None-clause-reads
 returns-in-None-clause-reads g c =
@@ -55,16 +55,16 @@ returns-in-None-clause-reads g c =
     let b = g.F.Flash.state c.scan.new.flash in
     let d = g.F.Flash.state c.first_contradiction.new.flash in
     reads_whole c.args.config.protocol c.args.config.logical a b d c.in_ok-scanned.scanned.seen.items c.in_ok-scanned.scanned.list.items c.in_ok-scanned.ensures.scan c.in_ok-scanned.ensures.reads
-    (subst (λ l. ReadsAll b d (2 * compared l)) c.deref.ensures.value
-    (subst (λ o. ReadsAll b d (2 * compared_to c.deref.result.now o)) c.in-None.is c.in_ok-first_contradiction.ensures.reads))
+    (subst (λ l. ReadsAll b d (2 * compared l)) c.deref-2.ensures.value
+    (subst (λ o. ReadsAll b d (2 * compared_to c.deref-2.result.now o)) c.in-None.is c.in_ok-first_contradiction.ensures.reads))
 
 pub returns-clause-unsound : goal.returns-clause-unsound
 returns-clause-unsound g c =
     let a = g.F.Flash.state c.args.flash.now in
     let b = g.F.Flash.state c.scan.new.flash in
     let list = c.in_ok-scanned.scanned.list.items in
-    let first = subst (λ l. FindsFirst (AgreesWithLowest b.shape.page_bytes b.image l) l (Some c.in-Some.at)) c.deref.ensures.value
-    (subst (FindsFirst (AgreesWithLowest b.shape.page_bytes b.image c.deref.result.now) c.deref.result.now) c.in-Some.is c.in_ok-first_contradiction.ensures.first) in
+    let first = subst (λ l. FindsFirst (AgreesWithLowest b.shape.page_bytes b.image l) l (Some c.in-Some.at)) c.deref-2.ensures.value
+    (subst (FindsFirst (AgreesWithLowest b.shape.page_bytes b.image c.deref-2.result.now) c.deref-2.result.now) c.in-Some.is c.in_ok-first_contradiction.ensures.first) in
     scan_breach c.args.config.protocol c.args.config.logical a b b c.in_ok-scanned.scanned.seen.items list c.in_ok-scanned.ensures.scan c.in_ok-scanned.ensures.reads
     c.in-Some.at c.index.result.now first (sym (get_or_read list c.in-Some.at c.index.result.now first.0 c.index.ensures nothing))
 
@@ -74,9 +74,9 @@ returns-clause-reads g c =
     let b = g.F.Flash.state c.scan.new.flash in
     let d = g.F.Flash.state c.first_contradiction.new.flash in
     let list = c.in_ok-scanned.scanned.list.items in
-    let first = subst (λ l. FindsFirst (AgreesWithLowest b.shape.page_bytes b.image l) l (Some c.in-Some.at)) c.deref.ensures.value
-    (subst (FindsFirst (AgreesWithLowest b.shape.page_bytes b.image c.deref.result.now) c.deref.result.now) c.in-Some.is c.in_ok-first_contradiction.ensures.first) in
+    let first = subst (λ l. FindsFirst (AgreesWithLowest b.shape.page_bytes b.image l) l (Some c.in-Some.at)) c.deref-2.ensures.value
+    (subst (FindsFirst (AgreesWithLowest b.shape.page_bytes b.image c.deref-2.result.now) c.deref-2.result.now) c.in-Some.is c.in_ok-first_contradiction.ensures.first) in
     reads_until c.args.config.protocol c.args.config.logical a b d c.in_ok-scanned.scanned.seen.items list c.in_ok-scanned.ensures.scan c.in_ok-scanned.ensures.reads
     c.in-Some.at c.index.result.now first.0 (sym (get_or_read list c.in-Some.at c.index.result.now first.0 c.index.ensures nothing))
-    (subst (λ l. ReadsAll b d (2 * compared_to l (Some c.in-Some.at))) c.deref.ensures.value
-    (subst (λ o. ReadsAll b d (2 * compared_to c.deref.result.now o)) c.in-Some.is c.in_ok-first_contradiction.ensures.reads))
+    (subst (λ l. ReadsAll b d (2 * compared_to l (Some c.in-Some.at))) c.deref-2.ensures.value
+    (subst (λ o. ReadsAll b d (2 * compared_to c.deref-2.result.now o)) c.in-Some.is c.in_ok-first_contradiction.ensures.reads))

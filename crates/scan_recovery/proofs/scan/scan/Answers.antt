@@ -31,7 +31,7 @@ loop-at-preserved g c =
     let within : at < length a.image = omega (arith, whole) in
     let note = as_before a b at (λ shape image. IsNote p logical (slot_at image at) c.in_ok-note.field-0) c.loop-at.invariant.reads c.in_ok-note.ensures.note in
     record {
-      reads = reads_all_then a b (g.F.Flash.state c.look_at.new.flash) at 1 c.loop-at.invariant.reads c.in_ok-note.ensures.reads;
+      reads = reads_all_then a b (g.F.Flash.state c.read_note.new.flash) at 1 c.loop-at.invariant.reads c.in_ok-note.ensures.reads;
       found = elim c.match-branch-4.branch [
         | in-Some w ↦ rw (w.unread-is, w.seen-is, w.list-is, w.add.ensures.seen, w.add.ensures.list)
             (found_note p logical a.image at within c.loop-at.unread c.loop-at.seen.items c.loop-at.list.items w.in-Some.note c.loop-at.invariant.found

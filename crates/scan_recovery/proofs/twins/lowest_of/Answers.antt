@@ -1,11 +1,13 @@
-use Rattle.std.proofs.Common.{sym, ◌∙◌}
+use Rattle.std.proofs.Common.{Some, get_or, sym, ap, ◌∙◌}
 use Rattle.list_facts.proofs.Tests.{find-position, find-no_position}
 use Rattle.record_list.specs.Records.{has_name, name_of, nothing}
 use Rattle.scan_recovery.proofs.twins.lowest_of.Goals as goal
 
-pub returns-in_err-at : goal.returns-in_err-at
-returns-in_err-at c =
-    c.from_residual.ensures ∙ sym (find-no_position (λ g. has_name (name_of c.args.rec) g.rec) c.args.list.now (sym c.in_err-at.ensures.first))
+pub returns-in_err-place : goal.returns-in_err-place
+returns-in_err-place c =
+    c.from_residual.ensures ∙ sym (find-no_position (λ g. has_name (name_of c.args.rec) g.rec) c.args.chart.now (sym c.in_err-place.ensures))
 
 pub returns : goal.returns
-returns c = sym (find-position (λ g. has_name (name_of c.args.rec) g.rec) c.args.list.now c.in_ok-at.at nothing (sym c.in_ok-at.ensures.first))
+returns c =
+    ap (λ l. Some (get_or l c.in_ok-place.place nothing)) c.records.ensures.records
+    ∙ sym (find-position (λ g. has_name (name_of c.args.rec) g.rec) c.args.chart.now c.in_ok-place.place nothing (sym c.in_ok-place.ensures))

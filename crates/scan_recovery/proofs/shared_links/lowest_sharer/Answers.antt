@@ -1,0 +1,26 @@
+-- The record at hand, beside the one before it.
+use Rattle.std.proofs.Common.{◌≡◌, ◌+◌, ◌-◌, suc, true, sym, ap, ◌∙◌, subst, arith, get_or}
+use Rattle.std.proofs.lemmas.Bool.{false≢true}
+use Rattle.record_list.specs.Records.{nothing}
+use Rattle.scan_recovery.specs.Searches.{share_link, lower, NextShares, next_slot, IsLowestSharer, IsLowestBelow}
+use Rattle.scan_recovery.proofs.SharedLinks.{lowest_yes, lowest_no}
+use Rattle.scan_recovery.proofs.shared_links.lowest_sharer.Goals as goal
+use Rattle.scan_recovery.proofs.shared_links.lowest_sharer.Goals.{then-share_link, else-share_link}
+
+pub loop-at-preserved : goal.loop-at-preserved
+loop-at-preserved c =
+    let l = c.args.by_link.now in
+    let n = c.loop-at.at - 1 in
+    let next : suc n ≡ c.loop-at.at = omega arith in
+    elim c.if-share_link.branch [
+      | then-share_link w ↦
+          rw w.lowest-is (rw w.lower-lowest.ensures
+          (subst (λ k. IsLowestBelow (c.loop-at.at + 1 - 1) (NextShares l) (next_slot l) (lower c.loop-at.lowest (get_or l k nothing).slot)) next
+          (lowest_yes (NextShares l) (next_slot l) n (c.loop-at.at + 1 - 1) c.loop-at.lowest (omega arith) c.loop-at.invariant
+          (subst (λ k. share_link (get_or l n nothing).rec (get_or l k nothing).rec ≡ true) (sym next) (sym c.share_link.ensures ∙ w.if-share_link.true)))))
+      | else-share_link w ↦
+          rw w.lowest-is
+          (lowest_no (NextShares l) (next_slot l) n (c.loop-at.at + 1 - 1) c.loop-at.lowest (omega arith) c.loop-at.invariant
+          (λ shared. false≢true (sym w.if-share_link.false ∙ c.share_link.ensures
+          ∙ subst (λ k. share_link (get_or l n nothing).rec (get_or l k nothing).rec ≡ true) next shared)))
+    ]

@@ -1,0 +1,98 @@
+//! Law 7, by the orbits of the links.
+ghost use Rattle.std.specs.Prelude.{◌≡◌, ◌<◌, ◌^◌, ◌↔◌, false, IsTrue, All, IfOk, length};
+ghost use Rattle.std.specs.List.{list_any};
+ghost use Rattle.record_list.specs.Current.{is_loose};
+ghost use Rattle.record_list.specs.SoundList.{LooseEnds};
+ghost use Rattle.record_list.specs.Search.{FindsFirst};
+ghost use Rattle.record_chart.specs.Orbits.{AreOrbits};
+ghost use Rattle.scan_recovery.specs.Searches.{name_graph, LeadsOut};
+
+use record_chart::{Chart, Orbit, Orbits, Standing};
+use record_list::Found;
+use std::alloc::{AllocError, Global};
+use tx_types::{Link, Protocol};
+
+/// The index of the first record that breaks law 7, which speaks of Back Pointer Cyclic Commit alone:
+/// where it is loose, its links lead to an absent name.
+pub fn first_endless(
+    alloc: Global,
+    standing: &Standing,
+    list: &[Found],
+) -> Result<Option<usize>, AllocError>
+    ensures { let s = standing.now in
+        IfOk result (FindsFirst (LooseEnds s.protocol s.list s.logical) list.now) }
+{
+    if !has_loose(standing, list) {
+        return Ok(None);
+    }
+    let orbits = link_orbits(alloc, standing.chart())?;
+    Ok(
+        list.iter()
+            .position(|found| !is_ending(standing, &orbits, found)),
+    )
+}
+
+/// Whether the protocol says something of loose records, and a record is loose.
+fn has_loose(standing: &Standing, list: &[Found]) -> bool
+    ensures { let s = standing.now in
+        result ≡ false → All (LooseEnds s.protocol s.list s.logical) list.now }
+{
+    match standing.protocol() {
+        Protocol::Scc => false,
+        Protocol::Bpcc => any_loose(standing, list),
+    }
+}
+
+/// Whether a record is loose.
+fn any_loose(standing: &Standing, list: &[Found]) -> bool
+    ensures { let s = standing.now in
+        result ≡ list_any (λ f. is_loose s.protocol s.list s.logical f.rec) list.now }
+{
+    list.iter().any(|found| standing.is_loose(found.rec))
+}
+
+/// Where the links of records lead, each to the first record that it names.
+fn link_orbits(alloc: Global, chart: &Chart) -> Result<Orbits, AllocError>
+    ensures { IfOk result (AreOrbits (name_graph chart.now)) }
+{
+    let graph = links(alloc, chart)?;
+    Orbits::new(alloc, &graph)
+}
+
+/// For each record the place of the first record that its link names.
+fn links(alloc: Global, chart: &Chart) -> Result<Vec<Option<u32>>, AllocError>
+    ensures graph { IfOk result (λ graph. graph.items ≡ name_graph chart.now) }
+    ensures few { IfOk result (λ graph. length graph.items < 2 ^ 32) }
+{
+    chart
+        .records()
+        .iter()
+        .map(|found| chart.find(found.rec.next))
+        .collect(alloc)
+}
+
+/// Whether the links of a record, if it is loose, lead to an absent name.
+#[tactic(auto, unfolding(record_list::specs::SoundList::LooseEnds))]
+fn is_ending(standing: &Standing, orbits: &Orbits, found: &Found) -> bool
+    requires { AreOrbits (name_graph standing.now.list) orbits.now }
+    ensures { let s = standing.now in
+        IsTrue result ↔ LooseEnds s.protocol s.list s.logical found.now }
+{
+    standing.protocol() == Protocol::Scc
+        || !standing.is_loose(found.rec)
+        || leads_out(standing.chart(), orbits, found.rec.next)
+}
+
+/// Whether the links from a name lead to an absent one.
+fn leads_out(chart: &Chart, orbits: &Orbits, name: Link) -> bool
+    requires { AreOrbits (name_graph chart.now) orbits.now }
+    ensures { IsTrue result ↔ LeadsOut chart.now name }
+{
+    match chart.find(name) {
+        None => true,
+        Some(place) => match orbits.orbit(place) {
+            Orbit::Ends { .. } => true,
+            Orbit::Round { .. } | Orbit::Aside => false,
+        },
+    }
+}

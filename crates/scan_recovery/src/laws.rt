@@ -1,0 +1,128 @@
+//! Laws 3 to 7 of a list that keeps laws 1 and 2, by its records in order of their names.
+ghost use Rattle.std.specs.Prelude.{◌≡◌, ◌↔◌, IsTrue, All, IfOk, length};
+ghost use Rattle.tx_types.specs.declared.config.Protocol.TheVariants.{Bpcc};
+ghost use Rattle.record_list.specs.Records.{IsScanned};
+ghost use Rattle.record_list.specs.SoundList.{PagesExist, CopiesAgree, CurrentIsPresent, LinkHasCounted, LooseIsShown, IsFirstBreach};
+ghost use Rattle.record_list.specs.Search.{FindsFirst};
+ghost use Rattle.record_chart.specs.Charts.{Sorts};
+
+use crate::endings::first_endless;
+use crate::shared_links::lowest_shared_link;
+use record_chart::Standing;
+use record_list::{Breach, Found, breach_at};
+use std::alloc::{AllocError, Global};
+use tx_types::{Link, Protocol};
+
+/// The first of laws 3 to 7 that is broken, and the slot that it names. The list keeps laws 1 and 2.
+pub fn first_breach(
+    alloc: Global,
+    standing: &Standing,
+    list: &[Found],
+) -> Result<Option<Breach>, AllocError>
+    requires scanned { IsScanned list.now }
+    requires sorts { Sorts list.now standing.now.list }
+    requires pages { All (PagesExist standing.now.logical) list.now }
+    requires copies { All (CopiesAgree list.now) list.now }
+    ensures { let s = standing.now in
+        IfOk result (IsFirstBreach s.protocol list.now s.logical) }
+{
+    if let Some(slot) = lowest_shared_link(alloc, list)? {
+        return Ok(Some(Breach { law: 3, slot }));
+    }
+    if let Some(at) = first_without_current(standing, list) {
+        return Ok(Some(breach_at(list, 4, at)));
+    }
+    if let Some(at) = first_early_link(standing, list) {
+        return Ok(Some(breach_at(list, 5, at)));
+    }
+    if let Some(at) = first_unshown(standing, list) {
+        return Ok(Some(breach_at(list, 6, at)));
+    }
+    if let Some(at) = first_endless(alloc, standing, list)? {
+        return Ok(Some(breach_at(list, 7, at)));
+    }
+    Ok(None)
+}
+
+/// The index of the first record that breaks law 4: where it is the newest of its page, the current
+/// version of its page is 0 or present.
+fn first_without_current(standing: &Standing, list: &[Found]) -> Option<usize>
+    ensures { let s = standing.now in
+        FindsFirst (CurrentIsPresent s.protocol s.list s.logical) list.now result }
+{
+    list.iter().position(|found| !has_current(standing, found))
+}
+
+fn has_current(standing: &Standing, found: &Found) -> bool
+    ensures { let s = standing.now in
+        IsTrue result ↔ CurrentIsPresent s.protocol s.list s.logical found.now }
+{
+    let page = found.rec.page;
+    let version = standing.current(page);
+    let chart = standing.chart();
+    found.rec.version != chart.newest(page)
+        || version == 0
+        || chart.is_present(Link { page, version })
+}
+
+/// The index of the first record that breaks law 5: the link of a current record is not above the
+/// current version there, and under Back Pointer Cyclic Commit is not straddled.
+fn first_early_link(standing: &Standing, list: &[Found]) -> Option<usize>
+    ensures { let s = standing.now in
+        FindsFirst (LinkHasCounted s.protocol s.list s.logical) list.now result }
+{
+    list.iter().position(|found| !has_counted(standing, found))
+}
+
+#[tactic(auto, unfolding(record_list::specs::SoundList::LinkHasCounted))]
+fn has_counted(standing: &Standing, found: &Found) -> bool
+    ensures { let s = standing.now in
+        IsTrue result ↔ LinkHasCounted s.protocol s.list s.logical found.now }
+{
+    let rec = found.rec;
+    let is_current = rec.version == standing.current(rec.page);
+    let is_counted = rec.next.version <= standing.current(rec.next.page);
+    match standing.protocol() {
+        Protocol::Scc => !is_current || is_counted,
+        Protocol::Bpcc => {
+            !is_current || is_counted && standing.chart().straddling(rec.next) == 0
+        }
+    }
+}
+
+/// The index of the first record that breaks law 6, which speaks of Back Pointer Cyclic Commit alone:
+/// where it is loose, its back version is the current one of its page, its link is not to a current
+/// record, and where its link is below the current version there, a record is responsible for it.
+fn first_unshown(standing: &Standing, list: &[Found]) -> Option<usize>
+    ensures { let s = standing.now in
+        FindsFirst (LooseIsShown s.protocol s.list s.logical) list.now result }
+{
+    list.iter().position(|found| !is_shown(standing, found))
+}
+
+#[tactic(auto, unfolding(record_list::specs::SoundList::LooseIsShown))]
+fn is_shown(standing: &Standing, found: &Found) -> bool
+    ensures { let s = standing.now in
+        IsTrue result ↔ LooseIsShown s.protocol s.list s.logical found.now }
+{
+    match standing.protocol() {
+        Protocol::Scc => true,
+        Protocol::Bpcc => is_shown_by_back(standing, found),
+    }
+}
+
+#[tactic(auto, unfolding(record_list::specs::SoundList::LooseIsShown))]
+fn is_shown_by_back(standing: &Standing, found: &Found) -> bool
+    requires { standing.now.protocol ≡ Bpcc }
+    ensures { IsTrue result ↔ LooseIsShown Bpcc standing.now.list standing.now.logical found.now }
+{
+    let rec = found.rec;
+    let current = standing.current(rec.page);
+    if rec.version <= current {
+        return true;
+    }
+    let linked = standing.current(rec.next.page);
+    rec.back == current
+        && rec.next.version != linked
+        && (rec.next.version > linked || standing.responsible(rec.next) != 0)
+}
