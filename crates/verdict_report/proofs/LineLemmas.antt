@@ -3,18 +3,16 @@ use Rattle.std.proofs.Common.{◌≡◌, ℕ, cond, List, [], ◌∷◌, ◌++�
 use Rattle.std.specs.List.{join_with_byte}
 use Rattle.std.specs.Fmt.{decimal}
 use Rattle.std.proofs.lemmas.List.Concat.{flat_map-append}
-use Rattle.tx_types.specs.declared.record.Link.{Link}
 use Rattle.tx_types.specs.declared.config.Protocol.{Protocol}
 use Rattle.record_list.specs.declared.found.Found.{Found}
 use Rattle.record_list.specs.declared.found.Why.{Why}
 use Rattle.record_list.specs.Records.{newest}
-use Rattle.record_list.specs.Verdict.{newest_name, why, verdict_of, is_committed}
+use Rattle.record_list.specs.Verdict.{why, verdict_of, is_committed}
 use Rattle.record_list.specs.Current.{cur, fallback}
 use Rattle.verdict_report.specs.declared.walk.Walk.{Walk}
-use Rattle.verdict_report.specs.Walks.{links_of, why_at}
+use Rattle.verdict_report.specs.Walks.{links_of}
 use Rattle.verdict_report.specs.Report.{verdict_word, reason_words, link_word, more_words, walk_words, page_line, verdict_line}
 use Rattle.verdict_report.specs.Lines.{after_spaces, IsWalk, shown_words}
-use Rattle.verdict_report.proofs.WalkLemmas.{why_shown}
 
 -- words with a space between each two are the first and the others with a space before each
 join_after_spaces : (word : List ℕ) (words : List (List ℕ)) → join_with_byte 32 (word ∷ words) ≡ word ++ after_spaces words
@@ -68,14 +66,11 @@ line_written page version why current links more old s t u v w x y es et eu ev e
     ∙ ap (λ text. old ++ text) (sym (line_parts page version why current links more))
 
 -- a line whose parts are those of a page
-pub line_explained : (protocol : Protocol) (list : List Found) (logical page version : ℕ) (start : Link) (reason : Why) (current : ℕ) (walk : Walk) →
-    version ≡ newest list page → start ≡ newest_name list page → IsWalk walk (links_of list logical page) →
-    reason ≡ why_at protocol list start walk.last →
+pub line_explained : (protocol : Protocol) (list : List Found) (logical page version : ℕ) (reason : Why) (current : ℕ) (walk : Walk) →
+    version ≡ newest list page → IsWalk walk (links_of list logical page) → reason ≡ why protocol list logical page →
     current ≡ cond (is_committed reason) (newest list page) (fallback protocol list page) →
     page_line page version reason current (shown_words walk) ≡ verdict_line protocol list logical page
-line_explained protocol list logical page version start reason current walk ev es is er ec =
-    let decided : reason ≡ why protocol list logical page =
-    er ∙ ap (λ s. why_at protocol list s walk.last) es ∙ sym (why_shown protocol list logical page walk is) in
+line_explained protocol list logical page version reason current walk ev is decided ec =
     let counts : current ≡ cur protocol list logical page =
     ec ∙ ap (λ r. cond (is_committed r) (newest list page) (fallback protocol list page)) decided in
     let words : shown_words walk ≡ walk_words (links_of list logical page) =

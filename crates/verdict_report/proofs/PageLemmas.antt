@@ -34,11 +34,11 @@ pub record HasLines (line : ℕ → List ℕ) (list : List Found) (n : ℕ) (old
   pub count_is : count ≡ length (pages list n)
 
 -- with the line of one page more
-pub lines_with : (line : ℕ → List ℕ) (held list : List Found) (n : ℕ) (r : Rec) (old text more : List ℕ) (count total : ℕ) → held ≡ list →
-    IsNewestRecord held n (Some r) → HasLines line list n old text count → more ≡ text ++ line n → total ≡ count + 1 →
+pub lines_with : (line : ℕ → List ℕ) (list : List Found) (n : ℕ) (r : Rec) (old text more : List ℕ) (count total : ℕ) →
+    IsNewestRecord list n (Some r) → HasLines line list n old text count → more ≡ text ++ line n → total ≡ count + 1 →
     HasLines line list (n + 1) old more total
-lines_with line held list n r old text more count total same has before after counts =
-    let pages_are = pages_with list n (has.found ∙ ap (λ l. has_record l n) same) in
+lines_with line list n r old text more count total has before after counts =
+    let pages_are = pages_with list n has.found in
     record {
       text_is = after ∙ ap (λ t. t ++ line n) before.text_is ∙ flat_map_more line old (pages list n) n
           ∙ ap (λ ps. old ++ flat_map line ps) (sym pages_are);
@@ -46,11 +46,11 @@ lines_with line held list n r old text more count total same has before after co
     }
 
 -- and after a page without a record
-pub lines_without : (line : ℕ → List ℕ) (held list : List Found) (n : ℕ) (old text more : List ℕ) (count total : ℕ) → held ≡ list →
-    IsNewestRecord held n None → HasLines line list n old text count → more ≡ text → total ≡ count →
+pub lines_without : (line : ℕ → List ℕ) (list : List Found) (n : ℕ) (old text more : List ℕ) (count total : ℕ) →
+    IsNewestRecord list n None → HasLines line list n old text count → more ≡ text → total ≡ count →
     HasLines line list (n + 1) old more total
-lines_without line held list n old text more count total same has before after counts =
-    let pages_are = pages_without list n (has.found ∙ ap (λ l. has_record l n) same) in
+lines_without line list n old text more count total has before after counts =
+    let pages_are = pages_without list n has.found in
     record {
       text_is = after ∙ before.text_is ∙ ap (λ ps. old ++ flat_map line ps) (sym pages_are);
       count_is = counts ∙ before.count_is ∙ ap length (sym pages_are);

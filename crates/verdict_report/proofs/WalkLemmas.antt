@@ -1,16 +1,14 @@
 -- A walk, link by link.
-use Rattle.std.proofs.Common.{◌≡◌, ℕ, zero, suc, ◌+◌, ◌-◌, ◌<◌, ◌≤◌, Bool, true, false, cond, ◌||◌, List, [], ◌∷◌, ◌++◌, length, get_or, take, refl, sym, ap, ap₂, ◌∙◌, subst, inl, inr, arith, append-nil, append_assoc, Some, None}
-use Rattle.std.proofs.lemmas.Bool.{false≢true, cases_Bool, cond-true, cond-false}
-use Rattle.std.proofs.lemmas.List.{get_or_push, length_push}
+use Rattle.std.proofs.Common.{◌≡◌, ℕ, zero, suc, ◌+◌, ◌-◌, ◌<◌, ◌≤◌, min, Bool, true, false, cond, ◌||◌, List, [], ◌∷◌, ◌++◌, length, get_or, take, refl, sym, ap, ap₂, ◌∙◌, subst, inl, inr, arith, append-nil, append_assoc, Some, None}
+use Rattle.std.proofs.lemmas.Bool.{false≢true, cases_Bool, cases_lt, cond-true, cond-false}
+use Rattle.std.proofs.Math.Nat.{min-eq_left, min-eq_right}
 use Rattle.tx_types.specs.declared.record.Link.{Link}
 use Rattle.tx_types.specs.declared.config.Protocol.{Protocol}
 use Rattle.record_list.specs.declared.found.Found.{Found}
 use Rattle.record_list.specs.declared.found.Why.TheVariants.{Cycle, Absent}
 use Rattle.record_list.specs.Records.{is_same}
 use Rattle.record_list.specs.Verdict.{newest_name, link_of, passed, is_ahead, is_behind, walk, why}
-use Rattle.verdict_report.specs.declared.walk.Walk.{Walk}
-use Rattle.verdict_report.specs.Walks.{is_end, walk_links, links_of, why_at, IsDecidingWalk}
-use Rattle.verdict_report.specs.Lines.{IsWalk}
+use Rattle.verdict_report.specs.Walks.{is_end, walk_links, links_of, why_by_last_link, IsDecidingWalk}
 
 -- the last of a link and those after it
 abbrev last_of : Link → List Link → Link
@@ -53,15 +51,15 @@ module _ (list : List Found) (start : Link) where
 
   -- what decides is what the last link shows
   walk_shown : (protocol : Protocol) (turns : ℕ) (link : Link) →
-      walk protocol list start (suc turns) link ≡ why_at protocol list start (last_of link (after turns link))
+      walk protocol list start (suc turns) link ≡ why_by_last_link protocol list start (last_of link (after turns link))
   walk_shown protocol zero link =
-      ap (λ links. why_at protocol list start (last_of link links)) (sym (after_none link))
+      ap (λ links. why_by_last_link protocol list start (last_of link links)) (sym (after_none link))
   walk_shown protocol (suc turns) link = elim (cases_Bool (is_end list start link)) [
     | inl e ↦ one_of (is_ahead list link) (is_behind list link) (is_same link start) Absent (passed protocol list link) Cycle _ Absent e
-        ∙ ap (λ links. why_at protocol list start (last_of link links)) (sym (after_end (suc turns) link e))
+        ∙ ap (λ links. why_by_last_link protocol list start (last_of link links)) (sym (after_end (suc turns) link e))
     | inr e ↦ none_of (is_ahead list link) (is_behind list link) (is_same link start) Absent (passed protocol list link) Cycle _ e
         ∙ walk_shown protocol turns (link_of list link)
-        ∙ ap (λ links. why_at protocol list start (last_of link links)) (sym (after_more (suc turns) link e))
+        ∙ ap (λ links. why_by_last_link protocol list start (last_of link links)) (sym (after_more (suc turns) link e))
   ]
 
   -- the last link is an end where the links are fewer than so many turns give
@@ -114,91 +112,84 @@ walk_decides protocol list logical page =
     record {
       first = λ none. refl;
       next = λ i none h. goes_on list start logical link i none (omega arith);
-      last = λ none. walk_shown list start protocol logical link ∙ ap (why_at protocol list start) (sym (last_at link rest none));
+      last = λ none. walk_shown list start protocol logical link ∙ ap (why_by_last_link protocol list start) (sym (last_at link rest none));
       whole = λ none few. ap (is_end list start) (last_at link rest none) ∙ last_end list start logical link (omega arith);
       bound = (omega arith, omega arith);
     }
 
--- what decides a verdict, from the last link of a walk that is kept
-pub why_shown : (protocol : Protocol) (list : List Found) (logical page : ℕ) (w : Walk) → IsWalk w (links_of list logical page) →
-    why protocol list logical page ≡ why_at protocol list (newest_name list page) w.last
-why_shown protocol list logical page w is =
-    (walk_decides protocol list logical page).last w.last ∙ ap (why_at protocol list (newest_name list page)) (is.last w.last)
+-- the first links of a walk are those of one that looks at fewer
+pub one_less : (turns n : ℕ) → suc (min turns n) ≡ min (suc turns) (suc n)
+one_less turns n = elim (cases_lt turns n) [
+  | inl low ↦ (let a = min-eq_left {n = turns} {m = n} (omega arith) in let b = min-eq_left {n = suc turns} {m = suc n} (omega arith) in cc)
+  | inr high ↦ (let a = min-eq_right {n = n} {m = turns} high in let b = min-eq_right {n = suc n} {m = suc turns} (omega arith) in cc)
+]
 
--- a walk with one link more
-pub walk_more : (old new : Walk) (link : Link) →
-    ((links : List Link) → old.shown.items ≡ take 16 links → new.shown.items ≡ take 16 (links ++ link ∷ [])) →
-    new.count ≡ old.count + 1 → new.last ≡ link → (links : List Link) → IsWalk old links → IsWalk new (links ++ link ∷ [])
-walk_more old new link shows count last links was = record {
-  shown = shows links was.shown;
-  count = (let e = was.count in let l = length_push links link in omega arith);
-  last = λ none. get_or_push links link none (length (links ++ link ∷ []) - 1) (let l = length_push links link in omega arith) ∙ sym last;
-}
+take_after : (list : List Found) (start : Link) (n turns : ℕ) (link : Link) →
+    take n (after list start turns link) ≡ after list start (min turns n) link
+take_after list start zero turns link =
+    sym (ap (λ m. after list start m link) (min-eq_right {n = 0} {m = turns} (omega arith)) ∙ after_none list start link)
+take_after list start (suc n) zero link =
+    ap (take (suc n)) (after_none list start link)
+    ∙ sym (ap (λ m. after list start m link) (min-eq_left {n = 0} {m = suc n} (omega arith)) ∙ after_none list start link)
+take_after list start (suc n) (suc turns) link =
+    elim (cases_Bool (is_end list start link)) [
+      | inl e ↦ ap (take (suc n)) (after_end list start (suc turns) link e) ∙ sym (after_end list start (suc (min turns n)) link e)
+      | inr e ↦ ap (take (suc n)) (after_more list start (suc turns) link e)
+          ∙ ap (λ links. link_of list link ∷ links) (take_after list start n turns (link_of list link))
+          ∙ sym (after_more list start (suc (min turns n)) link e)
+    ]
+    ∙ ap (λ m. after list start m link) (one_less turns n)
 
--- a walk that has taken so many links of all, and looks at so many yet
-pub record IsOnWalk (list : List Found) (start : Link) (turns count : ℕ) (walk : Walk) (all : List Link) : Type 0 where
-  pub taken : List Link
-  pub is_walk : IsWalk walk taken
-  pub count_is : length taken ≡ count
-  pub rest_is : taken ++ after list start turns walk.last ≡ all
+-- the links that were taken, and those that are still to come
+abbrev pub IsTaking : List Found → Link → ℕ → ℕ → List Link → Link → Type 0
+IsTaking list start most turn links last =
+    links ++ after list start (most - turn) last ≡ walk_links list start (suc most) (link_of list start)
 
--- it has taken all where no link is after the last one
-walk_whole : (list : List Found) (start : Link) (turns count : ℕ) (walk : Walk) (all : List Link) → IsOnWalk list start turns count walk all →
-    after list start turns walk.last ≡ [] → IsWalk walk all
-walk_whole list start turns count walk all on none =
-    subst (IsWalk walk) (sym (append-nil on.taken) ∙ ap (λ links. on.taken ++ links) (sym none) ∙ on.rest_is) on.is_walk
+pub taking_first : (list : List Found) (start last : Link) (most : ℕ) → last ≡ link_of list start → IsTaking list start most 0 (last ∷ []) last
+taking_first list start last most e =
+    ap (λ n. last ∷ after list start n last) (let z : most - 0 ≡ most = omega arith in z) ∙ ap (walk_links list start (suc most)) e
 
--- it has taken its first link
-pub walk_first : (list : List Found) (logical page : ℕ) (start link : Link) (walk : Walk) → start ≡ newest_name list page →
-    link ≡ link_of list (newest_name list page) → IsWalk walk (link ∷ []) →
-    IsOnWalk list start (logical - 0) 1 walk (links_of list logical page)
-walk_first list logical page start link walk e f is = record {
-  taken = link ∷ [];
-  is_walk = is;
-  count_is = refl;
-  rest_is =
-      ap₂ (λ t last. link ∷ after list start t last) (let z : logical - 0 ≡ logical = omega arith in z) (sym (is.last link))
-      ∙ ap₂ (λ u v. v ∷ after list u logical v) e f;
-}
-
--- and takes the next
-pub walk_next : (list : List Found) (start : Link) (turns left count : ℕ) (old new : Walk) (next : Link) (all : List Link) →
-    IsOnWalk list start turns count old all → turns ≡ suc left → Some next ≡ cond (is_end list start old.last) None (Some (link_of list old.last)) →
-    ((links : List Link) → IsWalk old links → IsWalk new (links ++ next ∷ [])) →
-    IsOnWalk list start left (count + 1) new all
-walk_next list start turns left count old new next all was t is push =
-    let leads = some_next (is_end list start old.last) next (link_of list old.last) is in
-    let now = push was.taken was.is_walk in
-    let l = length_push was.taken next in
-    let n = was.count_is in
-    let last : new.last ≡ next = sym (now.last next) ∙ get_or_push was.taken next next (length (was.taken ++ next ∷ []) - 1) (omega arith) in
-    let rest : after list start turns old.last ≡ next ∷ after list start left next =
-    after_more list start turns old.last leads.0 ∙ ap₂ (λ t link. walk_links list start t link) t (sym leads.1) in
-    record {
-      taken = was.taken ++ next ∷ [];
-      is_walk = now;
-      count_is = omega arith;
-      rest_is = ap (λ u. (was.taken ++ next ∷ []) ++ after list start left u) last
-          ∙ append_assoc was.taken (next ∷ []) (after list start left next)
-          ∙ ap (λ links. was.taken ++ links) (sym rest)
-          ∙ was.rest_is;
-    }
+pub taking_next : (list : List Found) (start : Link) (most turn : ℕ) (links : List Link) (last next : Link) → turn < most →
+    Some next ≡ cond (is_end list start last) None (Some (link_of list last)) → IsTaking list start most turn links last →
+    IsTaking list start most (turn + 1) (links ++ next ∷ []) next
+taking_next list start most turn links last next more is taking =
+    let leads = some_next (is_end list start last) next (link_of list last) is in
+    let left : most - turn ≡ suc (most - (turn + 1)) = omega arith in
+    append_assoc links (next ∷ []) (after list start (most - (turn + 1)) next)
+    ∙ ap (λ rest. links ++ rest) (sym (after_more list start (most - turn) last leads.0 ∙ ap₂ (λ n link. walk_links list start n link) left (sym leads.1)))
+    ∙ taking
   where
     some_next : (b : Bool) (x y : Link) → Some x ≡ cond b None (Some y) → (b ≡ false) × (x ≡ y)
     some_next true x y e = cc
     some_next false x y e = (refl, cc)
 
--- it has taken all where it ends
-pub walk_ended : (list : List Found) (start : Link) (turns count : ℕ) (walk : Walk) (all : List Link) → IsOnWalk list start turns count walk all →
-    None ≡ cond (is_end list start walk.last) None (Some (link_of list walk.last)) → IsWalk walk all
-walk_ended list start turns count walk all on is = walk_whole list start turns count walk all on (after_end list start turns walk.last (none_next (is_end list start walk.last) is))
+-- where no link is to come they are the first of all
+taken_all : (list : List Found) (start : Link) (logical turn : ℕ) (links : List Link) (last : Link) →
+    after list start (min logical 15 - turn) last ≡ [] → IsTaking list start (min logical 15) turn links last →
+    links ≡ take 16 (walk_links list start (suc logical) (link_of list start))
+taken_all list start logical turn links last none taking =
+    sym (append-nil links) ∙ ap (λ rest. links ++ rest) (sym none) ∙ taking
+    ∙ ap (λ rest. link_of list start ∷ rest) (sym (take_after list start 15 logical (link_of list start)))
+
+pub taking_ended : (list : List Found) (start : Link) (logical turn : ℕ) (links : List Link) (last : Link) →
+    None ≡ cond (is_end list start last) None (Some (link_of list last)) → IsTaking list start (min logical 15) turn links last →
+    links ≡ take 16 (walk_links list start (suc logical) (link_of list start))
+taking_ended list start logical turn links last is taking =
+    taken_all list start logical turn links last
+    (after_end list start (min logical 15 - turn) last (none_next (is_end list start last) is)) taking
   where
-    none_next : (b : Bool) → None ≡ cond b None (Some (link_of list walk.last)) → b ≡ true
+    none_next : (b : Bool) → None ≡ cond b None (Some (link_of list last)) → b ≡ true
     none_next true e = refl
     none_next false e = cc
 
--- and where it looks at no more
-pub walk_done : (list : List Found) (start : Link) (turns count : ℕ) (walk : Walk) (all : List Link) → IsOnWalk list start turns count walk all →
-    turns ≡ 0 → IsWalk walk all
-walk_done list start turns count walk all on t =
-    walk_whole list start turns count walk all on (ap (λ n. after list start n walk.last) t ∙ after_none list start walk.last)
+pub taking_done : (list : List Found) (start : Link) (logical turn : ℕ) (links : List Link) (last : Link) →
+    min logical 15 ≤ turn → IsTaking list start (min logical 15) turn links last →
+    links ≡ take 16 (walk_links list start (suc logical) (link_of list start))
+taking_done list start logical turn links last most taking =
+    let none : min logical 15 - turn ≡ 0 = omega arith in
+    taken_all list start logical turn links last
+    (ap (λ n. after list start n last) none ∙ after_none list start last) taking
+
+-- the link of the newest record of a page, by the name of that
+pub link_of_newest : (list : List Found) (page : ℕ) (start : Link) → start ≡ newest_name list page → link_of list (newest_name list page) ≡ link_of list start
+link_of_newest list page start e = ap (link_of list) (sym e)

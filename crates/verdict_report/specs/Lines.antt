@@ -12,11 +12,10 @@ use Rattle.verdict_report.specs.Report.{link_word, most_links, more_words, page_
 abbrev pub after_spaces : List (List ℕ) → List ℕ
 after_spaces words = flat_map (λ word. 32 ∷ word) words
 
--- what is kept of the links of a walk
+-- what a report says of the links of a walk
 pub record IsWalk (walk : Walk) (links : List Link) : Type 0 where
   pub shown : walk.shown.items ≡ take most_links links
   pub count : walk.count ≡ length links
-  pub last : (none : Link) → slice_index_or links (length links - 1) none ≡ walk.last
 
 -- the words of its links
 abbrev pub shown_words : Walk → List (List ℕ)

@@ -1,16 +1,21 @@
 -- The links that a walk takes, from the newest record of a page to the link that decides its verdict.
-use Rattle.std.specs.Prelude.{◌≡◌, ℕ, zero, suc, ◌-◌, ◌≤◌, ◌<◌, Bool, true, false, ◌||◌, if◌then◌else◌, List, [], ◌∷◌, length, slice_index_or}
+use Rattle.std.specs.Prelude.{◌≡◌, ℕ, zero, suc, ◌-◌, ◌≤◌, ◌<◌, Bool, true, false, ◌==◌, ◌||◌, ◌&&◌, not, if◌then◌else◌, List, [], ◌∷◌, length, slice_index_or}
 use Rattle.tx_types.specs.declared.record.Link.{Link}
 use Rattle.tx_types.specs.declared.config.Protocol.{Protocol}
 use Rattle.record_list.specs.declared.found.Found.{Found}
 use Rattle.record_list.specs.declared.found.Why.{Why}
 use Rattle.record_list.specs.declared.found.Why.TheVariants.{Cycle, Absent}
-use Rattle.record_list.specs.Records.{is_same}
+use Rattle.record_list.specs.Records.{newest, is_present, is_same}
 use Rattle.record_list.specs.Verdict.{newest_name, link_of, passed, is_ahead, is_behind, why}
 
 -- whether a walk from the record `start` ends at this link
 abbrev pub is_end : List Found → Link → Link → Bool
 is_end list start link = is_ahead list link || is_behind list link || is_same link start
+
+-- a link to the newest version of a page that has no record: no end, and the walk stays at it
+abbrev pub stays_at : List Found → Link → Bool
+stays_at list link =
+    (link.version == newest list link.page) && not (is_present list (newest_name list link.page))
 
 -- the links that a walk from the record `start` takes that has come to this link, and looks at so many
 -- links yet
@@ -25,8 +30,8 @@ links_of list logical page =
     walk_links list (newest_name list page) (suc logical) (link_of list (newest_name list page))
 
 -- what the last link of a walk from the record `start` shows of that record
-abbrev pub why_at : Protocol → List Found → Link → Link → Why
-why_at protocol list start link =
+abbrev pub why_by_last_link : Protocol → List Found → Link → Link → Why
+why_by_last_link protocol list start link =
     if is_ahead list link then Absent
     else if is_behind list link then passed protocol list link
     else if is_same link start then Cycle
@@ -43,7 +48,7 @@ pub record IsDecidingWalk
       (is_end list (newest_name list page) (slice_index_or links i none) ≡ false)
       × (slice_index_or links (suc i) none ≡ link_of list (slice_index_or links i none))
   pub last : (none : Link) → why protocol list logical page
-      ≡ why_at protocol list (newest_name list page) (slice_index_or links (length links - 1) none)
+      ≡ why_by_last_link protocol list (newest_name list page) (slice_index_or links (length links - 1) none)
   pub whole : (none : Link) → length links ≤ logical →
       is_end list (newest_name list page) (slice_index_or links (length links - 1) none) ≡ true
   pub bound : (1 ≤ length links) × (length links ≤ suc logical)

@@ -95,7 +95,7 @@ fn write_more(count: u64, text: &mut String) -> Result<(), AllocError>
     ensures { OnOk result (string_bytes text.new
         ≡ string_bytes text.old ++ after_spaces (more_words count)) }
 {
-    let shown = SHOWN_LINKS as u64;
+    let shown = u64::from(SHOWN_LINKS);
     if count > shown {
         write!(text, " more {}", count - shown)?;
     }

@@ -1,49 +1,52 @@
 ghost use Rattle.std.specs.Prelude.{◌≡◌, ℕ, ◌+◌, ◌^◌, ◌<◌, ◌==◌, if◌then◌else◌, length, Some, None, IfOk, OnOk};
 ghost use Rattle.record_list.specs.Records.{newest};
-ghost use Rattle.record_list.specs.Verdict.{newest_name, link_of, passed, is_committed};
+ghost use Rattle.record_list.specs.Verdict.{newest_name, link_of, why, is_committed};
 ghost use Rattle.record_list.specs.Current.{fallback};
-ghost use Rattle.verdict_report.specs.Walks.{is_end, why_at};
+ghost use Rattle.record_chart.specs.Charts.{Sorts};
+ghost use Rattle.verdict_report.specs.Walks.{is_end, stays_at, links_of};
 ghost use Rattle.verdict_report.specs.Newest.{IsNewestRecord, KeepsNewest, kept_at, newer};
 
-use record_list::{Found, Verdict, Why, next_older, straddling};
+use record_chart::{Chart, Orbit};
+use record_list::{Found, Verdict, Why};
 use std::alloc::Global;
 use tx_types::{Link, Memory, Protocol, Rec};
 
-/// A list of records with the newest record of each page at hand: where that stands in several slots,
-/// the one in the lowest.
+/// The chart of a list of records, with the newest record of each page at hand: where that stands in
+/// several slots, the one in the lowest.
 #[derive(Drop)]
-pub struct Records<'a> {
-    list: &'a [Found],
+pub struct Records {
+    chart: Chart,
     newest: Vec<Option<Rec>>,
-    ghost kept: { KeepsNewest list.now newest.items },
+    ghost kept: { KeepsNewest chart newest.items },
 }
 
-impl<'a> Records<'a> {
-    /// Looks at each record of the list once.
-    pub fn new(alloc: Global, list: &'a [Found]) -> Result<Records<'a>, Memory>
-        ensures { IfOk result (λ r. r.list.now ≡ list.now) }
+impl Records {
+    /// Sorts the records, and looks at each once.
+    pub fn new(alloc: Global, list: &[Found]) -> Result<Records, Memory>
+        ensures { IfOk result (λ r. Sorts list.now r.chart) }
     {
-        let newest = newest_records(alloc, list)?;
-        Ok(Records { list, newest })
+        let chart = Chart::new(alloc, Vec::from_slice(alloc, list)?)?;
+        let newest = newest_records(alloc, chart.records())?;
+        Ok(Records { chart, newest })
     }
 
     /// The newest record of a page.
     pub fn newest_record(&self, page: u32) -> Option<Rec>
-        ensures { IsNewestRecord self.now.list.now page result }
+        ensures { IsNewestRecord self.now.chart page result }
     {
         self.newest.get(page as usize).copied().flatten()
     }
 
     /// The newest version of a page, 0 for none.
     pub fn newest(&self, page: u32) -> u64
-        ensures { result ≡ newest self.now.list.now page }
+        ensures { result ≡ newest self.now.chart page }
     {
         self.newest_record(page).map_or(0, |rec| rec.version)
     }
 
     /// The name of the newest record of a page.
     pub fn newest_name(&self, page: u32) -> Link
-        ensures { result ≡ newest_name self.now.list.now page }
+        ensures { result ≡ newest_name self.now.chart page }
     {
         Link {
             page,
@@ -53,7 +56,7 @@ impl<'a> Records<'a> {
 
     /// The link of the newest record of a page, and its name where the page has none.
     pub fn newest_link(&self, page: u32) -> Link
-        ensures { result ≡ link_of self.now.list.now (newest_name self.now.list.now page) }
+        ensures { result ≡ link_of self.now.chart (newest_name self.now.chart page) }
     {
         match self.newest_record(page) {
             Some(rec) => rec.next,
@@ -63,8 +66,8 @@ impl<'a> Records<'a> {
 
     /// The link after this one in a walk from the record `start`, unless the walk ends here.
     pub fn next_link(&self, start: Link, link: Link) -> Option<Link>
-        ensures { result ≡ (if is_end self.now.list.now start link then None
-            else Some (link_of self.now.list.now link)) }
+        ensures { result ≡ (if is_end self.now.chart start link then None
+            else Some (link_of self.now.chart link)) }
     {
         if self.is_end(start, link) {
             None
@@ -75,48 +78,54 @@ impl<'a> Records<'a> {
 
     /// Whether a walk from the record `start` ends at this link.
     fn is_end(&self, start: Link, link: Link) -> bool
-        ensures { result ≡ is_end self.now.list.now start link }
+        ensures { result ≡ is_end self.now.chart start link }
     {
         link.version != self.newest(link.page) || link == start
     }
 
-    /// What the last link of a walk from the record `start` shows of that record.
-    pub fn why_at(&self, protocol: Protocol, start: Link, last: Link) -> Why
-        ensures { result ≡ why_at protocol self.now.list.now start last }
+    /// Whether a walk stays at this link: it names version 0 of a page that has no record.
+    fn stays_at(&self, link: Link) -> bool
+        ensures { result ≡ stays_at self.now.chart link }
     {
-        let newest = self.newest(last.page);
-        if last.version < newest {
-            self.passed(protocol, last)
-        } else if last.version == newest && last == start {
-            Why::Cycle
-        } else {
-            Why::Absent
+        link.version == self.newest(link.page) && self.newest_record(link.page).is_none()
+    }
+
+    /// How many links the walk from the newest record of a page has.
+    pub fn walk_length(&self, logical: u32, page: u32) -> u64
+        ensures { result ≡ length (links_of self.now.chart logical page) }
+    {
+        let most = u64::from(logical) + 1;
+        match self.chart.orbit(page) {
+            None => 1,
+            Some(Orbit::Ends { after, at }) => {
+                if self.stays_at(self.chart.records()[at as usize].rec.next) {
+                    most
+                } else {
+                    most.min(u64::from(after) + 1)
+                }
+            }
+            Some(Orbit::Round { length }) => most.min(u64::from(length)),
+            Some(Orbit::Aside) => most,
         }
     }
 
-    /// What a link shows that leads below the newest version of its page.
-    fn passed(&self, protocol: Protocol, link: Link) -> Why
-        ensures { result ≡ passed protocol self.now.list.now link }
+    /// What decides the verdict on the newest record of a page.
+    pub fn why(&self, protocol: Protocol, logical: u32, page: u32) -> Why
+        ensures { result ≡ why protocol self.now.chart logical page }
     {
-        match protocol {
-            Protocol::Scc => Why::Passed,
-            Protocol::Bpcc => match straddling(self.list, link) {
-                0 => Why::Passed,
-                version => Why::Straddled(version),
-            },
-        }
+        self.chart.why(protocol, logical, page)
     }
 
     /// The current version of a page, from its newest record and what decides the verdict on that.
     pub fn current(&self, protocol: Protocol, page: u32, rec: &Rec, why: Why) -> u64
-        requires { IsNewestRecord self.now.list.now page (Some rec.now) }
-        ensures { result ≡ (if is_committed why then newest self.now.list.now page
-            else fallback protocol self.now.list.now page) }
+        requires { IsNewestRecord self.now.chart page (Some rec.now) }
+        ensures { result ≡ (if is_committed why then newest self.now.chart page
+            else fallback protocol self.now.chart page) }
     {
         match why.verdict() {
             Verdict::Committed => rec.version,
             Verdict::Uncommitted => match protocol {
-                Protocol::Scc => next_older(self.list, page, rec.version),
+                Protocol::Scc => self.chart.next_older(page, rec.version),
                 Protocol::Bpcc => rec.back,
             },
         }

@@ -9,7 +9,7 @@ use crate::records::Records;
 use crate::walk::Walk;
 use record_list::{CommitRule, Found};
 use std::alloc::{AllocError, Global};
-use tx_types::{Link, Memory, Protocol, Rec};
+use tx_types::{Memory, Protocol, Rec};
 
 /// Appends the report on a list of records, and answers the number of pages that it explains. After
 /// `Memory` the bytes are as before.
@@ -29,7 +29,7 @@ pub fn explain<R: CommitRule>(
     out: &mut Vec<u8>,
 ) -> Result<u32, Memory>
     ensures count { IfOk result (λ n. n ≡ length (pages list.now logical)) }
-    ensures text { OnOk result (out.new.items ≡ out.old.items ++ report R.kept list.now logical) }
+    ensures text { OnOk result (out.new.items ≡ out.old.items ++ report R.protocol list.now logical) }
     ensures err { OnErr result (out.new.items ≡ out.old.items) }
 {
     let mut text = String::new(alloc);
@@ -79,21 +79,15 @@ fn explained(
     page: u32,
     rec: &Rec,
 ) -> Result<Line, Memory>
-    requires { IsNewestRecord records.now.list.now page (Some rec.now) }
-    ensures { IfOk result (λ l. line_text l
-        ≡ verdict_line protocol records.now.list.now logical page) }
+    requires { IsNewestRecord records.now.chart page (Some rec.now) }
+    ensures { IfOk result (λ l. line_text l ≡ verdict_line protocol records.now.chart logical page) }
 {
-    let walk = Walk::of_page(alloc, records, logical, page)?;
-    let start = Link {
-        page,
-        version: rec.version,
-    };
-    let why = records.why_at(protocol, start, walk.last);
+    let why = records.why(protocol, logical, page);
     Ok(Line {
         page,
         newest: rec.version,
         why,
         current: records.current(protocol, page, rec, why),
-        walk,
+        walk: Walk::of_page(alloc, records, logical, page)?,
     })
 }

@@ -18,6 +18,8 @@ fn found(slot: u32, name: (u32, u64), next: (u32, u64), back: u64) -> Found {
                 version: next.1,
             },
             back,
+            count: 0,
+            discard: false,
         },
     }
 }

@@ -1,5 +1,4 @@
-ghost use Rattle.std.specs.Prelude.{◌≡◌, ◌+◌, ◌<◌, ◌^◌, List, [], ◌∷◌, ◌++◌, take, IfOk, OnOk};
-ghost use Rattle.tx_types.specs.declared.record.Link.{Link};
+ghost use Rattle.std.specs.Prelude.{◌≡◌, take, length, IfOk};
 ghost use Rattle.verdict_report.specs.Walks.{links_of};
 ghost use Rattle.verdict_report.specs.Report.{most_links};
 ghost use Rattle.verdict_report.specs.Lines.{IsWalk};
@@ -9,17 +8,15 @@ use std::alloc::Global;
 use tx_types::{Link, Memory};
 
 /// How many links of a walk a report shows.
-pub const SHOWN_LINKS: usize = 16;
+pub const SHOWN_LINKS: u32 = 16;
 
-/// What a report needs of the links of a walk.
+/// What a report says of the links of a walk.
 #[derive(Drop)]
 pub struct Walk {
     /// The first of them, at most `SHOWN_LINKS`.
     pub shown: Vec<Link>,
     /// How many they are.
     pub count: u64,
-    /// The last of them.
-    pub last: Link,
 }
 
 impl Walk {
@@ -30,50 +27,34 @@ impl Walk {
         logical: u32,
         page: u32,
     ) -> Result<Walk, Memory>
-        ensures { IfOk result (λ w. IsWalk w (links_of records.now.list.now logical page)) }
-    {
-        let start = records.newest_name(page);
-        let mut walk = Walk::new(alloc, records.newest_link(page))?;
-        for _turn in 0..logical {
-            let Some(link) = records.next_link(start, walk.last) else {
-                break;
-            };
-            walk.push(link)?;
-        }
-        Ok(walk)
-    }
-
-    /// The walk of one link.
-    fn new(alloc: Global, first: Link) -> Result<Walk, Memory>
-        ensures { IfOk result (λ w. IsWalk w (first ∷ [])) }
+        ensures { IfOk result (λ w. IsWalk w (links_of records.now.chart logical page)) }
     {
         Ok(Walk {
-            shown: vec![in alloc; first]?,
-            count: 1,
-            last: first,
+            shown: first_links(alloc, records, logical, page)?,
+            count: records.walk_length(logical, page),
         })
-    }
-
-    /// Takes one link more.
-    fn push(&mut self, link: Link) -> Result<(), Memory>
-        requires { self.old.count + 1 < 2 ^ 64 }
-        ensures { OnOk result ((links : List Link) → IsWalk self.old links
-            → IsWalk self.new (links ++ link ∷ [])) }
-    {
-        show(&mut self.shown, link)?;
-        self.count += 1;
-        self.last = link;
-        Ok(())
     }
 }
 
-/// Takes one link more into the first ones of a walk, where there is room.
-fn show(shown: &mut Vec<Link>, link: Link) -> Result<(), Memory>
-    ensures { OnOk result ((links : List Link) → shown.old.items ≡ take most_links links
-        → shown.new.items ≡ take most_links (links ++ link ∷ [])) }
+/// The first links of the walk from the newest record of a page.
+fn first_links(
+    alloc: Global,
+    records: &Records,
+    logical: u32,
+    page: u32,
+) -> Result<Vec<Link>, Memory>
+    ensures { IfOk result (λ links. links.items
+        ≡ take most_links (links_of records.now.chart logical page)) }
 {
-    if shown.len() < SHOWN_LINKS {
-        shown.push(link)?;
+    let start = records.newest_name(page);
+    let mut last = records.newest_link(page);
+    let mut links = vec![in alloc; last]?;
+    for _turn in 0..logical.min(SHOWN_LINKS - 1) {
+        let Some(link) = records.next_link(start, last) else {
+            break;
+        };
+        links.push(link)?;
+        last = link;
     }
-    Ok(())
+    Ok(links)
 }

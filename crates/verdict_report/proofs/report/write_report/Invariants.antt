@@ -5,4 +5,4 @@ use Rattle.verdict_report.proofs.report.write_report.Given as goal
 
 abbrev pub invariant-loop-page : goal.invariant-loop-page
 invariant-loop-page l =
-    HasLines (verdict_line l.protocol l.list l.logical) l.list l.page (string_bytes l.initial.text) (string_bytes l.text) l.count
+    HasLines (verdict_line l.protocol l.records.chart l.logical) l.records.chart l.page (string_bytes l.initial.text) (string_bytes l.text) l.count
