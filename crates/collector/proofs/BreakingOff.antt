@@ -10,7 +10,7 @@ use Rattle.tx_types.specs.declared.config.Block.{Block}
 use Rattle.tx_types.specs.declared.config.Protocol.{Protocol}
 use Rattle.tx_types.specs.declared.config.Slot.{Slot}
 use Rattle.flash_model.specs.declared.flash.Broken.{Broken}
-use Rattle.flash_model.specs.Calls.{Erases, page_of, spare_of}
+use Rattle.flash_model.specs.Calls.{Erases, page_of, spare_area_of}
 use Rattle.flash_model.specs.Flash.{FlashState, counted}
 use Rattle.flash_model.specs.Moves.{Does}
 use Rattle.flash_model.specs.Operations.{Moment, Torn, program, erase, moment_of}
@@ -112,7 +112,7 @@ module _ (p : Protocol) (loss : LossLaw p) (s0 : FlashState) (n0 : Noted) (t : B
         place = subst (λ (k : BlockTable). to.0 ≡ k.spare * n0.config.pages_per_block + length b.first) table
             (subst (λ (k : Noted). to.0 ≡ t1.spare * k.config.pages_per_block + length b.first) noted b.place);
         torn = subst (λ sh. Torn sh b.between (copy_program n0.config.page_bytes s0.image to.0 from.0) (moment_of s2)) shape1
-            (subst (λ c. Torn s1.shape b.between (program to.0 (page_of n0.config.page_bytes c) (spare_of c)) (moment_of s2)) same
+            (subst (λ c. Torn s1.shape b.between (program to.0 (page_of n0.config.page_bytes c) (spare_area_of c)) (moment_of s2)) same
             (subst (λ (k : Noted). Torn s1.shape b.between (copy_program k.config.page_bytes s1.image to.0 from.0) (moment_of s2)) noted b.torn));
         reads = b.reads ∙ ap (reads_after (length b.first + 1)) unread;
       }

@@ -10,7 +10,7 @@ use Rattle.tx_types.specs.declared.record.Rec.{Rec}
 use Rattle.flash_model.specs.declared.flash.Broken.{Broken}
 use Rattle.flash_model.specs.declared.flash.Seen.{Seen}
 use Rattle.flash_model.specs.Flash.{FlashState, Contents, blank, damaged, complete, slot_at, IsWhole, counted}
-use Rattle.flash_model.specs.Calls.{Reads, Shows, Programs, page_of, spare_of}
+use Rattle.flash_model.specs.Calls.{Reads, Shows, Programs, page_of, spare_area_of}
 use Rattle.flash_model.specs.Operations.{program, moment_of, after, CanDo, CanProgram}
 use Rattle.flash_model.specs.Moves.{Does, FlashMoves}
 use Rattle.flash_model.proofs.MoveLemmas.{same_moments, FlashMoves-operates, FlashMoves-reads, FlashMoves-then}
@@ -61,7 +61,7 @@ shown : (size : ℕ) (contents : Contents) (how : Seen) (bytes spare : List ℕ)
 shown size contents how bytes spare c s =
     c.is
     ∙ ap (λ b. complete b c.spare) (sym (s.its_page ∙ ap (page_of size) c.is))
-    ∙ ap (λ x. complete bytes x) (sym (s.its_spare ∙ ap spare_of c.is))
+    ∙ ap (λ x. complete bytes x) (sym (s.its_spare_area ∙ ap spare_area_of c.is))
 
 module _ (p : Protocol) (copy : CopyLaw p) (written_copy : WrittenCopyLaw p) (s s1 : FlashState) (n : Noted) (t : BlockTable) (u : Unsure)
     (rule : n.config.protocol ≡ p) (nothing : u ≡ unsure.Nothing) (matches : Matches s n t u) (from to : Slot)
@@ -164,7 +164,7 @@ module _ (p : Protocol) (copy : CopyLaw p) (written_copy : WrittenCopyLaw p) (s 
       pub copy_is_done : CopyDone n s s2 from.0 to.0
       copy_is_done =
           let o = program to.0 bytes spare in
-          let asked : copy_program n.config.page_bytes s.image to.0 from.0 ≡ o = ap (λ c. program to.0 (page_of n.config.page_bytes c) (spare_of c)) source in
+          let asked : copy_program n.config.page_bytes s.image to.0 from.0 ≡ o = ap (λ c. program to.0 (page_of n.config.page_bytes c) (spare_area_of c)) source in
           let can0 : CanDo s.shape s.image o = subst (λ i. CanDo s.shape i o) done.image (subst (λ sh. CanDo sh s1.image o) shape_same can) in
           let now : moment_of s2 ≡ after s.shape (moment_of s) o =
           same_moments (moment_of s2) (after s.shape (moment_of s) o)

@@ -4,7 +4,7 @@ use Rattle.std.specs.Prelude.{◌==◌}
 use Rattle.std.specs.Option.{option_map_or}
 use Rattle.std.proofs.lemmas.Bool.{cases_Bool, eqb-false}
 use Rattle.std.proofs.lemmas.List.{get_or-set_same, get_or-set_other, set-get_or}
-use Rattle.record_list.specs.Written.{bytes_at}
+use Rattle.record_list.specs.Written.{text_at}
 use Rattle.tx_types.specs.Config.{shape_of, slots_of}
 use Rattle.tx_types.specs.declared.config.Protocol.{Protocol}
 use Rattle.tx_types.specs.declared.config.Shape.{Shape}
@@ -94,11 +94,11 @@ module _ (s s' : FlashState) (n : Noted) (t : BlockTable) (m : Matches s n t uns
       }
 
   copied_array : KeepsArray p n.config.logical s.image with_copy
-  copied_array = record { array = kept.array; bytes = λ name h. kept.bytes name (kept.names name h) }
+  copied_array = record { array = kept.array; texts = λ name h. kept.texts name (kept.names name h) }
 
   -- a damaged slot changes no record
   harmed_array : KeepsArray p n.config.logical s.image (set s.image to.0 damaged)
-  harmed_array = record { array = harmed.array; bytes = λ name h. ap (λ l. bytes_at l name) harmed.written }
+  harmed_array = record { array = harmed.array; texts = λ name h. ap (λ l. text_at l name) harmed.written }
 
   pub left_done : s'.image ≡ image_left s.shape s.image (program to.0 bytes spare) outcome.All → Left (λ contents. contents ≡ complete bytes spare)
   left_done is = left_as (λ contents. contents ≡ complete bytes spare) outcome.All (complete bytes spare) is refl kept.sound copied_array refl
@@ -109,7 +109,7 @@ module _ (s s' : FlashState) (n : Noted) (t : BlockTable) (m : Matches s n t uns
   pub left_torn : (how : Outcome) → s'.image ≡ image_left s.shape s.image (program to.0 bytes spare) how → Left MayHold
   left_torn outcome.None is =
       left_as MayHold outcome.None blank is (sym (set_same blank_there)) (subst SoundNow (sym (set_same blank_there)) m.sound)
-      (subst (λ i. KeepsArray p n.config.logical s.image i) (sym (set_same blank_there)) (record { array = refl; bytes = λ name h. refl })) (inl refl)
+      (subst (λ i. KeepsArray p n.config.logical s.image i) (sym (set_same blank_there)) (record { array = refl; texts = λ name h. refl })) (inl refl)
     where
       set_same : slot_at s.image to.0 ≡ blank → set s.image to.0 blank ≡ s.image
       set_same e = ap (set s.image to.0) (sym e) ∙ set-get_or s.image to.0 blank

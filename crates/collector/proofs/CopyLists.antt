@@ -2,7 +2,7 @@
 use Rattle.std.proofs.Common.{◌≡◌, ℕ, ◌+◌, List, [], ◌∷◌, ◌++◌, length, refl, ap, ap₂, ◌∙◌, arith, Contains}
 use Rattle.list_facts.proofs.Membership.{Contains-first, Contains-rest}
 use Rattle.flash_model.specs.Flash.{Contents, slot_at}
-use Rattle.flash_model.specs.Calls.{page_of, spare_of}
+use Rattle.flash_model.specs.Calls.{page_of, spare_area_of}
 use Rattle.flash_model.specs.Operations.{program}
 use Rattle.version_index.specs.Noted.{Noted, copied}
 use Rattle.collector.specs.Collecting.{copy_program, copies, copied_from}
@@ -27,4 +27,4 @@ pub copies_same : (size : ℕ) (a b : List Contents) (to : ℕ) (list : List ℕ
     copies size a to list ≡ copies size b to list
 copies_same size a b to [] h = refl
 copies_same size a b to (x ∷ xs) h =
-    ap₂ (λ o l. o ∷ l) (ap (λ c. program to (page_of size c) (spare_of c)) (h x (Contains-first x xs))) (copies_same size a b (to + 1) xs (λ y i. h y (Contains-rest x xs y i)))
+    ap₂ (λ o l. o ∷ l) (ap (λ c. program to (page_of size c) (spare_area_of c)) (h x (Contains-first x xs))) (copies_same size a b (to + 1) xs (λ y i. h y (Contains-rest x xs y i)))

@@ -60,9 +60,9 @@ module _ (n : Noted) (noted : IsNoted n.config.protocol n) (law : CopyLaw n.conf
   unfolding current_of
   current_same page in_range = kept.same_current page in_range
 
-  held_same : (name : Link) → held_of (copied n from to) name ≡ held_of n name
+  held_same : (r : Rec) → held_of (copied n from to) r ≡ held_of n r
   unfolding held_of
-  held_same name = kept.same_held name
+  held_same r = kept.same_held r
 
   pub copy_preserves : Preserves n (copied n from to)
   copy_preserves = record {
@@ -76,7 +76,7 @@ module _ (n : Noted) (noted : IsNoted n.config.protocol n) (law : CopyLaw n.conf
         present_as old g.0 name g.1 (ap name_of g.2 ∙ f.2);
     pinned = λ name pin there. grows name there;
     present = λ page in_range there. grows (current_name_of n page) there;
-    held = λ name h. sym (held_same name) ∙ h;
+    held = λ r h. sym (held_same r) ∙ h;
     in_progress = λ names h. kept.in_progress names h;
   }
 
@@ -89,7 +89,7 @@ module _ (n : Noted) (noted : IsNoted n.config.protocol n) (law : CopyLaw n.conf
       (elim (wanted_cases n.config.protocol more n.config.logical (pinned_names n.pins) f.rec w) [
         | inl current ↦ counted_wanted n.config.protocol old n.config.logical (pinned_names n.pins) f.rec
             (inl (current ∙ kept.same_current f.rec.page (subst (λ (r : Rec). r.page < n.config.logical) e page_within)))
-        | inr (inl held) ↦ counted_wanted n.config.protocol old n.config.logical (pinned_names n.pins) f.rec (inr (sym (kept.same_held (name_of f.rec)) ∙ held))
+        | inr (inl held) ↦ counted_wanted n.config.protocol old n.config.logical (pinned_names n.pins) f.rec (inr (sym (kept.same_held f.rec) ∙ held))
         | inr (inr pin) ↦ pinned_wanted n.config.protocol old n.config.logical (pinned_names n.pins) f.rec pin
       ])
 

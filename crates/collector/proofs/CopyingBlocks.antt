@@ -13,7 +13,7 @@ use Rattle.tx_types.specs.declared.config.Protocol.{Protocol}
 use Rattle.tx_types.specs.declared.config.Shape.{Shape}
 use Rattle.tx_types.specs.declared.record.Rec.{Rec}
 use Rattle.flash_model.specs.Flash.{FlashState, blank, complete, slot_at, counted}
-use Rattle.flash_model.specs.Calls.{Carries, page_of, spare_of}
+use Rattle.flash_model.specs.Calls.{Carries, page_of, spare_area_of}
 use Rattle.flash_model.specs.Operations.{Moment, program, moment_of}
 use Rattle.flash_model.specs.Moves.{Does, FlashMoves}
 use Rattle.flash_model.proofs.CallLemmas.{Carries-then, Carries-nothing}
@@ -22,10 +22,12 @@ use Rattle.flash_model.proofs.MoveLemmas.{Does-append, FlashMoves-nothing, Flash
 use Rattle.record_list.specs.Changes.{CopyLaw}
 use Rattle.record_list.specs.Written.{is_outside}
 use Rattle.version_index.specs.declared.note.Note.TheVariants.{Blank, Holds}
-use Rattle.version_index.specs.Notes.{note_at, rec_of}
+use Rattle.record_list.proofs.LossAmong.{one_each}
+use Rattle.version_index.specs.Notes.{note_at, rec_of, found_in}
 use Rattle.version_index.specs.Noted.{Noted, IsNoted, needed_of, copied}
 use Rattle.version_index.proofs.Blocks.{in_it, inside_block}
 use Rattle.version_index.proofs.FoundIn.{noted_from}
+use Rattle.version_index.proofs.NotedFacts.{noted_map}
 use Rattle.die_alloc.specs.BlockTable.{BlockTable}
 use Rattle.collector.specs.declared.unsure.Unsure.{Unsure}
 use Rattle.collector.specs.declared.unsure.Unsure.TheVariants as unsure
@@ -207,7 +209,7 @@ module _ (p : Protocol) (n0 n : Noted) (s0 s : FlashState) (t : BlockTable) (u :
   pub its_program : copy_program n.config.page_bytes s.image to at ≡ copy_program n0.config.page_bytes s0.image (start + length (needed_before n0 first at)) at
   its_program =
       ap (λ (k : Config). copy_program k.page_bytes s.image to at) same_config
-      ∙ ap (λ c. program to (page_of n0.config.page_bytes c) (spare_of c)) (h.image at away)
+      ∙ ap (λ c. program to (page_of n0.config.page_bytes c) (spare_area_of c)) (h.image at away)
       ∙ ap (λ k. copy_program n0.config.page_bytes s0.image k at) to_at
 
   -- it is needed
@@ -263,7 +265,7 @@ module _ (p : Protocol) (n0 n : Noted) (s0 s : FlashState) (t : BlockTable) (u :
       note_to : note_at n'.notes to ≡ note_at n.notes at
       note_to = ap (λ k. note_at k.notes to) changed ∙ get_or-set_same n.notes to (note_at n.notes at) Blank long
 
-      image_now : s'.image ≡ set s.image to (complete (page_of n.config.page_bytes (slot_at s.image at)) (spare_of (slot_at s.image at)))
+      image_now : s'.image ≡ set s.image to (complete (page_of n.config.page_bytes (slot_at s.image at)) (spare_area_of (slot_at s.image at)))
       image_now = ap (λ (m : Moment). m.image) (done.programmed.1)
 
       image_other : (slot : ℕ) → to ≢ slot → slot_at s'.image slot ≡ slot_at s.image slot
@@ -370,6 +372,6 @@ module _ (p : Protocol) (n0 n : Noted) (s0 s : FlashState) (t : BlockTable) (u :
       records = λ k lt. (let r = h.records k lt in (r.0, ap (λ q. note_at n.notes (q + k)) start_is ∙ r.1));
       tail = λ k from before. ap (λ q. note_at n.notes (q + k)) start_is ∙ h.tail (start + k) (omega (arith, from)) (omega (arith, before, pages_are));
     };
-    spared = spared_by_copies n t.spare block h.matches.spare h.matches.spared has_copy;
+    spared = spared_by_copies n t.spare block (one_each n.config.protocol (found_in n.notes) n.config.logical (noted_map n.config.protocol n h.matches.noted)) h.matches.spare h.matches.spared has_copy;
     reads = h.reads;
   }

@@ -96,10 +96,10 @@ module _ (s : FlashState) (n : Noted) (t : BlockTable) (m : Matches s n t unsure
     | inr ins ↦ noted_in blank Blank refl slot ins
   ]
 
-  -- the array stays, and the bytes of each name that is still there
+  -- the array stays, and the text of each name that is still there
   pub array_stays : (contents : Contents) → KeepsLost p n.config.logical s.shape s.image (with_block s.shape s.image block contents) →
       KeepsArray p n.config.logical s.image (with_block s.shape s.image block contents)
-  array_stays contents k = record { array = k.array; bytes = λ name h. sym (k.bytes name h) }
+  array_stays contents k = record { array = k.array; texts = λ name h. sym (k.texts name h) }
 
 module _ (s s' : FlashState) (n : Noted) (t : BlockTable) (m : Matches s n t unsure.Nothing)
     (loss : LossLaw n.config.protocol) (written_loss : WrittenLossLaw n.config.protocol)
@@ -156,7 +156,7 @@ module _ (s s' : FlashState) (n : Noted) (t : BlockTable) (m : Matches s n t uns
   left_torn outcome.None is = record {
     sound = sound_as s.image is m.sound;
     flash = flash_as s.image is m.flash;
-    array = subst (λ i. KeepsArray n.config.protocol n.config.logical s.image i) (sym is) (record { array = refl; bytes = λ name h. refl });
+    array = subst (λ i. KeepsArray n.config.protocol n.config.logical s.image i) (sym is) (record { array = refl; texts = λ name h. refl });
     outside = λ slot e. ap (λ i. slot_at i slot) is;
     erasing = inl (λ slot within e. noted_as_read s n t m slot (omega (arith, within, ap slots_of m.shape)) ∙ ap (λ i. note_of n.config.protocol (slot_at i slot)) (sym is));
   }

@@ -53,7 +53,7 @@ damaged_preserves n at within was =
       fewer = λ name there. subst (λ l. is_present l name ≡ true) same there;
       pinned = λ name pin there. subst (λ l. is_present l name ≡ true) (sym same) there;
       present = λ page low there. subst (λ l. is_present l (current_name_of n page) ≡ true) (sym same) there;
-      held = λ name h. subst (λ l. is_held n.config.protocol l n.config.logical name ≡ true) same h;
+      held = λ r h. subst (λ l. is_held n.config.protocol l n.config.logical r ≡ true) same h;
       in_progress = λ names h. subst (λ l. InProgress n.config.protocol l n.config.logical names) (sym same) h;
     }
 

@@ -12,7 +12,7 @@ use Rattle.tx_types.specs.declared.record.Rec.{Rec}
 use Rattle.record_list.specs.declared.found.Found.{Found}
 use Rattle.record_list.specs.Records.{name_of, mentions_below}
 use Rattle.record_list.specs.Current.{cur, IsCurrent, is_loose, is_held, must_go}
-use Rattle.record_list.specs.Transaction.{rounded, back_version, IsAsked, IsBegun}
+use Rattle.record_list.specs.Transaction.{next_names, back_version, IsAsked, IsBegun}
 use Rattle.record_list.specs.Written.{first_slot}
 use Rattle.record_list.proofs.Progress.{underway_of, one_name}
 use Rattle.record_list.proofs.Rounds.{follows_of, follows_in}
@@ -54,7 +54,7 @@ module _ (p : Protocol) (l : List Found) (logical : ℕ) (name : Link) where
       let after = follows_of others (name_of f.rec) own in
       let asks = All-contains (λ g. IsAsked p l logical others g.rec) l f begun.asked i in
       let pair = All-contains (λ (x : Link × Link). name_of f.rec ≡ x.0 → (f.rec.next ≡ x.1) × (f.rec.back ≡ back_version p l logical x.0.page))
-      (zip others (rounded others)) (name_of f.rec, after.0) asks after.1 in
+      (zip others (next_names others)) (name_of f.rec, after.0) asks after.1 in
       let link = (pair refl).0 in
       let same = only f.rec.next (subst (Contains others) (sym link) (follows_in others (name_of f.rec) after.0 after.1).1) at.0 in
       let low = at.1 in omega arith
@@ -88,14 +88,14 @@ module _ (n : Noted) (names : List Link) (name : Link) (next : IsNextName n name
   abbrev IsWanted : Found → Type 0
   IsWanted f =
       IsCurrent n.config.protocol list logical f.rec
-      ⊎ ((is_held n.config.protocol list logical (name_of f.rec) ≡ true) ⊎ Contains (pinned_names n.pins) (name_of f.rec))
+      ⊎ ((is_held n.config.protocol list logical f.rec ≡ true) ⊎ Contains (pinned_names n.pins) (name_of f.rec))
 
   by_rule : (q : Protocol) → n.config.protocol ≡ q → (f : Found) → Contains list f → must_go q list logical name.page name.version f.rec ≡ true → IsWanted f → ⊥
   by_rule Bpcc rule f i go wanted = false≢true go
   by_rule Scc rule f i go wanted =
       elim wanted [
         | inl current ↦ not_current (sym current)
-        | inr (inl held) ↦ false≢true (subst (λ q. is_held q list logical (name_of f.rec) ≡ true) rule held)
+        | inr (inl held) ↦ false≢true (subst (λ q. is_held q list logical f.rec ≡ true) rule held)
         | inr (inr pin) ↦ pin_stays f i (All-contains (IsPinBeside n names) (pinned_names n.pins) (name_of f.rec) next.beside pin) goes.mentions not_current
       ]
     where

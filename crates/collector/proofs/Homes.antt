@@ -9,7 +9,6 @@ use Rattle.std.proofs.lemmas.List.Elements.{All-contains}
 use Rattle.list_facts.proofs.Membership.{from_filter, Contains-cases, Contains-nil}
 use Rattle.list_facts.proofs.Tests.{any_same_in, find_more, find_left, any_from}
 use Rattle.tx_types.specs.Config.{shape_of, blocks_of}
-use Rattle.tx_types.specs.declared.config.Protocol.{Protocol}
 use Rattle.tx_types.specs.declared.config.Shape.{Shape}
 use Rattle.tx_types.specs.declared.record.Link.{Link}
 use Rattle.tx_types.specs.declared.record.Rec.{Rec}
@@ -58,14 +57,6 @@ stands_off shape spare name f = has_name name f.rec && is_outside_spare shape sp
 -- a name that stands outside the spare has its home there
 pub home_off : (shape : Shape) (spare : Option ℕ) (l : List Found) (name : Link) (at : ℕ) → first_slot (stands_off shape spare name) l ≡ Some at → home shape spare l name ≡ Some at
 home_off shape spare l name at e = ap (λ o. option_or o (first_slot (λ f. has_name name f.rec) l)) e
-
--- whether a record is wanted, by its name
-abbrev pub name_wanted : Protocol → List Found → ℕ → List Link → Link → Bool
-name_wanted p l logical pinned u =
-    (u.version == cur p l logical u.page) || is_held p l logical u || list_any (λ name. (u.page == name.page) && (u.version == name.version)) pinned
-
-pub wanted_by_name : (p : Protocol) (l : List Found) (logical : ℕ) (pinned : List Link) (r s : Rec) → name_of r ≡ name_of s → is_wanted p l logical pinned r ≡ is_wanted p l logical pinned s
-wanted_by_name p l logical pinned r s same = ap (name_wanted p l logical pinned) same
 
 -- a slot is needed where the record that it holds has its home there and is wanted
 pub home_is_needed : (n : Noted) (f : Found) (at : ℕ) → Contains (found_in n.notes) f → f.slot.0 ≡ at → home_of n (name_of f.rec) ≡ Some at →
@@ -119,7 +110,7 @@ module _ (n : Noted) (noted : IsNoted n.config.protocol n) (law : CopyLaw n.conf
   wanted_same f i =
       let low : f.rec.page < n.config.logical = (All-contains (PagesExist n.config.logical) old f (noted.sound Pages) i).0 in
       ap₂ (λ c h. (f.rec.version == c) || h || list_any (λ name. has_name name f.rec) (pinned_names n.pins))
-      (keeps.same_current f.rec.page low) (keeps.same_held (name_of f.rec))
+      (keeps.same_current f.rec.page low) (keeps.same_held f.rec)
 
   -- the need of each other slot stays
   pub copy_needs : (k : ℕ) → to ≢ k → needed_of (copied n from to) k ≡ needed_of n k
@@ -177,6 +168,6 @@ module _ (n : Noted) (noted : IsNoted n.config.protocol n) (law : LossLaw n.conf
         | inl current ↦ counted_wanted n.config.protocol all n.config.logical (pinned_names n.pins) f.rec
             (inl (current ∙ ap (λ l. cur n.config.protocol l n.config.logical f.rec.page) left_is ∙ keeps_less.same_current f.rec.page low))
         | inr (inl held) ↦ counted_wanted n.config.protocol all n.config.logical (pinned_names n.pins) f.rec
-            (inr (keeps_less.held name (subst (λ l. is_held n.config.protocol l n.config.logical name ≡ true) left_is held)))
+            (inr (keeps_less.held f.rec (subst (λ l. is_held n.config.protocol l n.config.logical f.rec ≡ true) left_is held)))
         | inr (inr pin) ↦ pinned_wanted n.config.protocol all n.config.logical (pinned_names n.pins) f.rec pin
       ])

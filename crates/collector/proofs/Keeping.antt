@@ -8,7 +8,7 @@ use Rattle.tx_types.specs.declared.record.Link.{Link}
 use Rattle.flash_model.specs.Flash.{Contents}
 use Rattle.record_list.specs.Records.{has_name, is_present}
 use Rattle.record_list.specs.Transaction.{InProgress}
-use Rattle.record_list.specs.Written.{Written, records_of, bytes_at}
+use Rattle.record_list.specs.Written.{Written, records_of, text_of, text_at}
 use Rattle.version_index.specs.Images.{written_in}
 use Rattle.version_index.specs.Notes.{found_in}
 use Rattle.version_index.specs.Noted.{Noted, current_name_of, pinned_names}
@@ -35,28 +35,28 @@ preserves_then a b c ab bc =
           (bc.in_progress names (subst (λ (k : Config). InProgress k.protocol (found_in b.notes) k.logical names) (sym ab.config) (ab.in_progress names h)));
     }
 
--- a name has bytes exactly where it is present
-pub has_bytes : (list : List Written) (name : Link) → is_some (bytes_at list name) ≡ is_present (records_of list) name
-has_bytes [] name = refl
-has_bytes (w ∷ ws) name =
-    first (has_name name w.rec) (find (λ v. has_name name v.rec) ws) (is_present (records_of ws) name) (has_bytes ws name)
+-- a name has a text exactly where it is present
+pub has_text : (list : List Written) (name : Link) → is_some (text_at list name) ≡ is_present (records_of list) name
+has_text [] name = refl
+has_text (w ∷ ws) name =
+    first (has_name name w.rec) (find (λ v. has_name name v.rec) ws) (is_present (records_of ws) name) (has_text ws name)
   where
-    first : (b : Bool) (o : Option Written) (r : Bool) → is_some (option_map (λ v. v.bytes) o) ≡ r →
-        is_some (option_map (λ v. v.bytes) (cond b (Some w) o)) ≡ (b || r)
+    first : (b : Bool) (o : Option Written) (r : Bool) → is_some (option_map text_of o) ≡ r →
+        is_some (option_map text_of (cond b (Some w) o)) ≡ (b || r)
     first true o r h = refl
     first false o r h = h
 
 pub keeps_array_then : (p : Protocol) (logical : ℕ) (a b c : List Contents) → KeepsArray p logical a b → KeepsArray p logical b c → KeepsArray p logical a c
 keeps_array_then p logical a b c ab bc = record {
   array = bc.array ∙ ab.array;
-  bytes = λ name there.
-      let later = bc.bytes name there in
-      later ∙ ab.bytes name (sym (has_bytes (written_in p b) name) ∙ ap is_some (sym later) ∙ has_bytes (written_in p c) name ∙ there);
+  texts = λ name there.
+      let later = bc.texts name there in
+      later ∙ ab.texts name (sym (has_text (written_in p b) name) ∙ ap is_some (sym later) ∙ has_text (written_in p c) name ∙ there);
 }
 
 pub keeps_array_same : (p : Protocol) (logical : ℕ) (a b : List Contents) → b ≡ a → KeepsArray p logical a b
 keeps_array_same p logical a b same =
-    subst (KeepsArray p logical a) (sym same) (record { array = refl; bytes = λ name there. refl })
+    subst (KeepsArray p logical a) (sym same) (record { array = refl; texts = λ name there. refl })
 
 pub preserves_same : (n : Noted) → Preserves n n
 preserves_same n = record {

@@ -4,13 +4,13 @@ use Rattle.std.specs.List.{range_with_len}
 use Rattle.list_facts.proofs.Ranges.{same_range}
 use Rattle.tx_types.specs.declared.config.Protocol.{Protocol}
 use Rattle.flash_model.specs.Flash.{Contents}
-use Rattle.record_list.specs.Written.{Written, bytes_at, page_at}
+use Rattle.record_list.specs.Written.{Written, value_at, page_at}
 use Rattle.version_index.specs.Images.{written_in, current_in, array_in}
 use Rattle.version_index.specs.Noted.{Noted, current_of}
 use Rattle.collector.specs.Known.{page_known, array_known}
 
 at_version : List Written → ℕ → ℕ → Option (List ℕ)
-at_version list page version = bytes_at list (record { page = page; version = version })
+at_version list page version = value_at list (record { page = page; version = version })
 
 -- the array of an image whose current versions are those of the tables
 pub array_is_known : (p : Protocol) (n : Noted) (image : List Contents) → n.config.protocol ≡ p →
@@ -20,7 +20,7 @@ array_is_known p n image rule current =
     same_range (page_at p (written_in p image) n.config.logical) (page_known n image) n.config.logical
     (λ page within. ap (at_version (written_in p image) page) (current page within) ∙ ap (λ q. at_version (written_in q image) page (current_of n page)) (sym rule))
 
--- tables with the same current versions know the same array of an image, or of two whose current records have the same bytes
+-- tables with the same current versions know the same array of an image, or of two whose current records say the same
 pub same_known : (n n' : Noted) (image image' : List Contents) → n'.config ≡ n.config →
     ((page : ℕ) → page < n.config.logical → page_known n' image' page ≡ page_known n image page) → array_known n' image' ≡ array_known n image
 unfolding array_known

@@ -1,6 +1,6 @@
 -- The known image: its notes are those of the tables, it is sound, and it stands for the array that is known.
 use Rattle.std.proofs.Common.{◌≡◌, ℕ, ◌+◌, ◌/◌, ◌<◌, true, false, not, eqb-true, List, length, replicate, Some, All, refl, sym, ap, ◌∙◌, subst, inl, inr, arith, Contains}
-use Rattle.std.specs.Prelude.{◌==◌, IsSomeAnd}
+use Rattle.std.specs.Prelude.{◌==◌, IsSomeAnd, option_and_then}
 use Rattle.std.specs.List.{enumerate_from}
 use Rattle.std.specs.Option.{option_map_or}
 use Rattle.std.proofs.lemmas.Bool.{cases_Bool, cond-true, cond-false, not-true}
@@ -21,10 +21,12 @@ use Rattle.page_record.proofs.Spellings.{record_of-spelling}
 use Rattle.record_list.specs.Current.{cur}
 use Rattle.record_list.specs.Records.{name_of, is_present}
 use Rattle.record_list.specs.SoundList.{IsSoundList, Pages, PagesExist}
-use Rattle.record_list.specs.Written.{is_outside, Written, bytes_at, page_at, BytesAgree, IsRemovable}
-use Rattle.record_list.proofs.Arrays.{bytes_of, bytes_present}
+use Rattle.record_list.specs.Written.{is_outside, Written, found_of, text_at, value_at, value_of, page_at, BytesAgree, IsRemovable}
+use Rattle.record_list.proofs.Arrays.{text_named, text_present}
+use Rattle.record_list.specs.Verdict.{record_named}
+use Rattle.record_list.proofs.SoundNames.{sound_map}
 use Rattle.record_list.proofs.Wanted.{dispensable_removable}
-use Rattle.record_list.proofs.WrittenLists.{IsOneText, one_text}
+use Rattle.record_list.proofs.WrittenLists.{in_records, same_text, IsOneText, one_text}
 use Rattle.version_index.specs.declared.note.Note.{Note}
 use Rattle.version_index.specs.declared.note.Note.TheVariants.{Blank, Damaged, Holds}
 use Rattle.version_index.specs.Images.{written_in, records_in, array_in, SlotReads, IsSoundImage}
@@ -41,11 +43,11 @@ use Rattle.collector.specs.declared.unsure.Unsure.TheVariants as unsure
 use Rattle.collector.specs.Known.{is_unsure, contents_noted, contents_known, known_image, page_known, array_known}
 use Rattle.collector.specs.Matches.{Matches}
 use Rattle.collector.proofs.KeptArrays.{none_at_zero}
-use Rattle.collector.proofs.WantedImages.{current_present}
+use Rattle.collector.proofs.WantedImages.{IsNotedAndWritten, current_written}
 
 -- the bytes that a list has under a name, zeros where it has none
-abbrev text : ℕ → List Written → Link → List ℕ
-text page_bytes list name = option_map_or (λ bytes. bytes) (bytes_at list name) (replicate page_bytes 0)
+abbrev bytes_or_zeros : ℕ → List Written → Link → List ℕ
+bytes_or_zeros page_bytes list name = option_map_or (λ text. text.bytes) (text_at list name) (replicate page_bytes 0)
 
 -- each noted record of the unsure place can be spelled
 abbrev pub UnsureIsSpelled : FlashState → Noted → BlockTable → Unsure → Type 0
@@ -68,15 +70,15 @@ noted_read p page_bytes logical list (Holds rec) spelled pages =
     subst (λ o. IsSomeAnd o (λ r. (r.page < logical) × (r.next.page < logical))) (sym (record_of-spelling p rec (spelled rec refl))) (pages rec refl)
 
 -- a record in them has the bytes of its name
-noted_text : (p : Protocol) (page_bytes : ℕ) (list : List Written) (note : Note) → ((rec : Rec) → note ≡ Holds rec → CanBeSpelled p rec) →
-    (bytes spare : List ℕ) (rec : Rec) → contents_noted p page_bytes list note ≡ complete bytes spare → record_of p spare ≡ Some rec → bytes ≡ text page_bytes list (name_of rec)
-noted_text p page_bytes list Blank spelled bytes spare rec is reads = cc
-noted_text p page_bytes list Damaged spelled bytes spare rec is reads = cc
-noted_text p page_bytes list (Holds own) spelled bytes spare rec is reads =
-    let same_bytes : text page_bytes list (name_of own) ≡ bytes = cc in
+noted_bytes : (p : Protocol) (page_bytes : ℕ) (list : List Written) (note : Note) → ((rec : Rec) → note ≡ Holds rec → CanBeSpelled p rec) →
+    (bytes spare : List ℕ) (rec : Rec) → contents_noted p page_bytes list note ≡ complete bytes spare → record_of p spare ≡ Some rec → bytes ≡ bytes_or_zeros page_bytes list (name_of rec)
+noted_bytes p page_bytes list Blank spelled bytes spare rec is reads = cc
+noted_bytes p page_bytes list Damaged spelled bytes spare rec is reads = cc
+noted_bytes p page_bytes list (Holds own) spelled bytes spare rec is reads =
+    let same_bytes : bytes_or_zeros page_bytes list (name_of own) ≡ bytes = cc in
     let same_spare : spelling p own ≡ spare = cc in
     let same : own ≡ rec = same_Some own rec (sym (record_of-spelling p own (spelled own refl)) ∙ ap (record_of p) same_spare ∙ reads) in
-    sym same_bytes ∙ ap (λ r. text page_bytes list (name_of r)) same
+    sym same_bytes ∙ ap (λ r. bytes_or_zeros page_bytes list (name_of r)) same
 
 module _ (s : FlashState) (n : Noted) (t : BlockTable) (u : Unsure) (m : Matches s n t u) (spelled : UnsureIsSpelled s n t u) where
   abbrev p : Protocol
@@ -147,26 +149,26 @@ module _ (s : FlashState) (n : Noted) (t : BlockTable) (u : Unsure) (m : Matches
       (λ un. noted_read p n.config.page_bytes n.config.logical old (note_at n.notes slot) (spelled slot low un) (λ rec holds. pages slot rec holds low))
 
   one : IsOneText old
-  one = one_text old (records_scanned p s.image) m.sound.written.bytes
+  one = one_text p old n.config.logical m.sound.written.records (records_scanned p s.image) m.sound.written.bytes
 
-  old_text : (w : Written) → Contains old w → w.bytes ≡ text n.config.page_bytes old (name_of w.rec)
-  old_text w i = sym (ap (λ o. option_map_or (λ bytes. bytes) o (replicate n.config.page_bytes 0)) (bytes_of old w one i))
+  old_bytes : (w : Written) → Contains old w → w.bytes ≡ bytes_or_zeros n.config.page_bytes old (name_of w.rec)
+  old_bytes w i = sym (ap (λ o. option_map_or (λ text. text.bytes) o (replicate n.config.page_bytes 0)) (text_named old w one i))
 
   -- a record of it has the bytes of its name
-  known_text : (w : Written) → Contains new w → w.bytes ≡ text n.config.page_bytes old (name_of w.rec)
-  known_text w i =
+  known_bytes : (w : Written) → Contains new w → w.bytes ≡ bytes_or_zeros n.config.page_bytes old (name_of w.rec)
+  known_bytes w i =
       let r = is_read p known w i in
       let within : w.slot.0 < slots_of s.shape = (let low = r.within in omega (arith, length_known, m.flash.slots)) in
       r.reads.page
-      ∙ by_slot (λ contents. contents ≡ complete r.reads.bytes r.reads.spare → r.reads.bytes ≡ text n.config.page_bytes old (name_of w.rec)) w.slot.0 within
-      (λ sure is. old_text (written w.slot.0 w.rec r.reads.bytes)
+      ∙ by_slot (λ contents. contents ≡ complete r.reads.bytes r.reads.spare → r.reads.bytes ≡ bytes_or_zeros n.config.page_bytes old (name_of w.rec)) w.slot.0 within
+      (λ sure is. old_bytes (written w.slot.0 w.rec r.reads.bytes)
       (read_slot p s.image w.slot.0 r.reads.bytes r.reads.spare w.rec (omega (arith, m.flash.slots)) is r.reads.spells))
-      (λ un is. noted_text p n.config.page_bytes old (note_at n.notes w.slot.0) (spelled w.slot.0 within un) r.reads.bytes r.reads.spare w.rec is r.reads.spells)
+      (λ un is. noted_bytes p n.config.page_bytes old (note_at n.notes w.slot.0) (spelled w.slot.0 within un) r.reads.bytes r.reads.spare w.rec is r.reads.spells)
       r.reads.is
 
   known_agree : All (BytesAgree new) new
   known_agree = all_from (BytesAgree new) new (λ w i. all_from (λ v. v.slot.0 < w.slot.0 → name_of v.rec ≡ name_of w.rec → v.bytes ≡ w.bytes) new (λ v j lt same.
-      known_text v j ∙ ap (text n.config.page_bytes old) same ∙ sym (known_text w i)))
+      known_bytes v j ∙ ap (bytes_or_zeros n.config.page_bytes old) same ∙ sym (known_bytes w i)))
 
   removable : IsRemovable p (records_in p known) n.config.logical s.shape t.spare
   removable =
@@ -185,16 +187,27 @@ module _ (s : FlashState) (n : Noted) (t : BlockTable) (u : Unsure) (m : Matches
     };
   }
 
-  -- the current record of a page has its bytes
-  bytes_same : (page : ℕ) → bytes_at new (current_name_of n page) ≡ bytes_at old (current_name_of n page)
-  bytes_same page = elim (noted_present p n m.noted page) [
+  -- a record of it that is noted too is the one of the flash
+  record_known : (name : Link) (w : Written) → Contains new w → name_of w.rec ≡ name → (found : IsNotedAndWritten s n name) → w.rec ≡ found.written.rec
+  record_known name w i named found =
+      let copies = (sound_map p (found_in n.notes) n.config.logical m.noted.sound m.noted.scanned).copies in
+      copies (found_of w) (subst (λ l. Contains l (found_of w)) known_records (in_records new w i))
+      ∙ ap (record_named (found_in n.notes)) (named ∙ sym found.named)
+      ∙ sym (copies found.found found.noted) ∙ sym found.same
+
+  -- the current record of a page has its text
+  text_same : (page : ℕ) → text_at new (current_name_of n page) ≡ text_at old (current_name_of n page)
+  text_same page = elim (noted_present p n m.noted page) [
     | inl none ↦ none_at_zero p known (current_name_of n page) none ∙ sym (none_at_zero p s.image (current_name_of n page) none)
     | inr there ↦
         (let name = current_name_of n page in
-        let w = bytes_present new name (subst (λ l. is_present l name ≡ true) (sym known_records) there) in
-        let v = bytes_present old name (current_present s n t u m page there) in
-        let same : w.0.bytes ≡ v.0.bytes = known_text w.0 w.1 ∙ ap (text n.config.page_bytes old) (w.2 ∙ sym v.2) ∙ sym (old_text v.0 v.1) in
-        w.3 ∙ ap Some same ∙ sym v.3)
+        let w = text_present new name (subst (λ l. is_present l name ≡ true) (sym known_records) there) in
+        let h = current_written s n t u m page there in
+        let named : name_of h.written.rec ≡ name = ap name_of h.same ∙ h.named in
+        let bytes : w.0.bytes ≡ h.written.bytes =
+        known_bytes w.0 w.1 ∙ ap (bytes_or_zeros n.config.page_bytes old) (w.2 ∙ sym named) ∙ sym (old_bytes h.written h.reads) in
+        w.3 ∙ ap Some (same_text w.0 h.written (record_known name w.0 w.1 w.2 h) bytes)
+        ∙ sym (text_named old h.written one h.reads) ∙ ap (text_at old) named)
   ]
 
   -- and it stands for the array that is known
@@ -202,7 +215,8 @@ module _ (s : FlashState) (n : Noted) (t : BlockTable) (u : Unsure) (m : Matches
   unfolding array_in array_known current_of
   known_array =
       same_range (page_at p new n.config.logical) (page_known n s.image) n.config.logical (λ page within.
-      ap (λ l. bytes_at new (record { page = page; version = cur p l n.config.logical page })) known_records ∙ bytes_same page)
+      ap (λ l. value_at new (record { page = page; version = cur p l n.config.logical page })) known_records
+      ∙ ap (option_and_then value_of) (text_same page))
 
 -- a slot that is noted as blank holds no record
 blank_none : (n : Noted) (at : ℕ) → note_at n.notes at ≡ Blank → (slot : ℕ) → (slot == at) ≡ true → (rec : Rec) → note_at n.notes slot ≡ Holds rec →

@@ -4,6 +4,7 @@ use Rattle.std.proofs.lemmas.List.Elements.{All-contains}
 use Rattle.list_facts.proofs.Membership.{all_from, from_filter}
 use Rattle.tx_types.specs.Config.{shape_of, blocks_of}
 use Rattle.tx_types.specs.declared.record.Link.{Link}
+use Rattle.tx_types.specs.declared.record.Rec.{Rec}
 use Rattle.record_list.specs.declared.found.Found.{Found}
 use Rattle.record_list.specs.Records.{name_of, is_present}
 use Rattle.record_list.specs.Changes.{left, LossLaw, LossKeeps}
@@ -53,9 +54,9 @@ module _ (n : Noted) (noted : IsNoted n.config.protocol n) (law : LossLaw n.conf
   current_same page within =
       ap (λ l. cur n.config.protocol l n.config.logical page) is_left ∙ loses.same_current page within
 
-  held_less : (name : Link) → held_of (blocked n block note) name ≡ true → held_of n name ≡ true
+  held_less : (rec : Rec) → held_of (blocked n block note) rec ≡ true → held_of n rec ≡ true
   unfolding held_of
-  held_less name h = loses.held name (subst (λ l. is_held n.config.protocol l n.config.logical name ≡ true) is_left h)
+  held_less rec h = loses.held rec (subst (λ l. is_held n.config.protocol l n.config.logical rec ≡ true) is_left h)
 
   current_stays : (page : ℕ) → page < n.config.logical → IsThere n (current_name_of n page) → IsThere (blocked n block note) (current_name_of n page)
   unfolding current_of

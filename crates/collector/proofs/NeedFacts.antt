@@ -21,7 +21,7 @@ pub record IsHome (n : Noted) (at : ℕ) : Type 0 where
   pub slot : found.slot.0 ≡ at
   pub home : home_of n (name_of found.rec) ≡ Some at
   pub wanted : IsCurrent n.config.protocol (found_in n.notes) n.config.logical found.rec
-      ⊎ ((is_held n.config.protocol (found_in n.notes) n.config.logical (name_of found.rec) ≡ true) ⊎ Contains (pinned_names n.pins) (name_of found.rec))
+      ⊎ ((is_held n.config.protocol (found_in n.notes) n.config.logical found.rec ≡ true) ⊎ Contains (pinned_names n.pins) (name_of found.rec))
 
 slot_is : (at : ℕ) (o : Option ℕ) → is_slot at o ≡ true → o ≡ Some at
 slot_is at None e = cc

@@ -226,7 +226,7 @@ module _ (its : Config) (s : FlashState) (check : checked its ≡ Ok s.shape) (w
       is_wanted its.protocol (found_in n.notes) its.logical (pinned_names n.pins) f.rec ≡ true → is_present (left (is_outside sh spare) (found_in n.notes)) (name_of f.rec) ≡ true
   removable_spared removable f i w =
       let removable' = subst (λ l. IsRemovable its.protocol l its.logical sh spare) (sym same) removable in
-      let counted = All-contains (λ f. IsCurrent its.protocol (found_in n.notes) its.logical f.rec ⊎ (is_held its.protocol (found_in n.notes) its.logical (name_of f.rec) ≡ true) →
+      let counted = All-contains (λ f. IsCurrent its.protocol (found_in n.notes) its.logical f.rec ⊎ (is_held its.protocol (found_in n.notes) its.logical f.rec ≡ true) →
       is_present (left (is_outside sh spare) (found_in n.notes)) (name_of f.rec) ≡ true) (found_in n.notes) f removable' i in
       elim (wanted_cases its.protocol (found_in n.notes) its.logical (pinned_names n.pins) f.rec w) [
         | inl current ↦ counted (inl current)

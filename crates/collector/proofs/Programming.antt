@@ -126,7 +126,7 @@ module _ (n : Noted) (noted : IsNoted n.config.protocol n) (partial : PartialWri
       is_wanted p more n.config.logical (pinned_names n.pins) f.rec ≡ true → is_present (left keep more) (name_of f.rec) ≡ true
   open_case kept spared f i w = old_out f i spared (elim (wanted_cases p more n.config.logical (pinned_names n.pins) f.rec w) [
     | inl current ↦ counted_wanted p old n.config.logical (pinned_names n.pins) f.rec (inl (current ∙ kept.same_current f.rec.page (page_within f i)))
-    | inr (inl held) ↦ counted_wanted p old n.config.logical (pinned_names n.pins) f.rec (inr (sym (kept.same_held (name_of f.rec)) ∙ held))
+    | inr (inl held) ↦ counted_wanted p old n.config.logical (pinned_names n.pins) f.rec (inr (sym (kept.same_held f.rec) ∙ held))
     | inr (inr pin) ↦ pinned_wanted p old n.config.logical (pinned_names n.pins) f.rec pin
   ])
 
@@ -146,7 +146,7 @@ module _ (n : Noted) (noted : IsNoted n.config.protocol n) (partial : PartialWri
       is_wanted p more n.config.logical (pinned_names n.pins) f.rec ≡ true → is_present (left keep more) (name_of f.rec) ≡ true
   whole_case kept spared f i w = elim (wanted_cases p more n.config.logical (pinned_names n.pins) f.rec w) [
     | inl current ↦ current_case kept spared f i current (of_pages names f.rec.page)
-    | inr (inl held) ↦ elim (kept.held (name_of f.rec) held) [
+    | inr (inl held) ↦ elim (kept.held f.rec held) [
       | inl was_held ↦ old_out f i spared (counted_wanted p old n.config.logical (pinned_names n.pins) f.rec (inr was_held))
       | inr named ↦ own_out f i named
     ]

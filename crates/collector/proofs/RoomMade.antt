@@ -1,5 +1,5 @@
 -- Where no block has room and the spare is blank, some block has garbage; and once it was collected the old spare has room.
-use Rattle.std.proofs.Common.{◌≡◌, ◌≢◌, ◌⊎◌, ℕ, zero, ◌*◌, ◌/◌, ◌<◌, Bool, true, false, ◌||◌, eqb, eqb-true, eq-eqb, ne_eqb, List, zip, count_by, Contains, refl, sym, ap, ◌∙◌, subst, inl, inr, arith, if◌then◌else◌, suc, ◌+◌, ◌≤◌, ap₂}
+use Rattle.std.proofs.Common.{◌≡◌, ◌≢◌, ◌⊎◌, ℕ, ◌*◌, ◌/◌, ◌<◌, Bool, true, false, ◌||◌, eqb, eqb-true, eq-eqb, ne_eqb, List, zip, count_by, Contains, refl, sym, ap, ◌∙◌, subst, inl, inr, arith, if◌then◌else◌, suc, ◌+◌, ◌≤◌, ap₂}
 use Rattle.std.specs.List.{range_with_len}
 use Rattle.std.proofs.Math.ListN.{length-set}
 use Rattle.std.proofs.Math.Nat.{mul_comm}
@@ -17,7 +17,7 @@ use Rattle.flash_model.specs.Flash.{FlashState}
 use Rattle.record_list.specs.declared.found.Found.{Found}
 use Rattle.record_list.specs.Records.{name_of}
 use Rattle.record_list.specs.Current.{IsCurrent, responsible}
-use Rattle.record_list.specs.Transaction.{rounded, back_version, IsAsked, InProgress}
+use Rattle.record_list.specs.Transaction.{next_names, back_version, IsAsked, InProgress}
 use Rattle.record_list.specs.Written.{is_outside, is_slot}
 use Rattle.record_list.proofs.LossCounted.{responsible_high}
 use Rattle.record_list.proofs.Progress.{underway_of, name_loose, absent_name}
@@ -64,7 +64,7 @@ unanswered n noted ts h f i own =
     let after = follows_of ts (name_of f.rec) own in
     let asks = All-contains (λ g. IsAsked n.config.protocol (found_in n.notes) n.config.logical ts g.rec) (found_in n.notes) f h.begun.asked i in
     let pair = All-contains (λ (x : Link × Link). name_of f.rec ≡ x.0 → (f.rec.next ≡ x.1) × (f.rec.back ≡ back_version n.config.protocol (found_in n.notes) n.config.logical x.0.page))
-    (zip ts (rounded ts)) (name_of f.rec, after.0) asks after.1 in
+    (zip ts (next_names ts)) (name_of f.rec, after.0) asks after.1 in
     let link = (pair refl).0 in
     let gone = absent_name list ts h.absent in
     let loose = name_loose list logical ts (underway_of p list logical ts h.begun) p (sound_map p list logical noted.sound noted.scanned) gone.0 gone.1 gone.2

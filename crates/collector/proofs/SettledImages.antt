@@ -9,7 +9,7 @@ use Rattle.tx_types.specs.declared.config.Slot.{Slot}
 use Rattle.tx_types.specs.declared.record.Rec.{Rec}
 use Rattle.flash_model.specs.declared.flash.Seen.TheVariants as seen
 use Rattle.flash_model.specs.Flash.{FlashState, Contents, blank, damaged, complete, slot_at, counted_by}
-use Rattle.flash_model.specs.Calls.{Carries, Reads, seen_of, page_of, spare_of}
+use Rattle.flash_model.specs.Calls.{Carries, Reads, seen_of, page_of, spare_area_of}
 use Rattle.record_list.specs.Changes.{PartialWriteLaw, CompletingWriteLaw, CopyLaw, LossLaw}
 use Rattle.record_list.specs.Current.{cur}
 use Rattle.version_index.specs.declared.note.Note.TheVariants.{Blank, Damaged}
@@ -64,14 +64,14 @@ looks : (s : FlashState) (count : ℕ) → Looks (powered s) (looked count s) co
 looks s count = record { moment = refl; carries = carried s count; all = refl; some = tt }
 
 reads : (s : FlashState) (at : ℕ) (contents : Contents) → slot_at s.image at ≡ contents →
-    Reads (powered s) (looked 1 s) at (page_of s.shape.page_bytes contents) (spare_of contents) (Ok (seen_of contents))
+    Reads (powered s) (looked 1 s) at (page_of s.shape.page_bytes contents) (spare_area_of contents) (Ok (seen_of contents))
 reads s at contents is = record {
   carries = carried s 1;
   powered = refl;
   done = record {
     how_it_reads = ap seen_of (sym is);
     its_page = ap (page_of s.shape.page_bytes) (sym is);
-    its_spare = ap spare_of (sym is);
+    its_spare_area = ap spare_area_of (sym is);
   };
   image = refl;
   programs = refl;

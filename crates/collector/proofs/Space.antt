@@ -36,29 +36,29 @@ use Rattle.version_index.specs.Noted.{Noted, IsNoted, needed_of, home_of, pinned
 use Rattle.version_index.proofs.FoundIn.{found, noted_from, noted_in}
 use Rattle.collector.proofs.NeedFacts.{IsHome, home_needed, found_home}
 
--- a held name is at most the current version of its page
-pub held_low : (l : List Found) (n : ℕ) (name : Link) → is_held Bpcc l n name ≡ true → name.version ≤ cur Bpcc l n name.page
-held_low l n name h =
-    let any = any_of (λ f. answers_for Bpcc l n name f.rec) l h in
-    let a = answer_of l n name any.0.rec any.2 in
-    let r = responsible_at Bpcc l n any.0.rec.next (let v = a.version in let s = a.some in omega arith) in
+-- a held record is at most the current one of its page
+pub held_low : (l : List Found) (n : ℕ) (s : Rec) → is_held Bpcc l n s ≡ true → s.version ≤ cur Bpcc l n s.page
+held_low l n s h =
+    let any = any_of (λ f. answers_for Bpcc l n s f.rec) l h in
+    let a = answer_of l n s any.0.rec any.2 in
+    let r = responsible_at Bpcc l n any.0.rec.next (let v = a.version in let under = a.under in omega arith) in
     let low : r.at.rec.version ≤ cur Bpcc l n any.0.rec.next.page = r.low in
-    let same : r.at.rec.version ≡ name.version = r.version ∙ a.version in
-    let page : cur Bpcc l n any.0.rec.next.page ≡ cur Bpcc l n name.page = ap (cur Bpcc l n) a.page in
+    let same : r.at.rec.version ≡ s.version = r.version ∙ a.version in
+    let page : cur Bpcc l n any.0.rec.next.page ≡ cur Bpcc l n s.page = ap (cur Bpcc l n) a.page in
     omega arith
 
--- where a name is held, some record is loose and has a responsible one
+-- where a record is held, some record is loose and has a responsible one
 pub record HasAnswered (l : List Found) (n : ℕ) : Type 0 where
   pub found : Found
   pub is_in : Contains l found
   pub loose : cur Bpcc l n found.rec.page < found.rec.version
   pub answered : 1 ≤ responsible Bpcc l n found.rec.next
 
-pub answered_one : (l : List Found) (n : ℕ) (name : Link) → is_held Bpcc l n name ≡ true → HasAnswered l n
-answered_one l n name h =
-    let any = any_of (λ f. answers_for Bpcc l n name f.rec) l h in
-    let a = answer_of l n name any.0.rec any.2 in
-    record { found = any.0; is_in = any.1; loose = a.loose; answered = (let v = a.version in let s = a.some in omega arith) }
+pub answered_one : (l : List Found) (n : ℕ) (s : Rec) → is_held Bpcc l n s ≡ true → HasAnswered l n
+answered_one l n s h =
+    let any = any_of (λ f. answers_for Bpcc l n s f.rec) l h in
+    let a = answer_of l n s any.0.rec any.2 in
+    record { found = any.0; is_in = any.1; loose = a.loose; answered = (let v = a.version in let under = a.under in omega arith) }
 
 -- the place of a name in a list
 place : List Link → Link → ℕ
@@ -174,8 +174,8 @@ module _ (n : Noted) (spare : ℕ) (h : IsFilled n spare) where
       elim x.wanted [
         | inl current ↦ current_not (subst (λ (f : Found). IsCurrent n.config.protocol list logical f.rec) same current)
         | inr (inl held) ↦
-            (let low = held_low list logical (name_of y.found.rec) (subst (λ q. is_held q list logical (name_of y.found.rec) ≡ true) rule
-            (subst (λ (f : Found). is_held n.config.protocol list logical (name_of f.rec) ≡ true) same held)) in
+            (let low = held_low list logical y.found.rec (subst (λ q. is_held q list logical y.found.rec ≡ true) rule
+            (subst (λ (f : Found). is_held n.config.protocol list logical f.rec ≡ true) same held)) in
             let loose = y.loose in absurd (omega arith))
         | inr (inr pin) ↦ elim (h.pins y.found y.is_in (subst (λ (f : Found). Contains pinned (name_of f.rec)) same pin)) [
           | inl current ↦ current_not current
@@ -190,9 +190,9 @@ module _ (n : Noted) (spare : ℕ) (h : IsFilled n spare) where
           let is : y.found.rec.version ≡ cur Bpcc list logical y.found.rec.page = subst (λ q. y.found.rec.version ≡ cur q list logical y.found.rec.page) rule c in
           let loose = y.loose in absurd (omega arith)
 
-  none_held : (q : Protocol) → n.config.protocol ≡ q → (name : Link) → is_held q list logical name ≡ true → ⊥
-  none_held Scc rule name held = cc
-  none_held Bpcc rule name held = none_answered rule (answered_one list logical name held)
+  none_held : (q : Protocol) → n.config.protocol ≡ q → (r : Rec) → is_held q list logical r ≡ true → ⊥
+  none_held Scc rule r held = cc
+  none_held Bpcc rule r held = none_answered rule (answered_one list logical r held)
 
   -- the record of a slot outside the spare is current or pinned
   pub record CurrentOrPinned (slot : ℕ) : Type 0 where
@@ -214,7 +214,7 @@ module _ (n : Noted) (spare : ℕ) (h : IsFilled n spare) where
         home = x.home;
         why = elim x.wanted [
           | inl current ↦ inl current
-          | inr (inl held) ↦ absurd (none_held n.config.protocol refl (name_of x.found.rec) held)
+          | inr (inl held) ↦ absurd (none_held n.config.protocol refl x.found.rec held)
           | inr (inr pin) ↦ inr pin
         ];
       }

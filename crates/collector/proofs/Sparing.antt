@@ -10,19 +10,20 @@ use Rattle.record_list.specs.Records.{name_of, has_name, is_present}
 use Rattle.record_list.specs.Changes.{left}
 use Rattle.record_list.specs.Written.{is_outside, is_outside_spare, is_wanted}
 use Rattle.record_list.proofs.Names.{found_named, present_as, has_own_name, has_name_true}
+use Rattle.record_list.proofs.LossAmong.{IsOneEach}
 use Rattle.version_index.specs.Notes.{note_at, found_in}
 use Rattle.version_index.specs.Noted.{Noted, needed_of, home_of, pinned_names}
 use Rattle.version_index.proofs.FoundIn.{found, noted_from, noted_in}
 use Rattle.version_index.proofs.HomeFacts.{first_stands}
 use Rattle.collector.specs.Matches.{CanSpare}
-use Rattle.collector.proofs.Homes.{first_of, stands_off, home_off, wanted_by_name, home_is_needed}
+use Rattle.collector.proofs.Homes.{first_of, stands_off, home_off, home_is_needed}
 
 -- a needed slot of the block has its note in a slot outside the block too
 abbrev pub HasCopy : Noted → ℕ → ℕ → Type 0
 HasCopy n block slot =
     (other : ℕ) × (other < length n.notes) × (is_outside (shape_of n.config) block other ≡ true) × (note_at n.notes other ≡ note_at n.notes slot)
 
-module _ (n : Noted) (spare block : ℕ) (is_spare : n.spare ≡ Some spare) (spared : CanSpare n spare)
+module _ (n : Noted) (spare block : ℕ) (one : IsOneEach (found_in n.notes)) (is_spare : n.spare ≡ Some spare) (spared : CanSpare n spare)
     (copies : (slot : ℕ) → is_outside (shape_of n.config) block slot ≡ false → needed_of n slot ≡ true → HasCopy n block slot) where
   abbrev all : List Found
   all = found_in n.notes
@@ -53,7 +54,7 @@ module _ (n : Noted) (spare block : ℕ) (is_spare : n.spare ≡ Some spare) (sp
       let named : name_of q.found.rec ≡ name =
       has_name_true name q.found.rec (and_parts (has_name name q.found.rec) (is_outside_spare (shape_of n.config) n.spare q.found.slot.0) q.passes).0 in
       let at_home : home_of n (name_of q.found.rec) ≡ Some first.0 = ap (home_of n) named ∙ home_off (shape_of n.config) n.spare all name first.0 first.1 in
-      let its_wanted = wanted_by_name n.config.protocol all n.config.logical (pinned_names n.pins) q.found.rec f.rec named ∙ wanted in
+      let its_wanted = subst (λ r. is_wanted n.config.protocol all n.config.logical (pinned_names n.pins) r ≡ true) (sym (one.same q.found f q.is_in i named)) wanted in
       let needed : needed_of n q.found.slot.0 ≡ true = subst (λ k. needed_of n k ≡ true) (sym q.its_slot) (home_is_needed n q.found first.0 q.is_in q.its_slot at_home its_wanted) in
       subst (λ u. is_present (left (is_outside (shape_of n.config) block) all) u ≡ true) named
       (elim (cases_Bool (is_outside (shape_of n.config) block q.found.slot.0)) [

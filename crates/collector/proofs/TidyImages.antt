@@ -100,14 +100,14 @@ module _ (s : FlashState) (n : Noted) (t : BlockTable) (m : Matches s n t unsure
 
   wanted : (f : Found) → Contains list f →
       IsCurrent n.config.protocol list n.config.logical f.rec
-      ⊎ ((is_held n.config.protocol list n.config.logical (name_of f.rec) ≡ true) ⊎ Contains (pinned_names n.pins) (name_of f.rec))
+      ⊎ ((is_held n.config.protocol list n.config.logical f.rec ≡ true) ⊎ Contains (pinned_names n.pins) (name_of f.rec))
   wanted f i =
       subst (λ (x : Found). IsCurrent n.config.protocol list n.config.logical x.rec
-      ⊎ ((is_held n.config.protocol list n.config.logical (name_of x.rec) ≡ true) ⊎ Contains (pinned_names n.pins) (name_of x.rec))) (found_home n m.noted f i (record_home f i)) (record_home f i).wanted
+      ⊎ ((is_held n.config.protocol list n.config.logical x.rec ≡ true) ⊎ Contains (pinned_names n.pins) (name_of x.rec))) (found_home n m.noted f i (record_home f i)) (record_home f i).wanted
 
   abbrev WantedIn : List Found → Type 0
   WantedIn l = All (λ f. IsCurrent n.config.protocol l n.config.logical f.rec
-      ⊎ ((is_held n.config.protocol l n.config.logical (name_of f.rec) ≡ true) ⊎ Contains (pinned_names n.pins) (name_of f.rec))) l
+      ⊎ ((is_held n.config.protocol l n.config.logical f.rec ≡ true) ⊎ Contains (pinned_names n.pins) (name_of f.rec))) l
 
   pub tidy : IsTidy n.config.protocol n.config.logical s.image (pinned_names n.pins)
   tidy =
@@ -116,5 +116,5 @@ module _ (s : FlashState) (n : Noted) (t : BlockTable) (m : Matches s n t unsure
         whole = All-from_get_or (λ contents. contents ≢ damaged) s.image blank whole_at;
         once = subst (AllPairs (λ f g. name_of f.rec ≢ name_of g.rec)) same once;
         wanted = subst WantedIn same (all_from (λ f. IsCurrent n.config.protocol list n.config.logical f.rec
-            ⊎ ((is_held n.config.protocol list n.config.logical (name_of f.rec) ≡ true) ⊎ Contains (pinned_names n.pins) (name_of f.rec))) list wanted);
+            ⊎ ((is_held n.config.protocol list n.config.logical f.rec ≡ true) ⊎ Contains (pinned_names n.pins) (name_of f.rec))) list wanted);
       }

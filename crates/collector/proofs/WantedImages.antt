@@ -11,7 +11,7 @@ use Rattle.record_list.specs.declared.found.Found.{Found}
 use Rattle.record_list.specs.Current.{cur}
 use Rattle.record_list.specs.Records.{name_of, is_present}
 use Rattle.record_list.specs.Changes.{left}
-use Rattle.record_list.specs.Written.{is_outside, is_wanted}
+use Rattle.record_list.specs.Written.{Written, found_of, is_outside, is_wanted}
 use Rattle.record_list.proofs.Names.{found_named, present_as}
 use Rattle.record_list.proofs.Wanted.{counted_wanted, pinned_wanted}
 use Rattle.record_list.proofs.WrittenLists.{in_records}
@@ -34,16 +34,18 @@ module _ (s : FlashState) (n : Noted) (t : BlockTable) (u : Unsure) (m : Matches
   list = found_in n.notes
 
   -- a record of a slot outside the unsure place is one of the image
-  pub sure_present : (f : Found) → Contains list f → is_unsure s.shape t.spare u f.slot.0 ≡ false → is_present (records_in n.config.protocol s.image) (name_of f.rec) ≡ true
-  sure_present f i sure =
+  sure_written : (f : Found) → Contains list f → is_unsure s.shape t.spare u f.slot.0 ≡ false →
+      (w : Written) × Contains (written_in n.config.protocol s.image) w × (w.rec ≡ f.rec)
+  sure_written f i sure =
       let at = noted_from n.notes f i in
       let slots = m.noted.slots in
       let within : f.slot.0 < slots_of s.shape = (let low = at.0 in omega (arith, ap slots_of m.shape)) in
       let reads = noted_record n.config.protocol f.rec (slot_at s.image f.slot.0) (sym at.1 ∙ m.sure f.slot.0 within sure) in
-      let long : f.slot.0 < length s.image = omega (arith, m.flash.slots) in
-      let w = written f.slot.0 f.rec reads.bytes in
-      present_as (records_in n.config.protocol s.image) f (name_of f.rec)
-      (in_records (written_in n.config.protocol s.image) w (read_slot n.config.protocol s.image f.slot.0 reads.bytes reads.spare f.rec long reads.is reads.spells)) refl
+      let long : f.slot.0 < length s.image = omega (arith, m.flash.slots) in (
+        written f.slot.0 f.rec reads.bytes,
+        read_slot n.config.protocol s.image f.slot.0 reads.bytes reads.spare f.rec long reads.is reads.spells,
+        refl,
+      )
 
 abbrev IsWanted : Noted → Link → Type 0
 IsWanted n name = (f : Found) → Contains (found_in n.notes) f → name_of f.rec ≡ name →
@@ -91,22 +93,41 @@ sure_one s n t (unsure.VictimErase block) m name there wanted =
     let f = outside_one s n t (unsure.VictimErase block) m block.0 m.victim name there wanted in
     record { found = f.0; is_in = f.1; named = f.2; sure = f.3 }
 
-module _ (s : FlashState) (n : Noted) (t : BlockTable) (u : Unsure) (m : Matches s n t u) where
-  wanted_present : (name : Link) → IsThere n name → IsWanted n name → is_present (records_in n.config.protocol s.image) name ≡ true
-  wanted_present name there wanted =
-      let f = sure_one s n t u m name there wanted in
-      subst (λ y. is_present (records_in n.config.protocol s.image) y ≡ true) f.named (sure_present s n t u m f.found f.is_in f.sure)
+-- a record of this name that is noted and stands in the image
+pub record IsNotedAndWritten (s : FlashState) (n : Noted) (name : Link) : Type 0 where
+  pub found : Found
+  pub written : Written
+  pub noted : Contains (found_in n.notes) found
+  pub reads : Contains (written_in n.config.protocol s.image) written
+  pub named : name_of found.rec ≡ name
+  pub same : written.rec ≡ found.rec
 
-  -- a current name that is noted is in the image
-  pub current_present : (page : ℕ) → IsThere n (current_name_of n page) → is_present (records_in n.config.protocol s.image) (current_name_of n page) ≡ true
+is_written : (s : FlashState) (n : Noted) (name : Link) → IsNotedAndWritten s n name → is_present (records_in n.config.protocol s.image) name ≡ true
+is_written s n name h =
+    present_as (records_in n.config.protocol s.image) (found_of h.written) name (in_records (written_in n.config.protocol s.image) h.written h.reads)
+    (ap name_of h.same ∙ h.named)
+
+module _ (s : FlashState) (n : Noted) (t : BlockTable) (u : Unsure) (m : Matches s n t u) where
+  wanted_written : (name : Link) → IsThere n name → IsWanted n name → IsNotedAndWritten s n name
+  wanted_written name there wanted =
+      let f = sure_one s n t u m name there wanted in
+      let w = sure_written s n t u m f.found f.is_in f.sure in
+      record { found = f.found; written = w.0; noted = f.is_in; reads = w.1; named = f.named; same = w.2 }
+
+  -- a current name that is noted has a record that is noted and stands in the image
+  pub current_written : (page : ℕ) → IsThere n (current_name_of n page) → IsNotedAndWritten s n (current_name_of n page)
   unfolding current_of
-  current_present page there = wanted_present (current_name_of n page) there (λ f i named.
+  current_written page there = wanted_written (current_name_of n page) there (λ f i named.
       let at_page : f.rec.page ≡ page = ap (λ (y : Link). y.page) named in
       let version : f.rec.version ≡ cur n.config.protocol (found_in n.notes) n.config.logical page = ap (λ (y : Link). y.version) named in
       counted_wanted n.config.protocol (found_in n.notes) n.config.logical (pinned_names n.pins) f.rec
       (inl (version ∙ ap (cur n.config.protocol (found_in n.notes) n.config.logical) (sym at_page))))
 
+  -- so it is in the image
+  pub current_present : (page : ℕ) → IsThere n (current_name_of n page) → is_present (records_in n.config.protocol s.image) (current_name_of n page) ≡ true
+  current_present page there = is_written s n (current_name_of n page) (current_written page there)
+
   -- and so is a pinned one
   pub pinned_present : (name : Link) → IsThere n name → Contains (pinned_names n.pins) name → is_present (records_in n.config.protocol s.image) name ≡ true
-  pinned_present name there pin = wanted_present name there (λ f i named.
-      pinned_wanted n.config.protocol (found_in n.notes) n.config.logical (pinned_names n.pins) f.rec (subst (Contains (pinned_names n.pins)) (sym named) pin))
+  pinned_present name there pin = is_written s n name (wanted_written name there (λ f i named.
+      pinned_wanted n.config.protocol (found_in n.notes) n.config.logical (pinned_names n.pins) f.rec (subst (Contains (pinned_names n.pins)) (sym named) pin)))

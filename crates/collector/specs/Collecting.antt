@@ -6,7 +6,7 @@ use Rattle.tx_types.specs.declared.config.BlockState.TheVariants.{Clean, Part, S
 use Rattle.flash_model.specs.declared.flash.Seen.{Seen}
 use Rattle.flash_model.specs.declared.flash.Seen.TheVariants as seen
 use Rattle.flash_model.specs.Flash.{FlashState, Contents, blank, damaged, complete, slot_at, counted}
-use Rattle.flash_model.specs.Calls.{page_of, spare_of}
+use Rattle.flash_model.specs.Calls.{page_of, spare_area_of}
 use Rattle.flash_model.specs.Operations.{Operation, program, erase, moment_of}
 use Rattle.flash_model.specs.Moves.{Does}
 use Rattle.tx_types.specs.declared.config.Slot.{Slot}
@@ -47,7 +47,7 @@ needed_slots n block = filter (needed_of n) (slots_in n block)
 -- the program of a copy
 abbrev pub copy_program : ℕ → List Contents → ℕ → ℕ → Operation
 copy_program page_bytes image to from =
-    program to (page_of page_bytes (slot_at image from)) (spare_of (slot_at image from))
+    program to (page_of page_bytes (slot_at image from)) (spare_area_of (slot_at image from))
 
 -- the programs of the copies of these slots, one after another from a slot of the spare on
 abbrev pub copies : ℕ → List Contents → ℕ → List ℕ → List Operation

@@ -9,7 +9,7 @@ use Rattle.tx_types.specs.declared.config.Shape.{Shape}
 use Rattle.flash_model.specs.Flash.{Contents, blank, damaged, complete}
 use Rattle.page_record.specs.Spelling.{spelling}
 use Rattle.record_list.specs.Records.{name_of}
-use Rattle.record_list.specs.Written.{Written, bytes_at, is_outside}
+use Rattle.record_list.specs.Written.{Written, text_at, value_at, is_outside}
 use Rattle.version_index.specs.declared.note.Note.{Note}
 use Rattle.version_index.specs.declared.note.Note.TheVariants.{Blank, Damaged, Holds}
 use Rattle.version_index.specs.Images.{written_in}
@@ -32,7 +32,7 @@ abbrev pub contents_noted : Protocol → ℕ → List Written → Note → Conte
 contents_noted protocol page_bytes list Blank = blank
 contents_noted protocol page_bytes list Damaged = damaged
 contents_noted protocol page_bytes list (Holds rec) =
-    complete (option_map_or (λ bytes. bytes) (bytes_at list (name_of rec)) (replicate page_bytes 0))
+    complete (option_map_or (λ text. text.bytes) (text_at list (name_of rec)) (replicate page_bytes 0))
     (spelling protocol rec)
 
 abbrev pub contents_known : Noted → ℕ → Unsure → List Contents → ℕ → Contents → Contents
@@ -47,9 +47,9 @@ known_image n spare unsure image =
     map (λ (slot, contents). contents_known n spare unsure image slot contents)
     (enumerate_from 0 image)
 
--- what the known image has at a page: the bytes that the flash has under the name of the page's current record
+-- what the known image has at a page: what the flash has under the name of the page's current record
 abbrev pub page_known : Noted → List Contents → ℕ → Option (List ℕ)
-page_known n image page = bytes_at (written_in n.config.protocol image) (current_name_of n page)
+page_known n image page = value_at (written_in n.config.protocol image) (current_name_of n page)
 
 -- the array of pages that the known image stands for
 unfoldable pub array_known : Noted → List Contents → List (Option (List ℕ))

@@ -1,11 +1,12 @@
--- What stays of what is noted, and of the bytes, while blocks are collected.
+-- What stays of what is noted, and of the texts, while blocks are collected.
 use Rattle.std.specs.Prelude.{◌≡◌, ℕ, ◌<◌, true, List, Contains}
 use Rattle.tx_types.specs.declared.config.Protocol.{Protocol}
 use Rattle.tx_types.specs.declared.record.Link.{Link}
+use Rattle.tx_types.specs.declared.record.Rec.{Rec}
 use Rattle.flash_model.specs.Flash.{Contents}
 use Rattle.record_list.specs.Records.{is_present}
 use Rattle.record_list.specs.Transaction.{InProgress}
-use Rattle.record_list.specs.Written.{bytes_at}
+use Rattle.record_list.specs.Written.{text_at}
 use Rattle.version_index.specs.Images.{written_in, records_in, array_in}
 use Rattle.version_index.specs.Notes.{found_in}
 use Rattle.version_index.specs.Noted.{Noted, current_of, current_name_of, held_of, pinned_names}
@@ -27,13 +28,13 @@ pub record Preserves (old new : Noted) : Type 0 where
   pub present :
       (page : ℕ) → page < old.config.logical → IsThere old (current_name_of old page) →
       IsThere new (current_name_of old page)
-  pub held : (name : Link) → held_of new name ≡ true → held_of old name ≡ true
+  pub held : (rec : Rec) → held_of new rec ≡ true → held_of old rec ≡ true
   pub in_progress : (names : List Link) →
       InProgress old.config.protocol (found_in old.notes) old.config.logical names →
       InProgress old.config.protocol (found_in new.notes) old.config.logical names
 
--- The image stands for the same array, and a name that it has now has the bytes that it had.
+-- The image stands for the same array, and a name that it has now has the text that it had.
 pub record KeepsArray (protocol : Protocol) (logical : ℕ) (old new : List Contents) : Type 0 where
   pub array : array_in protocol logical new ≡ array_in protocol logical old
-  pub bytes : (name : Link) → is_present (records_in protocol new) name ≡ true →
-      bytes_at (written_in protocol new) name ≡ bytes_at (written_in protocol old) name
+  pub texts : (name : Link) → is_present (records_in protocol new) name ≡ true →
+      text_at (written_in protocol new) name ≡ text_at (written_in protocol old) name

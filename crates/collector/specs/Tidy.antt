@@ -13,6 +13,6 @@ pub record IsTidy (protocol : Protocol) (logical : ℕ) (image : List Contents)
   pub whole : All (λ contents. contents ≢ damaged) image
   pub once : AllPairs (λ f g. name_of f.rec ≢ name_of g.rec) (records_in protocol image)
   pub wanted : All (λ f. IsCurrent protocol (records_in protocol image) logical f.rec
-      ⊎ ((is_held protocol (records_in protocol image) logical (name_of f.rec) ≡ true)
+      ⊎ ((is_held protocol (records_in protocol image) logical f.rec ≡ true)
       ⊎ Contains names (name_of f.rec)))
       (records_in protocol image)

@@ -24,7 +24,7 @@ pub(crate) fn settle_spare<F: Flash, R: CommitRule>(
     room: &mut [u8],
 ) -> Result<(), Broken>
     requires matches { Matches (F.state flash.old) index.old blocks.now Unsure.SpareErase }
-    requires rule { index.old.config.protocol ≡ R.kept }
+    requires rule { index.old.config.protocol ≡ R.protocol }
     requires room { length room.old ≡ index.old.config.page_bytes }
     ensures matches { OnOk result
         (Matches (F.state flash.new) index.new blocks.now Unsure.Nothing) }
@@ -59,7 +59,7 @@ pub(crate) fn settle_victim<F: Flash, R: CommitRule>(
     block: Block,
 ) -> Result<(), Broken>
     requires matches { Matches (F.state flash.old) index.old blocks.old (Unsure.VictimErase block) }
-    requires rule { index.old.config.protocol ≡ R.kept }
+    requires rule { index.old.config.protocol ≡ R.protocol }
     requires room { length room.old ≡ index.old.config.page_bytes }
     ensures matches { OnOk result
         (Matches (F.state flash.new) index.new blocks.new Unsure.Nothing) }

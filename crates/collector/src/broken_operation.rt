@@ -24,7 +24,7 @@ pub fn settle<F: Flash, R: CommitRule>(
     room: &mut [u8],
 ) -> Result<Settled, Broken>
     requires matches { Matches (F.state flash.old) index.old blocks.old unsure.old }
-    requires rule { index.old.config.protocol ≡ R.kept }
+    requires rule { index.old.config.protocol ≡ R.protocol }
     requires own { CanTake index.old blocks.old unsure.old }
     requires room { length room.old ≡ index.old.config.page_bytes }
     ensures matches { Matches (F.state flash.new) index.new blocks.new unsure.new }

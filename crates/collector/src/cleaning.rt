@@ -28,10 +28,10 @@ pub fn clean_spare<F: Flash, R: CommitRule>(
 ) -> Result<(), Broken>
     requires nothing { unsure.old ≡ Unsure.Nothing }
     requires matches { Matches (F.state flash.old) index.old blocks.old unsure.old }
-    requires rule { index.old.config.protocol ≡ R.kept }
+    requires rule { index.old.config.protocol ≡ R.protocol }
     ensures matches { Matches (F.state flash.new) index.new blocks.new unsure.new }
     ensures preserves { Preserves index.old index.new }
-    ensures array { KeepsArray R.kept index.old.config.logical
+    ensures array { KeepsArray R.protocol index.old.config.logical
         (F.state flash.old).image (F.state flash.new).image }
     // After Ok the spare is all blank, by one erase or none, and all else is as before.
     ensures done { OnOk result (Does (F.state flash.old).shape (moment_of (F.state flash.old))

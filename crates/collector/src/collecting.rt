@@ -37,14 +37,14 @@ pub fn collect<F: Flash, R: CommitRule>(
 ) -> Result<(), Broken>
     requires nothing { unsure.old ≡ Unsure.Nothing }
     requires matches { Matches (F.state flash.old) index.old blocks.old unsure.old }
-    requires rule { index.old.config.protocol ≡ R.kept }
+    requires rule { index.old.config.protocol ≡ R.protocol }
     requires exists { block.0 < blocks_of (shape_of index.old.config) }
     requires not_spare { block.0 ≢ blocks.old.spare }
     requires unneeded { HasUnneeded index.old block.0 }
     requires room { length room.old ≡ index.old.config.page_bytes }
     ensures matches { Matches (F.state flash.new) index.new blocks.new unsure.new }
     ensures preserves { Preserves index.old index.new }
-    ensures array { KeepsArray R.kept index.old.config.logical
+    ensures array { KeepsArray R.protocol index.old.config.logical
         (F.state flash.old).image (F.state flash.new).image }
     // After Ok exactly these operations were done, and the tables say so.
     ensures done { OnOk result (Does (F.state flash.old).shape (moment_of (F.state flash.old))
@@ -89,7 +89,7 @@ fn copy_needed<F: Flash, R: CommitRule>(
 ) -> Result<u32, Broken>
     requires nothing { unsure.old ≡ Unsure.Nothing }
     requires matches { Matches (F.state flash.old) index.old blocks.now unsure.old }
-    requires rule { index.old.config.protocol ≡ R.kept }
+    requires rule { index.old.config.protocol ≡ R.protocol }
     requires exists { block.0 < blocks_of (shape_of index.old.config) }
     requires not_spare { block.0 ≢ blocks.now.spare }
     requires blank { IsNextOfSpare index.old blocks.now.spare
@@ -97,7 +97,7 @@ fn copy_needed<F: Flash, R: CommitRule>(
     requires room { length room.old ≡ index.old.config.page_bytes }
     ensures matches { Matches (F.state flash.new) index.new blocks.now unsure.new }
     ensures preserves { Preserves index.old index.new }
-    ensures array { KeepsArray R.kept index.old.config.logical
+    ensures array { KeepsArray R.protocol index.old.config.logical
         (F.state flash.old).image (F.state flash.new).image }
     ensures copied { IfOk result (λ used. CopiesDone index.old index.new
         (F.state flash.old) (F.state flash.new) blocks.now.spare block.0 used) }

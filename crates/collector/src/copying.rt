@@ -35,14 +35,14 @@ pub(crate) fn copy_record<F: Flash, R: CommitRule>(
 ) -> Result<(), Broken>
     requires nothing { unsure.old ≡ Unsure.Nothing }
     requires matches { Matches (F.state flash.old) index.old blocks.now unsure.old }
-    requires rule { index.old.config.protocol ≡ R.kept }
+    requires rule { index.old.config.protocol ≡ R.protocol }
     requires room { length room.old ≡ index.old.config.page_bytes }
     requires source { IsSome (rec_of (note_at index.old.notes from.0)) }
     requires exists { from.0 < slots_of (shape_of index.old.config) }
     requires next { IsNextOfSpare index.old blocks.now.spare to.0 }
     ensures matches { Matches (F.state flash.new) index.new blocks.now unsure.new }
     ensures preserves { Preserves index.old index.new }
-    ensures array { KeepsArray R.kept index.old.config.logical
+    ensures array { KeepsArray R.protocol index.old.config.logical
         (F.state flash.old).image (F.state flash.new).image }
     ensures done { OnOk result (CopyDone index.old
         (F.state flash.old) (F.state flash.new) from.0 to.0) }
@@ -57,9 +57,9 @@ pub(crate) fn copy_record<F: Flash, R: CommitRule>(
     ensures moves { FlashMoves (F.state flash.old) (F.state flash.new) (is_err result) }
     ensures carries { Carries (F.state flash.old) (F.state flash.new) (is_err result) }
 {
-    let mut spare = [0; 64];
-    flash.read(from, room, &mut spare)?;
-    if let Err(broken) = flash.program(to, room, &spare) {
+    let mut spare_area = [0; 64];
+    flash.read(from, room, &mut spare_area)?;
+    if let Err(broken) = flash.program(to, room, &spare_area) {
         *unsure = Unsure::Copy { from, to };
         return Err(broken);
     }

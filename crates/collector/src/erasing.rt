@@ -23,11 +23,11 @@ pub(crate) fn erase_spare<F: Flash, R: CommitRule>(
 ) -> Result<(), Broken>
     requires nothing { unsure.old ≡ Unsure.Nothing }
     requires matches { Matches (F.state flash.old) index.old blocks.now unsure.old }
-    requires rule { index.old.config.protocol ≡ R.kept }
+    requires rule { index.old.config.protocol ≡ R.protocol }
     ensures erases { Erases (F.state flash.old) (F.state flash.new) blocks.now.spare result }
     ensures matches { Matches (F.state flash.new) index.new blocks.now unsure.new }
     ensures preserves { Preserves index.old index.new }
-    ensures array { KeepsArray R.kept index.old.config.logical
+    ensures array { KeepsArray R.protocol index.old.config.logical
         (F.state flash.old).image (F.state flash.new).image }
     ensures done { OnOk result ((unsure.new ≡ Unsure.Nothing)
         × (index.new ≡ erased index.old blocks.now.spare)) }
@@ -54,7 +54,7 @@ pub(crate) fn erase_victim<F: Flash, R: CommitRule>(
 ) -> Result<(), Broken>
     requires nothing { unsure.old ≡ Unsure.Nothing }
     requires matches { Matches (F.state flash.old) index.old blocks.old unsure.old }
-    requires rule { index.old.config.protocol ≡ R.kept }
+    requires rule { index.old.config.protocol ≡ R.protocol }
     requires exists { block.0 < blocks_of (shape_of index.old.config) }
     requires not_spare { block.0 ≢ blocks.old.spare }
     requires spared { CanSpare index.old block.0 }
@@ -62,7 +62,7 @@ pub(crate) fn erase_victim<F: Flash, R: CommitRule>(
     ensures erases { Erases (F.state flash.old) (F.state flash.new) block.0 result }
     ensures matches { Matches (F.state flash.new) index.new blocks.new unsure.new }
     ensures preserves { Preserves index.old index.new }
-    ensures array { KeepsArray R.kept index.old.config.logical
+    ensures array { KeepsArray R.protocol index.old.config.logical
         (F.state flash.old).image (F.state flash.new).image }
     ensures done { OnOk result ((unsure.new ≡ Unsure.Nothing)
         × (index.new ≡ with_spare (erased index.old block.0) block.0)

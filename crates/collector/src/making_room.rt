@@ -40,13 +40,13 @@ pub fn clear<F: Flash, R: CommitRule>(
 ) -> Result<(), Broken>
     requires nothing { unsure.old ≡ Unsure.Nothing }
     requires matches { Matches (F.state flash.old) index.old blocks.old unsure.old }
-    requires rule { index.old.config.protocol ≡ R.kept }
+    requires rule { index.old.config.protocol ≡ R.protocol }
     requires next { (names : List Link) × IsNextName index.old names
         (record { page = page; version = below }) }
     requires room { length room.old ≡ index.old.config.page_bytes }
     ensures matches { Matches (F.state flash.new) index.new blocks.new unsure.new }
     ensures preserves { Preserves index.old index.new }
-    ensures array { KeepsArray R.kept index.old.config.logical
+    ensures array { KeepsArray R.protocol index.old.config.logical
         (F.state flash.old).image (F.state flash.new).image }
     ensures cleared { OnOk result (block_to_go index.new page below ≡ None) }
     // The lowest such block comes first, as the tables then are, and so on.
@@ -81,13 +81,13 @@ fn treat<F: Flash, R: CommitRule>(
 ) -> Result<(), Broken>
     requires nothing { unsure.old ≡ Unsure.Nothing }
     requires matches { Matches (F.state flash.old) index.old blocks.old unsure.old }
-    requires rule { index.old.config.protocol ≡ R.kept }
+    requires rule { index.old.config.protocol ≡ R.protocol }
     requires exists { block.0 < blocks_of (shape_of index.old.config) }
     requires unneeded { block.0 ≢ blocks.old.spare → HasUnneeded index.old block.0 }
     requires room { length room.old ≡ index.old.config.page_bytes }
     ensures matches { Matches (F.state flash.new) index.new blocks.new unsure.new }
     ensures preserves { Preserves index.old index.new }
-    ensures array { KeepsArray R.kept index.old.config.logical
+    ensures array { KeepsArray R.protocol index.old.config.logical
         (F.state flash.old).image (F.state flash.new).image }
     ensures sure { OnOk result (unsure.new ≡ Unsure.Nothing) }
     ensures others { (at : Slot) (rec : Rec) → unsure.new ≡ Unsure.Own at rec → ⊥ }
@@ -117,12 +117,12 @@ pub fn free_slot<F: Flash, R: CommitRule>(
 ) -> Result<Slot, Broken>
     requires nothing { unsure.old ≡ Unsure.Nothing }
     requires matches { Matches (F.state flash.old) index.old blocks.old unsure.old }
-    requires rule { index.old.config.protocol ≡ R.kept }
+    requires rule { index.old.config.protocol ≡ R.protocol }
     requires next { (names : List Link) × (name : Link) × IsNextName index.old names name }
     requires room { length room.old ≡ index.old.config.page_bytes }
     ensures matches { Matches (F.state flash.new) index.new blocks.new unsure.new }
     ensures preserves { Preserves index.old index.new }
-    ensures array { KeepsArray R.kept index.old.config.logical
+    ensures array { KeepsArray R.protocol index.old.config.logical
         (F.state flash.old).image (F.state flash.new).image }
     ensures free { IfOk result (λ at. IsFirstFree blocks.new at.0) }
     ensures sure { OnOk result (unsure.new ≡ Unsure.Nothing) }
@@ -163,13 +163,13 @@ fn make_room<F: Flash, R: CommitRule>(
 ) -> Result<(), Broken>
     requires nothing { unsure.old ≡ Unsure.Nothing }
     requires matches { Matches (F.state flash.old) index.old blocks.old unsure.old }
-    requires rule { index.old.config.protocol ≡ R.kept }
+    requires rule { index.old.config.protocol ≡ R.protocol }
     requires next { (names : List Link) × (name : Link) × IsNextName index.old names name }
     requires full { IsFull blocks.old }
     requires room { length room.old ≡ index.old.config.page_bytes }
     ensures matches { Matches (F.state flash.new) index.new blocks.new unsure.new }
     ensures preserves { Preserves index.old index.new }
-    ensures array { KeepsArray R.kept index.old.config.logical
+    ensures array { KeepsArray R.protocol index.old.config.logical
         (F.state flash.old).image (F.state flash.new).image }
     ensures sure { OnOk result (unsure.new ≡ Unsure.Nothing) }
     ensures others { (at : Slot) (rec : Rec) → unsure.new ≡ Unsure.Own at rec → ⊥ }

@@ -31,7 +31,7 @@ pub(crate) fn read_block<F: Flash, R: CommitRule>(
 ) -> Result<BlockReading, Broken>
     requires shape { (F.state flash.old).shape ≡ shape_of index.now.config }
     requires flash { IsFlash (F.state flash.old) }
-    requires noted { IsNoted R.kept index.now }
+    requires noted { IsNoted R.protocol index.now }
     requires exists { block.0 < blocks_of (shape_of index.now.config) }
     requires room { length room.old ≡ index.now.config.page_bytes }
     ensures as_noted { IfOk result (λ reading.
@@ -43,11 +43,11 @@ pub(crate) fn read_block<F: Flash, R: CommitRule>(
 {
     let pages = index.config().pages_per_block;
     let first = block.0 * pages;
-    let mut spare = [0; 64];
+    let mut spare_area = [0; 64];
     let mut as_noted = true;
     let mut blank = true;
     for at in first..first + pages {
-        let how = flash.read(Slot(at), room, &mut spare)?;
+        let how = flash.read(Slot(at), room, &mut spare_area)?;
         as_noted &= reads_alike(how, index.seen(Slot(at)));
         blank &= is_blank(how);
     }

@@ -22,7 +22,7 @@ pub(crate) fn settle_own<F: Flash, R: CommitRule>(
     rec: Rec,
 ) -> Result<Settled, Broken>
     requires matches { Matches (F.state flash.old) index.old blocks.old (Unsure.Own at rec) }
-    requires rule { index.old.config.protocol ≡ R.kept }
+    requires rule { index.old.config.protocol ≡ R.protocol }
     requires own { CanTakeOwn index.old blocks.old rec }
     requires room { length room.old ≡ index.old.config.page_bytes }
     ensures matches { OnOk result
@@ -35,8 +35,8 @@ pub(crate) fn settle_own<F: Flash, R: CommitRule>(
     ensures failed { OnErr result ((index.new ≡ index.old) × (blocks.new ≡ blocks.old)) }
     ensures looks { Looks (F.state flash.old) (F.state flash.new) 1 (is_err result) }
 {
-    let mut spare = [0; 64];
-    match flash.read(at, room, &mut spare)? {
+    let mut spare_area = [0; 64];
+    match flash.read(at, room, &mut spare_area)? {
         Seen::Blank => Ok(Settled::Missing),
         Seen::Damaged => {
             index.note_damaged(at);
@@ -61,7 +61,7 @@ pub(crate) fn settle_copy<F: Flash, R: CommitRule>(
     to: Slot,
 ) -> Result<(), Broken>
     requires matches { Matches (F.state flash.old) index.old blocks.now (Unsure.Copy from to) }
-    requires rule { index.old.config.protocol ≡ R.kept }
+    requires rule { index.old.config.protocol ≡ R.protocol }
     requires room { length room.old ≡ index.old.config.page_bytes }
     ensures matches { OnOk result
         (Matches (F.state flash.new) index.new blocks.now Unsure.Nothing) }
@@ -71,8 +71,8 @@ pub(crate) fn settle_copy<F: Flash, R: CommitRule>(
     ensures failed { OnErr result (index.new ≡ index.old) }
     ensures looks { Looks (F.state flash.old) (F.state flash.new) 1 (is_err result) }
 {
-    let mut spare = [0; 64];
-    match flash.read(to, room, &mut spare)? {
+    let mut spare_area = [0; 64];
+    match flash.read(to, room, &mut spare_area)? {
         Seen::Blank => {}
         Seen::Damaged => index.note_damaged(to),
         Seen::Complete => index.note_copy(from, to),

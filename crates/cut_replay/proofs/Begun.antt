@@ -1,18 +1,18 @@
 -- The session that serving begins with.
-use Rattle.std.proofs.Common.{◌≡◌, Bool, true, false, List, [], Option, Some, None, Result, Ok, Err, refl, ap, ap₂, inl, inr, arith}
-use Rattle.std.specs.Prelude.{IfOk, IsSomeAnd}
+use Rattle.std.proofs.Common.{◌≡◌, Bool, true, false, List, [], Option, Some, None, Result, Ok, Err, refl, sym, ap, ap₂, ◌∙◌, subst, inl, inr, arith}
+use Rattle.std.specs.Prelude.{IfOk, IsSomeAnd, MatchBool}
 use Rattle.tx_types.specs.declared.config.Config.{Config}
-use Rattle.tx_types.specs.Config.{checked}
+use Rattle.tx_types.specs.Config.{checked, shape_of}
 use Rattle.tx_types.specs.declared.config.Shape.{Shape}
 use Rattle.page_cache.specs.CachedPages.{CachedPage}
-use Rattle.flash_model.specs.Flash.{FlashState, Told}
-use Rattle.flash_model.specs.Calls.{BothTell, NoMore, Spends}
+use Rattle.flash_model.specs.Flash.{FlashState, IsSteady, Told}
+use Rattle.flash_model.specs.Calls.{BothTell, NoMoreToCome, Spends}
 use Rattle.flash_model.specs.Operations.{Moment, moment_of}
 use Rattle.tx_engine.specs.ArrayState.{ArrayState}
 use Rattle.cut_replay.specs.FlashRun.{mentions_in, opening_point}
 use Rattle.cut_replay.specs.Bounds.{BeginsUnbroken, CountsBreaks}
 use Rattle.cut_replay.specs.Sessions.{flash_in, point_of, IsSoundFlash, IsSoundOrSame, Fits, Mounted, Unmounted}
-use Rattle.cut_replay.specs.Beginning.{Begins}
+use Rattle.cut_replay.specs.Beginning.{Begins, MountsFirst}
 use Rattle.host_protocol.specs.declared.command.Command.{Command}
 use Rattle.cut_replay.specs.Mounted.{StaysQuiet}
 use Rattle.cut_replay.specs.Served.{Watched, ServesSound, ServesUnsound, CountsTold, RefusesUnsound}
@@ -22,9 +22,9 @@ use Rattle.cut_replay.specs.declared.session.Session.{Session}
 use Rattle.cut_replay.specs.declared.session.Session.TheVariants as session
 use Rattle.cut_replay.specs.declared.session.Ended.{Ended}
 use Rattle.cut_replay.proofs.Mountings.{mounted_stands, mounted_leaves, mounted_still}
-use Rattle.cut_replay.proofs.Mountings.{sound_unbroken}
-use Rattle.cut_replay.proofs.Progress.{served_none, all_served}
-use Rattle.cut_replay.proofs.Runs.{grew_none, least_none, counts_later}
+use Rattle.version_index.proofs.OneBreach.{sound_unbroken}
+use Rattle.cut_replay.proofs.MountingAgain.{mounts_none}
+use Rattle.cut_replay.proofs.Runs.{grew_none, least_none, spends_nothing, counts_later}
 
 -- at the opening point
 begun_point : {F R : Type 0} (state : F → FlashState) (its : Config) (flash : F) (s : Session F R) → Mounted state its flash s → (up : Bool) × (point_of state its s ≡ opening_point its up (moment_of (state flash)))
@@ -32,7 +32,7 @@ begun_point state its flash (session.Mounted s) h =
     (true, ap₂ (λ (m : ArrayState) (x : Moment). record { state = record { machine = m; up = true }; moment = x }) h.machine h.still.moment)
 begun_point state its flash (session.Unmounted new) h = (false, ap (λ (m : Moment). opening_point its false m) h.still.moment)
 
-begun_told : {F R : Type 0} (state : F → FlashState) (its : Config) (flash : F) (s : Session F R) → Mounted state its flash s → BothTell NoMore (state flash).told (state (flash_in s)).told
+begun_told : {F R : Type 0} (state : F → FlashState) (its : Config) (flash : F) (s : Session F R) → Mounted state its flash s → BothTell NoMoreToCome (state flash).told (state (flash_in s)).told
 begun_told state its flash (session.Mounted s) h = h.still.told
 begun_told state its flash (session.Unmounted new) h = h.still.told
 
@@ -60,12 +60,20 @@ begun_faults state its flash (session.Unmounted new) on h = record {
   quiet = λ unbroken all. absurd (first_unbroken (state flash) (state new) on unbroken h.spends);
 }
 
+-- a steady flash is mounted
+begun_up : {F R : Type 0} (state : F → FlashState) (its : Config) (flash : F) (s : Session F R) → (h : Mounted state its flash s) → IsSteady (state flash) →
+    (begun_point state its flash s h).0 ≡ true
+unfolding begun_point
+begun_up state its flash (session.Mounted s) h steady = refl
+begun_up state its flash (session.Unmounted new) h steady = absurd (none_spent (state flash).told (state new).told (state new).live steady.none h.spends)
+
 begun : {F R : Type 0} (state : F → FlashState) (its : Config) (flash : F) (s : Session F R) → (state flash).live ≡ true → Mounted state its flash s → IsSoundFlash its (state flash) → Begins state its (state flash) s
 begun state its flash s on h sound =
     let at = begun_point state its flash s h in
     record {
       sound = sound;
       up = at.0;
+      mounted = begun_up state its flash s h;
       point = at.1;
       stands = mounted_stands state its flash (mentions_in its (moment_of (state flash))) false s (mounted_leaves state its flash s h) sound (λ page lt. omega arith);
       told = begun_told state its flash s h;
@@ -82,14 +90,15 @@ begin_begins state its flash (Ok s) on h sound = begun state its flash s on h so
 begin_begins state its flash (Err e) on h sound = tt
 
 -- a flash without power, which is not mounted
-same_told : (a : Option Told) → BothTell NoMore a a
+same_told : (a : Option Told) → BothTell NoMoreToCome a a
 same_told None = tt
 same_told (Some x) = (omega arith, omega arith)
 
-pub dead_begins : {F : Type 0} (R : Type 0) (state : F → FlashState) (its : Config) (flash : F) → IsSoundFlash its (state flash) → Begins {R = R} state its (state flash) (session.Unmounted flash)
-dead_begins R state its flash sound = record {
+pub dead_begins : {F : Type 0} (R : Type 0) (state : F → FlashState) (its : Config) (flash : F) → (state flash).live ≡ false → IsSoundFlash its (state flash) → Begins {R = R} state its (state flash) (session.Unmounted flash)
+dead_begins R state its flash off sound = record {
   sound = sound;
   up = false;
+  mounted = λ steady. (let both = sym off ∙ steady.live in cc);
   point = refl;
   stands = record { sound = sound; mentions = λ page lt. omega arith };
   told = same_told (state flash).told;
@@ -99,9 +108,22 @@ dead_begins R state its flash sound = record {
 -- nothing was served, for want of memory
 nothing_served : {F : Type 0} (R : Type 0) (state : F → FlashState) (its : Config) (list : List Command) (flash new : F) (w : Watched) → IsSoundFlash its (state flash) → StaysQuiet (state flash) (state new) →
     ServesSound its list (state flash) (state new) w w (Err failed.Memory)
-nothing_served {F = F} R state its list flash new w sound still =
-    let old : Session F R = session.Unmounted flash in
-    (0, omega arith, inl (all_served {R = R} state its (state flash) [] old (state new) w w (served_none {R = R} state its (state flash) old w (dead_begins R state its flash sound)) still.still.moment still.still.told still.quiet))
+nothing_served R state its list flash new w sound still = (
+  0,
+  omega arith,
+  inl (record {
+    replies = [];
+    points = [];
+    run = record { up = false; first = record { sound = sound; array = inl refl }; runs = tt };
+    last = still.still.moment;
+    text = grew_none w.text;
+    kept = grew_none w.kept;
+    spends = spends_nothing (state flash).told (state new).told still.still.told;
+    faults = counts_later [] (state flash) (state flash) (state new) (none_counted (state flash)) still.quiet;
+    up = λ steady. inl refl;
+    mounts = mounts_none its false (state flash) (state new) still.still.later;
+  }),
+)
 
 pub rooms_ended : {F : Type 0} (R : Type 0) (state : F → FlashState) (its : Config) (list : List Command) (flash : F) (w : Watched) → IsSoundFlash its (state flash) →
     ServesSound its list (state flash) (state flash) w w (Err failed.Memory)
@@ -109,7 +131,7 @@ rooms_ended R state its list flash w sound = nothing_served R state its list fla
 
 pub begin_ended : {F : Type 0} (R : Type 0) (state : F → FlashState) (its : Config) (list : List Command) (flash new : F) (why : ServeError) (w : Watched) → IsSoundFlash its (state flash) → Unmounted state its flash new why →
     ServesSound its list (state flash) (state new) w w (Err why)
-begin_ended R state its list flash new (failed.Unsound law slot) w sound h = absurd (sound_unbroken its (state flash).image (record { law = law; slot = slot }) sound h.1)
+begin_ended R state its list flash new (failed.Unsound law slot) w sound h = absurd (sound_unbroken its.protocol its.logical (shape_of its) (state flash).image (record { law = law; slot = slot }) sound h.1)
 begin_ended R state its list flash new failed.Memory w sound h = nothing_served R state its list flash new w sound h
 
 -- the shape of the flash of a session, and of the flash that comes back
@@ -132,6 +154,18 @@ pub begun_extras : {F R : Type 0} (state : F → FlashState) (its : Config) (fla
     IfOk result (λ s. (state (flash_in s)).extras ≡ (state flash).extras)
 begun_extras state its flash (Ok s) h = (mounted_still state its flash s (mounted_leaves state its flash s h)).extras
 begun_extras state its flash (Err e) h = tt
+
+-- a live flash was mounted, and another one stays
+pub begun_first : {F R : Type 0} (state : F → FlashState) (its : Config) (flash : F) (result : Results F R) → (state flash).live ≡ true → IfOk result (Mounted state its flash) →
+    IfOk result (MountsFirst state its flash)
+begun_first state its flash (Ok s) on h = subst (λ b. MatchBool b (Mounted state its flash s) (s ≡ session.Unmounted flash)) (sym on) h
+begun_first state its flash (Err e) on h = tt
+
+pub dead_first : {F : Type 0} (R : Type 0) (state : F → FlashState) (its : Config) (flash : F) → (state flash).live ≡ false →
+    MountsFirst {R = R} state its flash (session.Unmounted flash)
+dead_first {F = F} R state its flash off =
+    let s : Session F R = session.Unmounted flash in
+    subst (λ b. MatchBool b (Mounted state its flash s) (s ≡ session.Unmounted flash)) (sym off) refl
 
 pub begin_faults : {F R : Type 0} (state : F → FlashState) (its : Config) (flash : F) (result : Results F R) → (state flash).live ≡ true → IfOk result (Mounted state its flash) →
     IfOk result (λ s. CountsBreaks [] (state flash) (state (flash_in s)))

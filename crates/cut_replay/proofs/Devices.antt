@@ -1,8 +1,7 @@
 -- What calls of a device leave of its mentions, of the cache, and of what is told.
 use Rattle.std.proofs.Common.{◌≡◌, ℕ, ◌+◌, ◌<◌, ◌≤◌, Bool, true, false, cond, List, sym, ◌∙◌, subst, inl, inr, arith}
-use Rattle.std.specs.Prelude.{All, Any, count_by}
-use Rattle.std.proofs.lemmas.List.Elements.{All-weaker, All-contains}
-use Rattle.list_facts.proofs.Membership.{in_any, any_in}
+use Rattle.std.specs.Prelude.{count_by}
+use Rattle.std.proofs.lemmas.List.Elements.{All-weaker}
 use Rattle.tx_types.specs.declared.config.Config.{Config}
 use Rattle.tx_types.specs.declared.config.Protocol.{Protocol}
 use Rattle.tx_types.specs.declared.config.Shape.{Shape}
@@ -10,7 +9,6 @@ use Rattle.flash_model.specs.Flash.{FlashState}
 use Rattle.flash_model.specs.Calls.{Carries}
 use Rattle.flash_model.specs.Moves.{Moves}
 use Rattle.flash_model.specs.Operations.{moment_of}
-use Rattle.version_index.specs.Noted.{mention_of}
 use Rattle.page_cache.specs.CachedPages.{CachedPage}
 use Rattle.tx_engine.specs.Exits.{Exits, VersionsTell}
 use Rattle.tx_engine.specs.Naming.{is_spent}
@@ -57,12 +55,12 @@ pub cached_stays : {F : Type 0} (old new : Standing F) (entries : List CachedPag
 cached_stays old new entries same tell h = All-weaker (IsCachedAs old) (IsCachedAs new) (cached_stays_so old new same tell) entries h
 
 -- what a command does that is one call which may settle, write and collect
-pub exits_serve : {F : Type 0} (state : F → FlashState) (kept : Protocol) (c : Command) (old new : Standing F) (r : Reply) (broken : Bool) →
-    HoldsAlways state kept old → HoldsAlways state kept new → Exits state old new broken → is_break r ≡ broken → is_fault r ≡ broken → is_cut r ≡ false →
+pub exits_serve : {F : Type 0} (state : F → FlashState) (protocol : Protocol) (c : Command) (old new : Standing F) (r : Reply) (broken : Bool) →
+    HoldsAlways state protocol old → HoldsAlways state protocol new → Exits state old new broken → is_break r ≡ broken → is_fault r ≡ broken → is_cut r ≡ false →
     DoesCommand (limits_of old.config) (is_spent old.noted.mentions) c old.machine r new.machine → (is_still c ≡ true → moment_of (state new.flash) ≡ moment_of (state old.flash)) →
     ((faulted : Bool) → (faulted ≡ false → old.unsure ≡ unsure.Nothing) → Tells old.config faulted (point_at state old) r (point_at state new)) →
     (old.unsure ≡ unsure.Nothing → is_fault r ≡ false → new.unsure ≡ unsure.Nothing) → (is_fault r ≡ true → MayHaveCut state c old new) → ServesHere state c old new r
-exits_serve state kept c old new r broken was is exits breaks faults whole does still tells sure cut = record {
+exits_serve state protocol c old new r broken was is exits breaks faults whole does still tells sure cut = record {
   config = exits.tables.config;
   does = does;
   moves = record {
@@ -73,7 +71,7 @@ exits_serve state kept c old new r broken was is exits breaks faults whole does 
   carries = subst (λ (b : Bool). Carries (state old.flash) (state new.flash) b) (sym faults) exits.carries;
   tells = tells;
   sure = sure;
-  seen = λ seen h. seen_later seen c r new (exits_seen state kept old new seen was is exits.tables h);
+  seen = λ seen h. seen_later seen c r new (exits_seen state protocol old new seen was is exits.tables h);
   versions = exits.tables.versions;
   cut = cut;
   whole = whole;

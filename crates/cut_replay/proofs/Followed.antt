@@ -7,8 +7,8 @@ use Rattle.tx_types.specs.declared.config.Config.{Config}
 use Rattle.tx_types.specs.declared.config.Protocol.{Protocol}
 use Rattle.tx_types.specs.declared.config.Shape.{Shape}
 use Rattle.tx_types.specs.Config.{checked, shape_of}
-use Rattle.flash_model.specs.Flash.{FlashState, Told}
-use Rattle.flash_model.specs.Calls.{BothTell, NoMore, Rose, Spends, Carries}
+use Rattle.flash_model.specs.Flash.{FlashState, Told, counted_by}
+use Rattle.flash_model.specs.Calls.{BothTell, NoMoreToCome, Rose, Spends, Carries}
 use Rattle.flash_model.specs.Moves.{Moves}
 use Rattle.flash_model.specs.Operations.{Moment, moment_of}
 use Rattle.record_list.specs.Records.{mention}
@@ -26,15 +26,17 @@ use Rattle.host_protocol.specs.declared.reply.Reply.TheVariants as reply
 use Rattle.cut_replay.specs.Run.{IsCut, MayComplete, MayBeSpent, NotDone, is_arm, is_break, seen_after}
 use Rattle.cut_replay.specs.FlashRun.{Point, IsPoint, IsDone, MovesBy, ServesFlash, is_fault}
 use Rattle.cut_replay.specs.Bounds.{is_cut, CountsBreak}
+use Rattle.cut_replay.specs.MountedAgain.{MountsAfter}
 use Rattle.tx_engine.specs.Always.{IsSeen, HoldsAlways}
 use Rattle.cut_replay.specs.Mounted.{point_at, IsCached, CachesCommand, ServesHere}
-use Rattle.cut_replay.specs.Sessions.{flash_in, point_of, IsSoundFlash, Fits, FitsMounted, StandsMounted, IsSpentBy, ServesIn, ServesSession, EndsServing, Mounted, Unmounted, MountsAgain, Follows, CachesServed, CachesSession}
+use Rattle.cut_replay.specs.Sessions.{flash_in, point_of, IsSoundFlash, Fits, FitsMounted, StandsMounted, IsSoundOrSame, IsSpentBy, ServesIn, ServesSession, EndsServing, Mounted, Unmounted, MountsAgain, Follows, CachesServed, CachesSession}
 use Rattle.cut_replay.specs.declared.serving.ServeError.{ServeError}
 use Rattle.cut_replay.specs.declared.serving.ServeError.TheVariants as failed
 use Rattle.cut_replay.specs.declared.session.Session.{Session}
 use Rattle.cut_replay.specs.declared.session.Session.TheVariants as session
 use Rattle.cut_replay.specs.declared.session.Ended.{Ended}
-use Rattle.cut_replay.proofs.Mountings.{Leaves, mounted_leaves, mounted_machine, mounted_moment, mounted_still, mounted_point, mounted_stands, sound_unbroken}
+use Rattle.version_index.proofs.OneBreach.{sound_unbroken}
+use Rattle.cut_replay.proofs.Mountings.{Leaves, mounted_leaves, mounted_machine, mounted_moment, mounted_still, mounted_point, mounted_stands}
 use Rattle.cut_replay.proofs.Spending.{is_its_fault, spends_none, spends_fault, spends_cut, spends_before, sets_none}
 
 -- a command that is no arm
@@ -53,19 +55,19 @@ pub may_be_spent : {F : Type 0} (seen : ℕ → ℕ) (s : Standing F) → IsSeen
 may_be_spent seen s h page is = last_version (mention_of s.noted page) (seen page) is (h.mentions page)
 
 -- the point of a device
-pub always_point : {F : Type 0} (state : F → FlashState) (kept : Protocol) (s : Standing F) → HoldsAlways state kept s → IsPoint s.config (point_at state s)
-always_point state kept s h = record { sound = h.sound; array = h.array }
+pub always_point : {F : Type 0} (state : F → FlashState) (protocol : Protocol) (s : Standing F) → HoldsAlways state protocol s → IsPoint s.config (point_at state s)
+always_point state protocol s h = record { sound = h.sound; array = h.array }
 
 -- Power was not cut
-pub done_in : {F R : Type 0} (state : F → FlashState) (kept : Protocol) (c : Command) (s t : Standing F) (r : Reply) (seen : ℕ → ℕ) (faulted : Bool) → is_arm c ≡ false →
-    ServesHere state c s t r → HoldsAlways state kept t → StandsMounted seen faulted s →
+pub done_in : {F R : Type 0} (state : F → FlashState) (protocol : Protocol) (c : Command) (s t : Standing F) (r : Reply) (seen : ℕ → ℕ) (faulted : Bool) → is_arm c ≡ false →
+    ServesHere state c s t r → HoldsAlways state protocol t → StandsMounted seen faulted s →
     ServesIn {R = R} state s.config seen faulted c (session.Mounted s) r (session.Mounted t)
-done_in state kept c s t r seen faulted no_arm h always stands = record {
+done_in state protocol c s t r seen faulted no_arm h always stands = record {
   spent = is_spent s.noted.mentions;
   may = may_be_spent seen s stands.mentions;
   serves = served_no_arm s.config (is_spent s.noted.mentions) faulted c (point_at state s) r (point_at state t) no_arm
       (inr (inl (record { does = h.does; up = refl; moves = h.moves; tells = h.tells faulted stands.sure })));
-  point = subst (λ (x : Config). IsPoint x (point_at state t)) h.config (always_point state kept t always);
+  point = subst (λ (x : Config). IsPoint x (point_at state t)) h.config (always_point state protocol t always);
   stands = record {
     sure = λ whole. let parts = or_parts faulted (is_fault r) whole in h.sure (stands.sure parts.0) parts.1;
     mentions = h.seen seen stands.mentions;
@@ -83,15 +85,15 @@ cut_moves its c old mid new h same = record {
   still = λ still. same ∙ h.still still;
 }
 
-pub cut_in : {F R : Type 0} (state : F → FlashState) (kept : Protocol) (c : Command) (s t : Standing F) (after : Session F R) (seen : ℕ → ℕ) (faulted : Bool) → is_arm c ≡ false →
-    ServesHere state c s t reply.Fault → HoldsAlways state kept t → StandsMounted seen faulted s → Leaves state s.config t.flash after →
+pub cut_in : {F R : Type 0} (state : F → FlashState) (protocol : Protocol) (c : Command) (s t : Standing F) (after : Session F R) (seen : ℕ → ℕ) (faulted : Bool) → is_arm c ≡ false →
+    ServesHere state c s t reply.Fault → HoldsAlways state protocol t → StandsMounted seen faulted s → Leaves state s.config t.flash after →
     ServesIn {R = R} state s.config seen faulted c (session.Mounted s) reply.Cut after
-cut_in state kept c s t after seen faulted no_arm h always stands leaves =
+cut_in state protocol c s t after seen faulted no_arm h always stands leaves =
     let its = s.config in
     let sound : IsSoundFlash its (state t.flash) = subst (λ (x : Config). IsSoundImage x.protocol x.logical (shape_of x) (state t.flash).image) h.config always.sound in
     let most : (page : ℕ) → page < its.logical → mention (records_in its.protocol (state t.flash).image) page ≤ seen page = λ page lt.
     subst (λ (x : Config). mention (records_in x.protocol (state t.flash).image) page ≤ seen page) h.config
-    (image_seen state kept seen t page always (h.seen seen stands.mentions) (subst (λ (x : Config). page < x.logical) (sym h.config) lt)) in
+    (image_seen state protocol seen t page always (h.seen seen stands.mentions) (subst (λ (x : Config). page < x.logical) (sym h.config) lt)) in
     let cut = h.cut refl in
     let left : CutLeaves (MayComplete c) s.machine (point_of state its after).state.machine =
     subst (λ (m : ArrayState). CutLeaves (MayComplete c) s.machine m) (sym (mounted_machine state its t.flash after leaves))
@@ -121,7 +123,7 @@ live_spends c r old new whole on still carries = elim (cases_Bool (is_fault r)) 
   | inr none ↦ spends_none c r old.told new.told whole none carries.no_more
 ]
 
-cut_spends : (c : Command) (old new : FlashState) (after : Option Told) → old.live ≡ true → new.live ≡ false → Carries old new true → BothTell NoMore new.told after → BothTell (IsSpentBy c reply.Cut) old.told after
+cut_spends : (c : Command) (old new : FlashState) (after : Option Told) → old.live ≡ true → new.live ≡ false → Carries old new true → BothTell NoMoreToCome new.told after → BothTell (IsSpentBy c reply.Cut) old.told after
 cut_spends c old new after on off carries more =
     let spent : BothTell (Spends false) old.told new.told = subst (λ (b : Bool). BothTell (Spends b) old.told new.told) off (carries.spends on) in
     spends_before c reply.Cut old.told new.told after (spends_cut c old.told new.told carries.no_more spent) more
@@ -139,6 +141,10 @@ by_fault false old new h = h.quiet
 live_counts : (r : Reply) (old new : FlashState) → is_cut r ≡ false → Carries old new (is_fault r) → CountsBreak r old.faults new.faults
 live_counts r old new whole carries =
     subst (λ b. MatchBool b (Rose old.faults new.faults) (new.faults ≡ old.faults)) (sym (break_is r whole)) (by_fault (is_fault r) old new carries)
+
+-- the fault of a cut, and that of the mount after it
+rose_twice : (a b d : ℕ) → Rose a b → Rose b d → counted_by 2 a ≤ d
+rose_twice a b d first second = omega (arith, first, second)
 
 rose_later : (a b d : ℕ) → Rose a b → b ≤ d → Rose a d
 rose_later a b d h le = omega (arith, h, le)
@@ -216,6 +222,7 @@ went_serves state c s t r entries w on = record {
   spends = live_spends c r (state s.flash) (state t.flash) w.here.whole w.on on w.here.carries;
   set = sets_none c w.no_arm (state t.flash).told;
   faults = live_counts r (state s.flash) (state t.flash) w.here.whole w.here.carries;
+  mounts = inl (λ cut. let no : false ≡ true = sym w.here.whole ∙ ap is_cut cut in cc);
   extras = w.here.carries.extras;
 }
 
@@ -231,34 +238,64 @@ sound_again : {F R : Type 0} (state : F → FlashState) (its : Config) (flash : 
 sound_again state its flash after sound leaves =
     subst (λ (m : Moment). IsSoundImage its.protocol its.logical (shape_of its) m.image) (sym (mounted_still state its flash after leaves).moment) sound
 
-cut_serves : {F R : Type 0} (state : F → FlashState) (c : Command) (s t : Standing F) (r : Reply) (entries : List CachedPage) (after : Session F R) → WasDone state s.config c s t r entries →
-    (state t.flash).live ≡ false → Leaves state s.config t.flash after → ServesSession state s.config c (session.Mounted s) reply.Cut after
-cut_serves state c s t r entries after w off leaves =
+-- what a command comes to in which power was cut, but for the mount
+record CutBy {F R : Type 0} (state : F → FlashState) (its : Config) (c : Command) (s : Standing F) (after : Session F R) : Type 0 where
+  in_run : (seen : ℕ → ℕ) → (faulted : Bool) → StandsMounted seen faulted s → ServesIn {R = R} state its seen faulted c (session.Mounted s) reply.Cut after
+  kept : IsSoundOrSame its (state s.flash) (state (flash_in after))
+  spends : BothTell (IsSpentBy c reply.Cut) (state s.flash).told (state (flash_in after)).told
+  faults : Rose (state s.flash).faults (state (flash_in after)).faults
+  extras : (state (flash_in after)).extras ≡ (state s.flash).extras
+
+cut_by : {F R : Type 0} (state : F → FlashState) (c : Command) (s t : Standing F) (r : Reply) (entries : List CachedPage) (after : Session F R) → WasDone state s.config c s t r entries →
+    (state t.flash).live ≡ false → Leaves state s.config t.flash after → CutBy {R = R} state s.config c s after
+cut_by state c s t r entries after w off leaves =
     let here = faulted_here state s.config c s t r entries w off in
     record {
       in_run = λ seen faulted stands. cut_in state s.config.protocol c s t after seen faulted w.no_arm here w.always stands leaves;
       kept = inl (w.sound, sound_again state s.config t.flash after (sound_here state c s t r entries w) leaves);
-      unsound = λ unsound. absurd (unsound w.sound);
       spends = cut_spends c (state s.flash) (state t.flash) (state (flash_in after)).told w.on off here.carries (mounted_still state s.config t.flash after leaves).told;
-      set = sets_none c w.no_arm (state (flash_in after)).told;
       faults = rose_later (state s.flash).faults (state t.flash).faults (state (flash_in after)).faults here.carries.cause (mounted_still state s.config t.flash after leaves).later;
       extras = (mounted_still state s.config t.flash after leaves).extras ∙ here.carries.extras;
+    }
+
+-- the device was mounted again, or the mount met a fault
+cut_mounts : {F R : Type 0} (state : F → FlashState) (its : Config) (s t : Standing F) (after : Session F R) →
+    Rose (state s.flash).faults (state t.flash).faults → Mounted state its t.flash after →
+    MountsAfter (point_at state s) reply.Cut (point_of state its after) (state s.flash).faults (state (flash_in after)).faults
+cut_mounts state its s t (session.Mounted u) rose h = inl (λ cut. inr refl)
+cut_mounts state its s t (session.Unmounted new) rose h =
+    inr (refl, rose_twice (state s.flash).faults (state t.flash).faults (state new).faults rose h.rose)
+
+cut_serves : {F R : Type 0} (state : F → FlashState) (c : Command) (s t : Standing F) (r : Reply) (entries : List CachedPage) (after : Session F R) →
+    WasDone state s.config c s t r entries → (state t.flash).live ≡ false → Mounted state s.config t.flash after →
+    ServesSession state s.config c (session.Mounted s) reply.Cut after
+cut_serves state c s t r entries after w off mounted =
+    let cut = cut_by state c s t r entries after w off (mounted_leaves state s.config t.flash after mounted) in
+    record {
+      in_run = cut.in_run;
+      kept = cut.kept;
+      unsound = λ unsound. absurd (unsound w.sound);
+      spends = cut.spends;
+      set = sets_none c w.no_arm (state (flash_in after)).told;
+      faults = cut.faults;
+      mounts = cut_mounts state s.config s t after (faulted_here state s.config c s t r entries w off).carries.cause mounted;
+      extras = cut.extras;
     }
 
 again_serves : {F R : Type 0} (state : F → FlashState) (c : Command) (s t : Standing F) (r : Reply) (entries : List CachedPage) (result : Sessions F R) → WasDone state s.config c s t r entries →
     (state t.flash).live ≡ false → MountsAgain state s.config t result → ServesAfter F R state s.config c s result
 again_serves {F = F} {R = R} state c s t r entries (Ok done) w off h =
     subst (λ (q : Reply). ServesSession {R = R} state s.config c (session.Mounted s) q done.0) (sym h.1)
-    (cut_serves state c s t r entries done.0 w off (mounted_leaves state s.config t.flash done.0 h.0))
+    (cut_serves state c s t r entries done.0 w off h.0)
 again_serves state c s t r entries (Err e) w off h = tt
 
 again_ends : {F : Type 0} (R : Type 0) (state : F → FlashState) (c : Command) (s t : Standing F) (r : Reply) (entries : List CachedPage) (flash : F) (why : ServeError) → WasDone state s.config c s t r entries →
     (state t.flash).live ≡ false → Unmounted state s.config t.flash flash why → EndsServing {R = R} state s.config c (session.Mounted s) flash why
 again_ends R state c s t r entries flash (failed.Unsound law slot) w off h =
-    absurd (sound_unbroken s.config (state t.flash).image (record { law = law; slot = slot }) (sound_here state c s t r entries w) h.1)
+    absurd (sound_unbroken s.config.protocol s.config.logical (shape_of s.config) (state t.flash).image (record { law = law; slot = slot }) (sound_here state c s t r entries w) h.1)
 again_ends {F = F} R state c s t r entries flash failed.Memory w off h =
     let after : Session F R = session.Unmounted flash in
-    let serves = cut_serves {R = R} state c s t r entries after w off h.still in
+    let serves = cut_by {R = R} state c s t r entries after w off h.still in
     record { cause = inr (serves.in_run, serves.spends, serves.faults); shape = h.still.shape ∙ w.here.carries.shape; extras = h.still.extras ∙ w.here.carries.extras; kept = serves.kept }
 
 again_ends_all : {F R : Type 0} (state : F → FlashState) (c : Command) (s t : Standing F) (r : Reply) (entries : List CachedPage) (result : Sessions F R) → WasDone state s.config c s t r entries →
@@ -331,9 +368,9 @@ caches_after {F = F} {R = R} state its c s t r result before mid after no_arm wh
       again_caches state its c s t before after result no_arm (emptied before mid after size cut.1) cut.0)
 ]
 
-pub was_done : {F : Type 0} (state : F → FlashState) (its : Config) (kept : Protocol) (c : Command) (s t : Standing F) (r : Reply) (before entries : List CachedPage) → its.protocol ≡ kept →
-    FitsMounted state its before s → is_arm c ≡ false → ServesHere state c s t r → IsCached t entries → HoldsAlways state kept t → WasDone state its c s t r entries
-was_done state its kept c s t r before entries rule fits no_arm here cached always = record {
+pub was_done : {F : Type 0} (state : F → FlashState) (its : Config) (protocol : Protocol) (c : Command) (s t : Standing F) (r : Reply) (before entries : List CachedPage) → its.protocol ≡ protocol →
+    FitsMounted state its before s → is_arm c ≡ false → ServesHere state c s t r → IsCached t entries → HoldsAlways state protocol t → WasDone state its c s t r entries
+was_done state its protocol c s t r before entries rule fits no_arm here cached always = record {
   config = fits.config;
   sound = subst (λ (x : Config). IsSoundImage x.protocol x.logical (shape_of x) (state s.flash).image) fits.config fits.always.sound;
   no_arm = no_arm;

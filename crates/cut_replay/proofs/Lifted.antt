@@ -4,7 +4,7 @@ use Rattle.std.specs.Prelude.{MatchBool, IfOk, IfErr}
 use Rattle.tx_types.specs.declared.config.Config.{Config}
 use Rattle.tx_types.specs.declared.config.Shape.{Shape}
 use Rattle.tx_types.specs.Config.{checked, shape_of}
-use Rattle.flash_model.specs.Flash.{FlashState}
+use Rattle.flash_model.specs.Flash.{FlashState, counted_by}
 use Rattle.flash_model.specs.Calls.{BothTell, Rose, Spends}
 use Rattle.flash_model.specs.Operations.{Moment, moment_of}
 use Rattle.record_list.specs.Records.{mention}
@@ -18,6 +18,7 @@ use Rattle.host_protocol.specs.declared.reply.Reply.TheVariants as reply
 use Rattle.cut_replay.specs.Run.{DoesCommand, IsCut, MayBeCut, MayComplete, NotDone, is_arm, seen_after}
 use Rattle.cut_replay.specs.FlashRun.{Point, IsDone, MovesBy, ServesFlash, Tells, HasErased, opening_point}
 use Rattle.cut_replay.specs.Bounds.{CountsBreak}
+use Rattle.cut_replay.specs.MountedAgain.{MountsAfter}
 use Rattle.cut_replay.specs.Mounted.{point_at, MomentStays}
 use Rattle.page_cache.specs.CachedPages.{CachedPages}
 use Rattle.cut_replay.specs.Sessions.{flash_in, point_of, StandsMounted, StandsUnmounted, IsSpentBy, ServesIn, ServesSession, IsSoundOrSame, EndsServing, EndsFor, MountsIn, MeetsFault, Mounted, Unmounted, CachesServed, CachesFrom, CachesSession}
@@ -88,6 +89,16 @@ sound_or_same_from : (its : Config) (a b new : FlashState) → moment_of b ≡ m
 sound_or_same_from its a b new same (inl sound) = inl (subst (λ (m : Moment). IsSoundImage its.protocol its.logical (shape_of its) m.image) same sound.0, sound.1)
 sound_or_same_from its a b new same (inr is) = inr (is ∙ same)
 
+-- a device that is mounted did the command
+lifted_mounts : (a b : Point) (r : Reply) (new : Point) (before first now : ℕ) → a.state.up ≡ true → before ≡ first →
+    MountsAfter a r new before now → MountsAfter b r new first now
+lifted_mounts a b r new before first now up quiet (inl again) = inl (λ cut. elim (again cut) [
+  | inl not ↦ (let down = not.0.0 in absurd cc)
+  | inr mounted ↦ inr mounted
+])
+lifted_mounts a b r new before first now up quiet (inr failed) =
+    inr (failed.0, subst (λ n. counted_by 2 n ≤ now) quiet failed.1)
+
 pub lifted_serves : {F R : Type 0} (state : F → FlashState) (its : Config) (flash : F) (t : Standing F) (c : Command) (r : Reply) (new : Session F R) → is_arm c ≡ false → MountsIn state its flash t →
     ServesSession {R = R} state its c (session.Mounted t) r new → ServesSession {R = R} state its c (session.Unmounted flash) r new
 lifted_serves state its flash t c r new no_arm mounts h = record {
@@ -97,6 +108,8 @@ lifted_serves state its flash t c r new no_arm mounts h = record {
   spends = spends_after c r (state flash).told (state t.flash).told (state (flash_in new)).told mounts.still.told h.spends;
   set = h.set;
   faults = subst (λ n. CountsBreak r n (state (flash_in new)).faults) mounts.quiet h.faults;
+  mounts = lifted_mounts (point_at state t) (opening_point its false (moment_of (state flash))) r (point_of state its new) (state t.flash).faults (state flash).faults
+      (state (flash_in new)).faults refl mounts.quiet h.mounts;
   extras = h.extras ∙ mounts.still.extras;
 }
 
@@ -180,6 +193,7 @@ not_done_serves {F = F} R state its c flash new r no_arm h is =
       spends = not_done_spends c (state flash) (state new) r is h;
       set = sets_none c no_arm (state new).told;
       faults = not_done_counts (state new) r (state flash).faults (state new).faults is h.rose;
+      mounts = inl (λ cut. inl ((refl, not_done_reply (state new) r is, ap (λ (p : Point). p.state) same), h.still.moment));
       extras = h.still.extras;
     }
 

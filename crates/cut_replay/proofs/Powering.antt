@@ -6,13 +6,14 @@ use Rattle.tx_types.specs.declared.config.Slot.{Slot}
 use Rattle.tx_types.specs.Config.{shape_of}
 use Rattle.flash_model.specs.Flash.{FlashState, Contents}
 use Rattle.flash_model.specs.Arms.{TurnsOn}
-use Rattle.flash_model.specs.Calls.{Carries, BothTell, NoMore, Rose, Spends}
+use Rattle.flash_model.specs.Calls.{Carries, BothTell, NoMoreToCome, Rose, Spends}
 use Rattle.flash_model.specs.Operations.{moment_of}
 use Rattle.version_index.specs.Images.{IsLeastImageBreach, array_in}
 use Rattle.scan_recovery.specs.Opening.{IsOpened}
+use Rattle.scan_recovery.specs.Reading.{read_more}
 use Rattle.tx_engine.specs.ArrayState.{idle}
 use Rattle.tx_engine.specs.Standing.{Standing}
-use Rattle.tx_engine.specs.Opens.{Mounts, FailsToMount}
+use Rattle.tx_engine.specs.Opens.{Mounts, FailsToMount, mount_reads}
 use Rattle.tx_engine.specs.declared.mount.MountError.TheVariants as mount
 use Rattle.tx_engine.specs.Always.{HoldsAlways}
 use Rattle.cut_replay.specs.Mounted.{MomentStays, StaysQuiet}
@@ -28,7 +29,7 @@ powered_still old on new broken turned moment carries = record {
   moment = moment ∙ ap moment_of turned;
   shape = carries.shape ∙ ap (λ (s : FlashState). s.shape) turned;
   later = subst (λ (s : FlashState). s.faults ≤ new.faults) turned carries.later;
-  told = subst (λ (s : FlashState). BothTell NoMore s.told new.told) turned carries.no_more;
+  told = subst (λ (s : FlashState). BothTell NoMoreToCome s.told new.told) turned carries.no_more;
   extras = carries.extras ∙ ap (λ (s : FlashState). s.extras) turned;
 }
 
@@ -41,9 +42,9 @@ powered_quiet old on new turned moment carries = record {
 pub powered_live : (old on : FlashState) → TurnsOn old on → on.live ≡ true
 powered_live old on turned = ap (λ (s : FlashState). s.live) turned
 
-pub powered_mounts : {F : Type 0} (state : F → FlashState) (its : Config) (kept : Protocol) (old on : F) (s : Standing F) → its.protocol ≡ kept → TurnsOn (state old) (state on) →
-    Mounts state on its s → HoldsAlways state kept s → MountsIn state its old s
-powered_mounts state its kept old on s rule turned mounts always =
+pub powered_mounts : {F : Type 0} (state : F → FlashState) (its : Config) (protocol : Protocol) (old on : F) (s : Standing F) → its.protocol ≡ protocol → TurnsOn (state old) (state on) →
+    Mounts state on its s → HoldsAlways state protocol s → MountsIn state its old s
+powered_mounts state its protocol old on s rule turned mounts always =
     let image : (state on).image ≡ (state old).image = ap (λ (x : FlashState). x.image) turned in
     record {
       config = mounts.config;
@@ -54,6 +55,7 @@ powered_mounts state its kept old on s rule turned mounts always =
       tables = subst (λ (x : List Contents). IsOpened its x s.noted s.table) image mounts.tables;
       still = powered_still (state old) (state on) (state s.flash) false turned mounts.moment mounts.carries;
       quiet = mounts.carries.quiet ∙ ap (λ (x : FlashState). x.faults) turned;
+      reads = subst (λ (x : FlashState). (state s.flash).reads ≡ read_more (mount_reads its x) x.reads) turned mounts.reads;
       always = subst (λ (p : Protocol). HoldsAlways state p s) (sym rule) always;
     }
 

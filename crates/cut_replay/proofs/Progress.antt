@@ -11,26 +11,29 @@ use Rattle.tx_types.specs.declared.config.Config.{Config}
 use Rattle.tx_types.specs.declared.config.Slot.{Slot}
 use Rattle.tx_types.specs.declared.memory.Memory.{Memory}
 use Rattle.tx_types.specs.Config.{shape_of}
-use Rattle.flash_model.specs.Flash.{FlashState, Told}
-use Rattle.flash_model.specs.Calls.{BothTell, NoMore}
+use Rattle.page_cache.specs.CachedPages.{CachedPage}
+use Rattle.flash_model.specs.Flash.{FlashState, IsSteady, Told}
+use Rattle.flash_model.specs.Calls.{BothTell, NoMoreToCome}
 use Rattle.flash_model.specs.Operations.{Moment, moment_of}
 use Rattle.version_index.specs.Images.{IsSoundImage, IsLeastImageBreach}
 use Rattle.host_protocol.specs.declared.command.Command.{Command}
 use Rattle.host_protocol.specs.declared.reply.Reply.{Reply}
 use Rattle.host_protocol.specs.declared.reply.Reply.TheVariants as reply
 use Rattle.host_protocol.specs.Replies.{text_of}
-use Rattle.cut_replay.specs.Run.{seen_after}
-use Rattle.cut_replay.specs.FlashRun.{Point, IsPoint, FlashRun, ServesFlash, opening_point, mentions_in, last_moment}
+use Rattle.cut_replay.specs.Run.{RunState, seen_after}
+use Rattle.cut_replay.specs.FlashRun.{Point, IsPoint, FlashRun, ServesFlash, opening_point, opening_state, mentions_in, last_moment, last_state}
 use Rattle.cut_replay.specs.Watching.{ToldReply, Grew, text_of_all, replies_told}
 use Rattle.cut_replay.specs.Bounds.{SpendsTold, LastIsSet, CountsBreak, CountsBreaks}
+use Rattle.cut_replay.specs.MountedAgain.{MountsAfter, CountsMounts}
 use Rattle.cut_replay.specs.Served.{Watched, ServesRun, ServesSound, ServesUnsound, CountsTold, RefusesUnsound}
-use Rattle.cut_replay.specs.Sessions.{flash_in, point_of, IsSoundFlash, StandsAt, ServesIn, ServesSession, EndsServing, EndsFor, EndsForMemory, Refuses, IsSpentBy, IsSoundOrSame, RepliesUnmounted}
+use Rattle.cut_replay.specs.Sessions.{flash_in, point_of, Fits, IsSoundFlash, StandsAt, ServesIn, ServesSession, EndsServing, EndsFor, EndsForMemory, Refuses, IsSpentBy, IsSoundOrSame, RepliesUnmounted}
 use Rattle.cut_replay.specs.Beginning.{Begins}
 use Rattle.cut_replay.specs.declared.serving.ServeError.{ServeError}
 use Rattle.cut_replay.specs.declared.serving.ServeError.TheVariants as failed
 use Rattle.cut_replay.specs.declared.session.Session.{Session}
 use Rattle.cut_replay.specs.declared.session.Session.TheVariants as session
-use Rattle.cut_replay.proofs.Mountings.{sound_unbroken}
+use Rattle.version_index.proofs.OneBreach.{sound_unbroken}
+use Rattle.cut_replay.proofs.MountingAgain.{mounts_more, mounts_later, mounts_same, last_state_is}
 use Rattle.cut_replay.proofs.Runs.{last_point, seen_through, faulted_through, run_more, last_more, seen_more, faulted_more, last_moment_is, run_lengths, grew_none, grew_more, text_more, told_more, spends_nothing, spends_more, spends_later, counts_more, counts_later, last_sets, none_sets}
 
 -- the moment of a session is that of its flash
@@ -56,6 +59,8 @@ pub record HasServed {F R : Type 0} (state : F → FlashState) (its : Config) (i
   pub text : Grew before.text after.text (text_of_all replies)
   pub kept : Grew before.kept after.kept (replies_told replies points)
   pub set : IfSome (state (flash_in s)).told (LastIsSet cs)
+  pub mounted : IsSteady init → runs.up ≡ true
+  pub mounts : CountsMounts its runs.up replies points init (state (flash_in s))
 
 -- at the beginning
 pub served_none : {F R : Type 0} (state : F → FlashState) (its : Config) (init : FlashState) (s : Session F R) (w : Watched) → Begins state its init s → HasServed state its init [] s w w
@@ -74,6 +79,8 @@ served_none state its init s w h = record {
   text = grew_none w.text;
   kept = grew_none w.kept;
   set = none_sets (state (flash_in s)).told;
+  mounted = h.mounted;
+  mounts = record { failed = 0; mounts = refl; faults = h.faults.least };
 }
 
 -- one command more
@@ -103,6 +110,7 @@ runs_more state its init cs rs ps c r s t h served spends faults =
 pub served_more : {F R : Type 0} (state : F → FlashState) (its : Config) (init : FlashState) (cs : List Command) (c : Command) (r : Reply) (s t : Session F R) (a b d : Watched) →
     HasServed state its init cs s a b → ServesSession state its c s r t → Grew b.text d.text (text_of r) → Grew b.kept d.kept (record { text = text_of r; moment = moment_of (state (flash_in t)) } ∷ []) →
     HasServed state its init (cs ++ c ∷ []) t a d
+unfolding runs_more
 served_more state its init cs c r s t a b d h serves text kept =
     let p = point_of state its t in
     let same = run_lengths its (mentions_in its (moment_of init)) false (opening_point its h.runs.up (moment_of init)) cs h.replies h.points h.runs.run in
@@ -115,6 +123,9 @@ served_more state its init cs c r s t a b d h serves text kept =
           (grew_more a.kept b.kept d.kept (replies_told h.replies h.points) (record { text = text_of r; moment = p.moment } ∷ []) h.kept
           (subst (λ (m : Moment). Grew b.kept d.kept (record { text = text_of r; moment = m } ∷ [])) (sym (point_moment state its t)) kept));
       set = last_sets cs c (state (flash_in t)).told serves.set;
+      mounted = h.mounted;
+      mounts = mounts_more its h.runs.up h.replies h.points r p init (state (flash_in s)) (state (flash_in t)) h.mounts serves.faults
+          (subst (λ (q : Point). MountsAfter q r p (state (flash_in s)).faults (state (flash_in t)).faults) h.runs.last serves.mounts);
     }
 
 -- What has been served is what serving comes to
@@ -124,7 +135,7 @@ run_parts state its init cs rs ps s final h same =
     same ∙ sym (point_moment state its s) ∙ ap (λ (p : Point). p.moment) h.last ∙ last_moment_is (opening_point its h.up (moment_of init)) ps
 
 pub all_served : {F R : Type 0} (state : F → FlashState) (its : Config) (init : FlashState) (cs : List Command) (s : Session F R) (final : FlashState) (a b : Watched) → HasServed state its init cs s a b →
-    moment_of final ≡ moment_of (state (flash_in s)) → BothTell NoMore (state (flash_in s)).told final.told → final.faults ≡ (state (flash_in s)).faults → ServesRun its cs (length cs) init final a b
+    moment_of final ≡ moment_of (state (flash_in s)) → BothTell NoMoreToCome (state (flash_in s)).told final.told → final.faults ≡ (state (flash_in s)).faults → ServesRun its cs (length cs) init final a b
 all_served state its init cs s final a b h same no_more quiet =
     let lengths = run_lengths its (mentions_in its (moment_of init)) false (opening_point its h.runs.up (moment_of init)) cs h.replies h.points h.runs.run in
     let replies = take_whole (length cs) h.replies lengths.0 in
@@ -139,12 +150,17 @@ all_served state its init cs s final a b h same no_more quiet =
           (subst (λ (x : List Point). Grew a.kept b.kept (replies_told h.replies x)) (sym points) h.kept);
       spends = spends_later cs h.replies init.told (state (flash_in s)).told final.told h.runs.spends no_more;
       faults = counts_later h.replies init (state (flash_in s)) final h.runs.faults quiet;
+      up = λ steady. inr (h.mounted steady);
+      mounts = subst (λ (x : List Reply). CountsMounts its h.runs.up x (take (length cs) h.points) init final) (sym replies)
+          (subst (λ (x : List Point). CountsMounts its h.runs.up h.replies x init final) (sym points)
+          (mounts_same its h.runs.up h.replies h.points init (state (flash_in s)) final h.mounts quiet));
     }
 
 -- where one command more was served whose reply was not told
 pub one_untold : {F R : Type 0} (state : F → FlashState) (its : Config) (init : FlashState) (cs : List Command) (c : Command) (r : Reply) (s t : Session F R) (a b d : Watched) → HasServed state its init cs s a b →
     ((seen : ℕ → ℕ) → (faulted : Bool) → StandsAt state its seen faulted s → ServesIn state its seen faulted c s r t) → BothTell (IsSpentBy c r) (state (flash_in s)).told (state (flash_in t)).told →
     CountsBreak r (state (flash_in s)).faults (state (flash_in t)).faults → d.text ≡ b.text → d.kept ≡ b.kept → ServesRun its (cs ++ c ∷ []) (length cs) init (state (flash_in t)) a d
+unfolding runs_more
 one_untold state its init cs c r s t a b d h served spends faults text kept =
     let lengths = run_lengths its (mentions_in its (moment_of init)) false (opening_point its h.runs.up (moment_of init)) cs h.replies h.points h.runs.run in
     let p = point_of state its t in
@@ -161,6 +177,10 @@ one_untold state its init cs c r s t a b d h served spends faults text kept =
           (subst (λ (x : List Point). Grew a.kept d.kept (replies_told h.replies x)) (sym points) (subst (λ (o : Option (List ToldReply)). Grew a.kept o (replies_told h.replies h.points)) (sym kept) h.kept));
       spends = runs.spends;
       faults = runs.faults;
+      up = λ steady. inr (h.mounted steady);
+      mounts = subst (λ (x : List Reply). CountsMounts its h.runs.up x (take (length cs) (h.points ++ p ∷ [])) init (state (flash_in t))) (sym replies)
+          (subst (λ (x : List Point). CountsMounts its h.runs.up h.replies x init (state (flash_in t))) (sym points)
+          (mounts_later its h.runs.up h.replies h.points r init (state (flash_in s)) (state (flash_in t)) h.mounts faults));
     }
 
 -- The next command of a list
@@ -190,7 +210,7 @@ ended_for_memory {F = F} {R = R} state its init list at c s flash a b lt read h 
 -- a session that stands has no image that is refused
 unrefused : {F R : Type 0} (state : F → FlashState) (its : Config) (seen : ℕ → ℕ) (faulted : Bool) (s : Session F R) (flash : F) (law : ℕ) (slot : Slot) → StandsAt state its seen faulted s → Refuses state its s flash law slot → ⊥
 unrefused state its seen faulted (session.Mounted s) flash law slot stands h = h
-unrefused state its seen faulted (session.Unmounted old) flash law slot stands h = sound_unbroken its (state old).image (record { law = law; slot = slot }) stands.sound h.1
+unrefused state its seen faulted (session.Unmounted old) flash law slot stands h = sound_unbroken its.protocol its.logical (shape_of its) (state old).image (record { law = law; slot = slot }) stands.sound h.1
 
 pub ended_in : {F R : Type 0} (state : F → FlashState) (its : Config) (init : FlashState) (list : List Command) (at : ℕ) (c : Command) (s : Session F R) (flash : F) (why : ServeError) (a b : Watched) → at < length list →
     c ≡ get_or list at c → HasServed state its init (take at list) s a b → EndsServing state its c s flash why → ServesSound its list init (state flash) a b (Err why)
@@ -212,17 +232,30 @@ untold_in state its init list at c r s t flash a b d lt read h serves is text ke
     )
 
 -- all was served
-no_more_same : (o : Option Told) → BothTell NoMore o o
+no_more_same : (o : Option Told) → BothTell NoMoreToCome o o
 no_more_same None = tt
 no_more_same (Some told) = (omega arith, omega arith)
 
-pub served_to_the_end : {F R : Type 0} (state : F → FlashState) (its : Config) (init : FlashState) (list : List Command) (at : ℕ) (s : Session F R) (flash : F) (a b : Watched) → length list ≤ at → HasServed state its init (take at list) s a b →
-    flash ≡ flash_in s → ServesSound its list init (state flash) a b (Ok tt)
-served_to_the_end state its init list at s flash a b ge h is =
+fits_live : {F R : Type 0} (state : F → FlashState) (its : Config) (cache : List CachedPage) (s : Session F R) → Fits state its cache s →
+    (point_of state its s).state.up ≡ true → (state (flash_in s)).live ≡ true
+fits_live state its cache (session.Mounted t) fits up = fits.live
+fits_live state its cache (session.Unmounted flash) fits up = cc
+
+ends_live : {F R : Type 0} (state : F → FlashState) (its : Config) (init : FlashState) (cs : List Command) (cache : List CachedPage) (s : Session F R) (a b : Watched) →
+    Fits state its cache s → (h : HasServed state its init cs s a b) → (last_state (opening_state its h.runs.up (moment_of init)) h.points).up ≡ true →
+    (state (flash_in s)).live ≡ true
+ends_live state its init cs cache s a b fits h up =
+    fits_live state its cache s fits (ap (λ (p : Point). p.state.up) h.runs.last
+    ∙ ap (λ (x : RunState). x.up) (last_state_is (opening_point its h.runs.up (moment_of init)) h.points) ∙ up)
+
+pub served_to_the_end : {F R : Type 0} (state : F → FlashState) (its : Config) (init : FlashState) (list : List Command) (at : ℕ) (cache : List CachedPage) (s : Session F R) (flash : F) (a b : Watched) → length list ≤ at →
+    Fits state its cache s → HasServed state its init (take at list) s a b → flash ≡ flash_in s → ServesSound its list init (state flash) a b (Ok tt)
+unfolding all_served
+served_to_the_end state its init list at cache s flash a b ge fits h is =
     let whole : take at list ≡ list = take_all at list ge in
     let end = subst (λ (cs : List Command). HasServed state its init cs s a b) whole h in
     subst (λ x. ServesSound its list init (state x) a b (Ok tt)) (sym is)
-    (all_served state its init list s (state (flash_in s)) a b end refl (no_more_same (state (flash_in s)).told) refl, end.set)
+    (all_served state its init list s (state (flash_in s)) a b end refl (no_more_same (state (flash_in s)).told) refl, end.set, ends_live state its init list cache s a b fits end)
 
 -- Of the flash that was handed in
 pub kept_more : (its : Config) (init old new : FlashState) → IsSoundOrSame its init old → IsSoundOrSame its old new → IsSoundOrSame its init new
@@ -235,7 +268,7 @@ refused_for : {F R : Type 0} (state : F → FlashState) (its : Config) (init : F
     EndsFor state its c s flash (failed.Unsound law slot) → RefusesUnsound its init (state flash) (Err (failed.Unsound law slot))
 refused_for state its init c (session.Mounted s) flash law slot kept ends = absurd ends
 refused_for state its init c (session.Unmounted old) flash law slot (inl sound) ends =
-    absurd (sound_unbroken its (state old).image (record { law = law; slot = slot }) sound.1 ends.1)
+    absurd (sound_unbroken its.protocol its.logical (shape_of its) (state old).image (record { law = law; slot = slot }) sound.1 ends.1)
 refused_for state its init c (session.Unmounted old) flash law slot (inr same) ends =
     (ends.0.still.moment ∙ same, subst (λ (m : Moment). IsLeastImageBreach its.protocol its.logical (shape_of its) m.image (record { law = law; slot = slot })) same ends.1)
 

@@ -1,22 +1,14 @@
--- Runs on a flash as runs of the array machine, and runs in which no break was to come.
-use Rattle.std.proofs.Common.{◌≡◌, ◌⊎◌, ℕ, ◌≤◌, Bool, true, false, ◌||◌, List, [], ◌∷◌, length, take, get_or, Option, Some, None, refl, ap, inl, inr, arith}
-use Rattle.std.specs.Prelude.{All, MatchBool, count_by, IsSome}
-use Rattle.std.proofs.lemmas.List.{take_all}
-use Rattle.std.proofs.lemmas.List.Elements.{All-take}
-use Rattle.list_facts.proofs.Tests.{none_counted, all_uncounted}
+-- Runs on a flash as runs of the array machine.
+use Rattle.std.proofs.Common.{◌≡◌, ◌⊎◌, ℕ, Bool, true, false, ◌||◌, List, [], ◌∷◌, refl, ap, inl, inr}
+use Rattle.std.specs.Prelude.{MatchBool}
 use Rattle.tx_types.specs.declared.config.Config.{Config}
-use Rattle.tx_engine.specs.ArrayState.{ArrayState, Entry, entry_of}
 use Rattle.tx_engine.specs.Standing.{limits_of}
-use Rattle.tx_engine.specs.Submit.{Limits}
-use Rattle.tx_engine.specs.Unbroken.{finish_answer}
 use Rattle.host_protocol.specs.declared.command.Command.{Command}
-use Rattle.host_protocol.specs.declared.command.Command.TheVariants as command
 use Rattle.host_protocol.specs.declared.reply.Reply.{Reply}
 use Rattle.host_protocol.specs.declared.reply.Reply.TheVariants as reply
-use Rattle.cut_replay.specs.Run.{Run, Serves, DoesCommand, NotDone, IsCut, is_arm, is_break, seen_after, step_reply}
+use Rattle.cut_replay.specs.Run.{Run, Serves, DoesCommand, NotDone, IsCut, is_arm, seen_after}
 use Rattle.cut_replay.specs.FlashRun.{Point, FlashRun, ServesFlash, IsDone, MovesBy, is_fault, last_state}
-use Rattle.cut_replay.specs.Bounds.{AreFew, is_cut, arms_cut, arms_fault}
-use Rattle.cut_replay.specs.Unbroken.{UnbrokenRun, FinishesAreDone, state_after}
+pub use Rattle.array_machine.proofs.Quiet.{none_broken, finishes_done}
 
 -- a command on a flash is one on the array machine
 match_weaker : (b : Bool) (P P' Q Q' : Type 0) → (P → P') → (Q → Q') → MatchBool b P Q → MatchBool b P' Q'
@@ -44,46 +36,3 @@ flash_run_is_run its seen faulted old (d ∷ cs) [] ps run = absurd run
 flash_run_is_run its seen faulted old (d ∷ cs) (s ∷ rs) [] run = absurd run
 flash_run_is_run its seen faulted old (d ∷ cs) (s ∷ rs) (q ∷ ps) run =
     (q.state, run.0.0, run.0.1, serves_run its run.0.0 faulted d old s q run.0.2, flash_run_is_run its (seen_after seen d s) (faulted || is_fault s) q cs rs ps run.2)
-
-no_arm_cut : (c : Command) → is_arm c ≡ false → arms_cut c ≡ false
-no_arm_cut (command.Cut count what) h = cc
-no_arm_cut _ h = refl
-
-no_arm_fault : (c : Command) → is_arm c ≡ false → arms_fault c ≡ false
-no_arm_fault (command.Fault count what) h = cc
-no_arm_fault (command.BadRead count) h = cc
-no_arm_fault _ h = refl
-
-no_break : (r : Reply) → is_cut r ≡ false → is_fault r ≡ false → is_break r ≡ false
-no_break reply.Cut cut fault = cc
-no_break reply.Fault cut fault = cc
-no_break _ cut fault = refl
-
-no_breaks : (rs : List Reply) → All (λ r. is_cut r ≡ false) rs → All (λ r. is_fault r ≡ false) rs → All (λ r. is_break r ≡ false) rs
-no_breaks rs cut fault k d lt = no_break (get_or rs k d) (cut k d lt) (fault k d lt)
-
-pub none_broken : (cs : List Command) (rs : List Reply) → All (λ c. is_arm c ≡ false) cs → AreFew 0 0 cs rs → All (λ r. is_break r ≡ false) rs
-none_broken cs rs none few =
-    let n = length rs in
-    let whole : take n rs ≡ rs = take_all n rs (omega arith) in
-    let front = All-take (λ c. is_arm c ≡ false) n cs none in
-    let cuts : count_by arms_cut (take n cs) ≡ 0 = none_counted arms_cut (take n cs) (λ k d lt. no_arm_cut (get_or (take n cs) k d) (front k d lt)) in
-    let faults : count_by arms_fault (take n cs) ≡ 0 = none_counted arms_fault (take n cs) (λ k d lt. no_arm_fault (get_or (take n cs) k d) (front k d lt)) in
-    let most = few n in
-    let no_cut : count_by is_cut (take n rs) ≤ 0 = omega (arith, most.0, cuts) in
-    let no_fault : count_by is_fault (take n rs) ≤ 0 = omega (arith, most.1, faults) in
-    no_breaks rs (all_uncounted is_cut rs (rw whole at no_cut)) (all_uncounted is_fault rs (rw whole at no_fault))
-
--- Each finish is done
-finish_done : (tag : ℕ) (o : Option Entry) (r : Reply) → r ≡ step_reply tag (finish_answer o) → IsSome o → r ≡ reply.Done tag
-finish_done tag None r h some = cc
-finish_done tag (Some e) r h some = h
-
-pub finishes_done : (limits : Limits) (spents : List (ℕ → Bool)) (old : ArrayState) (cs : List Command) (rs : List Reply) (new : ArrayState) →
-    UnbrokenRun limits spents old cs rs new → FinishesAreDone limits spents old cs rs
-finishes_done limits [] old cs rs new run = tt
-finishes_done limits (spent ∷ spents) old [] rs new run = tt
-finishes_done limits (spent ∷ spents) old (c ∷ cs) [] new run = tt
-finishes_done limits (spent ∷ spents) old (command.Finish tag ∷ cs) (r ∷ rs) new run =
-    (finish_done tag (entry_of tag old.entries) r run.0, finishes_done limits spents (state_after limits spent (command.Finish tag) old) cs rs new run.1)
-finishes_done limits (spent ∷ spents) old (c ∷ cs) (r ∷ rs) new run = (tt, finishes_done limits spents (state_after limits spent c old) cs rs new run.1)

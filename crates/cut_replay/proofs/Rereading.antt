@@ -9,10 +9,10 @@ use Rattle.page_cache.specs.CachedPages.{CachedPage, CachedPages}
 use Rattle.tx_engine.specs.ArrayState.{Pages, page_at}
 use Rattle.tx_engine.specs.Read.{ReadsPage, ReadsFlash, read_place}
 use Rattle.tx_engine.specs.Standing.{Standing}
-use Rattle.tx_engine.specs.declared.read.ReadAnswer.{ReadAnswer}
-use Rattle.tx_engine.specs.declared.read.ReadAnswer.TheVariants as answer
-use Rattle.tx_engine.specs.declared.read.ReadError.{ReadError}
-use Rattle.tx_engine.specs.declared.read.ReadError.TheVariants as unread
+use Rattle.array_machine.specs.declared.answers.ReadAnswer.{ReadAnswer}
+use Rattle.array_machine.specs.declared.answers.ReadAnswer.TheVariants as answer
+use Rattle.array_machine.specs.declared.answers.ReadError.{ReadError}
+use Rattle.array_machine.specs.declared.answers.ReadError.TheVariants as unread
 use Rattle.cut_replay.specs.Mounted.{is_cached, ReadsThrough, ReadsOnce, CachesRead, CachesPage, KeepsPage, brought_forward, with_page}
 
 -- one read more where it is counted

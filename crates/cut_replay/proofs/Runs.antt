@@ -9,7 +9,7 @@ use Rattle.std.proofs.lemmas.List.Sums.{sum_by_push}
 use Rattle.list_facts.proofs.Quantifiers.{all_left, all_right}
 use Rattle.tx_types.specs.declared.config.Config.{Config}
 use Rattle.flash_model.specs.Flash.{FlashState, Told, counted_by}
-use Rattle.flash_model.specs.Calls.{BothTell, NoMore, Rose}
+use Rattle.flash_model.specs.Calls.{BothTell, NoMoreToCome, Rose}
 use Rattle.host_protocol.specs.declared.command.Command.{Command}
 use Rattle.host_protocol.specs.declared.reply.Reply.{Reply}
 use Rattle.host_protocol.specs.Replies.{text_of}
@@ -128,7 +128,7 @@ none_taken : {X : Type 0} (test : X → Bool) (j : ℕ) → count_by test (take 
 none_taken test zero = refl
 none_taken test (suc j) = refl
 
-spent_nothing : (old new : Told) → NoMore old new → AreSpent [] [] old new
+spent_nothing : (old new : Told) → NoMoreToCome old new → AreSpent [] [] old new
 spent_nothing old new h = record {
   few = λ j. (omega (arith, none_taken is_cut j), omega (arith, none_taken is_fault j));
   cuts = omega (arith, h.0);
@@ -149,18 +149,18 @@ spent_more cs rs c r same x y z h k =
       breaks = breaks;
     }
 
-spent_later : (cs : List Command) (rs : List Reply) (x y z : Told) → AreSpent cs rs x y → NoMore y z → AreSpent cs rs x z
+spent_later : (cs : List Command) (rs : List Reply) (x y z : Told) → AreSpent cs rs x y → NoMoreToCome y z → AreSpent cs rs x z
 spent_later cs rs x y z h k = record { few = h.few; cuts = omega (arith, h.cuts, k.0); breaks = omega (arith, h.breaks, k.1) }
 
-pub spends_nothing : (a b : Option Told) → BothTell NoMore a b → SpendsTold [] [] a b
-spends_nothing a b = weaker_told NoMore (AreSpent [] []) spent_nothing a b
+pub spends_nothing : (a b : Option Told) → BothTell NoMoreToCome a b → SpendsTold [] [] a b
+spends_nothing a b = weaker_told NoMoreToCome (AreSpent [] []) spent_nothing a b
 
 pub spends_more : (cs : List Command) (rs : List Reply) (c : Command) (r : Reply) (a b d : Option Told) → length rs ≡ length cs → SpendsTold cs rs a b → BothTell (IsSpentBy c r) b d →
     SpendsTold (cs ++ c ∷ []) (rs ++ r ∷ []) a d
 spends_more cs rs c r a b d same = both_tell (AreSpent cs rs) (IsSpentBy c r) (AreSpent (cs ++ c ∷ []) (rs ++ r ∷ [])) (spent_more cs rs c r same) a b d
 
-pub spends_later : (cs : List Command) (rs : List Reply) (a b d : Option Told) → SpendsTold cs rs a b → BothTell NoMore b d → SpendsTold cs rs a d
-spends_later cs rs a b d = both_tell (AreSpent cs rs) NoMore (AreSpent cs rs) (spent_later cs rs) a b d
+pub spends_later : (cs : List Command) (rs : List Reply) (a b d : Option Told) → SpendsTold cs rs a b → BothTell NoMoreToCome b d → SpendsTold cs rs a d
+spends_later cs rs a b d = both_tell (AreSpent cs rs) NoMoreToCome (AreSpent cs rs) (spent_later cs rs) a b d
 
 -- How many faults were counted
 rose_more : (k a b d : ℕ) → counted_by k a ≤ b → Rose b d → counted_by (k + 1) a ≤ d

@@ -20,16 +20,16 @@ use Rattle.tx_engine.specs.Exits.{Exits, is_step_fault, is_abort_fault}
 use Rattle.tx_engine.specs.Standing.{Standing}
 use Rattle.tx_engine.specs.Collect.{CollectsAs}
 use Rattle.tx_engine.specs.Collections.{CollectsTables, HasNothingToCollect}
-use Rattle.tx_engine.specs.declared.collect.Collected.{Collected}
-use Rattle.tx_engine.specs.declared.collect.Collected.TheVariants as collected
-use Rattle.tx_engine.specs.declared.collect.Fault.{Fault}
+use Rattle.array_machine.specs.declared.answers.Collected.{Collected}
+use Rattle.array_machine.specs.declared.answers.Collected.TheVariants as collected
+use Rattle.array_machine.specs.declared.answers.Fault.{Fault}
 use Rattle.tx_engine.specs.Step.{StepsAs, AbortsAs, AbortGives, CutLeaves, settled, settled_entry}
-use Rattle.tx_engine.specs.declared.step.Progress.{Progress}
-use Rattle.tx_engine.specs.declared.step.Progress.TheVariants as progress
-use Rattle.tx_engine.specs.declared.step.StepError.{StepError}
-use Rattle.tx_engine.specs.declared.step.StepError.TheVariants as failed
-use Rattle.tx_engine.specs.declared.abort.Aborted.{Aborted}
-use Rattle.tx_engine.specs.declared.abort.Aborted.TheVariants as aborted
+use Rattle.array_machine.specs.declared.answers.Progress.{Progress}
+use Rattle.array_machine.specs.declared.answers.Progress.TheVariants as progress
+use Rattle.array_machine.specs.declared.answers.StepError.{StepError}
+use Rattle.array_machine.specs.declared.answers.StepError.TheVariants as failed
+use Rattle.array_machine.specs.declared.answers.Aborted.{Aborted}
+use Rattle.array_machine.specs.declared.answers.Aborted.TheVariants as aborted
 use Rattle.host_protocol.specs.declared.command.Command.TheVariants as command
 use Rattle.host_protocol.specs.declared.reply.Reply.{Reply}
 use Rattle.cut_replay.specs.Run.{step_reply, abort_reply, collect_reply, is_break}
@@ -58,22 +58,22 @@ step_sure old new tag (Ok p) sure unknown was whole = sure
 step_sure old new tag (Err failed.Unknown) sure unknown was whole = ap (λ (s : Standing _). s.unsure) (unknown refl) ∙ was
 step_sure old new tag (Err failed.Fault) sure unknown was whole = cc
 
-step_cuts : {F : Type 0} (state : F → FlashState) (kept : Protocol) (old new : Standing F) (there : Bool) (tag : ℕ) (result : Result Progress StepError) → HoldsAlways state kept new →
+step_cuts : {F : Type 0} (state : F → FlashState) (protocol : Protocol) (old new : Standing F) (there : Bool) (tag : ℕ) (result : Result Progress StepError) → HoldsAlways state protocol new →
     StepsAs there old.machine new.machine tag result → is_fault (step_reply tag result) ≡ true → MayHaveCut state (command.Step tag) old new
-step_cuts state kept old new there tag (Ok (progress.Wrote done all)) is steps fault = cc
-step_cuts state kept old new there tag (Ok progress.Done) is steps fault = cc
-step_cuts state kept old new there tag (Err failed.Unknown) is steps fault = cc
-step_cuts state kept old new there tag (Err failed.Fault) is steps fault = record { may = tt; leaves = is.step_cut old.machine there tag steps }
+step_cuts state protocol old new there tag (Ok (progress.Wrote done all)) is steps fault = cc
+step_cuts state protocol old new there tag (Ok progress.Done) is steps fault = cc
+step_cuts state protocol old new there tag (Err failed.Unknown) is steps fault = cc
+step_cuts state protocol old new there tag (Err failed.Fault) is steps fault = record { may = tt; leaves = is.step_cut old.machine there tag steps }
 
-pub step_serves : {F : Type 0} (state : F → FlashState) (kept : Protocol) (old new : Standing F) (there : Bool) (tag : ℕ) (result : Result Progress StepError) (r : Reply) →
-    HoldsAlways state kept old → HoldsAlways state kept new → StepsAs there old.machine new.machine tag result → Exits state old new (is_step_fault result) →
+pub step_serves : {F : Type 0} (state : F → FlashState) (protocol : Protocol) (old new : Standing F) (there : Bool) (tag : ℕ) (result : Result Progress StepError) (r : Reply) →
+    HoldsAlways state protocol old → HoldsAlways state protocol new → StepsAs there old.machine new.machine tag result → Exits state old new (is_step_fault result) →
     OnOk result (new.unsure ≡ unsure.Nothing) → (result ≡ Err failed.Unknown → new ≡ old) → r ≡ step_reply tag result → ServesHere state (command.Step tag) old new r
-step_serves state kept old new there tag result r was is steps exits sure unknown told =
+step_serves state protocol old new there tag result r was is steps exits sure unknown told =
     let breaks = step_breaks tag result in
     subst (λ (q : Reply). ServesHere state (command.Step tag) old new q) (sym told)
-    (exits_serve state kept (command.Step tag) old new (step_reply tag result) (is_step_fault result) was is exits breaks.0 breaks.1 breaks.2
+    (exits_serve state protocol (command.Step tag) old new (step_reply tag result) (is_step_fault result) was is exits breaks.0 breaks.1 breaks.2
     (result, (there, steps), refl) (λ still. cc) (λ faulted h. step_tells old.config faulted (point_at state old) (point_at state new) tag result) (step_sure old new tag result sure unknown)
-    (step_cuts state kept old new there tag result is steps))
+    (step_cuts state protocol old new there tag result is steps))
 
 -- An abort
 abort_breaks : (tag : ℕ) (result : Result Aborted StepError) → (is_break (abort_reply tag result) ≡ is_abort_fault result) × (is_fault (abort_reply tag result) ≡ is_abort_fault result) × (is_cut (abort_reply tag result) ≡ false)
@@ -100,27 +100,27 @@ aborts_same : (o : Option Entry) (there : Bool) (old new : ArrayState) (tag : �
 aborts_same None there old new tag result is h = cc
 aborts_same (Some e) there old new tag result is h = subst (λ (x : Result Aborted StepError). AbortGives old (settled there old) tag (settled_entry there e) x new) is h
 
-abort_cuts : {F : Type 0} (state : F → FlashState) (kept : Protocol) (old new : Standing F) (there : Bool) (tag : ℕ) (result : Result Aborted StepError) → HoldsAlways state kept new →
+abort_cuts : {F : Type 0} (state : F → FlashState) (protocol : Protocol) (old new : Standing F) (there : Bool) (tag : ℕ) (result : Result Aborted StepError) → HoldsAlways state protocol new →
     AbortsAs there old.machine new.machine tag result → is_fault (abort_reply tag result) ≡ true → MayHaveCut state (command.Abort tag) old new
-abort_cuts state kept old new there tag (Ok aborted.Gone) is aborts fault = cc
-abort_cuts state kept old new there tag (Ok aborted.Late) is aborts fault = cc
-abort_cuts state kept old new there tag (Err failed.Unknown) is aborts fault = cc
-abort_cuts state kept old new there tag (Err failed.Fault) is aborts fault = record {
+abort_cuts state protocol old new there tag (Ok aborted.Gone) is aborts fault = cc
+abort_cuts state protocol old new there tag (Ok aborted.Late) is aborts fault = cc
+abort_cuts state protocol old new there tag (Err failed.Unknown) is aborts fault = cc
+abort_cuts state protocol old new there tag (Err failed.Fault) is aborts fault = record {
   may = tt;
   leaves = let same = aborts_same (entry_of tag old.machine.entries) there old.machine new.machine tag (Err failed.Fault) refl aborts in
       subst (λ (m : ArrayState). CutLeaves (λ e. ⊥) m (idle (array_in new.config.protocol new.config.logical (state new.flash).image))) same is.same_cut;
 }
 
-pub abort_serves : {F : Type 0} (state : F → FlashState) (kept : Protocol) (old new : Standing F) (there : Bool) (tag : ℕ) (result : Result Aborted StepError) (r : Reply) →
-    HoldsAlways state kept old → HoldsAlways state kept new → AbortsAs there old.machine new.machine tag result → Exits state old new (is_abort_fault result) →
+pub abort_serves : {F : Type 0} (state : F → FlashState) (protocol : Protocol) (old new : Standing F) (there : Bool) (tag : ℕ) (result : Result Aborted StepError) (r : Reply) →
+    HoldsAlways state protocol old → HoldsAlways state protocol new → AbortsAs there old.machine new.machine tag result → Exits state old new (is_abort_fault result) →
     moment_of (state new.flash) ≡ moment_of (state old.flash) → OnOk result (new.unsure ≡ unsure.Nothing) → (result ≡ Err failed.Unknown → new ≡ old) →
     r ≡ abort_reply tag result → ServesHere state (command.Abort tag) old new r
-abort_serves state kept old new there tag result r was is aborts exits still sure unknown told =
+abort_serves state protocol old new there tag result r was is aborts exits still sure unknown told =
     let breaks = abort_breaks tag result in
     subst (λ (q : Reply). ServesHere state (command.Abort tag) old new q) (sym told)
-    (exits_serve state kept (command.Abort tag) old new (abort_reply tag result) (is_abort_fault result) was is exits breaks.0 breaks.1 breaks.2
+    (exits_serve state protocol (command.Abort tag) old new (abort_reply tag result) (is_abort_fault result) was is exits breaks.0 breaks.1 breaks.2
     (result, (there, aborts), refl) (λ h. still) (λ faulted h. abort_tells old.config faulted (point_at state old) (point_at state new) tag result)
-    (abort_sure old new tag result sure unknown) (abort_cuts state kept old new there tag result is aborts))
+    (abort_sure old new tag result sure unknown) (abort_cuts state protocol old new there tag result is aborts))
 
 -- A collection
 collect_breaks : (result : Result Collected Fault) → (is_break (collect_reply result) ≡ is_err result) × (is_fault (collect_reply result) ≡ is_err result) × (is_cut (collect_reply result) ≡ false)
@@ -132,15 +132,15 @@ collect_sure : {F : Type 0} (new : Standing F) (result : Result Collected Fault)
 collect_sure new (Ok p) sure whole = sure
 collect_sure new (Err fault) sure whole = cc
 
-collect_cuts : {F : Type 0} (state : F → FlashState) (kept : Protocol) (old new : Standing F) (there : Bool) (result : Result Collected Fault) → HoldsAlways state kept new →
+collect_cuts : {F : Type 0} (state : F → FlashState) (protocol : Protocol) (old new : Standing F) (there : Bool) (result : Result Collected Fault) → HoldsAlways state protocol new →
     CollectsAs there old.machine new.machine result → is_fault (collect_reply result) ≡ true → MayHaveCut state command.Collect old new
-collect_cuts state kept old new there (Ok collected.One) is collects fault = cc
-collect_cuts state kept old new there (Ok collected.Nothing) is collects fault = cc
-collect_cuts state kept old new there (Err fault) is (inl same) met = record {
+collect_cuts state protocol old new there (Ok collected.One) is collects fault = cc
+collect_cuts state protocol old new there (Ok collected.Nothing) is collects fault = cc
+collect_cuts state protocol old new there (Err fault) is (inl same) met = record {
   may = tt;
   leaves = subst (λ (m : ArrayState). CutLeaves (λ e. ⊥) m (idle (array_in new.config.protocol new.config.logical (state new.flash).image))) same is.same_cut;
 }
-collect_cuts state kept old new there (Err fault) is (inr settles) met = record { may = tt; leaves = is.settled_cut old.machine there settles }
+collect_cuts state protocol old new there (Err fault) is (inr settles) met = record { may = tt; leaves = is.settled_cut old.machine there settles }
 
 -- the operations of a collection end in an erase
 erased_last : (its : Config) (shape : Shape) (old new : Moment) (first more : List Operation) (block : ℕ) → shape ≡ shape_of its →
@@ -160,14 +160,14 @@ collect_tells state old new n t faulted (Ok collected.One) shape tables nothing 
 collect_tells state old new n t faulted (Ok collected.Nothing) shape tables nothing = nothing refl
 collect_tells state old new n t faulted (Err fault) shape tables nothing = tt
 
-pub collect_serves : {F : Type 0} (state : F → FlashState) (kept : Protocol) (old new : Standing F) (there : Bool) (n : Noted) (t : BlockTable) (result : Result Collected Fault) (r : Reply) →
-    HoldsAlways state kept old → HoldsAlways state kept new → CollectsAs there old.machine new.machine result → Exits state old new (is_err result) → OnOk result (new.unsure ≡ unsure.Nothing) →
+pub collect_serves : {F : Type 0} (state : F → FlashState) (protocol : Protocol) (old new : Standing F) (there : Bool) (n : Noted) (t : BlockTable) (result : Result Collected Fault) (r : Reply) →
+    HoldsAlways state protocol old → HoldsAlways state protocol new → CollectsAs there old.machine new.machine result → Exits state old new (is_err result) → OnOk result (new.unsure ≡ unsure.Nothing) →
     IfOk result (Collections state old new n t) →
     (result ≡ Ok collected.Nothing → HasNothingToCollect old.config.protocol old.config.logical (state new.flash).image new.machine.entries) →
     r ≡ collect_reply result → ServesHere state command.Collect old new r
-collect_serves state kept old new there n t result r was is collects exits sure tables nothing told =
+collect_serves state protocol old new there n t result r was is collects exits sure tables nothing told =
     let breaks = collect_breaks result in
     subst (λ (q : Reply). ServesHere state command.Collect old new q) (sym told)
-    (exits_serve state kept command.Collect old new (collect_reply result) (is_err result) was is exits breaks.0 breaks.1 breaks.2
+    (exits_serve state protocol command.Collect old new (collect_reply result) (is_err result) was is exits breaks.0 breaks.1 breaks.2
     (result, (there, collects), refl) (λ still. cc) (λ faulted h. collect_tells state old new n t faulted result was.shape tables nothing)
-    (λ h. collect_sure new result sure) (collect_cuts state kept old new there result is collects))
+    (λ h. collect_sure new result sure) (collect_cuts state protocol old new there result is collects))

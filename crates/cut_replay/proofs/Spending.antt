@@ -2,7 +2,7 @@
 use Rattle.std.proofs.Common.{◌≡◌, true, false, Option, Some, None, refl, arith}
 use Rattle.std.specs.Prelude.{IfSome}
 use Rattle.flash_model.specs.Flash.{Told}
-use Rattle.flash_model.specs.Calls.{BothTell, NoMore, Spends}
+use Rattle.flash_model.specs.Calls.{BothTell, NoMoreToCome, Spends}
 use Rattle.host_protocol.specs.declared.command.Command.{Command}
 use Rattle.host_protocol.specs.declared.command.Command.TheVariants as command
 use Rattle.host_protocol.specs.declared.reply.Reply.{Reply}
@@ -33,39 +33,39 @@ both_tells P Q S with None (Some y) p q = absurd p
 both_tells P Q S with (Some x) None p q = absurd p
 both_tells P Q S with (Some x) (Some y) p q = with x y p q
 
-pub no_more_then : (a b c : Option Told) → BothTell NoMore a b → BothTell NoMore b c → BothTell NoMore a c
-no_more_then a b c = both_tell NoMore NoMore NoMore (λ x y z p q. (omega (arith, p.0, q.0), omega (arith, p.1, q.1))) a b c
+pub no_more_then : (a b c : Option Told) → BothTell NoMoreToCome a b → BothTell NoMoreToCome b c → BothTell NoMoreToCome a c
+no_more_then a b c = both_tell NoMoreToCome NoMoreToCome NoMoreToCome (λ x y z p q. (omega (arith, p.0, q.0), omega (arith, p.1, q.1))) a b c
 
 -- nothing is used up
-spent_none : (c : Command) (r : Reply) (x y : Told) → is_cut r ≡ false → is_fault r ≡ false → NoMore x y → IsSpentBy c r x y
+spent_none : (c : Command) (r : Reply) (x y : Told) → is_cut r ≡ false → is_fault r ≡ false → NoMoreToCome x y → IsSpentBy c r x y
 spent_none c r x y cut fault no_more = record {
   cuts = rw cut (let most = no_more.0 in omega arith);
   breaks = rw fault (let most = no_more.1 in omega arith);
 }
 
-pub spends_none : (c : Command) (r : Reply) (a b : Option Told) → is_cut r ≡ false → is_fault r ≡ false → BothTell NoMore a b → BothTell (IsSpentBy c r) a b
-spends_none c r a b cut fault h = both_tells NoMore NoMore (IsSpentBy c r) (λ x y p q. spent_none c r x y cut fault p) a b h h
+pub spends_none : (c : Command) (r : Reply) (a b : Option Told) → is_cut r ≡ false → is_fault r ≡ false → BothTell NoMoreToCome a b → BothTell (IsSpentBy c r) a b
+spends_none c r a b cut fault h = both_tells NoMoreToCome NoMoreToCome (IsSpentBy c r) (λ x y p q. spent_none c r x y cut fault p) a b h h
 
 -- a fault
-pub spends_fault : (c : Command) (a b : Option Told) → BothTell NoMore a b → BothTell (Spends true) a b → BothTell (IsSpentBy c reply.Fault) a b
-spends_fault c a b = both_tells NoMore (Spends true) (IsSpentBy c reply.Fault) (λ x y p q. record { cuts = omega (arith, p.0); breaks = omega (arith, q) }) a b
+pub spends_fault : (c : Command) (a b : Option Told) → BothTell NoMoreToCome a b → BothTell (Spends true) a b → BothTell (IsSpentBy c reply.Fault) a b
+spends_fault c a b = both_tells NoMoreToCome (Spends true) (IsSpentBy c reply.Fault) (λ x y p q. record { cuts = omega (arith, p.0); breaks = omega (arith, q) }) a b
 
 -- a cut
-pub spends_cut : (c : Command) (a b : Option Told) → BothTell NoMore a b → BothTell (Spends false) a b → BothTell (IsSpentBy c reply.Cut) a b
-spends_cut c a b = both_tells NoMore (Spends false) (IsSpentBy c reply.Cut) (λ x y p q. record { cuts = omega (arith, q); breaks = omega (arith, p.1) }) a b
+pub spends_cut : (c : Command) (a b : Option Told) → BothTell NoMoreToCome a b → BothTell (Spends false) a b → BothTell (IsSpentBy c reply.Cut) a b
+spends_cut c a b = both_tells NoMoreToCome (Spends false) (IsSpentBy c reply.Cut) (λ x y p q. record { cuts = omega (arith, q); breaks = omega (arith, p.1) }) a b
 
 -- before or after it, where no more is to come
-spent_after : (c : Command) (r : Reply) (x y z : Told) → NoMore x y → IsSpentBy c r y z → IsSpentBy c r x z
+spent_after : (c : Command) (r : Reply) (x y z : Told) → NoMoreToCome x y → IsSpentBy c r y z → IsSpentBy c r x z
 spent_after c r x y z p q = record { cuts = omega (arith, p.0, q.cuts); breaks = omega (arith, p.1, q.breaks) }
 
-pub spends_after : (c : Command) (r : Reply) (a b d : Option Told) → BothTell NoMore a b → BothTell (IsSpentBy c r) b d → BothTell (IsSpentBy c r) a d
-spends_after c r a b d = both_tell NoMore (IsSpentBy c r) (IsSpentBy c r) (spent_after c r) a b d
+pub spends_after : (c : Command) (r : Reply) (a b d : Option Told) → BothTell NoMoreToCome a b → BothTell (IsSpentBy c r) b d → BothTell (IsSpentBy c r) a d
+spends_after c r a b d = both_tell NoMoreToCome (IsSpentBy c r) (IsSpentBy c r) (spent_after c r) a b d
 
-spent_before : (c : Command) (r : Reply) (x y z : Told) → IsSpentBy c r x y → NoMore y z → IsSpentBy c r x z
+spent_before : (c : Command) (r : Reply) (x y z : Told) → IsSpentBy c r x y → NoMoreToCome y z → IsSpentBy c r x z
 spent_before c r x y z p q = record { cuts = omega (arith, q.0, p.cuts); breaks = omega (arith, q.1, p.breaks) }
 
-pub spends_before : (c : Command) (r : Reply) (a b d : Option Told) → BothTell (IsSpentBy c r) a b → BothTell NoMore b d → BothTell (IsSpentBy c r) a d
-spends_before c r a b d = both_tell (IsSpentBy c r) NoMore (IsSpentBy c r) (spent_before c r) a b d
+pub spends_before : (c : Command) (r : Reply) (a b d : Option Told) → BothTell (IsSpentBy c r) a b → BothTell NoMoreToCome b d → BothTell (IsSpentBy c r) a d
+spends_before c r a b d = both_tell (IsSpentBy c r) NoMoreToCome (IsSpentBy c r) (spent_before c r) a b d
 
 -- a command that is no arm sets none
 none_set : (c : Command) → is_arm c ≡ false → (told : Told) → IsSet c told

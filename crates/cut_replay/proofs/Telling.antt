@@ -31,12 +31,12 @@ use Rattle.tx_engine.specs.OpenTable.{next_name}
 use Rattle.tx_engine.specs.Read.{ReadsPage, is_read_fault}
 use Rattle.tx_engine.specs.Standing.{Standing, Naming, limits_of}
 use Rattle.tx_engine.specs.Submit.{Submits, is_of, opened, refusal}
-use Rattle.tx_engine.specs.declared.read.ReadAnswer.{ReadAnswer}
-use Rattle.tx_engine.specs.declared.read.ReadAnswer.TheVariants as read
-use Rattle.tx_engine.specs.declared.read.ReadError.{ReadError}
-use Rattle.tx_engine.specs.declared.read.ReadError.TheVariants as unread
-use Rattle.tx_engine.specs.declared.submit.SubmitError.{SubmitError}
-use Rattle.tx_engine.specs.declared.submit.SubmitError.TheVariants as refused
+use Rattle.array_machine.specs.declared.answers.ReadAnswer.{ReadAnswer}
+use Rattle.array_machine.specs.declared.answers.ReadAnswer.TheVariants as read
+use Rattle.array_machine.specs.declared.answers.ReadError.{ReadError}
+use Rattle.array_machine.specs.declared.answers.ReadError.TheVariants as unread
+use Rattle.array_machine.specs.declared.answers.SubmitError.{SubmitError}
+use Rattle.array_machine.specs.declared.answers.SubmitError.TheVariants as refused
 use Rattle.host_protocol.specs.declared.command.Command.{Command}
 use Rattle.host_protocol.specs.declared.command.Command.TheVariants as command
 use Rattle.host_protocol.specs.declared.reply.Reply.{Reply}
@@ -77,14 +77,18 @@ pub stats_serves : {F : Type 0} (state : F → FlashState) (s : Standing F) (tol
 stats_serves state s told machine programs erases =
     same_serves state command.Stats s (reply.Stats told) refl refl refl (told, machine, refl, refl) (λ faulted h. (programs, erases))
 
-pub report_serves : {F : Type 0} (state : F → FlashState) (kept : Protocol) (s : Standing F) (list : List Found) (text : List ℕ) → HoldsAlways state kept s → list ≡ found_in s.noted.notes →
-    text ≡ report kept list s.config.logical → ServesHere state command.Explain s s (reply.Report text)
-report_serves state kept s list text is found told =
+pub report_serves : {F : Type 0} (state : F → FlashState) (protocol : Protocol) (s : Standing F) (list : List Found) (text : List ℕ) → HoldsAlways state protocol s → list ≡ found_in s.noted.notes →
+    text ≡ report protocol list s.config.logical → ServesHere state command.Explain s s (reply.Report text)
+report_serves state protocol s list text is found told =
     same_serves state command.Explain s (reply.Report text) refl refl refl ((text, refl), refl)
-    (λ faulted h whole.
-    let from : records_in s.config.protocol (state s.flash).image ≡ list = is.records (h whole) ∙ sym found in
-    let rule : kept ≡ s.config.protocol = sym is.rule in
-    told ∙ ap (λ p. report p list s.config.logical) rule ∙ ap (λ l. report s.config.protocol l s.config.logical) (sym from))
+    (λ faulted h.
+    let rule : protocol ≡ s.config.protocol = sym is.rule in
+    let on : text ≡ report s.config.protocol list s.config.logical = told ∙ ap (λ p. report p list s.config.logical) rule in (
+      (list, on),
+      λ whole.
+          let from : records_in s.config.protocol (state s.flash).image ≡ list = is.records (h whole) ∙ sym found in
+          on ∙ ap (λ l. report s.config.protocol l s.config.logical) (sym from),
+    ))
 
 -- A read
 read_breaks : (page : ℕ) (bytes : List ℕ) (result : Result ReadAnswer ReadError) →
@@ -108,11 +112,11 @@ read_may logical pages page bytes (Err unread.Range) reads fault = cc
 read_may logical pages page bytes (Err unread.Fault) reads fault = reads.1
 
 -- only the flash changed, and its moment stays
-pub flash_serves : {F : Type 0} (state : F → FlashState) (kept : Protocol) (old : Standing F) (flash : F) (page : ℕ) (bytes : List ℕ) (result : Result ReadAnswer ReadError) →
+pub flash_serves : {F : Type 0} (state : F → FlashState) (protocol : Protocol) (old : Standing F) (flash : F) (page : ℕ) (bytes : List ℕ) (result : Result ReadAnswer ReadError) →
     (let new : Standing F = record old { flash = flash } in
-    HoldsAlways state kept new → ReadsPage old.config.logical old.machine.pages page bytes result → moment_of (state flash) ≡ moment_of (state old.flash) →
+    HoldsAlways state protocol new → ReadsPage old.config.logical old.machine.pages page bytes result → moment_of (state flash) ≡ moment_of (state old.flash) →
     Carries (state old.flash) (state flash) (is_read_fault result) → ServesHere state (command.Read page) old new (read_reply page bytes result))
-flash_serves state kept old flash page bytes result is reads still carries =
+flash_serves state protocol old flash page bytes result is reads still carries =
     let breaks = read_breaks page bytes result in
     record {
       config = refl;
@@ -127,13 +131,13 @@ flash_serves state kept old flash page bytes result is reads still carries =
       whole = breaks.2;
     }
 
-pub read_serves : {F : Type 0} (state : F → FlashState) (kept : Protocol) (old new : Standing F) (page : ℕ) (bytes : List ℕ) (result : Result ReadAnswer ReadError) (r : Reply) →
-    HoldsAlways state kept new → ReadsPage old.config.logical old.machine.pages page bytes result → moment_of (state new.flash) ≡ moment_of (state old.flash) →
+pub read_serves : {F : Type 0} (state : F → FlashState) (protocol : Protocol) (old new : Standing F) (page : ℕ) (bytes : List ℕ) (result : Result ReadAnswer ReadError) (r : Reply) →
+    HoldsAlways state protocol new → ReadsPage old.config.logical old.machine.pages page bytes result → moment_of (state new.flash) ≡ moment_of (state old.flash) →
     Carries (state old.flash) (state new.flash) (is_read_fault result) → new ≡ record old { flash = new.flash } → r ≡ read_reply page bytes result → ServesHere state (command.Read page) old new r
-read_serves {F = F} state kept old new page bytes result r is reads still carries stays told =
+read_serves {F = F} state protocol old new page bytes result r is reads still carries stays told =
     subst (λ (q : Reply). ServesHere state (command.Read page) old new q) (sym told)
     (subst (λ (s : Standing F). ServesHere state (command.Read page) old s (read_reply page bytes result)) (sym stays)
-    (flash_serves state kept old new.flash page bytes result (subst (λ (s : Standing F). HoldsAlways state kept s) stays is) reads still carries))
+    (flash_serves state protocol old new.flash page bytes result (subst (λ (s : Standing F). HoldsAlways state protocol s) stays is) reads still carries))
 
 -- A write
 write_unbroken : (tag pages : ℕ) (result : Result (Unit {0}) SubmitError) →
@@ -197,7 +201,7 @@ named_after_seen old new seen tag batch (Err e) h names page version named =
     let least = seen_at seen (command.Write tag batch) (submit_reply tag (length batch.entries) (Err e)) page in omega arith
 named_after_seen old new seen tag batch (Ok u) h names page version named =
     let at = in_any (λ x. Any (λ name. (name.page ≡ page) × (name.version ≡ version)) x.names) new.namings named in
-    let mine : Naming = record { names = map (next_name old.noted) batch.entries; there = 0 } in
+    let mine : Naming = record { names = map (next_name old.noted) batch.entries; noted_count = 0 } in
     let where_from = Contains-push_cases old.namings mine at.0 (subst (λ (x : List Naming). Contains x at.0) names at.1) in
     elim where_from [
       | inl before ↦ (let most = h.names page version (any_in (λ x. Any (λ name. (name.page ≡ page) × (name.version ≡ version)) x.names) old.namings at.0 before at.2) in omega arith)
@@ -243,9 +247,9 @@ pub told_refused : (tag pages : ℕ) (e : SubmitError) (result : Result (Unit {0
 told_refused tag pages e result r told is = told ∙ ap (submit_reply tag pages) (sym is)
 
 -- a read whose reply there was memory for
-pub reads_serve : {F : Type 0} (state : F → FlashState) (kept : Protocol) (old new : Standing F) (page : ℕ) (bytes : List ℕ) (result : Result ReadAnswer ReadError) (r : Result Reply Memory) →
-    HoldsAlways state kept new → ReadsPage old.config.logical old.machine.pages page bytes result → moment_of (state new.flash) ≡ moment_of (state old.flash) →
+pub reads_serve : {F : Type 0} (state : F → FlashState) (protocol : Protocol) (old new : Standing F) (page : ℕ) (bytes : List ℕ) (result : Result ReadAnswer ReadError) (r : Result Reply Memory) →
+    HoldsAlways state protocol new → ReadsPage old.config.logical old.machine.pages page bytes result → moment_of (state new.flash) ≡ moment_of (state old.flash) →
     Carries (state old.flash) (state new.flash) (is_read_fault result) → new ≡ record old { flash = new.flash } → IfOk r (λ r. r ≡ read_reply page bytes result) →
     IfOk r (λ r. ServesHere state (command.Read page) old new r)
-reads_serve state kept old new page bytes result (Ok r) is reads still carries stays told = read_serves state kept old new page bytes result r is reads still carries stays told
-reads_serve state kept old new page bytes result (Err e) is reads still carries stays told = tt
+reads_serve state protocol old new page bytes result (Ok r) is reads still carries stays told = read_serves state protocol old new page bytes result r is reads still carries stays told
+reads_serve state protocol old new page bytes result (Err e) is reads still carries stays told = tt

@@ -1,35 +1,14 @@
 -- How many cuts and faults a run has: no more than were to come and were armed, and no more than
 -- the flash counts.
-use Rattle.std.specs.Prelude.{◌≡◌, ◌⊎◌, ℕ, ◌+◌, ◌≤◌, Bool, true, false, List, [], ◌∷◌, take, count_by, All, Option, Some, MatchBool}
+use Rattle.std.specs.Prelude.{◌≡◌, ◌⊎◌, ℕ, ◌+◌, ◌≤◌, false, List, [], ◌∷◌, count_by, All, Option, Some, MatchBool}
 use Rattle.flash_model.specs.Flash.{FlashState, Told, IsSteady, counted_by}
 use Rattle.flash_model.specs.Calls.{BothTell, Rose}
 use Rattle.host_protocol.specs.declared.command.Command.{Command}
 use Rattle.host_protocol.specs.declared.command.Command.TheVariants as command
 use Rattle.host_protocol.specs.declared.reply.Reply.{Reply}
-use Rattle.host_protocol.specs.declared.reply.Reply.TheVariants as reply
 use Rattle.cut_replay.specs.Run.{is_break}
 use Rattle.cut_replay.specs.FlashRun.{is_fault}
-
-abbrev pub is_cut : Reply → Bool
-is_cut reply.Cut = true
-is_cut _ = false
-
-abbrev pub arms_cut : Command → Bool
-arms_cut (command.Cut count what) = true
-arms_cut _ = false
-
-abbrev pub arms_fault : Command → Bool
-arms_fault (command.Fault count what) = true
-arms_fault (command.BadRead count) = true
-arms_fault _ = false
-
--- among the replies to the first so many commands there are at most as many cuts and faults as were
--- to come and were armed among these
-abbrev pub AreFew : ℕ → ℕ → List Command → List Reply → Type 0
-AreFew cuts breaks cs rs =
-    (j : ℕ) →
-    (count_by is_cut (take j rs) ≤ cuts + count_by arms_cut (take j cs))
-    × (count_by is_fault (take j rs) ≤ breaks + count_by arms_fault (take j cs))
+pub use Rattle.array_machine.specs.Breaks.{is_cut, arms_cut, arms_fault, AreFew}
 
 -- and with what is to come still, of all commands
 pub record AreSpent (cs : List Command) (rs : List Reply) (old new : Told) : Type 0 where

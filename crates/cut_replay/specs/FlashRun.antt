@@ -6,6 +6,7 @@ use Rattle.tx_types.specs.Config.{shape_of}
 use Rattle.flash_model.specs.Operations.{Operation, program, erase, Moment}
 use Rattle.flash_model.specs.Moves.{Does, Moves}
 use Rattle.record_list.specs.Records.{mention}
+use Rattle.record_list.specs.declared.found.Found.{Found}
 use Rattle.version_index.specs.Images.{records_in, array_in, IsSoundImage}
 use Rattle.verdict_report.specs.Report.{report}
 use Rattle.host_protocol.specs.declared.command.Command.{Command}
@@ -16,6 +17,7 @@ use Rattle.tx_engine.specs.ArrayState.{idle}
 use Rattle.tx_engine.specs.Collections.{HasNothingToCollect}
 use Rattle.tx_engine.specs.Exits.{StandsFor}
 use Rattle.tx_engine.specs.Standing.{limits_of}
+pub use Rattle.array_machine.specs.Breaks.{is_fault}
 use Rattle.cut_replay.specs.Run.{RunState, DoesCommand, NotDone, IsCut, MayBeSpent, is_arm, is_break, seen_after}
 
 -- where a run stands: its state, and what the flash holds and has counted
@@ -58,14 +60,19 @@ abbrev pub HasErased : Config → Moment → Moment → Type 0
 HasErased its old new =
     (done : List Operation) × Does (shape_of its) old done new × Any IsErase done
 
--- What a reply tells of the flash: the counts; the report on the records, where no fault was met
--- before; that a block was erased; that there is nothing to collect.
+-- the text is the report on some list of records
+abbrev pub IsReportOn : Config → List ℕ → Type 0
+IsReportOn its text = (list : List Found) × (text ≡ report its.protocol list its.logical)
+
+-- What a reply tells of the flash: the counts; the report on some records, which are those of the
+-- image where no fault was met before; that a block was erased; that there is nothing to collect.
 abbrev pub Tells : Config → Bool → Point → Reply → Point → Type 0
 Tells its faulted old (reply.Stats told) new =
     (told.programs ≡ new.moment.programs) × (told.erases ≡ new.moment.erases)
 Tells its faulted old (reply.Report text) new =
-    faulted ≡ false →
-    text ≡ report its.protocol (records_in its.protocol new.moment.image) its.logical
+    IsReportOn its text
+    × (faulted ≡ false →
+    text ≡ report its.protocol (records_in its.protocol new.moment.image) its.logical)
 Tells its faulted old reply.Collected new = HasErased its old.moment new.moment
 Tells its faulted old reply.Nothing new =
     HasNothingToCollect its.protocol its.logical new.moment.image new.state.machine.entries
@@ -86,10 +93,6 @@ ServesFlash its spent faulted c old r new =
     ((NotDone old.state r new.state × (new.moment ≡ old.moment))
     ⊎ (IsDone its spent faulted c old r new
     ⊎ (IsCut c old.state r new.state × MovesBy its c r old.moment new.moment)))
-
-abbrev pub is_fault : Reply → Bool
-is_fault reply.Fault = true
-is_fault _ = false
 
 -- A run over a list of commands: one reply and one point for each. `seen` is at least the greatest
 -- mention of each page on the flash, and `faulted` says whether a fault was met before.

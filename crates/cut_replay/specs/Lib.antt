@@ -1,8 +1,9 @@
-pub mod Run
-pub mod Unbroken
+pub use Rattle.array_machine.specs.Run
+pub use Rattle.array_machine.specs.Unbroken
 pub mod FlashRun
 pub mod Watching
 pub mod Bounds
+pub mod MountedAgain
 pub mod Mounted
 pub mod Sessions
 pub mod Beginning

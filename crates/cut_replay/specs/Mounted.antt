@@ -3,7 +3,7 @@ use Rattle.std.specs.Prelude.{◌≡◌, ◌<◌, ◌≤◌, ℕ, ◌⊎◌, Boo
 use Rattle.std.specs.Prelude.{Some, is_some, MatchBool, if◌then◌else◌}
 use Rattle.tx_types.specs.declared.memory.Memory.{Memory}
 use Rattle.flash_model.specs.Flash.{FlashState, counted}
-use Rattle.flash_model.specs.Calls.{Carries, BothTell, NoMore}
+use Rattle.flash_model.specs.Calls.{Carries, BothTell, NoMoreToCome}
 use Rattle.flash_model.specs.Operations.{moment_of}
 use Rattle.version_index.specs.Images.{array_in}
 use Rattle.version_index.specs.Noted.{current_of}
@@ -16,9 +16,9 @@ use Rattle.tx_engine.specs.Naming.{is_spent}
 use Rattle.tx_engine.specs.Read.{ReadsFlash, read_place}
 use Rattle.tx_engine.specs.Standing.{Standing, limits_of}
 use Rattle.tx_engine.specs.Step.{CutLeaves}
-use Rattle.tx_engine.specs.declared.read.ReadAnswer.{ReadAnswer}
-use Rattle.tx_engine.specs.declared.read.ReadAnswer.TheVariants as answer
-use Rattle.tx_engine.specs.declared.read.ReadError.{ReadError}
+use Rattle.array_machine.specs.declared.answers.ReadAnswer.{ReadAnswer}
+use Rattle.array_machine.specs.declared.answers.ReadAnswer.TheVariants as answer
+use Rattle.array_machine.specs.declared.answers.ReadError.{ReadError}
 use Rattle.host_protocol.specs.declared.command.Command.{Command}
 use Rattle.host_protocol.specs.declared.command.Command.TheVariants as command
 use Rattle.host_protocol.specs.declared.reply.Reply.{Reply}
@@ -70,7 +70,7 @@ pub record MomentStays (old new : FlashState) : Type 0 where
   pub moment : moment_of new ≡ moment_of old
   pub shape : new.shape ≡ old.shape
   pub later : old.faults ≤ new.faults
-  pub told : BothTell NoMore old.told new.told
+  pub told : BothTell NoMoreToCome old.told new.told
   pub extras : new.extras ≡ old.extras
 
 -- and no fault was counted

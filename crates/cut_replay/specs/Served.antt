@@ -1,16 +1,17 @@
 -- What serving a list of commands comes to.
-use Rattle.std.specs.Prelude.{◌≡◌, ◌⊎◌, ℕ, ◌+◌, ◌≤◌, List, length, take, map, Option, IfSome, OnOk, Result, Ok, Err}
+use Rattle.std.specs.Prelude.{◌≡◌, ◌⊎◌, ℕ, ◌+◌, ◌≤◌, true, List, [], length, take, map, Option, IfSome, OnOk, Result, Ok, Err}
 use Rattle.std.specs.List.{AllZip}
 use Rattle.tx_types.specs.declared.config.Config.{Config}
 use Rattle.tx_types.specs.Config.{shape_of}
-use Rattle.flash_model.specs.Flash.{FlashState}
+use Rattle.flash_model.specs.Flash.{FlashState, IsSteady}
 use Rattle.flash_model.specs.Operations.{moment_of}
 use Rattle.version_index.specs.Images.{IsLeastImageBreach}
 use Rattle.host_protocol.specs.declared.command.Command.{Command}
 use Rattle.host_protocol.specs.declared.reply.Reply.{Reply}
-use Rattle.cut_replay.specs.FlashRun.{Point, IsFlashRun, last_moment}
+use Rattle.cut_replay.specs.FlashRun.{Point, IsFlashRun, last_moment, last_state, opening_state}
 use Rattle.cut_replay.specs.Watching.{ToldReply, Grew, text_of_all, replies_told}
 use Rattle.cut_replay.specs.Bounds.{SpendsTold, LastIsSet, CountsBreaks}
+use Rattle.cut_replay.specs.MountedAgain.{CountsMounts}
 use Rattle.host_protocol.specs.Replies.{text_of}
 use Rattle.cut_replay.specs.Sessions.{IsSoundOrSame, RepliesUnmounted}
 use Rattle.cut_replay.specs.declared.serving.ServeError.{ServeError}
@@ -23,7 +24,10 @@ pub record Watched : Type 0 where
   pub kept : Option (List ToldReply)
 
 -- There is one run on the flash over these commands. Its last moment is that of the flash that
--- comes back. Of its replies the first so many were told, each with its moment.
+-- comes back. Of its replies the first so many were told, each with its moment. Where a command was
+-- served and the flash was live and told that no break was to come, the run begins mounted. When the
+-- reply `cut` of a command that was done is told, the device is mounted again, unless the mount met
+-- a fault.
 pub record ServesRun
     (its : Config) (cs : List Command) (told : ℕ) (old new : FlashState)
     (before after : Watched) : Type 0 where
@@ -35,12 +39,23 @@ pub record ServesRun
   pub kept : Grew before.kept after.kept (replies_told (take told replies) (take told points))
   pub spends : SpendsTold cs replies old.told new.told
   pub faults : CountsBreaks replies old new
+  pub up : IsSteady old → (cs ≡ []) ⊎ (run.up ≡ true)
+  pub mounts : CountsMounts its run.up (take told replies) (take told points) old new
+
+-- where the run ends with a mounted device, power is on
+abbrev pub EndsLive : (its : Config) (cs : List Command) (told : ℕ) (old new : FlashState)
+    (before after : Watched) → ServesRun its cs told old new before after → Type 0
+EndsLive its cs told old new before after serves =
+    (last_state (opening_state its serves.run.up (moment_of old)) serves.points).up ≡ true →
+    new.live ≡ true
 
 -- what serving comes to where the image handed in was sound
 abbrev pub ServesSound : Config → List Command → FlashState → FlashState → Watched → Watched →
     Result (Unit {0}) ServeError → Type 0
 ServesSound its cs old new before after (Ok u) =
-    ServesRun its cs (length cs) old new before after × IfSome new.told (LastIsSet cs)
+    (serves : ServesRun its cs (length cs) old new before after)
+    × IfSome new.told (LastIsSet cs)
+    × EndsLive its cs (length cs) old new before after serves
 ServesSound its cs old new before after (Err failed.Memory) =
     (told : ℕ) × (told ≤ length cs)
     × (ServesRun its (take told cs) told old new before after

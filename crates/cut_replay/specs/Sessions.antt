@@ -12,9 +12,11 @@ use Rattle.flash_model.specs.Operations.{moment_of}
 use Rattle.record_list.specs.Records.{mention}
 use Rattle.version_index.specs.Images.{IsSoundImage, IsLeastImageBreach, array_in, records_in}
 use Rattle.scan_recovery.specs.Opening.{IsOpened}
+use Rattle.scan_recovery.specs.Reading.{read_more}
 use Rattle.collector.specs.declared.unsure.Unsure.TheVariants as unsure
 use Rattle.page_cache.specs.CachedPages.{CachedPages, CachedPage}
 use Rattle.tx_engine.specs.ArrayState.{idle}
+use Rattle.tx_engine.specs.Opens.{mount_reads}
 use Rattle.tx_engine.specs.Standing.{Standing}
 use Rattle.host_protocol.specs.declared.command.Command.{Command}
 use Rattle.host_protocol.specs.declared.reply.Reply.{Reply}
@@ -22,6 +24,7 @@ use Rattle.host_protocol.specs.declared.reply.Reply.TheVariants as reply
 use Rattle.cut_replay.specs.Run.{MayBeSpent, is_arm, seen_after}
 use Rattle.cut_replay.specs.FlashRun.{Point, IsPoint, ServesFlash, is_fault, opening_point}
 use Rattle.cut_replay.specs.Bounds.{is_cut, arms_cut, arms_fault, IsSet, CountsBreak}
+use Rattle.cut_replay.specs.MountedAgain.{MountsAfter}
 use Rattle.tx_engine.specs.Always.{IsSeen, HoldsAlways}
 use Rattle.cut_replay.specs.Mounted.{point_at, IsCached, CachesCommand, MomentStays, StaysQuiet}
 use Rattle.cut_replay.specs.declared.session.Session.{Session}
@@ -114,6 +117,8 @@ pub record ServesSession {F R : Type 0}
   pub spends : BothTell (IsSpentBy c r) (state (flash_in old)).told (state (flash_in new)).told
   pub set : IfSome (state (flash_in new)).told (IsSet c)
   pub faults : CountsBreak r (state (flash_in old)).faults (state (flash_in new)).faults
+  pub mounts : MountsAfter (point_of state its old) r (point_of state its new)
+      (state (flash_in old)).faults (state (flash_in new)).faults
   pub extras : (state (flash_in new)).extras ≡ (state (flash_in old)).extras
 
 -- The flash was refused: it was never mounted, and its image is not sound.
@@ -150,7 +155,8 @@ pub record EndsServing {F R : Type 0}
   pub extras : (state flash).extras ≡ (state (flash_in old)).extras
   pub kept : IsSoundOrSame its (state (flash_in old)) (state flash)
 
--- What mounting a flash comes to: its device, with nothing open; or a read met a fault.
+-- What mounting a flash comes to: its device, with nothing open, by the reads of one mount; or a
+-- read met a fault.
 pub record MountsIn {F : Type 0} (state : F → FlashState) (its : Config) (flash : F)
     (s : Standing F) : Type 0 where
   pub config : s.config ≡ its
@@ -161,6 +167,7 @@ pub record MountsIn {F : Type 0} (state : F → FlashState) (its : Config) (flas
   pub tables : IsOpened its (state flash).image s.noted s.table
   pub still : MomentStays (state flash) (state s.flash)
   pub quiet : (state s.flash).faults ≡ (state flash).faults
+  pub reads : (state s.flash).reads ≡ read_more (mount_reads its (state flash)) (state flash).reads
   pub always : HoldsAlways state its.protocol s
 
 pub record MeetsFault (old new : FlashState) : Type 0 where
@@ -210,20 +217,20 @@ CachesSession state its c old r new before after =
 
 -- an arm of the flash is set, and all else of the session stays
 pub record SetsArmHere {F : Type 0}
-    (state : F → FlashState) (kept : Protocol) (sets : Told → Told → Type 0)
+    (state : F → FlashState) (protocol : Protocol) (sets : Told → Told → Type 0)
     (old new : Standing F) : Type 0 where
   pub stays : new ≡ record old { flash = new.flash }
   pub changes : ChangesTold sets (state old.flash) (state new.flash)
-  pub always : HoldsAlways state kept new
+  pub always : HoldsAlways state protocol new
 
 abbrev pub SetsArm : {F R : Type 0} → (F → FlashState) → Protocol → (Told → Told → Type 0) →
     Session F R → Session F R → Type 0
-SetsArm state kept sets (session.Mounted old) (session.Mounted new) =
-    SetsArmHere state kept sets old new
-SetsArm state kept sets (session.Unmounted old) (session.Unmounted new) =
+SetsArm state protocol sets (session.Mounted old) (session.Mounted new) =
+    SetsArmHere state protocol sets old new
+SetsArm state protocol sets (session.Unmounted old) (session.Unmounted new) =
     ChangesTold sets (state old) (state new)
-SetsArm state kept sets (session.Mounted old) (session.Unmounted new) = ⊥
-SetsArm state kept sets (session.Unmounted old) (session.Mounted new) = ⊥
+SetsArm state protocol sets (session.Mounted old) (session.Unmounted new) = ⊥
+SetsArm state protocol sets (session.Unmounted old) (session.Mounted new) = ⊥
 
 -- What comes of a call of a device: nothing more where it is live still, and else a mount of its
 -- flash.

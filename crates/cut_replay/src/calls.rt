@@ -14,9 +14,9 @@ use verdict_report::explain;
 /// Opens a transaction.
 pub fn write<F: Flash, R: CommitRule>(device: &mut Device<F, R>, tag: u32, batch: &Batch) -> Reply
     requires page { batch.now.page_bytes ≡ device.old.config.page_bytes }
-    requires always { HoldsAlways F.state R.kept device.old }
+    requires always { HoldsAlways F.state R.protocol device.old }
     ensures serves { ServesHere F.state (Command.Write tag batch.now) device.old device.new result }
-    ensures always { HoldsAlways F.state R.kept device.new }
+    ensures always { HoldsAlways F.state R.protocol device.new }
 {
     let answer = device.submit(tag, batch);
     held_always(device);
@@ -43,9 +43,9 @@ fn refused(tag: u32, refusal: SubmitError) -> Reply
 
 /// Goes on with a transaction by a page.
 pub fn step<F: Flash, R: CommitRule>(device: &mut Device<F, R>, tag: u32) -> Reply
-    requires { HoldsAlways F.state R.kept device.old }
+    requires { HoldsAlways F.state R.protocol device.old }
     ensures serves { ServesHere F.state (Command.Step tag) device.old device.new result }
-    ensures always { HoldsAlways F.state R.kept device.new }
+    ensures always { HoldsAlways F.state R.protocol device.new }
 {
     let answer = device.step(tag);
     held_always(device);
@@ -66,9 +66,9 @@ pub fn stepped(tag: u32, answer: Result<Progress, StepError>) -> Reply
 
 /// Gives a transaction up.
 pub fn abort<F: Flash, R: CommitRule>(device: &mut Device<F, R>, tag: u32) -> Reply
-    requires { HoldsAlways F.state R.kept device.old }
+    requires { HoldsAlways F.state R.protocol device.old }
     ensures serves { ServesHere F.state (Command.Abort tag) device.old device.new result }
-    ensures always { HoldsAlways F.state R.kept device.new }
+    ensures always { HoldsAlways F.state R.protocol device.new }
 {
     let answer = device.abort(tag);
     held_always(device);
@@ -89,9 +89,9 @@ fn given_up(tag: u32, answer: Result<Aborted, StepError>) -> Reply
 
 /// Wins a block back.
 pub fn collect<F: Flash, R: CommitRule>(device: &mut Device<F, R>) -> Reply
-    requires { HoldsAlways F.state R.kept device.old }
+    requires { HoldsAlways F.state R.protocol device.old }
     ensures serves { ServesHere F.state Command.Collect device.old device.new result }
-    ensures always { HoldsAlways F.state R.kept device.new }
+    ensures always { HoldsAlways F.state R.protocol device.new }
 {
     let answer = device.collect();
     held_always(device);

@@ -30,13 +30,13 @@ pub fn done<F: Flash, R: CommitRule>(
     requires room { length room.old ≡ device.old.config.page_bytes }
     requires size { cache.old.page_bytes ≡ device.old.config.page_bytes }
     requires cached { IsCached device.old cache.old.entries }
-    requires always { HoldsAlways F.state R.kept device.old }
+    requires always { HoldsAlways F.state R.protocol device.old }
     ensures ok { IfOk result (λ r. ServesHere F.state command.now device.old device.new r) }
     ensures err { OnErr result (StaysQuiet (F.state device.old.flash) (F.state device.new.flash)) }
     ensures caches { CachesCommand F.state command.now device.old device.new cache.old cache.new }
     ensures size { cache.new.page_bytes ≡ cache.old.page_bytes }
     ensures cached { IsCached device.new cache.new.entries }
-    ensures always { HoldsAlways F.state R.kept device.new }
+    ensures always { HoldsAlways F.state R.protocol device.new }
 {
     match command {
         Command::Read { page } => read(alloc, device, cache, room, *page),

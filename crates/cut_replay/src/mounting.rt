@@ -21,7 +21,7 @@ pub fn mount<F: Power, R: CommitRule>(
     cache: &mut PageCache,
 ) -> Result<Session<F, R>, Ended<F>>
     requires check { checked config ≡ Ok (F.state flash).shape }
-    requires rule { config.protocol ≡ R.kept }
+    requires rule { config.protocol ≡ R.protocol }
     ensures mounted { IfOk result (Mounted F.state config flash) }
     ensures failed { IfErr result (λ e. Unmounted F.state config flash e.flash e.why) }
     ensures cache { cache.new ≡ record cache.old { entries = [] } }
@@ -66,7 +66,7 @@ pub fn followed<F: Power, R: CommitRule>(
     reply: Reply,
 ) -> Result<(Session<F, R>, Reply), Ended<F>>
     requires check { checked config ≡ Ok (F.state device.flash).shape }
-    requires rule { config.protocol ≡ R.kept }
+    requires rule { config.protocol ≡ R.protocol }
     ensures { Follows F.state config device reply result cache.old cache.new }
 {
     if device.live() {

@@ -28,14 +28,14 @@ pub fn read<F: Flash, R: CommitRule>(
     requires room { length room.old ≡ device.old.config.page_bytes }
     requires size { cache.old.page_bytes ≡ device.old.config.page_bytes }
     requires cached { IsCached device.old cache.old.entries }
-    requires always { HoldsAlways F.state R.kept device.old }
+    requires always { HoldsAlways F.state R.protocol device.old }
     ensures ok { IfOk result (ServesHere F.state (Command.Read page) device.old device.new) }
     ensures err { OnErr result (StaysQuiet (F.state device.old.flash) (F.state device.new.flash)) }
     ensures once { ReadsOnce F.state device.old device.new cache.old.entries page }
     ensures keeps { CachesPage device.old cache.old cache.new page }
     ensures size { cache.new.page_bytes ≡ cache.old.page_bytes }
     ensures cached { IsCached device.new cache.new.entries }
-    ensures always { HoldsAlways F.state R.kept device.new }
+    ensures always { HoldsAlways F.state R.protocol device.new }
 {
     let (answer, _) = read_through(device, cache, room, page);
     held_always(device);

@@ -8,7 +8,7 @@ ghost use Rattle.cut_replay.specs.Bounds.{CountsBreaks};
 ghost use Rattle.cut_replay.specs.Mounted.{IsCached};
 ghost use Rattle.cut_replay.specs.Sessions.{flash_in, Fits, ServesSession, EndsServing, Unmounted};
 ghost use Rattle.cut_replay.specs.Sessions.{IsSoundFlash, IsSoundOrSame, CachesSession};
-ghost use Rattle.cut_replay.specs.Beginning.{Begins};
+ghost use Rattle.cut_replay.specs.Beginning.{Begins, MountsFirst};
 ghost use Rattle.cut_replay.specs.Served.{ServesSound, ServesUnsound, RefusesUnsound};
 
 use crate::Watch;
@@ -43,7 +43,7 @@ fn serve_mounted<F: Power, R: CommitRule>(
     room: &mut [u8],
     command: &Command,
 ) -> Result<(Session<F, R>, Reply), Ended<F>>
-    requires rule { config.protocol ≡ R.kept }
+    requires rule { config.protocol ≡ R.protocol }
     requires fits { Fits {R = R} F.state config cache.old.entries (Session.Mounted device) }
     requires no_arm { is_arm command.now ≡ false }
     requires suits { Suits config.page_bytes command.now }
@@ -76,7 +76,7 @@ fn serve_unmounted<F: Power, R: CommitRule>(
     room: &mut [u8],
     command: &Command,
 ) -> Result<(Session<F, R>, Reply), Ended<F>>
-    requires rule { config.protocol ≡ R.kept }
+    requires rule { config.protocol ≡ R.protocol }
     requires check { checked config ≡ Ok (F.state flash).shape }
     requires no_arm { is_arm command.now ≡ false }
     requires suits { Suits config.page_bytes command.now }
@@ -107,7 +107,7 @@ fn serve_one<F: Power + Arms, R: CommitRule>(
     room: &mut [u8],
     command: &Command,
 ) -> Result<(Session<F, R>, Reply), Ended<F>>
-    requires rule { config.protocol ≡ R.kept }
+    requires rule { config.protocol ≡ R.protocol }
     requires fits { Fits {R = R} F.state config cache.old.entries session }
     requires suits { Suits config.page_bytes command.now }
     requires room { length room.old ≡ config.page_bytes }
@@ -147,7 +147,7 @@ fn serve_all<F: Power + Arms, R: CommitRule, W: Watch<F>>(
     list: &[Command],
     out: &mut W,
 ) -> (F, Result<(), ServeError>)
-    requires rule { config.protocol ≡ R.kept }
+    requires rule { config.protocol ≡ R.protocol }
     requires fits { Fits {R = R} F.state config cache.old.entries session }
     requires suits { All (Suits config.page_bytes) list.now }
     requires room { length room.old ≡ config.page_bytes }
@@ -200,11 +200,12 @@ fn begin<F: Power, R: CommitRule>(
     cache: &mut PageCache,
 ) -> Result<Session<F, R>, Ended<F>>
     requires check { checked config ≡ Ok (F.state flash).shape }
-    requires rule { config.protocol ≡ R.kept }
+    requires rule { config.protocol ≡ R.protocol }
     ensures steady { IsSteady (F.state flash) → OnOk result (IsSoundFlash config (F.state flash)) }
     ensures fits { IfOk result (λ s. Fits F.state config cache.new.entries s) }
     ensures begins { IsSoundFlash config (F.state flash) →
         IfOk result (Begins F.state config (F.state flash)) }
+    ensures first { IfOk result (MountsFirst F.state config flash) }
     ensures kept { IfOk result (λ s.
         IsSoundOrSame config (F.state flash) (F.state (flash_in s))) }
     ensures faults { IfOk result (λ s.
@@ -226,13 +227,15 @@ fn begin<F: Power, R: CommitRule>(
 /// The check of the configuration gives the shape of the flash, and its protocol is that of `R`.
 /// Each batch that is written has pages of `page_bytes`, and each arm counts from 1.
 ///
-/// - Cuts: where power is cut in a command, its reply is `Cut`. Power is turned on and a mount is
-///   tried before this is told (no clause here says when). All open transactions are gone.
+/// - Cuts: where power is cut in a command, its reply is `Cut`. Before this is told power is turned
+///   on and the device is mounted again, unless that mount meets a fault, which is counted. All open
+///   transactions are gone.
 /// - Faults: where a command meets a fault and power stays on, its reply is `Fault`, and the device
 ///   goes on. The flash counts at least as many faults as such replies, `Cut` included. Where none is
 ///   told, and the flash had no power at the beginning or told that no break was to come, it counts
 ///   none. Else the mount at the beginning may meet one, which is not told.
-/// - Mounts: where a mount meets a fault, the flash stays unmounted. Each command after that, other
+/// - Mounts: a flash that is live and tells that no break is to come is mounted before the first
+///   command. Where a mount meets a fault, the flash stays unmounted. Each command after that, other
 ///   than an arm, turns power on and mounts first. Where that mount meets a fault, the command is
 ///   not done, and its reply is `Fault`, or `Cut` where power is off.
 /// - Cache (said by the calls inside, and by no clause here): a page that was read is kept, unless
@@ -251,7 +254,7 @@ pub fn serve<F: Power + Arms, R: CommitRule, W: Watch<F>>(
     out: &mut W,
 ) -> (F, Result<(), ServeError>)
     requires check { checked config ≡ Ok (F.state flash).shape }
-    requires rule { config.protocol ≡ R.kept }
+    requires rule { config.protocol ≡ R.protocol }
     requires suits { All (Suits config.page_bytes) list.now }
     ensures steady { IsSteady (F.state flash) →
         OnOk result.1 (IsSoundFlash config (F.state flash)) }

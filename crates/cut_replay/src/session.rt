@@ -50,7 +50,7 @@ impl<F: Arms, R: CommitRule> Session<F, R> {
     /// outcome.
     pub fn with_cut(self, count: u32, outcome: Outcome) -> Session<F, R>
         requires { 1 ≤ count }
-        ensures { SetsArm F.state R.kept (SetsCut (record { count = count; outcome = outcome }))
+        ensures { SetsArm F.state R.protocol (SetsCut (record { count = count; outcome = outcome }))
             self result }
     {
         match self {
@@ -70,7 +70,7 @@ impl<F: Arms, R: CommitRule> Session<F, R> {
     /// this outcome.
     pub fn with_fault(self, count: u32, outcome: Outcome) -> Session<F, R>
         requires { 1 ≤ count }
-        ensures { SetsArm F.state R.kept (SetsFault (record { count = count; outcome = outcome }))
+        ensures { SetsArm F.state R.protocol (SetsFault (record { count = count; outcome = outcome }))
             self result }
     {
         match self {
@@ -89,7 +89,7 @@ impl<F: Arms, R: CommitRule> Session<F, R> {
     /// A read from now on, the one of this number from 1, will meet a fault.
     pub fn with_bad_read(self, count: u32) -> Session<F, R>
         requires { 1 ≤ count }
-        ensures { SetsArm F.state R.kept (SetsBadRead count) self result }
+        ensures { SetsArm F.state R.protocol (SetsBadRead count) self result }
     {
         match self {
             Session::Mounted(mut device) => {

@@ -12,15 +12,15 @@ use Rattle.flash_model.proofs.CallLemmas.{Carries-nothing}
 use Rattle.flash_model.proofs.MoveLemmas.{FlashMoves-nothing}
 use Rattle.version_index.specs.Noted.{current_of}
 use Rattle.tx_engine.specs.ArrayState.{ArrayState, Entry, entry_of, has_tag, without, page_at}
-use Rattle.tx_engine.specs.declared.mark.Mark.{Mark}
-use Rattle.tx_engine.specs.declared.mark.Mark.TheVariants.{Plain, Doubt, Whole}
+use Rattle.array_machine.specs.declared.mark.Mark.{Mark}
+use Rattle.array_machine.specs.declared.mark.Mark.TheVariants.{Plain, Doubt, Whole}
 use Rattle.tx_engine.specs.Exits.{Exits, VersionsRise}
 use Rattle.tx_engine.specs.Standing.{Standing, Naming, Stands}
 use Rattle.tx_engine.specs.Step.{settled, settled_entry, AbortsAs, AbortGives}
-use Rattle.tx_engine.specs.declared.abort.Aborted.{Aborted}
-use Rattle.tx_engine.specs.declared.abort.Aborted.TheVariants as aborted
-use Rattle.tx_engine.specs.declared.step.StepError.{StepError}
-use Rattle.tx_engine.specs.declared.step.StepError.TheVariants as failed
+use Rattle.array_machine.specs.declared.answers.Aborted.{Aborted}
+use Rattle.array_machine.specs.declared.answers.Aborted.TheVariants as aborted
+use Rattle.array_machine.specs.declared.answers.StepError.{StepError}
+use Rattle.array_machine.specs.declared.answers.StepError.TheVariants as failed
 use Rattle.tx_engine.specs.OpenTable.{OpenTable, Opening, no_opening, opening_at, entries_of, namings_of}
 use Rattle.tx_engine.specs.Stored.{Stored}
 use Rattle.tx_engine.specs.Tables.{standing_in}

@@ -10,63 +10,63 @@ use Rattle.flash_model.specs.declared.flash.Broken.{Broken}
 use Rattle.version_index.specs.Noted.{current_of}
 use Rattle.collector.specs.declared.unsure.Unsure.TheVariants as unsure
 use Rattle.tx_engine.specs.ArrayState.{ArrayState, Entry, Pages, has_tag, is_doubted, put, with_entry, without}
-use Rattle.tx_engine.specs.declared.mark.Mark.{Mark}
-use Rattle.tx_engine.specs.declared.mark.Mark.TheVariants.{Plain, Doubt, Whole}
-use Rattle.tx_engine.specs.declared.step.Progress.{Progress}
-use Rattle.tx_engine.specs.declared.step.Progress.TheVariants as progress
+use Rattle.array_machine.specs.declared.mark.Mark.{Mark}
+use Rattle.array_machine.specs.declared.mark.Mark.TheVariants.{Plain, Doubt, Whole}
+use Rattle.array_machine.specs.declared.answers.Progress.{Progress}
+use Rattle.array_machine.specs.declared.answers.Progress.TheVariants as progress
 use Rattle.tx_engine.specs.Exits.{VersionsRise, is_plain}
 use Rattle.tx_engine.specs.Standing.{Standing, Stands, IsAsMarked}
 use Rattle.tx_engine.specs.Step.{GoesOn}
-use Rattle.tx_engine.specs.OpenTable.{OpenTable, Opening, no_opening, opening_at, entries_of, with_opening, with_mark, with_there}
-use Rattle.tx_engine.specs.Settling.{with_next, is_at_last, next_writes, is_whole, is_due, IsReady, Counts, Advances, AdvanceRises, WriteFails}
+use Rattle.tx_engine.specs.OpenTable.{OpenTable, Opening, no_opening, opening_at, entries_of, with_opening, with_mark, with_noted_count}
+use Rattle.tx_engine.specs.Settling.{with_next, is_at_last, next_writes, is_whole, is_due, CountsOn, Counts, Advances, AdvanceRises, WriteFails}
 use Rattle.tx_engine.specs.Stored.{Stored}
 use Rattle.tx_engine.specs.Tables.{standing_in}
 use Rattle.tx_engine.proofs.Aborting.{rises_on}
 use Rattle.tx_engine.proofs.Kept.{from_stands}
 use Rattle.tx_engine.proofs.OpenList.{IsFirstTagged, first_of_own, with_first}
 use Rattle.tx_engine.proofs.SettledLists.{calm_at}
-use Rattle.tx_engine.proofs.Unbroken.{goes_again}
+use Rattle.array_machine.proofs.UnbrokenCalls.{goes_again}
 use Rattle.tx_engine.proofs.WriteAfter.{settled_kept}
 
 -- Whether the next page is due
-ready_mark : (m : Mark) (o : Opening) → is_doubted m ≡ false → (m ≡ Plain → o.entry.done ≤ o.naming.there) → o.entry.mark ≡ m → is_due o ≡ false → IsReady o
+ready_mark : (m : Mark) (o : Opening) → is_doubted m ≡ false → (m ≡ Plain → o.entry.done ≤ o.naming.noted_count) → o.entry.mark ≡ m → is_due o ≡ false → CountsOn o
 ready_mark Plain o calm least is due =
-    let none : (o.naming.there == o.entry.done) ≡ false = ap (λ m. not (is_whole m) && (o.naming.there == o.entry.done)) (sym is) ∙ due in
-    let other = eqb-false o.naming.there o.entry.done none in
+    let none : (o.naming.noted_count == o.entry.done) ≡ false = ap (λ m. not (is_whole m) && (o.naming.noted_count == o.entry.done)) (sym is) ∙ due in
+    let other = eqb-false o.naming.noted_count o.entry.done none in
     let low = least refl in
     inr (is, omega (arith, other))
 ready_mark Doubt o calm least is due = cc
 ready_mark Whole o calm least is due = inl is
 
-due_mark : (m : Mark) (o : Opening) → is_doubted m ≡ false → o.entry.mark ≡ m → is_due o ≡ true → (o.entry.mark ≡ Plain) × (o.naming.there ≡ o.entry.done)
+due_mark : (m : Mark) (o : Opening) → is_doubted m ≡ false → o.entry.mark ≡ m → is_due o ≡ true → (o.entry.mark ≡ Plain) × (o.naming.noted_count ≡ o.entry.done)
 due_mark Plain o calm is due =
-    let same : (o.naming.there == o.entry.done) ≡ true = ap (λ m. not (is_whole m) && (o.naming.there == o.entry.done)) (sym is) ∙ due in
-    (is, eqb-true o.naming.there o.entry.done same)
+    let same : (o.naming.noted_count == o.entry.done) ≡ true = ap (λ m. not (is_whole m) && (o.naming.noted_count == o.entry.done)) (sym is) ∙ due in
+    (is, eqb-true o.naming.noted_count o.entry.done same)
 due_mark Doubt o calm is due = cc
 due_mark Whole o calm is due =
-    let no : false ≡ true = ap (λ m. not (is_whole m) && (o.naming.there == o.entry.done)) (sym is) ∙ due in cc
+    let no : false ≡ true = ap (λ m. not (is_whole m) && (o.naming.noted_count == o.entry.done)) (sym is) ∙ due in cc
 
-least_of : {F : Type 0} (state : F → FlashState) (S : Stored F) (o : Opening) (m : Mark) → IsAsMarked (state S.flash).image S.noted o.entry o.naming m → m ≡ Plain → o.entry.done ≤ o.naming.there
+least_of : {F : Type 0} (state : F → FlashState) (S : Stored F) (o : Opening) (m : Mark) → IsAsMarked (state S.flash).image S.noted o.entry o.naming m → m ≡ Plain → o.entry.done ≤ o.naming.noted_count
 least_of state S o Plain w is = w.least
 least_of state S o Doubt w is = w.0.least
 least_of state S o Whole w is = cc
 
 pub not_due_ready : {F : Type 0} (state : F → FlashState) (S : Stored F) (O : OpenTable) (i : ℕ) → Stands state (standing_in state S O) → S.unsure ≡ unsure.Nothing → i < length O.all →
-    is_due (opening_at O i) ≡ false → IsReady (opening_at O i)
+    is_due (opening_at O i) ≡ false → CountsOn (opening_at O i)
 not_due_ready state S O i h sure within due =
     let k = settled_kept state S O h sure in
     let o = opening_at O i in
     ready_mark o.entry.mark o (calm_at O.all k.doubt i within) (least_of state S o o.entry.mark (k.each i no_opening within).marked) refl due
 
 pub due_plain : {F : Type 0} (state : F → FlashState) (S : Stored F) (O : OpenTable) (i : ℕ) → Stands state (standing_in state S O) → S.unsure ≡ unsure.Nothing → i < length O.all →
-    is_due (opening_at O i) ≡ true → ((opening_at O i).entry.mark ≡ Plain) × ((opening_at O i).naming.there ≡ (opening_at O i).entry.done)
+    is_due (opening_at O i) ≡ true → ((opening_at O i).entry.mark ≡ Plain) × ((opening_at O i).naming.noted_count ≡ (opening_at O i).entry.done)
 due_plain state S O i h sure within due =
     let k = settled_kept state S O h sure in
     due_mark (opening_at O i).entry.mark (opening_at O i) (calm_at O.all k.doubt i within) refl due
 
-pub next_ready : (o : Opening) → o.entry.mark ≡ Plain → o.naming.there ≡ o.entry.done → IsReady (with_next o)
+pub next_ready : (o : Opening) → o.entry.mark ≡ Plain → o.naming.noted_count ≡ o.entry.done → CountsOn (with_next o)
 next_ready o plain due =
-    cond_both (o.naming.there + 1 == length o.entry.writes) (with_mark (with_there o (o.naming.there + 1)) Whole) (with_there o (o.naming.there + 1)) IsReady
+    cond_both (o.naming.noted_count + 1 == length o.entry.writes) (with_mark (with_noted_count o (o.naming.noted_count + 1)) Whole) (with_noted_count o (o.naming.noted_count + 1)) CountsOn
     (λ is. inl refl) (λ is. inr (plain, omega (arith, due)))
 
 plain_writes_all : (m : Mark) (ws : List PageWrite) → m ≡ Plain → (if is_plain m then ws else []) ≡ ws
@@ -120,13 +120,13 @@ pub entries_same : (o : OpenTable) (i : ℕ) (tag : ℕ) → IsFirstTagged tag o
 entries_same o i tag first =
     with_first tag o.all i (opening_at o i) first ∙ map-set_same (λ (x : Opening). x.entry) o.all i (opening_at o i) no_opening refl
 
-pub next_entry : (o : Opening) → o.naming.there ≡ o.entry.done →
+pub next_entry : (o : Opening) → o.naming.noted_count ≡ o.entry.done →
     (o.entry.done + 1 ≡ length o.entry.writes → (with_next o).entry ≡ record o.entry { mark = Whole }) × (o.entry.done + 1 ≢ length o.entry.writes → (with_next o).entry ≡ o.entry)
 next_entry o due = (
-  (λ last. ap (λ (x : Opening). x.entry) (cond-true (o.naming.there + 1 == length o.entry.writes) (with_mark (with_there o (o.naming.there + 1)) Whole) (with_there o (o.naming.there + 1))
-      (eq-eqb (o.naming.there + 1) (length o.entry.writes) (ap (λ k. k + 1) due ∙ last)))),
-  (λ more. ap (λ (x : Opening). x.entry) (cond-false (o.naming.there + 1 == length o.entry.writes) (with_mark (with_there o (o.naming.there + 1)) Whole) (with_there o (o.naming.there + 1))
-      (ne_eqb (o.naming.there + 1) (length o.entry.writes) (λ e. more (ap (λ k. k + 1) (sym due) ∙ e))))),
+  (λ last. ap (λ (x : Opening). x.entry) (cond-true (o.naming.noted_count + 1 == length o.entry.writes) (with_mark (with_noted_count o (o.naming.noted_count + 1)) Whole) (with_noted_count o (o.naming.noted_count + 1))
+      (eq-eqb (o.naming.noted_count + 1) (length o.entry.writes) (ap (λ k. k + 1) due ∙ last)))),
+  (λ more. ap (λ (x : Opening). x.entry) (cond-false (o.naming.noted_count + 1 == length o.entry.writes) (with_mark (with_noted_count o (o.naming.noted_count + 1)) Whole) (with_noted_count o (o.naming.noted_count + 1))
+      (ne_eqb (o.naming.noted_count + 1) (length o.entry.writes) (λ e. more (ap (λ k. k + 1) (sym due) ∙ e))))),
 )
 
 -- and where its write failed

@@ -13,10 +13,10 @@ use Rattle.die_alloc.specs.BlockTable.{BlockTable}
 use Rattle.collector.specs.Collecting.{cleaning, collecting}
 use Rattle.tx_engine.specs.ArrayState.{is_doubted}
 use Rattle.tx_engine.specs.Collections.{CollectsTables}
-use Rattle.tx_engine.specs.declared.collect.Collected.{Collected}
-use Rattle.tx_engine.specs.declared.collect.Collected.TheVariants.{One, Nothing}
+use Rattle.array_machine.specs.declared.answers.Collected.{Collected}
+use Rattle.array_machine.specs.declared.answers.Collected.TheVariants.{One, Nothing}
 use Rattle.std.specs.Result.{is_err}
-use Rattle.tx_engine.specs.declared.collect.Fault.{Fault}
+use Rattle.array_machine.specs.declared.answers.Fault.{Fault}
 use Rattle.tx_engine.specs.Exits.{VersionsRise, SettlesOrNot, CollectRises, settled_writes}
 use Rattle.tx_engine.specs.Standing.{Standing, Stands, no_name}
 use Rattle.tx_engine.specs.Step.{doubted}

@@ -9,8 +9,8 @@ use Rattle.flash_model.proofs.CallLemmas.{Carries-nothing}
 use Rattle.flash_model.proofs.MoveLemmas.{FlashMoves-nothing}
 use Rattle.collector.specs.declared.unsure.Unsure.TheVariants as unsure
 use Rattle.collector.specs.Known.{array_known}
-use Rattle.tx_engine.specs.declared.mark.Mark.TheVariants.{Plain}
-use Rattle.tx_engine.specs.declared.step.Progress.TheVariants as progress
+use Rattle.array_machine.specs.declared.mark.Mark.TheVariants.{Plain}
+use Rattle.array_machine.specs.declared.answers.Progress.TheVariants as progress
 use Rattle.tx_engine.specs.Exits.{Exits}
 use Rattle.tx_engine.specs.Standing.{Stands, IsNamed, IsUnderWay, IsAsMarked}
 use Rattle.tx_engine.specs.OpenTable.{OpenTable, Opening, no_opening, opening_at, with_opening, with_done}
@@ -25,7 +25,7 @@ use Rattle.tx_engine.proofs.SettledLists.{calm_all, calm_at}
 use Rattle.tx_engine.proofs.WriteAfter.{settled_kept}
 
 module _ {F : Type 0} (state : F → FlashState) (S : Stored F) (O O' : OpenTable) (i : ℕ) (h : Stands state (standing_in state S O)) (sure : S.unsure ≡ unsure.Nothing) (within : i < length O.all)
-    (plain : (opening_at O i).entry.mark ≡ Plain) (ready : (opening_at O i).entry.done < (opening_at O i).naming.there)
+    (plain : (opening_at O i).entry.mark ≡ Plain) (ready : (opening_at O i).entry.done < (opening_at O i).naming.noted_count)
     (opens : O' ≡ with_opening O i (with_done (opening_at O i) ((opening_at O i).entry.done + 1))) where
   abbrev o : Opening
   o = opening_at O i
@@ -49,7 +49,7 @@ module _ {F : Type 0} (state : F → FlashState) (S : Stored F) (O O' : OpenTabl
   more_opening = record {
     named = record { pages = named.pages; within = one_left; whole = named.whole; transaction = named.transaction };
     marked = subst (IsAsMarked (state S.flash).image S.noted more.entry o.naming) (sym plain)
-        (record { in_progress = under.in_progress; least = omega (arith, ready); most = omega (arith, under.most); short = under.short; noted = under.noted; bytes = under.bytes });
+        (record { in_progress = under.in_progress; least = omega (arith, ready); most = omega (arith, under.most); short = under.short; noted = under.noted; texts = under.texts });
   }
 
   more_calm : (j : ℕ) → j < length (slice_set O.all i more) → IsCalm (get_or (slice_set O.all i more) j no_opening).entry

@@ -11,7 +11,7 @@ use Rattle.tx_types.specs.declared.record.Rec.{Rec}
 use Rattle.flash_model.specs.Flash.{FlashState, Contents, blank, damaged, complete, slot_at}
 use Rattle.page_record.specs.Spelling.{spelling}
 use Rattle.record_list.specs.Records.{name_of}
-use Rattle.record_list.specs.Written.{bytes_at}
+use Rattle.record_list.specs.Written.{text_at}
 use Rattle.version_index.specs.Images.{array_in, written_in}
 use Rattle.version_index.specs.Noted.{Noted, IsNoted, programmed}
 use Rattle.die_alloc.specs.BlockTable.{BlockTable}
@@ -22,12 +22,12 @@ use Rattle.collector.specs.Known.{array_known}
 use Rattle.collector.specs.Matches.{Matches, CanTake, CanTakeOwn}
 use Rattle.collector.specs.Settling.{settlement, own_settled, Settlement}
 use Rattle.tx_engine.specs.ArrayState.{Entry, Pages, put, is_doubted}
-use Rattle.tx_engine.specs.declared.mark.Mark.{Mark}
-use Rattle.tx_engine.specs.declared.mark.Mark.TheVariants.{Plain, Doubt, Whole}
+use Rattle.array_machine.specs.declared.mark.Mark.{Mark}
+use Rattle.array_machine.specs.declared.mark.Mark.TheVariants.{Plain, Doubt, Whole}
 use Rattle.tx_engine.specs.Exits.{StandsFor}
-use Rattle.tx_engine.specs.Standing.{Standing, Naming, Stands, DoubtsAs, IsOwn, IsOpenAs, IsUnderWay}
+use Rattle.tx_engine.specs.Standing.{Standing, Naming, Stands, DoubtsAs, IsOwn, IsOpenAs, IsUnderWay, write_at}
 use Rattle.tx_engine.proofs.OpenOnes.{under_way, can_take}
-use Rattle.tx_engine.proofs.InDoubt.{slot_bytes, partly_array, wholly_array}
+use Rattle.tx_engine.proofs.InDoubt.{slot_text, text_as, partly_array, wholly_array}
 use Rattle.tx_engine.proofs.Tools.{Settles, NotesWrites}
 
 -- a mark is the one of doubt where it counts as doubted
@@ -60,8 +60,8 @@ module _ (p : Protocol) (laws : Settles p) (notes : NotesWrites p) (s : FlashSta
     | inr (inr asked) ↦ (let both : complete bytes spare ≡ complete asked.0 (spelling n.config.protocol rec) = sym is ∙ asked.1 in cc)
   ]
 
-  pub bytes_there : bytes_at (written_in n.config.protocol s.image) (name_of rec) ≡ Some bytes
-  bytes_there = slot_bytes s n t (unsure.Own at rec) m at.0 bytes rec within m.place.2 (is ∙ spelled_there)
+  pub text_there : text_at (written_in n.config.protocol s.image) (name_of rec) ≡ Some (record { discard = rec.discard; bytes = bytes })
+  text_there = slot_text s n t (unsure.Own at rec) m at.0 bytes rec within m.place.2 (is ∙ spelled_there)
 
   module _ (entries : List Entry) (namings : List Naming) (each : AllZip (IsOpenAs s.image n) entries namings) (own : IsOwn s.image n entries namings at rec) where
     open_there : IsOpenAs s.image n own.entry own.naming
@@ -80,7 +80,7 @@ module _ (p : Protocol) (laws : Settles p) (notes : NotesWrites p) (s : FlashSta
         doubt_is own.entry.mark (own.doubt ∙ eq-eqb _ _ last),
         array_there
             ∙ wholly_array p notes n noted_there rule at.0 rec own.next within m.place.1 s.image own.entry own.naming open_there.named under_there own.its own.written own.named last
-            (bytes_there ∙ ap Some (own.bytes bytes spare is))
+            (text_as _ rec bytes (write_at own.entry own.entry.done) text_there (m.place.2).discard (own.bytes bytes spare is))
             ∙ ap (λ ps. put ps own.entry.writes) (sym known),
       )
       | inr more ↦ inl (array_there

@@ -14,7 +14,7 @@ use Rattle.tx_engine.specs.ArrayState.{idle}
 use Rattle.tx_engine.specs.Exits.{StandsFor, MentionsAtMost}
 use Rattle.tx_engine.specs.Standing.{Standing, Stands}
 use Rattle.tx_engine.specs.Step.{StepsAs, CutLeaves, IsAtLast, settled}
-use Rattle.tx_engine.specs.declared.step.StepError.TheVariants as failed
+use Rattle.array_machine.specs.declared.answers.StepError.TheVariants as failed
 use Rattle.tx_engine.specs.Always.{HoldsAlways}
 
 -- a page past the last one is not mentioned
@@ -22,21 +22,21 @@ none_beyond : (n : Noted) (logical page : ℕ) → length n.mentions ≡ logical
 none_beyond n logical page same past = get_or_past n.mentions page 0 (omega (arith, same, past))
 
 abbrev StepCuts : (F : Type 0) → (F → FlashState) → Protocol → Standing F → Type 0
-StepCuts F state kept s =
+StepCuts F state protocol s =
     (old : Standing F) (there : Bool) (tag : ℕ) → StepsAs there old.machine s.machine tag (Err failed.Fault) →
-    CutLeaves (λ e. (e.tag ≡ tag) × IsAtLast e) old.machine (idle (array_in kept s.config.logical (state s.flash).image))
+    CutLeaves (λ e. (e.tag ≡ tag) × IsAtLast e) old.machine (idle (array_in protocol s.config.logical (state s.flash).image))
 
 abbrev SettledCuts : (F : Type 0) → (F → FlashState) → Protocol → Standing F → Type 0
-SettledCuts F state kept s =
+SettledCuts F state protocol s =
     (old : Standing F) (there : Bool) → (s.machine ≡ old.machine) ⊎ (s.machine ≡ settled there old.machine) →
-    CutLeaves (λ e. ⊥) old.machine (idle (array_in kept s.config.logical (state s.flash).image))
+    CutLeaves (λ e. ⊥) old.machine (idle (array_in protocol s.config.logical (state s.flash).image))
 
-pub holds_always : {F : Type 0} (state : F → FlashState) (kept : Protocol) (s : Standing F) → Stands state s → (rule : s.config.protocol ≡ kept) →
-    IsSoundImage kept s.config.logical (state s.flash).shape (state s.flash).image →
-    StandsFor s.machine (array_in kept s.config.logical (state s.flash).image) →
-    (s.unsure ≡ unsure.Nothing → (records_in kept (state s.flash).image ≡ found_in s.noted.notes) × (array_in kept s.config.logical (state s.flash).image ≡ s.machine.pages)) →
-    MentionsAtMost s.noted s.namings (state s.flash).image → StepCuts F state kept s → SettledCuts F state kept s → HoldsAlways state kept s
-holds_always state kept s stands rule sound array records mentions step still =
+pub holds_always : {F : Type 0} (state : F → FlashState) (protocol : Protocol) (s : Standing F) → Stands state s → (rule : s.config.protocol ≡ protocol) →
+    IsSoundImage protocol s.config.logical (state s.flash).shape (state s.flash).image →
+    StandsFor s.machine (array_in protocol s.config.logical (state s.flash).image) →
+    (s.unsure ≡ unsure.Nothing → (records_in protocol (state s.flash).image ≡ found_in s.noted.notes) × (array_in protocol s.config.logical (state s.flash).image ≡ s.machine.pages)) →
+    MentionsAtMost s.noted s.namings (state s.flash).image → StepCuts F state protocol s → SettledCuts F state protocol s → HoldsAlways state protocol s
+holds_always state protocol s stands rule sound array records mentions step still =
     let shape : (state s.flash).shape ≡ shape_of s.config = stands.matches.shape ∙ ap shape_of (sym stands.config) in
     let its = sym rule in
     record {

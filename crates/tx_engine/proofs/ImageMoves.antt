@@ -1,9 +1,10 @@
--- What an image keeps of a device in which each name that is noted has the bytes that it had.
-use Rattle.std.proofs.Common.{◌≡◌, ◌≢◌, ℕ, ◌<◌, List, length, refl, sym, ◌∙◌, inl, inr, arith}
+-- What an image keeps of a device in which each name that is noted has the text that it had.
+use Rattle.std.proofs.Common.{◌≡◌, ◌≢◌, ℕ, ◌<◌, List, length, refl, sym, ap, ◌∙◌, inl, inr, arith}
+use Rattle.std.specs.Prelude.{option_and_then}
 use Rattle.std.proofs.lemmas.Bool.{cases_eq, lt-ltb}
 use Rattle.tx_types.specs.declared.record.Link.{Link}
 use Rattle.flash_model.specs.Flash.{Contents}
-use Rattle.record_list.specs.Written.{bytes_at}
+use Rattle.record_list.specs.Written.{text_at, value_of}
 use Rattle.record_list.proofs.LossCounted.{counted_present}
 use Rattle.record_list.proofs.SoundNames.{sound_map}
 use Rattle.version_index.specs.Images.{written_in}
@@ -12,18 +13,18 @@ use Rattle.version_index.specs.Noted.{Noted, IsNoted, current_of, current_name_o
 use Rattle.collector.specs.Known.{page_known, array_known}
 use Rattle.collector.specs.Preserves.{IsThere}
 use Rattle.tx_engine.specs.ArrayState.{Entry}
-use Rattle.tx_engine.specs.declared.mark.Mark.{Mark}
-use Rattle.tx_engine.specs.declared.mark.Mark.TheVariants.{Plain, Doubt, Whole}
+use Rattle.array_machine.specs.declared.mark.Mark.{Mark}
+use Rattle.array_machine.specs.declared.mark.Mark.TheVariants.{Plain, Doubt, Whole}
 use Rattle.tx_engine.specs.Standing.{Naming, IsUnderWay, IsAsMarked, name_at}
 use Rattle.tx_engine.specs.OpenTable.{Opening}
 use Rattle.tx_engine.proofs.Kept.{IsOpening}
 use Rattle.collector.proofs.KnownArrays.{same_known}
 use Rattle.collector.proofs.KeptArrays.{none_at_zero}
 
--- each name that is noted has the bytes that it had
+-- each name that is noted has the text that it had
 abbrev pub KeepsNoted : Noted → List Contents → List Contents → Type 0
 KeepsNoted n image image' =
-    (name : Link) → IsThere n name → bytes_at (written_in n.config.protocol image') name ≡ bytes_at (written_in n.config.protocol image) name
+    (name : Link) → IsThere n name → text_at (written_in n.config.protocol image') name ≡ text_at (written_in n.config.protocol image) name
 
 -- a page without a current version has no record of it, and else the record is noted
 pub current_noted : (n : Noted) → IsNoted n.config.protocol n → (page : ℕ) → current_of n page ≢ 0 → IsThere n (current_name_of n page)
@@ -33,15 +34,15 @@ current_noted n is page some =
     (sound_map n.config.protocol (found_in n.notes) n.config.logical is.sound is.scanned) (current_name_of n page) (omega arith) (inl refl)
 
 module _ (n : Noted) (image image' : List Contents) (stay : KeepsNoted n image image') where
-  pub current_bytes : IsNoted n.config.protocol n → (page : ℕ) → page_known n image' page ≡ page_known n image page
-  current_bytes is page = elim (cases_eq (current_of n page) 0) [
+  pub current_same : IsNoted n.config.protocol n → (page : ℕ) → page_known n image' page ≡ page_known n image page
+  current_same is page = ap (option_and_then value_of) (elim (cases_eq (current_of n page) 0) [
     | inl zero ↦ none_at_zero n.config.protocol image' (current_name_of n page) zero ∙ sym (none_at_zero n.config.protocol image (current_name_of n page) zero)
     | inr some ↦ stay (current_name_of n page) (current_noted n is page some)
-  ]
+  ])
 
   -- the array stays
   pub image_array : IsNoted n.config.protocol n → array_known n image' ≡ array_known n image
-  image_array is = same_known n n image image' refl (λ page within. current_bytes is page)
+  image_array is = same_known n n image image' refl (λ page within. current_same is page)
 
   pub image_under : (e : Entry) (x : Naming) → IsUnderWay image n e x → IsUnderWay image' n e x
   image_under e x w = record {
@@ -50,9 +51,9 @@ module _ (n : Noted) (image image' : List Contents) (stay : KeepsNoted n image i
     most = w.most;
     short = w.short;
     noted = w.noted;
-    bytes = λ k h.
+    texts = λ k h.
         let inside : k < length x.names = let short = w.short in omega arith in
-        stay (name_at x k) (w.noted k inside ∙ lt-ltb k x.there h) ∙ w.bytes k h;
+        stay (name_at x k) (w.noted k inside ∙ lt-ltb k x.noted_count h) ∙ w.texts k h;
   }
 
   image_marked : (mark : Mark) (e : Entry) (x : Naming) → IsAsMarked image n e x mark → IsAsMarked image' n e x mark

@@ -1,8 +1,10 @@
 -- The record of an open transaction whose program was broken, and is there: the array takes the transaction where it is its
 -- last record, and else stays.
-use Rattle.std.proofs.Common.{◌≡◌, ◌≢◌, ℕ, ◌+◌, ◌<◌, ◌≤◌, true, false, List, length, get_or, All, Any, Some, refl, sym, ap, ◌∙◌, subst, inl, inr, arith}
+use Rattle.std.proofs.Common.{◌≡◌, ◌≢◌, ℕ, ◌+◌, ◌<◌, ◌≤◌, Bool, true, false, List, length, get_or, All, Any, Option, Some, refl, sym, ap, ◌∙◌, subst, inl, inr, arith}
+use Rattle.std.specs.Prelude.{option_and_then}
 use Rattle.std.proofs.lemmas.Bool.{cases_Bool, cases_lt, lt-ltb, le-ltb, both_ways}
 use Rattle.std.proofs.lemmas.List.Elements.{All-from_get_or, Contains-get_or}
+use Rattle.tx_types.specs.Batch.{PageWrite}
 use Rattle.tx_types.specs.Config.{shape_of, slots_of}
 use Rattle.tx_types.specs.declared.config.Protocol.{Protocol}
 use Rattle.tx_types.specs.declared.record.Link.{Link}
@@ -13,8 +15,8 @@ use Rattle.page_record.proofs.Spellings.{record_of-spelling}
 use Rattle.record_list.specs.Records.{is_present, name_of}
 use Rattle.record_list.specs.Changes.{PartialWriteKeeps, CompletingWriteKeeps}
 use Rattle.record_list.specs.Current.{cur}
-use Rattle.record_list.specs.Written.{bytes_at}
-use Rattle.record_list.proofs.Arrays.{bytes_of}
+use Rattle.record_list.specs.Written.{PageText, text_at, value_at, value_of}
+use Rattle.record_list.proofs.Arrays.{text_named}
 use Rattle.record_list.proofs.WrittenLists.{one_text}
 use Rattle.version_index.specs.declared.note.Note.TheVariants.{Blank}
 use Rattle.version_index.specs.Images.{written_in}
@@ -27,25 +29,32 @@ use Rattle.collector.specs.Known.{page_known, array_known}
 use Rattle.collector.specs.Matches.{Matches}
 use Rattle.collector.proofs.KnownArrays.{same_known}
 use Rattle.tx_engine.specs.ArrayState.{Entry, put}
-use Rattle.tx_engine.specs.Standing.{Naming, IsNamed, IsUnderWay, name_at, write_at, no_name}
+use Rattle.tx_engine.specs.Standing.{Naming, IsNamed, IsUnderWay, name_at, write_at, text_in, no_name}
 use Rattle.tx_engine.proofs.Arrays.{put_by_names, as_many_names}
 use Rattle.tx_engine.proofs.Tools.{NotesWrites}
 
--- the bytes that a complete slot has are those of its record
-pub slot_bytes : (s : FlashState) (n : Noted) (t : BlockTable) (u : Unsure) → Matches s n t u → (at : ℕ) (bytes : List ℕ) (rec : Rec) → at < slots_of (shape_of n.config) →
+-- the text that a complete slot has is that of its record
+pub slot_text : (s : FlashState) (n : Noted) (t : BlockTable) (u : Unsure) → Matches s n t u → (at : ℕ) (bytes : List ℕ) (rec : Rec) → at < slots_of (shape_of n.config) →
     CanBeSpelled n.config.protocol rec → slot_at s.image at ≡ complete bytes (spelling n.config.protocol rec) →
-    bytes_at (written_in n.config.protocol s.image) (name_of rec) ≡ Some bytes
-slot_bytes s n t u m at bytes rec within spelled is =
+    text_at (written_in n.config.protocol s.image) (name_of rec) ≡ Some (record { discard = rec.discard; bytes = bytes })
+slot_text s n t u m at bytes rec within spelled is =
     let inside : at < length s.image = omega (arith, m.flash.slots, ap slots_of m.shape) in
-    bytes_of (written_in n.config.protocol s.image) (written at rec bytes)
-    (one_text (written_in n.config.protocol s.image) (records_scanned n.config.protocol s.image) m.sound.written.bytes)
+    text_named (written_in n.config.protocol s.image) (written at rec bytes)
+    (one_text n.config.protocol (written_in n.config.protocol s.image) n.config.logical m.sound.written.records (records_scanned n.config.protocol s.image) m.sound.written.bytes)
     (read_slot n.config.protocol s.image at bytes (spelling n.config.protocol rec) rec inside is (record_of-spelling n.config.protocol rec spelled))
+
+-- a record that discards nothing, with the bytes of a write, says what the write says
+pub text_as : (text : Option PageText) (rec : Rec) (bytes : List ℕ) (w : PageWrite) → text ≡ Some (record { discard = rec.discard; bytes = bytes }) →
+    rec.discard ≡ false → bytes ≡ w.bytes → text ≡ Some (text_in w)
+text_as text rec bytes w is flag same =
+    is ∙ ap (λ (d : Bool). Some (record { discard = d; bytes = bytes })) flag
+    ∙ ap (λ (b : List ℕ). Some (record { discard = false; bytes = b })) same
 
 -- a page that has its version still is known as before
 pub known_page : (n n' : Noted) (image : List Contents) (page : ℕ) → n'.config ≡ n.config → current_of n' page ≡ current_of n page → page_known n' image page ≡ page_known n image page
 known_page n n' image page config same =
-    ap (λ (c : _). bytes_at (written_in c.protocol image) (record { page = page; version = current_of n' page })) config
-    ∙ ap (λ v. bytes_at (written_in n.config.protocol image) (record { page = page; version = v })) same
+    ap (λ (c : _). value_at (written_in c.protocol image) (record { page = page; version = current_of n' page })) config
+    ∙ ap (λ v. value_at (written_in n.config.protocol image) (record { page = page; version = v })) same
 
 -- so is the array where all have
 pub known_array : (n n' : Noted) (image : List Contents) → n'.config ≡ n.config →
@@ -55,7 +64,7 @@ known_array n n' image config same = same_known n n' image image config (λ page
 module _ (p : Protocol) (notes : NotesWrites p) (n : Noted) (is_noted : IsNoted p n) (rule : n.config.protocol ≡ p) (at : ℕ) (rec : Rec)
     (next : IsNextRecord n rec) (within : at < slots_of (shape_of n.config)) (was : note_at n.notes at ≡ Blank)
     (image : List Contents) (e : Entry) (x : Naming) (named : IsNamed n.config.page_bytes n.config.logical e x) (under : IsUnderWay image n e x)
-    (its : next.names ≡ x.names) (there : x.there ≡ e.done) (name : name_of rec ≡ name_at x e.done) where
+    (its : next.names ≡ x.names) (there : x.noted_count ≡ e.done) (name : name_of rec ≡ name_at x e.done) where
   abbrev pub new : Noted
   new = programmed n at rec
 
@@ -66,7 +75,7 @@ module _ (p : Protocol) (notes : NotesWrites p) (n : Noted) (is_noted : IsNoted 
   pub there_then : (k : ℕ) → k < length x.names → k ≤ e.done → is_present (found_in new.notes) (name_at x k) ≡ true
   there_then k inside upto = elim (cases_lt k e.done) [
     | inl less ↦
-        (notes.names n at rec (name_at x k) is_noted within was).1 (inl (under.noted k inside ∙ lt-ltb k x.there (omega arith)))
+        (notes.names n at rec (name_at x k) is_noted within was).1 (inl (under.noted k inside ∙ lt-ltb k x.noted_count (omega arith)))
     | inr last ↦
         (let here : k ≡ e.done = omega arith in
         (notes.names n at rec (name_at x k) is_noted within was).1 (inr (ap (name_at x) here ∙ sym name)))
@@ -79,7 +88,7 @@ module _ (p : Protocol) (notes : NotesWrites p) (n : Noted) (is_noted : IsNoted 
       let gone : is_present (found_in new.notes) (name_at x (e.done + 1)) ≡ false = elim (cases_Bool (is_present (found_in new.notes) (name_at x (e.done + 1)))) [
         | inr missing ↦ missing
         | inl here ↦ elim ((notes.names n at rec (name_at x (e.done + 1)) is_noted within was).0 here) [
-          | inl before ↦ absurd (both_ways _ (under.noted (e.done + 1) inside ∙ le-ltb (e.done + 1) x.there (omega arith)) before)
+          | inl before ↦ absurd (both_ways _ (under.noted (e.done + 1) inside ∙ le-ltb (e.done + 1) x.noted_count (omega arith)) before)
           | inr same ↦ absurd (named.transaction.distinct e.done (e.done + 1) no_name (omega arith) inside (ap (λ (a : Link). a.page) (sym (same ∙ name))))
         ]
       ] in
@@ -128,23 +137,23 @@ module _ (p : Protocol) (notes : NotesWrites p) (n : Noted) (is_noted : IsNoted 
   wholly_elsewhere last page inside others =
       current_new page ∙ (wholly last).elsewhere page inside (subst (λ ns. All (λ a. a.page ≢ page) ns) (sym its) others) ∙ sym (current_old page)
 
-  -- a name that is current has its bytes in the array that is known
-  known_named : (a : Link) → current_of new a.page ≡ a.version → page_known new image a.page ≡ bytes_at (written_in n.config.protocol image) a
-  known_named a is = ap (λ v. bytes_at (written_in n.config.protocol image) (record { page = a.page; version = v })) is
+  -- a name that is current has in the array that is known what its text says
+  known_named : (a : Link) → current_of new a.page ≡ a.version → page_known new image a.page ≡ value_at (written_in n.config.protocol image) a
+  known_named a is = ap (λ v. value_at (written_in n.config.protocol image) (record { page = a.page; version = v })) is
 
   -- and the array takes its writes
-  pub wholly_array : e.done + 1 ≡ length e.writes → bytes_at (written_in n.config.protocol image) (name_of rec) ≡ Some (write_at e e.done).bytes →
+  pub wholly_array : e.done + 1 ≡ length e.writes → text_at (written_in n.config.protocol image) (name_of rec) ≡ Some (text_in (write_at e e.done)) →
       array_known new image ≡ put (array_known n image) e.writes
   unfolding array_known
-  wholly_array last bytes =
+  wholly_array last come =
       put_by_names x.names e.writes (page_known n image) (page_known new image) n.config.logical named.pages
       (λ k inside.
       known_named (name_at x k) (wholly_current last k no_name inside)
-      ∙ (elim (cases_lt k e.done) [
-        | inl less ↦ under.bytes k (omega arith)
+      ∙ ap (option_and_then value_of) (elim (cases_lt k e.done) [
+        | inl less ↦ under.texts k (omega arith)
         | inr past ↦ (let here : k ≡ e.done = omega (arith, long) in
-            ap (λ j. bytes_at (written_in n.config.protocol image) (name_at x j)) here
-            ∙ ap (bytes_at (written_in n.config.protocol image)) (sym name)
-            ∙ bytes ∙ ap (λ j. Some (write_at e j).bytes) (sym here))
+            ap (λ j. text_at (written_in n.config.protocol image) (name_at x j)) here
+            ∙ ap (text_at (written_in n.config.protocol image)) (sym name)
+            ∙ come ∙ ap (λ j. Some (text_in (write_at e j))) (sym here))
       ]))
       (λ page inside others. known_page n new image page refl (wholly_elsewhere last page inside others))

@@ -18,7 +18,7 @@ use Rattle.tx_types.specs.declared.record.Rec.{Rec}
 use Rattle.flash_model.specs.Flash.{FlashState, Contents}
 use Rattle.record_list.specs.Records.{is_present}
 use Rattle.record_list.specs.Transaction.{InProgress, ShareNoPage}
-use Rattle.record_list.specs.Written.{bytes_at}
+use Rattle.record_list.specs.Written.{text_at}
 use Rattle.version_index.specs.Images.{written_in}
 use Rattle.version_index.specs.Notes.{found_in}
 use Rattle.version_index.specs.Noted.{Noted, pinned_names}
@@ -28,9 +28,9 @@ use Rattle.collector.specs.declared.unsure.Unsure.TheVariants as unsure
 use Rattle.collector.specs.Matches.{Matches}
 use Rattle.collector.specs.Preserves.{Preserves, KeepsArray, IsThere}
 use Rattle.tx_engine.specs.ArrayState.{Entry, is_doubted, pending_pages}
-use Rattle.tx_engine.specs.declared.mark.Mark.{Mark}
-use Rattle.tx_engine.specs.declared.mark.Mark.TheVariants.{Plain, Doubt, Whole}
-use Rattle.tx_engine.specs.Standing.{Naming, Stands, IsNamed, IsUnderWay, IsAsMarked, IsOpenAs, DoubtsAs, name_at, write_at, no_name}
+use Rattle.array_machine.specs.declared.mark.Mark.{Mark}
+use Rattle.array_machine.specs.declared.mark.Mark.TheVariants.{Plain, Doubt, Whole}
+use Rattle.tx_engine.specs.Standing.{Naming, Stands, IsNamed, IsUnderWay, IsAsMarked, IsOpenAs, DoubtsAs, name_at, write_at, text_in, no_name}
 use Rattle.tx_engine.specs.OpenTable.{OpenTable, Opening, no_opening, opening_at, entries_of, namings_of, with_opening}
 use Rattle.tx_engine.specs.Stored.{Stored}
 use Rattle.tx_engine.specs.Tables.{standing_in}
@@ -119,18 +119,18 @@ module _ (s s' : FlashState) (n n' : Noted) (t t' : BlockTable) (u u' : Unsure) 
     least = w.least;
     most = w.most;
     short = w.short;
-    noted = λ k h. elim (cases_Bool (nat_lt k x.there)) [
+    noted = λ k h. elim (cases_Bool (nat_lt k x.noted_count)) [
       | inl is ↦ keep.pinned (name_at x k) (name_in (Contains (pinned_names n.pins)) x k pins h) (w.noted k h ∙ is) ∙ sym is
       | inr is ↦ elim (cases_Bool (is_present (found_in n'.notes) (name_at x k))) [
         | inl there ↦ absurd (both_ways (is_present (found_in n.notes) (name_at x k)) (w.noted k h ∙ is) (keep.fewer (name_at x k) there))
         | inr gone ↦ gone ∙ sym is
       ]
     ];
-    bytes = λ k h.
+    texts = λ k h.
         let inside : k < length x.names = let short = w.short in omega arith in
-        let there : IsThere n (name_at x k) = w.noted k inside ∙ lt-ltb k x.there h in
-        subst (λ (c : Config). bytes_at (written_in c.protocol s'.image) (name_at x k) ≡ Some (write_at e k).bytes) (sym keep.config)
-        (law.bytes s s' n n' t t' u u' (name_at x k) m m' refl keep same (name_in (Contains (pinned_names n.pins)) x k pins inside) there ∙ w.bytes k h);
+        let there : IsThere n (name_at x k) = w.noted k inside ∙ lt-ltb k x.noted_count h in
+        subst (λ (c : Config). text_at (written_in c.protocol s'.image) (name_at x k) ≡ Some (text_in (write_at e k))) (sym keep.config)
+        (law.texts s s' n n' t t' u u' (name_at x k) m m' refl keep same (name_in (Contains (pinned_names n.pins)) x k pins inside) there ∙ w.texts k h);
   }
 
   marked_stays : (mark : Mark) (e : Entry) (x : Naming) → IsNamed n.config.page_bytes n.config.logical e x → All (Contains (pinned_names n.pins)) x.names →

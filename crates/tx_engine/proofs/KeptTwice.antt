@@ -8,7 +8,8 @@ use Rattle.tx_types.specs.declared.record.Link.{Link}
 use Rattle.flash_model.specs.Flash.{Contents}
 use Rattle.record_list.specs.Records.{is_present}
 use Rattle.record_list.specs.Transaction.{InProgress}
-use Rattle.record_list.proofs.Arrays.{bytes_present, bytes_absent}
+use Rattle.record_list.specs.Written.{text_of}
+use Rattle.record_list.proofs.Arrays.{text_present, text_absent}
 use Rattle.version_index.specs.Images.{written_in, records_in}
 use Rattle.version_index.specs.Notes.{found_in}
 use Rattle.version_index.specs.Noted.{Noted, current_name_of, pinned_names}
@@ -48,14 +49,14 @@ module _ (p : Protocol) (logical : ℕ) (a b c : List Contents) (ab : KeepsArray
   there_between name here = elim (cases_Bool (is_present (records_in p b) name)) [
     | inl there ↦ there
     | inr gone ↦
-        (let has = bytes_present (written_in p c) name here in
-        absurd (none-some has.0.bytes (sym (bytes_absent (written_in p b) name gone) ∙ sym (bc.bytes name here) ∙ has.3)))
+        (let has = text_present (written_in p c) name here in
+        absurd (none-some (text_of has.0) (sym (text_absent (written_in p b) name gone) ∙ sym (bc.texts name here) ∙ has.3)))
   ]
 
   pub KeepsArray-then : KeepsArray p logical a c
   KeepsArray-then = record {
     array = bc.array ∙ ab.array;
-    bytes = λ name here. bc.bytes name here ∙ ab.bytes name (there_between name here);
+    texts = λ name here. bc.texts name here ∙ ab.texts name (there_between name here);
   }
 
 -- the second call is told the configuration that the first one left

@@ -8,11 +8,9 @@ pub mod InDoubt
 pub mod Mounted
 pub mod OpenOnes
 pub mod OtherFlash
-pub mod Accepting
 pub mod Submitted
 pub mod Submitting
 pub mod Tools
-pub mod Unbroken
 pub mod WrittenPages
 pub mod Pinning
 pub mod StoreCalls

@@ -1,5 +1,6 @@
 -- The slot from which the current record of a page is read has the bytes that are known of the page.
 use Rattle.std.proofs.Common.{◌≡◌, ◌⊎◌, ℕ, ◌<◌, ◌≤◌, Bool, true, false, ◌&&◌, eqb, eqb-true, List, [], ◌∷◌, find, Option, Some, None, IsNone, IfSome, IfNone, IsSomeAnd, ◌↔◌, refl, sym, ap, ◌∙◌, subst, inl, inr, arith, Contains}
+use Rattle.std.specs.Prelude.{option_and_then}
 use Rattle.std.specs.Option.{option_map, option_or}
 use Rattle.std.proofs.lemmas.Bool.{false≢true, cases_Bool, cond-true, cond-false, and_parts, and_from, not_from_true}
 use Rattle.std.proofs.lemmas.Option.{none-some}
@@ -17,11 +18,11 @@ use Rattle.record_list.specs.declared.found.Found.{Found}
 use Rattle.record_list.specs.Records.{name_of, has_name, is_present}
 use Rattle.record_list.specs.Changes.{left}
 use Rattle.record_list.specs.Current.{cur, IsCurrent}
-use Rattle.record_list.specs.Written.{is_outside, is_wanted, first_slot, home, records_of, bytes_at}
+use Rattle.record_list.specs.Written.{is_outside, is_wanted, first_slot, home, records_of, value_at, value_of}
 use Rattle.record_list.proofs.Names.{found_named, has_own_name, present_as}
 use Rattle.record_list.proofs.Wanted.{counted_wanted}
 use Rattle.record_list.proofs.WrittenLists.{one_text}
-use Rattle.record_list.proofs.Arrays.{bytes_of, bytes_absent}
+use Rattle.record_list.proofs.Arrays.{text_named, text_absent}
 use Rattle.version_index.specs.declared.note.Note.{Note}
 use Rattle.version_index.specs.declared.note.Note.TheVariants.{Blank, Damaged, Holds}
 use Rattle.version_index.specs.Images.{written_in}
@@ -90,24 +91,25 @@ module _ (s : FlashState) (n : Noted) (t : BlockTable) (u : Unsure) (m : Matches
           let has = noted_record n.config.protocol rec (slot_at s.image at) (sym (holds_it (note_at n.notes at) rec e) ∙ m.sure at within sure) in
           let list = written_in n.config.protocol s.image in
           let there = read_slot n.config.protocol s.image at has.bytes has.spare rec (omega (arith, within, m.flash.slots)) has.is has.spells in
-          let one = one_text list (records_scanned n.config.protocol s.image) m.sound.written.bytes in
+          let one = one_text n.config.protocol list n.config.logical m.sound.written.records (records_scanned n.config.protocol s.image) m.sound.written.bytes in
           record {
             within = within;
-            shows = ap (bytes_at list) (sym h) ∙ bytes_of list (written at rec has.bytes) one there ∙ ap (λ c. Some (page_of s.shape.page_bytes c)) (sym has.is);
+            shows = ap (value_at list) (sym h) ∙ ap (option_and_then value_of) (text_named list (written at rec has.bytes) one there)
+                ∙ ap (λ c. Some (page_of s.shape.page_bytes c)) (sym has.is);
           }
 
   -- a page without a current record has no bytes
   pub unknown : current_of n page ≡ 0 → page_known n s.image page ≡ None
   unknown none =
       let list = written_in n.config.protocol s.image in
-      bytes_absent list name (elim (cases_Bool (is_present (records_of list) name)) [
+      ap (option_and_then value_of) (text_absent list name (elim (cases_Bool (is_present (records_of list) name)) [
         | inl here ↦
             (let f = found_named (records_of list) name here in
             let positive = (All-contains (λ f. (1 ≤ f.rec.version) × (1 ≤ f.rec.next.version)) (records_of list) f.0 (records_scanned n.config.protocol s.image).versions f.1).0 in
             let version = ap (λ (x : Link). x.version) f.2 in
             absurd (omega (arith, positive, version, none)))
         | inr gone ↦ gone
-      ])
+      ]))
 
   -- outside a block that can be spared the current record of the page has a slot
   stays_outside : (block : ℕ) → CanSpare n block → is_present (found_in n.notes) name ≡ true → is_present (left (is_outside (shape_of n.config) block) (found_in n.notes)) name ≡ true

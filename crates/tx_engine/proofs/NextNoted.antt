@@ -14,7 +14,7 @@ use Rattle.tx_types.specs.declared.record.Rec.{Rec}
 use Rattle.flash_model.specs.Flash.{FlashState, Contents}
 use Rattle.record_list.specs.Records.{name_of}
 use Rattle.record_list.specs.Transaction.{ShareNoPage}
-use Rattle.record_list.specs.Written.{bytes_at}
+use Rattle.record_list.specs.Written.{text_at}
 use Rattle.record_list.proofs.Rounds.{cases_page}
 use Rattle.version_index.specs.declared.note.Note.TheVariants.{Blank}
 use Rattle.version_index.specs.Images.{written_in}
@@ -26,14 +26,14 @@ use Rattle.collector.specs.declared.unsure.Unsure.TheVariants as unsure
 use Rattle.collector.specs.Known.{array_known}
 use Rattle.collector.specs.Matches.{Matches}
 use Rattle.tx_engine.specs.ArrayState.{put, page_at, is_doubted}
-use Rattle.tx_engine.specs.declared.mark.Mark.TheVariants.{Plain, Whole}
+use Rattle.array_machine.specs.declared.mark.Mark.TheVariants.{Plain, Whole}
 use Rattle.tx_engine.specs.Exits.{IsNamedAt}
-use Rattle.tx_engine.specs.Standing.{Naming, IsNamed, IsUnderWay, name_at, write_at, no_name}
-use Rattle.tx_engine.specs.OpenTable.{OpenTable, Opening, no_opening, opening_at, with_opening, with_mark, with_there}
+use Rattle.tx_engine.specs.Standing.{Naming, IsNamed, IsUnderWay, name_at, write_at, text_in, no_name}
+use Rattle.tx_engine.specs.OpenTable.{OpenTable, Opening, no_opening, opening_at, with_opening, with_mark, with_noted_count}
 use Rattle.tx_engine.specs.Settling.{with_next}
 use Rattle.tx_engine.proofs.Arrays.{page_of_name, as_many_names}
 use Rattle.tx_engine.proofs.InDoubt.{known_page, partly_stays, partly_array, wholly_current, wholly_rises, wholly_elsewhere, wholly_array}
-use Rattle.tx_engine.proofs.ImageMoves.{KeepsNoted, current_bytes}
+use Rattle.tx_engine.proofs.ImageMoves.{KeepsNoted, current_same}
 use Rattle.tx_engine.proofs.Noting.{HasName, raised_mention, other_opening, next_opening}
 use Rattle.tx_engine.proofs.Kept.{IsKept, IsOpening, IsCalm, HasSameParts, kept_with}
 use Rattle.tx_engine.proofs.SettledLists.{CalmBeside, calm_all}
@@ -41,7 +41,7 @@ use Rattle.tx_engine.proofs.ExitsThen.{NamedBefore}
 use Rattle.tx_engine.proofs.Tools.{NotesWrites}
 use Rattle.tx_engine.proofs.OtherFlash.{known_at}
 
--- a record is the next one of an open transaction, and its slot has its bytes
+-- a record is the next one of an open transaction, and the flash has its text
 pub record IsNextOf (p : Protocol) (n : Noted) (at : ℕ) (rec : Rec) (image : List Contents) (o : Opening) : Type 0 where
   pub noted : IsNoted p n
   pub rule : n.config.protocol ≡ p
@@ -51,9 +51,9 @@ pub record IsNextOf (p : Protocol) (n : Noted) (at : ℕ) (rec : Rec) (image : L
   pub named : IsNamed n.config.page_bytes n.config.logical o.entry o.naming
   pub under : IsUnderWay image n o.entry o.naming
   pub its : next.names ≡ o.naming.names
-  pub there : o.naming.there ≡ o.entry.done
+  pub due : o.naming.noted_count ≡ o.entry.done
   pub name : name_of rec ≡ name_at o.naming o.entry.done
-  pub come : bytes_at (written_in n.config.protocol image) (name_of rec) ≡ Some (write_at o.entry o.entry.done).bytes
+  pub come : text_at (written_in n.config.protocol image) (name_of rec) ≡ Some (text_in (write_at o.entry o.entry.done))
   pub plain : o.entry.done + 1 ≢ length o.entry.writes → o.entry.mark ≡ Plain
 
 -- two lists share no page either way round
@@ -71,7 +71,7 @@ apart_at all i k apart within inside other = elim (cases_order i k) [
 -- the opening that it makes has the same tag, writes and names
 pub next_parts : (o : Opening) → HasSameParts o (with_next o)
 next_parts o =
-    cond_both (o.naming.there + 1 == length o.entry.writes) (with_mark (with_there o (o.naming.there + 1)) Whole) (with_there o (o.naming.there + 1)) (HasSameParts o)
+    cond_both (o.naming.noted_count + 1 == length o.entry.writes) (with_mark (with_noted_count o (o.naming.noted_count + 1)) Whole) (with_noted_count o (o.naming.noted_count + 1)) (HasSameParts o)
     (λ is. record { tag = refl; writes = refl; names = refl }) (λ is. record { tag = refl; writes = refl; names = refl })
 
 -- names stay where each opening has the names that it had
@@ -97,22 +97,22 @@ module _ (p : Protocol) (notes : NotesWrites p) (n : Noted) (at : ℕ) (rec : Re
   after = programmed n at rec
 
   pub next_stays : o.entry.done + 1 ≢ length o.entry.writes → (page : ℕ) → page < n.config.logical → current_of after page ≡ current_of n page
-  next_stays more = partly_stays p notes n h.noted h.rule at rec h.next h.within h.was image' o.entry o.naming h.named h.under h.its h.there h.name more
+  next_stays more = partly_stays p notes n h.noted h.rule at rec h.next h.within h.was image' o.entry o.naming h.named h.under h.its h.due h.name more
 
   pub next_array : o.entry.done + 1 ≢ length o.entry.writes → array_known after image' ≡ array_known n image'
-  next_array more = partly_array p notes n h.noted h.rule at rec h.next h.within h.was image' o.entry o.naming h.named h.under h.its h.there h.name more
+  next_array more = partly_array p notes n h.noted h.rule at rec h.next h.within h.was image' o.entry o.naming h.named h.under h.its h.due h.name more
 
   pub last_current : o.entry.done + 1 ≡ length o.entry.writes → All (λ a. current_of after a.page ≡ a.version) o.naming.names
-  last_current last = wholly_current p notes n h.noted h.rule at rec h.next h.within h.was image' o.entry o.naming h.named h.under h.its h.there h.name last
+  last_current last = wholly_current p notes n h.noted h.rule at rec h.next h.within h.was image' o.entry o.naming h.named h.under h.its h.due h.name last
 
   pub last_rises : o.entry.done + 1 ≡ length o.entry.writes → All (λ a. current_of n a.page < a.version) o.naming.names
-  last_rises last = wholly_rises p notes n h.noted h.rule at rec h.next h.within h.was image' o.entry o.naming h.named h.under h.its h.there h.name last
+  last_rises last = wholly_rises p notes n h.noted h.rule at rec h.next h.within h.was image' o.entry o.naming h.named h.under h.its h.due h.name last
 
   pub last_elsewhere : o.entry.done + 1 ≡ length o.entry.writes → (page : ℕ) → page < n.config.logical → All (λ a. a.page ≢ page) o.naming.names → current_of after page ≡ current_of n page
-  last_elsewhere last = wholly_elsewhere p notes n h.noted h.rule at rec h.next h.within h.was image' o.entry o.naming h.named h.under h.its h.there h.name last
+  last_elsewhere last = wholly_elsewhere p notes n h.noted h.rule at rec h.next h.within h.was image' o.entry o.naming h.named h.under h.its h.due h.name last
 
   pub last_array : o.entry.done + 1 ≡ length o.entry.writes → array_known after image' ≡ put (array_known n image') o.entry.writes
-  last_array last = wholly_array p notes n h.noted h.rule at rec h.next h.within h.was image' o.entry o.naming h.named h.under h.its h.there h.name last h.come
+  last_array last = wholly_array p notes n h.noted h.rule at rec h.next h.within h.was image' o.entry o.naming h.named h.under h.its h.due h.name last h.come
 
   -- Versions
   same_page : KeepsNoted n image image' → (page : ℕ) → page < n.config.logical → current_of after page ≡ current_of n page →
@@ -120,7 +120,7 @@ module _ (p : Protocol) (notes : NotesWrites p) (n : Noted) (at : ℕ) (rec : Re
   same_page stay page low same =
       known_at after image' page low
       ∙ known_page n after image' page refl same
-      ∙ current_bytes n image image' stay (subst (λ q. IsNoted q n) (sym h.rule) h.noted) page
+      ∙ current_same n image image' stay (subst (λ q. IsNoted q n) (sym h.rule) h.noted) page
       ∙ sym (known_at n image page low)
 
   pub next_versions : KeepsNoted n image image' → (page : ℕ) → page < n.config.logical →
@@ -184,13 +184,13 @@ pub next_kept : (p : Protocol) (notes : NotesWrites p) (s s' : FlashState) (n : 
 next_kept p notes s s' n t t' u o i at rec k within each calm h m' =
     let its = opening_at o i in
     let others : (j : ℕ) → j < length o.all → j ≢ i → IsOpening s'.image (programmed n at rec) (opening_at o j) = λ j inside other.
-    other_opening p notes n h.noted h.rule at rec h.next h.within h.was s'.image its.entry its.naming h.named h.under h.its h.there h.name
+    other_opening p notes n h.noted h.rule at rec h.next h.within h.was s'.image its.entry its.naming h.named h.under h.its h.due h.name
     (opening_at o j).entry (opening_at o j).naming (apart_at o.all i j k.apart within inside other) (each j no_opening inside) in
-    let own = next_opening p notes n h.noted h.rule at rec h.next h.within h.was s'.image its h.named h.under h.its h.there h.name h.come h.plain in
+    let own = next_opening p notes n h.noted h.rule at rec h.next h.within h.was s'.image its h.named h.under h.its h.due h.name h.come h.plain in
     let calm_own : IsCalm (with_next its).entry =
-    cond_both (its.naming.there + 1 == length its.entry.writes) (with_mark (with_there its (its.naming.there + 1)) Whole) (with_there its (its.naming.there + 1))
+    cond_both (its.naming.noted_count + 1 == length its.entry.writes) (with_mark (with_noted_count its (its.naming.noted_count + 1)) Whole) (with_noted_count its (its.naming.noted_count + 1))
     (λ (x : Opening). IsCalm x.entry) (λ is. refl)
-    (λ is. ap is_doubted (h.plain (λ last. eqb-false (its.naming.there + 1) (length its.entry.writes) is (ap (λ j. j + 1) h.there ∙ last)))) in
+    (λ is. ap is_doubted (h.plain (λ last. eqb-false (its.naming.noted_count + 1) (length its.entry.writes) is (ap (λ j. j + 1) h.due ∙ last)))) in
     kept_with s s' n (programmed n at rec) t t' u unsure.Nothing o i (with_next its) k within (next_parts its) m' refl refl others own
     (calm_all (slice_set o.all i (with_next its)) (λ j inside. elim (cases_eq j i) [
       | inl is ↦ subst (λ (x : Opening). IsCalm x.entry) (sym (get_or-set_same o.all i (with_next its) no_opening within) ∙ ap (λ a. get_or (slice_set o.all i (with_next its)) a no_opening) (sym is)) calm_own

@@ -36,8 +36,8 @@ use Rattle.collector.specs.declared.unsure.Unsure.TheVariants as unsure
 use Rattle.collector.specs.Going.{IsNextName, IsPinBeside}
 use Rattle.collector.specs.Matches.{CanTakeOwn}
 use Rattle.tx_engine.specs.ArrayState.{Entry, is_doubted}
-use Rattle.tx_engine.specs.declared.mark.Mark.{Mark}
-use Rattle.tx_engine.specs.declared.mark.Mark.TheVariants.{Plain, Doubt, Whole}
+use Rattle.array_machine.specs.declared.mark.Mark.{Mark}
+use Rattle.array_machine.specs.declared.mark.Mark.TheVariants.{Plain, Doubt, Whole}
 use Rattle.tx_engine.specs.Standing.{Naming, IsNamed, IsUnderWay, IsAsMarked, name_at, no_name}
 use Rattle.tx_engine.specs.OpenTable.{OpenTable, Opening, no_opening, opening_at}
 use Rattle.tx_engine.proofs.Arrays.{as_many_names}
@@ -117,7 +117,7 @@ sum_same all f g h = sym (sum-map f all) ∙ ap sum (same all h) ∙ sum-map g a
     same (o ∷ os) k = ap₂ (λ y ys. y ∷ ys) (k 0 (omega arith)) (same os (λ j inside. k (suc j) (omega arith)))
 
 module _ (s : FlashState) (n : Noted) (t : BlockTable) (o : OpenTable) (i : ℕ) (k : IsKept s n t unsure.Nothing o) (within : i < length o.all)
-    (plain : (opening_at o i).entry.mark ≡ Plain) (due : (opening_at o i).naming.there ≡ (opening_at o i).entry.done) where
+    (plain : (opening_at o i).entry.mark ≡ Plain) (due : (opening_at o i).naming.noted_count ≡ (opening_at o i).entry.done) where
   abbrev e : Entry
   e = (opening_at o i).entry
 
@@ -140,7 +140,7 @@ module _ (s : FlashState) (n : Noted) (t : BlockTable) (o : OpenTable) (i : ℕ)
   due_has = Contains-get_or x.names e.done no_name due_inside
 
   pub due_absent : is_present (found_in n.notes) name ≡ false
-  due_absent = due_under.noted e.done due_inside ∙ le-ltb e.done x.there (omega (arith, due))
+  due_absent = due_under.noted e.done due_inside ∙ le-ltb e.done x.noted_count (omega (arith, due))
 
   beside : (q : Link) → Contains (pinned_names n.pins) q → IsPinBeside n x.names q
   beside q pin =
@@ -200,8 +200,8 @@ module _ (s : FlashState) (n : Noted) (t : BlockTable) (o : OpenTable) (i : ℕ)
           (own_pinned s n t unsure.Nothing o k i within j d inside) here;
     }
 
-    pub next_can_be_spelled : block_to_go n rec.page rec.version ≡ None → CanBeSpelled n.config.protocol rec
-    next_can_be_spelled clear =
+    pub next_can_be_spelled : (rec.count ≡ 0) × (rec.discard ≡ false) → block_to_go n rec.page rec.version ≡ None → CanBeSpelled n.config.protocol rec
+    next_can_be_spelled plain clear =
         let next = next_record clear in
         let bounds = k.matches.noted.bounds in
         let most : (blocks_of (shape_of n.config) - 1) * n.config.pages_per_block ≤ blocks_of (shape_of n.config) * n.config.pages_per_block = mul-le-mul_right n.config.pages_per_block (omega arith) in
@@ -217,6 +217,8 @@ module _ (s : FlashState) (n : Noted) (t : BlockTable) (o : OpenTable) (i : ℕ)
           next_version_least = spelled.next_version;
           next_version_most = (range rec.next link_has).2;
           back = is_back n n.config.protocol rec refl back (current_below n k.matches.noted x.names (name_of rec) due_under.in_progress next.named next.fresh);
+          count = plain.0;
+          discard = plain.1;
         }
 
 -- the current version is the back version under Back Pointer Cyclic Commit

@@ -10,9 +10,9 @@ use Rattle.version_index.proofs.NotedFacts.{noted_present}
 use Rattle.collector.specs.declared.unsure.Unsure.TheVariants as unsure
 use Rattle.collector.specs.Preserves.{IsThere}
 use Rattle.tx_engine.specs.ArrayState.{Entry}
-use Rattle.tx_engine.specs.declared.mark.Mark.TheVariants.{Whole}
+use Rattle.array_machine.specs.declared.mark.Mark.TheVariants.{Whole}
 use Rattle.tx_engine.specs.OpenTable.{OpenTable, no_opening, opening_at}
-use Rattle.tx_engine.specs.Settling.{AddsOnly, IsReady, is_due}
+use Rattle.tx_engine.specs.Settling.{AddsOnly, CountsOn, is_due}
 use Rattle.tx_engine.specs.Standing.{Naming, Stands, IsAsMarked, IsUnderWay, name_at, no_name}
 use Rattle.tx_engine.specs.Stored.{Stored}
 use Rattle.tx_engine.specs.Tables.{standing_in}
@@ -50,11 +50,11 @@ module _ {F : Type 0} (state : F → FlashState) (S : Stored F) (O : OpenTable) 
         | inr here ↦ subst (λ v. is_present (found_in S.noted.notes) (record { page = name.page; version = v }) ≡ true) current here
       ]
 
-  ready_there : IsReady (opening_at O i) → IsThere S.noted name
+  ready_there : CountsOn (opening_at O i) → IsThere S.noted name
   ready_there (inl whole) = whole_there whole
   ready_there (inr (plain, behind)) =
       let under : IsUnderWay (state S.flash).image S.noted e x = subst (IsAsMarked (state S.flash).image S.noted e x) plain (kept.each i no_opening within).marked in
-      under.noted e.done inside ∙ lt-ltb e.done x.there behind
+      under.noted e.done inside ∙ lt-ltb e.done x.noted_count behind
 
   -- what is not due is there, and what is due is not
   pub not_due_there : is_due (opening_at O i) ≡ false → IsThere S.noted name

@@ -31,11 +31,11 @@ use Rattle.collector.specs.Victim.{HasNoGarbage}
 use Rattle.collector.proofs.NotesLeft.{note_at-in}
 use Rattle.tx_engine.specs.ArrayState.{Entry}
 use Rattle.flash_model.specs.declared.flash.Broken.{Broken}
-use Rattle.tx_engine.specs.declared.collect.Collected.{Collected}
-use Rattle.tx_engine.specs.declared.collect.Collected.TheVariants.{Nothing}
+use Rattle.array_machine.specs.declared.answers.Collected.{Collected}
+use Rattle.array_machine.specs.declared.answers.Collected.TheVariants.{Nothing}
 use Rattle.tx_engine.specs.Collections.{CollectsTables, CollectsNothing, HasNothingToCollect}
-use Rattle.tx_engine.specs.declared.mark.Mark.{Mark}
-use Rattle.tx_engine.specs.declared.mark.Mark.TheVariants.{Plain, Doubt, Whole}
+use Rattle.array_machine.specs.declared.mark.Mark.{Mark}
+use Rattle.array_machine.specs.declared.mark.Mark.TheVariants.{Plain, Doubt, Whole}
 use Rattle.tx_engine.specs.Standing.{Stands, Naming, IsAsMarked, no_name}
 use Rattle.tx_engine.specs.OpenTable.{OpenTable, Opening, no_opening, entries_of}
 use Rattle.tx_engine.specs.Stored.{Stored}

@@ -11,8 +11,8 @@ use Rattle.tx_types.specs.declared.record.Link.{Link}
 use Rattle.tx_types.specs.declared.record.Rec.{Rec}
 use Rattle.flash_model.specs.Flash.{Contents}
 use Rattle.record_list.specs.Records.{is_present, name_of, version_of, linked_at}
-use Rattle.record_list.specs.Transaction.{InProgress, ShareNoPage, rounded, back_version}
-use Rattle.record_list.specs.Written.{bytes_at}
+use Rattle.record_list.specs.Transaction.{InProgress, ShareNoPage, next_names, back_version}
+use Rattle.record_list.specs.Written.{text_at}
 use Rattle.record_list.proofs.Rounds.{follows_of, follows_in}
 use Rattle.version_index.specs.declared.note.Note.TheVariants.{Blank}
 use Rattle.version_index.specs.Images.{written_in}
@@ -20,10 +20,10 @@ use Rattle.version_index.specs.Notes.{found_in, note_at}
 use Rattle.version_index.specs.Noted.{Noted, IsNoted, IsNextRecord, programmed, current_of, mention_of}
 use Rattle.version_index.proofs.Mentions.{raised_at}
 use Rattle.tx_engine.specs.ArrayState.{Entry}
-use Rattle.tx_engine.specs.declared.mark.Mark.{Mark}
-use Rattle.tx_engine.specs.declared.mark.Mark.TheVariants.{Plain, Doubt, Whole}
-use Rattle.tx_engine.specs.Standing.{Naming, IsOpenAs, IsNamed, IsUnderWay, IsAsMarked, name_at, write_at, no_name}
-use Rattle.tx_engine.specs.OpenTable.{Opening, with_there, with_mark}
+use Rattle.array_machine.specs.declared.mark.Mark.{Mark}
+use Rattle.array_machine.specs.declared.mark.Mark.TheVariants.{Plain, Doubt, Whole}
+use Rattle.tx_engine.specs.Standing.{Naming, IsOpenAs, IsNamed, IsUnderWay, IsAsMarked, name_at, write_at, text_in, no_name}
+use Rattle.tx_engine.specs.OpenTable.{Opening, with_noted_count, with_mark}
 use Rattle.tx_engine.specs.Settling.{with_next}
 use Rattle.tx_engine.proofs.InDoubt.{long, there_then, partly, wholly, partly_stays, wholly_current, wholly_elsewhere}
 use Rattle.tx_engine.proofs.Kept.{IsOpening}
@@ -42,7 +42,7 @@ next_named n rec next =
     let i = next.named in
     let follows = follows_of next.names (name_of rec) i in
     let asked = All-contains (λ (name, after). name_of rec ≡ name → (rec.next ≡ after) × (rec.back ≡ back_version n.config.protocol (found_in n.notes) n.config.logical name.page))
-    (zip next.names (rounded next.names)) (name_of rec, follows.0) next.asked follows.1 refl in
+    (zip next.names (next_names next.names)) (name_of rec, follows.0) next.asked follows.1 refl in
     (i, subst (Contains next.names) (sym asked.0) (follows_in next.names (name_of rec) follows.0 follows.1).1)
 
 -- a mention stays, or rises to that of a name of the transaction
@@ -76,7 +76,7 @@ raised_mention p n at rec next noted page within =
 module _ (p : Protocol) (notes : NotesWrites p) (n : Noted) (is_noted : IsNoted p n) (rule : n.config.protocol ≡ p) (at : ℕ) (rec : Rec)
     (next : IsNextRecord n rec) (within : at < slots_of (shape_of n.config)) (was : note_at n.notes at ≡ Blank)
     (image : List Contents) (e : Entry) (x : Naming) (named : IsNamed n.config.page_bytes n.config.logical e x) (under : IsUnderWay image n e x)
-    (its : next.names ≡ x.names) (there : x.there ≡ e.done) (name : name_of rec ≡ name_at x e.done) where
+    (its : next.names ≡ x.names) (there : x.noted_count ≡ e.done) (name : name_of rec ≡ name_at x e.done) where
   abbrev pub then : Noted
   then = programmed n at rec
 
@@ -117,7 +117,7 @@ module _ (p : Protocol) (notes : NotesWrites p) (n : Noted) (is_noted : IsNoted 
       most = w.most;
       short = w.short;
       noted = λ k h. other_name (name_at y k) (apart k h) ∙ w.noted k h;
-      bytes = w.bytes;
+      texts = w.texts;
     }
 
     other_current : (page : ℕ) → page < n.config.logical → All (λ (a : Link). a.page ≢ page) x.names → current_of then page ≡ current_of n page
@@ -136,8 +136,8 @@ module _ (p : Protocol) (notes : NotesWrites p) (n : Noted) (is_noted : IsNoted 
     other_opening w = record { named = w.named; marked = other_marked f.mark w.named w.marked }
 
   -- The transaction itself, where more records come
-  pub more_under : bytes_at (written_in n.config.protocol image) (name_of rec) ≡ Some (write_at e e.done).bytes → e.done + 1 ≢ length e.writes →
-      IsUnderWay image then e (record x { there = x.there + 1 })
+  pub more_under : text_at (written_in n.config.protocol image) (name_of rec) ≡ Some (text_in (write_at e e.done)) → e.done + 1 ≢ length e.writes →
+      IsUnderWay image then e (record x { noted_count = x.noted_count + 1 })
   more_under come more =
       let as_many = long p notes n is_noted rule at rec next within was image e x named under its there name in
       record {
@@ -146,18 +146,18 @@ module _ (p : Protocol) (notes : NotesWrites p) (n : Noted) (is_noted : IsNoted 
         least = omega (arith, there);
         most = omega (arith, there);
         short = omega (arith, there, named.within, as_many, more);
-        noted = λ k h. elim (cases_lt k (x.there + 1)) [
-          | inl less ↦ there_then p notes n is_noted rule at rec next within was image e x named under its there name k h (omega (arith, there)) ∙ sym (lt-ltb k (x.there + 1) less)
+        noted = λ k h. elim (cases_lt k (x.noted_count + 1)) [
+          | inl less ↦ there_then p notes n is_noted rule at rec next within was image e x named under its there name k h (omega (arith, there)) ∙ sym (lt-ltb k (x.noted_count + 1) less)
           | inr past ↦
               other_name (name_at x k) (λ same. named.transaction.distinct e.done k no_name (omega (arith, there)) h (ap (λ (a : Link). a.page) (sym (same ∙ name))))
-              ∙ under.noted k h ∙ le-ltb k x.there (omega arith) ∙ sym (le-ltb k (x.there + 1) past)
+              ∙ under.noted k h ∙ le-ltb k x.noted_count (omega arith) ∙ sym (le-ltb k (x.noted_count + 1) past)
         ];
-        bytes = λ k h. elim (cases_lt k x.there) [
-          | inl less ↦ under.bytes k less
+        texts = λ k h. elim (cases_lt k x.noted_count) [
+          | inl less ↦ under.texts k less
           | inr past ↦ (let here : k ≡ e.done = omega (arith, there) in
-              ap (λ j. bytes_at (written_in n.config.protocol image) (name_at x j)) here
-              ∙ ap (bytes_at (written_in n.config.protocol image)) (sym name)
-              ∙ come ∙ ap (λ j. Some (write_at e j).bytes) (sym here))
+              ap (λ j. text_at (written_in n.config.protocol image) (name_at x j)) here
+              ∙ ap (text_at (written_in n.config.protocol image)) (sym name)
+              ∙ come ∙ ap (λ j. Some (text_in (write_at e j))) (sym here))
         ];
       }
 
@@ -165,24 +165,24 @@ module _ (p : Protocol) (notes : NotesWrites p) (n : Noted) (is_noted : IsNoted 
 pub next_opening : (p : Protocol) (notes : NotesWrites p) (n : Noted) (is_noted : IsNoted p n) (rule : n.config.protocol ≡ p) (at : ℕ) (rec : Rec)
     (next : IsNextRecord n rec) (within : at < slots_of (shape_of n.config)) (was : note_at n.notes at ≡ Blank)
     (image : List Contents) (o : Opening) (named : IsNamed n.config.page_bytes n.config.logical o.entry o.naming) (under : IsUnderWay image n o.entry o.naming)
-    (its : next.names ≡ o.naming.names) (there : o.naming.there ≡ o.entry.done) (name : name_of rec ≡ name_at o.naming o.entry.done) →
-    bytes_at (written_in n.config.protocol image) (name_of rec) ≡ Some (write_at o.entry o.entry.done).bytes →
+    (its : next.names ≡ o.naming.names) (there : o.naming.noted_count ≡ o.entry.done) (name : name_of rec ≡ name_at o.naming o.entry.done) →
+    text_at (written_in n.config.protocol image) (name_of rec) ≡ Some (text_in (write_at o.entry o.entry.done)) →
     (o.entry.done + 1 ≢ length o.entry.writes → o.entry.mark ≡ Plain) →
     IsOpening image (programmed n at rec) (with_next o)
 next_opening p notes n is_noted rule at rec next within was image o named under its there name come plain =
-    cond_both (o.naming.there + 1 == length o.entry.writes) (with_mark (with_there o (o.naming.there + 1)) Whole) (with_there o (o.naming.there + 1))
+    cond_both (o.naming.noted_count + 1 == length o.entry.writes) (with_mark (with_noted_count o (o.naming.noted_count + 1)) Whole) (with_noted_count o (o.naming.noted_count + 1))
     (IsOpening image (programmed n at rec))
     (λ is.
-    let last : o.entry.done + 1 ≡ length o.entry.writes = omega (arith, there, eqb-true (o.naming.there + 1) (length o.entry.writes) is) in
+    let last : o.entry.done + 1 ≡ length o.entry.writes = omega (arith, there, eqb-true (o.naming.noted_count + 1) (length o.entry.writes) is) in
     record {
       named = record { pages = named.pages; within = named.within; whole = named.whole; transaction = named.transaction };
       marked = wholly_current p notes n is_noted rule at rec next within was image o.entry o.naming named under its there name last;
     })
     (λ is.
-    let more : o.entry.done + 1 ≢ length o.entry.writes = λ last. eqb-false (o.naming.there + 1) (length o.entry.writes) is (ap (λ k. k + 1) there ∙ last) in
+    let more : o.entry.done + 1 ≢ length o.entry.writes = λ last. eqb-false (o.naming.noted_count + 1) (length o.entry.writes) is (ap (λ k. k + 1) there ∙ last) in
     record {
       named = record { pages = named.pages; within = named.within; whole = named.whole; transaction = named.transaction };
-      marked = subst (IsAsMarked image (programmed n at rec) o.entry (record o.naming { there = o.naming.there + 1 })) (sym (plain more))
+      marked = subst (IsAsMarked image (programmed n at rec) o.entry (record o.naming { noted_count = o.naming.noted_count + 1 })) (sym (plain more))
           (more_under p notes n is_noted rule at rec next within was image o.entry o.naming named under its there name come more);
     })
 

@@ -11,7 +11,7 @@ use Rattle.tx_engine.specs.OpenTable.{begun}
 use Rattle.tx_engine.specs.OpeningsIn.{opening_of, openings_in}
 use Rattle.tx_engine.specs.OpenTables.{table_of, IsKept}
 use Rattle.tx_engine.specs.PendingPages.{pages_held, write_held, HoldsPages, FreesPages}
-use Rattle.tx_engine.specs.declared.mark.Mark.TheVariants.{Plain}
+use Rattle.array_machine.specs.declared.mark.Mark.TheVariants.{Plain}
 use Rattle.tx_engine.specs.declared.openings.Openings.TheInside.{Inside}
 use Rattle.tx_engine.specs.declared.pending.Opened.{Opened}
 use Rattle.tx_engine.specs.declared.pending.PendingPage.{PendingPage}
@@ -106,7 +106,7 @@ kept_after_opening n t u batch x held kept taken =
     }
 
 pub table_after_opening : (n : Noted) (t u : Inside) (batch : Writes) (x : Opened) (held : List PendingPage) →
-    IsKept t → IsTakenIn n t u batch x held → x.done ≡ 0 → x.there ≡ 0 → x.mark ≡ Plain →
+    IsKept t → IsTakenIn n t u batch x held → x.done ≡ 0 → x.noted_count ≡ 0 → x.mark ≡ Plain →
     table_of u ≡ record (table_of t) { all = openings_in t.opened.items t.pages.items ++ begun n x.tag batch.entries ∷ [] }
 table_after_opening n t u batch x held kept taken done there mark =
     let h = taken.holds in

@@ -3,7 +3,7 @@ use Rattle.std.proofs.Common.{◌≡◌, ℕ, ◌<◌, List, [], length, map, ge
 use Rattle.std.proofs.lemmas.List.{length-map, get_or-map}
 use Rattle.std.proofs.Math.Seq.{map-set_same}
 use Rattle.tx_types.specs.declared.record.Link.{Link}
-use Rattle.tx_engine.specs.declared.mark.Mark.{Mark}
+use Rattle.array_machine.specs.declared.mark.Mark.{Mark}
 use Rattle.tx_engine.specs.OpenTable.{OpenTable, Opening, no_opening, opening_at, with_opening, with_mark}
 use Rattle.tx_engine.specs.Settling.{with_next}
 use Rattle.tx_engine.proofs.NextNoted.{next_parts}

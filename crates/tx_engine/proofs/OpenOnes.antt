@@ -18,8 +18,8 @@ use Rattle.collector.specs.declared.unsure.Unsure.TheVariants as unsure
 use Rattle.collector.specs.Matches.{CanSpare, CanTake}
 use Rattle.flash_model.specs.Flash.{FlashState}
 use Rattle.tx_engine.specs.ArrayState.{Entry}
-use Rattle.tx_engine.specs.declared.mark.Mark.{Mark}
-use Rattle.tx_engine.specs.declared.mark.Mark.TheVariants.{Plain, Doubt, Whole}
+use Rattle.array_machine.specs.declared.mark.Mark.{Mark}
+use Rattle.array_machine.specs.declared.mark.Mark.TheVariants.{Plain, Doubt, Whole}
 use Rattle.tx_engine.specs.Standing.{Standing, Naming, Stands, DoubtsAs, IsAsMarked, IsUnderWay}
 
 -- a transaction that is not whole is under way

@@ -4,7 +4,7 @@ use Rattle.std.specs.Prelude.{remove, slice_index_or}
 use Rattle.std.proofs.lemmas.List.{get_or_default, get_or-map, get_or-take, get_or-drop, length-map, drop-drop, drop-take, take-take, take_all, length-drop, length-take-le, take-append-le, drop-append-le}
 use Rattle.std.proofs.lemmas.List.Sums.{sum_by-cons, sum_by-take-le, sum_by_more_le}
 use Rattle.tx_types.specs.Batch.{no_write}
-use Rattle.tx_engine.specs.declared.mark.Mark.TheVariants.{Plain}
+use Rattle.array_machine.specs.declared.mark.Mark.TheVariants.{Plain}
 use Rattle.tx_engine.specs.Standing.{name_at, write_at, no_name}
 use Rattle.tx_engine.specs.OpenTable.{Opening, OpenTable, no_opening}
 use Rattle.tx_engine.specs.OpeningsIn.{opening_of, openings_in}
@@ -16,7 +16,7 @@ abbrev pub as_table : ℕ → ℕ → List Opening → OpenTable
 as_table page_bytes pending all = record { page_bytes = page_bytes; pending = pending; all = all }
 
 no_opened : Opened
-no_opened = record { tag = 0; pages = 0; done = 0; there = 0; mark = Plain }
+no_opened = record { tag = 0; pages = 0; done = 0; noted_count = 0; mark = Plain }
 
 pub pages_of-cons : (o : Opened) (os : List Opened) → pages_held (o ∷ os) ≡ o.pages + pages_held os
 pages_of-cons o os = sum_by-cons (λ o. o.pages) o os

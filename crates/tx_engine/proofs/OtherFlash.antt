@@ -11,10 +11,10 @@ use Rattle.collector.specs.Known.{page_known, array_known}
 use Rattle.collector.proofs.SettledExits.{matches_still}
 use Rattle.tx_engine.specs.ArrayState.{page_at}
 use Rattle.tx_engine.specs.Read.{ReadsKnown, ReadsPage, ReadsFlash, read_place}
-use Rattle.tx_engine.specs.declared.read.ReadAnswer.{ReadAnswer}
-use Rattle.tx_engine.specs.declared.read.ReadAnswer.TheVariants as answer
-use Rattle.tx_engine.specs.declared.read.ReadError.{ReadError}
-use Rattle.tx_engine.specs.declared.read.ReadError.TheVariants as failed
+use Rattle.array_machine.specs.declared.answers.ReadAnswer.{ReadAnswer}
+use Rattle.array_machine.specs.declared.answers.ReadAnswer.TheVariants as answer
+use Rattle.array_machine.specs.declared.answers.ReadError.{ReadError}
+use Rattle.array_machine.specs.declared.answers.ReadError.TheVariants as failed
 use Rattle.tx_engine.specs.Standing.{IsOpenAs, DoubtsAs}
 use Rattle.tx_engine.specs.Stored.{Stored}
 use Rattle.tx_engine.specs.StoreTables.{IsStoreKept}

@@ -19,7 +19,7 @@ use Rattle.page_record.specs.Spelling.{CanBeSpelled, spelling}
 use Rattle.page_record.proofs.Spellings.{length-spelling}
 use Rattle.record_list.specs.Changes.{PartialWriteLaw, CompletingWriteLaw}
 use Rattle.record_list.specs.WrittenChanges.{WrittenPartialWriteLaw, WrittenCompletingWriteLaw}
-use Rattle.version_index.specs.ImageChanges.{image_with, BytesStay, BytesCome}
+use Rattle.version_index.specs.ImageChanges.{image_with, TextsStay, TextsCome}
 use Rattle.version_index.specs.ImageLaws.{ImagePartialLaw, ImageCompletingLaw}
 use Rattle.version_index.specs.Noted.{Noted, programmed}
 use Rattle.version_index.proofs.ImageLaws.{image_partial_law, image_completing_law}
@@ -75,7 +75,7 @@ module _ (q : Protocol) (partial : PartialWriteLaw q) (completing : CompletingWr
     pub torn_slot : (its spare : List ℕ) → slot_at s'.image at.0 ≡ complete its spare → its ≡ bytes
     torn_slot = torn_left.slot
 
-    pub torn_stay : BytesStay n.config.protocol s.image s'.image
+    pub torn_stay : TextsStay n.config.protocol s.image s'.image
     torn_stay = torn_left.stay
 
   module _ (x : Unit {0}) (ok : r ≡ Ok x) where
@@ -90,11 +90,11 @@ module _ (q : Protocol) (partial : PartialWriteLaw q) (completing : CompletingWr
         subst (λ sp. Does s.shape (moment_of s) (program at.0 bytes sp ∷ []) (moment_of s')) spells
         (can, same_moments (moment_of s') (after s.shape (moment_of s) (program at.0 bytes spare)) done.done.image done.done.programs done.done.erases)
 
-    pub done_stay : BytesStay n.config.protocol s.image s'.image
-    done_stay = subst (BytesStay n.config.protocol s.image) (sym done_image) written_now.stay
+    pub done_stay : TextsStay n.config.protocol s.image s'.image
+    done_stay = subst (TextsStay n.config.protocol s.image) (sym done_image) written_now.stay
 
-    pub done_come : BytesCome n.config.protocol s'.image rec bytes
-    done_come = subst (λ i. BytesCome n.config.protocol i rec bytes) (sym done_image) written_now.come
+    pub done_come : TextsCome n.config.protocol s'.image rec bytes
+    done_come = subst (λ i. TextsCome n.config.protocol i rec bytes) (sym done_image) written_now.come
 
     done_slot : slot_at s'.image at.0 ≡ complete bytes (spelling n.config.protocol rec)
     done_slot =

@@ -21,7 +21,7 @@ use Rattle.page_record.proofs.Spellings.{record_of-spelling}
 use Rattle.record_list.specs.declared.found.Found.{Found}
 use Rattle.record_list.specs.Records.{name_of, is_present}
 use Rattle.record_list.specs.Changes.{IsInserted, left}
-use Rattle.record_list.specs.Written.{found_of, is_outside, bytes_at}
+use Rattle.record_list.specs.Written.{found_of, is_outside, text_at}
 use Rattle.record_list.specs.WrittenChanges.{HasRoomAround}
 use Rattle.record_list.specs.Transaction.{InProgress, IsAsked}
 use Rattle.record_list.specs.Changes.{NothingMustGo}
@@ -29,7 +29,7 @@ use Rattle.record_list.proofs.Names.{found_named, present_as}
 use Rattle.record_list.proofs.OneMore.{inserted_in, in_inserted, new_in}
 use Rattle.record_list.proofs.WrittenLists.{inserted_records}
 use Rattle.version_index.specs.Images.{IsSoundImage, written_in, records_in}
-use Rattle.version_index.specs.ImageChanges.{image_with, AsksFor, BytesStay, BytesCome}
+use Rattle.version_index.specs.ImageChanges.{image_with, AsksFor, TextsStay, TextsCome}
 use Rattle.version_index.specs.ImageLaws.{ImagePartialLaw, ImageCompletingLaw}
 use Rattle.version_index.specs.Notes.{note_of, found_in}
 use Rattle.version_index.specs.Noted.{Noted}
@@ -150,18 +150,18 @@ module _ (s : FlashState) (n : Noted) (t : BlockTable) (m : Matches s n t unsure
 
   pub record IsWritten : Type 0 where
     pub sound : IsSoundImage p n.config.logical s.shape image'
-    pub stay : BytesStay p s.image image'
-    pub come : BytesCome p image' rec bytes
+    pub stay : TextsStay p s.image image'
+    pub come : TextsCome p image' rec bytes
 
-  -- the image with the record is sound, and keeps the bytes of each name
+  -- the image with the record is sound, and keeps the text of each name
   pub is_written : ImagePartialLaw p → ImageCompletingLaw p → IsWritten
   is_written partial completing = elim (are_there new names) [
     | all each ↦
         (let kept = completing n.config.logical s.shape s.image names at.0 bytes rec asks (all_from (λ name. is_present new name ≡ true) names each) (room each) in
-        record { sound = kept.sound; stay = kept.old_bytes; come = kept.new_bytes })
+        record { sound = kept.sound; stay = kept.old_texts; come = kept.new_text })
     | missing name i absent ↦
         (let kept = partial n.config.logical s.shape s.image names at.0 bytes rec asks (i.0, name, i.1, i.2, absent) in
-        record { sound = kept.sound; stay = kept.old_bytes; come = kept.new_bytes })
+        record { sound = kept.sound; stay = kept.old_texts; come = kept.new_text })
   ]
 
   -- what is left of the image where the program was asked for
@@ -169,7 +169,7 @@ module _ (s : FlashState) (n : Noted) (t : BlockTable) (m : Matches s n t unsure
     pub sound : IsSoundImage p n.config.logical s.shape left_image
     pub place : IsProgramming left_image at.0 (SpellsRecord n rec)
     pub slot : (its spare : List ℕ) → slot_at left_image at.0 ≡ complete its spare → its ≡ bytes
-    pub stay : BytesStay p s.image left_image
+    pub stay : TextsStay p s.image left_image
     pub others : (k : ℕ) → k ≢ at.0 → slot_at left_image k ≡ slot_at s.image k
 
   same_bytes : (its spare its' spare' : List ℕ) → complete its spare ≡ complete its' spare' → its' ≡ its
@@ -205,7 +205,7 @@ module _ (s : FlashState) (n : Noted) (t : BlockTable) (m : Matches s n t unsure
         sound = kept.sound;
         place = inr (inl here);
         slot = λ its spare e. (let no : damaged ≡ complete its spare = sym here ∙ e in cc);
-        stay = λ name h. ap (λ l. bytes_at l name) kept.written;
+        stay = λ name h. ap (λ l. text_at l name) kept.written;
         others = λ k other. get_or-set_other s.image at.0 k damaged blank other;
       }
 

@@ -10,8 +10,8 @@ use Rattle.tx_engine.specs.PendingPages.{pages_held, write_held}
 use Rattle.tx_engine.specs.Submit.{is_of, is_owner, or_else, first_refusals, empty, tag_used, full, free_of, range, repeated, overlap}
 use Rattle.tx_engine.specs.declared.pending.Opened.{Opened}
 use Rattle.tx_engine.specs.declared.pending.PendingPage.{PendingPage}
-use Rattle.tx_engine.specs.declared.submit.SubmitError.{SubmitError}
-use Rattle.tx_engine.specs.declared.submit.SubmitError.TheVariants as refused
+use Rattle.array_machine.specs.declared.answers.SubmitError.{SubmitError}
+use Rattle.array_machine.specs.declared.answers.SubmitError.TheVariants as refused
 use Rattle.tx_engine.proofs.OpenPages.{pages_of-cons}
 
 -- a page among those that a transaction writes

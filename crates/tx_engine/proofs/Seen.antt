@@ -39,9 +39,9 @@ pub seen_flash : {F : Type 0} (seen : ℕ → ℕ) (s : Standing F) (flash : F) 
 seen_flash seen s flash h = record { mentions = h.mentions; names = h.names }
 
 -- a call that may settle, write and collect leaves the mentions within what was seen
-pub exits_seen : {F : Type 0} (state : F → FlashState) (kept : Protocol) (old new : Standing F) (seen : ℕ → ℕ) →
-    HoldsAlways state kept old → HoldsAlways state kept new → ExitsTables old new → IsSeen seen old → IsSeen seen new
-exits_seen state kept old new seen was is exits h = record {
+pub exits_seen : {F : Type 0} (state : F → FlashState) (protocol : Protocol) (old new : Standing F) (seen : ℕ → ℕ) →
+    HoldsAlways state protocol old → HoldsAlways state protocol new → ExitsTables old new → IsSeen seen old → IsSeen seen new
+exits_seen state protocol old new seen was is exits h = record {
   mentions = λ page. elim (cases_lt page old.config.logical) [
     | inl lt ↦ elim (exits.mentions page (subst (λ (c : Config). page < c.logical) (sym was.its) lt)) [
       | inl same ↦ (let most = h.mentions page in omega (arith, same, most))
@@ -53,9 +53,9 @@ exits_seen state kept old new seen was is exits h = record {
 }
 
 -- and so are those of the image
-pub image_seen : {F : Type 0} (state : F → FlashState) (kept : Protocol) (seen : ℕ → ℕ) (t : Standing F) (page : ℕ) → HoldsAlways state kept t → IsSeen seen t → page < t.config.logical →
+pub image_seen : {F : Type 0} (state : F → FlashState) (protocol : Protocol) (seen : ℕ → ℕ) (t : Standing F) (page : ℕ) → HoldsAlways state protocol t → IsSeen seen t → page < t.config.logical →
     mention (records_in t.config.protocol (state t.flash).image) page ≤ seen page
-image_seen state kept seen t page always h lt =
+image_seen state protocol seen t page always h lt =
     let its = always.its in
     let most = always.mentions page (subst (λ (x : Config). page < x.logical) (sym its) lt) in
     subst (λ (x : Config). mention (records_in x.protocol (state t.flash).image) page ≤ seen page) its (elim most [

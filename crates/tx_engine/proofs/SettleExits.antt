@@ -21,7 +21,7 @@ use Rattle.collector.specs.Settling.{settlement}
 use Rattle.collector.proofs.SettledExits.{matches_still}
 use Rattle.collector.specs.Preserves.{Preserves}
 use Rattle.tx_engine.specs.ArrayState.{is_doubted, page_at}
-use Rattle.tx_engine.specs.declared.mark.Mark.TheVariants.{Plain}
+use Rattle.array_machine.specs.declared.mark.Mark.TheVariants.{Plain}
 use Rattle.tx_engine.specs.Exits.{Exits, is_there}
 use Rattle.tx_engine.specs.Standing.{Stands, DoubtsAs}
 use Rattle.tx_engine.specs.OpenTable.{OpenTable, Opening, no_opening, opening_at, entries_of, namings_of, with_opening, with_mark}
@@ -148,12 +148,12 @@ module _ {F : Type 0} (state : F → FlashState) (S : Stored F) (O : OpenTable) 
         let same : own.place ≡ i = let both = sym own.is_place ∙ is in cc in
         subst (λ j. j < length O.all) same own.within
 
-    pub own_short : (i : ℕ) → w ≡ Some i → (opening_at O i).naming.there < length (opening_at O i).entry.writes
+    pub own_short : (i : ℕ) → w ≡ Some i → (opening_at O i).naming.noted_count < length (opening_at O i).entry.writes
     own_short i is =
         let own = the_own in
         let same : own.place ≡ i = let both = sym own.is_place ∙ is in cc in
-        subst (λ j. (opening_at O j).naming.there < length (opening_at O j).entry.writes) same
-        (subst (λ k. k < length (opening_at O own.place).entry.writes) (sym own.next.there) own.next.named.within)
+        subst (λ j. (opening_at O j).naming.noted_count < length (opening_at O j).entry.writes) same
+        (subst (λ k. k < length (opening_at O own.place).entry.writes) (sym own.next.due) own.next.named.within)
 
     pub own_none : w ≡ None → ⊥
     own_none is = let both = sym (the_own).is_place ∙ is in cc

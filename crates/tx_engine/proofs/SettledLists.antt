@@ -10,8 +10,8 @@ use Rattle.flash_model.specs.Flash.{Contents}
 use Rattle.version_index.specs.Images.{current_in}
 use Rattle.version_index.specs.Noted.{Noted, current_of}
 use Rattle.tx_engine.specs.ArrayState.{Entry, is_doubted}
-use Rattle.tx_engine.specs.declared.mark.Mark.{Mark}
-use Rattle.tx_engine.specs.declared.mark.Mark.TheVariants.{Plain, Doubt, Whole}
+use Rattle.array_machine.specs.declared.mark.Mark.{Mark}
+use Rattle.array_machine.specs.declared.mark.Mark.TheVariants.{Plain, Doubt, Whole}
 use Rattle.tx_engine.specs.Step.{settled_mark, settled_entry, doubted}
 use Rattle.tx_engine.specs.Exits.{has_moved}
 use Rattle.tx_engine.specs.Standing.{Naming}

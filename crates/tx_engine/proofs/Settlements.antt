@@ -27,15 +27,16 @@ use Rattle.collector.specs.Matches.{Matches, CanTake, CanTakeOwn}
 use Rattle.collector.specs.Preserves.{Preserves, KeepsArray}
 use Rattle.collector.specs.Settling.{settlement, own_settled, Settlement}
 use Rattle.tx_engine.specs.ArrayState.{ArrayState, Entry, Pages, put, is_doubted, page_at, pending_pages}
-use Rattle.tx_engine.specs.declared.mark.Mark.{Mark}
-use Rattle.tx_engine.specs.declared.mark.Mark.TheVariants.{Plain, Doubt, Whole}
+use Rattle.array_machine.specs.declared.mark.Mark.{Mark}
+use Rattle.array_machine.specs.declared.mark.Mark.TheVariants.{Plain, Doubt, Whole}
 use Rattle.tx_engine.specs.Exits.{MentionsRise, settled_writes}
-use Rattle.tx_engine.specs.Standing.{Naming, IsAsMarked, IsUnderWay, DoubtsAs, IsOwn, name_at, write_at, no_name}
+use Rattle.tx_engine.specs.Standing.{Naming, IsAsMarked, IsUnderWay, DoubtsAs, IsOwn, name_at, write_at, text_in, no_name}
 use Rattle.tx_engine.specs.Step.{settled, settled_mark, settled_entry, doubted}
-use Rattle.tx_engine.specs.OpenTable.{OpenTable, Opening, no_opening, opening_at, entries_of, namings_of, with_opening, with_mark, with_there}
+use Rattle.tx_engine.specs.OpenTable.{OpenTable, Opening, no_opening, opening_at, entries_of, namings_of, with_opening, with_mark, with_noted_count}
 use Rattle.tx_engine.specs.Settling.{with_next, is_writing}
 use Rattle.tx_engine.proofs.Arrays.{as_many_names}
-use Rattle.tx_engine.proofs.DevicesStand.{settles_there, bytes_there, spare_other, doubt_is}
+use Rattle.tx_engine.proofs.DevicesStand.{settles_there, text_there, spare_other, doubt_is}
+use Rattle.tx_engine.proofs.InDoubt.{text_as}
 use Rattle.tx_engine.proofs.OpenOnes.{under_way, take_unsure}
 use Rattle.tx_engine.proofs.Kept.{IsKept, IsOpening, IsCalm, HasSameParts, kept_with, each_stays}
 use Rattle.tx_engine.proofs.SettledLists.{CalmBeside, calm_all, calm_at, calm_entry, entries_in, any_moved, settled_at, settled_calm, doubted_at, moved_calm, moved_none, moved_one, not_moved, are_moved}
@@ -157,10 +158,11 @@ module _ (s : FlashState) (n : Noted) (t : BlockTable) (o : OpenTable) (settles 
           named = open_as.named;
           under = under_way s.image n its.entry its.naming its.entry.mark open_as.marked not_whole;
           its = own.its ∙ ap (λ (x : Naming). x.names) (sym naming.1);
-          there = ap (λ (x : Naming). x.there) naming.1 ∙ own.written ∙ ap (λ (e : Entry). e.done) (sym entry.1);
+          due = ap (λ (x : Naming). x.noted_count) naming.1 ∙ own.written ∙ ap (λ (e : Entry). e.done) (sym entry.1);
           name = name;
-          come = bytes_there n.config.protocol settles notes s n t at rec k.matches refl take bytes spare is
-              ∙ ap Some (own.bytes bytes spare is) ∙ ap (λ (e : Entry). Some (write_at e e.done).bytes) (sym entry.1);
+          come = text_as _ rec bytes (write_at own.entry own.entry.done)
+              (text_there n.config.protocol settles notes s n t at rec k.matches refl take bytes spare is) (k.matches.place.2).discard (own.bytes bytes spare is)
+              ∙ ap (λ (e : Entry). Some (text_in (write_at e e.done))) (sym entry.1);
           plain = λ more. plain_is its.entry.mark not_whole (doubt ∙ ne_eqb (its.entry.done + 1) (length its.entry.writes) more);
         };
         calm = λ j inside other. own.others j (opening_at o j).entry other (slice_get_at (λ (x : Opening). x.entry) o.all j no_opening inside);
@@ -221,13 +223,13 @@ module _ (s : FlashState) (n : Noted) (t t' : BlockTable) (u : Unsure) (o : Open
 
   next_entry_more : its.entry.done + 1 ≢ length its.entry.writes → (with_next its).entry ≡ its.entry
   next_entry_more more =
-      ap (λ (x : Opening). x.entry) (cond-false (its.naming.there + 1 == length its.entry.writes) (with_mark (with_there its (its.naming.there + 1)) Whole) (with_there its (its.naming.there + 1))
-      (ne_eqb (its.naming.there + 1) (length its.entry.writes) (λ e. more (ap (λ a. a + 1) (sym h.there) ∙ e))))
+      ap (λ (x : Opening). x.entry) (cond-false (its.naming.noted_count + 1 == length its.entry.writes) (with_mark (with_noted_count its (its.naming.noted_count + 1)) Whole) (with_noted_count its (its.naming.noted_count + 1))
+      (ne_eqb (its.naming.noted_count + 1) (length its.entry.writes) (λ e. more (ap (λ a. a + 1) (sym h.due) ∙ e))))
 
   next_entry_last : its.entry.done + 1 ≡ length its.entry.writes → (with_next its).entry ≡ record its.entry { mark = Whole }
   next_entry_last last =
-      ap (λ (x : Opening). x.entry) (cond-true (its.naming.there + 1 == length its.entry.writes) (with_mark (with_there its (its.naming.there + 1)) Whole) (with_there its (its.naming.there + 1))
-      (eq-eqb (its.naming.there + 1) (length its.entry.writes) (ap (λ a. a + 1) h.there ∙ last)))
+      ap (λ (x : Opening). x.entry) (cond-true (its.naming.noted_count + 1 == length its.entry.writes) (with_mark (with_noted_count its (its.naming.noted_count + 1)) Whole) (with_noted_count its (its.naming.noted_count + 1))
+      (eq-eqb (its.naming.noted_count + 1) (length its.entry.writes) (ap (λ a. a + 1) h.due ∙ last)))
 
   doubted_last : its.entry.done + 1 ≡ length its.entry.writes → doubted (entries_in o.all) ≡ its.entry.writes
   doubted_last last = doubted_at o.all i within calm (doubt ∙ eq-eqb (its.entry.done + 1) (length its.entry.writes) last)
@@ -273,7 +275,7 @@ module _ (s : FlashState) (n m : Noted) (t t' : BlockTable) (u : Unsure) (o : Op
     (m' : Matches s m t' unsure.Nothing) (keep : Preserves n m)
     (current : (page : ℕ) → current_in n.config.protocol n.config.logical s.image page ≡ current_of m page) where
   same_image : KeepsArray n.config.protocol n.config.logical s.image s.image
-  same_image = record { array = refl; bytes = λ name there. refl }
+  same_image = record { array = refl; texts = λ name there. refl }
 
   same_known : array_known m s.image ≡ array_known n s.image
   same_known = law.array s s n m t t' u unsure.Nothing k.matches m' refl keep same_image
@@ -316,7 +318,7 @@ module _ (s : FlashState) (n m : Noted) (t t' : BlockTable) (u : Unsure) (o : Op
       let own : IsOpening s.image m plain = record {
         named = record { pages = here.named.pages; within = here.named.within; whole = here.named.whole; transaction = here.named.transaction };
         marked = (let w = doubt_plain its.entry.mark its.entry its.naming is here.marked in
-            record { in_progress = w.in_progress; least = w.least; most = w.most; short = w.short; noted = w.noted; bytes = w.bytes });
+            record { in_progress = w.in_progress; least = w.least; most = w.most; short = w.short; noted = w.noted; texts = w.texts });
       } in
       left_alone (with_opening o i plain)
       (kept_with s s n m t t' u unsure.Nothing o i plain k within parts m' keep.config keep.pins (λ j inside other. each_now j no_opening inside) own

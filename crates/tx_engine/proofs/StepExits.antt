@@ -10,10 +10,10 @@ use Rattle.tx_types.specs.declared.record.Link.{Link}
 use Rattle.flash_model.specs.Flash.{FlashState}
 use Rattle.flash_model.specs.declared.flash.Broken.{Broken}
 use Rattle.tx_engine.specs.ArrayState.{ArrayState, Entry, entry_of, has_tag}
-use Rattle.tx_engine.specs.declared.step.Progress.{Progress}
-use Rattle.tx_engine.specs.declared.step.Progress.TheVariants as progress
-use Rattle.tx_engine.specs.declared.step.StepError.{StepError}
-use Rattle.tx_engine.specs.declared.step.StepError.TheVariants as failed
+use Rattle.array_machine.specs.declared.answers.Progress.{Progress}
+use Rattle.array_machine.specs.declared.answers.Progress.TheVariants as progress
+use Rattle.array_machine.specs.declared.answers.StepError.{StepError}
+use Rattle.array_machine.specs.declared.answers.StepError.TheVariants as failed
 use Rattle.tx_engine.specs.Exits.{VersionsRise, StepRises, settled_writes, done_writes, is_plain}
 use Rattle.tx_engine.specs.OpenTable.{OpenTable, Opening, no_opening, opening_at}
 use Rattle.tx_engine.specs.Settling.{Advances, AdvanceRises}

@@ -28,15 +28,15 @@ use Rattle.collector.specs.declared.unsure.Unsure.{Unsure}
 use Rattle.collector.specs.declared.unsure.Unsure.TheVariants as unsure
 use Rattle.collector.specs.Known.{array_known}
 use Rattle.tx_engine.specs.ArrayState.{Entry, is_doubted, pending_pages, opening}
-use Rattle.tx_engine.specs.declared.mark.Mark.{Mark}
-use Rattle.tx_engine.specs.declared.mark.Mark.TheVariants.{Plain, Doubt, Whole}
+use Rattle.array_machine.specs.declared.mark.Mark.{Mark}
+use Rattle.array_machine.specs.declared.mark.Mark.TheVariants.{Plain, Doubt, Whole}
 use Rattle.tx_engine.specs.Naming.{with_pins}
 use Rattle.tx_engine.specs.OpenTable.{OpenTable, IsOpenTable, Opening, entries_of, namings_of, next_name, begun}
 use Rattle.tx_engine.specs.Standing.{Naming, Stands, DoubtsAs, IsOpenAs, IsNamed, IsAsMarked, IsUnderWay, name_at, limits_of, no_name}
 use Rattle.tx_engine.specs.Stored.{Stored, IsStored}
 use Rattle.tx_engine.specs.Tables.{IsStanding, standing_in}
 use Rattle.tx_engine.specs.declared.device.Device.TheInside.{Inside}
-use Rattle.tx_engine.proofs.Accepting.{IsAccepted}
+use Rattle.array_machine.proofs.Accepting.{IsAccepted}
 use Rattle.tx_engine.proofs.PinnedNames.{pinned_then}
 
 -- a name above all mentions of its page is absent
@@ -57,7 +57,7 @@ abbrev pub repinned : Noted → List ℕ → Noted
 repinned n pins = record n { pins = pins }
 
 under_way_aside : (image : List Contents) (n : Noted) (pins : List ℕ) (e : Entry) (x : Naming) → IsUnderWay image n e x → IsUnderWay image (repinned n pins) e x
-under_way_aside image n pins e x u = record { in_progress = u.in_progress; least = u.least; most = u.most; short = u.short; noted = u.noted; bytes = u.bytes }
+under_way_aside image n pins e x u = record { in_progress = u.in_progress; least = u.least; most = u.most; short = u.short; noted = u.noted; texts = u.texts }
 
 marked_aside : (image : List Contents) (n : Noted) (pins : List ℕ) (e : Entry) (x : Naming) (m : Mark) → IsAsMarked image n e x m → IsAsMarked image (repinned n pins) e x m
 unfolding current_of
@@ -177,7 +177,7 @@ module _ {F : Type 0} (state : F → FlashState) (p : Protocol) (s : Stored F) (
       most = omega arith;
       short = omega (arith, as_many, ok.some);
       noted = λ k inside. above_mention (found_in n.notes) (name_at the_opening.naming k) (all_below k no_name inside) ∙ sym (le-ltb k 0 (omega arith));
-      bytes = λ k less. absurd (omega arith);
+      texts = λ k less. absurd (omega arith);
     };
   }
 

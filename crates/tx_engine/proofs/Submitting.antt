@@ -14,8 +14,8 @@ use Rattle.tx_engine.specs.Naming.{with_pins, is_spent}
 use Rattle.tx_engine.specs.OpenTable.{Opening, next_name}
 use Rattle.tx_engine.specs.Standing.{IsOpenAs, limits_of}
 use Rattle.tx_engine.specs.Submit.{Limits, Submits, first_refusals, spent_page, refusal, or_else, answer, opened}
-use Rattle.tx_engine.specs.declared.submit.SubmitError.{SubmitError}
-use Rattle.tx_engine.proofs.Accepting.{unspent}
+use Rattle.array_machine.specs.declared.answers.SubmitError.{SubmitError}
+use Rattle.array_machine.proofs.Accepting.{unspent}
 
 with_pins_push : (names : List Link) (pins : List ℕ) (a : Link) → with_pins pins (names ++ a ∷ []) ≡ set (with_pins pins names) a.page a.version
 with_pins_push [] pins a = refl

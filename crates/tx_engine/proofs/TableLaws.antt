@@ -3,7 +3,7 @@ use Rattle.std.proofs.Common.{◌≡◌, ℕ, List, Contains, length}
 use Rattle.tx_types.specs.declared.config.Protocol.{Protocol}
 use Rattle.tx_types.specs.declared.record.Link.{Link}
 use Rattle.flash_model.specs.Flash.{FlashState}
-use Rattle.record_list.specs.Written.{bytes_at}
+use Rattle.record_list.specs.Written.{text_at}
 use Rattle.version_index.specs.Images.{current_in, written_in}
 use Rattle.version_index.specs.Noted.{Noted, current_of, pinned_names}
 use Rattle.die_alloc.specs.BlockTable.{BlockTable}
@@ -20,11 +20,11 @@ pub record IsStayLaw (p : Protocol) : Type 0 where
       Matches s n t u → Matches s' n' t' u' → n.config.protocol ≡ p →
       Preserves n n' → KeepsArray p n.config.logical s.image s'.image →
       array_known n' s'.image ≡ array_known n s.image
-  pub bytes : (s s' : FlashState) (n n' : Noted) (t t' : BlockTable) (u u' : Unsure) (name : Link) →
+  pub texts : (s s' : FlashState) (n n' : Noted) (t t' : BlockTable) (u u' : Unsure) (name : Link) →
       Matches s n t u → Matches s' n' t' u' → n.config.protocol ≡ p →
       Preserves n n' → KeepsArray p n.config.logical s.image s'.image →
       Contains (pinned_names n.pins) name → IsThere n name →
-      bytes_at (written_in p s'.image) name ≡ bytes_at (written_in p s.image) name
+      text_at (written_in p s'.image) name ≡ text_at (written_in p s.image) name
   pub next : (n n' : Noted) (names : List Link) (name : Link) →
       length n.pins ≡ n.config.logical → Preserves n n' → IsNextName n names name → IsNextName n' names name
 

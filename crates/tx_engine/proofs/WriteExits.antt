@@ -15,7 +15,7 @@ use Rattle.flash_model.specs.Flash.{FlashState, complete, slot_at}
 use Rattle.flash_model.specs.Calls.{Carries}
 use Rattle.flash_model.specs.Moves.{FlashMoves}
 use Rattle.record_list.specs.Records.{is_present, name_of}
-use Rattle.version_index.specs.ImageChanges.{BytesStay}
+use Rattle.version_index.specs.ImageChanges.{TextsStay}
 use Rattle.version_index.specs.Noted.{Noted, IsNextRecord, programmed, current_of}
 use Rattle.die_alloc.specs.BlockTable.{IsFirstFree}
 use Rattle.collector.specs.declared.unsure.Unsure.{Unsure}
@@ -25,7 +25,7 @@ use Rattle.collector.specs.Matches.{Matches}
 use Rattle.collector.specs.Preserves.{Preserves}
 use Rattle.collector.proofs.Keeping.{preserves_same}
 use Rattle.tx_engine.specs.ArrayState.{Entry, Pages, is_doubted, page_at, put}
-use Rattle.tx_engine.specs.declared.mark.Mark.TheVariants.{Plain, Doubt, Whole}
+use Rattle.array_machine.specs.declared.mark.Mark.TheVariants.{Plain, Doubt, Whole}
 use Rattle.tx_engine.specs.Exits.{Exits, VersionsRise}
 use Rattle.tx_engine.specs.Standing.{Standing, Stands, name_at, write_at}
 use Rattle.tx_engine.specs.OpenTable.{OpenTable, Opening, no_opening, opening_at, namings_of, with_opening, with_mark}
@@ -34,6 +34,7 @@ use Rattle.tx_engine.specs.Stored.{Stored, IsStored, WritesStored, WriteBreaks}
 use Rattle.tx_engine.specs.Tables.{standing_in}
 use Rattle.tx_engine.proofs.ExitsThen.{NamedBefore, before_itself}
 use Rattle.tx_engine.proofs.ImageMoves.{KeepsNoted, image_array, image_under, image_opening}
+use Rattle.tx_engine.proofs.InDoubt.{text_as}
 use Rattle.tx_engine.proofs.Kept.{IsKept, IsOpening, HasSameParts, from_stands, to_stands, kept_with}
 use Rattle.tx_engine.proofs.NextNoted.{IsNextOf, next_kept, next_parts, names_before, next_array, last_array, next_stays, next_versions, writes_rise, writes_stay, next_mentions}
 use Rattle.tx_engine.proofs.NextRecord.{due_named, due_under}
@@ -42,11 +43,11 @@ use Rattle.tx_engine.proofs.Tools.{Settles, NotesWrites}
 
 module _ {F : Type 0} (state : F → FlashState) (S S' : Stored F) (O : OpenTable) (i : ℕ) (at : Slot) (rec : Rec) (bytes : List ℕ)
     (h : Stands state (standing_in state S O)) (sure : S.unsure ≡ unsure.Nothing) (within : i < length O.all)
-    (plain : (opening_at O i).entry.mark ≡ Plain) (due : (opening_at O i).naming.there ≡ (opening_at O i).entry.done)
+    (plain : (opening_at O i).entry.mark ≡ Plain) (due : (opening_at O i).naming.noted_count ≡ (opening_at O i).entry.done)
     (settles : Settles S.noted.config.protocol) (notes : NotesWrites S.noted.config.protocol)
     (next : IsNextRecord S.noted rec) (its : next.names ≡ (opening_at O i).naming.names)
     (own : name_of rec ≡ name_at (opening_at O i).naming (opening_at O i).entry.done) (free : IsFirstFree S.table at.0)
-    (is_bytes : bytes ≡ (write_at (opening_at O i).entry (opening_at O i).entry.done).bytes) (p : Protocol) (stored : IsStored state p S') where
+    (is_bytes : bytes ≡ (write_at (opening_at O i).entry (opening_at O i).entry.done).bytes) (no_discard : rec.discard ≡ false) (p : Protocol) (stored : IsStored state p S') where
   abbrev old : FlashState
   old = state S.flash
 
@@ -65,8 +66,8 @@ module _ {F : Type 0} (state : F → FlashState) (S S' : Stored F) (O : OpenTabl
   calm : CalmBeside O.all i
   calm j inside other = calm_at O.all kept.doubt j inside
 
-  -- what is noted keeps its bytes
-  keeps : BytesStay n.config.protocol old.image new.image → KeepsNoted n old.image new.image
+  -- what is noted keeps its text
+  keeps : TextsStay n.config.protocol old.image new.image → KeepsNoted n old.image new.image
   keeps stay name there =
       stay name (subst (λ l. is_present l name ≡ true) (sym (settles.records old n S.table unsure.Nothing kept.matches tt refl)) there)
 
@@ -85,9 +86,9 @@ module _ {F : Type 0} (state : F → FlashState) (S S' : Stored F) (O : OpenTabl
       named = due_named old n S.table O i kept within plain due;
       under = image_under n old.image new.image stay o.entry o.naming (due_under old n S.table O i kept within plain due);
       its = its;
-      there = due;
+      due = due;
       name = own;
-      come = w.come ∙ ap Some is_bytes;
+      come = text_as _ rec bytes (write_at o.entry o.entry.done) w.come no_discard is_bytes;
       plain = λ more. plain;
     }
 
@@ -215,7 +216,7 @@ module _ {F : Type 0} (state : F → FlashState) (S S' : Stored F) (O : OpenTabl
         let under = image_under n old.image new.image still o.entry o.naming (due_under old n S.table O i kept within plain due) in
         let here : IsOpening new.image n doubted = record {
           named = record { pages = named.pages; within = named.within; whole = named.whole; transaction = named.transaction };
-          marked = (record { in_progress = under.in_progress; least = under.least; most = under.most; short = under.short; noted = under.noted; bytes = under.bytes }, last);
+          marked = (record { in_progress = under.in_progress; least = under.least; most = under.most; short = under.short; noted = under.noted; texts = under.texts }, last);
         } in
         let own_within : i < length (slice_set O.all i doubted) = subst (λ len. i < len) (sym (length-set O.all i doubted)) within in
         let there = get_or-set_same O.all i doubted no_opening within in

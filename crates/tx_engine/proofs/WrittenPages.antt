@@ -1,5 +1,6 @@
 -- The pages of a device that are not blank are those with a current version.
-use Rattle.std.proofs.Common.{◌≡◌, ◌≢◌, ℕ, ◌+◌, ◌<◌, ◌==◌, Bool, not, cond, List, map, get_or, Option, None, is_some, count_by, refl, sym, ap, ◌∙◌, inl, inr, arith, eq-eqb, ne_eqb}
+use Rattle.std.proofs.Common.{◌≡◌, ◌≢◌, ℕ, ◌+◌, ◌<◌, ◌==◌, Bool, not, cond, List, map, get_or, Option, None, Some, is_some, count_by, refl, sym, ap, ◌∙◌, inl, inr, arith, eq-eqb, ne_eqb}
+use Rattle.std.specs.Prelude.{option_and_then}
 use Rattle.std.specs.List.{range_with_len}
 use Rattle.std.proofs.lemmas.Bool.{cases_eq}
 use Rattle.std.proofs.lemmas.List.FromFn.{sum_by-map-range_with_len_more}
@@ -7,7 +8,7 @@ use Rattle.tx_types.specs.declared.config.Protocol.{Protocol}
 use Rattle.flash_model.specs.Flash.{FlashState, Contents}
 use Rattle.record_list.specs.Current.{cur}
 use Rattle.record_list.specs.Records.{is_present}
-use Rattle.record_list.specs.Written.{page_at, bytes_at}
+use Rattle.record_list.specs.Written.{PageText, page_at, text_at, value_at, value_of}
 use Rattle.version_index.specs.Images.{array_in, written_in, records_in}
 use Rattle.version_index.specs.Notes.{found_in, notes_of}
 use Rattle.version_index.specs.Noted.{Noted, current_of, current_name_of}
@@ -17,13 +18,18 @@ use Rattle.die_alloc.specs.BlockTable.{BlockTable}
 use Rattle.collector.specs.declared.unsure.Unsure.{Unsure}
 use Rattle.collector.specs.Known.{known_image, page_known, array_known}
 use Rattle.collector.specs.Matches.{Matches}
-use Rattle.collector.proofs.Keeping.{has_bytes}
+use Rattle.collector.proofs.Keeping.{has_text}
 use Rattle.tx_engine.proofs.Arrays.{at_page}
 use Rattle.tx_engine.proofs.OtherFlash.{known_at}
 
 -- whether a page has a current version
 abbrev pub has_version : Noted → ℕ → Bool
 has_version n page = not (current_of n page == 0)
+
+-- a text is of a page that is not blank
+has_value : (text : Option PageText) → is_some (option_and_then value_of text) ≡ is_some text
+has_value None = refl
+has_value (Some text) = refl
 
 image_page : (p : Protocol) (logical : ℕ) (image : List Contents) (page : ℕ) → page < logical →
     get_or (array_in p logical image) page None ≡ page_at p (written_in p image) logical page
@@ -44,16 +50,17 @@ module _ (p : Protocol) (s : FlashState) (n : Noted) (t : BlockTable) (u : Unsur
   current_known page =
       ap (λ l. cur p l n.config.logical page) same_records ∙ ap (λ q. cur q (found_in n.notes) n.config.logical page) (sym rule)
 
-  page_is : (page : ℕ) → page < n.config.logical → page_known n s.image page ≡ bytes_at (written_in p known) (current_name_of n page)
+  page_is : (page : ℕ) → page < n.config.logical → page_known n s.image page ≡ value_at (written_in p known) (current_name_of n page)
   page_is page within =
       sym (known_at n s.image page within)
       ∙ ap (λ pages. get_or pages page None) (sym array)
       ∙ image_page p n.config.logical known page within
-      ∙ ap (λ v. bytes_at (written_in p known) (record { page = page; version = v })) (current_known page)
+      ∙ ap (λ v. value_at (written_in p known) (record { page = page; version = v })) (current_known page)
 
   has_page : (page : ℕ) → page < n.config.logical → is_some (page_known n s.image page) ≡ is_present (found_in n.notes) (current_name_of n page)
   has_page page within =
-      ap is_some (page_is page within) ∙ has_bytes (written_in p known) (current_name_of n page)
+      ap is_some (page_is page within) ∙ has_value (text_at (written_in p known) (current_name_of n page))
+      ∙ has_text (written_in p known) (current_name_of n page)
       ∙ ap (λ l. is_present l (current_name_of n page)) same_records
 
   pub page_written : (page : ℕ) → page < n.config.logical → is_some (page_known n s.image page) ≡ has_version n page

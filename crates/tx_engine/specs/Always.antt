@@ -12,7 +12,7 @@ use Rattle.tx_engine.specs.ArrayState.{ArrayState, idle}
 use Rattle.tx_engine.specs.Exits.{StandsFor, MentionsAtMost, IsNamedAt}
 use Rattle.tx_engine.specs.Standing.{Standing}
 use Rattle.tx_engine.specs.Step.{StepsAs, CutLeaves, IsAtLast, settled}
-use Rattle.tx_engine.specs.declared.step.StepError.TheVariants as failed
+use Rattle.array_machine.specs.declared.answers.StepError.TheVariants as failed
 
 -- What holds of a device at every moment: of its flash, and of what a power cut leaves that was met
 -- in a call which led here.

@@ -13,8 +13,8 @@ use Rattle.version_index.specs.Noted.{Noted}
 use Rattle.die_alloc.specs.BlockTable.{BlockTable}
 use Rattle.collector.specs.Collecting.{cleaning, collecting, collected, needed_slots, noted_cleaned, exchanged}
 use Rattle.collector.specs.Victim.{IsVictim, HasNoGarbage}
-use Rattle.tx_engine.specs.declared.collect.Collected.{Collected}
-use Rattle.tx_engine.specs.declared.collect.Collected.TheVariants.{One, Nothing}
+use Rattle.array_machine.specs.declared.answers.Collected.{Collected}
+use Rattle.array_machine.specs.declared.answers.Collected.TheVariants.{One, Nothing}
 
 -- The block with the most garbage was collected, once the spare was blank.
 pub record CollectsOne (old new : FlashState) (n n' : Noted) (t t' : BlockTable) : Type 0 where
@@ -49,6 +49,6 @@ pub record HasNothingToCollect (protocol : Protocol) (logical : ℕ) (image : Li
   pub whole : All (λ contents. contents ≢ damaged) image
   pub once : AllPairs (λ f g. name_of f.rec ≢ name_of g.rec) (records_in protocol image)
   pub wanted : All (λ f. IsCurrent protocol (records_in protocol image) logical f.rec
-      ⊎ ((is_held protocol (records_in protocol image) logical (name_of f.rec) ≡ true)
+      ⊎ ((is_held protocol (records_in protocol image) logical f.rec ≡ true)
       ⊎ IsNewestOfOpen protocol image entries f.rec))
       (records_in protocol image)

@@ -9,18 +9,19 @@ use Rattle.flash_model.specs.Moves.{FlashMoves}
 use Rattle.record_list.specs.Records.{mention}
 use Rattle.version_index.specs.Images.{records_in, current_in}
 use Rattle.version_index.specs.Noted.{Noted, current_of, mention_of}
-use Rattle.tx_engine.specs.ArrayState.{ArrayState, Entry, Pages, is_doubted, put, page_at, entry_of}
-use Rattle.tx_engine.specs.declared.mark.Mark.{Mark}
-use Rattle.tx_engine.specs.declared.mark.Mark.TheVariants.{Plain, Doubt, Whole}
+use Rattle.tx_engine.specs.ArrayState.{ArrayState, Entry, is_doubted, page_at, entry_of}
+pub use Rattle.array_machine.specs.ArrayState.{StandsFor}
+use Rattle.array_machine.specs.declared.mark.Mark.{Mark}
+use Rattle.array_machine.specs.declared.mark.Mark.TheVariants.{Plain, Doubt, Whole}
 use Rattle.tx_engine.specs.Step.{settled, doubted}
 use Rattle.tx_engine.specs.Standing.{Standing, Naming}
-use Rattle.tx_engine.specs.declared.step.Progress.{Progress}
-use Rattle.tx_engine.specs.declared.step.Progress.TheVariants as progress
-use Rattle.tx_engine.specs.declared.step.StepError.{StepError}
-use Rattle.tx_engine.specs.declared.step.StepError.TheVariants as failed
-use Rattle.tx_engine.specs.declared.abort.Aborted.{Aborted}
-use Rattle.tx_engine.specs.declared.collect.Collected.{Collected}
-use Rattle.tx_engine.specs.declared.collect.Fault.{Fault}
+use Rattle.array_machine.specs.declared.answers.Progress.{Progress}
+use Rattle.array_machine.specs.declared.answers.Progress.TheVariants as progress
+use Rattle.array_machine.specs.declared.answers.StepError.{StepError}
+use Rattle.array_machine.specs.declared.answers.StepError.TheVariants as failed
+use Rattle.array_machine.specs.declared.answers.Aborted.{Aborted}
+use Rattle.array_machine.specs.declared.answers.Collected.{Collected}
+use Rattle.array_machine.specs.declared.answers.Fault.{Fault}
 
 -- whether the image has another version of the first of these pages than the one that is known
 abbrev pub has_moved : Noted → List Contents → List Link → Bool
@@ -130,12 +131,6 @@ pub record Exits {F : Type 0} (state : F → FlashState) (old new : Standing F)
   pub tables : ExitsTables old new
   pub moves : FlashMoves (state old.flash) (state new.flash) broken
   pub carries : Carries (state old.flash) (state new.flash) broken
-
--- the array of the image is the device's, or that with the pages of the transaction in doubt
-abbrev pub StandsFor : ArrayState → Pages → Type 0
-StandsFor s pages =
-    (pages ≡ s.pages)
-    ⊎ ((e : Entry) × Contains s.entries e × (e.mark ≡ Doubt) × (pages ≡ put s.pages e.writes))
 
 -- a page is mentioned in the image at most as the tables have it, or as an open transaction names it
 abbrev pub MentionsAtMost : Noted → List Naming → List Contents → Type 0

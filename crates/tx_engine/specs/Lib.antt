@@ -1,6 +1,9 @@
+pub use Rattle.array_machine.specs.ArrayState
+pub use Rattle.array_machine.specs.Submit
+pub use Rattle.array_machine.specs.Step
+pub use Rattle.array_machine.specs.Collect
+pub use Rattle.array_machine.specs.UnbrokenCalls as Unbroken
 pub mod Always
-pub mod ArrayState
-pub mod Collect
 pub mod Collections
 pub mod Costs
 pub mod Exits
@@ -13,10 +16,7 @@ pub mod Opens
 pub mod Read
 pub mod Settling
 pub mod Standing
-pub mod Step
 pub mod Stored
 pub mod StoreTables
-pub mod Submit
 pub mod Tables
-pub mod Unbroken
 pub mod Writing

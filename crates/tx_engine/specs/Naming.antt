@@ -6,7 +6,7 @@ use Rattle.tx_types.specs.declared.record.Link.{Link}
 use Rattle.version_index.specs.Noted.{Noted}
 use Rattle.tx_engine.specs.OpenTable.{next_name}
 use Rattle.tx_engine.specs.Standing.{Standing, Naming}
-use Rattle.tx_engine.specs.declared.submit.SubmitError.{SubmitError}
+use Rattle.array_machine.specs.declared.answers.SubmitError.{SubmitError}
 
 -- the page has no version left
 abbrev pub is_spent : List ℕ → ℕ → Bool
@@ -21,7 +21,7 @@ with_pins pins (name ∷ names) = with_pins (slice_set pins name.page name.versi
 abbrev pub named_after : Noted → List PageWrite → Result (Unit {0}) SubmitError → List Naming →
     List Naming
 named_after n writes (Ok u) namings =
-    namings ++ record { names = map (next_name n) writes; there = 0 } ∷ []
+    namings ++ record { names = map (next_name n) writes; noted_count = 0 } ∷ []
 named_after n writes (Err e) namings = namings
 
 -- only the array machine, the names and the pins may have changed

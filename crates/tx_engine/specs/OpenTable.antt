@@ -4,7 +4,7 @@ use Rattle.tx_types.specs.Batch.{PageWrite}
 use Rattle.tx_types.specs.declared.record.Link.{Link}
 use Rattle.version_index.specs.Noted.{Noted, mention_of}
 use Rattle.tx_engine.specs.ArrayState.{Entry, opening, pending_pages}
-use Rattle.tx_engine.specs.declared.mark.Mark.{Mark}
+use Rattle.array_machine.specs.declared.mark.Mark.{Mark}
 use Rattle.tx_engine.specs.Standing.{Naming}
 
 -- an open transaction, with the names that it writes
@@ -20,7 +20,7 @@ pub record OpenTable : Type 0 where
 
 -- what stands for an open transaction where there is none
 abbrev pub no_opening : Opening
-no_opening = record { entry = opening 0 []; naming = record { names = []; there = 0 } }
+no_opening = record { entry = opening 0 []; naming = record { names = []; noted_count = 0 } }
 
 -- the open transaction at an index
 abbrev pub opening_at : OpenTable → ℕ → Opening
@@ -47,7 +47,7 @@ next_name n w = record { page = w.page; version = mention_of n w.page + 1 }
 abbrev pub begun : Noted → ℕ → List PageWrite → Opening
 begun n tag writes = record {
   entry = opening tag writes;
-  naming = record { names = map (next_name n) writes; there = 0 };
+  naming = record { names = map (next_name n) writes; noted_count = 0 };
 }
 
 -- the table with another open transaction at an index
@@ -60,5 +60,5 @@ with_done o count = record o { entry = record o.entry { done = count } }
 abbrev pub with_mark : Opening → Mark → Opening
 with_mark o its = record o { entry = record o.entry { mark = its } }
 
-abbrev pub with_there : Opening → ℕ → Opening
-with_there o count = record o { naming = record o.naming { there = count } }
+abbrev pub with_noted_count : Opening → ℕ → Opening
+with_noted_count o count = record o { naming = record o.naming { noted_count = count } }

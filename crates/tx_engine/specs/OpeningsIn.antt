@@ -9,7 +9,7 @@ use Rattle.tx_engine.specs.declared.pending.PendingPage.{PendingPage}
 abbrev pub opening_of : Opened → List PendingPage → Opening
 opening_of o its = record {
   entry = record { tag = o.tag; writes = map write_held its; done = o.done; mark = o.mark };
-  naming = record { names = map (λ p. p.name) its; there = o.there };
+  naming = record { names = map (λ p. p.name) its; noted_count = o.noted_count };
 }
 
 -- the open transactions, each with as many of the pages as it has

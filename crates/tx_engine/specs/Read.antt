@@ -1,4 +1,4 @@
--- Reading a page of the array.
+-- Reading a page of the array from a flash.
 use Rattle.std.specs.Prelude.{◌≡◌, ℕ, ◌<◌, ◌≤◌, Bool, true, false, List, Option, None, Some, Result, Ok, Err, IsSome}
 use Rattle.tx_types.specs.Config.{slots_of}
 use Rattle.flash_model.specs.Calls.{Reads, page_of}
@@ -9,22 +9,12 @@ use Rattle.flash_model.specs.declared.flash.Seen.{Seen}
 use Rattle.collector.specs.declared.unsure.Unsure.{Unsure}
 use Rattle.collector.specs.declared.unsure.Unsure.TheVariants as unsure
 use Rattle.collector.specs.Known.{page_known}
-use Rattle.tx_engine.specs.ArrayState.{Pages, page_at}
+pub use Rattle.array_machine.specs.Read.{ReadsPage}
 use Rattle.tx_engine.specs.Stored.{Stored}
-use Rattle.tx_engine.specs.declared.read.ReadAnswer.{ReadAnswer}
-use Rattle.tx_engine.specs.declared.read.ReadAnswer.TheVariants as answer
-use Rattle.tx_engine.specs.declared.read.ReadError.{ReadError}
-use Rattle.tx_engine.specs.declared.read.ReadError.TheVariants as failed
-
--- a read of a page answers as the array has it; only a page that is not blank may meet a fault
-abbrev pub ReadsPage : ℕ → Pages → ℕ → List ℕ → Result ReadAnswer ReadError → Type 0
-ReadsPage logical pages page bytes (Ok answer.Blank) =
-    (page < logical) × (page_at pages page ≡ None)
-ReadsPage logical pages page bytes (Ok answer.Page) =
-    (page < logical) × (page_at pages page ≡ Some bytes)
-ReadsPage logical pages page bytes (Err failed.Range) = logical ≤ page
-ReadsPage logical pages page bytes (Err failed.Fault) =
-    (page < logical) × IsSome (page_at pages page)
+use Rattle.array_machine.specs.declared.answers.ReadAnswer.{ReadAnswer}
+use Rattle.array_machine.specs.declared.answers.ReadAnswer.TheVariants as answer
+use Rattle.array_machine.specs.declared.answers.ReadError.{ReadError}
+use Rattle.array_machine.specs.declared.answers.ReadError.TheVariants as failed
 
 -- the slot from which a page is read, if it has a current record: the home of that, and, while it is not known whether a
 -- collected block was erased, its lowest slot outside that block

@@ -10,11 +10,11 @@ use Rattle.collector.specs.Preserves.{IsThere, Preserves}
 use Rattle.collector.specs.Settling.{Settlement, settlement, slots_read}
 use Rattle.collector.specs.declared.unsure.Unsure.TheVariants as unsure
 use Rattle.tx_engine.specs.ArrayState.{ArrayState, Entry, put, with_entry, without}
-use Rattle.tx_engine.specs.declared.mark.Mark.TheVariants.{Plain, Doubt, Whole}
-use Rattle.tx_engine.specs.declared.mark.Mark.{Mark}
-use Rattle.tx_engine.specs.declared.step.Progress.{Progress}
-use Rattle.tx_engine.specs.declared.step.Progress.TheVariants as progress
-use Rattle.tx_engine.specs.OpenTable.{OpenTable, Opening, opening_at, with_opening, with_mark, with_there}
+use Rattle.array_machine.specs.declared.mark.Mark.TheVariants.{Plain, Doubt, Whole}
+use Rattle.array_machine.specs.declared.mark.Mark.{Mark}
+use Rattle.array_machine.specs.declared.answers.Progress.{Progress}
+use Rattle.array_machine.specs.declared.answers.Progress.TheVariants as progress
+use Rattle.tx_engine.specs.OpenTable.{OpenTable, Opening, opening_at, with_opening, with_mark, with_noted_count}
 use Rattle.version_index.specs.Noted.{Noted, current_of}
 use Rattle.tx_engine.specs.Exits.{Exits, VersionsRise, settled_writes, done_writes}
 use Rattle.tx_engine.specs.Standing.{Standing, Stands, name_at}
@@ -49,9 +49,9 @@ AddsOnly own old new = (name : Link) → IsThere new name → IsThere old name �
 -- one record more of a transaction is noted: with its last one it is whole
 abbrev pub with_next : Opening → Opening
 with_next o =
-    if o.naming.there + 1 == length o.entry.writes
-    then with_mark (with_there o (o.naming.there + 1)) Whole
-    else with_there o (o.naming.there + 1)
+    if o.naming.noted_count + 1 == length o.entry.writes
+    then with_mark (with_noted_count o (o.naming.noted_count + 1)) Whole
+    else with_noted_count o (o.naming.noted_count + 1)
 
 -- whether the transaction writes this page next
 abbrev pub is_writing : ℕ → Opening → Bool
@@ -122,11 +122,11 @@ is_whole Whole = true
 
 -- whether the next page of a transaction is to be written: it is not whole, and no record more is noted than pages were written
 abbrev pub is_due : Opening → Bool
-is_due o = not (is_whole o.entry.mark) && (o.naming.there == o.entry.done)
+is_due o = not (is_whole o.entry.mark) && (o.naming.noted_count == o.entry.done)
 
 -- a transaction goes on without the flash: it is whole, or its next page is noted
-abbrev pub IsReady : Opening → Type 0
-IsReady o = (o.entry.mark ≡ Whole) ⊎ ((o.entry.mark ≡ Plain) × (o.entry.done < o.naming.there))
+abbrev pub CountsOn : Opening → Type 0
+CountsOn o = (o.entry.mark ≡ Whole) ⊎ ((o.entry.mark ≡ Plain) × (o.entry.done < o.naming.noted_count))
 
 -- It goes on so: a page more is written, or it was whole and is done.
 abbrev pub Counts : ArrayState → ℕ → Entry → Progress → ArrayState → Type 0

@@ -9,7 +9,7 @@ use Rattle.tx_types.specs.declared.record.Rec.{Rec}
 use Rattle.flash_model.specs.Flash.{FlashState, Contents, complete, slot_at}
 use Rattle.record_list.specs.Records.{is_present, name_of}
 use Rattle.record_list.specs.Transaction.{IsTransaction, InProgress, ShareNoPage}
-use Rattle.record_list.specs.Written.{bytes_at}
+use Rattle.record_list.specs.Written.{PageText, text_at}
 use Rattle.version_index.specs.Images.{written_in}
 use Rattle.version_index.specs.Notes.{found_in}
 use Rattle.version_index.specs.Noted.{Noted, IsNextRecord, current_of, pinned_names}
@@ -19,14 +19,14 @@ use Rattle.collector.specs.declared.unsure.Unsure.TheVariants as unsure
 use Rattle.collector.specs.Known.{array_known}
 use Rattle.collector.specs.Matches.{Matches}
 use Rattle.tx_engine.specs.ArrayState.{ArrayState, Entry, is_doubted, pending_pages}
-use Rattle.tx_engine.specs.declared.mark.Mark.{Mark}
-use Rattle.tx_engine.specs.declared.mark.Mark.TheVariants.{Plain, Doubt, Whole}
+use Rattle.array_machine.specs.declared.mark.Mark.{Mark}
+use Rattle.array_machine.specs.declared.mark.Mark.TheVariants.{Plain, Doubt, Whole}
 use Rattle.tx_engine.specs.Submit.{Limits}
 
 -- the names that an open transaction writes, one for each page, and how many of them, the first ones, are noted
 pub record Naming : Type 0 where
   pub names : List Link
-  pub there : ℕ
+  pub noted_count : ℕ
 
 -- A device: its flash, its configuration, the array machine that it stands for, the names of each open transaction in the
 -- order of their opening, what is noted of its slots, what is kept of its blocks, and the place whose contents are not known.
@@ -54,6 +54,10 @@ name_at x k = slice_index_or x.names k no_name
 abbrev pub write_at : Entry → ℕ → PageWrite
 write_at e k = slice_index_or e.writes k no_write
 
+-- what the record of a write says of its page
+abbrev pub text_in : PageWrite → PageText
+text_in w = record { discard = false; bytes = w.bytes }
+
 -- a transaction has a name for each page that it writes, and a page still to write
 pub record IsNamed (page_bytes logical : ℕ) (e : Entry) (x : Naming) : Type 0 where
   pub pages : map (λ name. name.page) x.names ≡ map (λ w. w.page) e.writes
@@ -62,16 +66,16 @@ pub record IsNamed (page_bytes logical : ℕ) (e : Entry) (x : Naming) : Type 0 
   pub transaction : IsTransaction logical x.names
 
 -- Of a transaction that is not whole: it is in progress; its first names are noted, as many as were written or one more, and
--- the flash has their bytes.
+-- the flash has their texts.
 pub record IsUnderWay (image : List Contents) (n : Noted) (e : Entry) (x : Naming) : Type 0 where
   pub in_progress : InProgress n.config.protocol (found_in n.notes) n.config.logical x.names
-  pub least : e.done ≤ x.there
-  pub most : x.there ≤ e.done + 1
-  pub short : x.there < length x.names
+  pub least : e.done ≤ x.noted_count
+  pub most : x.noted_count ≤ e.done + 1
+  pub short : x.noted_count < length x.names
   pub noted : (k : ℕ) → k < length x.names →
-      is_present (found_in n.notes) (name_at x k) ≡ nat_lt k x.there
-  pub bytes : (k : ℕ) → k < x.there →
-      bytes_at (written_in n.config.protocol image) (name_at x k) ≡ Some (write_at e k).bytes
+      is_present (found_in n.notes) (name_at x k) ≡ nat_lt k x.noted_count
+  pub texts : (k : ℕ) → k < x.noted_count →
+      text_at (written_in n.config.protocol image) (name_at x k) ≡ Some (text_in (write_at e k))
 
 -- what is so of a transaction with this mark: one in doubt was writing its last page, and the names of a whole one are current
 abbrev pub IsAsMarked : List Contents → Noted → Entry → Naming → Mark → Type 0
@@ -93,7 +97,7 @@ pub record IsOwn (image : List Contents) (n : Noted) (entries : List Entry) (nam
   pub is_entry : slice_get entries place ≡ Some entry
   pub is_naming : slice_get namings place ≡ Some naming
   pub not_whole : entry.mark ≢ Whole
-  pub written : naming.there ≡ entry.done
+  pub written : naming.noted_count ≡ entry.done
   pub next : IsNextRecord n rec
   pub its : next.names ≡ naming.names
   pub named : name_of rec ≡ name_at naming entry.done

@@ -8,7 +8,7 @@ use Rattle.flash_model.specs.Calls.{Carries}
 use Rattle.flash_model.specs.Moves.{Does, FlashMoves}
 use Rattle.flash_model.specs.Operations.{moment_of, program}
 use Rattle.page_record.specs.Spelling.{spelling}
-use Rattle.version_index.specs.ImageChanges.{BytesStay, BytesCome}
+use Rattle.version_index.specs.ImageChanges.{TextsStay, TextsCome}
 use Rattle.version_index.specs.Noted.{Noted, programmed}
 use Rattle.die_alloc.specs.BlockTable.{BlockTable, with_slot}
 use Rattle.collector.specs.declared.unsure.Unsure.{Unsure}
@@ -29,7 +29,7 @@ pub record IsStored {F : Type 0} (state : F → FlashState) (protocol : Protocol
   pub matches : Matches (state s.flash) s.noted s.table s.unsure
   pub rule : s.noted.config.protocol ≡ protocol
 
--- what making room keeps: what is noted of pages, the array and its bytes, and what each call carries over
+-- what making room keeps: what is noted of pages, the array and its texts, and what each call carries over
 pub record KeepsStored {F : Type 0} (state : F → FlashState) (old new : Stored F)
     (broken : Bool) : Type 0 where
   pub preserves : Preserves old.noted new.noted
@@ -38,7 +38,7 @@ pub record KeepsStored {F : Type 0} (state : F → FlashState) (old new : Stored
   pub moves : FlashMoves (state old.flash) (state new.flash) broken
   pub carries : Carries (state old.flash) (state new.flash) broken
 
--- a record was programmed and noted: the slot has it with these bytes, and each name that was there has its bytes still
+-- a record was programmed and noted: the slot has it with these bytes, and each name that was there has its text still
 pub record WritesStored {F : Type 0} (state : F → FlashState) (old new : Stored F) (at : ℕ)
     (rec : Rec)
     (bytes : List ℕ) : Type 0 where
@@ -50,10 +50,10 @@ pub record WritesStored {F : Type 0} (state : F → FlashState) (old new : Store
       (complete bytes (spelling old.noted.config.protocol rec))
   pub does : Does (state old.flash).shape (moment_of (state old.flash))
       (program at bytes (spelling old.noted.config.protocol rec) ∷ []) (moment_of (state new.flash))
-  pub stay : BytesStay old.noted.config.protocol (state old.flash).image (state new.flash).image
-  pub come : BytesCome old.noted.config.protocol (state new.flash).image rec bytes
+  pub stay : TextsStay old.noted.config.protocol (state old.flash).image (state new.flash).image
+  pub come : TextsCome old.noted.config.protocol (state new.flash).image rec bytes
 
--- its program was broken: it is not known whether the slot has it, and what was there has its bytes still
+-- its program was broken: it is not known whether the slot has it, and what was there has its text still
 pub record WriteBreaks {F : Type 0} (state : F → FlashState) (old new : Stored F) (at : Slot)
     (rec : Rec) (bytes : List ℕ) : Type 0 where
   pub noted : new.noted ≡ old.noted
@@ -61,4 +61,4 @@ pub record WriteBreaks {F : Type 0} (state : F → FlashState) (old new : Stored
   pub unsure : new.unsure ≡ unsure.Own at rec
   pub slot : (its spare : List ℕ) → slot_at (state new.flash).image at.0 ≡ complete its spare →
       its ≡ bytes
-  pub stay : BytesStay old.noted.config.protocol (state old.flash).image (state new.flash).image
+  pub stay : TextsStay old.noted.config.protocol (state old.flash).image (state new.flash).image

@@ -23,8 +23,8 @@ use Rattle.collector.specs.Settling.{slots_read}
 use Rattle.tx_engine.specs.ArrayState.{Entry, has_tag}
 use Rattle.tx_engine.specs.Settling.{AddsOnly, HasTables, StaysUnread, link_place, settlement_of, with_settlement}
 use Rattle.tx_engine.specs.Standing.{Standing, Naming, name_at, write_at}
-use Rattle.tx_engine.specs.declared.step.Progress.{Progress}
-use Rattle.tx_engine.specs.declared.step.StepError.{StepError}
+use Rattle.array_machine.specs.declared.answers.Progress.{Progress}
+use Rattle.array_machine.specs.declared.answers.StepError.{StepError}
 
 -- the open transaction with a tag and the names that it writes, if there is one
 abbrev pub open_of : {F : Type 0} → Standing F → ℕ → Option (Entry × Naming)

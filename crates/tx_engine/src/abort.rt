@@ -7,20 +7,12 @@ ghost use Rattle.tx_engine.specs.Step.{AbortsAs};
 ghost use Rattle.tx_engine.specs.Exits.{Exits, AbortRises, is_there, is_abort_fault};
 ghost use Rattle.collector.specs.declared.unsure.Unsure.TheVariants as unsure;
 
+use crate::Device;
 use crate::closing::close;
 use crate::settling::settle;
-use crate::{Device, Mark, StepError};
+use array_machine::{Aborted, Mark, StepError};
 use flash_model::Flash;
 use record_list::CommitRule;
-
-/// How a transaction was given up.
-#[derive(Clone, Copy, Debug, PartialEq, Eq)]
-pub enum Aborted {
-    /// None of its pages is in the array.
-    Gone,
-    /// It was too late: the array has taken all its pages.
-    Late,
-}
 
 impl<F: Flash, R: CommitRule> Device<F, R> {
     /// Gives up the transaction with this tag, if there is one. First it becomes known what a broken
@@ -45,7 +37,9 @@ impl<F: Flash, R: CommitRule> Device<F, R> {
         let Some(at) = self.openings.position(tag) else {
             return Err(StepError::Unknown);
         };
-        settle(&mut self.store, &mut self.openings)?;
+        let Ok(()) = settle(&mut self.store, &mut self.openings) else {
+            return Err(StepError::Fault);
+        };
         let aborted = match self.openings.mark(at) {
             Mark::Whole => Aborted::Late,
             Mark::Plain | Mark::Doubt => Aborted::Gone,

@@ -10,7 +10,7 @@ use tx_types::Config;
 /// The configuration of a device, and what holds of its flash whatever was broken before.
 pub fn held_always<F: Flash, R: CommitRule>(device: &Device<F, R>) -> Config
     ensures config { result ≡ device.now.config }
-    ensures always { HoldsAlways F.state R.kept device.now }
+    ensures always { HoldsAlways F.state R.protocol device.now }
 {
     devices_stand::<F, R>();
     cuts_leave::<F, R>();

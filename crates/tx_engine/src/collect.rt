@@ -13,28 +13,10 @@ use crate::Device;
 use crate::openings::Openings;
 use crate::settling::settle;
 use crate::store::Store;
+use array_machine::{Collected, Fault};
 use collector::laws;
 use flash_model::{Broken, Flash};
 use record_list::CommitRule;
-
-/// What a collection did.
-#[derive(Clone, Copy, Debug, PartialEq, Eq)]
-pub enum Collected {
-    /// The block with the most garbage was collected.
-    One,
-    /// There was no garbage.
-    Nothing,
-}
-
-/// The flash met a fault.
-#[derive(Clone, Copy, Debug, PartialEq, Eq)]
-pub struct Fault;
-
-impl From<Broken> for Fault {
-    fn from(_: Broken) -> Fault {
-        Fault
-    }
-}
 
 impl<F: Flash, R: CommitRule> Device<F, R> {
     /// Collects the block with the most garbage, if there is any. First it becomes known what a broken
@@ -56,8 +38,13 @@ impl<F: Flash, R: CommitRule> Device<F, R> {
             HasNothingToCollect self.old.config.protocol self.old.config.logical
             (F.state self.new.flash).image self.new.machine.entries }
     {
-        settle(&mut self.store, &mut self.openings)?;
-        Ok(collect_settled(&mut self.store, &self.openings)?)
+        let Ok(()) = settle(&mut self.store, &mut self.openings) else {
+            return Err(Fault);
+        };
+        let Ok(collected) = collect_settled(&mut self.store, &self.openings) else {
+            return Err(Fault);
+        };
+        Ok(collected)
     }
 }
 
@@ -67,7 +54,7 @@ fn collect_settled<F: Flash, R: CommitRule>(
     openings: &Openings,
 ) -> Result<Collected, Broken>
     requires stands { Stands F.state (standing_in F.state store.old openings.now) }
-    requires rule { store.old.noted.config.protocol ≡ R.kept }
+    requires rule { store.old.noted.config.protocol ≡ R.protocol }
     requires sure { store.old.unsure ≡ unsure.Nothing }
     ensures left { IsLeft F.state (standing_in F.state store.old openings.now)
         (standing_in F.state store.new openings.now) (is_err result) }

@@ -24,7 +24,7 @@ impl<F: Flash, R: CommitRule> Model for Device<F, R> {
 
     ghost view = { standing_of F.state };
 
-    ghost invariant = { IsStanding F.state R.kept };
+    ghost invariant = { IsStanding F.state R.protocol };
 }
 
 impl<F: Flash, R: CommitRule> Device<F, R> {
@@ -32,7 +32,7 @@ impl<F: Flash, R: CommitRule> Device<F, R> {
     pub fn config(&self) -> Config
         ensures config { result ≡ self.now.config }
         ensures stands { Stands F.state self.now }
-        ensures rule { self.now.config.protocol ≡ R.kept }
+        ensures rule { self.now.config.protocol ≡ R.protocol }
     {
         self.store.config()
     }

@@ -9,7 +9,6 @@ mod closing;
 mod collect;
 mod device;
 pub mod laws;
-mod mark;
 mod mount;
 mod openings;
 mod pending;
@@ -24,12 +23,9 @@ mod telling;
 mod tests;
 mod writing;
 
-pub use abort::Aborted;
 pub use always::held_always;
-pub use collect::{Collected, Fault};
+pub use array_machine::{
+    Aborted, Collected, Fault, Mark, Progress, ReadAnswer, ReadError, StepError, SubmitError,
+};
 pub use device::Device;
-pub use mark::Mark;
 pub use mount::MountError;
-pub use read::{ReadAnswer, ReadError};
-pub use step::{Progress, StepError};
-pub use submit::SubmitError;

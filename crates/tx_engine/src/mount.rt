@@ -26,7 +26,7 @@ impl<F: Flash, R: CommitRule> Device<F, R> {
     /// here. A flash that is not mounted comes back with its image.
     pub fn mount(alloc: Global, flash: F, config: Config) -> Result<Device<F, R>, (F, MountError)>
         requires check { checked config ≡ Ok (F.state flash).shape }
-        requires rule { config.protocol ≡ R.kept }
+        requires rule { config.protocol ≡ R.protocol }
         ensures mounted { IfOk result (Mounts F.state flash config) }
         ensures failed { IfErr result (λ e. FailsToMount F.state flash config e.0 e.1) }
         ensures reads { IfErr result (λ e. ReadsUnmounted F.state flash config e.0 e.1) }

@@ -3,7 +3,7 @@ ghost use Rattle.tx_types.specs.Config.{IsConfig};
 ghost use Rattle.tx_types.specs.Limits.{max_version};
 ghost use Rattle.version_index.specs.Noted.{mention_of};
 ghost use Rattle.tx_engine.specs.ArrayState.{pending_pages, has_tag, is_doubted};
-ghost use Rattle.tx_engine.specs.OpenTable.{IsOpenTable, opening_at, entries_of, begun, with_opening, with_done, with_mark, with_there};
+ghost use Rattle.tx_engine.specs.OpenTable.{IsOpenTable, opening_at, entries_of, begun, with_opening, with_done, with_mark, with_noted_count};
 ghost use Rattle.tx_engine.specs.Standing.{name_at, write_at};
 ghost use Rattle.tx_engine.specs.Submit.{first_refusals};
 
@@ -114,7 +114,7 @@ impl Openings {
                 tag,
                 pages: pages as u32,
                 done: 0,
-                there: 0,
+                noted_count: 0,
                 mark: Mark::Plain,
             })
             .unwrap();
@@ -151,11 +151,11 @@ impl Openings {
     }
 
     /// How many of its records are noted.
-    pub fn there(&self, at: usize) -> u32
+    pub fn noted_count(&self, at: usize) -> u32
         requires { at < length self.now.all }
-        ensures { result ≡ (opening_at self.now at).naming.there }
+        ensures { result ≡ (opening_at self.now at).naming.noted_count }
     {
-        self.opened[at].there
+        self.opened[at].noted_count
     }
 
     /// What is known of its last page.
@@ -196,11 +196,11 @@ impl Openings {
     }
 
     /// So many of its records are noted.
-    pub fn set_there(&mut self, at: usize, there: u32)
+    pub fn set_noted_count(&mut self, at: usize, count: u32)
         requires { at < length self.old.all }
-        ensures { self.new ≡ with_opening self.old at (with_there (opening_at self.old at) there) }
+        ensures { self.new ≡ with_opening self.old at (with_noted_count (opening_at self.old at) count) }
     {
-        self.opened[at].there = there;
+        self.opened[at].noted_count = count;
     }
 
     /// This is known of its last page.

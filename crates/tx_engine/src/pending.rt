@@ -21,7 +21,7 @@ pub struct Opened {
     /// How many of them are written.
     pub done: u32,
     /// How many of its records are noted.
-    pub there: u32,
+    pub noted_count: u32,
     pub mark: Mark,
 }
 

@@ -4,26 +4,9 @@ ghost use Rattle.flash_model.specs.Calls.{Carries};
 ghost use Rattle.tx_engine.specs.Read.{ReadsPage, ReadsFlash, is_read_fault, read_place};
 
 use crate::Device;
+use array_machine::{ReadAnswer, ReadError};
 use flash_model::Flash;
 use record_list::CommitRule;
-
-/// How a logical page reads.
-#[derive(Clone, Copy, Debug, PartialEq, Eq)]
-pub enum ReadAnswer {
-    /// It was never written.
-    Blank,
-    /// It has the bytes that were read.
-    Page,
-}
-
-/// Why a logical page was not read.
-#[derive(Clone, Copy, Debug, PartialEq, Eq)]
-pub enum ReadError {
-    /// There is no such page.
-    Range,
-    /// The flash met a fault.
-    Fault,
-}
 
 impl<F: Flash, R: CommitRule> Device<F, R> {
     /// Reads a logical page into room for a page of bytes, as the array has it. A page that is blank is

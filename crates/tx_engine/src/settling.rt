@@ -24,7 +24,7 @@ pub(crate) fn settle<F: Flash, R: CommitRule>(
     openings: &mut Openings,
 ) -> Result<(), Broken>
     requires stands { Stands F.state (standing_in F.state store.old openings.old) }
-    requires rule { store.old.noted.config.protocol ≡ R.kept }
+    requires rule { store.old.noted.config.protocol ≡ R.protocol }
     ensures stands { Stands F.state (standing_in F.state store.new openings.new) }
     ensures settles { OnOk result (
         let old = standing_in F.state store.old openings.old in
@@ -98,14 +98,14 @@ fn writing(openings: &Openings, page: u32) -> Option<usize>
 /// The next record of a transaction is noted: with its last one the transaction is whole.
 pub(crate) fn note_next(openings: &mut Openings, at: usize)
     requires at { at < length openings.old.all }
-    requires short { (opening_at openings.old at).naming.there
+    requires short { (opening_at openings.old at).naming.noted_count
         < length (opening_at openings.old at).entry.writes }
     ensures { openings.new ≡ with_opening openings.old at (with_next (opening_at openings.old at)) }
 {
     let pages = openings.pages(at);
-    let there = openings.there(at) + 1;
-    openings.set_there(at, there);
-    if there == pages {
+    let noted = openings.noted_count(at) + 1;
+    openings.set_noted_count(at, noted);
+    if noted == pages {
         openings.set_mark(at, Mark::Whole);
     }
 }

@@ -8,49 +8,22 @@ ghost use Rattle.tx_engine.specs.Step.{StepsAs};
 ghost use Rattle.tx_engine.specs.Exits.{Exits, StepRises, is_there, is_step_fault};
 ghost use Rattle.tx_engine.specs.Costs.{CostsStep, StepCosts};
 ghost use Rattle.tx_engine.specs.OpenTable.{opening_at};
-ghost use Rattle.tx_engine.specs.Settling.{Advances, AdvanceRises, Counts, IsReady, is_due, link_place};
+ghost use Rattle.tx_engine.specs.Settling.{Advances, AdvanceRises, Counts, CountsOn, is_due, link_place};
 ghost use Rattle.tx_engine.specs.Settling.{AddsOnly, settlement_of};
 ghost use Rattle.tx_engine.specs.Standing.{Stands, name_at, write_at};
 ghost use Rattle.tx_engine.specs.Tables.{standing_in};
 ghost use Rattle.tx_engine.specs.Writing.{BringsPage, StepNotes, WritesRecord, next_of, open_of};
 ghost use Rattle.collector.specs.declared.unsure.Unsure.TheVariants as unsure;
 
+use crate::Device;
 use crate::closing::close;
 use crate::openings::Openings;
 use crate::settling::settle;
 use crate::store::Store;
 use crate::writing::write_next;
-use crate::{Device, Mark};
+use array_machine::{Mark, Progress, StepError};
 use flash_model::{Broken, Flash};
 use record_list::CommitRule;
-
-/// How far a step brought a transaction.
-#[derive(Clone, Copy, Debug, PartialEq, Eq)]
-pub enum Progress {
-    /// So many of all its pages are written.
-    Wrote { done: u32, all: u32 },
-    /// All its pages are written, and the array has taken them at once.
-    Done,
-}
-
-/// Why a transaction did not go on.
-#[derive(Clone, Copy, Debug, PartialEq, Eq)]
-pub enum StepError {
-    /// No open transaction has the tag.
-    Unknown,
-    /// The flash met a fault.
-    Fault,
-}
-
-impl From<Broken> for StepError {
-    ghost use Rattle.tx_engine.specs.declared.step.StepError.TheVariants.{Fault};
-
-    ghost from_gives = { λ _ e. e ≡ Fault };
-
-    fn from(_: Broken) -> StepError {
-        StepError::Fault
-    }
-}
 
 impl<F: Flash, R: CommitRule> Device<F, R> {
     /// Writes the next page of the transaction with this tag, if there is one. First it becomes known
@@ -78,8 +51,13 @@ impl<F: Flash, R: CommitRule> Device<F, R> {
         let Some(at) = self.openings.position(tag) else {
             return Err(StepError::Unknown);
         };
-        settle(&mut self.store, &mut self.openings)?;
-        Ok(advance(&mut self.store, &mut self.openings, at)?)
+        let Ok(()) = settle(&mut self.store, &mut self.openings) else {
+            return Err(StepError::Fault);
+        };
+        let Ok(progress) = advance(&mut self.store, &mut self.openings, at) else {
+            return Err(StepError::Fault);
+        };
+        Ok(progress)
     }
 }
 
@@ -91,7 +69,7 @@ fn advance<F: Flash, R: CommitRule>(
     at: usize,
 ) -> Result<Progress, Broken>
     requires stands { Stands F.state (standing_in F.state store.old openings.old) }
-    requires rule { store.old.noted.config.protocol ≡ R.kept }
+    requires rule { store.old.noted.config.protocol ≡ R.protocol }
     requires sure { store.old.unsure ≡ unsure.Nothing }
     requires at { at < length openings.old.all }
     requires size { openings.old.page_bytes ≡ store.old.noted.config.page_bytes }
@@ -135,7 +113,7 @@ fn is_due(openings: &Openings, at: usize) -> bool
 {
     match openings.mark(at) {
         Mark::Whole => false,
-        Mark::Plain | Mark::Doubt => openings.there(at) == openings.done(at),
+        Mark::Plain | Mark::Doubt => openings.noted_count(at) == openings.done(at),
     }
 }
 
@@ -148,7 +126,7 @@ fn count_next<F: Flash, R: CommitRule>(
     requires stands { Stands F.state (standing_in F.state store.old openings.old) }
     requires sure { store.old.unsure ≡ unsure.Nothing }
     requires at { at < length openings.old.all }
-    requires ready { IsReady (opening_at openings.old at) }
+    requires ready { CountsOn (opening_at openings.old at) }
     ensures stands { Stands F.state (standing_in F.state store.new openings.new) }
     ensures counts { let entry = (opening_at openings.old at).entry in
         Counts (standing_in F.state store.old openings.old).machine entry.tag entry result

@@ -61,16 +61,16 @@ impl<F: Flash, R: CommitRule> Model for Store<F, R> {
 
     ghost view = { stored_of };
 
-    ghost invariant = { IsStoreKept F.state R.kept };
+    ghost invariant = { IsStoreKept F.state R.protocol };
 }
 
 impl<F: Flash, R: CommitRule> Store<F, R> {
     /// Opens a flash: the tables of its image. The flash comes back where it can't be opened.
     pub fn open(alloc: Global, mut flash: F, config: Config) -> Result<Store<F, R>, (F, MountError)>
         requires check { checked config ≡ Ok (F.state flash).shape }
-        requires rule { config.protocol ≡ R.kept }
+        requires rule { config.protocol ≡ R.protocol }
         ensures opened { IfOk result (λ s. StoresOpened F.state flash config s) }
-        ensures stored { IfOk result (IsStored F.state R.kept) }
+        ensures stored { IfOk result (IsStored F.state R.protocol) }
         ensures failed { IfErr result (λ e. FailsToMount F.state flash config e.0 e.1) }
         ensures reads { IfErr result (λ e. ReadsUnmounted F.state flash config e.0 e.1) }
     {
@@ -97,7 +97,7 @@ impl<F: Flash, R: CommitRule> Store<F, R> {
     /// The configuration, and what holds of all that is kept.
     pub fn config(&self) -> Config
         ensures config { result ≡ self.now.noted.config }
-        ensures stored { IsStored F.state R.kept self.now }
+        ensures stored { IsStored F.state R.protocol self.now }
     {
         self.index.config()
     }
@@ -180,8 +180,8 @@ impl<F: Flash, R: CommitRule> Store<F, R> {
         let Some(at) = self.place_of(page) else {
             return Ok(false);
         };
-        let mut spare = [0; 64];
-        self.flash.read(at, into, &mut spare)?;
+        let mut spare_area = [0; 64];
+        self.flash.read(at, into, &mut spare_area)?;
         Ok(true)
     }
 
@@ -341,9 +341,9 @@ impl<F: Flash, R: CommitRule> Store<F, R> {
         ensures costs { ((F.state self.new.flash).programs ≤ (F.state self.old.flash).programs + 1)
             × ((F.state self.new.flash).erases ≡ (F.state self.old.flash).erases) }
     {
-        let mut spare = [0; 64];
-        write_spare(rec, self.index.config().protocol, &mut spare);
-        if let Err(broken) = self.flash.program(at, bytes, &spare) {
+        let mut spare_area = [0; 64];
+        write_spare(rec, self.index.config().protocol, &mut spare_area);
+        if let Err(broken) = self.flash.program(at, bytes, &spare_area) {
             self.unsure = Unsure::Own { at, rec };
             return Err(broken);
         }

@@ -9,29 +9,10 @@ ghost use Rattle.tx_engine.specs.Submit.{Submits, spent_page};
 
 use crate::Device;
 use crate::store::Store;
+use array_machine::SubmitError;
 use flash_model::Flash;
 use record_list::CommitRule;
 use tx_types::{Batch, MAX_VERSION};
-
-/// Why a transaction was not opened. Each kind of refusal looks at the whole batch before the next kind is
-/// tried, in this order.
-#[derive(Clone, Copy, Debug, PartialEq, Eq)]
-pub enum SubmitError {
-    /// The batch has no entry.
-    Empty,
-    /// There is no such page.
-    Range(u32),
-    /// The page stood earlier in the batch.
-    Repeated(u32),
-    /// An open transaction has this tag.
-    Tag,
-    /// The page belongs to the open transaction with this tag.
-    Overlap { page: u32, tag: u32 },
-    /// The batch has more pages than may be pending beside the open transactions.
-    Full { free: u32 },
-    /// The page has no version left.
-    Spent(u32),
-}
 
 impl<F: Flash, R: CommitRule> Store<F, R> {
     /// The refusal of the first page of a batch that has no version left.
@@ -59,7 +40,7 @@ impl<F: Flash, R: CommitRule> Store<F, R> {
             pins = with_pins self.old.noted.pins (map (next_name self.old.noted) batch.now.entries);
           };
         } }
-        ensures stored { IsStored F.state R.kept self.new }
+        ensures stored { IsStored F.state R.protocol self.new }
     {
         for at in 0..batch.len() {
             // What holds of the store, whatever is pinned.

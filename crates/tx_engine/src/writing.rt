@@ -40,11 +40,11 @@ pub(crate) fn write_next<F: Flash, R: CommitRule>(
     at: usize,
 ) -> Result<(), Broken>
     requires stands { Stands F.state (standing_in F.state store.old openings.old) }
-    requires rule { store.old.noted.config.protocol ≡ R.kept }
+    requires rule { store.old.noted.config.protocol ≡ R.protocol }
     requires sure { store.old.unsure ≡ unsure.Nothing }
     requires at { at < length openings.old.all }
     requires plain { (opening_at openings.old at).entry.mark ≡ Mark.Plain }
-    requires due { (opening_at openings.old at).naming.there
+    requires due { (opening_at openings.old at).naming.noted_count
         ≡ (opening_at openings.old at).entry.done }
     requires size { openings.old.page_bytes ≡ store.old.noted.config.page_bytes }
     ensures stands { Stands F.state (standing_in F.state store.new openings.new) }
@@ -88,7 +88,7 @@ fn clear<F: Flash, R: CommitRule>(
     name: Link,
 ) -> Result<(), Broken>
     requires stands { Stands F.state (standing_in F.state store.old openings.now) }
-    requires rule { store.old.noted.config.protocol ≡ R.kept }
+    requires rule { store.old.noted.config.protocol ≡ R.protocol }
     requires sure { store.old.unsure ≡ unsure.Nothing }
     requires next { (names : List Link) × IsNextName store.old.noted names name }
     ensures left { IsLeft F.state (standing_in F.state store.old openings.now)
@@ -117,7 +117,7 @@ fn find_slot<F: Flash, R: CommitRule>(
     name: Link,
 ) -> Result<Slot, Broken>
     requires stands { Stands F.state (standing_in F.state store.old openings.now) }
-    requires rule { store.old.noted.config.protocol ≡ R.kept }
+    requires rule { store.old.noted.config.protocol ≡ R.protocol }
     requires sure { store.old.unsure ≡ unsure.Nothing }
     requires next { (names : List Link) × IsNextName store.old.noted names name }
     requires clear { block_to_go store.old.noted name.page name.version ≡ None }
@@ -153,6 +153,7 @@ fn next_record<F: Flash, R: CommitRule>(store: &Store<F, R>, openings: &Openings
         result.next ≡ name_at its.naming (link_place its.entry) }
     ensures back { result.back ≡ back_version store.now.noted.config.protocol
         (found_in store.now.noted.notes) store.now.noted.config.logical result.page }
+    ensures plain { (result.count ≡ 0) × (result.discard ≡ false) }
 {
     let pages = openings.pages(at);
     let done = openings.done(at);
@@ -163,6 +164,8 @@ fn next_record<F: Flash, R: CommitRule>(store: &Store<F, R>, openings: &Openings
         version,
         next: openings.name(at, place),
         back: back_version(store, page),
+        count: 0,
+        discard: false,
     }
 }
 
@@ -194,7 +197,7 @@ fn program<F: Flash, R: CommitRule>(
     requires free { IsFirstFree store.old.table slot.0 }
     requires own { CanTakeOwn store.old.noted store.old.table rec }
     requires spelled { CanBeSpelled store.old.noted.config.protocol rec }
-    ensures stored { IsStored F.state R.kept store.new }
+    ensures stored { IsStored F.state R.protocol store.new }
     ensures written { OnOk result (
         let entry = (opening_at openings.now at).entry in
         WritesStored F.state store.old store.new slot.0 rec (write_at entry entry.done).bytes) }

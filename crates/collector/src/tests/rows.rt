@@ -25,7 +25,7 @@ fn steps_taken<R: CommitRule>(
 ) -> Result<String, Fail>
     requires check { checked config ≡ Ok (shape_of config) }
     requires page { config.page_bytes ≡ 16 }
-    requires rule { config.protocol ≡ R.kept }
+    requires rule { config.protocol ≡ R.protocol }
 {
     let flash = written(rt, alloc, config, items)?;
     let mut kept = opened::<R>(alloc, flash, config)?;

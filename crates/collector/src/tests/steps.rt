@@ -55,7 +55,7 @@ pub fn opened<R: CommitRule>(
     config: Config,
 ) -> Result<Kept<R>, Fail>
     requires check { checked config ≡ Ok flash.shape }
-    requires rule { config.protocol ≡ R.kept }
+    requires rule { config.protocol ≡ R.protocol }
     ensures matches { IfOk result (λ kept.
         Matches (state_of kept.flash) kept.index kept.blocks kept.unsure) }
     ensures config { IfOk result (λ kept. kept.index.config ≡ config) }
@@ -128,7 +128,7 @@ pub fn take<R: CommitRule>(
 ) -> Result<Option<char>, Fail>
     requires matches { Matches (state_of kept.old.flash)
         kept.old.index kept.old.blocks kept.old.unsure }
-    requires rule { kept.old.index.config.protocol ≡ R.kept }
+    requires rule { kept.old.index.config.protocol ≡ R.protocol }
     requires room { length kept.old.room.items ≡ kept.old.index.config.page_bytes }
     ensures matches { Matches (state_of kept.new.flash)
         kept.new.index kept.new.blocks kept.new.unsure }
@@ -169,7 +169,7 @@ pub fn take<R: CommitRule>(
 fn clean<R: CommitRule>(rt: &impl Abort, kept: &mut Kept<R>) -> bool
     requires matches { Matches (state_of kept.old.flash)
         kept.old.index kept.old.blocks kept.old.unsure }
-    requires rule { kept.old.index.config.protocol ≡ R.kept }
+    requires rule { kept.old.index.config.protocol ≡ R.protocol }
     ensures matches { Matches (state_of kept.new.flash)
         kept.new.index kept.new.blocks kept.new.unsure }
     ensures config { kept.new.index.config ≡ kept.old.index.config }
@@ -194,7 +194,7 @@ pub fn collect_block<R: CommitRule>(
 ) -> bool
     requires matches { Matches (state_of kept.old.flash)
         kept.old.index kept.old.blocks kept.old.unsure }
-    requires rule { kept.old.index.config.protocol ≡ R.kept }
+    requires rule { kept.old.index.config.protocol ≡ R.protocol }
     requires room { length kept.old.room.items ≡ kept.old.index.config.page_bytes }
     ensures matches { Matches (state_of kept.new.flash)
         kept.new.index kept.new.blocks kept.new.unsure }
@@ -218,7 +218,7 @@ pub fn collect_block<R: CommitRule>(
 fn settle_it<R: CommitRule>(kept: &mut Kept<R>) -> bool
     requires matches { Matches (state_of kept.old.flash)
         kept.old.index kept.old.blocks kept.old.unsure }
-    requires rule { kept.old.index.config.protocol ≡ R.kept }
+    requires rule { kept.old.index.config.protocol ≡ R.protocol }
     requires own { CanTake kept.old.index kept.old.blocks kept.old.unsure }
     requires room { length kept.old.room.items ≡ kept.old.index.config.page_bytes }
     ensures matches { Matches (state_of kept.new.flash)
@@ -252,7 +252,7 @@ fn choose<R: CommitRule>(kept: &Kept<R>) -> char
 fn reopen<R: CommitRule>(alloc: Global, kept: &mut Kept<R>) -> Result<(), Fail>
     requires matches { Matches (state_of kept.old.flash)
         kept.old.index kept.old.blocks kept.old.unsure }
-    requires rule { kept.old.index.config.protocol ≡ R.kept }
+    requires rule { kept.old.index.config.protocol ≡ R.protocol }
     ensures matches { Matches (state_of kept.new.flash)
         kept.new.index kept.new.blocks kept.new.unsure }
     ensures config { kept.new.index.config ≡ kept.old.index.config }

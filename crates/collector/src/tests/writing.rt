@@ -33,20 +33,23 @@ fn rec(name: (u32, u64), next: (u32, u64), back: u64) -> Rec {
             version: next.1,
         },
         back,
+        count: 0,
+        discard: false,
     }
 }
 
 /// The spare area of a record.
-fn spare_of(rt: &impl Abort, protocol: Protocol, rec: Rec) -> [u8; 64] {
+fn spare_area_of(rt: &impl Abort, protocol: Protocol, rec: Rec) -> [u8; 64] {
     assert!(rt; 1 <= rec.version && rec.version <= MAX_VERSION);
     assert!(rt; 1 <= rec.next.version && rec.next.version <= MAX_VERSION);
+    assert!(rt; rec.count == 0 && !rec.discard);
     match protocol {
         Protocol::Scc => assert!(rt; rec.back == 0),
         Protocol::Bpcc => assert!(rt; rec.back < rec.version),
     }
-    let mut spare = [0; 64];
-    write_spare(rec, protocol, &mut spare);
-    spare
+    let mut spare_area = [0; 64];
+    write_spare(rec, protocol, &mut spare_area);
+    spare_area
 }
 
 /// Whether a slot may be programmed: it and all later slots of its block are blank.
@@ -72,13 +75,13 @@ fn program(
     flash: &mut MemFlash,
     at: Slot,
     fill: u8,
-    spare: &[u8; SPARE_BYTES],
+    spare_area: &[u8; SPARE_BYTES],
 ) -> bool
     requires { flash.old.shape.page_bytes ≡ 16 }
     ensures { flash.new.shape ≡ flash.old.shape }
 {
     assert!(rt; may_program(flash, at), "{at:?}");
-    flash.program(at, &[fill; 16], spare).is_ok()
+    flash.program(at, &[fill; 16], spare_area).is_ok()
 }
 
 /// A flash on which these items were programmed.
@@ -99,8 +102,8 @@ pub fn written(
     for item in items {
         match item {
             Item::Record(at, name, next, back, fill) => {
-                let spare = spare_of(rt, config.protocol, rec(*name, *next, *back));
-                assert!(rt; program(rt, &mut flash, Slot(*at), *fill, &spare));
+                let spare_area = spare_area_of(rt, config.protocol, rec(*name, *next, *back));
+                assert!(rt; program(rt, &mut flash, Slot(*at), *fill, &spare_area));
             }
             Item::Damaged(at) => {
                 flash.arm_fault(1, Outcome::Bad);

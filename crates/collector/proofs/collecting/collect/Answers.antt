@@ -14,7 +14,7 @@ use Rattle.collector.proofs.collecting.collect.Goals as goal
 
 pub copy_needed-requires-clause-blank : goal.copy_needed-requires-clause-blank
 copy_needed-requires-clause-blank g c =
-    first_of_spare g.R.CommitRule.kept g.met.R.CommitRule.block_loss (g.F.Flash.state c.args.flash.now) c.args.index.now c.args.blocks.now c.args.unsure.now
+    first_of_spare g.R.CommitRule.protocol g.met.R.CommitRule.block_loss (g.F.Flash.state c.args.flash.now) c.args.index.now c.args.blocks.now c.args.unsure.now
     c.requires.rule c.requires.matches c.clean_spare.new.index c.clean_spare.new.blocks c.in_ok-clean_spare.ensures.noted c.in_ok-clean_spare.ensures.blocks
 
 pub returns-in_err-used-clause-preserves : goal.returns-in_err-used-clause-preserves
@@ -23,9 +23,9 @@ returns-in_err-used-clause-preserves g c =
 
 pub returns-in_err-used-clause-array : goal.returns-in_err-used-clause-array
 returns-in_err-used-clause-array g c =
-    keeps_array_then g.R.CommitRule.kept c.args.index.now.config.logical (g.F.Flash.state c.args.flash.now).image (g.F.Flash.state c.clean_spare.new.flash).image (g.F.Flash.state c.copy_needed.new.flash).image
+    keeps_array_then g.R.CommitRule.protocol c.args.index.now.config.logical (g.F.Flash.state c.args.flash.now).image (g.F.Flash.state c.clean_spare.new.flash).image (g.F.Flash.state c.copy_needed.new.flash).image
     c.in_ok-clean_spare.ensures.array
-    (subst (λ (k : Config). KeepsArray g.R.CommitRule.kept k.logical (g.F.Flash.state c.clean_spare.new.flash).image (g.F.Flash.state c.copy_needed.new.flash).image)
+    (subst (λ (k : Config). KeepsArray g.R.CommitRule.protocol k.logical (g.F.Flash.state c.clean_spare.new.flash).image (g.F.Flash.state c.copy_needed.new.flash).image)
     c.in_ok-clean_spare.ensures.preserves.config c.in_err-used.ensures.array)
 
 pub returns-in_err-used-clause-moves : goal.returns-in_err-used-clause-moves
@@ -43,16 +43,16 @@ returns-clause-preserves g c =
 pub returns-clause-array : goal.returns-clause-array
 returns-clause-array g c =
     let first = c.in_ok-clean_spare.ensures.preserves.config in
-    keeps_array_then g.R.CommitRule.kept c.args.index.now.config.logical (g.F.Flash.state c.args.flash.now).image (g.F.Flash.state c.copy_needed.new.flash).image (g.F.Flash.state c.erase_victim.new.flash).image
-    (keeps_array_then g.R.CommitRule.kept c.args.index.now.config.logical (g.F.Flash.state c.args.flash.now).image (g.F.Flash.state c.clean_spare.new.flash).image (g.F.Flash.state c.copy_needed.new.flash).image
+    keeps_array_then g.R.CommitRule.protocol c.args.index.now.config.logical (g.F.Flash.state c.args.flash.now).image (g.F.Flash.state c.copy_needed.new.flash).image (g.F.Flash.state c.erase_victim.new.flash).image
+    (keeps_array_then g.R.CommitRule.protocol c.args.index.now.config.logical (g.F.Flash.state c.args.flash.now).image (g.F.Flash.state c.clean_spare.new.flash).image (g.F.Flash.state c.copy_needed.new.flash).image
     c.in_ok-clean_spare.ensures.array
-    (subst (λ (k : Config). KeepsArray g.R.CommitRule.kept k.logical (g.F.Flash.state c.clean_spare.new.flash).image (g.F.Flash.state c.copy_needed.new.flash).image) first c.in_ok-used.ensures.array))
-    (subst (λ (k : Config). KeepsArray g.R.CommitRule.kept k.logical (g.F.Flash.state c.copy_needed.new.flash).image (g.F.Flash.state c.erase_victim.new.flash).image)
+    (subst (λ (k : Config). KeepsArray g.R.CommitRule.protocol k.logical (g.F.Flash.state c.clean_spare.new.flash).image (g.F.Flash.state c.copy_needed.new.flash).image) first c.in_ok-used.ensures.array))
+    (subst (λ (k : Config). KeepsArray g.R.CommitRule.protocol k.logical (g.F.Flash.state c.copy_needed.new.flash).image (g.F.Flash.state c.erase_victim.new.flash).image)
     (c.in_ok-used.ensures.preserves.config ∙ first) c.erase_victim.ensures.array)
 
 pub returns-clause-done : goal.returns-clause-done
 returns-clause-done g c =
-    collects g.R.CommitRule.kept g.met.R.CommitRule.block_loss (g.F.Flash.state c.args.flash.now) c.args.index.now c.args.blocks.now c.args.unsure.now c.requires.rule c.requires.matches
+    collects g.R.CommitRule.protocol g.met.R.CommitRule.block_loss (g.F.Flash.state c.args.flash.now) c.args.index.now c.args.blocks.now c.args.unsure.now c.requires.rule c.requires.matches
     (g.F.Flash.state c.clean_spare.new.flash) c.clean_spare.new.index c.clean_spare.new.blocks c.args.block.0
     c.in_ok-clean_spare.ensures.noted c.in_ok-clean_spare.ensures.blocks c.requires.not_spare c.in_ok-clean_spare.ensures.carries.shape c.in_ok-clean_spare.ensures.done
     (g.F.Flash.state c.copy_needed.new.flash) (g.F.Flash.state c.erase_victim.new.flash) c.copy_needed.new.index c.in_ok-used.used c.requires.exists
@@ -64,7 +64,7 @@ returns-clause-moves g c =
     let shape2 = c.in_ok-used.ensures.carries.shape in
     FlashMoves-then (g.F.Flash.state c.args.flash.now) (g.F.Flash.state c.copy_needed.new.flash) (g.F.Flash.state c.erase_victim.new.flash) _ (shape2 ∙ shape1)
     (FlashMoves-then (g.F.Flash.state c.args.flash.now) (g.F.Flash.state c.clean_spare.new.flash) (g.F.Flash.state c.copy_needed.new.flash) _ shape1 c.in_ok-clean_spare.ensures.moves c.in_ok-used.ensures.moves)
-    (victim_moves g.R.CommitRule.kept g.met.R.CommitRule.block_loss (g.F.Flash.state c.args.flash.now) c.args.index.now c.args.blocks.now c.args.unsure.now c.requires.rule c.requires.matches
+    (victim_moves g.R.CommitRule.protocol g.met.R.CommitRule.block_loss (g.F.Flash.state c.args.flash.now) c.args.index.now c.args.blocks.now c.args.unsure.now c.requires.rule c.requires.matches
     (g.F.Flash.state c.clean_spare.new.flash) c.clean_spare.new.index c.clean_spare.new.blocks c.args.block.0
     c.in_ok-clean_spare.ensures.noted c.in_ok-clean_spare.ensures.blocks c.requires.not_spare shape1 c.in_ok-clean_spare.ensures.done
     (g.F.Flash.state c.copy_needed.new.flash) (g.F.Flash.state c.erase_victim.new.flash) c.copy_needed.new.index c.in_ok-used.used c.requires.exists
@@ -88,7 +88,7 @@ returns-in_err-used-clause-costs g c =
     on_err c.from_residual-in_err-used.result _
     (broken_costs (g.F.Flash.state c.args.flash.now) c.args.index.now c.clean_spare.new.index c.args.blocks.now c.args.unsure.now c.requires.matches c.in_ok-clean_spare.ensures.noted
     (g.F.Flash.state c.clean_spare.new.flash) (g.F.Flash.state c.copy_needed.new.flash) c.in_ok-clean_spare.ensures.preserves.config c.in_ok-clean_spare.ensures.programs c.in_ok-clean_spare.ensures.erases (c.in_err-used.ensures.costs
-    (unneeded_cleaned g.R.CommitRule.kept g.met.R.CommitRule.block_loss (g.F.Flash.state c.args.flash.now) c.args.index.now c.args.blocks.now c.args.unsure.now
+    (unneeded_cleaned g.R.CommitRule.protocol g.met.R.CommitRule.block_loss (g.F.Flash.state c.args.flash.now) c.args.index.now c.args.blocks.now c.args.unsure.now
     c.requires.rule c.requires.matches c.clean_spare.new.index c.args.block.0 c.in_ok-clean_spare.ensures.noted c.requires.unneeded)))
 
 pub returns-in_err-used-clause-records : goal.returns-in_err-used-clause-records
@@ -101,7 +101,7 @@ returns-in_err-used-clause-at_most g c =
     broken_at_most c.args.index.now.config.pages_per_block (g.F.Flash.state c.args.flash.now) (g.F.Flash.state c.copy_needed.new.flash)
     (broken_costs (g.F.Flash.state c.args.flash.now) c.args.index.now c.clean_spare.new.index c.args.blocks.now c.args.unsure.now c.requires.matches c.in_ok-clean_spare.ensures.noted
     (g.F.Flash.state c.clean_spare.new.flash) (g.F.Flash.state c.copy_needed.new.flash) c.in_ok-clean_spare.ensures.preserves.config c.in_ok-clean_spare.ensures.programs c.in_ok-clean_spare.ensures.erases (c.in_err-used.ensures.costs
-    (unneeded_cleaned g.R.CommitRule.kept g.met.R.CommitRule.block_loss (g.F.Flash.state c.args.flash.now) c.args.index.now c.args.blocks.now c.args.unsure.now
+    (unneeded_cleaned g.R.CommitRule.protocol g.met.R.CommitRule.block_loss (g.F.Flash.state c.args.flash.now) c.args.index.now c.args.blocks.now c.args.unsure.now
     c.requires.rule c.requires.matches c.clean_spare.new.index c.args.block.0 c.in_ok-clean_spare.ensures.noted c.requires.unneeded)))
 
 pub returns-clause-records : goal.returns-clause-records
@@ -118,7 +118,7 @@ returns-clause-costs g c =
     erase_broken c.args.index.now.config.pages_per_block (g.F.Flash.state c.args.flash.now) (g.F.Flash.state c.copy_needed.new.flash) (g.F.Flash.state c.erase_victim.new.flash) c.args.block.0
     (broken_costs (g.F.Flash.state c.args.flash.now) c.args.index.now c.clean_spare.new.index c.args.blocks.now c.args.unsure.now c.requires.matches c.in_ok-clean_spare.ensures.noted
     (g.F.Flash.state c.clean_spare.new.flash) (g.F.Flash.state c.copy_needed.new.flash) c.in_ok-clean_spare.ensures.preserves.config c.in_ok-clean_spare.ensures.programs c.in_ok-clean_spare.ensures.erases (c.in_ok-used.ensures.costs
-    (unneeded_cleaned g.R.CommitRule.kept g.met.R.CommitRule.block_loss (g.F.Flash.state c.args.flash.now) c.args.index.now c.args.blocks.now c.args.unsure.now
+    (unneeded_cleaned g.R.CommitRule.protocol g.met.R.CommitRule.block_loss (g.F.Flash.state c.args.flash.now) c.args.index.now c.args.blocks.now c.args.unsure.now
     c.requires.rule c.requires.matches c.clean_spare.new.index c.args.block.0 c.in_ok-clean_spare.ensures.noted c.requires.unneeded)))
     c.erase_victim.result c.erase_victim.ensures.erases
 
@@ -127,21 +127,21 @@ returns-clause-at_most g c =
     erase_costs c.args.index.now.config.pages_per_block (g.F.Flash.state c.args.flash.now) (g.F.Flash.state c.copy_needed.new.flash) (g.F.Flash.state c.erase_victim.new.flash) c.args.block.0
     (broken_costs (g.F.Flash.state c.args.flash.now) c.args.index.now c.clean_spare.new.index c.args.blocks.now c.args.unsure.now c.requires.matches c.in_ok-clean_spare.ensures.noted
     (g.F.Flash.state c.clean_spare.new.flash) (g.F.Flash.state c.copy_needed.new.flash) c.in_ok-clean_spare.ensures.preserves.config c.in_ok-clean_spare.ensures.programs c.in_ok-clean_spare.ensures.erases (c.in_ok-used.ensures.costs
-    (unneeded_cleaned g.R.CommitRule.kept g.met.R.CommitRule.block_loss (g.F.Flash.state c.args.flash.now) c.args.index.now c.args.blocks.now c.args.unsure.now
+    (unneeded_cleaned g.R.CommitRule.protocol g.met.R.CommitRule.block_loss (g.F.Flash.state c.args.flash.now) c.args.index.now c.args.blocks.now c.args.unsure.now
     c.requires.rule c.requires.matches c.clean_spare.new.index c.args.block.0 c.in_ok-clean_spare.ensures.noted c.requires.unneeded)))
     c.erase_victim.result c.erase_victim.ensures.erases
 
 pub returns-in_err-used-clause-broken : goal.returns-in_err-used-clause-broken
 returns-in_err-used-clause-broken g c =
     on_err c.from_residual-in_err-used.result _
-    (copies_broke g.R.CommitRule.kept g.met.R.CommitRule.block_loss (g.F.Flash.state c.args.flash.now) c.args.index.now c.args.blocks.now c.args.unsure.now c.requires.rule c.requires.matches
+    (copies_broke g.R.CommitRule.protocol g.met.R.CommitRule.block_loss (g.F.Flash.state c.args.flash.now) c.args.index.now c.args.blocks.now c.args.unsure.now c.requires.rule c.requires.matches
     (g.F.Flash.state c.clean_spare.new.flash) c.clean_spare.new.index c.clean_spare.new.blocks c.args.block.0
     c.in_ok-clean_spare.ensures.noted c.in_ok-clean_spare.ensures.blocks c.requires.not_spare c.in_ok-clean_spare.ensures.carries.shape c.in_ok-clean_spare.ensures.done c.in_ok-clean_spare.ensures.reads
     (g.F.Flash.state c.copy_needed.new.flash) c.copy_needed.new.index c.copy_needed.new.unsure c.in_err-used.ensures.broken)
 
 pub returns-clause-broken : goal.returns-clause-broken
 returns-clause-broken g c =
-    victim_broke g.R.CommitRule.kept g.met.R.CommitRule.block_loss (g.F.Flash.state c.args.flash.now) c.args.index.now c.args.blocks.now c.args.unsure.now c.requires.rule c.requires.matches
+    victim_broke g.R.CommitRule.protocol g.met.R.CommitRule.block_loss (g.F.Flash.state c.args.flash.now) c.args.index.now c.args.blocks.now c.args.unsure.now c.requires.rule c.requires.matches
     (g.F.Flash.state c.clean_spare.new.flash) c.clean_spare.new.index c.clean_spare.new.blocks c.args.block.0
     c.in_ok-clean_spare.ensures.noted c.in_ok-clean_spare.ensures.blocks c.requires.not_spare c.in_ok-clean_spare.ensures.carries.shape c.in_ok-clean_spare.ensures.done c.in_ok-clean_spare.ensures.reads
     (g.F.Flash.state c.copy_needed.new.flash) (g.F.Flash.state c.erase_victim.new.flash) c.copy_needed.new.index c.in_ok-used.used c.requires.exists

@@ -18,21 +18,21 @@ pub loop-at-init : goal.loop-at-init
 loop-at-init g c =
     let same : c.config-pages.result.pages_per_block ≡ c.args.index.now.config.pages_per_block = ap (λ (k : Config). k.pages_per_block) c.config-pages.ensures.config in
     let start = ap (λ k. k * c.config-pages.result.pages_per_block) c.spare.ensures.spare ∙ ap (λ k. c.args.blocks.now.spare * k) same in
-    copied_none g.R.CommitRule.kept c.args.index.now (g.F.Flash.state c.args.flash.now) c.args.blocks.now c.args.unsure.now _ _ c.args.blocks.now.spare
+    copied_none g.R.CommitRule.protocol c.args.index.now (g.F.Flash.state c.args.flash.now) c.args.blocks.now c.args.unsure.now _ _ c.args.blocks.now.spare
     c.requires.nothing c.requires.matches start c.requires.blank
 
 pub needed-requires : goal.needed-requires
 needed-requires g c =
     let same : c.config-pages.result.pages_per_block ≡ c.args.index.now.config.pages_per_block = ap (λ (k : Config). k.pages_per_block) c.config-pages.ensures.config in
     let start = ap (λ k. k * c.config-pages.result.pages_per_block) c.spare.ensures.spare ∙ ap (λ k. c.args.blocks.now.spare * k) same in
-    at_within g.R.CommitRule.kept c.args.index.now c.loop-at.index (g.F.Flash.state c.args.flash.now) (g.F.Flash.state c.loop-at.flash) c.args.blocks.now c.loop-at.unsure _ _ c.loop-at.at c.loop-at.used c.args.block.0
+    at_within g.R.CommitRule.protocol c.args.index.now c.loop-at.index (g.F.Flash.state c.args.flash.now) (g.F.Flash.state c.loop-at.flash) c.args.blocks.now c.loop-at.unsure _ _ c.loop-at.at c.loop-at.used c.args.block.0
     c.loop-at.invariant c.loop-at.auto.at (ap (λ k. c.args.block.0 * k) same) start (omega (arith, c.loop-at-test.true, same)) c.requires.not_spare c.requires.exists
 
 pub copy_record-requires-clause-source : goal.copy_record-requires-clause-source
 copy_record-requires-clause-source g c =
     let same : c.config-pages.result.pages_per_block ≡ c.args.index.now.config.pages_per_block = ap (λ (k : Config). k.pages_per_block) c.config-pages.ensures.config in
     let start = ap (λ k. k * c.config-pages.result.pages_per_block) c.spare.ensures.spare ∙ ap (λ k. c.args.blocks.now.spare * k) same in
-    has_record g.R.CommitRule.kept c.args.index.now c.loop-at.index (g.F.Flash.state c.args.flash.now) (g.F.Flash.state c.loop-at.flash) c.args.blocks.now c.loop-at.unsure _ _ c.loop-at.at c.loop-at.used c.args.block.0
+    has_record g.R.CommitRule.protocol c.args.index.now c.loop-at.index (g.F.Flash.state c.args.flash.now) (g.F.Flash.state c.loop-at.flash) c.args.blocks.now c.loop-at.unsure _ _ c.loop-at.at c.loop-at.used c.args.block.0
     c.loop-at.invariant c.loop-at.auto.at (ap (λ k. c.args.block.0 * k) same) start (omega (arith, c.loop-at-test.true, same)) c.requires.not_spare c.requires.exists
     (sym c.needed.ensures ∙ c.if-needed.true)
 
@@ -40,21 +40,21 @@ pub copy_record-requires-clause-exists : goal.copy_record-requires-clause-exists
 copy_record-requires-clause-exists g c =
     let same : c.config-pages.result.pages_per_block ≡ c.args.index.now.config.pages_per_block = ap (λ (k : Config). k.pages_per_block) c.config-pages.ensures.config in
     let start = ap (λ k. k * c.config-pages.result.pages_per_block) c.spare.ensures.spare ∙ ap (λ k. c.args.blocks.now.spare * k) same in
-    at_within g.R.CommitRule.kept c.args.index.now c.loop-at.index (g.F.Flash.state c.args.flash.now) (g.F.Flash.state c.loop-at.flash) c.args.blocks.now c.loop-at.unsure _ _ c.loop-at.at c.loop-at.used c.args.block.0
+    at_within g.R.CommitRule.protocol c.args.index.now c.loop-at.index (g.F.Flash.state c.args.flash.now) (g.F.Flash.state c.loop-at.flash) c.args.blocks.now c.loop-at.unsure _ _ c.loop-at.at c.loop-at.used c.args.block.0
     c.loop-at.invariant c.loop-at.auto.at (ap (λ k. c.args.block.0 * k) same) start (omega (arith, c.loop-at-test.true, same)) c.requires.not_spare c.requires.exists
 
 pub copy_record-requires-clause-next : goal.copy_record-requires-clause-next
 copy_record-requires-clause-next g c =
     let same : c.config-pages.result.pages_per_block ≡ c.args.index.now.config.pages_per_block = ap (λ (k : Config). k.pages_per_block) c.config-pages.ensures.config in
     let start = ap (λ k. k * c.config-pages.result.pages_per_block) c.spare.ensures.spare ∙ ap (λ k. c.args.blocks.now.spare * k) same in
-    next_of_spare g.R.CommitRule.kept c.args.index.now c.loop-at.index (g.F.Flash.state c.args.flash.now) (g.F.Flash.state c.loop-at.flash) c.args.blocks.now c.loop-at.unsure _ _ c.loop-at.at c.loop-at.used c.args.block.0
+    next_of_spare g.R.CommitRule.protocol c.args.index.now c.loop-at.index (g.F.Flash.state c.args.flash.now) (g.F.Flash.state c.loop-at.flash) c.args.blocks.now c.loop-at.unsure _ _ c.loop-at.at c.loop-at.used c.args.block.0
     c.loop-at.invariant c.loop-at.auto.at (ap (λ k. c.args.block.0 * k) same) start (omega (arith, c.loop-at-test.true, same)) c.requires.not_spare c.requires.exists
 
 pub returns-in_err-copy_record-clause-array : goal.returns-in_err-copy_record-clause-array
 returns-in_err-copy_record-clause-array g c =
     let h = c.loop-at.invariant in
-    keeps_array_then g.R.CommitRule.kept c.args.index.now.config.logical (g.F.Flash.state c.args.flash.now).image (g.F.Flash.state c.loop-at.flash).image (g.F.Flash.state c.copy_record.new.flash).image h.array
-    (subst (λ (k : Config). KeepsArray g.R.CommitRule.kept k.logical (g.F.Flash.state c.loop-at.flash).image (g.F.Flash.state c.copy_record.new.flash).image) h.preserves.config c.in_err-copy_record.ensures.array)
+    keeps_array_then g.R.CommitRule.protocol c.args.index.now.config.logical (g.F.Flash.state c.args.flash.now).image (g.F.Flash.state c.loop-at.flash).image (g.F.Flash.state c.copy_record.new.flash).image h.array
+    (subst (λ (k : Config). KeepsArray g.R.CommitRule.protocol k.logical (g.F.Flash.state c.loop-at.flash).image (g.F.Flash.state c.copy_record.new.flash).image) h.preserves.config c.in_err-copy_record.ensures.array)
 
 pub returns-in_err-copy_record-clause-moves : goal.returns-in_err-copy_record-clause-moves
 returns-in_err-copy_record-clause-moves g c =
@@ -80,12 +80,12 @@ loop-at-preserved g c =
       | then-needed+in_ok-copy_record w ↦
           (let e = w.in_ok-copy_record.ensures in
           rw (w.index-is, w.flash-is, w.unsure-is, w.used-is)
-          (copied_taken g.R.CommitRule.kept c.args.index.now c.loop-at.index (g.F.Flash.state c.args.flash.now) (g.F.Flash.state c.loop-at.flash) c.args.blocks.now c.loop-at.unsure _ _ c.loop-at.at c.loop-at.used c.args.block.0
+          (copied_taken g.R.CommitRule.protocol c.args.index.now c.loop-at.index (g.F.Flash.state c.args.flash.now) (g.F.Flash.state c.loop-at.flash) c.args.blocks.now c.loop-at.unsure _ _ c.loop-at.at c.loop-at.used c.args.block.0
           h c.loop-at.auto.at first start high c.requires.not_spare c.requires.exists (sym c.needed.ensures ∙ w.if-needed.true)
           law w.copy_record.new.index (g.F.Flash.state w.copy_record.new.flash) w.copy_record.new.unsure e.matches e.sure e.preserves e.array e.done e.noted e.moves e.carries))
       | else-needed w ↦
           rw (w.index-is, w.flash-is, w.unsure-is, w.used-is)
-          (copied_passed g.R.CommitRule.kept c.args.index.now c.loop-at.index (g.F.Flash.state c.args.flash.now) (g.F.Flash.state c.loop-at.flash) c.args.blocks.now c.loop-at.unsure _ _ c.loop-at.at c.loop-at.used c.args.block.0
+          (copied_passed g.R.CommitRule.protocol c.args.index.now c.loop-at.index (g.F.Flash.state c.args.flash.now) (g.F.Flash.state c.loop-at.flash) c.args.blocks.now c.loop-at.unsure _ _ c.loop-at.at c.loop-at.used c.args.block.0
           h c.loop-at.auto.at first start high c.requires.not_spare c.requires.exists (sym c.needed.ensures ∙ w.if-needed.false))
     ]
 
@@ -93,34 +93,34 @@ pub returns-clause-copied : goal.returns-clause-copied
 returns-clause-copied g c =
     let same : c.config-pages.result.pages_per_block ≡ c.args.index.now.config.pages_per_block = ap (λ (k : Config). k.pages_per_block) c.config-pages.ensures.config in
     let start = ap (λ k. k * c.config-pages.result.pages_per_block) c.spare.ensures.spare ∙ ap (λ k. c.args.blocks.now.spare * k) same in
-    copied_all g.R.CommitRule.kept c.args.index.now c.loop-at.index (g.F.Flash.state c.args.flash.now) (g.F.Flash.state c.loop-at.flash) c.args.blocks.now c.loop-at.unsure _ _ c.loop-at.at c.loop-at.used c.args.block.0
+    copied_all g.R.CommitRule.protocol c.args.index.now c.loop-at.index (g.F.Flash.state c.args.flash.now) (g.F.Flash.state c.loop-at.flash) c.args.blocks.now c.loop-at.unsure _ _ c.loop-at.at c.loop-at.used c.args.block.0
     c.loop-at.invariant (ap (λ k. c.args.block.0 * k) same) start (omega (arith, c.loop-at-test.false, c.loop-at.auto.at-end, same)) c.requires.not_spare
 
 pub returns-in_err-copy_record-clause-records : goal.returns-in_err-copy_record-clause-records
 returns-in_err-copy_record-clause-records g c =
     subst (HasNoNewRecord c.args.index.now) (sym c.in_err-copy_record.ensures.stays)
-    (copying_no_new g.R.CommitRule.kept c.args.index.now c.loop-at.index (g.F.Flash.state c.args.flash.now) (g.F.Flash.state c.loop-at.flash) c.args.blocks.now c.loop-at.unsure _ _ c.loop-at.at c.loop-at.used
+    (copying_no_new g.R.CommitRule.protocol c.args.index.now c.loop-at.index (g.F.Flash.state c.args.flash.now) (g.F.Flash.state c.loop-at.flash) c.args.blocks.now c.loop-at.unsure _ _ c.loop-at.at c.loop-at.used
     c.loop-at.invariant)
 
 pub returns-in_err-copy_record-clause-costs : goal.returns-in_err-copy_record-clause-costs
 returns-in_err-copy_record-clause-costs g c = λ unneeded.
     let same : c.config-pages.result.pages_per_block ≡ c.args.index.now.config.pages_per_block = ap (λ (k : Config). k.pages_per_block) c.config-pages.ensures.config in
-    copying_costs_torn g.R.CommitRule.kept c.args.index.now c.loop-at.index (g.F.Flash.state c.args.flash.now) (g.F.Flash.state c.loop-at.flash) c.args.blocks.now c.loop-at.unsure _ _ c.loop-at.at c.loop-at.used
+    copying_costs_torn g.R.CommitRule.protocol c.args.index.now c.loop-at.index (g.F.Flash.state c.args.flash.now) (g.F.Flash.state c.loop-at.flash) c.args.blocks.now c.loop-at.unsure _ _ c.loop-at.at c.loop-at.used
     c.loop-at.invariant (let low = c.loop-at.invariant.within in omega (arith, low, c.loop-at-test.true, c.loop-at.auto.at, same))
     (g.F.Flash.state c.copy_record.new.flash) c.in_err-copy_record.ensures.counts
 
 pub returns-clause-records : goal.returns-clause-records
 returns-clause-records g c =
-    copying_no_new g.R.CommitRule.kept c.args.index.now c.loop-at.index (g.F.Flash.state c.args.flash.now) (g.F.Flash.state c.loop-at.flash) c.args.blocks.now c.loop-at.unsure _ _ c.loop-at.at c.loop-at.used
+    copying_no_new g.R.CommitRule.protocol c.args.index.now c.loop-at.index (g.F.Flash.state c.args.flash.now) (g.F.Flash.state c.loop-at.flash) c.args.blocks.now c.loop-at.unsure _ _ c.loop-at.at c.loop-at.used
     c.loop-at.invariant
 
 pub returns-clause-costs : goal.returns-clause-costs
 returns-clause-costs g c = λ unneeded.
     let same : c.config-pages.result.pages_per_block ≡ c.args.index.now.config.pages_per_block = ap (λ (k : Config). k.pages_per_block) c.config-pages.ensures.config in
     let start = ap (λ k. k * c.config-pages.result.pages_per_block) c.spare.ensures.spare ∙ ap (λ k. c.args.blocks.now.spare * k) same in
-    copying_costs g.R.CommitRule.kept c.args.index.now c.loop-at.index (g.F.Flash.state c.args.flash.now) (g.F.Flash.state c.loop-at.flash) c.args.blocks.now c.loop-at.unsure _ _ c.loop-at.at c.loop-at.used
+    copying_costs g.R.CommitRule.protocol c.args.index.now c.loop-at.index (g.F.Flash.state c.args.flash.now) (g.F.Flash.state c.loop-at.flash) c.args.blocks.now c.loop-at.unsure _ _ c.loop-at.at c.loop-at.used
     c.loop-at.invariant
-    (fewer_slots g.R.CommitRule.kept c.args.index.now c.loop-at.index (g.F.Flash.state c.args.flash.now) (g.F.Flash.state c.loop-at.flash) c.args.blocks.now c.loop-at.unsure _ _ c.loop-at.at c.loop-at.used c.args.block.0
+    (fewer_slots g.R.CommitRule.protocol c.args.index.now c.loop-at.index (g.F.Flash.state c.args.flash.now) (g.F.Flash.state c.loop-at.flash) c.args.blocks.now c.loop-at.unsure _ _ c.loop-at.at c.loop-at.used c.args.block.0
     c.loop-at.invariant (ap (λ k. c.args.block.0 * k) same) start (omega (arith, c.loop-at-test.false, c.loop-at.auto.at-end, same)) c.requires.not_spare unneeded)
 
 pub returns-in_err-copy_record-clause-broken : goal.returns-in_err-copy_record-clause-broken
@@ -128,7 +128,7 @@ returns-in_err-copy_record-clause-broken g c =
     let same : c.config-pages.result.pages_per_block ≡ c.args.index.now.config.pages_per_block = ap (λ (k : Config). k.pages_per_block) c.config-pages.ensures.config in
     let start = ap (λ k. k * c.config-pages.result.pages_per_block) c.spare.ensures.spare ∙ ap (λ k. c.args.blocks.now.spare * k) same in
     on_err c.from_residual.result _
-    (copying_broke g.R.CommitRule.kept c.args.index.now c.loop-at.index (g.F.Flash.state c.args.flash.now) (g.F.Flash.state c.loop-at.flash) c.args.blocks.now c.loop-at.unsure _ _ c.loop-at.at c.loop-at.used c.args.block.0
+    (copying_broke g.R.CommitRule.protocol c.args.index.now c.loop-at.index (g.F.Flash.state c.args.flash.now) (g.F.Flash.state c.loop-at.flash) c.args.blocks.now c.loop-at.unsure _ _ c.loop-at.at c.loop-at.used c.args.block.0
     c.loop-at.invariant c.loop-at.auto.at (ap (λ k. c.args.block.0 * k) same) start (omega (arith, c.loop-at-test.true, same)) c.requires.not_spare c.requires.exists
     (sym c.needed.ensures ∙ c.if-needed.true) (g.F.Flash.state c.copy_record.new.flash) c.copy_record.new.index c.copy_record.new.unsure _ _ refl refl
     c.in_err-copy_record.ensures.stays c.in_err-copy_record.ensures.broken)

@@ -8,7 +8,7 @@ use Rattle.collector.proofs.making_room.clear.Goals as goal
 
 pub loop-block-init : goal.loop-block-init
 loop-block-init g c = record {
-  so_far = clears_none g.R.CommitRule.kept c.args.page c.args.below (g.F.Flash.state c.args.flash.now) c.args.index.now c.args.blocks.now c.args.unsure.now
+  so_far = clears_none g.R.CommitRule.protocol c.args.page c.args.below (g.F.Flash.state c.args.flash.now) c.args.index.now c.args.blocks.now c.args.unsure.now
       c.requires.nothing c.requires.matches c.requires.next;
   turns = none;
   idle = λ nothing. (refl, refl, refl, refl);

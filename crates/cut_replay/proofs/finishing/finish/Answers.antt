@@ -1,4 +1,4 @@
-use Rattle.cut_replay.proofs.Finishes.{last_serves, wrote_serves, step_fewer}
+use Rattle.cut_replay.proofs.FinishCalls.{last_serves, wrote_serves, step_fewer}
 use Rattle.cut_replay.proofs.finishing.finish.Goals as goal
 
 pub steps-smaller : goal.steps-smaller

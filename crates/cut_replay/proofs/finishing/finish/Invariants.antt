@@ -9,7 +9,7 @@ use Rattle.cut_replay.proofs.finishing.finish.Given as goal
 -- what is done from here on is done from the beginning on
 abbrev pub invariant-steps : goal.invariant-steps
 invariant-steps g l =
-    HoldsAlways g.F.Flash.state g.R.CommitRule.kept l.device
+    HoldsAlways g.F.Flash.state g.R.CommitRule.protocol l.device
     × ((new : Standing _) (r : Reply) → ServesHere g.F.Flash.state (Finish l.tag) l.device new r → ServesHere g.F.Flash.state (Finish l.tag) l.initial.device new r)
 
 abbrev pub decreases-steps : goal.decreases-steps

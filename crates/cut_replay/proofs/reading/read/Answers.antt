@@ -5,7 +5,7 @@ use Rattle.cut_replay.proofs.reading.read.Goals as goal
 pub returns-clause-ok : goal.returns-clause-ok
 returns-clause-ok g c =
     let answer = c.read_through-answer.ensures in
-    reads_serve g.F.Flash.state g.R.CommitRule.kept c.args.device.now c.read_through-answer.new.device c.args.page
+    reads_serve g.F.Flash.state g.R.CommitRule.protocol c.args.device.now c.read_through-answer.new.device c.args.page
     c.read_through-answer.new.room c.read_through-answer.result.0 c.told.result
     c.held_always.ensures.always answer.reads answer.moment answer.carries answer.stays c.told.ensures.reply
 

@@ -7,7 +7,7 @@ followed-requires-clause-check g c =
     let s = c.args.device in
     let t = c.done.new.device in
     after_check g.F.Flash.state c.args.config c.args.command.now s t c.in-Ok.reply c.done.new.cache.entries
-    (was_done g.F.Flash.state c.args.config g.R.CommitRule.kept c.args.command.now s t c.in-Ok.reply c.args.cache.now.entries c.done.new.cache.entries c.requires.rule c.requires.fits c.requires.no_arm
+    (was_done g.F.Flash.state c.args.config g.R.CommitRule.protocol c.args.command.now s t c.in-Ok.reply c.args.cache.now.entries c.done.new.cache.entries c.requires.rule c.requires.fits c.requires.no_arm
     c.in-Ok.ensures.ok c.done.ensures.cached c.done.ensures.always)
 
 pub returns-in-Ok-clause-fits : goal.returns-in-Ok-clause-fits
@@ -15,7 +15,7 @@ returns-in-Ok-clause-fits g c =
     let s = c.args.device in
     let t = c.done.new.device in
     fits_after g.F.Flash.state c.args.config c.args.command.now s t c.in-Ok.reply c.followed.result c.done.new.cache c.followed.new.cache
-    (was_done g.F.Flash.state c.args.config g.R.CommitRule.kept c.args.command.now s t c.in-Ok.reply c.args.cache.now.entries c.done.new.cache.entries c.requires.rule c.requires.fits c.requires.no_arm
+    (was_done g.F.Flash.state c.args.config g.R.CommitRule.protocol c.args.command.now s t c.in-Ok.reply c.args.cache.now.entries c.done.new.cache.entries c.requires.rule c.requires.fits c.requires.no_arm
     c.in-Ok.ensures.ok c.done.ensures.cached c.done.ensures.always) c.followed.ensures
 
 pub returns-in-Ok-clause-serves : goal.returns-in-Ok-clause-serves
@@ -23,7 +23,7 @@ returns-in-Ok-clause-serves g c =
     let s = c.args.device in
     let t = c.done.new.device in
     (serves_after g.F.Flash.state c.args.config c.args.command.now s t c.in-Ok.reply c.followed.result c.done.new.cache c.followed.new.cache
-    (was_done g.F.Flash.state c.args.config g.R.CommitRule.kept c.args.command.now s t c.in-Ok.reply c.args.cache.now.entries c.done.new.cache.entries c.requires.rule c.requires.fits c.requires.no_arm
+    (was_done g.F.Flash.state c.args.config g.R.CommitRule.protocol c.args.command.now s t c.in-Ok.reply c.args.cache.now.entries c.done.new.cache.entries c.requires.rule c.requires.fits c.requires.no_arm
     c.in-Ok.ensures.ok c.done.ensures.cached c.done.ensures.always) c.followed.ensures).0
 
 pub returns-in-Ok-clause-ends : goal.returns-in-Ok-clause-ends
@@ -31,7 +31,7 @@ returns-in-Ok-clause-ends g c =
     let s = c.args.device in
     let t = c.done.new.device in
     (serves_after g.F.Flash.state c.args.config c.args.command.now s t c.in-Ok.reply c.followed.result c.done.new.cache c.followed.new.cache
-    (was_done g.F.Flash.state c.args.config g.R.CommitRule.kept c.args.command.now s t c.in-Ok.reply c.args.cache.now.entries c.done.new.cache.entries c.requires.rule c.requires.fits c.requires.no_arm
+    (was_done g.F.Flash.state c.args.config g.R.CommitRule.protocol c.args.command.now s t c.in-Ok.reply c.args.cache.now.entries c.done.new.cache.entries c.requires.rule c.requires.fits c.requires.no_arm
     c.in-Ok.ensures.ok c.done.ensures.cached c.done.ensures.always) c.followed.ensures).1
 
 pub returns-in-Ok-clause-size : goal.returns-in-Ok-clause-size

@@ -9,14 +9,14 @@ use Rattle.tx_engine.proofs.collect.collect_settled.Goals as goal
 pub returns-clause-left : goal.returns-clause-left
 returns-clause-left g c =
     left_of g.F.Flash.state c.args.store.now c.collect-collected.new.self c.args.openings.now _
-    (subst IsStayLaw (sym c.requires.rule) (record { array = c.arrays_stay.ensures.array; bytes = c.arrays_stay.ensures.bytes; next = c.arrays_stay.ensures.next }))
-    c.requires.stands g.R.CommitRule.kept c.config-kept.ensures.stored c.collect-collected.ensures.keeps c.requires.sure c.collect-collected.ensures.others
+    (subst IsStayLaw (sym c.requires.rule) (record { array = c.arrays_stay.ensures.array; texts = c.arrays_stay.ensures.texts; next = c.arrays_stay.ensures.next }))
+    c.requires.stands g.R.CommitRule.protocol c.config-kept.ensures.stored c.collect-collected.ensures.keeps c.requires.sure c.collect-collected.ensures.others
 
 pub returns-clause-nothing : goal.returns-clause-nothing
 returns-clause-nothing g c = λ is.
     let left = left_of g.F.Flash.state c.args.store.now c.collect-collected.new.self c.args.openings.now _
-    (subst IsStayLaw (sym c.requires.rule) (record { array = c.arrays_stay.ensures.array; bytes = c.arrays_stay.ensures.bytes; next = c.arrays_stay.ensures.next }))
-    c.requires.stands g.R.CommitRule.kept c.config-kept.ensures.stored c.collect-collected.ensures.keeps c.requires.sure c.collect-collected.ensures.others in
+    (subst IsStayLaw (sym c.requires.rule) (record { array = c.arrays_stay.ensures.array; texts = c.arrays_stay.ensures.texts; next = c.arrays_stay.ensures.next }))
+    c.requires.stands g.R.CommitRule.protocol c.config-kept.ensures.stored c.collect-collected.ensures.keeps c.requires.sure c.collect-collected.ensures.others in
     let k = from_stands g.F.Flash.state c.args.store.now c.args.openings.now c.requires.stands in
     let both = nothing_of g.F.Flash.state c.args.store.now c.collect-collected.new.self c.collect-collected.result is c.collect-collected.ensures.collects c.collect-collected.ensures.sure in
     nothing_left g.F.Flash.state c.args.store.now c.collect-collected.new.self c.args.openings.now c.tidy_images.ensures

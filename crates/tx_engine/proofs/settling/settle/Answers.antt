@@ -9,7 +9,7 @@ use Rattle.tx_engine.proofs.TableLaws.{IsStayLaw, CurrentLaw}
 use Rattle.tx_engine.proofs.Tools.{Settles, NotesWrites}
 use Rattle.std.proofs.lemmas.List.Quantifiers.{position-Some}
 use Rattle.tx_engine.specs.ArrayState.{is_doubted}
-use Rattle.tx_engine.specs.declared.mark.Mark.TheVariants.{Plain}
+use Rattle.array_machine.specs.declared.mark.Mark.TheVariants.{Plain}
 use Rattle.tx_engine.specs.OpenTable.{OpenTable, Opening, no_opening}
 use Rattle.tx_engine.specs.Tables.{standing_in}
 use Rattle.tx_engine.proofs.settling.settle.Goals as goal
@@ -132,7 +132,7 @@ returns-in-Some-doubtful g c =
     (subst Settles (sym c.requires.rule) (record { matches = c.images_stand.ensures.matches; records = c.images_stand.ensures.records; array = c.images_stand.ensures.array; preserves = c.images_stand.ensures.preserves }))
     (subst CurrentLaw (sym c.requires.rule) c.images_stand.ensures.current)
     c.settle.new.self.noted c.settle.new.self.table c.in_ok-found.found c.in_ok-found.ensures.settled.0 c.in_ok-found.ensures.settled.1 c.in_ok-found.ensures.settled.2
-    (subst IsStayLaw (sym c.requires.rule) (record { array = c.arrays_stay.ensures.array; bytes = c.arrays_stay.ensures.bytes; next = c.arrays_stay.ensures.next })) (not_present c.in_ok-found.found c.in-Missing.is)
+    (subst IsStayLaw (sym c.requires.rule) (record { array = c.arrays_stay.ensures.array; texts = c.arrays_stay.ensures.texts; next = c.arrays_stay.ensures.next })) (not_present c.in_ok-found.found c.in-Missing.is)
     c.in-Some-doubtful.at (sym c.doubtful.ensures ∙ c.in-Some-doubtful.is) c.set_mark.new.self c.set_mark.ensures) in
     record {
       stands = settled_stands g.F.Flash.state c.args.store.now c.settle.new.self c.args.openings.now c.set_mark.new.self
@@ -158,7 +158,7 @@ returns-in_default-doubtful g c =
     (subst Settles (sym c.requires.rule) (record { matches = c.images_stand.ensures.matches; records = c.images_stand.ensures.records; array = c.images_stand.ensures.array; preserves = c.images_stand.ensures.preserves }))
     (subst CurrentLaw (sym c.requires.rule) c.images_stand.ensures.current)
     c.settle.new.self.noted c.settle.new.self.table c.in_ok-found.found c.in_ok-found.ensures.settled.0 c.in_ok-found.ensures.settled.1 c.in_ok-found.ensures.settled.2
-    (subst IsStayLaw (sym c.requires.rule) (record { array = c.arrays_stay.ensures.array; bytes = c.arrays_stay.ensures.bytes; next = c.arrays_stay.ensures.next })) (not_present c.in_ok-found.found c.in-Missing.is)
+    (subst IsStayLaw (sym c.requires.rule) (record { array = c.arrays_stay.ensures.array; texts = c.arrays_stay.ensures.texts; next = c.arrays_stay.ensures.next })) (not_present c.in_ok-found.found c.in-Missing.is)
     (sym c.doubtful.ensures ∙ c.in_default-doubtful.is)) in
     record {
       stands = settled_stands g.F.Flash.state c.args.store.now c.settle.new.self c.args.openings.now c.args.openings.now

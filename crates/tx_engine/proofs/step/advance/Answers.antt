@@ -2,7 +2,7 @@ use Rattle.std.proofs.Common.{◌≡◌, sym, ap, ◌∙◌, subst, refl, eq-eqb
 use Rattle.std.specs.Prelude.{false}
 use Rattle.tx_engine.specs.ArrayState.{with_entry}
 use Rattle.tx_engine.specs.OpenTable.{OpenTable, Opening, opening_at, entries_of}
-use Rattle.tx_engine.specs.Settling.{with_next, IsReady, Counts, link_place}
+use Rattle.tx_engine.specs.Settling.{with_next, CountsOn, Counts, link_place}
 use Rattle.tx_engine.specs.Standing.{name_at, write_at}
 use Rattle.tx_engine.specs.Stored.{Stored}
 use Rattle.tx_engine.specs.Tables.{standing_in}
@@ -29,7 +29,7 @@ returns-in_err-write_next-clause-advances g c = let state = g.F.Flash.state in
     (λ b. failed_advances state c.args.store.now c.write_next.new.store c.args.openings.now c.write_next.new.openings c.args.at b c.requires.stands c.requires.at (due_plain state c.args.store.now c.args.openings.now c.args.at c.requires.stands c.requires.sure c.requires.at (sym c.is_due.ensures ∙ c.if-not-is_due.false)).0 c.in_err-write_next.ensures.failed)
 
 pub count_next-requires-2-clause-ready : goal.count_next-requires-2-clause-ready
-count_next-requires-2-clause-ready g c = let state = g.F.Flash.state in subst IsReady (sym (ap (λ (t : OpenTable). opening_at t c.args.at) c.in_ok-write_next.ensures.next ∙ opening_set c.args.openings.now c.args.at (with_next (opening_at c.args.openings.now c.args.at)) c.requires.at)) (let due = (due_plain state c.args.store.now c.args.openings.now c.args.at c.requires.stands c.requires.sure c.requires.at (sym c.is_due.ensures ∙ c.if-not-is_due.false)) in next_ready (opening_at c.args.openings.now c.args.at) due.0 due.1)
+count_next-requires-2-clause-ready g c = let state = g.F.Flash.state in subst CountsOn (sym (ap (λ (t : OpenTable). opening_at t c.args.at) c.in_ok-write_next.ensures.next ∙ opening_set c.args.openings.now c.args.at (with_next (opening_at c.args.openings.now c.args.at)) c.requires.at)) (let due = (due_plain state c.args.store.now c.args.openings.now c.args.at c.requires.stands c.requires.sure c.requires.at (sym c.is_due.ensures ∙ c.if-not-is_due.false)) in next_ready (opening_at c.args.openings.now c.args.at) due.0 due.1)
 
 pub returns-clause-advances : goal.returns-clause-advances
 returns-clause-advances g c = let state = g.F.Flash.state in

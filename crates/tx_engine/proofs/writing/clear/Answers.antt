@@ -6,5 +6,5 @@ use Rattle.tx_engine.proofs.writing.clear.Goals as goal
 pub returns-clause-left : goal.returns-clause-left
 returns-clause-left g c =
     left_of g.F.Flash.state c.args.store.now c.clear-cleared.new.self c.args.openings.now _
-    (subst IsStayLaw (sym c.requires.rule) (record { array = c.arrays_stay.ensures.array; bytes = c.arrays_stay.ensures.bytes; next = c.arrays_stay.ensures.next }))
-    c.requires.stands g.R.CommitRule.kept c.config-kept.ensures.stored c.clear-cleared.ensures.keeps c.requires.sure c.clear-cleared.ensures.others
+    (subst IsStayLaw (sym c.requires.rule) (record { array = c.arrays_stay.ensures.array; texts = c.arrays_stay.ensures.texts; next = c.arrays_stay.ensures.next }))
+    c.requires.stands g.R.CommitRule.protocol c.config-kept.ensures.stored c.clear-cleared.ensures.keeps c.requires.sure c.clear-cleared.ensures.others

@@ -69,7 +69,7 @@ pub program-requires-clause-own : goal.program-requires-clause-own
 program-requires-clause-own g c = let state = g.F.Flash.state in next_take (state c.find_slot.new.store.flash) c.find_slot.new.store.noted c.find_slot.new.store.table c.args.openings.now c.args.at (settled_kept state c.find_slot.new.store c.args.openings.now c.in_ok-slot.ensures.left.stands c.in_ok-slot.ensures.sure) c.requires.at c.requires.plain c.requires.due c.next_record-rec.result c.next_record-rec.ensures.named c.next_record-rec.ensures.next c.next_record-rec.ensures.back (subst (λ (a : Link). block_to_go c.find_slot.new.store.noted a.page a.version ≡ None) ((c.name-name.ensures ∙ ap (name_at (opening_at c.args.openings.now c.args.at).naming) c.done.ensures) ∙ sym c.next_record-rec.ensures.named) c.find_slot.ensures.clear)
 
 pub program-requires-clause-spelled : goal.program-requires-clause-spelled
-program-requires-clause-spelled g c = let state = g.F.Flash.state in next_can_be_spelled (state c.find_slot.new.store.flash) c.find_slot.new.store.noted c.find_slot.new.store.table c.args.openings.now c.args.at (settled_kept state c.find_slot.new.store c.args.openings.now c.in_ok-slot.ensures.left.stands c.in_ok-slot.ensures.sure) c.requires.at c.requires.plain c.requires.due c.next_record-rec.result c.next_record-rec.ensures.named c.next_record-rec.ensures.next c.next_record-rec.ensures.back (subst (λ (a : Link). block_to_go c.find_slot.new.store.noted a.page a.version ≡ None) ((c.name-name.ensures ∙ ap (name_at (opening_at c.args.openings.now c.args.at).naming) c.done.ensures) ∙ sym c.next_record-rec.ensures.named) c.find_slot.ensures.clear)
+program-requires-clause-spelled g c = let state = g.F.Flash.state in next_can_be_spelled (state c.find_slot.new.store.flash) c.find_slot.new.store.noted c.find_slot.new.store.table c.args.openings.now c.args.at (settled_kept state c.find_slot.new.store c.args.openings.now c.in_ok-slot.ensures.left.stands c.in_ok-slot.ensures.sure) c.requires.at c.requires.plain c.requires.due c.next_record-rec.result c.next_record-rec.ensures.named c.next_record-rec.ensures.next c.next_record-rec.ensures.back c.next_record-rec.ensures.plain (subst (λ (a : Link). block_to_go c.find_slot.new.store.noted a.page a.version ≡ None) ((c.name-name.ensures ∙ ap (name_at (opening_at c.args.openings.now c.args.at).naming) c.done.ensures) ∙ sym c.next_record-rec.ensures.named) c.find_slot.ensures.clear)
 
 pub doubt_last-requires-clause-within : goal.doubt_last-requires-clause-within
 doubt_last-requires-clause-within g c = let state = g.F.Flash.state in (due_named (state c.args.store.now.flash) c.args.store.now.noted c.args.store.now.table c.args.openings.now c.args.at (settled_kept state c.args.store.now c.args.openings.now c.requires.stands c.requires.sure) c.requires.at c.requires.plain c.requires.due).within
@@ -79,7 +79,7 @@ returns-in-Err-clause-stands g c = let state = g.F.Flash.state in
     broken_stands state c.find_slot.new.store c.program.new.store c.args.openings.now c.args.at c.in_ok-slot.slot c.next_record-rec.result _ c.in_ok-slot.ensures.left.stands c.in_ok-slot.ensures.sure c.requires.at c.requires.plain c.requires.due
     (subst Settles (sym (ap (λ (k : Config). k.protocol) (c.in_ok-slot.ensures.left.exits.tables.config ∙ c.in_ok-clear.ensures.left.exits.tables.config) ∙ c.requires.rule)) (record { matches = c.images_stand.ensures.matches; records = c.images_stand.ensures.records; array = c.images_stand.ensures.array; preserves = c.images_stand.ensures.preserves }))
     (subst NotesWrites (sym (ap (λ (k : Config). k.protocol) (c.in_ok-slot.ensures.left.exits.tables.config ∙ c.in_ok-clear.ensures.left.exits.tables.config) ∙ c.requires.rule)) (record { names = c.noted_writes.ensures.names; partial = c.noted_writes.ensures.partial; completing = c.noted_writes.ensures.completing }))
-    (next_record (state c.find_slot.new.store.flash) c.find_slot.new.store.noted c.find_slot.new.store.table c.args.openings.now c.args.at (settled_kept state c.find_slot.new.store c.args.openings.now c.in_ok-slot.ensures.left.stands c.in_ok-slot.ensures.sure) c.requires.at c.requires.plain c.requires.due c.next_record-rec.result c.next_record-rec.ensures.named c.next_record-rec.ensures.next c.next_record-rec.ensures.back (subst (λ (a : Link). block_to_go c.find_slot.new.store.noted a.page a.version ≡ None) ((c.name-name.ensures ∙ ap (name_at (opening_at c.args.openings.now c.args.at).naming) c.done.ensures) ∙ sym c.next_record-rec.ensures.named) c.find_slot.ensures.clear)) refl c.next_record-rec.ensures.named c.in_ok-slot.ensures.free refl g.R.CommitRule.kept c.program.ensures.stored
+    (next_record (state c.find_slot.new.store.flash) c.find_slot.new.store.noted c.find_slot.new.store.table c.args.openings.now c.args.at (settled_kept state c.find_slot.new.store c.args.openings.now c.in_ok-slot.ensures.left.stands c.in_ok-slot.ensures.sure) c.requires.at c.requires.plain c.requires.due c.next_record-rec.result c.next_record-rec.ensures.named c.next_record-rec.ensures.next c.next_record-rec.ensures.back (subst (λ (a : Link). block_to_go c.find_slot.new.store.noted a.page a.version ≡ None) ((c.name-name.ensures ∙ ap (name_at (opening_at c.args.openings.now c.args.at).naming) c.done.ensures) ∙ sym c.next_record-rec.ensures.named) c.find_slot.ensures.clear)) refl c.next_record-rec.ensures.named c.in_ok-slot.ensures.free refl c.next_record-rec.ensures.plain.1 g.R.CommitRule.protocol c.program.ensures.stored
     c.in-Err.ensures.broken c.doubt_last.new.openings c.doubt_last.ensures
 
 pub returns-in-Err-clause-failed : goal.returns-in-Err-clause-failed
@@ -88,7 +88,7 @@ returns-in-Err-clause-failed g c = let state = g.F.Flash.state in
     (broken_fails state c.find_slot.new.store c.program.new.store c.args.openings.now c.args.at c.in_ok-slot.slot c.next_record-rec.result _ c.in_ok-slot.ensures.left.stands c.in_ok-slot.ensures.sure c.requires.at c.requires.plain c.requires.due
     (subst Settles (sym (ap (λ (k : Config). k.protocol) (c.in_ok-slot.ensures.left.exits.tables.config ∙ c.in_ok-clear.ensures.left.exits.tables.config) ∙ c.requires.rule)) (record { matches = c.images_stand.ensures.matches; records = c.images_stand.ensures.records; array = c.images_stand.ensures.array; preserves = c.images_stand.ensures.preserves }))
     (subst NotesWrites (sym (ap (λ (k : Config). k.protocol) (c.in_ok-slot.ensures.left.exits.tables.config ∙ c.in_ok-clear.ensures.left.exits.tables.config) ∙ c.requires.rule)) (record { names = c.noted_writes.ensures.names; partial = c.noted_writes.ensures.partial; completing = c.noted_writes.ensures.completing }))
-    (next_record (state c.find_slot.new.store.flash) c.find_slot.new.store.noted c.find_slot.new.store.table c.args.openings.now c.args.at (settled_kept state c.find_slot.new.store c.args.openings.now c.in_ok-slot.ensures.left.stands c.in_ok-slot.ensures.sure) c.requires.at c.requires.plain c.requires.due c.next_record-rec.result c.next_record-rec.ensures.named c.next_record-rec.ensures.next c.next_record-rec.ensures.back (subst (λ (a : Link). block_to_go c.find_slot.new.store.noted a.page a.version ≡ None) ((c.name-name.ensures ∙ ap (name_at (opening_at c.args.openings.now c.args.at).naming) c.done.ensures) ∙ sym c.next_record-rec.ensures.named) c.find_slot.ensures.clear)) refl c.next_record-rec.ensures.named c.in_ok-slot.ensures.free refl g.R.CommitRule.kept c.program.ensures.stored
+    (next_record (state c.find_slot.new.store.flash) c.find_slot.new.store.noted c.find_slot.new.store.table c.args.openings.now c.args.at (settled_kept state c.find_slot.new.store c.args.openings.now c.in_ok-slot.ensures.left.stands c.in_ok-slot.ensures.sure) c.requires.at c.requires.plain c.requires.due c.next_record-rec.result c.next_record-rec.ensures.named c.next_record-rec.ensures.next c.next_record-rec.ensures.back (subst (λ (a : Link). block_to_go c.find_slot.new.store.noted a.page a.version ≡ None) ((c.name-name.ensures ∙ ap (name_at (opening_at c.args.openings.now c.args.at).naming) c.done.ensures) ∙ sym c.next_record-rec.ensures.named) c.find_slot.ensures.clear)) refl c.next_record-rec.ensures.named c.in_ok-slot.ensures.free refl c.next_record-rec.ensures.plain.1 g.R.CommitRule.protocol c.program.ensures.stored
     c.in-Err.ensures.broken c.doubt_last.new.openings c.doubt_last.ensures)
 
 pub returns-in-Err-clause-exits : goal.returns-in-Err-clause-exits
@@ -97,7 +97,7 @@ returns-in-Err-clause-exits g c = let state = g.F.Flash.state in
     (broken_exits state c.find_slot.new.store c.program.new.store c.args.openings.now c.args.at c.in_ok-slot.slot c.next_record-rec.result _ c.in_ok-slot.ensures.left.stands c.in_ok-slot.ensures.sure c.requires.at c.requires.plain c.requires.due
     (subst Settles (sym (ap (λ (k : Config). k.protocol) (c.in_ok-slot.ensures.left.exits.tables.config ∙ c.in_ok-clear.ensures.left.exits.tables.config) ∙ c.requires.rule)) (record { matches = c.images_stand.ensures.matches; records = c.images_stand.ensures.records; array = c.images_stand.ensures.array; preserves = c.images_stand.ensures.preserves }))
     (subst NotesWrites (sym (ap (λ (k : Config). k.protocol) (c.in_ok-slot.ensures.left.exits.tables.config ∙ c.in_ok-clear.ensures.left.exits.tables.config) ∙ c.requires.rule)) (record { names = c.noted_writes.ensures.names; partial = c.noted_writes.ensures.partial; completing = c.noted_writes.ensures.completing }))
-    (next_record (state c.find_slot.new.store.flash) c.find_slot.new.store.noted c.find_slot.new.store.table c.args.openings.now c.args.at (settled_kept state c.find_slot.new.store c.args.openings.now c.in_ok-slot.ensures.left.stands c.in_ok-slot.ensures.sure) c.requires.at c.requires.plain c.requires.due c.next_record-rec.result c.next_record-rec.ensures.named c.next_record-rec.ensures.next c.next_record-rec.ensures.back (subst (λ (a : Link). block_to_go c.find_slot.new.store.noted a.page a.version ≡ None) ((c.name-name.ensures ∙ ap (name_at (opening_at c.args.openings.now c.args.at).naming) c.done.ensures) ∙ sym c.next_record-rec.ensures.named) c.find_slot.ensures.clear)) refl c.next_record-rec.ensures.named c.in_ok-slot.ensures.free refl g.R.CommitRule.kept c.program.ensures.stored
+    (next_record (state c.find_slot.new.store.flash) c.find_slot.new.store.noted c.find_slot.new.store.table c.args.openings.now c.args.at (settled_kept state c.find_slot.new.store c.args.openings.now c.in_ok-slot.ensures.left.stands c.in_ok-slot.ensures.sure) c.requires.at c.requires.plain c.requires.due c.next_record-rec.result c.next_record-rec.ensures.named c.next_record-rec.ensures.next c.next_record-rec.ensures.back (subst (λ (a : Link). block_to_go c.find_slot.new.store.noted a.page a.version ≡ None) ((c.name-name.ensures ∙ ap (name_at (opening_at c.args.openings.now c.args.at).naming) c.done.ensures) ∙ sym c.next_record-rec.ensures.named) c.find_slot.ensures.clear)) refl c.next_record-rec.ensures.named c.in_ok-slot.ensures.free refl c.next_record-rec.ensures.plain.1 g.R.CommitRule.protocol c.program.ensures.stored
     c.in-Err.ensures.broken c.doubt_last.new.openings c.doubt_last.ensures c.in-Err.ensures.moves c.in-Err.ensures.carries)
 
 pub returns-in-Err-clause-costs : goal.returns-in-Err-clause-costs
@@ -113,7 +113,7 @@ returns-clause-stands g c = let state = g.F.Flash.state in
     written_stands state c.find_slot.new.store c.program.new.store c.args.openings.now c.args.at c.in_ok-slot.slot c.next_record-rec.result _ c.in_ok-slot.ensures.left.stands c.in_ok-slot.ensures.sure c.requires.at c.requires.plain c.requires.due
     (subst Settles (sym (ap (λ (k : Config). k.protocol) (c.in_ok-slot.ensures.left.exits.tables.config ∙ c.in_ok-clear.ensures.left.exits.tables.config) ∙ c.requires.rule)) (record { matches = c.images_stand.ensures.matches; records = c.images_stand.ensures.records; array = c.images_stand.ensures.array; preserves = c.images_stand.ensures.preserves }))
     (subst NotesWrites (sym (ap (λ (k : Config). k.protocol) (c.in_ok-slot.ensures.left.exits.tables.config ∙ c.in_ok-clear.ensures.left.exits.tables.config) ∙ c.requires.rule)) (record { names = c.noted_writes.ensures.names; partial = c.noted_writes.ensures.partial; completing = c.noted_writes.ensures.completing }))
-    (next_record (state c.find_slot.new.store.flash) c.find_slot.new.store.noted c.find_slot.new.store.table c.args.openings.now c.args.at (settled_kept state c.find_slot.new.store c.args.openings.now c.in_ok-slot.ensures.left.stands c.in_ok-slot.ensures.sure) c.requires.at c.requires.plain c.requires.due c.next_record-rec.result c.next_record-rec.ensures.named c.next_record-rec.ensures.next c.next_record-rec.ensures.back (subst (λ (a : Link). block_to_go c.find_slot.new.store.noted a.page a.version ≡ None) ((c.name-name.ensures ∙ ap (name_at (opening_at c.args.openings.now c.args.at).naming) c.done.ensures) ∙ sym c.next_record-rec.ensures.named) c.find_slot.ensures.clear)) refl c.next_record-rec.ensures.named c.in_ok-slot.ensures.free refl g.R.CommitRule.kept c.program.ensures.stored
+    (next_record (state c.find_slot.new.store.flash) c.find_slot.new.store.noted c.find_slot.new.store.table c.args.openings.now c.args.at (settled_kept state c.find_slot.new.store c.args.openings.now c.in_ok-slot.ensures.left.stands c.in_ok-slot.ensures.sure) c.requires.at c.requires.plain c.requires.due c.next_record-rec.result c.next_record-rec.ensures.named c.next_record-rec.ensures.next c.next_record-rec.ensures.back (subst (λ (a : Link). block_to_go c.find_slot.new.store.noted a.page a.version ≡ None) ((c.name-name.ensures ∙ ap (name_at (opening_at c.args.openings.now c.args.at).naming) c.done.ensures) ∙ sym c.next_record-rec.ensures.named) c.find_slot.ensures.clear)) refl c.next_record-rec.ensures.named c.in_ok-slot.ensures.free refl c.next_record-rec.ensures.plain.1 g.R.CommitRule.protocol c.program.ensures.stored
     c.in_default.ensures.written c.note_next.new.openings c.note_next.ensures
 
 pub returns-clause-written : goal.returns-clause-written
@@ -122,7 +122,7 @@ returns-clause-written g c = let state = g.F.Flash.state in
     (written_next state c.find_slot.new.store c.program.new.store c.args.openings.now c.args.at c.in_ok-slot.slot c.next_record-rec.result _ c.in_ok-slot.ensures.left.stands c.in_ok-slot.ensures.sure c.requires.at c.requires.plain c.requires.due
     (subst Settles (sym (ap (λ (k : Config). k.protocol) (c.in_ok-slot.ensures.left.exits.tables.config ∙ c.in_ok-clear.ensures.left.exits.tables.config) ∙ c.requires.rule)) (record { matches = c.images_stand.ensures.matches; records = c.images_stand.ensures.records; array = c.images_stand.ensures.array; preserves = c.images_stand.ensures.preserves }))
     (subst NotesWrites (sym (ap (λ (k : Config). k.protocol) (c.in_ok-slot.ensures.left.exits.tables.config ∙ c.in_ok-clear.ensures.left.exits.tables.config) ∙ c.requires.rule)) (record { names = c.noted_writes.ensures.names; partial = c.noted_writes.ensures.partial; completing = c.noted_writes.ensures.completing }))
-    (next_record (state c.find_slot.new.store.flash) c.find_slot.new.store.noted c.find_slot.new.store.table c.args.openings.now c.args.at (settled_kept state c.find_slot.new.store c.args.openings.now c.in_ok-slot.ensures.left.stands c.in_ok-slot.ensures.sure) c.requires.at c.requires.plain c.requires.due c.next_record-rec.result c.next_record-rec.ensures.named c.next_record-rec.ensures.next c.next_record-rec.ensures.back (subst (λ (a : Link). block_to_go c.find_slot.new.store.noted a.page a.version ≡ None) ((c.name-name.ensures ∙ ap (name_at (opening_at c.args.openings.now c.args.at).naming) c.done.ensures) ∙ sym c.next_record-rec.ensures.named) c.find_slot.ensures.clear)) refl c.next_record-rec.ensures.named c.in_ok-slot.ensures.free refl g.R.CommitRule.kept c.program.ensures.stored
+    (next_record (state c.find_slot.new.store.flash) c.find_slot.new.store.noted c.find_slot.new.store.table c.args.openings.now c.args.at (settled_kept state c.find_slot.new.store c.args.openings.now c.in_ok-slot.ensures.left.stands c.in_ok-slot.ensures.sure) c.requires.at c.requires.plain c.requires.due c.next_record-rec.result c.next_record-rec.ensures.named c.next_record-rec.ensures.next c.next_record-rec.ensures.back (subst (λ (a : Link). block_to_go c.find_slot.new.store.noted a.page a.version ≡ None) ((c.name-name.ensures ∙ ap (name_at (opening_at c.args.openings.now c.args.at).naming) c.done.ensures) ∙ sym c.next_record-rec.ensures.named) c.find_slot.ensures.clear)) refl c.next_record-rec.ensures.named c.in_ok-slot.ensures.free refl c.next_record-rec.ensures.plain.1 g.R.CommitRule.protocol c.program.ensures.stored
     c.in_default.ensures.written c.note_next.new.openings c.note_next.ensures)
 
 pub returns-clause-exits : goal.returns-clause-exits
@@ -131,7 +131,7 @@ returns-clause-exits g c = let state = g.F.Flash.state in
     (written_exits state c.find_slot.new.store c.program.new.store c.args.openings.now c.args.at c.in_ok-slot.slot c.next_record-rec.result _ c.in_ok-slot.ensures.left.stands c.in_ok-slot.ensures.sure c.requires.at c.requires.plain c.requires.due
     (subst Settles (sym (ap (λ (k : Config). k.protocol) (c.in_ok-slot.ensures.left.exits.tables.config ∙ c.in_ok-clear.ensures.left.exits.tables.config) ∙ c.requires.rule)) (record { matches = c.images_stand.ensures.matches; records = c.images_stand.ensures.records; array = c.images_stand.ensures.array; preserves = c.images_stand.ensures.preserves }))
     (subst NotesWrites (sym (ap (λ (k : Config). k.protocol) (c.in_ok-slot.ensures.left.exits.tables.config ∙ c.in_ok-clear.ensures.left.exits.tables.config) ∙ c.requires.rule)) (record { names = c.noted_writes.ensures.names; partial = c.noted_writes.ensures.partial; completing = c.noted_writes.ensures.completing }))
-    (next_record (state c.find_slot.new.store.flash) c.find_slot.new.store.noted c.find_slot.new.store.table c.args.openings.now c.args.at (settled_kept state c.find_slot.new.store c.args.openings.now c.in_ok-slot.ensures.left.stands c.in_ok-slot.ensures.sure) c.requires.at c.requires.plain c.requires.due c.next_record-rec.result c.next_record-rec.ensures.named c.next_record-rec.ensures.next c.next_record-rec.ensures.back (subst (λ (a : Link). block_to_go c.find_slot.new.store.noted a.page a.version ≡ None) ((c.name-name.ensures ∙ ap (name_at (opening_at c.args.openings.now c.args.at).naming) c.done.ensures) ∙ sym c.next_record-rec.ensures.named) c.find_slot.ensures.clear)) refl c.next_record-rec.ensures.named c.in_ok-slot.ensures.free refl g.R.CommitRule.kept c.program.ensures.stored
+    (next_record (state c.find_slot.new.store.flash) c.find_slot.new.store.noted c.find_slot.new.store.table c.args.openings.now c.args.at (settled_kept state c.find_slot.new.store c.args.openings.now c.in_ok-slot.ensures.left.stands c.in_ok-slot.ensures.sure) c.requires.at c.requires.plain c.requires.due c.next_record-rec.result c.next_record-rec.ensures.named c.next_record-rec.ensures.next c.next_record-rec.ensures.back (subst (λ (a : Link). block_to_go c.find_slot.new.store.noted a.page a.version ≡ None) ((c.name-name.ensures ∙ ap (name_at (opening_at c.args.openings.now c.args.at).naming) c.done.ensures) ∙ sym c.next_record-rec.ensures.named) c.find_slot.ensures.clear)) refl c.next_record-rec.ensures.named c.in_ok-slot.ensures.free refl c.next_record-rec.ensures.plain.1 g.R.CommitRule.protocol c.program.ensures.stored
     c.in_default.ensures.written c.note_next.new.openings c.note_next.ensures c.in_default.ensures.moves c.in_default.ensures.carries)
 
 pub returns-clause-costs : goal.returns-clause-costs

@@ -5,7 +5,7 @@ use Rattle.flash_model.proofs.MoveLemmas.{FlashMoves-nothing}
 use Rattle.collector.specs.Looking.{ReadsAtMost, reads_after}
 use Rattle.collector.specs.Settling.{slots_read}
 use Rattle.tx_engine.specs.ArrayState.{ArrayState}
-use Rattle.tx_engine.specs.declared.step.StepError.TheVariants as failed
+use Rattle.array_machine.specs.declared.answers.StepError.TheVariants as failed
 use Rattle.tx_engine.specs.Exits.{Exits, VersionsRise, is_there, settled_writes}
 use Rattle.tx_engine.specs.OpenTable.{OpenTable, opening_at}
 use Rattle.tx_engine.specs.Settling.{HasTables, settlement_of}
@@ -14,7 +14,7 @@ use Rattle.tx_engine.specs.Step.{AbortsAs}
 use Rattle.tx_engine.specs.Stored.{Stored}
 use Rattle.tx_engine.specs.Tables.{standing_in}
 use Rattle.tx_engine.proofs.ExitsThen.{exits_still, exits_then}
-use Rattle.tx_engine.proofs.Aborting.{entry_found, entry_missing, entry_settled, closed_machine, closed_exits, closed_current, rises_on, abort_missing, abort_failed, abort_done, not_whole, fault_is}
+use Rattle.tx_engine.proofs.Aborting.{entry_found, entry_missing, entry_settled, closed_machine, closed_exits, closed_current, rises_on, abort_missing, abort_failed, abort_done, not_whole}
 use Rattle.tx_engine.proofs.SettleExits.{failed_machine, failed_stays}
 use Rattle.tx_engine.proofs.StepWrites.{has_tables}
 use Rattle.tx_engine.proofs.device.Device.abort.Goals as goal
@@ -34,22 +34,22 @@ returns-in_default-clause-exits g c =
 
 pub mark-requires : goal.mark-requires
 mark-requires g c =
-    (entry_settled _ c.self.inside.openings c.settle.new.openings c.in-Some.at (ap (λ (m : ArrayState). m.entries) c.in_ok-settle.ensures.settles.machine)
+    (entry_settled _ c.self.inside.openings c.settle.new.openings c.in-Some.at (ap (λ (m : ArrayState). m.entries) c.in-Ok.ensures.settles.machine)
     (entry_found c.args.tag c.self.inside.openings c.in-Some.at (sym c.position.ensures ∙ c.in-Some.is)).0).0
 
 pub close-requires-clause-at : goal.close-requires-clause-at
 close-requires-clause-at g c =
-    (entry_settled _ c.self.inside.openings c.settle.new.openings c.in-Some.at (ap (λ (m : ArrayState). m.entries) c.in_ok-settle.ensures.settles.machine)
+    (entry_settled _ c.self.inside.openings c.settle.new.openings c.in-Some.at (ap (λ (m : ArrayState). m.entries) c.in-Ok.ensures.settles.machine)
     (entry_found c.args.tag c.self.inside.openings c.in-Some.at (sym c.position.ensures ∙ c.in-Some.is)).0).0
 
 pub invariant_of-self-2 : goal.invariant_of-self-2
 invariant_of-self-2 g c =
-    let config = ap (λ (s : Stored _). s.noted.config) c.close.ensures.pins ∙ c.in_ok-settle.ensures.exits.tables.config in
+    let config = ap (λ (s : Stored _). s.noted.config) c.close.ensures.pins ∙ c.in-Ok.ensures.exits.tables.config in
     record {
       stands = c.close.ensures.stands;
       rule = ap (λ k. k.protocol) config ∙ c.self.invariant.rule;
-      page_bytes = ap (λ (o : OpenTable). o.page_bytes) c.close.ensures.gone ∙ c.in_ok-settle.ensures.limits.0 ∙ c.self.invariant.page_bytes ∙ ap (λ k. k.page_bytes) (sym config);
-      pending = ap (λ (o : OpenTable). o.pending) c.close.ensures.gone ∙ c.in_ok-settle.ensures.limits.1 ∙ c.self.invariant.pending ∙ ap (λ k. k.pending) (sym config);
+      page_bytes = ap (λ (o : OpenTable). o.page_bytes) c.close.ensures.gone ∙ c.in-Ok.ensures.limits.0 ∙ c.self.invariant.page_bytes ∙ ap (λ k. k.page_bytes) (sym config);
+      pending = ap (λ (o : OpenTable). o.pending) c.close.ensures.gone ∙ c.in-Ok.ensures.limits.1 ∙ c.self.invariant.pending ∙ ap (λ k. k.pending) (sym config);
     }
 
 pub returns-clause-aborts : goal.returns-clause-aborts
@@ -57,13 +57,13 @@ returns-clause-aborts g c =
     let state = g.F.Flash.state in
     let old = standing_in state c.self.inside.store c.self.inside.openings in
     let found = entry_found c.args.tag c.self.inside.openings c.in-Some.at (sym c.position.ensures ∙ c.in-Some.is) in
-    let at = entry_settled (is_there state old) c.self.inside.openings c.settle.new.openings c.in-Some.at (ap (λ (m : ArrayState). m.entries) c.in_ok-settle.ensures.settles.machine) found.0 in
+    let at = entry_settled (is_there state old) c.self.inside.openings c.settle.new.openings c.in-Some.at (ap (λ (m : ArrayState). m.entries) c.in-Ok.ensures.settles.machine) found.0 in
     let machine = closed_machine state c.settle.new.store c.close.new.store c.settle.new.openings c.close.new.openings c.in-Some.at c.close.ensures.pins c.close.ensures.gone
-    c.in_ok-settle.ensures.stands at.0 c.args.tag (found.2 ∙ sym (ap (λ e. e.tag) at.1)) in
+    c.in-Ok.ensures.stands at.0 c.args.tag (found.2 ∙ sym (ap (λ e. e.tag) at.1)) in
     subst (λ (s : Standing _). AbortsAs (is_there state s) s.machine (standing_in state c.close.new.store c.close.new.openings).machine c.args.tag (Ok c.match-mark.aborted)) c.self.view_is
     (abort_done (is_there state old) old.machine (standing_in state c.settle.new.store c.settle.new.openings).machine (standing_in state c.close.new.store c.close.new.openings).machine
     c.args.tag (opening_at c.self.inside.openings c.in-Some.at).entry (opening_at c.settle.new.openings c.in-Some.at).entry c.match-mark.aborted found.1
-    c.in_ok-settle.ensures.settles.machine at.1 machine
+    c.in-Ok.ensures.settles.machine at.1 machine
     (elim c.match-mark.branch [
       | in-Whole w ↦ inl (sym c.mark.ensures ∙ w.in-Whole.is, w.aborted-is)
       | in-Plain w ↦ inr ((λ e. not_whole c.mark.result w.in-Plain.is (c.mark.ensures ∙ e)), w.aborted-is)
@@ -74,7 +74,7 @@ returns-clause-exits g c =
     let state = g.F.Flash.state in
     subst (λ (s : Standing _). Exits state s (standing_in state c.close.new.store c.close.new.openings) _) c.self.view_is
     (exits_then state (standing_in state c.self.inside.store c.self.inside.openings) (standing_in state c.settle.new.store c.settle.new.openings)
-    (standing_in state c.close.new.store c.close.new.openings) _ refl refl c.in_ok-settle.ensures.exits
+    (standing_in state c.close.new.store c.close.new.openings) _ refl refl c.in-Ok.ensures.exits
     (closed_exits state c.settle.new.store c.close.new.store c.settle.new.openings c.close.new.openings c.in-Some.at c.close.ensures.pins c.close.ensures.gone))
 
 pub returns-clause-rises : goal.returns-clause-rises
@@ -83,47 +83,44 @@ returns-clause-rises g c =
     subst (λ (s : Standing _). VersionsRise s (standing_in state c.close.new.store c.close.new.openings) (settled_writes (is_there state s) s.machine)) c.self.view_is
     (let old = standing_in state c.self.inside.store c.self.inside.openings in
     rises_on old (standing_in state c.settle.new.store c.settle.new.openings) (standing_in state c.close.new.store c.close.new.openings)
-    (settled_writes (is_there state old) old.machine) c.in_ok-settle.ensures.settles.rises
+    (settled_writes (is_there state old) old.machine) c.in-Ok.ensures.settles.rises
     (closed_current state c.settle.new.store c.close.new.store c.settle.new.openings c.close.new.openings c.in-Some.at c.close.ensures.pins c.close.ensures.gone))
 
-pub returns-in_err-settle-clause-aborts : goal.returns-in_err-settle-clause-aborts
-returns-in_err-settle-clause-aborts g c =
+pub returns-in_default-settle-clause-aborts : goal.returns-in_default-settle-clause-aborts
+returns-in_default-settle-clause-aborts g c =
     let state = g.F.Flash.state in
     let old = standing_in state c.self.inside.store c.self.inside.openings in
     let found = entry_found c.args.tag c.self.inside.openings c.in-Some.at (sym c.position.ensures ∙ c.in-Some.is) in
     let new = (standing_in state c.settle.new.store c.settle.new.openings).machine in
-    subst (λ r. AbortsAs (is_there state c.args.self.now) c.args.self.now.machine new c.args.tag r) (sym (fault_is c.from_residual.result c.from_residual.ensures.1))
-    (subst (λ (s : Standing _). AbortsAs (is_there state s) s.machine new c.args.tag (Err failed.Fault)) c.self.view_is
+    subst (λ (s : Standing _). AbortsAs (is_there state s) s.machine new c.args.tag (Err failed.Fault)) c.self.view_is
     (abort_failed (is_there state old) old.machine new c.args.tag (opening_at c.self.inside.openings c.in-Some.at).entry found.1
     (failed_machine state c.self.inside.store c.settle.new.store c.self.inside.openings c.settle.new.openings
-    c.in_err-settle.ensures.failed.0 c.in_err-settle.ensures.failed.1 c.settle.ensures.moment)))
+    c.in_default-settle.ensures.failed.0 c.in_default-settle.ensures.failed.1 c.settle.ensures.moment))
 
 pub returns-clause-tables : goal.returns-clause-tables
 returns-clause-tables g c =
     let state = g.F.Flash.state in
     subst (λ (s : Standing _). HasTables (settlement_of state s) (standing_in state c.close.new.store c.close.new.openings)) c.self.view_is
     (has_tables state (settlement_of state (standing_in state c.self.inside.store c.self.inside.openings)) c.settle.new.store c.close.new.store c.close.new.openings
-    c.in_ok-settle.ensures.tables.0 c.in_ok-settle.ensures.tables.1 c.close.ensures.pins)
+    c.in-Ok.ensures.tables.0 c.in-Ok.ensures.tables.1 c.close.ensures.pins)
 
 pub returns-clause-reads : goal.returns-clause-reads
 returns-clause-reads g c =
     let state = g.F.Flash.state in
     subst (λ (s : Standing _). (state c.close.new.store.flash).reads ≡ reads_after (slots_read s.noted s.unsure) (state s.flash).reads) c.self.view_is
-    (ap (λ (s : Stored _). (state s.flash).reads) c.close.ensures.pins ∙ c.in_ok-settle.ensures.reads)
+    (ap (λ (s : Stored _). (state s.flash).reads) c.close.ensures.pins ∙ c.in-Ok.ensures.reads)
 
-pub returns-in_err-settle-clause-failed : goal.returns-in_err-settle-clause-failed
-returns-in_err-settle-clause-failed g c =
+pub returns-in_default-settle-clause-failed : goal.returns-in_default-settle-clause-failed
+returns-in_default-settle-clause-failed g c =
     let state = g.F.Flash.state in
     let new = standing_in state c.settle.new.store c.settle.new.openings in
-    subst (λ r. OnErr r (new ≡ record c.args.self.now { flash = new.flash })) (sym (fault_is c.from_residual.result c.from_residual.ensures.1))
-    (subst (λ (s : Standing _). new ≡ record s { flash = new.flash }) c.self.view_is
+    subst (λ (s : Standing _). new ≡ record s { flash = new.flash }) c.self.view_is
     (failed_stays state c.self.inside.store c.settle.new.store c.self.inside.openings c.settle.new.openings
-    c.in_err-settle.ensures.failed.0 c.in_err-settle.ensures.failed.1 c.settle.ensures.moment))
+    c.in_default-settle.ensures.failed.0 c.in_default-settle.ensures.failed.1 c.settle.ensures.moment)
 
-pub returns-in_err-settle-clause-first_failed : goal.returns-in_err-settle-clause-first_failed
-returns-in_err-settle-clause-first_failed g c =
+pub returns-in_default-settle-clause-first_failed : goal.returns-in_default-settle-clause-first_failed
+returns-in_default-settle-clause-first_failed g c =
     let state = g.F.Flash.state in
     let old = c.args.self.now in
-    subst (λ r. OnErr r (ReadsAtMost (slots_read old.noted old.unsure) (state old.flash).reads (state c.settle.new.store.flash).reads)) (sym (fault_is c.from_residual.result c.from_residual.ensures.1))
-    (subst (λ (s : Standing _). ReadsAtMost (slots_read s.noted s.unsure) (state s.flash).reads (state c.settle.new.store.flash).reads) c.self.view_is
-    c.in_err-settle.ensures.first_failed)
+    subst (λ (s : Standing _). ReadsAtMost (slots_read s.noted s.unsure) (state s.flash).reads (state c.settle.new.store.flash).reads) c.self.view_is
+    c.in_default-settle.ensures.first_failed

@@ -5,5 +5,5 @@ use Rattle.tx_engine.proofs.device.Device.arm_cut.Goals as goal
 
 pub invariant_of-self : goal.invariant_of-self
 invariant_of-self g c =
-    standing_same g.F.Flash.state g.R.CommitRule.kept c.self.inside c.arm_cut.new.self c.self.invariant c.arm_cut.ensures.stays
+    standing_same g.F.Flash.state g.R.CommitRule.protocol c.self.inside c.arm_cut.new.self c.self.invariant c.arm_cut.ensures.stays
     (ap (λ (s : FlashState). s.shape) c.arm_cut.ensures.arms.stays) (ap (λ (s : FlashState). s.image) c.arm_cut.ensures.arms.stays)

@@ -1,10 +1,11 @@
-use Rattle.std.proofs.Common.{◌≡◌, ap, sym, ◌∙◌, subst, refl, inr, Ok}
-use Rattle.std.specs.Prelude.{false}
+use Rattle.std.proofs.Common.{◌≡◌, ap, sym, ◌∙◌, subst, refl, inr, Ok, Err}
+use Rattle.std.specs.Prelude.{false, true}
 use Rattle.std.specs.Result.{is_err}
 use Rattle.tx_types.specs.declared.config.Config.{Config}
 use Rattle.collector.specs.Settling.{settlement}
 use Rattle.tx_engine.specs.Collections.{CollectsTables, HasNothingToCollect}
-use Rattle.tx_engine.specs.declared.collect.Collected.TheVariants.{Nothing}
+use Rattle.array_machine.specs.declared.answers.Collected.TheVariants.{Nothing}
+use Rattle.array_machine.specs.declared.answers.Fault.{Fault}
 use Rattle.tx_engine.specs.Exits.{Exits, VersionsRise, CollectRises, is_there, settled_writes}
 use Rattle.tx_engine.specs.OpenTable.{entries_of}
 use Rattle.tx_engine.specs.Standing.{Standing}
@@ -13,27 +14,27 @@ use Rattle.tx_engine.proofs.ExitsThen.{exits_then}
 use Rattle.tx_engine.proofs.Collecting.{settled_low, rises_stay, collects_from, collect_rises_err}
 use Rattle.tx_engine.proofs.device.Device.collect.Goals as goal
 
-pub returns-in_err-collect_settled-clause-exits : goal.returns-in_err-collect_settled-clause-exits
-returns-in_err-collect_settled-clause-exits g c =
+pub returns-in_default-collect_settled-clause-exits : goal.returns-in_default-collect_settled-clause-exits
+returns-in_default-collect_settled-clause-exits g c =
     let state = g.F.Flash.state in
     let new = standing_in state c.collect_settled.new.store c.settle.new.openings in
-    subst (λ (s : Standing _). Exits state s new (is_err c.from_residual-in_err-collect_settled.result)) c.self.view_is
-    (exits_then state (standing_in state c.self.inside.store c.self.inside.openings) (standing_in state c.settle.new.store c.settle.new.openings) new (is_err c.from_residual-in_err-collect_settled.result) refl refl
-    c.in_ok-settle.ensures.exits (subst (Exits state (standing_in state c.settle.new.store c.settle.new.openings) new) (sym c.from_residual-in_err-collect_settled.ensures.0) c.in_err-collect_settled.ensures.left.exits))
+    subst (λ (s : Standing _). Exits state s new true) c.self.view_is
+    (exits_then state (standing_in state c.self.inside.store c.self.inside.openings) (standing_in state c.settle.new.store c.settle.new.openings) new true refl refl
+    c.in-Ok.ensures.exits c.in_default-collect_settled.ensures.left.exits)
 
-pub returns-in_err-collect_settled-clause-rises : goal.returns-in_err-collect_settled-clause-rises
-returns-in_err-collect_settled-clause-rises g c =
+pub returns-in_default-collect_settled-clause-rises : goal.returns-in_default-collect_settled-clause-rises
+returns-in_default-collect_settled-clause-rises g c =
     let state = g.F.Flash.state in
     let old = standing_in state c.self.inside.store c.self.inside.openings in
     let mid = standing_in state c.settle.new.store c.settle.new.openings in
     let new = standing_in state c.collect_settled.new.store c.settle.new.openings in
     let there = is_there state old in
-    subst (λ (s : Standing _). CollectRises (is_there state s) s new c.from_residual-in_err-collect_settled.result) c.self.view_is
-    (collect_rises_err there old new c.from_residual-in_err-collect_settled.result c.from_residual-in_err-collect_settled.ensures.0
+    subst (λ (s : Standing _). CollectRises (is_there state s) s new (Err (record {}))) c.self.view_is
+    (collect_rises_err there old new (Err (record {})) refl
     (inr (
-      ap (λ m. m.pages) (c.in_err-collect_settled.ensures.left.machine ∙ c.in_ok-settle.ensures.settles.machine),
-      rises_stay old mid new (settled_writes there old.machine) c.in_ok-settle.ensures.exits.tables.config
-          (settled_low state c.self.inside.store c.self.inside.openings there c.self.invariant.stands) c.in_ok-settle.ensures.settles.rises c.in_err-collect_settled.ensures.left.versions,
+      ap (λ m. m.pages) (c.in_default-collect_settled.ensures.left.machine ∙ c.in-Ok.ensures.settles.machine),
+      rises_stay old mid new (settled_writes there old.machine) c.in-Ok.ensures.exits.tables.config
+          (settled_low state c.self.inside.store c.self.inside.openings there c.self.invariant.stands) c.in-Ok.ensures.settles.rises c.in_default-collect_settled.ensures.left.versions,
     )))
 
 pub returns-clause-exits : goal.returns-clause-exits
@@ -42,7 +43,7 @@ returns-clause-exits g c =
     let new = standing_in state c.collect_settled.new.store c.settle.new.openings in
     subst (λ (s : Standing _). Exits state s new false) c.self.view_is
     (exits_then state (standing_in state c.self.inside.store c.self.inside.openings) (standing_in state c.settle.new.store c.settle.new.openings) new false refl refl
-    c.in_ok-settle.ensures.exits c.in_ok-collect_settled.ensures.left.exits)
+    c.in-Ok.ensures.exits c.in-Ok-collect_settled.ensures.left.exits)
 
 pub returns-clause-rises : goal.returns-clause-rises
 returns-clause-rises g c =
@@ -52,8 +53,8 @@ returns-clause-rises g c =
     let new = standing_in state c.collect_settled.new.store c.settle.new.openings in
     let there = is_there state old in
     subst (λ (s : Standing _). VersionsRise s new (settled_writes (is_there state s) s.machine)) c.self.view_is
-    (rises_stay old mid new (settled_writes there old.machine) c.in_ok-settle.ensures.exits.tables.config
-    (settled_low state c.self.inside.store c.self.inside.openings there c.self.invariant.stands) c.in_ok-settle.ensures.settles.rises c.in_ok-collect_settled.ensures.left.versions)
+    (rises_stay old mid new (settled_writes there old.machine) c.in-Ok.ensures.exits.tables.config
+    (settled_low state c.self.inside.store c.self.inside.openings there c.self.invariant.stands) c.in-Ok.ensures.settles.rises c.in-Ok-collect_settled.ensures.left.versions)
 
 pub returns-clause-tables : goal.returns-clause-tables
 returns-clause-tables g c =
@@ -61,19 +62,19 @@ returns-clause-tables g c =
     let new = c.collect_settled.new.store in
     subst (λ (s : Standing _).
     let found = settlement s.noted s.table (state s.flash).image s.unsure in
-    CollectsTables (state s.flash) (state new.flash) found.noted new.noted found.table new.table c.in_ok-collect_settled.field-0) c.self.view_is
+    CollectsTables (state s.flash) (state new.flash) found.noted new.noted found.table new.table c.in-Ok-collect_settled.collected) c.self.view_is
     (let old = c.self.inside.store in
     let found = settlement old.noted old.table (state old.flash).image old.unsure in
     let mid = c.settle.new.store in
-    collects_from (state old.flash) (state mid.flash) (state new.flash) found.noted mid.noted new.noted found.table mid.table new.table c.in_ok-collect_settled.field-0
-    c.settle.ensures.moment c.in_ok-settle.ensures.exits.carries.shape c.in_ok-settle.ensures.tables.0 c.in_ok-settle.ensures.tables.1 c.in_ok-collect_settled.ensures.tables)
+    collects_from (state old.flash) (state mid.flash) (state new.flash) found.noted mid.noted new.noted found.table mid.table new.table c.in-Ok-collect_settled.collected
+    c.settle.ensures.moment c.in-Ok.ensures.exits.carries.shape c.in-Ok.ensures.tables.0 c.in-Ok.ensures.tables.1 c.in-Ok-collect_settled.ensures.tables)
 
 pub returns-clause-nothing : goal.returns-clause-nothing
 returns-clause-nothing g c = λ is.
     let state = g.F.Flash.state in
     let new = c.collect_settled.new.store in
-    let same : Ok c.in_ok-collect_settled.field-0 ≡ Ok Nothing = (let its : c.in_ok-collect_settled.field-0 ≡ Nothing = cc in ap (λ x. Ok x) its) in
-    let nothing = c.in_ok-collect_settled.ensures.nothing same in
-    let config : new.noted.config ≡ c.self.inside.store.noted.config = c.in_ok-collect_settled.ensures.left.exits.tables.config ∙ c.in_ok-settle.ensures.exits.tables.config in
+    let same : Ok c.in-Ok-collect_settled.collected ≡ Ok Nothing = (let its : c.in-Ok-collect_settled.collected ≡ Nothing = cc in ap (λ x. Ok x) its) in
+    let nothing = c.in-Ok-collect_settled.ensures.nothing same in
+    let config : new.noted.config ≡ c.self.inside.store.noted.config = c.in-Ok-collect_settled.ensures.left.exits.tables.config ∙ c.in-Ok.ensures.exits.tables.config in
     subst (λ (s : Standing _). HasNothingToCollect s.config.protocol s.config.logical (state new.flash).image (entries_of c.settle.new.openings)) c.self.view_is
     (subst (λ (k : Config). HasNothingToCollect k.protocol k.logical (state new.flash).image (entries_of c.settle.new.openings)) config nothing)

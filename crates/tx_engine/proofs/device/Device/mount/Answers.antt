@@ -9,13 +9,13 @@ pub invariant_of-result : goal.invariant_of-result
 invariant_of-result g c =
     let store = c.in_ok-store.store in
     let is : c.in-Ok.openings ≡ empty_table store.noted.config = c.in-Ok.ensures ∙ ap empty_table c.config-known.ensures.config in
-    subst (λ (t : OpenTable). IsStanding {F = g.row.F.Denot} {R = g.row.R.Denot} g.F.Flash.state g.R.CommitRule.kept (record { store = store; openings = t })) (sym is)
-    (opened_stands g.F.Flash.state g.R.CommitRule.kept c.args.flash c.args.config store c.in_ok-store.ensures.opened c.in_ok-store.ensures.stored)
+    subst (λ (t : OpenTable). IsStanding {F = g.row.F.Denot} {R = g.row.R.Denot} g.F.Flash.state g.R.CommitRule.protocol (record { store = store; openings = t })) (sym is)
+    (opened_stands g.F.Flash.state g.R.CommitRule.protocol c.args.flash c.args.config store c.in_ok-store.ensures.opened c.in_ok-store.ensures.stored)
 
 pub returns-in-Ok-clause-mounted : goal.returns-in-Ok-clause-mounted
 returns-in-Ok-clause-mounted g c =
     let store = c.in_ok-store.store in
     let is : c.in-Ok.openings ≡ empty_table store.noted.config = c.in-Ok.ensures ∙ ap empty_table c.config-known.ensures.config in
     subst (λ (t : OpenTable). Mounts g.F.Flash.state c.args.flash c.args.config (standing_in g.F.Flash.state store t)) (sym is)
-    (opened_mounts g.F.Flash.state g.R.CommitRule.kept c.args.flash c.args.config store c.in_ok-store.ensures.opened c.in_ok-store.ensures.stored
+    (opened_mounts g.F.Flash.state g.R.CommitRule.protocol c.args.flash c.args.config store c.in_ok-store.ensures.opened c.in_ok-store.ensures.stored
     (record { matches = c.images_stand.ensures.matches; records = c.images_stand.ensures.records; array = c.images_stand.ensures.array; preserves = c.images_stand.ensures.preserves }))

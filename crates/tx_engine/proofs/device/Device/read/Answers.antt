@@ -9,7 +9,7 @@ use Rattle.tx_engine.proofs.device.Device.read.Goals.{in-Ok-true, in-Ok-false, i
 pub invariant_of-self : goal.invariant_of-self
 invariant_of-self g c =
     let same = read_same g.F.Flash.state c.self.inside.store c.read.new.self c.args.page c.args.into.now c.read.new.into c.read.result c.read.ensures.reads in
-    standing_same g.F.Flash.state g.R.CommitRule.kept c.self.inside c.read.new.self c.self.invariant c.read.ensures.stays same.0 same.1
+    standing_same g.F.Flash.state g.R.CommitRule.protocol c.self.inside c.read.new.self c.self.invariant c.read.ensures.stays same.0 same.1
 
 pub returns-clause-reads : goal.returns-clause-reads
 returns-clause-reads g c =

@@ -6,7 +6,7 @@ use Rattle.tx_engine.specs.OpenTable.{entries_of, begun}
 use Rattle.tx_engine.specs.Standing.{Standing, limits_of}
 use Rattle.tx_engine.specs.Submit.{Submits, spent_page}
 use Rattle.tx_engine.specs.Tables.{standing_in}
-use Rattle.tx_engine.proofs.Accepting.{accepted}
+use Rattle.array_machine.proofs.Accepting.{accepted}
 use Rattle.tx_engine.proofs.Submitted.{standing_then, machine_then}
 use Rattle.tx_engine.proofs.Submitting.{some_each, version_left, submits, not_refused}
 use Rattle.tx_engine.proofs.device.Device.submit.Goals as goal
@@ -57,7 +57,7 @@ invariant_of-self g c =
     c.config-logical.ensures.config c.self.invariant.pending c.refusal.ensures c.in_default.is in
     let second : spent_page (is_spent n.mentions) c.args.batch.now.entries ≡ None = sym c.spent.ensures ∙ c.in_default-spent.is in
     let opens = c.open.ensures ∙ ap (λ (m : Noted). record t { all = t.all ++ begun m c.args.tag c.args.batch.now.entries ∷ [] }) c.index.ensures in
-    standing_then g.F.Flash.state g.R.CommitRule.kept c.self.inside c.self.invariant c.args.tag c.args.batch.now.entries
+    standing_then g.F.Flash.state g.R.CommitRule.protocol c.self.inside c.self.invariant c.args.tag c.args.batch.now.entries
     (accepted (limits_of n.config) (entries_of t) c.args.tag c.args.batch.now.entries first)
     (version_left n.mentions c.args.batch.now.entries second)
     c.pin_all.new.self c.pin_all.ensures.stored c.pin_all.ensures.pinned c.open.new.self c.count-open.ensures.kept opens
@@ -70,7 +70,7 @@ returns-clause-submits g c =
     c.config-logical.ensures.config c.self.invariant.pending c.refusal.ensures c.in_default.is in
     let second : spent_page (is_spent n.mentions) c.args.batch.now.entries ≡ None = sym c.spent.ensures ∙ c.in_default-spent.is in
     let opens = c.open.ensures ∙ ap (λ (m : Noted). record t { all = t.all ++ begun m c.args.tag c.args.batch.now.entries ∷ [] }) c.index.ensures in
-    let machine = machine_then g.F.Flash.state g.R.CommitRule.kept c.self.inside c.self.invariant c.args.tag c.args.batch.now.entries
+    let machine = machine_then g.F.Flash.state g.R.CommitRule.protocol c.self.inside c.self.invariant c.args.tag c.args.batch.now.entries
     (accepted (limits_of n.config) (entries_of t) c.args.tag c.args.batch.now.entries first)
     (version_left n.mentions c.args.batch.now.entries second)
     c.pin_all.new.self c.pin_all.ensures.stored c.pin_all.ensures.pinned c.open.new.self c.count-open.ensures.kept opens in

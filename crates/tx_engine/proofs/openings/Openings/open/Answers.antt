@@ -1,5 +1,5 @@
 use Rattle.std.proofs.Common.{refl, arith}
-use Rattle.tx_engine.specs.declared.mark.Mark.TheVariants.{Plain}
+use Rattle.array_machine.specs.declared.mark.Mark.TheVariants.{Plain}
 use Rattle.tx_engine.proofs.OpenTests.{pages_of_openings, length-le-pages}
 use Rattle.tx_engine.proofs.OpenChanges.{IsTakenIn, kept_after_opening, table_after_opening}
 use Rattle.tx_engine.proofs.openings.Openings.open.Goals as goal
@@ -19,7 +19,7 @@ unwrap-requires g c =
 
 taken_in : (g : _) (c : goal.After-unwrap g) → IsTakenIn c.args.index.now c.self.inside
     (record c.self.inside { opened = c.push.new.self; pages = c.hold_pages.new.pages; rooms = c.hold_pages.new.rooms })
-    c.args.batch.now (record { tag = c.args.tag; pages = c.len-pages.result; done = 0; there = 0; mark = Plain }) c.hold_pages.ensures.0
+    c.args.batch.now (record { tag = c.args.tag; pages = c.len-pages.result; done = 0; noted_count = 0; mark = Plain }) c.hold_pages.ensures.0
 taken_in g c = record {
   page_bytes = refl;
   pending = refl;

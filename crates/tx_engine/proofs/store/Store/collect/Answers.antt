@@ -26,7 +26,7 @@ returns-in_err-collect-clause-keeps g c =
     let s2 = g.F.Flash.state c.collect.new.flash in
     rw (← c.self.view_is) (record {
       preserves = Preserves-then c.self.inside.index c.clean_spare.new.index c.collect.new.index first.preserves second.preserves;
-      array = array_then g.R.CommitRule.kept c.self.inside.index c.clean_spare.new.index c.self.invariant.stored.rule first.preserves.config s.image s1.image s2.image first.array second.array;
+      array = array_then g.R.CommitRule.protocol c.self.inside.index c.clean_spare.new.index c.self.invariant.stored.rule first.preserves.config s.image s1.image s2.image first.array second.array;
       moves = subst (FlashMoves s s2) (sym c.from_residual-in_err-collect.ensures.0) (FlashMoves-then s s1 s2 true first.carries.shape first.moves second.moves);
       carries = subst (Carries s s2) (sym c.from_residual-in_err-collect.ensures.0) (Carries-then s s1 s2 true first.carries second.carries);
     })
@@ -52,7 +52,7 @@ returns-clause-keeps g c =
     let s2 = g.F.Flash.state c.collect.new.flash in
     rw (← c.self.view_is) (record {
       preserves = Preserves-then c.self.inside.index c.clean_spare.new.index c.collect.new.index first.preserves second.preserves;
-      array = array_then g.R.CommitRule.kept c.self.inside.index c.clean_spare.new.index c.self.invariant.stored.rule first.preserves.config s.image s1.image s2.image first.array second.array;
+      array = array_then g.R.CommitRule.protocol c.self.inside.index c.clean_spare.new.index c.self.invariant.stored.rule first.preserves.config s.image s1.image s2.image first.array second.array;
       moves = FlashMoves-then s s1 s2 false first.carries.shape first.moves second.moves;
       carries = Carries-then s s1 s2 false first.carries second.carries;
     })

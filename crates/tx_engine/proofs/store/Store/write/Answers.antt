@@ -19,7 +19,7 @@ program-requires-clause-blank g c =
 pub invariant_of-self : goal.invariant_of-self
 invariant_of-self g c = record {
   stored = record {
-    matches = torn_matches g.R.CommitRule.kept g.met.R.CommitRule.partial_write g.met.R.CommitRule.completing_write g.met.R.CommitRule.written_partial_write g.met.R.CommitRule.written_completing_write
+    matches = torn_matches g.R.CommitRule.protocol g.met.R.CommitRule.partial_write g.met.R.CommitRule.completing_write g.met.R.CommitRule.written_partial_write g.met.R.CommitRule.written_completing_write
         (g.F.Flash.state c.self.inside.flash) (g.F.Flash.state c.program.new.self) c.self.inside.index c.self.inside.blocks c.self.inside.unsure
         c.self.invariant.stored.rule (rw (← c.self.view_is) at c.requires.nothing) c.self.invariant.stored.matches
         c.args.at c.args.rec (rw (← c.self.view_is) at c.requires.free.free) (rw (← c.self.view_is) at c.requires.own) (rw (← c.self.view_is) at c.requires.spelled)
@@ -35,13 +35,13 @@ returns-in-Err-clause-broken g c = rw (← c.self.view_is) (record {
   noted = refl;
   table = refl;
   unsure = refl;
-  slot = torn_slot g.R.CommitRule.kept g.met.R.CommitRule.partial_write g.met.R.CommitRule.completing_write g.met.R.CommitRule.written_partial_write g.met.R.CommitRule.written_completing_write
+  slot = torn_slot g.R.CommitRule.protocol g.met.R.CommitRule.partial_write g.met.R.CommitRule.completing_write g.met.R.CommitRule.written_partial_write g.met.R.CommitRule.written_completing_write
       (g.F.Flash.state c.self.inside.flash) (g.F.Flash.state c.program.new.self) c.self.inside.index c.self.inside.blocks c.self.inside.unsure
       c.self.invariant.stored.rule (rw (← c.self.view_is) at c.requires.nothing) c.self.invariant.stored.matches
       c.args.at c.args.rec (rw (← c.self.view_is) at c.requires.free.free) (rw (← c.self.view_is) at c.requires.own) (rw (← c.self.view_is) at c.requires.spelled)
       c.args.bytes.now c.write_spare.new.into (rw (← c.self.view_is) at c.requires.page)
       (c.write_spare.ensures ∙ ap (λ (x : Config). spelling x.protocol c.args.rec) c.config.ensures.config) c.program.result c.program.ensures c.in-Err.broken c.in-Err.is;
-  stay = torn_stay g.R.CommitRule.kept g.met.R.CommitRule.partial_write g.met.R.CommitRule.completing_write g.met.R.CommitRule.written_partial_write g.met.R.CommitRule.written_completing_write
+  stay = torn_stay g.R.CommitRule.protocol g.met.R.CommitRule.partial_write g.met.R.CommitRule.completing_write g.met.R.CommitRule.written_partial_write g.met.R.CommitRule.written_completing_write
       (g.F.Flash.state c.self.inside.flash) (g.F.Flash.state c.program.new.self) c.self.inside.index c.self.inside.blocks c.self.inside.unsure
       c.self.invariant.stored.rule (rw (← c.self.view_is) at c.requires.nothing) c.self.invariant.stored.matches
       c.args.at c.args.rec (rw (← c.self.view_is) at c.requires.free.free) (rw (← c.self.view_is) at c.requires.own) (rw (← c.self.view_is) at c.requires.spelled)
@@ -51,7 +51,7 @@ returns-in-Err-clause-broken g c = rw (← c.self.view_is) (record {
 
 pub returns-in-Err-clause-moves : goal.returns-in-Err-clause-moves
 returns-in-Err-clause-moves g c =
-    let moves = program_moves g.R.CommitRule.kept g.met.R.CommitRule.partial_write g.met.R.CommitRule.completing_write g.met.R.CommitRule.written_partial_write g.met.R.CommitRule.written_completing_write
+    let moves = program_moves g.R.CommitRule.protocol g.met.R.CommitRule.partial_write g.met.R.CommitRule.completing_write g.met.R.CommitRule.written_partial_write g.met.R.CommitRule.written_completing_write
     (g.F.Flash.state c.self.inside.flash) (g.F.Flash.state c.program.new.self) c.self.inside.index c.self.inside.blocks c.self.inside.unsure
     c.self.invariant.stored.rule (rw (← c.self.view_is) at c.requires.nothing) c.self.invariant.stored.matches
     c.args.at c.args.rec (rw (← c.self.view_is) at c.requires.free.free) (rw (← c.self.view_is) at c.requires.own) (rw (← c.self.view_is) at c.requires.spelled)
@@ -65,7 +65,7 @@ note_program-requires-clause-blank g c = c.self.invariant.stored.matches.free c.
 pub invariant_of-self-2 : goal.invariant_of-self-2
 invariant_of-self-2 g c = record {
   stored = record {
-    matches = done_matches g.R.CommitRule.kept g.met.R.CommitRule.partial_write g.met.R.CommitRule.completing_write g.met.R.CommitRule.written_partial_write g.met.R.CommitRule.written_completing_write
+    matches = done_matches g.R.CommitRule.protocol g.met.R.CommitRule.partial_write g.met.R.CommitRule.completing_write g.met.R.CommitRule.written_partial_write g.met.R.CommitRule.written_completing_write
         (g.F.Flash.state c.self.inside.flash) (g.F.Flash.state c.program.new.self) c.self.inside.index c.self.inside.blocks c.self.inside.unsure
         c.self.invariant.stored.rule (rw (← c.self.view_is) at c.requires.nothing) c.self.invariant.stored.matches
         c.args.at c.args.rec (rw (← c.self.view_is) at c.requires.free.free) (rw (← c.self.view_is) at c.requires.own) (rw (← c.self.view_is) at c.requires.spelled)
@@ -82,25 +82,25 @@ returns-clause-written g c = rw (← c.self.view_is) (record {
   noted = c.note_program.ensures;
   table = c.note_used.ensures.used;
   unsure = rw (← c.self.view_is) at c.requires.nothing;
-  image = done_image g.R.CommitRule.kept g.met.R.CommitRule.partial_write g.met.R.CommitRule.completing_write g.met.R.CommitRule.written_partial_write g.met.R.CommitRule.written_completing_write
+  image = done_image g.R.CommitRule.protocol g.met.R.CommitRule.partial_write g.met.R.CommitRule.completing_write g.met.R.CommitRule.written_partial_write g.met.R.CommitRule.written_completing_write
       (g.F.Flash.state c.self.inside.flash) (g.F.Flash.state c.program.new.self) c.self.inside.index c.self.inside.blocks c.self.inside.unsure
       c.self.invariant.stored.rule (rw (← c.self.view_is) at c.requires.nothing) c.self.invariant.stored.matches
       c.args.at c.args.rec (rw (← c.self.view_is) at c.requires.free.free) (rw (← c.self.view_is) at c.requires.own) (rw (← c.self.view_is) at c.requires.spelled)
       c.args.bytes.now c.write_spare.new.into (rw (← c.self.view_is) at c.requires.page)
       (c.write_spare.ensures ∙ ap (λ (x : Config). spelling x.protocol c.args.rec) c.config.ensures.config) c.program.result c.program.ensures c.in_default.field-0 c.in_default.is;
-  does = done_does g.R.CommitRule.kept g.met.R.CommitRule.partial_write g.met.R.CommitRule.completing_write g.met.R.CommitRule.written_partial_write g.met.R.CommitRule.written_completing_write
+  does = done_does g.R.CommitRule.protocol g.met.R.CommitRule.partial_write g.met.R.CommitRule.completing_write g.met.R.CommitRule.written_partial_write g.met.R.CommitRule.written_completing_write
       (g.F.Flash.state c.self.inside.flash) (g.F.Flash.state c.program.new.self) c.self.inside.index c.self.inside.blocks c.self.inside.unsure
       c.self.invariant.stored.rule (rw (← c.self.view_is) at c.requires.nothing) c.self.invariant.stored.matches
       c.args.at c.args.rec (rw (← c.self.view_is) at c.requires.free.free) (rw (← c.self.view_is) at c.requires.own) (rw (← c.self.view_is) at c.requires.spelled)
       c.args.bytes.now c.write_spare.new.into (rw (← c.self.view_is) at c.requires.page)
       (c.write_spare.ensures ∙ ap (λ (x : Config). spelling x.protocol c.args.rec) c.config.ensures.config) c.program.result c.program.ensures c.in_default.field-0 c.in_default.is;
-  stay = done_stay g.R.CommitRule.kept g.met.R.CommitRule.partial_write g.met.R.CommitRule.completing_write g.met.R.CommitRule.written_partial_write g.met.R.CommitRule.written_completing_write
+  stay = done_stay g.R.CommitRule.protocol g.met.R.CommitRule.partial_write g.met.R.CommitRule.completing_write g.met.R.CommitRule.written_partial_write g.met.R.CommitRule.written_completing_write
       (g.F.Flash.state c.self.inside.flash) (g.F.Flash.state c.program.new.self) c.self.inside.index c.self.inside.blocks c.self.inside.unsure
       c.self.invariant.stored.rule (rw (← c.self.view_is) at c.requires.nothing) c.self.invariant.stored.matches
       c.args.at c.args.rec (rw (← c.self.view_is) at c.requires.free.free) (rw (← c.self.view_is) at c.requires.own) (rw (← c.self.view_is) at c.requires.spelled)
       c.args.bytes.now c.write_spare.new.into (rw (← c.self.view_is) at c.requires.page)
       (c.write_spare.ensures ∙ ap (λ (x : Config). spelling x.protocol c.args.rec) c.config.ensures.config) c.program.result c.program.ensures c.in_default.field-0 c.in_default.is;
-  come = done_come g.R.CommitRule.kept g.met.R.CommitRule.partial_write g.met.R.CommitRule.completing_write g.met.R.CommitRule.written_partial_write g.met.R.CommitRule.written_completing_write
+  come = done_come g.R.CommitRule.protocol g.met.R.CommitRule.partial_write g.met.R.CommitRule.completing_write g.met.R.CommitRule.written_partial_write g.met.R.CommitRule.written_completing_write
       (g.F.Flash.state c.self.inside.flash) (g.F.Flash.state c.program.new.self) c.self.inside.index c.self.inside.blocks c.self.inside.unsure
       c.self.invariant.stored.rule (rw (← c.self.view_is) at c.requires.nothing) c.self.invariant.stored.matches
       c.args.at c.args.rec (rw (← c.self.view_is) at c.requires.free.free) (rw (← c.self.view_is) at c.requires.own) (rw (← c.self.view_is) at c.requires.spelled)
@@ -110,7 +110,7 @@ returns-clause-written g c = rw (← c.self.view_is) (record {
 
 pub returns-clause-moves : goal.returns-clause-moves
 returns-clause-moves g c =
-    let moves = program_moves g.R.CommitRule.kept g.met.R.CommitRule.partial_write g.met.R.CommitRule.completing_write g.met.R.CommitRule.written_partial_write g.met.R.CommitRule.written_completing_write
+    let moves = program_moves g.R.CommitRule.protocol g.met.R.CommitRule.partial_write g.met.R.CommitRule.completing_write g.met.R.CommitRule.written_partial_write g.met.R.CommitRule.written_completing_write
     (g.F.Flash.state c.self.inside.flash) (g.F.Flash.state c.program.new.self) c.self.inside.index c.self.inside.blocks c.self.inside.unsure
     c.self.invariant.stored.rule (rw (← c.self.view_is) at c.requires.nothing) c.self.invariant.stored.matches
     c.args.at c.args.rec (rw (← c.self.view_is) at c.requires.free.free) (rw (← c.self.view_is) at c.requires.own) (rw (← c.self.view_is) at c.requires.spelled)

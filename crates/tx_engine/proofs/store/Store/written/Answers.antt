@@ -17,11 +17,11 @@ loop-page-preserved g c =
     let array = c.known_images_stand.ensures.array s n c.args.self.now.table c.args.self.now.unsure stored.matches stored.rule in
     elim c.if-version-ne0.branch [
       | then-version-ne0 w ↦ (
-          let more = count_some g.R.CommitRule.kept s n c.args.self.now.table c.args.self.now.unsure stored.matches stored.rule notes array page within
+          let more = count_some g.R.CommitRule.protocol s n c.args.self.now.table c.args.self.now.unsure stored.matches stored.rule notes array page within
           (λ none. w.if-version-ne0.true (c.version.ensures ∙ none)) in
           (w.count-is ∙ ap (λ k. k + 1) c.loop-page.invariant.0 ∙ sym more, omega (arith, c.loop-page.invariant.1, w.count-is)))
       | else-version-ne0 w ↦ (
-          let more = count_none g.R.CommitRule.kept s n c.args.self.now.table c.args.self.now.unsure stored.matches stored.rule notes array page within
+          let more = count_none g.R.CommitRule.protocol s n c.args.self.now.table c.args.self.now.unsure stored.matches stored.rule notes array page within
           (sym c.version.ensures ∙ w.if-version-ne0.false) in
           (omega (arith, w.count-is, c.loop-page.invariant.0, more), omega (arith, c.loop-page.invariant.1, w.count-is)))
     ]

@@ -1,0 +1,16 @@
+pub mod Accepting
+pub mod UnbrokenCalls
+pub mod Finishes
+pub mod Ways
+pub mod Taking
+pub mod Apart
+pub mod Changes
+pub mod AtOnce
+pub mod Atomic
+pub mod Closed
+pub mod Unbroken
+pub mod Quiet
+pub mod Doubts
+pub mod Leaving
+pub mod Clinging
+pub mod AbortLaws

@@ -1,0 +1,10 @@
+pub mod ArrayState
+pub mod Submit
+pub mod Read
+pub mod Step
+pub mod Collect
+pub mod UnbrokenCalls
+pub mod Run
+pub mod Promises
+pub mod Breaks
+pub mod Unbroken

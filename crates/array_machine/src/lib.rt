@@ -1,0 +1,12 @@
+//! The array machine: pages, and transactions that change all their pages at once. It is what the product promises to a
+//! host, and knows nothing of a flash. Its definitions stand in `specs/`, and what holds of all its runs in `laws`.
+#![tactic(auto)]
+
+mod answers;
+pub mod laws;
+mod mark;
+
+pub use answers::{
+    Aborted, Collected, Fault, Progress, ReadAnswer, ReadError, StepError, SubmitError,
+};
+pub use mark::Mark;

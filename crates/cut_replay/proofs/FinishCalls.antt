@@ -1,0 +1,87 @@
+-- Steps of a device, one after another, up to the end of a transaction.
+use Rattle.std.proofs.Common.{◌≡◌, ◌≢◌, ℕ, ◌<◌, Bool, [], ◌∷◌, Result, refl, sym, ◌∙◌, subst, inl, inr, arith}
+use Rattle.tx_types.specs.declared.config.Config.{Config}
+use Rattle.tx_types.specs.Config.{shape_of}
+use Rattle.flash_model.specs.Flash.{FlashState}
+use Rattle.flash_model.specs.Moves.{Moves}
+use Rattle.flash_model.specs.Operations.{moment_of}
+use Rattle.flash_model.proofs.CallLemmas.{Carries-then}
+use Rattle.flash_model.proofs.MoveLemmas.{Moves-then}
+use Rattle.version_index.specs.Images.{array_in}
+use Rattle.array_machine.specs.ArrayState.{idle}
+use Rattle.tx_engine.specs.Exits.{VersionsTell}
+use Rattle.tx_engine.specs.Standing.{Standing}
+use Rattle.array_machine.specs.Step.{Steps}
+use Rattle.array_machine.specs.declared.answers.Progress.{Progress}
+use Rattle.array_machine.specs.declared.answers.StepError.{StepError}
+use Rattle.array_machine.proofs.UnbrokenCalls.{again}
+use Rattle.host_protocol.specs.declared.command.Command.TheVariants as command
+use Rattle.host_protocol.specs.declared.reply.Reply.{Reply}
+use Rattle.host_protocol.specs.declared.reply.Reply.TheVariants as reply
+use Rattle.array_machine.specs.Run.{pages_left, step_reply, is_break}
+use Rattle.cut_replay.specs.FlashRun.{Point, Tells, is_fault}
+use Rattle.cut_replay.specs.Mounted.{point_at, ServesHere}
+use Rattle.cut_replay.proofs.Single.{step_tells}
+use Rattle.array_machine.proofs.Finishes.{told_wrote, step_writes, fewer_left, cut_before, at_last, ends}
+
+pub last_serves : {F : Type 0} (state : F → FlashState) (old new : Standing F) (tag : ℕ) (r : Reply) → ((own done all : ℕ) → r ≢ reply.Wrote own done all) →
+    ServesHere state (command.Step tag) old new r → ServesHere state (command.Finish tag) old new r
+last_serves state old new tag r last h = record {
+  config = h.config;
+  does = ([], h.does.0, ends old.machine new.machine tag r h.does.0 last h.does.2 h.does.1, h.does.2);
+  moves = record { moves = h.moves.moves; still = λ still. cc };
+  carries = h.carries;
+  tells = h.tells;
+  sure = h.sure;
+  seen = h.seen;
+  versions = h.versions;
+  cut = λ fault. record { may = tt; leaves = at_last tag old.machine (idle (array_in new.config.protocol new.config.logical (state new.flash).image)) (h.cut fault).leaves };
+  whole = h.whole;
+}
+
+-- One step more before
+versions_then : {F : Type 0} (old mid new : Standing F) → mid.config ≡ old.config → VersionsTell old mid → VersionsTell mid new → VersionsTell old new
+versions_then old mid new same first second page lt = elim (first page lt) [
+  | inl rose ↦ elim (second page (subst (λ (c : Config). page < c.logical) (sym same) lt)) [
+    | inl more ↦ inl (omega arith)
+    | inr stays ↦ (let still = stays.0 in inl (omega arith))
+  ]
+  | inr stays ↦ elim (second page (subst (λ (c : Config). page < c.logical) (sym same) lt)) [
+    | inl more ↦ (let still = stays.0 in inl (omega arith))
+    | inr again ↦ inr (again.0 ∙ stays.0, again.1 ∙ stays.1)
+  ]
+]
+
+finish_tells : (its : Config) (faulted : Bool) (old new : Point) (tag : ℕ) (r : Reply) (result : Result Progress StepError) → r ≡ step_reply tag result → Tells its faulted old r new
+finish_tells its faulted old new tag r result told = subst (λ (q : Reply). Tells its faulted old q new) (sym told) (step_tells its faulted old new tag result)
+
+pub wrote_serves : {F : Type 0} (state : F → FlashState) (old mid new : Standing F) (own tag done all : ℕ) (r : Reply) →
+    ServesHere state (command.Step tag) old mid (reply.Wrote own done all) → ServesHere state (command.Finish tag) mid new r → ServesHere state (command.Finish tag) old new r
+wrote_serves state old mid new own tag done all r first rest =
+    let told = told_wrote own tag done all first.does.0 first.does.2 in
+    let w = step_writes old.machine mid.machine own tag done all first.does.0 first.does.1 first.does.2 in
+    record {
+      config = rest.config ∙ first.config;
+      does = (mid.machine ∷ rest.does.0, rest.does.1, (done, all, subst (λ (x : Result Progress StepError). Steps old.machine mid.machine tag x) told first.does.1, rest.does.2), rest.does.3);
+      moves = record {
+        moves = Moves-then (shape_of old.config) (moment_of (state old.flash)) (moment_of (state mid.flash)) (moment_of (state new.flash)) (is_break r) first.moves.moves
+            (subst (λ (c : Config). Moves (shape_of c) (moment_of (state mid.flash)) (is_break r) (moment_of (state new.flash))) first.config rest.moves.moves);
+        still = λ still. cc;
+      };
+      carries = Carries-then (state old.flash) (state mid.flash) (state new.flash) (is_fault r) first.carries rest.carries;
+      tells = λ faulted h. finish_tells old.config faulted (point_at state old) (point_at state new) tag r rest.does.1 rest.does.3;
+      sure = λ sure whole. rest.sure (first.sure sure refl) whole;
+      seen = λ seen h. rest.seen seen (first.seen seen h);
+      versions = versions_then old mid new first.config first.versions rest.versions;
+      cut = λ fault. record {
+        may = tt;
+        leaves = cut_before w.0 old.machine mid.machine (idle (array_in new.config.protocol new.config.logical (state new.flash).image)) tag w.1 w.2 (rest.cut fault).leaves;
+      };
+      whole = rest.whole;
+    }
+
+-- and a step of it has a page less to write
+pub step_fewer : {F : Type 0} (state : F → FlashState) (old new : Standing F) (own tag done all : ℕ) → ServesHere state (command.Step tag) old new (reply.Wrote own done all) →
+    pages_left tag new.machine < pages_left tag old.machine
+step_fewer state old new own tag done all h =
+    let w = step_writes old.machine new.machine own tag done all h.does.0 h.does.1 h.does.2 in (fewer_left old.machine new.machine w.0 tag w.1 w.2).0

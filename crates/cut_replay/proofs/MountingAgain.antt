@@ -1,0 +1,100 @@
+-- After a cut the device is mounted again, or a fault more was counted.
+use Rattle.std.proofs.Common.{◌≡◌, ◌⊎◌, ℕ, ◌+◌, ◌≤◌, Bool, true, false, List, [], ◌∷◌, ◌++◌, refl, sym, ap, ◌∙◌, subst, inl, inr, arith}
+use Rattle.std.specs.Prelude.{count_by, MatchBool, if◌then◌else◌}
+use Rattle.std.proofs.lemmas.Bool.{cases_Bool}
+use Rattle.std.proofs.lemmas.List.Sums.{sum_by_push}
+use Rattle.tx_types.specs.declared.config.Config.{Config}
+use Rattle.flash_model.specs.Flash.{FlashState, counted_by}
+use Rattle.flash_model.specs.Calls.{Rose}
+use Rattle.flash_model.specs.Operations.{moment_of}
+use Rattle.host_protocol.specs.declared.reply.Reply.{Reply}
+use Rattle.host_protocol.specs.declared.reply.Reply.TheVariants as reply
+use Rattle.cut_replay.specs.Run.{RunState, is_break}
+use Rattle.cut_replay.specs.FlashRun.{Point, opening_point, last_state}
+use Rattle.cut_replay.specs.Bounds.{CountsBreak}
+use Rattle.cut_replay.specs.MountedAgain.{IsMountedAgain, MountsAfter, FailedMounts, CountsMounts}
+use Rattle.cut_replay.proofs.Runs.{last_point}
+
+-- one command more of a run
+failed_same : (old : Point) (rs : List Reply) (ps : List Point) (n : ℕ) (r : Reply) (p : Point) →
+    FailedMounts old rs ps n → IsMountedAgain (last_point old ps) r p →
+    FailedMounts old (rs ++ r ∷ []) (ps ++ p ∷ []) n
+failed_same old [] [] n r p h again = inl (again, h)
+failed_same old [] (q ∷ ps) n r p h again = absurd h
+failed_same old (s ∷ rs) [] n r p h again = absurd h
+failed_same old (s ∷ rs) (q ∷ ps) n r p (inl h) again = inl (h.0, failed_same q rs ps n r p h.1 again)
+failed_same old (s ∷ rs) (q ∷ ps) n r p (inr h) again =
+    inr (h.0, (h.1.0, h.1.1, failed_same q rs ps h.1.0 r p h.1.2 again))
+
+failed_more : (old : Point) (rs : List Reply) (ps : List Point) (n : ℕ) (r : Reply) (p : Point) →
+    FailedMounts old rs ps n → r ≡ reply.Cut → FailedMounts old (rs ++ r ∷ []) (ps ++ p ∷ []) (n + 1)
+failed_more old [] [] n r p h cut = inr (cut, (n, refl, h))
+failed_more old [] (q ∷ ps) n r p h cut = absurd h
+failed_more old (s ∷ rs) [] n r p h cut = absurd h
+failed_more old (s ∷ rs) (q ∷ ps) n r p (inl h) cut = inl (h.0, failed_more q rs ps n r p h.1 cut)
+failed_more old (s ∷ rs) (q ∷ ps) n r p (inr h) cut =
+    inr (h.0, (h.1.0 + 1, ap (λ m. m + 1) h.1.1, failed_more q rs ps h.1.0 r p h.1.2 cut))
+
+-- what is counted
+breaks_push : (rs : List Reply) (r : Reply) →
+    count_by is_break (rs ++ r ∷ []) ≡ count_by is_break rs + (if is_break r then 1 else 0)
+breaks_push rs r = sum_by_push (λ q. if is_break q then 1 else 0) rs r
+
+breaks_more : (rs : List Reply) (r : Reply) (failed a b d : ℕ) → counted_by (count_by is_break rs + failed) a ≤ b →
+    CountsBreak r b d → counted_by (count_by is_break (rs ++ r ∷ []) + failed) a ≤ d
+breaks_more rs r failed a b d h one = elim (cases_Bool (is_break r)) [
+  | inl broken ↦ (
+      let rose : Rose b d = subst (λ x. MatchBool x (Rose b d) (d ≡ b)) broken one in
+      let more : count_by is_break (rs ++ r ∷ []) ≡ count_by is_break rs + 1 =
+      breaks_push rs r ∙ ap (λ (x : Bool). count_by is_break rs + (if x then 1 else 0)) broken in omega (arith, h, rose, more))
+  | inr whole ↦ (
+      let same : d ≡ b = subst (λ x. MatchBool x (Rose b d) (d ≡ b)) whole one in
+      let none : count_by is_break (rs ++ r ∷ []) ≡ count_by is_break rs + 0 =
+      breaks_push rs r ∙ ap (λ (x : Bool). count_by is_break rs + (if x then 1 else 0)) whole in omega (arith, h, same, none))
+]
+
+twice_more : (rs : List Reply) (r : Reply) (failed a b d : ℕ) → counted_by (count_by is_break rs + failed) a ≤ b →
+    r ≡ reply.Cut → counted_by 2 b ≤ d → counted_by (count_by is_break (rs ++ r ∷ []) + (failed + 1)) a ≤ d
+twice_more rs r failed a b d h cut twice =
+    let more : count_by is_break (rs ++ r ∷ []) ≡ count_by is_break rs + 1 =
+    breaks_push rs r ∙ ap (λ (x : Bool). count_by is_break rs + (if x then 1 else 0)) (ap is_break cut) in omega (arith, h, twice, more)
+
+pub mounts_none : (its : Config) (up : Bool) (old new : FlashState) → old.faults ≤ new.faults → CountsMounts its up [] [] old new
+mounts_none its up old new later = record { failed = 0; mounts = refl; faults = omega (arith, later) }
+
+pub mounts_more : (its : Config) (up : Bool) (rs : List Reply) (ps : List Point) (r : Reply) (p : Point) (x y z : FlashState) →
+    CountsMounts its up rs ps x y → CountsBreak r y.faults z.faults →
+    MountsAfter (last_point (opening_point its up (moment_of x)) ps) r p y.faults z.faults →
+    CountsMounts its up (rs ++ r ∷ []) (ps ++ p ∷ []) x z
+mounts_more its up rs ps r p x y z h one (inl again) = record {
+  failed = h.failed;
+  mounts = failed_same (opening_point its up (moment_of x)) rs ps h.failed r p h.mounts again;
+  faults = breaks_more rs r h.failed x.faults y.faults z.faults h.faults one;
+}
+mounts_more its up rs ps r p x y z h one (inr failed) = record {
+  failed = h.failed + 1;
+  mounts = failed_more (opening_point its up (moment_of x)) rs ps h.failed r p h.mounts failed.0;
+  faults = twice_more rs r h.failed x.faults y.faults z.faults h.faults failed.0 failed.1;
+}
+
+-- a flash that counted more, or as much
+pub mounts_later : (its : Config) (up : Bool) (rs : List Reply) (ps : List Point) (r : Reply) (x y z : FlashState) →
+    CountsMounts its up rs ps x y → CountsBreak r y.faults z.faults → CountsMounts its up rs ps x z
+mounts_later its up rs ps r x y z h one = elim (cases_Bool (is_break r)) [
+  | inl broken ↦ (
+      let rose : Rose y.faults z.faults = subst (λ b. MatchBool b (Rose y.faults z.faults) (z.faults ≡ y.faults)) broken one in
+      let most = h.faults in record { failed = h.failed; mounts = h.mounts; faults = omega (arith, most, rose) })
+  | inr whole ↦ (
+      let same : z.faults ≡ y.faults = subst (λ b. MatchBool b (Rose y.faults z.faults) (z.faults ≡ y.faults)) whole one in
+      let most = h.faults in record { failed = h.failed; mounts = h.mounts; faults = omega (arith, most, same) })
+]
+
+pub mounts_same : (its : Config) (up : Bool) (rs : List Reply) (ps : List Point) (x y z : FlashState) →
+    CountsMounts its up rs ps x y → z.faults ≡ y.faults → CountsMounts its up rs ps x z
+mounts_same its up rs ps x y z h same =
+    let most = h.faults in record { failed = h.failed; mounts = h.mounts; faults = omega (arith, most, same) }
+
+-- the state where a run stands
+pub last_state_is : (old : Point) (ps : List Point) → (last_point old ps).state ≡ last_state old.state ps
+last_state_is old [] = refl
+last_state_is old (p ∷ ps) = last_state_is p ps

@@ -1,0 +1,35 @@
+-- That a device is mounted again once power was cut in a command.
+use Rattle.std.specs.Prelude.{◌≡◌, ◌⊎◌, ℕ, ◌+◌, ◌≤◌, Bool, true, List, [], ◌∷◌, count_by}
+use Rattle.tx_types.specs.declared.config.Config.{Config}
+use Rattle.flash_model.specs.Flash.{FlashState, counted_by}
+use Rattle.flash_model.specs.Operations.{moment_of}
+use Rattle.host_protocol.specs.declared.reply.Reply.{Reply}
+use Rattle.host_protocol.specs.declared.reply.Reply.TheVariants as reply
+use Rattle.cut_replay.specs.Run.{NotDone, is_break}
+use Rattle.cut_replay.specs.FlashRun.{Point, opening_point}
+
+-- after a reply `cut` the device is mounted, unless the command was not done
+abbrev pub IsMountedAgain : Point → Reply → Point → Type 0
+IsMountedAgain old r new =
+    r ≡ reply.Cut →
+    (NotDone old.state r new.state × (new.moment ≡ old.moment)) ⊎ (new.state.up ≡ true)
+
+-- or the mount after the cut met a fault, which was counted beside the cut
+abbrev pub MountsAfter : Point → Reply → Point → ℕ → ℕ → Type 0
+MountsAfter old r new before now =
+    IsMountedAgain old r new ⊎ ((r ≡ reply.Cut) × (counted_by 2 before ≤ now))
+
+-- in a run from this point so many mounts after a cut met a fault
+abbrev pub FailedMounts : Point → List Reply → List Point → ℕ → Type 0
+FailedMounts old [] [] failed = failed ≡ 0
+FailedMounts old (r ∷ rs) (p ∷ ps) failed =
+    (IsMountedAgain old r p × FailedMounts p rs ps failed)
+    ⊎ ((r ≡ reply.Cut) × ((fewer : ℕ) × (failed ≡ fewer + 1) × FailedMounts p rs ps fewer))
+FailedMounts old _ _ failed = ⊥
+
+-- the flash counted each of these faults, beside those of the replies
+pub record CountsMounts (its : Config) (up : Bool) (rs : List Reply) (ps : List Point)
+    (old new : FlashState) : Type 0 where
+  pub failed : ℕ
+  pub mounts : FailedMounts (opening_point its up (moment_of old)) rs ps failed
+  pub faults : counted_by (count_by is_break rs + failed) old.faults ≤ new.faults
