@@ -8,7 +8,7 @@ use Rattle.flash_model.specs.Flash.{Contents}
 use Rattle.flash_model.specs.Operations.{Moment}
 use Rattle.version_index.specs.Images.{IsSoundImage, array_in}
 use Rattle.tx_engine.specs.ArrayState.{ArrayState, Entry, Pages, idle}
-use Rattle.tx_engine.specs.declared.mark.Mark.TheVariants.{Plain}
+use Rattle.array_machine.specs.declared.mark.Mark.TheVariants.{Plain}
 use Rattle.tx_engine.specs.Exits.{StandsFor}
 use Rattle.tx_engine.specs.Standing.{limits_of}
 use Rattle.tx_engine.specs.Unbroken.{AllPlain}

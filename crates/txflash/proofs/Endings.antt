@@ -8,7 +8,7 @@ use Rattle.txflash.specs.Fate.{Fate, status, refusal_line}
 use Rattle.txflash.specs.Gives.{Given, SavedFile, Gives}
 use Rattle.txflash.specs.Steps.{IsFate}
 use Rattle.txflash.specs.Stops.{Comes, Delivers, MemoryTold, Speaks, refused}
-use Rattle.txflash.specs.Top.{Decision, EndsCall, Decided, Faulted, Starved, IsExact, IsFaulted, Leaves, LeavesFiles, CallFails, FileStops, RunsOut, TellsFate, after_loads, after_save, after_text, files_in, after_loading, after_saving}
+use Rattle.txflash.specs.Top.{Decision, EndsCall, Decided, Faulted, Starved, IsExact, IsFaulted, Leaves, LeavesFiles, CallFails, FileStops, RunsOutOfMemory, TellsFate, after_loads, after_save, after_text, files_in, after_loading, after_saving}
 use Rattle.txflash.specs.Words.{Asked, file_of, files_of}
 use Rattle.txflash.specs.declared.refusal.Refusal.{Refusal}
 use Rattle.txflash.specs.declared.refusal.Refusal.TheVariants as refusal
@@ -173,7 +173,7 @@ leaves_call task old new (inr (inr (it, fails))) =
     leaves_also (file_of task) (files_in old) (files_in (after_saving old it)) (files_in new) (leaves_saved task old it)
     (files_said (after_saving old it) new it.given.text (Err sink.Failed) fails.1)
 
-leaves_out : (task : Option Asked) (old new : DeskState) → RunsOut task old new → Leaves (file_of task) (files_in old) (files_in new)
+leaves_out : (task : Option Asked) (old new : DeskState) → RunsOutOfMemory task old new → Leaves (file_of task) (files_in old) (files_in new)
 leaves_out task old new (inl (inl (inl (n, less, came, after)))) =
     leaves_same (file_of task) (files_in old) (files_in new) (ap files_in after ∙ files_asked (after_loads n old) ∙ files_loads n old)
 leaves_out task old new (inl (inl (inr (came, after)))) =

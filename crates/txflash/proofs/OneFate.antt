@@ -9,12 +9,12 @@ use Rattle.host_protocol.specs.declared.command.Command.{Command}
 use Rattle.host_protocol.proofs.FileLemmas.{file_bad, file_same, first_same}
 use Rattle.image_file.specs.declared.error.ImageError.{ImageError}
 use Rattle.desk_io.specs.Desk as found
-use Rattle.desk_io.specs.Desk.{DeskContents, DeskState, FileFound, Finds, file_at, file_found}
+use Rattle.desk_io.specs.Desk.{DeskContents, DeskState, FileFound, file_at, file_found}
 use Rattle.txflash.specs.Fate.{Fate}
 use Rattle.txflash.specs.Steps.{AfterLoad, AfterOpening, AfterParsing, AfterReading, Explaining, IsFate, Loading, OpensAndServes, Opens, Parses, Parsing, Reading, Running, Trying, WithoutLoad}
 use Rattle.txflash.specs.Top.{TellsFate}
 use Rattle.txflash.specs.Words.{Asked, Try, Format, Run, Explain, Drive}
-use Rattle.txflash.proofs.Sound.{breach_one, sound_unbroken}
+use Rattle.version_index.proofs.OneBreach.{breach_one, sound_unbroken}
 
 -- ---- each step comes to one thing
 

@@ -13,7 +13,8 @@ use Rattle.txflash.specs.Fate.{Fate, Explained, Ran}
 use Rattle.txflash.specs.Runs.{IsRun, blank_image, default_config}
 use Rattle.txflash.specs.Steps.{Explaining, ReadsImage, Running, Trying}
 use Rattle.txflash.specs.Stops.{RefusesDevice, RefusesLine}
-use Rattle.txflash.proofs.Sound.{blank_sound, sound_unbroken}
+use Rattle.version_index.proofs.OneBreach.{sound_unbroken}
+use Rattle.txflash.proofs.Sound.{blank_sound}
 
 -- ---- a fresh default device
 

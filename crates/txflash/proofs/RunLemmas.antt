@@ -1,5 +1,5 @@
 -- What serving gives, as a run from an image on.
-use Rattle.std.proofs.Common.{◌≡◌, ℕ, false, List, [], ◌++◌, length, take, None, Some, refl, sym, ap, ap₂, ◌∙◌, subst}
+use Rattle.std.proofs.Common.{◌≡◌, ◌⊎◌, ℕ, true, false, List, [], ◌++◌, length, take, None, Some, refl, sym, ap, ap₂, ◌∙◌, subst}
 use Rattle.list_facts.proofs.Lists.{take_whole}
 use Rattle.tx_types.specs.declared.config.Config.{Config}
 use Rattle.tx_types.specs.Config.{shape_of}
@@ -40,11 +40,14 @@ is_run its flash left cs before after e none is_sound served =
     let start = starts its flash e in
     let told : after ≡ before ++ text_of_all (take (length cs) served.replies) = cc (served.text) in
     let whole = take_whole (length cs) served.replies (run_lengths its (mentions_in its (moment_of (state_of flash))) false (opening_point its served.run.up (moment_of (state_of flash))) cs served.replies served.points served.run.runs).0 in
+    let from = subst (λ m. (run : IsFlashRun its m cs served.replies served.points) × ((cs ≡ []) ⊎ (run.up ≡ true))) start
+    (served.run, served.up (is_steady its flash e)) in
     record {
       sound = is_sound;
       replies = served.replies;
       points = served.points;
-      run = subst (λ m. IsFlashRun its m cs served.replies served.points) start served.run;
+      run = from.0;
+      up = from.1;
       last = ap (λ m. m.image) (served.last ∙ ap (λ m. last_moment m served.points) start);
       said = rw (none, whole) at told;
       few = subst (λ armed. AreFew (told_of armed).cuts (told_of armed).breaks cs served.replies) (ap (λ (s : MemoryState). s.armed) e) served.spends.few;

@@ -1,6 +1,6 @@
 -- Serving commands on a device from an image on, on a flash that breaks only where the commands arm
 -- it.
-use Rattle.std.specs.Prelude.{◌≡◌, ℕ, List, replicate}
+use Rattle.std.specs.Prelude.{◌≡◌, ◌⊎◌, ℕ, true, List, [], replicate}
 use Rattle.tx_types.specs.declared.config.Config.{Config}
 use Rattle.tx_types.specs.declared.config.Protocol.{Protocol}
 use Rattle.tx_types.specs.Config.{shape_of, slots_of}
@@ -35,7 +35,7 @@ abbrev pub first_moment : List Contents → Moment
 first_moment its_image = record { image = its_image; programs = 0; erases = 0 }
 
 -- The image is sound, and there is a run on a flash over these commands, from it on, with nothing
--- counted. The run ends with that image, and the text is that of its replies. Among the replies to
+-- counted. It begins with a mounted device. The run ends with that image, and the text is that of its replies. Among the replies to
 -- the first so many commands there are at most as many cuts and faults as were armed among these.
 pub record IsRun (its : Config) (image : List Contents) (commands : List Command)
     (left : List Contents) (text : List ℕ) : Type 0 where
@@ -43,6 +43,7 @@ pub record IsRun (its : Config) (image : List Contents) (commands : List Command
   pub replies : List Reply
   pub points : List Point
   pub run : IsFlashRun its (first_moment image) commands replies points
+  pub up : (commands ≡ []) ⊎ (run.up ≡ true)
   pub last : left ≡ (last_moment (first_moment image) points).image
   pub said : text ≡ text_of_all replies
   pub few : AreFew 0 0 commands replies

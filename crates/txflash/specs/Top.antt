@@ -114,15 +114,15 @@ LineStarves task old new =
 
 -- Memory ran out before a fate was decided, or for its line, or in the saving of what it gives, or
 -- in the saying.
-abbrev pub RunsOut : Option Asked → DeskState → DeskState → Type 0
-RunsOut task old new =
+abbrev pub RunsOutOfMemory : Option Asked → DeskState → DeskState → Type 0
+RunsOutOfMemory task old new =
     (WorkRunsOut task old new ⊎ LineStarves task old new)
     ⊎ (SaveStops sink.Memory task old new ⊎ SayStops sink.Memory task old new)
 
 -- and then a line was tried
 abbrev pub IsStarved : Option Asked → DeskState → DeskState → Type 0
 IsStarved task old new =
-    (mid : DeskState) × RunsOut task old mid × Attempts mid new (line (codes "no memory"))
+    (mid : DeskState) × RunsOutOfMemory task old mid × Attempts mid new (line (codes "no memory"))
 
 -- How a call of the program ends, with which status: a fate decided, what it gives was saved, and
 -- its text was said whole; or a call of the desk failed; or memory ran out.

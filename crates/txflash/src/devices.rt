@@ -16,7 +16,7 @@ use crate::refusal::Refusal;
 use bpcc_commit::Bpcc;
 use cut_replay::{Lines, ServeError, serve};
 use host_protocol::{Command, TextError, parse};
-use image_file::{ImageError, read_image};
+use image_file::{ImageError, take_image};
 use mem_flash::MemFlash;
 use record_list::CommitRule;
 use scc_commit::Scc;
@@ -60,12 +60,12 @@ pub fn blank_flash(alloc: Global, config: Config) -> Result<MemFlash, Memory>
 }
 
 /// The configuration and the flash of an image file.
-pub fn read_device(alloc: Global, bytes: &[u8]) -> Result<(Config, MemFlash), Stop<'static>>
-    ensures read { IfOk result (λ d. ReadsImage bytes.now (Ok (d.0, d.1.image, d.1.extras))) }
+pub fn read_device(alloc: Global, bytes: Vec<u8>) -> Result<(Config, MemFlash), Stop<'static>>
+    ensures read { IfOk result (λ d. ReadsImage bytes.items (Ok (d.0, d.1.image, d.1.extras))) }
     ensures ready { IfOk result (λ d. d.1 ≡ loaded (shape_of d.0) d.1.image d.1.extras) }
-    ensures err { IfErr result (StopsBy (RefusesImage bytes.now)) }
+    ensures err { IfErr result (StopsBy (RefusesImage bytes.items)) }
 {
-    match read_image(alloc, bytes) {
+    match take_image(alloc, bytes) {
         Ok(device) => Ok(device),
         Err(ImageError::Memory) => Err(Stop::Memory),
         Err(rule) => Err(Stop::Refused(Refusal::BadImage(rule))),
@@ -118,7 +118,7 @@ fn served_by<R: CommitRule>(
     list: &[Command],
 ) -> Result<ServedFlash, Stop<'static>>
     requires check { checked config ≡ Ok (shape_of config) }
-    requires rule { config.protocol ≡ R.kept }
+    requires rule { config.protocol ≡ R.protocol }
     requires ready { flash ≡ loaded (shape_of config) flash.image flash.extras }
     requires suits { All (Suits config.page_bytes) list.now }
     ensures run { IfOk result (λ s. IsRun config flash.image list.now s.flash.image s.replies) }
@@ -159,7 +159,7 @@ fn explained_by<R: CommitRule>(
     config: Config,
 ) -> Result<Vec<u8>, Stop<'static>>
     requires check { checked config ≡ Ok (shape_of config) }
-    requires rule { config.protocol ≡ R.kept }
+    requires rule { config.protocol ≡ R.protocol }
     requires ready { flash ≡ loaded (shape_of config) flash.image flash.extras }
     ensures sound { OnOk result (
         IsSoundImage config.protocol config.logical (shape_of config) flash.image) }
@@ -183,7 +183,7 @@ fn opened<R: CommitRule>(
     config: Config,
 ) -> Result<Device<MemFlash, R>, Stop<'static>>
     requires check { checked config ≡ Ok (shape_of config) }
-    requires rule { config.protocol ≡ R.kept }
+    requires rule { config.protocol ≡ R.protocol }
     requires ready { flash ≡ loaded (shape_of config) flash.image flash.extras }
     ensures ok { IfOk result (Mounts state_of flash config) }
     ensures err { IfErr result (StopsBy (RefusesDevice config flash.image)) }

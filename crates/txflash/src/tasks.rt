@@ -14,7 +14,7 @@ use crate::product::{File, Product, Stop, Text};
 use crate::refusal::Refusal;
 use desk_io::{Desk, LoadError};
 use drive_gen::{commands, summary};
-use image_file::write_image;
+use image_file::{blank_image, into_image};
 use std::alloc::{AllocError, Global};
 use tx_types::{Config, Protocol};
 
@@ -41,7 +41,7 @@ pub fn to_run<'a, D: Desk>(
 {
     let bytes = fetch(image, desk)?;
     let lines = fetch(script, desk)?;
-    ran(alloc, image, &bytes, &lines)
+    ran(alloc, image, bytes, &lines)
 }
 
 /// Reports on the records of an image file.
@@ -53,7 +53,7 @@ pub fn to_explain<'a, D: Desk>(
     ensures { Works (Some (Explain image.now)) (D.state desk.old) (D.state desk.new) result }
 {
     let bytes = fetch(image, desk)?;
-    reported(alloc, &bytes)
+    reported(alloc, bytes)
 }
 
 /// The bytes of a file.
@@ -87,16 +87,16 @@ fn tried<'a>(alloc: Global, lines: &[u8]) -> Result<Product<'a>, Stop<'a>>
 fn ran<'a>(
     alloc: Global,
     name: &'a str,
-    bytes: &[u8],
+    bytes: Vec<u8>,
     lines: &[u8],
 ) -> Result<Product<'a>, Stop<'a>>
     requires { length lines.now ≤ max_file_bytes }
-    ensures { WorksTo (Running name.now bytes.now lines.now) result }
+    ensures { WorksTo (Running name.now bytes.items lines.now) result }
 {
     let (config, flash) = read_device(alloc, bytes)?;
     let list = read_commands(alloc, lines, config.page_bytes)?;
     let ServedFlash { flash, replies } = served(alloc, flash, config, &list)?;
-    let saved = write_image(alloc, &config, &flash)?;
+    let saved = into_image(alloc, &config, flash)?;
     Ok(Product {
         saved: Some(File { name, bytes: saved }),
         text: Text::Replies(replies),
@@ -104,8 +104,8 @@ fn ran<'a>(
 }
 
 /// What an explanation gives, from the bytes of its image on.
-fn reported<'a>(alloc: Global, bytes: &[u8]) -> Result<Product<'a>, Stop<'a>>
-    ensures { WorksTo (Explaining bytes.now) result }
+fn reported<'a>(alloc: Global, bytes: Vec<u8>) -> Result<Product<'a>, Stop<'a>>
+    ensures { WorksTo (Explaining bytes.items) result }
 {
     let (config, flash) = read_device(alloc, bytes)?;
     let report = explained(alloc, flash, config)?;
@@ -123,8 +123,7 @@ pub fn formatted<'a>(alloc: Global, name: &'a str, config: Config) -> Result<Pro
         Ok(shape) => shape,
         Err(rule) => return Err(Stop::Refused(Refusal::BadConfiguration(rule))),
     };
-    let flash = blank_flash(alloc, config)?;
-    let bytes = write_image(alloc, &config, &flash)?;
+    let bytes = blank_image(alloc, &config, shape)?;
     let line = formatted_line(alloc, name, shape.slots())?;
     Ok(Product {
         saved: Some(File { name, bytes }),

@@ -2,6 +2,7 @@
 //! said of them.
 mod arms;
 mod causes;
+mod extremes;
 mod files;
 mod hostile;
 mod images;

@@ -10,7 +10,7 @@ use std::test::Fail;
 /// says.
 type Broken = (u8, &'static [Record], &'static str);
 
-const BROKEN: [Broken; 9] = [
+const BROKEN: [Broken; 15] = [
     (1, &[(0, 20, 1, (0, 1), 0)], "unsound law 1 slot 0"),
     (
         1,
@@ -66,6 +66,55 @@ const BROKEN: [Broken; 9] = [
     ),
     // A link has a version of at least 1.
     (1, &[(3, 0, 1, (0, 0), 0)], "unsound law 1 slot 3"),
+    // Of two slots that break one law the lower one is named.
+    (
+        1,
+        &[(2, 20, 1, (0, 1), 0), (5, 0, 1, (21, 1), 0)],
+        "unsound law 1 slot 2",
+    ),
+    (
+        1,
+        &[
+            (1, 0, 1, (5, 1), 0),
+            (4, 1, 1, (5, 1), 0),
+            (6, 2, 1, (5, 1), 0),
+        ],
+        "unsound law 3 slot 4",
+    ),
+    (
+        2,
+        &[(1, 2, 5, (1, 8), 3), (4, 0, 5, (1, 7), 3)],
+        "unsound law 4 slot 1",
+    ),
+    // Of two laws that are broken the lower one is named, though its slot is the higher one.
+    (
+        1,
+        &[
+            (0, 0, 1, (0, 1), 0),
+            (3, 0, 1, (1, 1), 0),
+            (7, 20, 1, (0, 1), 0),
+        ],
+        "unsound law 1 slot 7",
+    ),
+    (
+        1,
+        &[
+            (0, 0, 1, (5, 1), 0),
+            (1, 1, 1, (5, 1), 0),
+            (2, 0, 1, (6, 1), 0),
+        ],
+        "unsound law 2 slot 2",
+    ),
+    (
+        2,
+        &[
+            (0, 0, 1, (0, 1), 0),
+            (1, 0, 3, (1, 5), 2),
+            (2, 0, 4, (2, 5), 1),
+            (3, 3, 5, (1, 7), 3),
+        ],
+        "unsound law 4 slot 3",
+    ),
 ];
 
 /// A desk with an image and commands.
@@ -76,8 +125,8 @@ fn desk_with(alloc: Global, image: &[u8], commands: &str) -> Result<MemDesk, Fai
     Ok(desk)
 }
 
-/// A file of commands that has none, and is left as it is.
-const NOTHING: &str = "# Nothing is done.";
+/// Files of commands that have none: one is empty, and one has a comment.
+const NOTHING: [&str; 2] = ["", "# Nothing is done."];
 
 #[test]
 fn images_that_are_not_sound_are_refused(rt: HostRuntime) -> Result<(), Fail> {
@@ -94,12 +143,16 @@ fn images_that_are_not_sound_are_refused(rt: HostRuntime) -> Result<(), Fail> {
     put(&mut differ, cell(5), &[1]);
     images.push((differ, "unsound law 2 slot 5"))?;
     for (image, line) in &images {
-        for words in [RUN.as_slice(), ["explain", "d.img"].as_slice()] {
-            let mut desk = desk_with(alloc, image, NOTHING)?;
+        for (words, nothing) in [
+            (RUN.as_slice(), NOTHING[0]),
+            (RUN.as_slice(), NOTHING[1]),
+            (["explain", "d.img"].as_slice(), NOTHING[0]),
+        ] {
+            let mut desk = desk_with(alloc, image, nothing)?;
             assert_eq!(rt; call(alloc, words, &mut desk)?, 7, "after {line}");
             assert_eq!(rt; desk.said(), lines(alloc, line)?.as_slice());
             assert_eq!(rt; desk.file("d.img"), Some(image.as_slice()));
-            assert_eq!(rt; desk.file("c.txt"), Some(lines(alloc, NOTHING)?.as_slice()));
+            assert_eq!(rt; desk.file("c.txt"), Some(lines(alloc, nothing)?.as_slice()));
         }
         // A line that is no command comes before the laws.
         let mut desk = desk_with(alloc, image, "read 1; reed 1")?;

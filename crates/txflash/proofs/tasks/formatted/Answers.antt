@@ -1,5 +1,4 @@
 use Rattle.std.proofs.Common.{◌≡◌, refl, sym, ap, ◌∙◌}
-use Rattle.mem_flash.specs.Memory.{MemoryState}
 use Rattle.tx_types.specs.Config.{shape_of, slots_of}
 use Rattle.tx_types.proofs.ConfigLemmas.{checked_config}
 use Rattle.txflash.specs.Fate.{Formatted}
@@ -8,16 +7,15 @@ use Rattle.txflash.proofs.tasks.formatted.Goals as goal
 pub returns : goal.returns
 returns c =
     let check = c.in-Ok.ensures.exact in
-    let blank = ap (λ (s : MemoryState). s.image) c.in_ok-flash.ensures in
-    let slots : c.slots.result ≡ slots_of (shape_of c.args.config) =
-    c.slots.ensures ∙ ap slots_of ((checked_config c.args.config c.in-Ok.shape (sym check)).1) in (
+    let shape_is = (checked_config c.args.config c.in-Ok.shape (sym check)).1 in
+    let slots : c.slots.result ≡ slots_of (shape_of c.args.config) = c.slots.ensures ∙ ap slots_of shape_is in (
       Formatted c.args.name.now c.args.config,
       rw (← check) refl,
       refl,
       record {
         bytes = c.in_ok-bytes.bytes.items;
         saves = refl;
-        spelled = rw blank at c.in_ok-bytes.ensures;
+        spelled = rw shape_is at c.in_ok-bytes.ensures;
         said = rw slots at c.in_ok-line.ensures;
       },
     )

@@ -16,9 +16,8 @@ returns-in_err-bytes g c =
 pub returns : goal.returns
 returns g c =
     let fetched = c.in_ok-bytes.ensures in
-    let reported = rw c.deref.ensures.value at c.reported.ensures in
     let old = g.D.Desk.state c.args.desk.now in
     works (Some (Explain c.args.image.now)) old (g.D.Desk.state c.fetch.new.desk) 1
     (Explaining c.in_ok-bytes.bytes.items) c.reported.result fetched.1 (omega arith)
     (found_more old c.args.image.now c.in_ok-bytes.bytes.items [] fetched.0 (found_none old))
-    (λ fate h. (Bytes c.in_ok-bytes.bytes.items, fetched.0, (0, (h, refl), refl))) reported
+    (λ fate h. (Bytes c.in_ok-bytes.bytes.items, fetched.0, (0, (h, refl), refl))) c.reported.ensures

@@ -43,7 +43,7 @@ returns g c =
     let commands = c.in_ok-lines.ensures in
     let bytes = c.in_ok-bytes.bytes.items in
     let lines = c.in_ok-lines.lines.items in
-    let ran = rw (c.deref.ensures.value, c.deref-2.ensures.value) at c.ran.ensures in
+    let ran = rw c.deref.ensures.value at c.ran.ensures in
     let script = finds_before old mid c.args.script.now (Bytes lines) image.1 commands.0 in
     works (Some (Run c.args.image.now c.args.script.now)) old new 2
     (Running c.args.image.now bytes lines) c.ran.result (commands.1 ∙ ap (after_answer as_before) image.1) (omega arith)
