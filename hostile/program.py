@@ -1,0 +1,56 @@
+"""Runs of the built program: its words, its status, what it said, and how long it took."""
+import os
+import select
+import signal
+import time
+from typing import Dict, List, NamedTuple, Optional
+
+LONGEST = 10.0
+KILLED_AFTER = 60.0
+
+
+class Ended(NamedTuple):
+    """`status` is below 0 where a signal ended the program. What it wrote to standard error is in `said` too."""
+    status: int
+    said: bytes
+    seconds: float
+
+
+class Program:
+    def __init__(self, path: str, environment: Optional[Dict[str, str]] = None) -> None:
+        self.path, self.environment = path, {**os.environ, **(environment or {})}
+
+    def start(self, words: List[str], output: int) -> int:
+        """Starts a run that writes to this open file, and answers its process."""
+        actions = [(os.POSIX_SPAWN_OPEN, 0, os.devnull, os.O_RDONLY, 0),
+                   (os.POSIX_SPAWN_DUP2, output, 1), (os.POSIX_SPAWN_DUP2, output, 2)]
+        return os.posix_spawn(self.path, [self.path, *words], self.environment, file_actions=actions)
+
+    def run(self, words: List[str]) -> Ended:
+        begun = time.monotonic()
+        reader, writer = os.pipe()
+        process = self.start(words, writer)
+        os.close(writer)
+        said = read_all(reader, begun + KILLED_AFTER, process)
+        os.close(reader)
+        _, status = os.waitpid(process, 0)
+        return Ended(exit_code(status), said, time.monotonic() - begun)
+
+
+def read_all(reader: int, end: float, process: int) -> bytes:
+    """All that is said, until the program ends or is killed at this time."""
+    parts = []
+    while True:
+        ready, _, _ = select.select([reader], [], [], max(0.0, end - time.monotonic()))
+        if not ready:
+            os.kill(process, signal.SIGKILL)
+            end = float("inf") if time.monotonic() > end + 5 else time.monotonic() + 5
+            continue
+        part = os.read(reader, 1 << 20)
+        if not part:
+            return b"".join(parts)
+        parts.append(part)
+
+
+def exit_code(status: int) -> int:
+    return -os.WTERMSIG(status) if os.WIFSIGNALED(status) else os.WEXITSTATUS(status)

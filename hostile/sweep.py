@@ -1,0 +1,307 @@
+#!/usr/bin/env python3
+"""Sweeps the built program with hostile images and commands, and compares each run with what the documents say.
+
+    sweep.py EXE [--images N] [--commands N] [--words N] [--seed S] [--processes N] [--keep FOLDER] [--room FOLDER]
+                 [--edges] [--kills N] [--disk] [--allocations]
+
+N images are given to `explain` and `run`, N command files to `try` and `run`, and N lists of words to the program. Each
+run that differs has a line, its files are kept, and the status is 1. The README beside this says what is compared, and
+what the last four do."""
+import argparse
+import collections
+import multiprocessing
+import os
+import random
+import shutil
+import sys
+import tempfile
+import time
+from typing import Counter, List, NamedTuple, Optional
+
+import allocations
+import commands as drawn_commands
+import disk
+import edges
+import images as drawn_images
+import kills
+import words as drawn_words
+from image import DEFAULT, PROTOCOLS, blank_image, spell_image
+from judge import Wrong, check_end, check_explain, check_run, check_said, check_try, need
+from laws import Reading, read
+from program import Ended, Program
+
+IMAGE, COMMANDS = "d.img", "c.txt"
+WANTED, TOLD = 100, 20
+
+
+class Job(NamedTuple):
+    program: str
+    seed: int
+    first: int
+    step: int
+    images: int
+    commands: int
+    words: int
+    stops: bool
+    room: str
+    keep: str
+
+
+class Found(NamedTuple):
+    """What one process counted."""
+    counts: Counter[str]
+    differ: int
+    slowest: float
+
+
+def read_file(name: str) -> Optional[bytes]:
+    try:
+        with open(name, "rb") as file:
+            return file.read()
+    except FileNotFoundError:
+        return None
+
+
+def write_file(name: str, data: bytes) -> None:
+    with open(name, "wb") as file:
+        file.write(data)
+
+
+class Sweeper:
+    """One process, in a folder of its own."""
+
+    def __init__(self, job: Job) -> None:
+        self.job, self.program = job, Program(job.program)
+        self.counts: Counter[str] = collections.Counter()
+        self.differ, self.slowest = 0, 0.0
+
+    def run(self, words: List[str]) -> Ended:
+        ended = self.program.run(words)
+        self.slowest = max(self.slowest, ended.seconds)
+        self.counts["runs"] += 1
+        return ended
+
+    def replied(self, replies: List[str]) -> None:
+        for it in replies:
+            words = it.split(" ")
+            self.counts[f"reply {' '.join(words[:2]) if words[0] == 'refused' else words[0]}"] += 1
+
+    def told(self, what: str, number: int, why: str, files: List[str]) -> None:
+        """Tells what differs, and keeps the files of it. Of many only the first are told."""
+        self.differ += 1
+        if self.differ > TOLD:
+            return
+        folder = os.path.join(self.job.keep, f"{what}-{number}")
+        os.makedirs(folder, exist_ok=True)
+        for name in files:
+            shutil.copyfile(name, os.path.join(folder, os.path.basename(name)))
+        print(f"sweep: {what} {number} of seed {self.job.seed} differs: {why}; see {folder}", flush=True)
+
+    def image(self, number: int) -> None:
+        drawn = drawn_images.draw_image(self.job.seed, number)
+        draw = random.Random(f"{self.job.seed} image commands {number}")
+        reading = read(drawn.data, IMAGE)
+        self.counts[f"image {drawn.kind}"] += 1
+        self.counts[outcome(reading)] += 1
+        script = image_commands(draw, reading)
+        write_file("old/" + IMAGE, drawn.data)
+        write_file(IMAGE, drawn.data)
+        if script is None:
+            remove(COMMANDS)
+        else:
+            write_file(COMMANDS, script)
+        try:
+            check_explain(reading, self.run(["explain", IMAGE]), drawn.data, read_file(IMAGE))
+            ended = self.run(["run", IMAGE, COMMANDS])
+            self.replied(check_run(reading, drawn.data, script, COMMANDS, ended, read_file(IMAGE)))
+            need_files(script is not None)
+        except Wrong as wrong:
+            self.told("image", number, str(wrong), ["old/" + IMAGE, *([COMMANDS] if script is not None else [])])
+
+    def command_file(self, number: int) -> None:
+        draw = random.Random(f"{self.job.seed} commands {number}")
+        if draw.random() < 0.5:
+            self.tried(number, draw)
+        else:
+            self.served(number, draw)
+
+    def tried(self, number: int, draw: random.Random) -> None:
+        drawn = drawn_commands.draw_commands(draw, DEFAULT, number)
+        self.counts[f"commands {drawn.kind}"] += 1
+        write_file(COMMANDS, drawn.data)
+        remove(IMAGE)
+        try:
+            ended = self.run(["try", COMMANDS])
+            self.counts[f"commands status {ended.status}"] += 1
+            self.replied(check_try(drawn.data, COMMANDS, ended))
+            need(sorted(os.listdir(".")) == [COMMANDS, "old"], "other files are there")
+        except Wrong as wrong:
+            self.told("commands", number, str(wrong), [COMMANDS])
+
+    def served(self, number: int, draw: random.Random) -> None:
+        data = drawn_images.sound_image(draw)
+        reading = read(data, IMAGE)
+        assert reading.image
+        drawn = drawn_commands.draw_commands(draw, reading.image.config, number)
+        self.counts[f"commands {drawn.kind}"] += 1
+        write_file("old/" + IMAGE, data)
+        write_file(IMAGE, data)
+        write_file(COMMANDS, drawn.data)
+        try:
+            ended = self.run(["run", IMAGE, COMMANDS])
+            self.counts[f"commands status {ended.status}"] += 1
+            self.replied(check_run(reading, data, drawn.data, COMMANDS, ended, read_file(IMAGE)))
+            need_files(True)
+        except Wrong as wrong:
+            self.told("commands", number, str(wrong), ["old/" + IMAGE, COMMANDS])
+
+
+    def word_list(self, number: int) -> None:
+        draw = random.Random(f"{self.job.seed} words {number}")
+        how = draw.random()
+        remove(IMAGE)
+        remove(COMMANDS)
+        try:
+            if how < 0.6:
+                words = ["format", *drawn_words.draw_format(draw, IMAGE)]
+                self.said(words, drawn_words.wanted_format(words[1:]))
+            elif how < 0.9:
+                words = ["drive", *drawn_words.draw_drive(draw)]
+                self.driven(words)
+            else:
+                words = drawn_words.draw_other(draw)
+                self.said(words, drawn_words.BAD_WORDS)
+        except Wrong as wrong:
+            self.told("words", number, f"{words}: {wrong}", [])
+
+    def said(self, words: List[str], wanted: drawn_words.Wanted) -> None:
+        ended = self.run(words)
+        check_end(ended)
+        self.counts[f"words status {ended.status}"] += 1
+        check_said(ended, wanted.status, wanted.said)
+        need(read_file(IMAGE) == wanted.image, "the image differs")
+
+    def driven(self, words: List[str]) -> None:
+        """The summary must be that of the replies to the same commands on a blank device."""
+        generated = drawn_words.read_drive(words[1:])
+        if generated is None:
+            self.said(words, drawn_words.BAD_WORDS)
+            return
+        lines = drawn_words.generated_commands(generated)
+        data, blank = "".join(f"{it}\n" for it in lines).encode(), spell_image(blank_image(generated.config()))
+        write_file(COMMANDS, data)
+        write_file(IMAGE, blank)
+        ended = self.run(["run", IMAGE, COMMANDS])
+        replies = check_run(read(blank, IMAGE), blank, data, COMMANDS, ended, read_file(IMAGE))
+        remove(IMAGE)
+        self.said(words, drawn_words.Wanted(0, drawn_words.summary(generated, len(lines), replies)))
+
+
+def image_commands(draw: random.Random, reading: Reading) -> Optional[bytes]:
+    """Commands for an image: in the grammar, but for a few that are none or are not there."""
+    how = draw.random()
+    if how < 0.02:
+        return None
+    config = reading.image.config if reading.image else DEFAULT
+    if how < 0.06:
+        return drawn_commands.spoiled(draw, config)
+    return drawn_commands.draw_script(draw, config)
+
+
+def need_files(has_commands: bool) -> None:
+    wanted = sorted([IMAGE, "old", *([COMMANDS] if has_commands else [])])
+    found = sorted(os.listdir("."))
+    for name in set(found) - set(wanted):
+        os.remove(name)
+    need(found == wanted, f"the folder holds {found}")
+
+
+def remove(name: str) -> None:
+    if os.path.lexists(name):
+        os.remove(name)
+
+
+def outcome(reading: Reading) -> str:
+    words = reading.said.split(" ")
+    if reading.status == 7:
+        assert reading.image
+        return f"law {words[2]} {PROTOCOLS[reading.image.config.protocol]}"
+    return f"rule {words[2].strip()}" if reading.status == 3 else "sound"
+
+
+def work(job: Job) -> Found:
+    os.nice(10)
+    folder = tempfile.mkdtemp(prefix="sweep-", dir=job.room)
+    os.chdir(folder)
+    os.mkdir("old")
+    sweeper = Sweeper(job)
+    try:
+        for work_of, most in ((sweeper.image, job.images), (sweeper.command_file, job.commands),
+                              (sweeper.word_list, job.words)):
+            for number in range(job.first, most, job.step):
+                if not (job.stops and sweeper.differ):
+                    work_of(number)
+    finally:
+        os.chdir("/")
+        shutil.rmtree(folder)
+    return Found(sweeper.counts, sweeper.differ, sweeper.slowest)
+
+
+RULES = ("short", "magic", "protocol", "reserved", "config", "length", "state", "bytes")
+LAWS = [f"law {law} {protocol}" for protocol, laws in (("scc", (1, 2, 3, 5, 8)), ("bpcc", range(1, 9))) for law in laws]
+
+
+def rare(counts: Counter[str]) -> List[str]:
+    """The rules and laws that were met too seldom."""
+    return [it for it in [*(f"rule {it}" for it in RULES), *LAWS] if counts[it] < WANTED]
+
+
+def sweep(args: argparse.Namespace) -> int:
+    begun = time.monotonic()
+    program = os.path.abspath(args.program)
+    jobs = [Job(program, args.seed, it, args.processes, args.images, args.commands, args.words, args.stop,
+                args.room, os.path.abspath(args.keep)) for it in range(args.processes)]
+    with multiprocessing.Pool(args.processes) as pool:
+        found = pool.map(work, jobs, 1)
+    counts: Counter[str] = sum((it.counts for it in found), collections.Counter())
+    differ, slowest = sum(it.differ for it in found), max(it.slowest for it in found)
+    for name in sorted(counts):
+        print(f"{counts[name]:9} {name}")
+    seldom = rare(counts) if args.images else []
+    if seldom:
+        print(f"sweep: met fewer than {WANTED} times: {', '.join(seldom)}")
+    seconds = time.monotonic() - begun
+    print(f"sweep: seed {args.seed}: {args.images} images, {args.commands} command files, {args.words} lists of words, "
+          f"{counts['runs']} runs in {seconds:.0f} s, the slowest {slowest:.2f} s: {differ} differ", flush=True)
+    faults = 0
+    if args.edges:
+        faults += edges.try_edges(Program(program), args.room)
+    if args.kills:
+        faults += kills.kill_often(Program(program), args.kills, args.seed, None)
+    if args.disk:
+        faults += disk.try_disk(program)
+    if args.allocations:
+        faults += allocations.refuse_each(program, args.room)
+    return 1 if differ or seldom or faults else 0
+
+
+def main() -> int:
+    parser = argparse.ArgumentParser(description=__doc__, formatter_class=argparse.RawDescriptionHelpFormatter)
+    parser.add_argument("program")
+    parser.add_argument("--images", type=int, default=1000)
+    parser.add_argument("--commands", type=int, default=1000)
+    parser.add_argument("--words", type=int, default=0)
+    parser.add_argument("--seed", type=int, default=1)
+    parser.add_argument("--processes", type=int, default=2)
+    parser.add_argument("--stop", action="store_true", help="each process ends at its first difference")
+    parser.add_argument("--keep", default="differ")
+    parser.add_argument("--edges", action="store_true")
+    parser.add_argument("--kills", type=int, default=0)
+    parser.add_argument("--disk", action="store_true")
+    parser.add_argument("--allocations", action="store_true")
+    parser.add_argument("--room", default="/dev/shm" if os.path.isdir("/dev/shm") else None)
+    return sweep(parser.parse_args())
+
+
+if __name__ == "__main__":
+    sys.exit(main())
