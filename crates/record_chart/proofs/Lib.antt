@@ -1,6 +1,8 @@
 pub mod Alike
+mod CountLaw
 mod Groups
 mod MinimaSteps
+pub mod NameReturns
 mod Narrowed
 mod Noted
 mod OneOrbit

@@ -3,6 +3,9 @@
 #![tactic(auto)]
 
 mod chart;
+mod count_law;
+#[cfg(test)]
+mod count_tests;
 mod follow;
 mod group;
 mod in_order;
@@ -19,6 +22,7 @@ mod theorems;
 mod walks;
 
 pub use chart::Chart;
+pub use count_law::{counts, name_orbits};
 pub use in_order::sort_by_link;
 pub use orbit::Orbit;
 pub use orbits::Orbits;

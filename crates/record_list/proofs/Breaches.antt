@@ -1,6 +1,6 @@
 -- From the first record that breaks a law to the least breach of a list.
 use Rattle.std.proofs.Common.{◌≡◌, ℕ, ◌+◌, ◌<◌, Some, List, length, get_or, refl, sym, subst, ap, ◌∙◌, arith, inl, inr}
-use Rattle.std.specs.Prelude.{◌==◌, if◌then◌else◌, All}
+use Rattle.std.specs.Prelude.{◌==◌, if◌then◌else◌, All, Any}
 use Rattle.std.proofs.lemmas.Bool.{cases_order}
 use Rattle.std.proofs.lemmas.List.{get_or_default}
 use Rattle.tx_types.specs.declared.config.Protocol.{Protocol}
@@ -9,6 +9,7 @@ use Rattle.record_list.specs.declared.found.Breach.{Breach}
 use Rattle.record_list.specs.Records.{nothing, IsScanned}
 use Rattle.record_list.specs.SoundList.{Law, Pages, Copies, Links, Present, Counted, Loose, Ending, number, Keeps, PagesExist, CopiesAgree, LinksDiffer, CurrentIsPresent, LinkHasCounted, IsLeastBreach}
 use Rattle.record_list.specs.Search.{FindsFirst}
+use Rattle.record_list.specs.Counts.{KeepsCount, IsLeastMiscount}
 
 -- an earlier slot stands at an earlier index
 pub earlier_index : (list : List Found) (k i : ℕ) (d : Found) → IsScanned list → k < length list →
@@ -26,21 +27,25 @@ earlier_index list k i d scanned inside below = elim (cases_order k i) [
 ]
 
 -- the first record that breaks a law breaks it at the least slot
+least_slot : (P : Found → Type 0) (list : List Found) (i slot : ℕ) → IsScanned list → FindsFirst P list (Some i) →
+    slot ≡ (get_or list i nothing).slot.0 →
+    Any (λ f. (f.slot.0 ≡ slot) × (P f → ⊥)) list × All (λ f. f.slot.0 < slot → P f) list
+least_slot P list i slot scanned (inside, fails, before) at = (
+  (i, get_or list i nothing, inside, get_or_default list i (get_or list i nothing) nothing inside, (sym at, fails nothing)),
+  λ k d within below.
+      let same : (get_or list i d).slot.0 ≡ slot = ap (λ f. f.slot.0) (get_or_default list i d nothing inside) ∙ sym at in
+      let above : (get_or list k d).slot.0 < (get_or list i d).slot.0 = omega arith in
+      before k d (earlier_index list k i d scanned within above),
+)
+
 pub least_breach : (protocol : Protocol) (list : List Found) (logical : ℕ) (law : Law) (i : ℕ) (b : Breach) →
     IsScanned list → FindsFirst (Keeps protocol list logical law) list (Some i) →
     number law ≡ b.law → b.slot ≡ (get_or list i nothing).slot →
     ((l : Law) → number l < number law → All (Keeps protocol list logical l) list) →
     IsLeastBreach protocol list logical b
-least_breach protocol list logical law i b scanned (inside, fails, before) law_number at earlier = record {
-  law = law;
-  law_number = law_number;
-  breaks = (i, get_or list i nothing, inside, get_or_default list i (get_or list i nothing) nothing inside, (sym (ap (λ s. s.0) at), fails nothing));
-  earlier_laws = earlier;
-  earlier_slots = λ k d within below.
-      let slot : (get_or list i d).slot.0 ≡ b.slot.0 = ap (λ f. f.slot.0) (get_or_default list i d nothing inside) ∙ sym (ap (λ s. s.0) at) in
-      let above : (get_or list k d).slot.0 < (get_or list i d).slot.0 = omega arith in
-      before k d (earlier_index list k i d scanned within above);
-}
+least_breach protocol list logical law i b scanned finds law_number at earlier =
+    let least = least_slot (Keeps protocol list logical law) list i b.slot.0 scanned finds (ap (λ s. s.0) at) in
+    record { law = law; law_number = law_number; breaks = least.0; earlier_laws = earlier; earlier_slots = least.1 }
 
 -- the law of a number
 law_of : ℕ → Law
@@ -97,6 +102,12 @@ before_counted P pages copies links present = one_law_more P Present (before_pre
 -- the breach of a law by the record at an index
 abbrev pub breach : ℕ → List Found → ℕ → Breach
 breach law list at = record { law = law; slot = (get_or list at nothing).slot }
+
+-- the least breach of law 9
+pub miscount_at : (list : List Found) (at : ℕ) → IsScanned list → FindsFirst (KeepsCount list) list (Some at) → IsLeastMiscount list (breach 9 list at)
+miscount_at list at scanned finds =
+    let least = least_slot (KeepsCount list) list at (get_or list at nothing).slot.0 scanned finds refl in
+    record { law = refl; breaks = least.0; earlier_slots = least.1 }
 
 -- the least breach, law by law
 pub breach_of_pages : (p : Protocol) (list : List Found) (logical at : ℕ) → IsScanned list →

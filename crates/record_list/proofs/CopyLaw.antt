@@ -12,10 +12,10 @@ use Rattle.record_list.specs.Verdict.{newest_name, link_of, back_of, straddling_
 use Rattle.record_list.specs.Current.{cur, fallback, is_held}
 use Rattle.record_list.specs.Changes.{CopyLaw}
 use Rattle.record_list.proofs.SoundNames.{IsSoundMap, sound_map, sound_list}
-use Rattle.record_list.proofs.LossAmong.{among_of, IsOneEach, IsSame, one_each, one_each_among, same_greatest, same_present, same_link, same_back}
+use Rattle.record_list.proofs.LossAmong.{among_of, copied_among, IsOneEach, IsSame, one_each, one_each_among, same_greatest, same_present, same_link, same_back}
 use Rattle.record_list.proofs.LossCounted.{counted_present}
 use Rattle.record_list.proofs.LossKept.{IsReduced, reduced_sound, reduced_held, reduced_answers, reduced_progress}
-use Rattle.record_list.proofs.OneMore.{inserted_in, in_inserted}
+use Rattle.record_list.proofs.OneMore.{in_inserted}
 use Rattle.record_list.proofs.Names.{named}
 
 -- one turn of a walk, by its parts
@@ -70,12 +70,7 @@ pub copy_law : (p : Protocol) → CopyLaw p
 copy_law p l m n f sound c =
     let s : IsSame l m = record {
       there = among_of l m (in_inserted l m f c.added);
-      back = record {
-        among = λ g i. ⊎_elim
-            (λ e. record { at = c.source.1; is_in = (c.source.0, c.source.2, c.source.3); is = c.source.4 ∙ ap (λ (x : Found). x.rec) e })
-            (λ old. record { at = g; is_in = old; is = refl })
-            (inserted_in l m f c.added g i);
-      };
+      back = copied_among l m f c;
     } in
     let was : IsSoundMap p l n = sound_map p l n sound c.scanned in
     let one' : IsOneEach m = one_each_among l m s.back (one_each p l n was) in

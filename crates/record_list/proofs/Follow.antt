@@ -1,5 +1,5 @@
 -- Links followed from a name: an absent one is not left again, and no more distinct present ones are met than there are records.
-use Rattle.std.proofs.Common.{◌≡◌, ℕ, zero, suc, ◌+◌, ◌<◌, ◌≤◌, Bool, true, false, ◌||◌, eqb, List, [], ◌∷◌, length, refl, sym, ap, ◌∙◌, subst, inl, inr, arith, if◌then◌else◌, ne_eqb, add-zero, add-suc, ◌-◌}
+use Rattle.std.proofs.Common.{◌≡◌, ℕ, zero, suc, ◌+◌, ◌<◌, ◌≤◌, Bool, true, false, ◌||◌, eqb, List, [], ◌∷◌, length, refl, sym, ap, ◌∙◌, subst, inl, inr, arith, if◌then◌else◌, ne_eqb, add-zero, add-suc, add-one, ◌-◌}
 use Rattle.std.specs.List.{AllByRecursion, IsDistinct}
 use Rattle.std.proofs.lemmas.Bool.{false≢true, cases_Bool, cases_lt, cond-true, cond-false, or_cases}
 use Rattle.std.proofs.lemmas.Map.Steps.{length-le_from_distinct_below}
@@ -58,6 +58,15 @@ place_once (f ∷ fs) u v hu hv e = elim (cases_Bool (has_name u f.rec)) [
 pub follow_last : (l : List Found) (u : Link) (n : ℕ) → follow l u (suc n) ≡ link_of l (follow l u n)
 follow_last l u zero = refl
 follow_last l u (suc n) = follow_last l (link_of l u) n
+
+-- the link of the name that so many links lead to
+pub one_more_link : (l : List Found) (u at : Link) (n : ℕ) → at ≡ follow l u n → link_of l at ≡ follow l u (n + 1)
+one_more_link l u at n e = ap (link_of l) e ∙ sym (follow_last l u n) ∙ ap (follow l u) (sym (add-one n))
+
+-- so many links and then so many more
+pub follow_add : (l : List Found) (u : Link) (m n : ℕ) → follow l u (m + n) ≡ follow l (follow l u m) n
+follow_add l u zero n = let same : 0 + n ≡ n = omega arith in ap (follow l u) same
+follow_add l u (suc m) n = let one : suc m + n ≡ suc (m + n) = omega arith in ap (follow l u) one ∙ follow_add l (link_of l u) m n
 
 -- an absent name is not left again
 pub stays_absent : (l : List Found) (u : Link) (n k : ℕ) → n ≤ k → is_present l (follow l u n) ≡ false → is_present l (follow l u k) ≡ false

@@ -30,3 +30,6 @@ pub mod SccCurrent
 pub mod Asking
 pub mod Wanted
 pub mod Follow
+pub mod Returns
+pub mod Counting
+pub mod Flags

@@ -8,7 +8,9 @@ use Rattle.tx_types.specs.declared.config.Protocol.{Protocol}
 use Rattle.record_list.specs.declared.found.Found.{Found}
 use Rattle.record_list.specs.Records.{greatest, name_of, is_present}
 use Rattle.record_list.specs.Verdict.{record_named, link_of, back_of}
+use Rattle.record_list.specs.Changes.{IsCopy}
 use Rattle.record_list.proofs.SoundNames.{IsSoundMap}
+use Rattle.record_list.proofs.OneMore.{inserted_in}
 use Rattle.record_list.proofs.Names.{greatest_bound, greatest_least, found_named, present_as, links_from, backs_from, absent_record}
 
 -- a record of the list that is equal to this one
@@ -24,6 +26,15 @@ pub record IsAmong (l m : List Found) : Type 0 where
 -- as where each record of the first is in the second
 pub among_of : (l m : List Found) → ((f : Found) → Contains l f → Contains m f) → IsAmong l m
 among_of l m sub = record { among = λ f i. record { at = f; is_in = sub f i; is = refl } }
+
+-- and where a copy is added to the second
+pub copied_among : (l l' : List Found) (f : Found) → IsCopy l l' f → IsAmong l' l
+copied_among l l' f c = record {
+  among = λ g i. ⊎_elim
+      (λ e. record { at = c.source.1; is_in = (c.source.0, c.source.2, c.source.3); is = c.source.4 ∙ ap (λ (x : Found). x.rec) e })
+      (λ old. record { at = g; is_in = old; is = refl })
+      (inserted_in l l' f c.added g i);
+}
 
 -- records of one name are equal, whatever their slots
 pub record IsOneEach (l : List Found) : Type 0 where

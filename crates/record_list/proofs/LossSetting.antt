@@ -1,5 +1,5 @@
 -- The loss of records from a sound list: each name that is current or held stays present.
-use Rattle.std.proofs.Common.{◌≡◌, ◌≢◌, ℕ, ◌<◌, ◌≤◌, ◌⊎◌, true, List, sym, refl, ap, ◌∙◌, subst, inl, inr, ⊎_elim, arith, Contains, ltb}
+use Rattle.std.proofs.Common.{◌≡◌, ◌≢◌, ℕ, ◌<◌, ◌≤◌, true, List, sym, refl, ap, ◌∙◌, subst, inl, inr, ⊎_elim, arith, Contains, ltb}
 use Rattle.std.proofs.lemmas.Bool.{cases_lt, and_parts, ltb-true}
 use Rattle.list_facts.proofs.Tests.{any_from}
 use Rattle.tx_types.specs.declared.record.Link.{Link}

@@ -7,7 +7,7 @@ use Rattle.list_facts.proofs.Values.{if_positive}
 use Rattle.tx_types.specs.declared.record.Link.{Link}
 use Rattle.tx_types.specs.declared.record.Rec.{Rec}
 use Rattle.record_list.specs.declared.found.Found.{Found}
-use Rattle.record_list.specs.Records.{greatest, version_of, version_below, newest, next_older, name_of, has_name, is_present}
+use Rattle.record_list.specs.Records.{greatest, version_of, version_below, newest, next_older, name_of, has_name, is_same, is_present}
 use Rattle.record_list.specs.Verdict.{newest_name, record_named, link_of, back_of}
 
 -- a name from its parts
@@ -17,6 +17,16 @@ named p v = record { page = p; version = v }
 -- two names with equal parts are one
 pub same_name : (u v : Link) → u.page ≡ v.page → u.version ≡ v.version → u ≡ v
 same_name u v e f = ap₂ named e f
+
+-- names that pass the test are one
+pub is_same_true : (a b : Link) → is_same a b ≡ true → a ≡ b
+is_same_true a b h =
+    let parts = and_parts (eqb a.page b.page) (eqb a.version b.version) h in
+    same_name a b (eqb-true a.page b.page parts.0) (eqb-true a.version b.version parts.1)
+
+-- and a name passes its own
+pub is_same_own : (a b : Link) → a ≡ b → is_same a b ≡ true
+is_same_own a b e = and_from (eqb a.page b.page) (eqb a.version b.version) (eq-eqb _ _ (ap (λ n. n.page) e)) (eq-eqb _ _ (ap (λ n. n.version) e))
 
 -- a record that passes the test for a name has it
 pub has_name_true : (u : Link) (r : Rec) → has_name u r ≡ true → name_of r ≡ u

@@ -12,7 +12,7 @@ abbrev pub Follows : List Link → Link → Link → Type 0
 Follows names a b = Contains (zip names (next_names names)) (a, b)
 
 -- each name with the next, the last with `end`
-abbrev chain : Link → List Link → Link → List (Link × Link)
+abbrev pub chain : Link → List Link → Link → List (Link × Link)
 chain x xs end = zip (x ∷ xs) (xs ++ end ∷ [])
 
 -- a name is in the list or not
@@ -119,7 +119,7 @@ abbrev pub Apart : List Link → Type 0
 Apart names = AllPairs (λ a b. a.page ≢ b.page) names
 
 -- the first page is none of the others, which are distinct
-head_apart : (x : Link) (xs : List Link) (y : Link) → Apart (x ∷ xs) → Contains xs y → x.page ≡ y.page → ⊥
+pub head_apart : (x : Link) (xs : List Link) (y : Link) → Apart (x ∷ xs) → Contains xs y → x.page ≡ y.page → ⊥
 head_apart x xs y all i = pairs_head (λ a b. a.page ≢ b.page) x xs y all i
 
 tail_apart : (x : Link) (xs : List Link) → Apart (x ∷ xs) → Apart xs

@@ -8,4 +8,5 @@ pub mod Written
 pub mod WrittenChanges
 pub mod ArrayChanges
 pub mod Search
+pub mod Counts
 pub mod Examples

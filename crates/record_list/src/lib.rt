@@ -2,13 +2,17 @@
 //! trait of a commit protocol.
 #![tactic(auto)]
 
+mod count_law;
 mod found;
 mod laws;
 mod plain;
 mod rule;
+#[cfg(test)]
+mod tests;
 mod theorems;
 mod walks;
 
+pub use count_law::counts;
 pub use found::{Breach, Found, Verdict, Why};
 pub use laws::{
     breach_at, first_contradiction, first_early_link, first_misplaced, first_shared_link,
@@ -16,5 +20,7 @@ pub use laws::{
 };
 pub use plain::{mention, newest, next_older, present};
 pub use rule::CommitRule;
-pub use theorems::{array_changes, current_is_present, walk_ends, worked_examples};
+pub use theorems::{
+    array_changes, counts_stay, current_is_present, flags_stay, walk_ends, worked_examples,
+};
 pub use walks::{current_version, link_of, reason, straddling};

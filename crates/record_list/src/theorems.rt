@@ -8,6 +8,7 @@ ghost use Rattle.record_list.specs.Verdict.{newest_name, link_of, walk, why};
 ghost use Rattle.record_list.specs.SoundList.{CurrentIsPresent, IsSoundList};
 ghost use Rattle.record_list.specs.Changes.{PartialWriteLaw, CompletingWriteLaw, CopyLaw, LossLaw};
 ghost use Rattle.record_list.specs.ArrayChanges.{PartialWriteLeavesArray, CompletingWriteTakesTransaction, CopyLeavesArray, BlockLossLeavesArray};
+ghost use Rattle.record_list.specs.Counts.{WriteKeepsCounts, CopyKeepsCounts, LossKeepsCounts, WriteKeepsFlags, OthersKeepFlags, CopyKeepsFlags, LossKeepsFlags};
 ghost use Rattle.record_list.specs.Examples.{StraddledVerdict, StraddledIsHeld, NamesakeIsHeld, CopiedHome, UnansweredBreaks, MisledBreaks, ClosedBreaks, TwiceMentioned};
 
 /// On a sound list as many links as there are pages decide a verdict: a walk that may look at more of
@@ -35,6 +36,23 @@ pub fn array_changes()
         CompletingWriteTakesTransaction protocol }
     ensures copy { (protocol : Protocol) → CopyLaw protocol → CopyLeavesArray protocol }
     ensures block_loss { (protocol : Protocol) → LossLaw protocol → BlockLossLeavesArray protocol }
+{}
+
+/// Law 9 stays where a record of a transaction is written whose records count its names, where a record
+/// is copied, and where records are lost. The last two ask for law 2, and none for another law.
+pub fn counts_stay()
+    ensures write { WriteKeepsCounts }
+    ensures copy { CopyKeepsCounts }
+    ensures loss { LossKeepsCounts }
+{}
+
+/// So do the flags of a transaction. A record that is written has the flag of its name, or is of a
+/// transaction that shares no page with it.
+pub fn flags_stay()
+    ensures write { WriteKeepsFlags }
+    ensures others { OthersKeepFlags }
+    ensures copy { CopyKeepsFlags }
+    ensures loss { LossKeepsFlags }
 {}
 
 /// What the definitions say of lists of a few records.

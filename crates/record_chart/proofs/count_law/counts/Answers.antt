@@ -1,0 +1,24 @@
+use Rattle.std.proofs.Common.{None, Some, subst}
+use Rattle.record_list.specs.Search.{FindsFirst}
+use Rattle.record_list.specs.Counts.{KeepsCount}
+use Rattle.record_list.proofs.Breaches.{miscount_at}
+use Rattle.record_list.proofs.Counting.{none_counted}
+use Rattle.record_chart.proofs.CountLaw.{namesakes, miscounts_alike}
+use Rattle.record_chart.proofs.count_law.counts.Goals as goal
+
+pub returns-then-not-has_count : goal.returns-then-not-has_count
+returns-then-not-has_count c = none_counted c.args.list.now (c.has_count.ensures c.if-not-has_count.true)
+
+pub first_miscount-requires-clause-namesakes : goal.first_miscount-requires-clause-namesakes
+first_miscount-requires-clause-namesakes c = namesakes c.args.list.now c.args.chart.now c.requires.sorts c.requires.copies c.requires.scanned
+
+pub returns-in-None : goal.returns-in-None
+returns-in-None c =
+    miscounts_alike c.args.list.now c.args.chart.now c.requires.sorts c.requires.copies c.requires.scanned None
+    (subst (FindsFirst (KeepsCount c.args.chart.now) c.args.list.now) c.in-None.is c.first_miscount.ensures)
+
+pub returns : goal.returns
+returns c =
+    rw c.breach_at.ensures (miscount_at c.args.list.now c.in-Some.at c.requires.scanned
+    (miscounts_alike c.args.list.now c.args.chart.now c.requires.sorts c.requires.copies c.requires.scanned (Some c.in-Some.at)
+    (subst (FindsFirst (KeepsCount c.args.chart.now) c.args.list.now) c.in-Some.is c.first_miscount.ensures)))
