@@ -13,7 +13,7 @@ read_more-twice (suc more) (suc most) n =
     let same : suc (more + suc most) ≡ suc more + suc most = omega arith in
     counted_by-twice (suc more) (suc most) n ∙ ap (λ k. counted_by k n) (sym same) ∙ ap (λ k. read_more k n) same
 
-read_more-most : (more n : ℕ) → read_more more n ≤ n + more
+pub read_more-most : (more n : ℕ) → read_more more n ≤ n + more
 read_more-most zero n = omega arith
 read_more-most (suc more) n = omega arith
 

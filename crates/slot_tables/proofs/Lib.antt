@@ -17,3 +17,4 @@ pub mod WaitingFor
 pub mod FirstTables
 pub mod SpareSetting
 pub mod SpareFrame
+pub mod Ranges

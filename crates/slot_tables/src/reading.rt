@@ -5,8 +5,9 @@ ghost use Rattle.tx_types.specs.Config.{slots_of, blocks_of};
 ghost use Rattle.tx_types.specs.declared.record.Rec.{Rec};
 ghost use Rattle.plain_tables.specs.ChainLists.{next_in};
 ghost use Rattle.plain_tables.specs.Greatest.{greatest, sixteen_of, IsFirstGreatest};
-ghost use Rattle.slot_tables.specs.Kept.{use_at, record_at, numbers_at, number_at, home, copy_off, is_answerer, is_wanted, is_needed, garbage_of, garbage_numbers, blanks_of, written_of, WaitsBelow, IsLowestToGo, lower, IsKept};
+ghost use Rattle.slot_tables.specs.Kept.{use_at, copies_of, record_at, numbers_at, number_at, home, copy_off, is_answerer, is_wanted, is_needed, garbage_of, garbage_numbers, blanks_of, written_of, WaitsBelow, IsLowestToGo, lower, IsKept};
 ghost use Rattle.slot_tables.specs.declared.slots.SlotUse.TheVariants as slot;
+ghost use Rattle.slot_tables.specs.Copies.{NumbersBelow};
 ghost use Rattle.slot_tables.specs.Versions.{Names};
 
 use crate::Tables;
@@ -25,7 +26,8 @@ impl Tables {
     /// What a slot holds.
     pub fn slot(&self, at: Slot) -> SlotUse
         requires { at.0 < slots_of self.now.shape }
-        ensures { result ≡ use_at self.now.slots at.0 }
+        ensures slot { result ≡ use_at self.now.slots at.0 }
+        ensures within { NumbersBelow (slots_of self.now.shape) result }
     {
         self.given.slots.get(at.0)
     }
@@ -41,7 +43,8 @@ impl Tables {
     /// The number of the newest record of a page.
     pub fn newest(&self, page: u32) -> Option<u32>
         requires { page < length self.now.pages }
-        ensures { result ≡ slice_get (numbers_at self.now.pages page) 0 }
+        ensures newest { result ≡ slice_get (numbers_at self.now.pages page) 0 }
+        ensures within { IfSome result (λ number. number < slots_of self.now.shape) }
     {
         self.given.records.newest(page)
     }
@@ -70,7 +73,8 @@ impl Tables {
     /// The number of the current record of a page.
     pub fn current(&self, page: u32) -> Option<u32>
         requires { page < length self.now.pages }
-        ensures { result ≡ number_at self.now.current page }
+        ensures current { result ≡ number_at self.now.current page }
+        ensures within { IfSome result (λ number. number < slots_of self.now.shape) }
     {
         self.given.current.get(page)
     }
@@ -111,6 +115,7 @@ impl Tables {
         requires { page < length self.now.pages }
         ensures some { IfSome result (λ number. number_at self.now.waits number ≡ Some page) }
         ensures none { IfNone result ((number : ℕ) → number_at self.now.waits number ≡ Some page → ⊥) }
+        ensures within { IfSome result (λ number. number < slots_of self.now.shape) }
     {
         self.given.waits.by_page().first(page)
     }
@@ -148,6 +153,14 @@ impl Tables {
         ensures { option_map (λ block. block.0) result ≡ self.now.spare }
     {
         self.given.spare
+    }
+
+    /// The lowest slot that holds the record of a number.
+    pub fn first_copy(&self, number: u32) -> Option<Slot>
+        requires { number < slots_of self.now.shape }
+        ensures { option_map (λ at. at.0) result ≡ slice_get (copies_of self.now.slots number) 0 }
+    {
+        self.given.slots.first(number).map(Slot)
     }
 
     /// Where the record of a number is read: its lowest slot outside the spare, or its lowest slot where it

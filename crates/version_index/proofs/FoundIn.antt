@@ -79,7 +79,7 @@ pub found_in_damaged : (notes : List Note) (at : ℕ) → at < length notes → 
 unfolding found_in
 found_in_damaged notes at within was = given-unchanged numbered 0 notes at Blank Damaged within (ap (found_at (0 + at)) was) refl
 
-no_record : (note : Note) → rec_of note ≡ None → (m : ℕ) → found_at m note ≡ None
+pub no_record : (note : Note) → rec_of note ≡ None → (m : ℕ) → found_at m note ≡ None
 no_record Blank e m = refl
 no_record Damaged e m = refl
 no_record (Holds rec) e m = absurd (none-some rec (sym e))

@@ -10,3 +10,7 @@ pub mod JudgedChanges
 pub mod JudgedLaws
 pub mod JudgedExamples
 pub mod Numbered
+pub mod Going
+pub mod Losing
+pub mod Committing
+pub mod Filling

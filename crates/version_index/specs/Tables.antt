@@ -1,24 +1,72 @@
 -- How the tables keep what was noted.
-use Rattle.std.specs.Prelude.{◌≡◌, ◌≤◌, length, vec_capacity}
-use Rattle.std.specs.Option.{option_map}
+use Rattle.std.specs.Prelude.{◌≡◌, ℕ, length, map, List, Option, Some, None}
+use Rattle.std.specs.Option.{option_map_or}
 use Rattle.tx_types.specs.Config.{shape_of}
+use Rattle.tx_types.specs.declared.config.Config.{Config}
 use Rattle.tx_types.specs.declared.config.Protocol.{Protocol}
-use Rattle.version_index.specs.Notes.{found_in}
+use Rattle.tx_types.specs.declared.record.Rec.{Rec}
+use Rattle.record_list.specs.Records.{name_of}
+use Rattle.slot_tables.specs.declared.slots.SlotUse.{SlotUse}
+use Rattle.slot_tables.specs.declared.slots.SlotUse.TheVariants as slot
+use Rattle.slot_tables.specs.Kept.{Kept, use_at}
+use Rattle.version_index.specs.declared.note.Note.{Note}
+use Rattle.version_index.specs.declared.note.Note.TheVariants as note
 use Rattle.version_index.specs.Noted.{Noted, IsNoted}
+use Rattle.version_index.specs.JudgedChanges.{judged_of}
+use Rattle.version_index.specs.Numbered.{Numbered, rec_at, number_at, AreJudged}
 use Rattle.version_index.specs.declared.index.Index.TheInside.{Inside}
 
-abbrev pub noted_of : {R : Type 0} → Inside R → Noted
-noted_of d = record {
-  config = d.config;
-  notes = d.notes.items;
-  pins = d.pins.items;
-  spare = option_map (λ block. block.0) d.spare;
-  mentions = d.mentions.items;
+-- what is noted of a slot that is used so
+abbrev pub note_in : List (Option Rec) → SlotUse → Note
+note_in records slot.Blank = note.Blank
+note_in records slot.Damaged = note.Damaged
+note_in records (slot.Holds number) = option_map_or note.Holds (rec_at records number) note.Damaged
+
+abbrev pub notes_in : Kept → List Note
+notes_in k = map (note_in k.records) k.slots
+
+-- what is noted by tables, for a configuration and the mentions
+abbrev pub noted_by : Config → List ℕ → Kept → Noted
+noted_by its its_mentions k = record {
+  config = its;
+  notes = notes_in k;
+  pins = k.pins;
+  spare = k.spare;
+  mentions = its_mentions;
 }
 
--- the list is that of the noted records, and has room for one of each slot
-pub record IsTabled {R : Type 0} (protocol : Protocol) (d : Inside R) : Type 0 where
-  pub noted : IsNoted protocol (noted_of d)
-  pub shape : d.shape ≡ shape_of d.config
-  pub list : d.list.items ≡ found_in d.notes.items
-  pub capacity : length d.notes.items ≤ vec_capacity d.list
+abbrev pub noted_of : {R : Type 0} → Inside R → Noted
+noted_of d = noted_by d.config d.mentions.items d.tables
+
+-- the version of the record of a number, 0 where there is none
+abbrev pub version_at : Kept → Option ℕ → ℕ
+version_at k number = option_map_or (λ x. option_map_or (λ r. r.version) (rec_at k.records x) 0) number 0
+
+abbrev pub numbered_of : Kept → Numbered
+numbered_of k = record {
+  records = k.records;
+  current = k.current;
+  answerers = k.answerers;
+  waits = k.waits;
+}
+
+-- Each slot that holds a number holds its record, each record of a number is in some slot, no two numbers
+-- have records of one name, and a number without a record has no answerer and does not wait.
+pub record AreHeld (k : Kept) : Type 0 where
+  pub held : (at x : ℕ) → use_at k.slots at ≡ slot.Holds x → (r : Rec) × (rec_at k.records x ≡ Some r)
+  pub used : (x : ℕ) (r : Rec) → rec_at k.records x ≡ Some r → (at : ℕ) × (use_at k.slots at ≡ slot.Holds x)
+  pub once : (x y : ℕ) (r s : Rec) → rec_at k.records x ≡ Some r → rec_at k.records y ≡ Some s →
+      name_of r ≡ name_of s → x ≡ y
+  pub unused : (x : ℕ) → rec_at k.records x ≡ None →
+      (number_at k.answerers x ≡ None) × (number_at k.waits x ≡ None)
+
+-- the tables have what was noted, and what is judged of it
+pub record AreIndexed (protocol : Protocol) (its : Config) (its_mentions : List ℕ) (k : Kept) : Type 0 where
+  pub noted : IsNoted protocol (noted_by its its_mentions k)
+  pub shape : k.shape ≡ shape_of its
+  pub pages : length k.pages ≡ its.logical
+  pub held : AreHeld k
+  pub judged : AreJudged (numbered_of k) its.logical (judged_of (noted_by its its_mentions k))
+
+abbrev pub IsTabled : {R : Type 0} → Protocol → Inside R → Type 0
+IsTabled protocol d = AreIndexed protocol d.config d.mentions.items d.tables

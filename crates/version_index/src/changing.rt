@@ -4,9 +4,12 @@ ghost use Rattle.version_index.specs.declared.note.Note.TheVariants as note;
 ghost use Rattle.version_index.specs.Notes.{note_at, rec_of};
 ghost use Rattle.version_index.specs.Noted.{current_of, CanLose, IsNextRecord, IsCompleteCycle, programmed, damaged_at, copied, erased, lost, pinned, unpinned, with_spare};
 
-use crate::tables::{note_block, raise, recount};
-use crate::{Index, Note};
+use crate::Index;
+use crate::committing::settle_cycle;
+use crate::losing::use_block;
+use crate::mentioning::raise;
 use record_list::CommitRule;
+use slot_tables::SlotUse;
 use tx_types::{Block, Link, Rec, Slot};
 
 impl<R: CommitRule> Index<R> {
@@ -18,9 +21,18 @@ impl<R: CommitRule> Index<R> {
         requires asked { IsNextRecord self.old rec }
         ensures { self.new ≡ programmed self.old at.0 rec }
     {
-        self.notes[at.0 as usize] = Note::Holds(rec);
+        // The proof reads the sizes of the tables from this use.
+        let _ = self.tables.shape();
+        let number = self.tables.add(rec);
+        self.tables.set_slot(at, SlotUse::Holds(number));
+        self.tables.set_waits(number, Some(rec.next.page));
         raise(&mut self.mentions, rec);
-        recount(&mut self.list, &self.notes);
+        settle_cycle(
+            &mut self.tables,
+            self.config.logical,
+            self.config.protocol,
+            rec,
+        );
     }
 
     /// Notes that a blank slot became damaged.
@@ -29,8 +41,7 @@ impl<R: CommitRule> Index<R> {
         requires blank { note_at self.old.notes at.0 ≡ note.Blank }
         ensures { self.new ≡ damaged_at self.old at.0 }
     {
-        self.notes[at.0 as usize] = Note::Damaged;
-        recount(&mut self.list, &self.notes);
+        self.tables.set_slot(at, SlotUse::Damaged);
     }
 
     /// Notes that a blank slot was programmed with the record of another slot.
@@ -40,8 +51,8 @@ impl<R: CommitRule> Index<R> {
         requires blank { note_at self.old.notes to.0 ≡ note.Blank }
         ensures { self.new ≡ copied self.old from.0 to.0 }
     {
-        self.notes[to.0 as usize] = self.notes[from.0 as usize];
-        recount(&mut self.list, &self.notes);
+        let held = self.tables.slot(from);
+        self.tables.set_slot(to, held);
     }
 
     /// Notes that each slot of a block became blank. Each current and each held record has a slot
@@ -51,8 +62,7 @@ impl<R: CommitRule> Index<R> {
         requires outside { CanLose self.old block.0 }
         ensures { self.new ≡ erased self.old block.0 }
     {
-        note_block(&mut self.notes, self.shape, block, Note::Blank);
-        recount(&mut self.list, &self.notes);
+        use_block(&mut self.tables, block, SlotUse::Blank);
     }
 
     /// Notes that each slot of a block became damaged. Each current and each held record has a
@@ -62,8 +72,7 @@ impl<R: CommitRule> Index<R> {
         requires outside { CanLose self.old block.0 }
         ensures { self.new ≡ lost self.old block.0 }
     {
-        note_block(&mut self.notes, self.shape, block, Note::Damaged);
-        recount(&mut self.list, &self.notes);
+        use_block(&mut self.tables, block, SlotUse::Damaged);
     }
 
     /// Notes that the names of a transaction complete their cycle: each is current.
@@ -84,7 +93,7 @@ impl<R: CommitRule> Index<R> {
         requires { page < self.old.config.logical }
         ensures { self.new ≡ pinned self.old page version }
     {
-        self.pins[page as usize] = version;
+        self.tables.pin(page, version);
     }
 
     /// Takes away the version at which a page is pinned, if there is one.
@@ -92,7 +101,7 @@ impl<R: CommitRule> Index<R> {
         requires { page < self.old.config.logical }
         ensures { self.new ≡ unpinned self.old page }
     {
-        self.pins[page as usize] = 0;
+        self.tables.pin(page, 0);
     }
 
     /// Makes a block the spare.
@@ -100,6 +109,6 @@ impl<R: CommitRule> Index<R> {
         requires { block.0 < blocks_of (shape_of self.old.config) }
         ensures { self.new ≡ with_spare self.old block.0 }
     {
-        self.spare = Some(block);
+        self.tables.set_spare(block);
     }
 }

@@ -5,13 +5,15 @@ ghost use Rattle.record_list.specs.SoundList.{IsSoundList};
 ghost use Rattle.version_index.specs.Notes.{complete_slots};
 ghost use Rattle.version_index.specs.Noted.{IsNoted, IsNotedFrom};
 
-use crate::Note;
-use crate::tables::{first_mentions, no_pins, noted_slots, recount};
+use crate::filling::{fill, sorted};
+use crate::mentioning::first_mentions;
+use crate::noting::noted_slots;
 use flash_model::Seen;
 use record_list::{CommitRule, Found};
+use slot_tables::Tables;
 use std::alloc::Global;
 use std::marker::{Model, PhantomData};
-use tx_types::{Block, Config, Memory, Shape};
+use tx_types::{Config, Memory};
 
 /// What a device has noted of its flash, and what the commit rule `R` makes of it: the record of each
 /// slot, the current version of each page, where its record stands, and which slots are needed. It is
@@ -19,13 +21,7 @@ use tx_types::{Block, Config, Memory, Shape};
 #[derive(Drop)]
 pub struct Index<R: CommitRule> {
     pub(crate) config: Config,
-    pub(crate) shape: Shape,
-    pub(crate) notes: Vec<Note>,
-    /// The noted records, in the order of their slots.
-    pub(crate) list: Vec<Found>,
-    /// The version at which each page is pinned, 0 for none.
-    pub(crate) pins: Vec<u64>,
-    pub(crate) spare: Option<Block>,
+    pub(crate) tables: Tables,
     pub(crate) mentions: Vec<u64>,
     rule: PhantomData<R>,
 }
@@ -63,15 +59,12 @@ impl<R: CommitRule> Index<R> {
             unreachable!();
         };
         let notes = noted_slots(alloc, seen, list)?;
-        let mut all = Vec::with_capacity(alloc, shape.slots() as usize)?;
-        recount(&mut all, &notes);
+        let chart = sorted(alloc, list)?;
+        let mut tables = Tables::new(alloc, shape, config.logical)?;
+        fill(alloc, &mut tables, config, &notes, &chart)?;
         Ok(Index {
             config,
-            shape,
-            notes,
-            list: all,
-            pins: no_pins(alloc, config.logical)?,
-            spare: None,
+            tables,
             mentions: first_mentions(alloc, list, config.logical)?,
             rule: PhantomData,
         })

@@ -2,14 +2,20 @@
 #![tactic(auto)]
 
 mod changing;
-mod homes;
+mod clearing;
+mod committing;
+mod deciding;
+mod filling;
+mod holding;
 mod index;
 pub mod judging;
 pub mod laws;
-mod needs;
+mod losing;
+mod mentioning;
 mod note;
+mod noting;
+mod numbering;
 mod reading;
-mod tables;
 #[cfg(test)]
 mod tests;
 mod theorems;

@@ -5,12 +5,13 @@ ghost use Rattle.tx_types.specs.Config.{shape_of, slots_of, blocks_of};
 ghost use Rattle.version_index.specs.Notes.{note_at, seen_as, rec_of};
 ghost use Rattle.version_index.specs.Noted.{mention_of, current_of, current_name_of, home_of, slot_off, needed_of, block_to_go, garbage_of, shut_or_part, is_garbage_at, HoldsName};
 
-use crate::homes::{home, is_spare, lowest_outside};
-use crate::needs::{block_to_go, is_needed};
-use crate::{Index, Note};
+use crate::Index;
+use crate::clearing::lowest_to_go;
+use crate::committing::current_version;
 use flash_model::Seen;
 use record_list::CommitRule;
-use tx_types::{Block, Link, Rec, Slot};
+use slot_tables::SlotUse;
+use tx_types::{Block, Rec, Slot};
 
 impl<R: CommitRule> Index<R> {
     /// How a slot reads, as it was noted.
@@ -18,10 +19,10 @@ impl<R: CommitRule> Index<R> {
         requires { at.0 < slots_of (shape_of self.now.config) }
         ensures { result ≡ seen_as (note_at self.now.notes at.0) }
     {
-        match self.notes[at.0 as usize] {
-            Note::Blank => Seen::Blank,
-            Note::Damaged => Seen::Damaged,
-            Note::Holds(_) => Seen::Complete,
+        match self.tables.slot(at) {
+            SlotUse::Blank => Seen::Blank,
+            SlotUse::Damaged => Seen::Damaged,
+            SlotUse::Holds(_) => Seen::Complete,
         }
     }
 
@@ -30,9 +31,9 @@ impl<R: CommitRule> Index<R> {
         requires { at.0 < slots_of (shape_of self.now.config) }
         ensures { result ≡ rec_of (note_at self.now.notes at.0) }
     {
-        match self.notes[at.0 as usize] {
-            Note::Blank | Note::Damaged => None,
-            Note::Holds(rec) => Some(rec),
+        match self.tables.slot(at) {
+            SlotUse::Blank | SlotUse::Damaged => None,
+            SlotUse::Holds(number) => self.tables.record(number),
         }
     }
 
@@ -41,7 +42,7 @@ impl<R: CommitRule> Index<R> {
         requires { page < self.now.config.logical }
         ensures { result ≡ current_of self.now page }
     {
-        R::current(&self.list, self.config.logical, page)
+        current_version(&self.tables, page)
     }
 
     /// The greatest version at which a page was mentioned by a record that was ever noted, 0 for
@@ -63,8 +64,7 @@ impl<R: CommitRule> Index<R> {
         ensures holds { IfSome result (λ at.
             HoldsName self.now at.0 (current_name_of self.now page)) }
     {
-        let version = self.current(page);
-        home(&self.list, self.shape, self.spare, Link { page, version })
+        self.tables.locate(page)
     }
 
     /// The lowest slot outside a block that holds the current record of a page, in the spare or not,
@@ -77,8 +77,7 @@ impl<R: CommitRule> Index<R> {
         ensures holds { IfSome result (λ at.
             HoldsName self.now at.0 (current_name_of self.now page)) }
     {
-        let version = self.current(page);
-        lowest_outside(&self.list, self.shape, block, Link { page, version })
+        self.tables.locate_off(page, block)
     }
 
     /// Whether a slot is the home of a record that is current, or held, or pinned.
@@ -86,14 +85,7 @@ impl<R: CommitRule> Index<R> {
         requires { at.0 < slots_of (shape_of self.now.config) }
         ensures { result ≡ needed_of self.now at.0 }
     {
-        is_needed::<R>(
-            &self.list,
-            self.config.logical,
-            self.shape,
-            self.spare,
-            &self.pins,
-            at,
-        )
+        self.tables.needed(at)
     }
 
     /// The lowest block that holds a record which must go before the version `below` of a page is
@@ -102,7 +94,11 @@ impl<R: CommitRule> Index<R> {
         requires { page < self.now.config.logical }
         ensures { option_map (λ block. block.0) result ≡ block_to_go self.now page below }
     {
-        block_to_go::<R>(&self.list, self.config.logical, self.shape, page, below)
+        let shape = self.tables.shape();
+        match lowest_to_go(&self.tables, self.config.protocol, page, below) {
+            None => None,
+            Some(at) => Some(Block(at.0 / shape.pages_per_block)),
+        }
     }
 
     /// The number of garbage slots of a block: those that are not needed, without its blank ones where
@@ -111,33 +107,6 @@ impl<R: CommitRule> Index<R> {
         requires { block.0 < blocks_of (shape_of self.now.config) }
         ensures { result ≡ garbage_of self.now block.0 shut }
     {
-        if is_spare(self.spare, block) {
-            return 0;
-        }
-        self.count_garbage(block.0 * self.shape.pages_per_block, shut)
-    }
-
-    /// The number of garbage slots of a block that begins at this slot and is not the spare.
-    fn count_garbage(&self, first: u32, shut: bool) -> u32
-        requires { first + self.now.config.pages_per_block ≤ slots_of (shape_of self.now.config) }
-        ensures { result ≡ count_by (is_garbage_at self.now (shut_or_part shut))
-            (range_with_len first self.now.config.pages_per_block) }
-    {
-        let mut count = 0;
-        for at in first..first + self.shape.pages_per_block {
-            if self.is_garbage(Slot(at), shut) {
-                count += 1;
-            }
-        }
-        count
-    }
-
-    /// Whether a slot is garbage, by whether its block is shut. The block is not the spare.
-    fn is_garbage(&self, at: Slot, shut: bool) -> bool
-        requires { at.0 < slots_of (shape_of self.now.config) }
-        ensures { result ≡ is_garbage_at self.now (shut_or_part shut) at.0 }
-    {
-        let is_free = !shut && self.notes[at.0 as usize] == Note::Blank;
-        !is_free && !self.needed(at)
+        self.tables.garbage(block, shut)
     }
 }

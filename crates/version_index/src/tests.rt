@@ -1,11 +1,11 @@
 ghost use Rattle.record_list.specs.Records.{IsScanned};
-ghost use Rattle.std.specs.Prelude.{◌≡◌, ◌<◌, [], ◌∷◌, length, map, IsTrue, Ok};
+ghost use Rattle.std.specs.Prelude.{◌≡◌, ◌<◌, [], ◌∷◌, length, map, IsTrue, IfOk, Ok};
 ghost use Rattle.tx_types.specs.Config.{checked, shape_of, slots_of, blocks_of};
 ghost use Rattle.version_index.specs.declared.note.Note.TheVariants as note;
 ghost use Rattle.version_index.specs.Notes.{note_at, found_in, complete_slots};
 ghost use Rattle.version_index.specs.Noted.{IsNextRecord, IsCompleteCycle};
 
-use crate::{Index, Note};
+use crate::Index;
 use bpcc_commit::Bpcc;
 use flash_model::Seen;
 use flash_model::Seen::{Blank, Complete, Damaged};
@@ -44,7 +44,8 @@ fn rec(name: (u32, u64), next: (u32, u64), back: u64) -> Rec {
 
 /// A record in a slot.
 fn found(slot: u32, rec: Rec) -> Found
-    ensures { result.slot.0 ≡ slot }
+    ensures slot { result.slot.0 ≡ slot }
+    ensures rec { result.rec ≡ rec }
 {
     Found {
         slot: Slot(slot),
@@ -112,14 +113,34 @@ fn is_blank<R: CommitRule>(index: &Index<R>, at: Slot) -> bool
     ensures { IsTrue result → (at.0 < slots_of (shape_of index.now.config))
         × (note_at index.now.notes at.0 ≡ note.Blank) }
 {
-    has_slot(index, at) && index.notes[at.0 as usize] == Note::Blank
+    has_slot(index, at) && index.seen(at) == Blank
+}
+
+/// The noted records, in the order of their slots.
+fn records<R: CommitRule>(alloc: Global, index: &Index<R>) -> Result<Vec<Found>, Memory>
+    ensures { IfOk result (λ list. list.items ≡ found_in index.now.notes) }
+{
+    let shape = index.tables.shape();
+    let mut list = Vec::new(alloc);
+    for at in 0..shape.slots() {
+        if let Some(rec) = index.rec(Slot(at)) {
+            list.push(found(at, rec))?;
+        }
+    }
+    Ok(list)
 }
 
 /// Whether no slot holds a record.
 fn has_no_record<R: CommitRule>(index: &Index<R>) -> bool
     ensures { IsTrue result → found_in index.now.notes ≡ [] }
 {
-    index.list.is_empty()
+    let shape = index.tables.shape();
+    for at in 0..shape.slots() {
+        if index.rec(Slot(at)).is_some() {
+            return false;
+        }
+    }
+    true
 }
 
 /// Whether a record is one that a transaction of one page asks for where there is no record yet.
@@ -149,12 +170,12 @@ fn is_first_record(index: &Index<Scc>, rec: Rec) -> bool
 }
 
 /// Whether a record that links to itself is the newest of its page.
-fn is_cycle_of_one<R: CommitRule>(index: &Index<R>, name: Link) -> bool
+fn is_cycle_of_one<R: CommitRule>(index: &Index<R>, list: &[Found], name: Link) -> bool
+    requires { list.now ≡ found_in index.now.notes }
     ensures { IsTrue result → IsCompleteCycle index.now (name ∷ []) }
 {
-    present(&index.list, name)
-        && newest(&index.list, name.page) == name.version
-        && link_of(&index.list, name) == name
+    let _ = index;
+    present(list, name) && newest(list, name.page) == name.version && link_of(list, name) == name
 }
 
 /// Of a page its current version, its mention, its home, and its lowest slot outside block 1.
@@ -288,7 +309,8 @@ fn a_first_record(rt: HostRuntime) -> Result<(), Fail> {
         page: 2,
         version: 5,
     };
-    assert!(rt; is_cycle_of_one(&index, name));
+    let list = records(rt.alloc(), &index)?;
+    assert!(rt; is_cycle_of_one(&index, &list, name));
     index.commit(&[name]);
     expect_pages(
         &rt,

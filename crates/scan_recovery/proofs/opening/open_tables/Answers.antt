@@ -1,6 +1,8 @@
 use Rattle.std.proofs.Common.{sym, ap, ◌∙◌, subst, subst₂}
 use Rattle.tx_types.specs.Config.{IsShape, shape_of, slots_of}
 use Rattle.tx_types.proofs.ConfigLemmas.{checked_config}
+use Rattle.record_list.specs.SoundList.{IsSoundList}
+use Rattle.record_list.specs.Written.{HasRemovable}
 use Rattle.scan_recovery.specs.Opening.{opening_table, IsChosenFrom}
 use Rattle.scan_recovery.proofs.opening.open_tables.Goals as goal
 
@@ -11,6 +13,15 @@ chosen_spare-requires-clause-shape g c =
 
 pub from_scan-requires-clause-seen : goal.from_scan-requires-clause-seen
 from_scan-requires-clause-seen g c = c.requires.seen ∙ ap slots_of (checked_config c.args.config c.args.shape c.requires.check).1
+
+pub returns-clause-sound : goal.returns-clause-sound
+returns-clause-sound g c =
+    let list = c.args.list.now in
+    let keeps = rw c.in_default.is at c.in_ok-law.ensures in
+    let finds = rw c.in-Some-2.is at c.in_ok-spare.ensures in (
+      subst₂ (λ p logical. IsSoundList p list logical) c.requires.protocol c.requires.logical keeps,
+      subst₂ (λ p logical. HasRemovable p list logical c.args.shape) c.requires.protocol c.requires.logical finds.1,
+    )
 
 pub returns-clause-tables : goal.returns-clause-tables
 returns-clause-tables g c =

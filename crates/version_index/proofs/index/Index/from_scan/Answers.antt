@@ -1,33 +1,112 @@
-use Rattle.std.proofs.Common.{◌≡◌, sym, ap, ◌∙◌, refl, arith, length}
-use Rattle.tx_types.specs.Config.{shape_of, slots_of}
-use Rattle.std.proofs.lemmas.List.{length-map}
+use Rattle.std.proofs.Common.{◌≡◌, ◌≤◌, ◌+◌, ◌-◌, ◌*◌, length, map, Contains, ap, sym, subst, refl, ◌∙◌, arith}
 use Rattle.std.specs.Result.{result_unwrap_or}
-use Rattle.version_index.specs.Notes.{seen_as, found_in}
+use Rattle.std.proofs.Math.Nat.{mul-le-mul_right}
+use Rattle.std.proofs.lemmas.List.{length-map}
+use Rattle.std.proofs.lemmas.List.Sorted.{length_permutation, Contains-permutation}
+use Rattle.tx_types.specs.Config.{IsShape, shape_of, slots_of, blocks_of}
+use Rattle.record_chart.specs.Charts.{Sorts}
+use Rattle.slot_tables.specs.Kept.{Kept, blank_tables}
+use Rattle.version_index.specs.Filling.{AreFilled}
+use Rattle.version_index.specs.Noted.{IsNoted, IsNotedFrom}
+use Rattle.version_index.specs.Notes.{found_in, seen_as}
+use Rattle.version_index.specs.Tables.{noted_by, notes_in, AreIndexed}
 use Rattle.version_index.proofs.NotedChanges.{fresh_noted}
+use Rattle.version_index.proofs.ScanJudged.{filled_indexed}
+use Rattle.version_index.proofs.ScanSizes.{found_length, sorted_agree, sorted_exist}
 use Rattle.version_index.proofs.index.Index.from_scan.Goals as goal
 
-pub invariant_of-result : goal.invariant_of-result
-invariant_of-result g c =
+pub fill-requires-clause-agree : goal.fill-requires-clause-agree
+fill-requires-clause-agree g c =
+    sorted_agree _ c.args.list.now c.in_ok-chart.chart c.args.config.logical c.requires.sound c.requires.scanned c.in_ok-chart.ensures
+
+pub fill-requires-clause-few : goal.fill-requires-clause-few
+fill-requires-clause-few g c =
     let same : c.in-Ok.shape ≡ shape_of c.args.config =
     ap (λ r. result_unwrap_or r (shape_of c.args.config)) (sym c.in-Ok.is ∙ c.check.ensures.exact ∙ c.requires.check) in
-    let slots = ap slots_of same in
-    record {
-      noted = fresh_noted _ c.args.config c.args.seen.now c.args.list.now _ c.requires.check c.in-Ok.ensures.bounds c.requires.rule c.requires.seen
-          c.requires.scanned c.requires.sound (record {
-            config = refl;
-            reads = c.in_ok-notes.ensures.seen;
-            found = c.in_ok-notes.ensures.found;
-            pins = c.in_ok-no_pins.ensures;
-            spare = refl;
-            mentions = c.in_ok-first_mentions.ensures;
-          });
-      shape = same;
-      list = c.recount.ensures.list ∙ ap found_in c.deref.ensures.value;
-      capacity =
-          let notes = sym (length-map c.in_ok-notes.notes.items seen_as) ∙ ap length c.in_ok-notes.ensures.seen in
-          let seen = c.requires.seen in
-          let number = c.slots.ensures in
-          let capacity = c.in_ok-all.ensures.capacity in
-          let stays = c.recount.ensures.capacity in
-          omega arith;
-    }
+    let slots = ap (λ (t : Kept). slots_of t.shape) c.in_ok-tables.ensures ∙ ap slots_of same in
+    let long = length_permutation c.args.list.now c.in_ok-chart.chart c.in_ok-chart.ensures.records in
+    let notes = sym (length-map c.in_ok-notes.notes.items seen_as) ∙ ap length c.in_ok-notes.ensures.seen in
+    let found = ap length c.in_ok-notes.ensures.found in
+    let few = found_length c.in_ok-notes.notes.items in
+    let seen = c.requires.seen in
+    omega arith
+
+pub invariant_of-result-2 : goal.invariant_of-result-2
+invariant_of-result-2 g c =
+    let t : Kept = c.fill.new.tables in
+    let its = c.args.config in
+    let m = c.in_ok-first_mentions.field-0.items in
+    let same : c.in-Ok.shape ≡ shape_of its =
+    ap (λ r. result_unwrap_or r (shape_of its)) (sym c.in-Ok.is ∙ c.check.ensures.exact ∙ c.requires.check) in
+    let shape = ap (λ (u : Kept). u.shape) c.in_ok-tables.ensures ∙ same in
+    let notes = c.in_ok-fill.ensures.notes ∙ c.deref.ensures.value in
+    let found = ap found_in notes ∙ c.in_ok-notes.ensures.found in
+    let filled = subst (λ s. AreFilled its.protocol c.in_ok-chart.chart s its.logical t) shape c.in_ok-fill.ensures.filled in
+    let noted = fresh_noted _ its c.args.seen.now c.args.list.now (noted_by its m t) c.requires.check c.in-Ok.ensures.bounds c.requires.rule
+    c.requires.seen c.requires.scanned c.requires.sound (record {
+      config = refl;
+      reads = ap (map seen_as) notes ∙ c.in_ok-notes.ensures.seen;
+      found = found;
+      pins = filled.pins;
+      spare = filled.spare;
+      mentions = c.in_ok-first_mentions.ensures;
+    }) in
+    subst (λ (k : Kept). AreIndexed g.R.CommitRule.protocol its m k) (sym c.tables.view_is)
+    (filled_indexed _ its m t c.in_ok-chart.chart noted (subst (λ l. Sorts l c.in_ok-chart.chart) (sym found) c.in_ok-chart.ensures) filled)
+
+pub returns : goal.returns
+returns g c =
+    let t : Kept = c.fill.new.tables in
+    let its = c.args.config in
+    let m = c.in_ok-first_mentions.field-0.items in
+    let notes = c.in_ok-fill.ensures.notes ∙ c.deref.ensures.value in
+    let filled = c.in_ok-fill.ensures.filled in
+    subst (λ (k : Kept). IsNotedFrom its c.args.seen.now c.args.list.now (noted_by its m k)) (sym c.tables.view_is) (record {
+      config = refl;
+      reads = ap (map seen_as) notes ∙ c.in_ok-notes.ensures.seen;
+      found = ap found_in notes ∙ c.in_ok-notes.ensures.found;
+      pins = filled.pins;
+      spare = filled.spare;
+      mentions = c.in_ok-first_mentions.ensures;
+    })
+
+pub new-requires-clause-pages : goal.new-requires-clause-pages
+new-requires-clause-pages g c =
+    let its = c.args.config in
+    let same : c.in-Ok.shape ≡ shape_of its =
+    ap (λ r. result_unwrap_or r (shape_of its)) (sym c.in-Ok.is ∙ c.check.ensures.exact ∙ c.requires.check) in
+    let blocks = blocks_of (shape_of its) in
+    let less : blocks - 1 ≤ blocks = omega arith in
+    let most : (blocks - 1) * its.pages_per_block ≤ blocks * its.pages_per_block = mul-le-mul_right its.pages_per_block less in
+    let space = c.in-Ok.ensures.bounds.space in
+    subst (λ s. its.logical ≤ slots_of s) (sym same) (omega arith)
+
+pub fill-requires-clause-exist : goal.fill-requires-clause-exist
+fill-requires-clause-exist g c =
+    sorted_exist _ c.args.list.now c.in_ok-chart.chart c.args.config.logical c.requires.sound c.requires.scanned c.in_ok-chart.ensures
+
+pub fill-requires-clause-listed : goal.fill-requires-clause-listed
+fill-requires-clause-listed g c f i =
+    Contains-permutation c.args.list.now c.in_ok-chart.chart f c.in_ok-chart.ensures.records
+    (subst (λ l. Contains l f) (ap found_in c.deref.ensures.value ∙ c.in_ok-notes.ensures.found) i)
+
+pub fill-requires-clause-notes : goal.fill-requires-clause-notes
+fill-requires-clause-notes g c =
+    let same : c.in-Ok.shape ≡ shape_of c.args.config =
+    ap (λ r. result_unwrap_or r (shape_of c.args.config)) (sym c.in-Ok.is ∙ c.check.ensures.exact ∙ c.requires.check) in
+    let slots = ap (λ (t : Kept). slots_of t.shape) c.in_ok-tables.ensures ∙ ap slots_of same in
+    let long = ap length c.deref.ensures.value in
+    let notes = sym (length-map c.in_ok-notes.notes.items seen_as) ∙ ap length c.in_ok-notes.ensures.seen in
+    let seen = c.requires.seen in
+    omega arith
+
+pub fill-requires-clause-blank : goal.fill-requires-clause-blank
+fill-requires-clause-blank g c =
+    let is = c.in_ok-tables.ensures in
+    is ∙ ap (λ s. blank_tables s c.args.config.logical) (sym (ap (λ (t : Kept). t.shape) is))
+
+pub new-requires-clause-shape : goal.new-requires-clause-shape
+new-requires-clause-shape g c =
+    let same : c.in-Ok.shape ≡ shape_of c.args.config =
+    ap (λ r. result_unwrap_or r (shape_of c.args.config)) (sym c.in-Ok.is ∙ c.check.ensures.exact ∙ c.requires.check) in
+    subst IsShape (sym same) c.in-Ok.ensures.bounds.shape

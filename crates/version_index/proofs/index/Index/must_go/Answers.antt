@@ -1,17 +1,23 @@
-use Rattle.std.proofs.Common.{◌/◌, ap, ◌∙◌}
+use Rattle.std.proofs.Common.{◌/◌, Some, None, refl, ap, ◌∙◌}
 use Rattle.std.specs.Option.{option_map}
-use Rattle.record_list.specs.Current.{must_go}
-use Rattle.record_list.specs.Written.{first_slot}
+use Rattle.tx_types.specs.declared.config.Shape.{Shape}
+use Rattle.tx_types.specs.declared.config.Slot.{Slot}
 use Rattle.version_index.specs.Noted.{block_to_go}
-use Rattle.version_index.proofs.Tabled.{tabled_pages, tabled_to_go}
+use Rattle.version_index.proofs.KeptGoing.{read_going}
 use Rattle.version_index.proofs.index.Index.must_go.Goals as goal
 
-pub block_to_go-requires-clause-pages : goal.block_to_go-requires-clause-pages
-block_to_go-requires-clause-pages g c = rw c.deref.ensures.value (tabled_pages _ c.self.inside c.self.invariant)
-
-pub returns : goal.returns
-returns g c =
+pub returns-in-None : goal.returns-in-None
+returns-in-None g c =
     let d = c.self.inside in
-    c.block_to_go.ensures
-    ∙ ap (λ l. option_map (λ slot. slot / d.shape.pages_per_block) (first_slot (λ f. must_go _ l d.config.logical c.args.page c.args.below f.rec) l)) c.deref.ensures.value
-    ∙ tabled_to_go _ d c.self.invariant c.args.page c.args.below ∙ ap (λ n. block_to_go n c.args.page c.args.below) c.self.view_is
+    let going = c.in-None.ensures in
+    read_going _ d.config d.mentions.items d.tables c.self.invariant c.shape-shape.ensures.kept c.args.page c.args.below None going.scc (λ e. refl)
+    ∙ ap (λ n. block_to_go n c.args.page c.args.below) c.self.view_is
+
+pub returns-in-Some : goal.returns-in-Some
+returns-in-Some g c =
+    let d = c.self.inside in
+    let going = c.in-Some.ensures in
+    ap (λ (s : Shape). Some (c.in-Some.at.0 / s.pages_per_block)) (c.shape-shape.ensures.shape ∙ c.self.invariant.shape)
+    ∙ read_going _ d.config d.mentions.items d.tables c.self.invariant c.shape-shape.ensures.kept c.args.page c.args.below (Some c.in-Some.at.0)
+    going.scc (λ e. ap (option_map (λ (at : Slot). at.0)) (going.bpcc e))
+    ∙ ap (λ n. block_to_go n c.args.page c.args.below) c.self.view_is

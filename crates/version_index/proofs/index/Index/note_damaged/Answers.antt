@@ -1,21 +1,22 @@
-use Rattle.std.proofs.Common.{◌≡◌, ◌<◌, sym, ap, subst, ◌∙◌, arith}
-use Rattle.std.proofs.lemmas.List.{length-set}
+use Rattle.std.proofs.Common.{◌≡◌, ◌<◌, ap, subst, sym, ◌∙◌}
 use Rattle.tx_types.specs.Config.{shape_of, slots_of}
 use Rattle.version_index.specs.declared.note.Note.TheVariants as note
-use Rattle.version_index.specs.Notes.{note_at, found_in}
-use Rattle.version_index.specs.Tables.{noted_of}
-use Rattle.version_index.proofs.NotedChanges.{damaged_noted}
+use Rattle.version_index.specs.Notes.{note_at}
+use Rattle.version_index.specs.Noted.{damaged_at}
+use Rattle.version_index.specs.Tables.{noted_by, AreIndexed}
+use Rattle.version_index.proofs.KeptChanges.{damaged_is, damaged_indexed}
 use Rattle.version_index.proofs.index.Index.note_damaged.Goals as goal
 
 pub invariant_of-self : goal.invariant_of-self
 invariant_of-self g c =
     let d = c.self.inside in
-    let t = c.self.invariant in
     let exists = subst (λ n. c.args.at.0 < slots_of (shape_of n.config)) (sym c.self.view_is) c.requires.exists in
     let was = subst (λ n. note_at n.notes c.args.at.0 ≡ note.Blank) (sym c.self.view_is) c.requires.blank in
-    record {
-      noted = damaged_noted _ (noted_of d) t.noted c.args.at.0 exists was;
-      shape = t.shape;
-      list = c.recount.ensures.list ∙ ap found_in c.deref.ensures.value;
-      capacity = let capacity = t.capacity in let same = c.recount.ensures.capacity in let long = length-set d.notes.items c.args.at.0 note.Damaged in omega arith;
-    }
+    subst (AreIndexed _ d.config d.mentions.items) (sym c.set_slot.ensures)
+    (damaged_indexed _ d.config d.mentions.items d.tables c.self.invariant c.args.at.0 exists was)
+
+pub returns : goal.returns
+returns g c =
+    let d = c.self.inside in
+    ap (noted_by d.config d.mentions.items) c.set_slot.ensures
+    ∙ damaged_is _ d.config d.mentions.items d.tables c.self.invariant c.args.at.0 ∙ ap (λ n. damaged_at n c.args.at.0) c.self.view_is

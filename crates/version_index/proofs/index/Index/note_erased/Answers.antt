@@ -1,28 +1,43 @@
-use Rattle.std.proofs.Common.{◌<◌, sym, ap, subst, ◌∙◌, arith, refl}
+use Rattle.std.proofs.Common.{◌≡◌, ◌<◌, ◌*◌, refl, ap, subst, sym, ◌∙◌}
+use Rattle.tx_types.specs.declared.config.Shape.{Shape}
 use Rattle.tx_types.specs.Config.{shape_of, blocks_of}
+use Rattle.slot_tables.specs.declared.slots.SlotUse.TheVariants as slot
+use Rattle.slot_tables.specs.Kept.{Kept}
 use Rattle.version_index.specs.declared.note.Note.TheVariants as note
-use Rattle.version_index.specs.Notes.{found_in, with_block_noted}
-use Rattle.version_index.specs.Noted.{IsNoted, CanLose}
-use Rattle.version_index.specs.Tables.{noted_of}
-use Rattle.version_index.proofs.Tabled.{tabled_block_end}
-use Rattle.version_index.proofs.NotedChanges.{block_noted}
+use Rattle.version_index.specs.Losing.{used_from}
+use Rattle.version_index.specs.Noted.{CanLose, erased}
+use Rattle.version_index.specs.Tables.{noted_by, AreIndexed}
+use Rattle.version_index.proofs.KeptLosses.{lost_is, lost_indexed}
 use Rattle.version_index.proofs.index.Index.note_erased.Goals as goal
 
-pub note_block-requires : goal.note_block-requires
-note_block-requires g c =
-    tabled_block_end _ c.self.inside c.self.invariant c.args.block.0 (subst (λ n. c.args.block.0 < blocks_of (shape_of n.config)) (sym c.self.view_is) c.requires.exists)
+pub use_block-requires-clause-block : goal.use_block-requires-clause-block
+use_block-requires-clause-block g c =
+    subst (λ s. c.args.block.0 < blocks_of s) (sym c.self.invariant.shape)
+    (subst (λ n. c.args.block.0 < blocks_of (shape_of n.config)) (sym c.self.view_is) c.requires.exists)
 
 pub invariant_of-self : goal.invariant_of-self
 invariant_of-self g c =
     let d = c.self.inside in
-    let t = c.self.invariant in
-    let exists = subst (λ n. c.args.block.0 < blocks_of (shape_of n.config)) (sym c.self.view_is) c.requires.exists in
-    let lose = subst (λ n. CanLose n c.args.block.0) (sym c.self.view_is) c.requires.outside in
-    let noted = block_noted _ (noted_of d) t.noted g.met.R.CommitRule.block_loss c.args.block.0 note.Blank refl exists lose in
-    record {
-      noted = subst (λ notes. IsNoted _ (record (noted_of d) { notes = notes }))
-          (ap (λ s. with_block_noted s d.notes.items c.args.block.0 note.Blank) (sym t.shape) ∙ sym c.note_block.ensures.notes) noted;
-      shape = t.shape;
-      list = c.recount.ensures.list ∙ ap found_in c.deref.ensures.value;
-      capacity = let capacity = t.capacity in let same = c.recount.ensures.capacity in let long = c.note_block.ensures.length in omega arith;
-    }
+    let k : Kept = d.tables in
+    let block = c.args.block.0 in
+    let exists = subst (λ n. block < blocks_of (shape_of n.config)) (sym c.self.view_is) c.requires.exists in
+    let lose = subst (λ n. CanLose n block) (sym c.self.view_is) c.requires.outside in
+    let used = c.use_block.ensures.used
+    ∙ ap (λ (s : Shape). used_from k (block * s.pages_per_block) slot.Blank s.pages_per_block) c.self.invariant.shape in
+    subst (AreIndexed _ d.config d.mentions.items) (sym used)
+    (lost_indexed _ d.config d.mentions.items k c.self.invariant c.use_block.ensures.kept g.met.R.CommitRule.block_loss block exists lose
+    slot.Blank tt note.Blank refl (λ _. refl))
+
+pub returns : goal.returns
+returns g c =
+    let d = c.self.inside in
+    let k : Kept = d.tables in
+    let block = c.args.block.0 in
+    let exists = subst (λ n. block < blocks_of (shape_of n.config)) (sym c.self.view_is) c.requires.exists in
+    let lose = subst (λ n. CanLose n block) (sym c.self.view_is) c.requires.outside in
+    let used = c.use_block.ensures.used
+    ∙ ap (λ (s : Shape). used_from k (block * s.pages_per_block) slot.Blank s.pages_per_block) c.self.invariant.shape in
+    ap (noted_by d.config d.mentions.items) used
+    ∙ lost_is _ d.config d.mentions.items k c.self.invariant c.use_block.ensures.kept g.met.R.CommitRule.block_loss block exists lose
+    slot.Blank tt note.Blank refl (λ _. refl)
+    ∙ ap (λ n. erased n block) c.self.view_is

@@ -1,31 +1,142 @@
-use Rattle.std.proofs.Common.{◌≡◌, ◌<◌, set, sym, ap, subst, ◌∙◌, arith}
+use Rattle.std.proofs.Common.{◌≡◌, ◌<◌, ◌∷◌, length, set, Some, refl, ap, subst, sym, ◌∙◌, arith}
 use Rattle.std.proofs.lemmas.List.{length-set}
 use Rattle.tx_types.specs.Config.{shape_of, slots_of}
+use Rattle.slot_tables.specs.declared.slots.SlotUse.TheVariants as slot
+use Rattle.slot_tables.specs.Kept.{Kept, IsKept, numbers_at}
 use Rattle.version_index.specs.declared.note.Note.TheVariants as note
-use Rattle.version_index.specs.Notes.{note_at, found_in}
-use Rattle.version_index.specs.Noted.{IsNoted, IsNextRecord}
-use Rattle.version_index.specs.Tables.{noted_of}
-use Rattle.version_index.proofs.NotedChanges.{next_spelled, programmed_noted}
+use Rattle.version_index.specs.Committing.{LinksExist, OnlyJudges, IsSettledSo}
+use Rattle.version_index.specs.Notes.{note_at}
+use Rattle.version_index.specs.Noted.{IsNextRecord, programmed, raised}
+use Rattle.version_index.specs.Tables.{noted_by, AreIndexed}
+use Rattle.version_index.proofs.NotedChanges.{next_spelled}
+use Rattle.version_index.proofs.KeptPrograms.{its_free, its_newest, with_links, whole_is, settled_indexed}
 use Rattle.version_index.proofs.index.Index.note_program.Goals as goal
+
+pub add-number-requires-clause-free : goal.add-number-requires-clause-free
+add-number-requires-clause-free g c =
+    let d = c.self.inside in
+    let exists = subst (λ n. c.args.at.0 < slots_of (shape_of n.config)) (sym c.self.view_is) c.requires.exists in
+    let was = subst (λ n. note_at n.notes c.args.at.0 ≡ note.Blank) (sym c.self.view_is) c.requires.blank in
+    let next = subst (λ n. IsNextRecord n c.args.rec) (sym c.self.view_is) c.requires.asked in
+    its_free _ d.config d.mentions.items d.tables c.self.invariant c.shape.ensures.kept c.args.at.0 c.args.rec exists was next
+
+pub add-number-requires-clause-newest : goal.add-number-requires-clause-newest
+add-number-requires-clause-newest g c =
+    let d = c.self.inside in
+    let exists = subst (λ n. c.args.at.0 < slots_of (shape_of n.config)) (sym c.self.view_is) c.requires.exists in
+    let was = subst (λ n. note_at n.notes c.args.at.0 ≡ note.Blank) (sym c.self.view_is) c.requires.blank in
+    let next = subst (λ n. IsNextRecord n c.args.rec) (sym c.self.view_is) c.requires.asked in
+    its_newest _ d.config d.mentions.items d.tables c.self.invariant c.shape.ensures.kept c.args.at.0 c.args.rec exists was next
+
+pub set_waits-requires-clause-page : goal.set_waits-requires-clause-page
+set_waits-requires-clause-page g c =
+    let d = c.self.inside in
+    let k : Kept = d.tables in
+    let rec = c.args.rec in
+    let next = subst (λ n. IsNextRecord n rec) (sym c.self.view_is) c.requires.asked in
+    let spelled = next_spelled (noted_by d.config d.mentions.items k) rec next in
+    let own = spelled.page in
+    let link = spelled.next_page in
+    let long = ap (λ (t : Kept). length t.pages) (c.set_slot.ensures ∙ ap (λ (t : Kept). record t { slots = set t.slots c.args.at.0 (slot.Holds c.add-number.result) }) c.add-number.ensures.added)
+    ∙ length-set k.pages rec.page _ ∙ c.self.invariant.pages in
+    omega arith
 
 pub raise-requires-clause-next : goal.raise-requires-clause-next
 raise-requires-clause-next g c =
-    let next = subst (λ n. IsNextRecord n c.args.rec) (sym c.self.view_is) c.requires.asked in
-    let page = (next_spelled (noted_of c.self.inside) c.args.rec next).next_page in
+    let d = c.self.inside in
+    let k : Kept = d.tables in
+    let rec = c.args.rec in
+    let next = subst (λ n. IsNextRecord n rec) (sym c.self.view_is) c.requires.asked in
+    let spelled = next_spelled (noted_by d.config d.mentions.items k) rec next in
+    let own = spelled.page in
+    let link = spelled.next_page in
     let mentions = c.self.invariant.noted.mentions in
+    omega arith
+
+pub settle_cycle-requires-clause-links : goal.settle_cycle-requires-clause-links
+settle_cycle-requires-clause-links g c =
+    let d = c.self.inside in
+    let k : Kept = d.tables in
+    let rec = c.args.rec in
+    let at = c.args.at.0 in
+    let x = c.add-number.result in
+    let exists = subst (λ n. at < slots_of (shape_of n.config)) (sym c.self.view_is) c.requires.exists in
+    let was = subst (λ n. note_at n.notes at ≡ note.Blank) (sym c.self.view_is) c.requires.blank in
+    let next = subst (λ n. IsNextRecord n rec) (sym c.self.view_is) c.requires.asked in
+    let sizes = c.shape.ensures.kept in
+    let is = c.set_waits.ensures
+    ∙ ap (λ (t : Kept). record t { waits = set t.waits x (Some rec.next.page) })
+    (c.set_slot.ensures ∙ ap (λ (t : Kept). record t { slots = set t.slots c.args.at.0 (slot.Holds x) }) c.add-number.ensures.added) in
+    subst LinksExist (sym is)
+    (with_links _ d.config d.mentions.items k c.self.invariant sizes at rec exists was next x c.add-number.ensures.free c.add-number.ensures.within
+    g.met.R.CommitRule.partial_write g.met.R.CommitRule.completing_write)
+
+pub settle_cycle-requires-clause-page : goal.settle_cycle-requires-clause-page
+settle_cycle-requires-clause-page g c =
+    let d = c.self.inside in
+    let k : Kept = d.tables in
+    let rec = c.args.rec in
+    let next = subst (λ n. IsNextRecord n rec) (sym c.self.view_is) c.requires.asked in
+    let spelled = next_spelled (noted_by d.config d.mentions.items k) rec next in
+    let own = spelled.page in
+    let link = spelled.next_page in
+    let is = c.set_waits.ensures
+    ∙ ap (λ (t : Kept). record t { waits = set t.waits c.add-number.result (Some rec.next.page) })
+    (c.set_slot.ensures ∙ ap (λ (t : Kept). record t { slots = set t.slots c.args.at.0 (slot.Holds c.add-number.result) }) c.add-number.ensures.added) in
+    let long = ap (λ (t : Kept). length t.pages) is ∙ length-set k.pages rec.page _ ∙ c.self.invariant.pages in
+    omega arith
+
+pub settle_cycle-requires-clause-next : goal.settle_cycle-requires-clause-next
+settle_cycle-requires-clause-next g c =
+    let d = c.self.inside in
+    let k : Kept = d.tables in
+    let rec = c.args.rec in
+    let next = subst (λ n. IsNextRecord n rec) (sym c.self.view_is) c.requires.asked in
+    let spelled = next_spelled (noted_by d.config d.mentions.items k) rec next in
+    let own = spelled.page in
+    let link = spelled.next_page in
+    let is = c.set_waits.ensures
+    ∙ ap (λ (t : Kept). record t { waits = set t.waits c.add-number.result (Some rec.next.page) })
+    (c.set_slot.ensures ∙ ap (λ (t : Kept). record t { slots = set t.slots c.args.at.0 (slot.Holds c.add-number.result) }) c.add-number.ensures.added) in
+    let long = ap (λ (t : Kept). length t.pages) is ∙ length-set k.pages rec.page _ ∙ c.self.invariant.pages in
     omega arith
 
 pub invariant_of-self : goal.invariant_of-self
 invariant_of-self g c =
     let d = c.self.inside in
-    let t = c.self.invariant in
-    let next = subst (λ n. IsNextRecord n c.args.rec) (sym c.self.view_is) c.requires.asked in
-    let exists = subst (λ n. c.args.at.0 < slots_of (shape_of n.config)) (sym c.self.view_is) c.requires.exists in
-    let was = subst (λ n. note_at n.notes c.args.at.0 ≡ note.Blank) (sym c.self.view_is) c.requires.blank in
-    let noted = programmed_noted _ (noted_of d) t.noted g.met.R.CommitRule.partial_write g.met.R.CommitRule.completing_write c.args.at.0 c.args.rec exists was next in
-    record {
-      noted = subst (λ m. IsNoted _ (record (noted_of d) { notes = set d.notes.items c.args.at.0 (note.Holds c.args.rec); mentions = m })) (sym c.raise.ensures) noted;
-      shape = t.shape;
-      list = c.recount.ensures.list ∙ ap found_in c.deref.ensures.value;
-      capacity = let capacity = t.capacity in let same = c.recount.ensures.capacity in let long = length-set d.notes.items c.args.at.0 (note.Holds c.args.rec) in omega arith;
-    }
+    let k : Kept = d.tables in
+    let rec = c.args.rec in
+    let at = c.args.at.0 in
+    let x = c.add-number.result in
+    let exists = subst (λ n. at < slots_of (shape_of n.config)) (sym c.self.view_is) c.requires.exists in
+    let was = subst (λ n. note_at n.notes at ≡ note.Blank) (sym c.self.view_is) c.requires.blank in
+    let next = subst (λ n. IsNextRecord n rec) (sym c.self.view_is) c.requires.asked in
+    let sizes = c.shape.ensures.kept in
+    let is = c.set_waits.ensures
+    ∙ ap (λ (t : Kept). record t { waits = set t.waits x (Some rec.next.page) })
+    (c.set_slot.ensures ∙ ap (λ (t : Kept). record t { slots = set t.slots at (slot.Holds x) }) c.add-number.ensures.added) in
+    subst (λ m. AreIndexed _ d.config m c.settle_cycle.new.tables) (sym c.raise.ensures)
+    (settled_indexed _ d.config d.mentions.items k c.self.invariant sizes at rec exists was next x c.add-number.ensures.free c.add-number.ensures.within
+    g.met.R.CommitRule.partial_write g.met.R.CommitRule.completing_write (subst IsKept is c.settle_cycle.ensures.kept) c.settle_cycle.new.tables
+    (subst (λ t. OnlyJudges t c.settle_cycle.new.tables) is c.settle_cycle.ensures.judges)
+    (subst (λ t. IsSettledSo d.config.protocol t c.settle_cycle.new.tables rec d.config.logical) is c.settle_cycle.ensures.settled))
+
+pub returns : goal.returns
+returns g c =
+    let d = c.self.inside in
+    let k : Kept = d.tables in
+    let rec = c.args.rec in
+    let at = c.args.at.0 in
+    let x = c.add-number.result in
+    let exists = subst (λ n. at < slots_of (shape_of n.config)) (sym c.self.view_is) c.requires.exists in
+    let was = subst (λ n. note_at n.notes at ≡ note.Blank) (sym c.self.view_is) c.requires.blank in
+    let next = subst (λ n. IsNextRecord n rec) (sym c.self.view_is) c.requires.asked in
+    let sizes = c.shape.ensures.kept in
+    let is = c.set_waits.ensures
+    ∙ ap (λ (t : Kept). record t { waits = set t.waits x (Some rec.next.page) })
+    (c.set_slot.ensures ∙ ap (λ (t : Kept). record t { slots = set t.slots c.args.at.0 (slot.Holds x) }) c.add-number.ensures.added) in
+    ap (λ m. noted_by d.config m c.settle_cycle.new.tables) c.raise.ensures
+    ∙ whole_is _ d.config d.mentions.items k c.self.invariant sizes at rec exists was next x c.add-number.ensures.free c.add-number.ensures.within
+    g.met.R.CommitRule.partial_write g.met.R.CommitRule.completing_write c.settle_cycle.new.tables
+    (subst (λ t. OnlyJudges t c.settle_cycle.new.tables) is c.settle_cycle.ensures.judges)
+    ∙ ap (λ n. programmed n at rec) c.self.view_is

@@ -1,0 +1,147 @@
+-- The slots of a scan hold the numbers of their records.
+use Rattle.std.proofs.Common.{◌≡◌, ◌≢◌, ℕ, ◌+◌, ◌-◌, ◌<◌, ◌≤◌, Bool, true, false, eqb, List, length, map, set, get_or, find, Contains, Option, Some, None, refl, sym, ap, ◌∙◌, subst, inl, inr, arith, eq-eqb}
+use Rattle.std.specs.Option.{option_map_or}
+use Rattle.std.specs.Prelude.{position}
+use Rattle.std.proofs.Math.ListN.{get_or-map}
+use Rattle.std.proofs.lemmas.Bool.{false≢true, cases_eq, cases_lt, and_from}
+use Rattle.std.proofs.lemmas.List.{length-map, length-set, get_or-set_same, get_or-set_other, get_or_past, ext_get_or}
+use Rattle.std.proofs.lemmas.List.Elements.{at_from_Contains, Contains-get_or}
+use Rattle.std.proofs.lemmas.Option.{none-some, same_Some}
+use Rattle.list_facts.proofs.Positions.{position-all, position_some}
+use Rattle.list_facts.proofs.Tests.{find-position, find_stands}
+use Rattle.tx_types.specs.Config.{slots_of}
+use Rattle.tx_types.specs.declared.record.Link.{Link}
+use Rattle.tx_types.specs.declared.record.Rec.{Rec}
+use Rattle.record_list.specs.declared.found.Found.{Found}
+use Rattle.record_list.specs.Records as records
+use Rattle.record_list.specs.Records.{name_of, has_name, is_present, nothing}
+use Rattle.record_list.proofs.Names.{found_named, present_in, has_name_true}
+use Rattle.slot_tables.specs.declared.slots.SlotUse.{SlotUse}
+use Rattle.slot_tables.specs.declared.slots.SlotUse.TheVariants as slot
+use Rattle.slot_tables.specs.Copies.{NumbersBelow}
+use Rattle.slot_tables.specs.Kept.{Kept, IsKept, record_at, use_at}
+use Rattle.version_index.specs.declared.note.Note.{Note}
+use Rattle.version_index.specs.declared.note.Note.TheVariants as note
+use Rattle.version_index.specs.Filling.{NamesAgree, AreNumbered, AreListed, IsListed, IsNumberAt, UsesNote}
+use Rattle.version_index.specs.Notes.{note_at, found_in}
+use Rattle.version_index.specs.Tables.{note_in, notes_in}
+use Rattle.version_index.proofs.FoundIn.{noted_in, holds_within, found}
+
+-- a name that is present has a place
+pub not_missing : (list : List Found) (rec : Rec) → is_present list (name_of rec) ≡ true → position (λ f. has_name (name_of rec) f.rec) list ≡ None → ⊥
+not_missing list rec present none =
+    let f = found_named list (name_of rec) present in
+    let k = at_from_Contains list f.0 f.1 in
+    let fails = position-all (λ g. has_name (name_of rec) g.rec) list nothing none k.0 k.1 in
+    let own = and_from (eqb f.0.rec.page rec.page) (eqb f.0.rec.version rec.version)
+    (eq-eqb f.0.rec.page rec.page (ap (λ (l : Link). l.page) f.2)) (eq-eqb f.0.rec.version rec.version (ap (λ (l : Link). l.version) f.2)) in
+    false≢true (sym fails ∙ ap (λ g. has_name (name_of rec) g.rec) (k.2 nothing) ∙ own)
+
+-- and the number there is one with the name
+pub number_there : (list : List Found) (numbers : List ℕ) (rec : Rec) (place : ℕ) → position (λ f. has_name (name_of rec) f.rec) list ≡ Some place →
+    IsNumberAt list numbers rec (get_or numbers place 0)
+number_there list numbers rec place e =
+    let p : Found → Bool = λ f. has_name (name_of rec) f.rec in
+    let within = position_some p list place e in
+    let stands = find_stands p list (get_or list place nothing) (find-position p list place nothing e) in
+    record { place = place; within = within.1; number = refl; its_name = stands.1 }
+
+-- a noted record is listed
+pub note_listed : (notes : List Note) (list : List Found) → AreListed notes list → (at : ℕ) (its : Note) → note_at notes at ≡ its → IsListed list its
+note_listed notes list all at note.Blank e = tt
+note_listed notes list all at note.Damaged e = tt
+note_listed notes list all at (note.Holds rec) e =
+    present_in list (found at rec) (all (found at rec) (noted_in notes at rec (holds_within notes at rec e) e))
+
+module _ (list : List Found) (numbers : List ℕ) (k : Kept) (numbered : AreNumbered list numbers k) (whole : length numbers ≡ length list)
+    (agree : NamesAgree list) where
+  -- a number at a place of a name has the record of that name
+  its_record : (rec : Rec) (x : ℕ) → is_present list (name_of rec) ≡ true → ((f : Found) → Contains list f → name_of f.rec ≡ name_of rec → f.rec ≡ rec) →
+      IsNumberAt list numbers rec x → record_at k.records x ≡ Some rec
+  its_record rec x present one at =
+      let low = at.within in
+      let name = has_name_true (name_of rec) (records.record_at list at.place) at.its_name in
+      ap (record_at k.records) (sym at.number) ∙ numbered.each at.place (omega arith)
+      ∙ ap Some (one (get_or list at.place nothing) (Contains-get_or list at.place nothing at.within) name)
+
+  -- a slot that is used so is noted so
+  pub uses_note : (notes : List Note) → AreListed notes list → (at : ℕ) (its : Note) (u : SlotUse) → note_at notes at ≡ its →
+      UsesNote list numbers its u → note_in k.records u ≡ its
+  uses_note notes all at note.Blank u e h = ap (note_in k.records) h
+  uses_note notes all at note.Damaged u e h = ap (note_in k.records) h
+  uses_note notes all at (note.Holds rec) slot.Blank e h = absurd h
+  uses_note notes all at (note.Holds rec) slot.Damaged e h = absurd h
+  uses_note notes all at (note.Holds rec) (slot.Holds x) e h =
+      let own = all (found at rec) (noted_in notes at rec (holds_within notes at rec e) e) in
+      let is = its_record rec x (present_in list (found at rec) own) (λ f i same. agree f (found at rec) i own same) h in
+      ap (λ o. option_map_or note.Holds o note.Damaged) is
+
+  -- and its number is in range
+  pub uses_below : length k.records ≡ slots_of k.shape → (its : Note) (u : SlotUse) → UsesNote list numbers its u →
+      NumbersBelow (slots_of k.shape) u
+  uses_below sizes note.Blank u h = subst (NumbersBelow (slots_of k.shape)) (sym h) tt
+  uses_below sizes note.Damaged u h = subst (NumbersBelow (slots_of k.shape)) (sym h) tt
+  uses_below sizes (note.Holds rec) slot.Blank h = tt
+  uses_below sizes (note.Holds rec) slot.Damaged h = tt
+  uses_below sizes (note.Holds rec) (slot.Holds x) h =
+      let low = h.within in
+      let is = numbered.each h.place (omega arith) in
+      let within : get_or numbers h.place 0 < length k.records = elim (cases_lt (get_or numbers h.place 0) (length k.records)) [
+        | inl less ↦ less
+        | inr past ↦ absurd (none-some (records.record_at list h.place) (sym (get_or_past k.records (get_or numbers h.place 0) None past) ∙ is))
+      ] in
+      let same = h.number in
+      omega arith
+
+-- the last slots are used as they were noted
+pub record IsHolding (list : List Found) (numbers : List ℕ) (k t : Kept) (notes : List Note) (count : ℕ) : Type 0 where
+  pub rest : t ≡ record k { slots = t.slots }
+  pub size : length t.slots ≡ length notes
+  pub done : (a : ℕ) → length notes ≤ a + count → a < length notes →
+      (note_in k.records (use_at t.slots a) ≡ note_at notes a) × UsesNote list numbers (note_at notes a) (use_at t.slots a)
+
+module _ (list : List Found) (numbers : List ℕ) (k : Kept) (notes : List Note) where
+  pub start_holding : length k.slots ≡ length notes → IsHolding list numbers k k notes 0
+  start_holding size = record { rest = refl; size = size; done = λ a low high. absurd (omega arith) }
+
+  pub hold_more : (t : Kept) (count at : ℕ) (u : SlotUse) → IsHolding list numbers k t notes count → at + count + 1 ≡ length notes →
+      note_in k.records u ≡ note_at notes at → UsesNote list numbers (note_at notes at) u →
+      IsHolding list numbers k (record t { slots = set t.slots at u }) notes (count + 1)
+  hold_more t count at u h place is uses = record {
+    rest = ap (λ (v : Kept). record v { slots = set t.slots at u }) h.rest;
+    size = length-set t.slots at u ∙ h.size;
+    done = λ a low high. elim (cases_eq a at) [
+      | inl here ↦ (
+          let size = h.size in
+          let same = ap (use_at (set t.slots at u)) here ∙ get_or-set_same t.slots at u slot.Blank (omega arith) in (
+            ap (note_in k.records) same ∙ is ∙ ap (note_at notes) (sym here),
+            subst (UsesNote list numbers (note_at notes a)) (sym same)
+                (subst (λ b. UsesNote list numbers (note_at notes b) u) (sym here) uses),
+          ))
+      | inr off ↦ (
+          let other = get_or-set_other t.slots at a u slot.Blank off in
+          let old = h.done a (omega arith) high in
+          (ap (note_in k.records) other ∙ old.0, subst (UsesNote list numbers (note_at notes a)) (sym other) old.1))
+    ];
+  }
+
+  pub all_held : (t : Kept) (count : ℕ) → IsHolding list numbers k t notes count → length notes ≤ count → notes_in t ≡ notes
+  all_held t count h all =
+      ap (λ l. map (note_in l) t.slots) (ap (λ (v : Kept). v.records) h.rest)
+      ∙ ext_get_or note.Blank (map (note_in k.records) t.slots) notes (length-map t.slots (note_in k.records) ∙ h.size) (λ a low.
+      let long = length-map t.slots (note_in k.records) in
+      let size = h.size in
+      get_or-map (note_in k.records) t.slots a slot.Blank ∙ (h.done a (omega arith) (omega arith)).0)
+
+  -- a slot that holds a number holds one of a place
+  pub all_placed : (t : Kept) (count : ℕ) → IsHolding list numbers k t notes count → length notes ≤ count → (a x : ℕ) →
+      use_at t.slots a ≡ slot.Holds x → (j : ℕ) × (j < length list) × (get_or numbers j 0 ≡ x)
+  all_placed t count h all a x e = elim (cases_lt a (length t.slots)) [
+    | inl low ↦ (let size = h.size in of_note (note_at notes a) (subst (UsesNote list numbers (note_at notes a)) e (h.done a (omega arith) (omega arith)).1))
+    | inr past ↦ (let bare : slot.Blank ≡ slot.Holds x = sym (get_or_past t.slots a slot.Blank past) ∙ e in absurd cc)
+  ]
+    where
+      of_note : (its : Note) → UsesNote list numbers its (slot.Holds x) → (j : ℕ) × (j < length list) × (get_or numbers j 0 ≡ x)
+      of_note note.Blank h = (let other : slot.Holds x ≡ slot.Blank = h in absurd cc)
+      of_note note.Damaged h = (let other : slot.Holds x ≡ slot.Damaged = h in absurd cc)
+      of_note (note.Holds rec) h = (h.place, h.within, h.number)

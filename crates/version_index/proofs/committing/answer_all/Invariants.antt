@@ -1,0 +1,5 @@
+use Rattle.version_index.proofs.AnsweredRounds.{IsAnsweringRound}
+use Rattle.version_index.proofs.committing.answer_all.Given as goal
+
+abbrev pub invariant-loop : goal.invariant-loop
+invariant-loop l = IsAnsweringRound l.initial.tables l.tables l.start l.link l.counter

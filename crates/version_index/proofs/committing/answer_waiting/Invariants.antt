@@ -1,0 +1,11 @@
+use Rattle.std.proofs.Common.{◌≡◌, ℕ, count_by}
+use Rattle.slot_tables.specs.Kept.{is_number}
+use Rattle.version_index.specs.Committing.{OnlyJudges}
+use Rattle.version_index.proofs.Answering.{IsAnswering}
+use Rattle.version_index.proofs.committing.answer_waiting.Given as goal
+
+abbrev pub invariant-loop-number : goal.invariant-loop-number
+invariant-loop-number l = IsAnswering l.initial.tables l.tables l.page l.newest
+
+abbrev pub decreases-loop-number : goal.decreases-loop-number
+decreases-loop-number l = count_by (is_number l.page) l.tables.waits

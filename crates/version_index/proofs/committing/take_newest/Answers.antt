@@ -1,0 +1,21 @@
+use Rattle.std.proofs.Common.{◌≡◌, length, arith, set, ap, sym, subst, ◌∙◌}
+use Rattle.slot_tables.specs.Kept.{Kept}
+use Rattle.version_index.specs.Committing.{OnlyJudges, IsTaken}
+use Rattle.version_index.proofs.Taking.{taken_then, taken_judges}
+use Rattle.version_index.proofs.committing.take_newest.Goals as goal
+
+pub returns-clause-judges : goal.returns-clause-judges
+returns-clause-judges c =
+    subst (λ u. OnlyJudges c.args.tables.now u) (sym c.set_current.ensures)
+    (taken_judges c.args.tables.now c.let_go_above.new.tables c.args.page c.current_version-current.result c.let_go_above.ensures _)
+
+pub returns-clause-taken : goal.returns-clause-taken
+returns-clause-taken c =
+    let t = c.let_go_above.new.tables in
+    let sizes = c.shape.ensures.kept.current in
+    let same = ap (λ (u : Kept). length u.current) c.let_go_above.ensures.rest in
+    let page = c.requires in
+    let is = c.set_current.ensures ∙ ap (λ n. record t { current = set t.current c.args.page n }) c.newest-newest.ensures.newest in
+    subst (λ u. IsTaken c.args.tables.now u c.args.page) (sym is)
+    (taken_then c.args.tables.now t c.args.page c.current_version-current.result c.let_go_above.ensures c.current_version-current.ensures
+    (omega arith))

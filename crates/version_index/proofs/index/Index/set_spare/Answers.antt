@@ -1,0 +1,12 @@
+use Rattle.std.proofs.Common.{◌<◌, subst, sym}
+use Rattle.tx_types.specs.Config.{shape_of, blocks_of}
+use Rattle.version_index.specs.Tables.{AreIndexed}
+use Rattle.version_index.proofs.KeptChanges.{spared_indexed}
+use Rattle.version_index.proofs.index.Index.set_spare.Goals as goal
+
+pub invariant_of-self : goal.invariant_of-self
+invariant_of-self g c =
+    let d = c.self.inside in
+    let exists = subst (λ n. c.args.block.0 < blocks_of (shape_of n.config)) (sym c.self.view_is) c.requires in
+    subst (AreIndexed _ d.config d.mentions.items) (sym c.set_spare.ensures)
+    (spared_indexed _ d.config d.mentions.items d.tables c.self.invariant c.args.block.0 exists)

@@ -1,0 +1,146 @@
+-- Tables that are filled with the records of a scan.
+use Rattle.std.specs.Prelude.{◌≡◌, ◌≢◌, ℕ, replicate, true, ◌<◌, ◌≤◌, ◌⊎◌, List, length, slice_index, Option, Some, None, option_and_then, position, Contains}
+use Rattle.std.specs.Option.{option_map}
+use Rattle.tx_types.specs.declared.record.Link.{Link}
+use Rattle.tx_types.specs.Config.{slots_of}
+use Rattle.tx_types.specs.declared.config.Protocol.{Protocol}
+use Rattle.tx_types.specs.declared.config.Shape.{Shape}
+use Rattle.tx_types.specs.declared.record.Rec.{Rec}
+use Rattle.record_list.specs.declared.found.Found.{Found}
+use Rattle.record_list.specs.Records as records
+use Rattle.record_list.specs.Records.{name_of, has_name, is_present}
+use Rattle.record_list.specs.Current.{cur}
+use Rattle.slot_tables.specs.Kept.{Kept, use_at, record_at, number_at, blank_tables, IsNewest}
+use Rattle.slot_tables.specs.declared.slots.SlotUse.{SlotUse}
+use Rattle.slot_tables.specs.declared.slots.SlotUse.TheVariants as slot
+use Rattle.version_index.specs.declared.note.Note.{Note}
+use Rattle.version_index.specs.declared.note.Note.TheVariants as note
+use Rattle.version_index.specs.Notes.{found_in}
+use Rattle.version_index.specs.Judged.{name_at, answerer, is_waiting}
+use Rattle.version_index.specs.JudgedChanges.{Judged}
+use Rattle.version_index.specs.Numbered.{awaited}
+
+-- what is judged of a list of records
+abbrev pub judged_by : Protocol → List Found → ℕ → Judged
+judged_by protocol list logical = record {
+  current = cur protocol list logical;
+  answerer = answerer protocol list logical;
+  waits = is_waiting protocol list logical;
+}
+
+-- records of one name are equal
+abbrev pub NamesAgree : List Found → Type 0
+NamesAgree list = (f g : Found) → Contains list f → Contains list g → name_of f.rec ≡ name_of g.rec → f.rec ≡ g.rec
+
+-- no record of its page is newer
+abbrev pub IsNotOlder : Kept → Rec → Type 0
+IsNotOlder k rec = (x : ℕ) (r : Rec) → record_at k.records x ≡ Some r → r.page ≡ rec.page → r.version ≤ rec.version
+
+-- a number has a record of this name
+pub record IsKnown (k : Kept) (rec : Rec) (x : ℕ) : Type 0 where
+  pub known : Rec
+  pub is : record_at k.records x ≡ Some known
+  pub its_name : name_of known ≡ name_of rec
+
+-- a number without a record got this one
+pub record IsNumbered (k new : Kept) (rec : Rec) (x : ℕ) : Type 0 where
+  pub free : record_at k.records x ≡ None
+  pub newest : IsNewest k.records rec
+  pub rest : new ≡ record k { records = new.records; pages = new.pages }
+  pub pages : length new.pages ≡ length k.pages
+  pub sizes : length new.records ≡ length k.records
+  pub own : record_at new.records x ≡ Some rec
+  pub others : (y : ℕ) → (y ≡ x → ⊥) → record_at new.records y ≡ record_at k.records y
+
+-- the record has this number
+abbrev pub HasNumber : Kept → Kept → Rec → ℕ → Type 0
+HasNumber k new rec x = ((new ≡ k) × IsKnown k rec x) ⊎ IsNumbered k new rec x
+
+-- the first records of a list have these numbers, and no others have records
+pub record AreNumbered (list : List Found) (numbers : List ℕ) (k : Kept) : Type 0 where
+  pub each :
+      (j : ℕ) → j < length numbers → record_at k.records (slice_index numbers j) ≡ Some (records.record_at list j)
+  pub some :
+      (x : ℕ) (r : Rec) → record_at k.records x ≡ Some r →
+      (j : ℕ) × (j < length numbers) × (slice_index numbers j ≡ x)
+  pub once :
+      (x y : ℕ) (r s : Rec) → record_at k.records x ≡ Some r → record_at k.records y ≡ Some s →
+      name_of r ≡ name_of s → x ≡ y
+
+-- blank slots, and records with numbers
+pub record AreBlankBut (its_shape : Shape) (logical : ℕ) (k : Kept) : Type 0 where
+  pub rest : k ≡ record (blank_tables its_shape logical) { records = k.records; pages = k.pages }
+  pub pages : length k.pages ≡ logical
+  pub sizes : length k.records ≡ slots_of its_shape
+
+-- each noted record is in a list
+abbrev pub AreListed : List Note → List Found → Type 0
+AreListed notes list = (f : Found) → Contains (found_in notes) f → Contains list f
+
+abbrev pub IsListed : List Found → Note → Type 0
+IsListed list note.Blank = Unit {0}
+IsListed list note.Damaged = Unit {0}
+IsListed list (note.Holds rec) = is_present list (name_of rec) ≡ true
+
+-- the number at some place of a list has the name of this record
+pub record IsNumberAt (list : List Found) (numbers : List ℕ) (rec : Rec) (x : ℕ) : Type 0 where
+  pub place : ℕ
+  pub within : place < length list
+  pub number : slice_index numbers place ≡ x
+  pub its_name : has_name (name_of rec) (records.record_at list place) ≡ true
+
+-- a slot of which this is noted is used so
+abbrev pub UsesNote : List Found → List ℕ → Note → SlotUse → Type 0
+UsesNote list numbers note.Blank u = u ≡ slot.Blank
+UsesNote list numbers note.Damaged u = u ≡ slot.Damaged
+UsesNote list numbers (note.Holds rec) slot.Blank = ⊥
+UsesNote list numbers (note.Holds rec) slot.Damaged = ⊥
+UsesNote list numbers (note.Holds rec) (slot.Holds x) = IsNumberAt list numbers rec x
+
+-- the number at the place of a name
+abbrev pub number_by : List Found → List ℕ → Option Link → Option ℕ
+number_by list numbers name =
+    option_and_then (λ l. option_map (λ place. slice_index numbers place) (position (λ f. has_name l f.rec) list)) name
+
+-- each page has the number of its current record
+pub record AreCurrent (protocol : Protocol) (list : List Found) (numbers : List ℕ) (logical : ℕ) (k new : Kept) : Type 0 where
+  pub rest : new ≡ record k { current = new.current }
+  pub each :
+      (page : ℕ) → page < logical →
+      number_at new.current page ≡ number_by list numbers (name_at page (cur protocol list logical page))
+
+-- the numbers at the first places of a list wait and have answerers as their records do, and others as before
+pub record AreDecided (protocol : Protocol) (list : List Found) (numbers : List ℕ) (logical : ℕ) (k new : Kept) (count : ℕ) : Type 0 where
+  pub rest : new ≡ record k { answerers = new.answerers; waits = new.waits }
+  pub answerers : length new.answerers ≡ length k.answerers
+  pub waits : length new.waits ≡ length k.waits
+  pub done :
+      (j : ℕ) → j < count →
+      (number_at new.answerers (slice_index numbers j) ≡ number_by list numbers (answerer protocol list logical (records.record_at list j)))
+      × (number_at new.waits (slice_index numbers j) ≡ awaited (judged_by protocol list logical) (records.record_at list j))
+  pub others :
+      (x : ℕ) → ((j : ℕ) → j < count → slice_index numbers j ≢ x) →
+      (number_at new.answerers x ≡ number_at k.answerers x) × (number_at new.waits x ≡ number_at k.waits x)
+
+-- tables that are filled with the records of a list, in the order of their names
+pub record AreFilled (protocol : Protocol) (list : List Found) (its_shape : Shape) (logical : ℕ) (t : Kept) : Type 0 where
+  pub numbers : List ℕ
+  pub whole : length numbers ≡ length list
+  pub numbered : AreNumbered list numbers t
+  pub placed :
+      (at x : ℕ) → use_at t.slots at ≡ slot.Holds x →
+      (j : ℕ) × (j < length list) × (slice_index numbers j ≡ x)
+  pub current :
+      (page : ℕ) → page < logical →
+      number_at t.current page ≡ number_by list numbers (name_at page (cur protocol list logical page))
+  pub done :
+      (j : ℕ) → j < length list →
+      (number_at t.answerers (slice_index numbers j) ≡ number_by list numbers (answerer protocol list logical (records.record_at list j)))
+      × (number_at t.waits (slice_index numbers j) ≡ awaited (judged_by protocol list logical) (records.record_at list j))
+  pub others :
+      (x : ℕ) → ((j : ℕ) → j < length list → slice_index numbers j ≢ x) →
+      (number_at t.answerers x ≡ None) × (number_at t.waits x ≡ None)
+  pub shape : t.shape ≡ its_shape
+  pub pages : length t.pages ≡ logical
+  pub pins : t.pins ≡ replicate logical 0
+  pub spare : t.spare ≡ None

@@ -1,0 +1,219 @@
+ghost use Rattle.std.specs.Prelude.{◌≡◌, ◌<◌, ℕ, List, length, IfSome};
+ghost use Rattle.tx_types.specs.Config.{slots_of};
+ghost use Rattle.tx_types.specs.declared.config.Config.{Config};
+ghost use Rattle.tx_types.specs.declared.config.Protocol.{Protocol};
+ghost use Rattle.record_list.specs.Records.{name_of, has_name};
+ghost use Rattle.slot_tables.specs.Kept.{IsKept, number_at};
+ghost use Rattle.version_index.specs.Committing.{LinksExist, newest_named, with_version, OnlyJudges, AreLetGo, IsTaken, IsAnswered, MayComplete, TakesRound, AnswersRound, JudgesWhole, IsSettledSo};
+ghost use Rattle.version_index.specs.JudgedChanges.{completes};
+ghost use Rattle.version_index.specs.Tables.{noted_by, version_at};
+
+use crate::losing::let_go;
+use slot_tables::Tables;
+use tx_types::{Link, Protocol, Rec};
+
+/// The version of the record of a number, if there is a number, else 0.
+fn version_of(tables: &Tables, number: Option<u32>) -> u64
+    requires { IfSome number (λ x. x < slots_of tables.now.shape) }
+    ensures { result ≡ version_at tables.now number }
+{
+    match number {
+        None => 0,
+        Some(number) => match tables.record(number) {
+            None => 0,
+            Some(rec) => rec.version,
+        },
+    }
+}
+
+/// The current version of a page, 0 for none.
+pub fn current_version(tables: &Tables, page: u32) -> u64
+    requires { page < length tables.now.pages }
+    ensures { result ≡ version_at tables.now (number_at tables.now.current page) }
+{
+    version_of(tables, tables.current(page))
+}
+
+/// The newest record of a page, if it has this version.
+fn newest_named(tables: &Tables, name: Link) -> Option<Rec>
+    requires { name.page < length tables.now.pages }
+    ensures { result ≡ newest_named tables.now name }
+{
+    match tables.newest(name.page) {
+        None => None,
+        Some(number) => match tables.record(number) {
+            None => None,
+            Some(rec) => with_version(name.version, rec),
+        },
+    }
+}
+
+/// A record, if it has this version.
+fn with_version(version: u64, rec: Rec) -> Option<Rec>
+    ensures { result ≡ with_version version rec }
+{
+    if rec.version == version {
+        Some(rec)
+    } else {
+        None
+    }
+}
+
+/// Whether a record completes its cycle: its links lead back to it over the newest records of their pages.
+fn completes(tables: &Tables, logical: u32, rec: Rec) -> bool
+    requires links { LinksExist tables.now }
+    requires next { rec.next.page < length tables.now.pages }
+    ensures { (protocol : Protocol) (its : Config) (m : List ℕ) → MayComplete protocol its m tables.now rec →
+        its.logical ≡ logical → result ≡ completes (noted_by its m tables.now) rec }
+{
+    let _ = tables.shape();
+    let mut link = rec.next;
+    for _ in 0..logical {
+        match newest_named(tables, link) {
+            None => return false,
+            Some(next) => {
+                if has_name(next, rec) {
+                    return true;
+                }
+                link = next.next;
+            }
+        }
+    }
+    false
+}
+
+/// Whether a record has the name of another one.
+fn has_name(rec: Rec, other: Rec) -> bool
+    ensures { result ≡ has_name (name_of other) rec }
+{
+    rec.page == other.page && rec.version == other.version
+}
+
+/// Where a record completes its cycle, the records of the cycle are current.
+pub fn settle_cycle(tables: &mut Tables, logical: u32, protocol: Protocol, rec: Rec)
+    requires links { LinksExist tables.old }
+    requires page { rec.page < length tables.old.pages }
+    requires next { rec.next.page < length tables.old.pages }
+    ensures kept { IsKept tables.old }
+    ensures judges { OnlyJudges tables.old tables.new }
+    ensures settled { IsSettledSo protocol tables.old tables.new rec logical }
+{
+    let _ = tables.shape();
+    if !completes(tables, logical, rec) {
+        return;
+    }
+    take_cycle(tables, logical, protocol, name_of(rec));
+}
+
+/// A record's own name.
+fn name_of(rec: Rec) -> Link
+    ensures { result ≡ name_of rec }
+{
+    Link {
+        page: rec.page,
+        version: rec.version,
+    }
+}
+
+/// Makes the records of a whole cycle current. Under Back Pointer Cyclic Commit they then answer for the
+/// records that wait for their pages.
+fn take_cycle(tables: &mut Tables, logical: u32, protocol: Protocol, start: Link)
+    requires links { LinksExist tables.old }
+    requires page { start.page < length tables.old.pages }
+    ensures judges { OnlyJudges tables.old tables.new }
+    ensures whole { JudgesWhole protocol tables.old tables.new start logical }
+{
+    take_all(tables, logical, start);
+    match protocol {
+        Protocol::Scc => {}
+        Protocol::Bpcc => answer_all(tables, logical, start),
+    }
+}
+
+/// Makes each record of the cycle of this one current.
+fn take_all(tables: &mut Tables, logical: u32, start: Link)
+    requires links { LinksExist tables.old }
+    requires page { start.page < length tables.old.pages }
+    ensures judges { OnlyJudges tables.old tables.new }
+    ensures takes { TakesRound tables.old tables.new start logical }
+{
+    let mut link = start;
+    for _ in 0..logical {
+        take_newest(tables, link.page);
+        match newest_named(tables, link) {
+            None => return,
+            Some(rec) => {
+                if rec.next.page == start.page {
+                    return;
+                }
+                link = rec.next;
+            }
+        }
+    }
+}
+
+/// Lets each record of the cycle of this one answer.
+fn answer_all(tables: &mut Tables, logical: u32, start: Link)
+    requires links { LinksExist tables.old }
+    requires page { start.page < length tables.old.pages }
+    ensures judges { OnlyJudges tables.old tables.new }
+    ensures answers { AnswersRound tables.old tables.new start logical }
+{
+    let mut link = start;
+    for _ in 0..logical {
+        answer_waiting(tables, link.page);
+        match newest_named(tables, link) {
+            None => return,
+            Some(rec) => {
+                if rec.next.page == start.page {
+                    return;
+                }
+                link = rec.next;
+            }
+        }
+    }
+}
+
+/// Makes the newest record of a page current. The records above the one that was current wait no more,
+/// and none answers for them.
+fn take_newest(tables: &mut Tables, page: u32)
+    requires { page < length tables.old.pages }
+    ensures judges { OnlyJudges tables.old tables.new }
+    ensures taken { IsTaken tables.old tables.new page }
+{
+    let _ = tables.shape();
+    let current = current_version(tables, page);
+    let newest = tables.newest(page);
+    let_go_above(tables, page, current);
+    tables.set_current(page, newest);
+}
+
+/// The records of a page above a version wait no more, and none answers for them.
+fn let_go_above(tables: &mut Tables, page: u32, version: u64)
+    requires { page < length tables.old.pages }
+    ensures { AreLetGo tables.old tables.new page version }
+{
+    let _ = tables.shape();
+    let mut next = tables.newest(page);
+    while let Some(number) = next {
+        if version_of(tables, next) <= version {
+            return;
+        }
+        let_go(tables, number);
+        next = tables.older(number);
+    }
+}
+
+/// The newest record of a page answers for the records that wait for the page, which wait no more.
+fn answer_waiting(tables: &mut Tables, page: u32)
+    requires { page < length tables.old.pages }
+    ensures judges { OnlyJudges tables.old tables.new }
+    ensures answered { IsAnswered tables.old tables.new page }
+{
+    let _ = tables.shape();
+    let newest = tables.newest(page);
+    while let Some(number) = tables.waiting(page) {
+        tables.set_answerer(number, newest);
+        tables.set_waits(number, None);
+    }
+}

@@ -1,0 +1,74 @@
+ghost use Rattle.std.specs.Prelude.{◌≡◌, ◌≤◌, ◌<◌, All, length, IfSome, IfNone, IfOk, OnOk};
+ghost use Rattle.tx_types.specs.Config.{IsShape, slots_of};
+ghost use Rattle.record_list.specs.SoundList.{OwnPageExists};
+ghost use Rattle.record_chart.specs.Charts.{IsInOrder};
+ghost use Rattle.slot_tables.specs.Kept.{blank_tables, IsNewest};
+ghost use Rattle.slot_tables.specs.Versions.{HasFree};
+ghost use Rattle.version_index.specs.Filling.{NamesAgree, IsNotOlder, IsKnown, HasNumber, AreNumbered, AreBlankBut};
+
+use record_list::Found;
+use slot_tables::Tables;
+use std::alloc::Global;
+use tx_types::{Memory, Rec};
+
+/// Gives each record a number, and tells them. The records stand in the order of their names.
+pub fn number_records(
+    alloc: Global,
+    tables: &mut Tables,
+    records: &[Found],
+) -> Result<Vec<u32>, Memory>
+    requires blank { tables.old ≡ blank_tables tables.old.shape (length tables.old.pages) }
+    requires order { IsInOrder records.now }
+    requires agree { NamesAgree records.now }
+    requires pages { All (OwnPageExists (length tables.old.pages)) records.now }
+    requires few { length records.now ≤ slots_of tables.old.shape }
+    ensures blank { OnOk result (AreBlankBut tables.old.shape (length tables.old.pages) tables.new) }
+    ensures whole { IfOk result (λ numbers. length numbers.items ≡ length records.now) }
+    ensures numbered { IfOk result (λ numbers. AreNumbered records.now numbers.items tables.new) }
+{
+    let mut numbers = Vec::with_capacity(alloc, records.len())?;
+    for found in records {
+        let number = number_of(tables, found.rec);
+        numbers.push(number)?;
+    }
+    Ok(numbers)
+}
+
+/// The number of a record that is not older than those of its page.
+fn number_of(tables: &mut Tables, rec: Rec) -> u32
+    requires page { rec.page < length tables.old.pages }
+    requires free { HasFree tables.old.records }
+    requires order { IsNotOlder tables.old rec }
+    ensures within { result < slots_of tables.old.shape }
+    ensures number { HasNumber tables.old tables.new rec result }
+{
+    let _ = tables.shape();
+    match known_number(tables, rec) {
+        Some(number) => number,
+        None => tables.add(rec),
+    }
+}
+
+/// The number that has a record of this name, which is the newest of its page.
+fn known_number(tables: &Tables, rec: Rec) -> Option<u32>
+    requires page { rec.page < length tables.now.pages }
+    requires order { IsNotOlder tables.now rec }
+    ensures within { IfSome result (λ x. x < slots_of tables.now.shape) }
+    ensures known { IfSome result (λ x. IsKnown tables.now rec x) }
+    ensures none { IfNone result (IsNewest tables.now.records rec) }
+{
+    let _ = tables.shape();
+    match tables.newest(rec.page) {
+        None => None,
+        Some(number) => match tables.record(number) {
+            None => None,
+            Some(newest) => {
+                if newest.version == rec.version {
+                    Some(number)
+                } else {
+                    None
+                }
+            }
+        },
+    }
+}
