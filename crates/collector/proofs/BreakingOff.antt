@@ -13,14 +13,14 @@ use Rattle.flash_model.specs.declared.flash.Broken.{Broken}
 use Rattle.flash_model.specs.Calls.{Erases, page_of, spare_area_of}
 use Rattle.flash_model.specs.Flash.{FlashState, counted}
 use Rattle.flash_model.specs.Moves.{Does}
-use Rattle.flash_model.specs.Operations.{Moment, Torn, program, erase, moment_of}
+use Rattle.flash_model.specs.Operations.{Moment, Operation, Torn, program, erase, moment_of}
 use Rattle.record_list.specs.Changes.{LossLaw}
 use Rattle.version_index.specs.Noted.{Noted, needed_of, erased}
 use Rattle.die_alloc.specs.BlockTable.{BlockTable}
 use Rattle.collector.specs.declared.unsure.Unsure.{Unsure}
 use Rattle.collector.specs.declared.unsure.Unsure.TheVariants as unsure
-use Rattle.collector.specs.BreakingOff.{CopiedFirst, CopyBreaksOff, CopiesBreakOff, BreaksOff}
-use Rattle.collector.specs.Collecting.{cleaning, copies, copied_from, copy_program, needed_slots, CopiesDone}
+use Rattle.collector.specs.BreakingOff.{CopiedFirst, CopyBreaks, CopyBreaksOff, CopiesBreakOff, BreaksOff, EraseBreaks, ReadFails}
+use Rattle.collector.specs.Collecting.{cleaning, noted_cleaned, copies, copied_from, copy_program, needed_slots, CopiesDone}
 use Rattle.collector.specs.Looking.{reads_after}
 use Rattle.collector.specs.Matches.{Matches}
 use Rattle.collector.proofs.Collections.{same_slots, copies_follow, all_copied}
@@ -59,6 +59,7 @@ module _ (p : Protocol) (n0 n : Noted) (s0 s : FlashState) (t : BlockTable) (u :
         from = at;
         later = later;
         copied = copied_before (moment_of s') (sym read.1) n' stays;
+        reads = λ live. read.2 (h.carries.lives ∙ live) ∙ ap counted h.reads ∙ reads_more used s0.reads ∙ ap (λ k. reads_after (k + 1) s0.reads) h.count;
       })
   copying_broke s' n' u' from to from_is to_is stays (inr torn) =
       let place = to_at p n0 n s0 s t u first start at used block h low block_is spare_is high apart below in
@@ -93,14 +94,15 @@ module _ (p : Protocol) (loss : LossLaw p) (s0 : FlashState) (n0 : Noted) (t : B
             (subst (λ (k : Noted). n2 ≡ copied_from k (t1.spare * k.config.pages_per_block) first) noted c.noted);
       }
 
-  pub copies_broke : (s2 : FlashState) (n2 : Noted) (u2 : Unsure) → CopiesBreakOff n1 s1 s2 [] t1.spare block n2 u2 → BreaksOff n0 s0 s2 t.spare block n2 u2
-  copies_broke s2 n2 unsure.Nothing b = record {
+  pub copies_broke : s1.live ≡ s0.live → (s2 : FlashState) (n2 : Noted) (u2 : Unsure) → CopiesBreakOff n1 s1 s2 [] t1.spare block n2 u2 → BreaksOff n0 s0 s2 t.spare block n2 u2
+  copies_broke lives s2 n2 unsure.Nothing b = record {
     first = b.first;
     from = b.from;
     later = b.later;
     copied = follows b.first (b.from ∷ b.later) (moment_of s2) n2 b.copied;
+    reads = λ live. b.reads (lives ∙ live) ∙ ap (reads_after (length b.first + 1)) unread;
   }
-  copies_broke s2 n2 (unsure.Copy from to) b =
+  copies_broke lives s2 n2 (unsure.Copy from to) b =
       let copied = follows b.first (from.0 ∷ b.later) b.between n2 b.copied in
       let same = same_slots p loss s0 n0 t u0 rule m s1 n1 t1 block noted table apart shape1 cleans from.0
       (subst (λ l. Contains l from.0) (sym copied.order) (Contains-append_right b.first (from.0 ∷ b.later) from.0 (Contains-first from.0 b.later))) in
@@ -116,9 +118,37 @@ module _ (p : Protocol) (loss : LossLaw p) (s0 : FlashState) (n0 : Noted) (t : B
             (subst (λ (k : Noted). Torn s1.shape b.between (copy_program k.config.page_bytes s1.image to.0 from.0) (moment_of s2)) noted b.torn));
         reads = b.reads ∙ ap (reads_after (length b.first + 1)) unread;
       }
-  copies_broke s2 n2 (unsure.Own at rec) b = absurd b
-  copies_broke s2 n2 unsure.SpareErase b = absurd b
-  copies_broke s2 n2 (unsure.VictimErase at) b = absurd b
+  copies_broke lives s2 n2 (unsure.Own at rec) b = absurd b
+  copies_broke lives s2 n2 unsure.SpareErase b = absurd b
+  copies_broke lives s2 n2 (unsure.VictimErase at) b = absurd b
+
+  -- a collection of which the spare is blank broke off
+  module _ (lives : s1.live ≡ s0.live) (still : noted_cleaned n1 t1.spare ≡ n1) (none : cleaning n1 s1.image t1.spare ≡ []) where
+    pub breaks_again : (s2 : FlashState) (n2 : Noted) (u2 : Unsure) → BreaksOff n1 s1 s2 t1.spare block n2 u2 → BreaksOff n0 s0 s2 t.spare block n2 u2
+    breaks_again s2 n2 unsure.Nothing b =
+        copies_broke lives s2 n2 unsure.Nothing
+        (subst (λ l. ReadFails n1 s1 s2 l t1.spare block n2) none (subst (λ k. ReadFails k s1 s2 (cleaning n1 s1.image t1.spare) t1.spare block n2) still b))
+    breaks_again s2 n2 (unsure.Copy from to) b =
+        copies_broke lives s2 n2 (unsure.Copy from to)
+        (subst (λ l. CopyBreaks n1 s1 s2 l t1.spare block from.0 to.0 n2) none
+        (subst (λ k. CopyBreaks k s1 s2 (cleaning n1 s1.image t1.spare) t1.spare block from.0 to.0 n2) still b))
+    breaks_again s2 n2 (unsure.Own at rec) b = absurd b
+    breaks_again s2 n2 unsure.SpareErase b = absurd (never (erase t1.spare) (sym none ∙ b.0.first))
+      where
+        never : (o : Operation) → [] ≡ o ∷ [] → ⊥
+        never o e = cc
+    breaks_again s2 n2 (unsure.VictimErase at) b =
+        let e : EraseBreaks n1 s1 s2 [] t1.spare block n2 =
+        subst (λ l. EraseBreaks n1 s1 s2 l t1.spare block n2) none (subst (λ k. EraseBreaks k s1 s2 (cleaning n1 s1.image t1.spare) t1.spare block n2) still b.1) in (
+          b.0,
+          record {
+            between = e.between;
+            copied = subst (λ l. CopiedFirst (erased n0 t.spare) s0 (cleaning n0 s0.image t.spare) t.spare block l [] e.between n2)
+                (ap (λ (k : Noted). needed_slots k block) noted) (follows (needed_slots n1 block) [] e.between n2 e.copied);
+            torn = subst (λ sh. Torn sh e.between (erase block) (moment_of s2)) shape1 e.torn;
+            reads = e.reads ∙ ap (reads_after (length (needed_slots n1 block))) unread ∙ ap (λ (k : Noted). reads_after (length (needed_slots k block)) s0.reads) noted;
+          },
+        )
 
   -- the erase of the block broke off
   module _ (s2 s3 : FlashState) (n2 : Noted) (used : ℕ) (exists : block < blocks_of (shape_of n0.config)) (shape2 : s2.shape ≡ s0.shape)

@@ -96,3 +96,7 @@ module _ (s : FlashState) (n n' : Noted) (t : BlockTable) (u : Unsure) (m : Matc
 pub on_err : {X : Type 0} (r : Result X Broken) (P : Type 0) → P → OnErr r P
 on_err (Ok x) P h = tt
 on_err (Err x) P h = h
+
+pub err_then : {X : Type 0} (r : Result X Broken) (P Q : Type 0) → (P → Q) → OnErr r P → OnErr r Q
+err_then (Ok x) P Q h e = tt
+err_then (Err x) P Q h e = h e

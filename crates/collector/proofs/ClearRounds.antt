@@ -19,8 +19,9 @@ use Rattle.version_index.proofs.FoundIn.{noted_from}
 use Rattle.die_alloc.specs.BlockTable.{BlockTable}
 use Rattle.collector.specs.declared.unsure.Unsure.{Unsure}
 use Rattle.collector.specs.declared.unsure.Unsure.TheVariants as unsure
+use Rattle.collector.specs.BreakingOff.{BreaksOff, ClearingBreaks}
 use Rattle.collector.specs.Collecting.{HasUnneeded}
-use Rattle.collector.specs.Going.{IsNextName, IsTreated, CostsAtMost, is_going, blocks_to_go}
+use Rattle.collector.specs.Going.{IsNextName, IsTreated, TreatsInTurn, TreatsAll, none, one_more, CostsAtMost, is_going, blocks_to_go}
 use Rattle.collector.specs.Matches.{Matches}
 use Rattle.collector.specs.Preserves.{Preserves, KeepsArray}
 use Rattle.collector.proofs.Chains.{CostsAtMost-nothing, CostsAtMost-then, CostsAtMost-more}
@@ -61,6 +62,27 @@ clears_none p page below s n t u nothing matches next = record {
   carries = Carries-nothing s;
 }
 
+-- which blocks were treated before a round, and how many are left
+pub record TurnsSoFar (page below : ℕ) (n0 : Noted) (t0 : BlockTable) (n : Noted) (t : BlockTable) : Type 0 where
+  pub rounds : ℕ
+  pub left : rounds + blocks_to_go n page below ≤ blocks_to_go n0 page below
+  pub turns : TreatsInTurn page below n0 t0 rounds n t
+
+pub turns_none : (page below : ℕ) (n : Noted) (t : BlockTable) → TurnsSoFar page below n t n t
+turns_none page below n t = record { rounds = 0; left = omega arith; turns = none }
+
+pub turns_more : (page below : ℕ) (n0 n n' : Noted) (t0 t t' : BlockTable) (block : ℕ) → TurnsSoFar page below n0 t0 n t →
+    block_to_go n page below ≡ Some block → IsTreated n t block n' t' → blocks_to_go n' page below < blocks_to_go n page below →
+    TurnsSoFar page below n0 t0 n' t'
+turns_more page below n0 n n' t0 t t' block so found treated fewer = record {
+  rounds = so.rounds + 1;
+  left = let low = so.left in omega arith;
+  turns = one_more so.rounds n n' t t' block so.turns found treated;
+}
+
+pub turns_all : (page below : ℕ) (n0 n : Noted) (t0 t : BlockTable) → TurnsSoFar page below n0 t0 n t → TreatsAll page below n0 t0 n t
+turns_all page below n0 n t0 t so = record { rounds = so.rounds; most = let low = so.left in omega arith; turns = so.turns }
+
 module _ (p : Protocol) (page below : ℕ) (s0 s : FlashState) (n0 n : Noted) (t : BlockTable) (u : Unsure) (so : ClearsSoFar p page below s0 s n0 n t u) where
   module _ (block : ℕ) (found : block_to_go n page below ≡ Some block) where
     from : GoesFrom n page below block
@@ -79,6 +101,21 @@ module _ (p : Protocol) (page below : ℕ) (s0 s : FlashState) (n0 n : Noted) (t
 
     now : is_going n page below block ≡ true
     now = at_going n page below block from.found (record { is_in = from.is_in; slot = from.slot; goes = from.goes })
+
+    -- the round breaks off
+    pub clearing_breaks : (t0 : BlockTable) → TurnsSoFar page below n0 t0 n t → (s' : FlashState) (n' : Noted) (t' : BlockTable) (u' : Unsure) → t' ≡ t →
+        BreaksOff n s s' t.spare block n' u' → ClearingBreaks page below s0 s' n0 t0 n' t' u'
+    clearing_breaks t0 turns s' n' t' u' stays breaks = record {
+      turn = n;
+      rounds = turns.rounds;
+      fewer = let some = some_going n page below block block_exists now in let low = turns.left in omega arith;
+      turns = subst (TreatsInTurn page below n0 t0 turns.rounds n) (sym stays) turns.turns;
+      block = block;
+      next = found;
+      between = s;
+      moves = so.moves;
+      breaks = subst (λ (k : BlockTable). BreaksOff n s s' k.spare block n' u') (sym stays) breaks;
+    }
 
     module _ (loss : LossLaw p) (rule : n0.config.protocol ≡ p) (s' : FlashState) (n' : Noted) (t' : BlockTable) (u' : Unsure) (matches' : Matches s' n' t' u') (kept' : Preserves n n') where
       calm : Matches s n t unsure.Nothing

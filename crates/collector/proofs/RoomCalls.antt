@@ -1,5 +1,5 @@
 -- The calls that make room: the spare is made blank, and then a block is collected.
-use Rattle.std.proofs.Common.{◌≡◌, ◌≢◌, ℕ, ◌+◌, ◌-◌, ◌*◌, ◌<◌, ◌≤◌, true, List, length, Result, Ok, Err, OnOk, OnErr, sym, ap, ap₂, ◌∙◌, subst, arith}
+use Rattle.std.proofs.Common.{◌≡◌, ◌≢◌, ℕ, ◌+◌, ◌-◌, ◌*◌, ◌<◌, ◌≤◌, true, if◌then◌else◌, List, [], ◌∷◌, length, Result, Ok, Err, OnOk, OnErr, sym, ap, ap₂, ◌∙◌, subst, inr, arith}
 use Rattle.tx_types.specs.Config.{shape_of, blocks_of}
 use Rattle.tx_types.specs.declared.config.Config.{Config}
 use Rattle.tx_types.specs.declared.config.Protocol.{Protocol}
@@ -7,17 +7,20 @@ use Rattle.tx_types.specs.declared.config.Shape.{Shape}
 use Rattle.tx_types.specs.declared.record.Link.{Link}
 use Rattle.flash_model.specs.declared.flash.Broken.{Broken}
 use Rattle.flash_model.specs.Flash.{FlashState, Contents}
-use Rattle.flash_model.specs.Operations.{moment_of}
+use Rattle.flash_model.specs.Operations.{erase, moment_of}
 use Rattle.flash_model.specs.Moves.{Does}
+use Rattle.record_list.specs.Changes.{LossLaw}
 use Rattle.version_index.specs.Noted.{Noted, needed_of, erased, with_spare}
 use Rattle.die_alloc.specs.BlockTable.{BlockTable, IsBlockTable, IsFull}
 use Rattle.collector.specs.declared.unsure.Unsure.{Unsure}
 use Rattle.collector.specs.declared.unsure.Unsure.TheVariants as unsure
-use Rattle.collector.specs.Collecting.{is_blank_block, is_noted_blank, collecting, collected, copied_from, needed_slots, noted_cleaned, exchanged, HasUnneeded}
+use Rattle.collector.specs.BreakingOff.{BreaksOff, RoomBreaksOff}
+use Rattle.collector.specs.Collecting.{cleaning, is_blank_block, is_noted_blank, collecting, collected, copied_from, needed_slots, noted_cleaned, exchanged, HasUnneeded}
 use Rattle.collector.specs.Going.{IsNextName, CostsAtMost, CostsBroken, HasNoNewRecord, MakesRoom}
 use Rattle.collector.specs.Matches.{Matches}
 use Rattle.collector.specs.Preserves.{Preserves, KeepsArray}
 use Rattle.collector.specs.Victim.{IsVictim, HasNoGarbage}
+use Rattle.collector.proofs.BreakingOff.{breaks_again}
 use Rattle.collector.proofs.Chains.{HasNoNewRecord-then}
 use Rattle.collector.proofs.Keeping.{keeps_array_then}
 use Rattle.collector.proofs.Cleanings.{blank_as_read, blank_is_erased}
@@ -86,6 +89,18 @@ module _ (s0 s1 : FlashState) (n0 n1 : Noted) (t0 t1 : BlockTable) (u0 u1 : Unsu
 
   clean_twice : erased (erased n0 t0.spare) t0.spare ≡ erased n0 t0.spare
   clean_twice = ap₂ (λ (n : Noted) (t : BlockTable). erased n t.spare) (sym noted) (sym blocks) ∙ clean_still ∙ noted
+
+  -- the collection broke off
+  pub room_breaks : (p : Protocol) → LossLaw p → n0.config.protocol ≡ p → s1.shape ≡ s0.shape →
+      Does s0.shape (moment_of s0) (cleaning n0 s0.image t0.spare) (moment_of s1) → s1.reads ≡ s0.reads → s1.live ≡ s0.live →
+      (s2 : FlashState) (n2 : Noted) (u2 : Unsure) (block : ℕ) → IsVictim n1 t1 block → BreaksOff n1 s1 s2 t1.spare block n2 u2 → RoomBreaksOff n0 t0 s0 s2 n2 u2
+  room_breaks p loss rule shape cleans unread lives s2 n2 u2 block v b =
+      inr (
+        block,
+        subst (λ (t : BlockTable). IsVictim (noted_cleaned n0 t0.spare) t block) blocks (subst (λ (n : Noted). IsVictim n t1 block) noted v),
+        breaks_again p loss s0 n0 t0 u0 rule m0 s1 n1 t1 block noted blocks (λ same. cleaned_apart block v (same ∙ ap (λ (t : BlockTable). t.spare) (sym blocks))) shape cleans unread
+            lives clean_still (ap (λ b. if b then [] else erase t1.spare ∷ []) (blank_as_read s1 n1 t1 u1 sure m1 ∙ blanked)) s2 n2 u2 b,
+      )
 
   -- what is noted of a collection of a blank spare
   done_of : ℕ → Noted → Noted

@@ -1,13 +1,16 @@
 -- Where a collection breaks off: which of its operations were done, which one was broken, and what is noted then.
-use Rattle.std.specs.Prelude.{◌≡◌, ◌⊎◌, ℕ, ◌+◌, ◌*◌, List, [], ◌∷◌, ◌++◌, length}
+use Rattle.std.specs.Prelude.{◌≡◌, ◌⊎◌, ℕ, ◌+◌, ◌*◌, ◌<◌, true, false, Some, List, [], ◌∷◌, ◌++◌, length}
 use Rattle.tx_types.specs.declared.config.Slot.{Slot}
 use Rattle.flash_model.specs.Flash.{FlashState, counted}
-use Rattle.flash_model.specs.Moves.{Does}
+use Rattle.flash_model.specs.Moves.{Does, FlashMoves}
 use Rattle.flash_model.specs.Operations.{Moment, Operation, Torn, erase, moment_of}
-use Rattle.version_index.specs.Noted.{Noted}
+use Rattle.version_index.specs.Noted.{Noted, block_to_go}
+use Rattle.die_alloc.specs.BlockTable.{BlockTable}
 use Rattle.collector.specs.declared.unsure.Unsure.{Unsure}
 use Rattle.collector.specs.declared.unsure.Unsure.TheVariants as unsure
+use Rattle.collector.specs.Going.{TreatsInTurn, blocks_to_go}
 use Rattle.collector.specs.Looking.{reads_after}
+use Rattle.collector.specs.Victim.{IsVictim}
 use Rattle.collector.specs.Collecting.{cleaning, noted_cleaned, needed_slots, copy_program, copies, copied_from}
 
 -- the first slot of a block
@@ -25,13 +28,14 @@ pub record CopiedFirst (n : Noted) (old : FlashState) (before : List Operation) 
       (before ++ copies n.config.page_bytes old.image (start_of n spare) first) now
   pub noted : n' ≡ copied_from n (start_of n spare) first
 
--- no operation was broken, and a slot is left to be copied, which was to be read next
+-- No operation was broken. A slot is left to be copied: its read came next, and failed, and is counted where power was on.
 pub record ReadFails (n : Noted) (old new : FlashState) (before : List Operation) (spare block : ℕ)
     (n' : Noted) : Type 0 where
   pub first : List ℕ
   pub from : ℕ
   pub later : List ℕ
   pub copied : CopiedFirst n old before spare block first (from ∷ later) (moment_of new) n'
+  pub reads : old.live ≡ true → new.reads ≡ reads_after (length first + 1) old.reads
 
 -- the next slot was read, and the program of its copy was broken
 pub record CopyBreaks (n : Noted) (old new : FlashState) (before : List Operation) (spare block : ℕ)
@@ -61,10 +65,11 @@ pub record CleaningBreaks (n : Noted) (old new : FlashState) (spare : ℕ) : Typ
   pub torn : Torn old.shape (moment_of old) (erase spare) (moment_of new)
   pub reads : new.reads ≡ old.reads
 
--- a copy breaks off: nothing was done, or its source was read and the program was broken
+-- a copy breaks off: the read of its source failed, or its source was read and the program was broken
 abbrev pub CopyBreaksOff : Noted → FlashState → FlashState → Slot → Slot → Unsure → Type 0
 CopyBreaksOff n old new from to u =
-    ((u ≡ unsure.Nothing) × (moment_of new ≡ moment_of old))
+    ((u ≡ unsure.Nothing) × (moment_of new ≡ moment_of old)
+    × (old.live ≡ true → new.reads ≡ counted old.reads))
     ⊎ ((u ≡ unsure.Copy from to)
     × Torn old.shape (moment_of old) (copy_program n.config.page_bytes old.image to.0 from.0)
     (moment_of new)
@@ -93,3 +98,25 @@ BreaksOff n old new spare block n' (unsure.VictimErase b) =
     (b.0 ≡ block)
     × EraseBreaks (noted_cleaned n spare) old new (cleaning n old.image spare) spare block n'
 BreaksOff n old new spare block n' (unsure.Own at rec) = ⊥
+
+-- Room was to be made, and that breaks off: the spare was to be erased first, or, once it is blank, the block with the most
+-- garbage was being collected.
+abbrev pub RoomBreaksOff : Noted → BlockTable → FlashState → FlashState → Noted → Unsure → Type 0
+RoomBreaksOff n t old new n' u =
+    ((u ≡ unsure.SpareErase) × CleaningBreaks n old new t.spare × (n' ≡ n))
+    ⊎ ((victim : ℕ) × IsVictim (noted_cleaned n t.spare) t victim
+    × BreaksOff n old new t.spare victim n' u)
+
+-- Blocks were treated in turn, fewer than there were with a record that must go, and then it broke off with the next one: its
+-- blocks are those of that turn.
+pub record ClearingBreaks (page below : ℕ) (old new : FlashState) (n : Noted) (t : BlockTable)
+    (n' : Noted) (t' : BlockTable) (u : Unsure) : Type 0 where
+  pub turn : Noted
+  pub rounds : ℕ
+  pub fewer : rounds < blocks_to_go n page below
+  pub turns : TreatsInTurn page below n t rounds turn t'
+  pub block : ℕ
+  pub next : block_to_go turn page below ≡ Some block
+  pub between : FlashState
+  pub moves : FlashMoves old between false
+  pub breaks : BreaksOff turn between new t'.spare block n' u

@@ -61,15 +61,22 @@ IsTreated n t block n' t' =
     × (block ≢ t.spare → (n' ≡ collected n t.spare block)
     × (t' ≡ exchanged t block (length (needed_slots (noted_cleaned n t.spare) block))))
 
--- Blocks were treated in turn, from these tables on: each was the lowest that then held a record which must go before
--- this version of a page is programmed.
-pub data TreatsInTurn (page below : ℕ) (n : Noted) (t : BlockTable) : Noted → BlockTable →
+-- So many blocks were treated in turn, from these tables on: each was the lowest that then held a record which must go
+-- before this version of a page is programmed.
+pub data TreatsInTurn (page below : ℕ) (n : Noted) (t : BlockTable) : ℕ → Noted → BlockTable →
     Type 0 where
-  none : TreatsInTurn page below n t n t
-  one_more : (n' n'' : Noted) → (t' t'' : BlockTable) → (block : ℕ) →
-      TreatsInTurn page below n t n' t' →
+  none : TreatsInTurn page below n t 0 n t
+  one_more : (rounds : ℕ) → (n' n'' : Noted) → (t' t'' : BlockTable) → (block : ℕ) →
+      TreatsInTurn page below n t rounds n' t' →
       block_to_go n' page below ≡ Some block → IsTreated n' t' block n'' t'' →
-      TreatsInTurn page below n t n'' t''
+      TreatsInTurn page below n t (rounds + 1) n'' t''
+
+-- Blocks were treated in turn, no more than there were with such a record.
+pub record TreatsAll (page below : ℕ) (n : Noted) (t : BlockTable) (n' : Noted)
+    (t' : BlockTable) : Type 0 where
+  pub rounds : ℕ
+  pub most : rounds ≤ blocks_to_go n page below
+  pub turns : TreatsInTurn page below n t rounds n' t'
 
 -- each record that is noted afterwards was noted before
 abbrev pub HasNoNewRecord : Noted → Noted → Type 0

@@ -12,8 +12,8 @@ ghost use Rattle.die_alloc.specs.NextSlot.{next_slot, after_next_slot};
 ghost use Rattle.collector.specs.Matches.{Matches};
 ghost use Rattle.collector.specs.Preserves.{Preserves, KeepsArray};
 ghost use Rattle.collector.specs.Going.{IsNextName, CostsAtMost, blocks_to_go};
-ghost use Rattle.collector.specs.Going.{IsTreated, TreatsInTurn, HasNoNewRecord, MakesRoom};
-ghost use Rattle.collector.specs.BreakingOff.{BreaksOff};
+ghost use Rattle.collector.specs.Going.{IsTreated, TreatsAll, HasNoNewRecord, MakesRoom};
+ghost use Rattle.collector.specs.BreakingOff.{BreaksOff, ClearingBreaks, RoomBreaksOff};
 ghost use Rattle.collector.specs.Collecting.{CollectsForRoom, HasUnneeded};
 
 use crate::Unsure;
@@ -51,7 +51,11 @@ pub fn clear<F: Flash, R: CommitRule>(
     ensures cleared { OnOk result (block_to_go index.new page below ≡ None) }
     // The lowest such block comes first, as the tables then are, and so on.
     ensures turns { OnOk result
-        (TreatsInTurn page below index.old blocks.old index.new blocks.new) }
+        (TreatsAll page below index.old blocks.old index.new blocks.new) }
+    // Else one was being treated in its turn, which broke off as a collection does: the blocks are
+    // kept as they were then.
+    ensures broken { OnErr result (ClearingBreaks page below (F.state flash.old) (F.state flash.new)
+        index.old blocks.old index.new blocks.new unsure.new) }
     ensures sure { OnOk result (unsure.new ≡ Unsure.Nothing) }
     ensures others { (at : Slot) (rec : Rec) → unsure.new ≡ Unsure.Own at rec → ⊥ }
     // Where nothing must go, nothing is done.
@@ -94,6 +98,7 @@ fn treat<F: Flash, R: CommitRule>(
     ensures treated { OnOk result (IsTreated index.old blocks.old block.0 index.new blocks.new) }
     ensures broken { OnErr result (BreaksOff index.old (F.state flash.old) (F.state flash.new)
         blocks.old.spare block.0 index.new unsure.new) }
+    ensures stays { OnErr result (blocks.new ≡ blocks.old) }
     ensures costs { CostsAtMost index.old.config.pages_per_block 1
         (F.state flash.old) (F.state flash.new) }
     ensures moves { FlashMoves (F.state flash.old) (F.state flash.new) (is_err result) }
@@ -134,6 +139,9 @@ pub fn free_slot<F: Flash, R: CommitRule>(
     // Else the block with the most garbage is collected once the spare is blank.
     ensures collects { IsFull blocks.old → IfOk result
         (λ at. CollectsForRoom index.old blocks.old index.new blocks.new at) }
+    ensures stays { OnErr result (blocks.new ≡ blocks.old) }
+    ensures broken { OnErr result (RoomBreaksOff index.old blocks.old
+        (F.state flash.old) (F.state flash.new) index.new unsure.new) }
     ensures costs { CostsAtMost index.old.config.pages_per_block 1
         (F.state flash.old) (F.state flash.new) }
     // What need not go before a program need not go afterwards.
@@ -174,6 +182,9 @@ fn make_room<F: Flash, R: CommitRule>(
     ensures sure { OnOk result (unsure.new ≡ Unsure.Nothing) }
     ensures others { (at : Slot) (rec : Rec) → unsure.new ≡ Unsure.Own at rec → ⊥ }
     ensures made { OnOk result (MakesRoom index.old blocks.old index.new blocks.new) }
+    ensures stays { OnErr result (blocks.new ≡ blocks.old) }
+    ensures broken { OnErr result (RoomBreaksOff index.old blocks.old
+        (F.state flash.old) (F.state flash.new) index.new unsure.new) }
     ensures free { OnOk result (IsFull blocks.new → ⊥) }
     ensures records { HasNoNewRecord index.old index.new }
     ensures costs { CostsAtMost index.old.config.pages_per_block 1

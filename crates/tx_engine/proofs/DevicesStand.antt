@@ -1,24 +1,28 @@
 -- What a device that stands for its array has on its flash.
-use Rattle.std.proofs.Common.{◌≡◌, ◌≢◌, ℕ, ◌+◌, ◌<◌, Bool, true, false, cond, List, length, Some, refl, sym, ap, ◌∙◌, subst, inl, inr, arith, eq-eqb}
+use Rattle.std.proofs.Common.{◌≡◌, ◌≢◌, ℕ, ◌+◌, ◌<◌, Bool, true, false, cond, List, length, Some, refl, sym, ap, ap₂, ◌∙◌, subst, inl, inr, arith, eq-eqb}
 use Rattle.std.specs.List.{AllZip}
 use Rattle.std.proofs.lemmas.Bool.{cases_eq}
 use Rattle.list_facts.proofs.Membership.{got_within}
 use Rattle.list_facts.proofs.Pairs.{zip_at}
 use Rattle.tx_types.specs.Config.{shape_of, slots_of}
+use Rattle.tx_types.specs.declared.config.Config.{Config}
 use Rattle.tx_types.specs.declared.config.Protocol.{Protocol}
 use Rattle.tx_types.specs.declared.config.Slot.{Slot}
 use Rattle.tx_types.specs.declared.record.Rec.{Rec}
 use Rattle.flash_model.specs.Flash.{FlashState, Contents, blank, damaged, complete, slot_at}
 use Rattle.page_record.specs.Spelling.{spelling}
+use Rattle.record_list.specs.Current.{cur}
 use Rattle.record_list.specs.Records.{name_of}
 use Rattle.record_list.specs.Written.{text_at}
-use Rattle.version_index.specs.Images.{array_in, written_in}
-use Rattle.version_index.specs.Noted.{Noted, IsNoted, programmed}
+use Rattle.version_index.specs.Images.{array_in, records_in, current_in, written_in}
+use Rattle.version_index.specs.Noted.{Noted, IsNoted, current_of, programmed}
+use Rattle.version_index.specs.Notes.{found_in, notes_of}
+use Rattle.version_index.proofs.NotedImages.{found_in_notes}
 use Rattle.die_alloc.specs.BlockTable.{BlockTable}
 use Rattle.collector.specs.declared.unsure.Unsure.{Unsure}
 use Rattle.collector.specs.declared.unsure.Unsure.TheVariants as unsure
 use Rattle.collector.specs.declared.unsure.Settled.TheVariants as settled
-use Rattle.collector.specs.Known.{array_known}
+use Rattle.collector.specs.Known.{array_known, known_image}
 use Rattle.collector.specs.Matches.{Matches, CanTake, CanTakeOwn}
 use Rattle.collector.specs.Settling.{settlement, own_settled, Settlement}
 use Rattle.tx_engine.specs.ArrayState.{Entry, Pages, put, is_doubted}
@@ -127,3 +131,25 @@ device_array state p laws notes s h rule =
     let rule_noted : s.noted.config.protocol ≡ p = ap (λ (c : _). c.protocol) (sym h.config) ∙ rule in
     subst (λ (c : _). StandsFor s.machine (array_in p c.logical (state s.flash).image)) (sym h.config)
     (stands_for p laws notes (state s.flash) s.noted s.table rule_noted s.machine.entries s.namings h.each s.machine.pages h.array s.unsure h.matches (can_take state s h) h.doubt)
+
+-- the known image has the notes of the tables
+abbrev pub HasNotes : Protocol → Type 0
+HasNotes p = (s : FlashState) (n : Noted) (t : BlockTable) (u : Unsure) → Matches s n t u → n.config.protocol ≡ p → notes_of p (known_image n t.spare u s.image) ≡ n.notes
+
+module _ {F : Type 0} (state : F → FlashState) (p : Protocol) (notes : HasNotes p) (s : Standing F) (h : Stands state s) (rule : s.config.protocol ≡ p) where
+  noted_rule : s.noted.config.protocol ≡ p
+  noted_rule = ap (λ (c : Config). c.protocol) (sym h.config) ∙ rule
+
+  abbrev known : List Contents
+  known = known_image s.noted s.table.spare s.unsure (state s.flash).image
+
+  -- so it has their records
+  pub known_records : records_in p known ≡ found_in s.noted.notes
+  known_records = sym (found_in_notes p known) ∙ ap found_in (notes (state s.flash) s.noted s.table s.unsure h.matches noted_rule)
+
+  -- and their versions
+  pub known_versions : (page : ℕ) → current_in p s.config.logical known page ≡ current_of s.noted page
+  unfolding current_in current_of
+  known_versions page =
+      ap (λ l. cur p l s.config.logical page) known_records
+      ∙ ap₂ (λ q k. cur q (found_in s.noted.notes) k page) (sym noted_rule) (ap (λ (c : Config). c.logical) h.config)

@@ -42,7 +42,7 @@ pub mod NothingLeft
 pub mod NextRecord
 pub mod WriteExits
 pub mod OpenPages
-pub mod OpenTests
+pub mod Owners
 pub mod PageMoves
 pub mod OpenChanges
 pub mod RefusalSteps
@@ -53,4 +53,5 @@ pub mod RecordWrites
 pub mod AdvanceExits
 pub mod NextThere
 pub mod StepExits
+pub mod Breaking
 pub mod StepWrites

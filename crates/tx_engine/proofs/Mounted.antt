@@ -25,7 +25,12 @@ none_pinned (suc k) n = none_pinned k (n + 1)
 
 -- with nothing open
 abbrev pub empty_table : Config → OpenTable
-empty_table config = record { page_bytes = config.page_bytes; pending = config.pending; all = [] }
+empty_table config = record {
+  page_bytes = config.page_bytes;
+  logical = config.logical;
+  pending = config.pending;
+  all = [];
+}
 
 module _ {F : Type 0} (state : F → FlashState) (p : Protocol) (flash : F) (its : Config) (s : Stored F) (opened : StoresOpened state flash its s) (stored : IsStored state p s) where
   its_config : s.noted.config ≡ its
@@ -52,6 +57,7 @@ module _ {F : Type 0} (state : F → FlashState) (p : Protocol) (flash : F) (its
     };
     rule = stored.rule;
     page_bytes = refl;
+    logical = refl;
     pending = refl;
   }
     where

@@ -65,6 +65,7 @@ standing_same {F} {R} state protocol d x h same shape image =
       };
       rule = h.rule;
       page_bytes = h.page_bytes;
+      logical = h.logical;
       pending = h.pending;
     } in
     let P : Stored F → Type 0 = λ y. IsStanding state protocol (record d { store = y }) in

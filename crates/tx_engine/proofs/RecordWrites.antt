@@ -21,7 +21,7 @@ use Rattle.die_alloc.specs.BlockTable.{BlockTable, IsFirstFree, IsFull}
 use Rattle.die_alloc.specs.NextSlot.{next_slot, after_next_slot}
 use Rattle.collector.specs.Collecting.{CollectsForRoom}
 use Rattle.collector.specs.declared.unsure.Unsure.{Unsure}
-use Rattle.collector.specs.Going.{TreatsInTurn, blocks_to_go}
+use Rattle.collector.specs.Going.{TreatsAll, blocks_to_go}
 use Rattle.collector.specs.Matches.{Matches}
 use Rattle.collector.specs.Preserves.{IsThere, Preserves}
 use Rattle.tx_engine.specs.OpenTable.{OpenTable}
@@ -53,7 +53,7 @@ module _ {F : Type 0} (state : F → FlashState) (S S1 S2 S3 : Stored F) (O O' :
       block_to_go S1.noted name.page name.version ≡ None → FindsSlot S1.noted S1.table S2.noted S2.table at → name_of rec ≡ name → rec.next ≡ link →
       rec.back ≡ back_version S2.noted.config.protocol (found_in S2.noted.notes) S2.noted.config.logical rec.page →
       at.0 < length (state S2.flash).image → WritesStored state S2 S3 at.0 rec bytes →
-      TreatsInTurn name.page name.version S.noted S.table S1.noted S1.table → FlashMoves (state S.flash) (state S2.flash) false →
+      TreatsAll name.page name.version S.noted S.table S1.noted S1.table → FlashMoves (state S.flash) (state S2.flash) false →
       WritesRecord state (standing_in state S O) (standing_in state S3 O') name link bytes
   writes_record noted kept idle broken direct shape clear slot named linked back within w turns moves = record {
     cleared = S1.noted;
@@ -130,8 +130,8 @@ writes_from state a b new name link bytes moment shape noted table w = record {
   cleared = w.cleared;
   cleared_table = w.cleared_table;
   kept = subst (λ (n : Noted). Preserves n w.cleared) noted w.kept;
-  turns = subst (λ (n : Noted). TreatsInTurn name.page name.version n a.table w.cleared w.cleared_table) noted
-      (subst (λ (t : BlockTable). TreatsInTurn name.page name.version b.noted t w.cleared w.cleared_table) table w.turns);
+  turns = subst (λ (n : Noted). TreatsAll name.page name.version n a.table w.cleared w.cleared_table) noted
+      (subst (λ (t : BlockTable). TreatsAll name.page name.version b.noted t w.cleared w.cleared_table) table w.turns);
   idle = λ none.
       let i = w.idle (subst (λ (n : Noted). blocks_to_go n name.page name.version ≡ 0) (sym noted) none) in
       (i.0 ∙ noted, i.1 ∙ table);

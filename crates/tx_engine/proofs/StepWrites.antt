@@ -17,6 +17,8 @@ use Rattle.tx_engine.specs.Step.{settled_entry}
 use Rattle.tx_engine.specs.Stored.{Stored}
 use Rattle.tx_engine.specs.Tables.{standing_in}
 use Rattle.tx_engine.specs.Writing.{BringsPage, WritesRecord}
+use Rattle.tx_engine.specs.Breaking.{WritingBreaks}
+use Rattle.tx_engine.proofs.Breaking.{breaks_from}
 use Rattle.tx_engine.proofs.CostFacts.{costs_from}
 use Rattle.tx_engine.proofs.OpenNames.{all_names, names_at}
 use Rattle.tx_engine.proofs.RecordWrites.{writes_from}
@@ -98,6 +100,13 @@ module _ {F : Type 0} (state : F → FlashState) (S T : Stored F) (O P : OpenTab
         (subst (λ (a : Link). WritesRecord state (standing_in state T P) (standing_in state U Q) (name_at y f.done) a (write_at e e.done).bytes) link_is
         (subst (λ (b : List ℕ). WritesRecord state (standing_in state T P) (standing_in state U Q) (name_at y f.done) (name_at y (link_place f)) b) bytes_is w)));
   }
+
+  pub breaks_then : (U : Stored F) (Q : OpenTable) → (state T.flash).shape ≡ (state S.flash).shape →
+      WritingBreaks state (standing_in state T P) (standing_in state U Q) (name_at y f.done) →
+      WritingBreaks state (with_settlement state (standing_in state S O)) (standing_in state U Q) (name_at x e.done)
+  breaks_then U Q shape w =
+      breaks_from state (with_settlement state (standing_in state S O)) (standing_in state T P) (standing_in state U Q) (name_at x e.done) moment shape is_noted is_table
+      (subst (WritingBreaks state (standing_in state T P) (standing_in state U Q)) name_is w)
 
   pub notes_then : (n' : Noted) → AddsOnly (name_at y f.done) T.noted n' → AddsOnly (name_at x e.done) found.noted n'
   notes_then n' adds = subst (λ (a : Link). AddsOnly a found.noted n') name_is (subst (λ (n : Noted). AddsOnly (name_at y f.done) n n') is_noted adds)

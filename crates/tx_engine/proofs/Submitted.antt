@@ -285,6 +285,7 @@ module _ {F R : Type 0} (state : F → FlashState) (p : Protocol) (d : Inside F 
         stands = stands_then state p d.store d.openings h.stands h.rule tag ws ok unspent whole (subst (IsStored state p) pins stored);
         rule = h.rule;
         page_bytes = h.page_bytes;
+        logical = h.logical;
         pending = h.pending;
       } in
       subst₂ (λ (s : Stored F) (t : OpenTable). IsStanding {F = F} {R = R} state p (record { store = s; openings = t })) (sym pins) (sym opens) is

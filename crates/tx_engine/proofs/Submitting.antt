@@ -58,7 +58,7 @@ submits limits spent old new tag ws first second is =
     }
 
 -- the refusals by the configuration are those of the limits that are kept
-pub not_refused : (config known : Config) (pending : ℕ) (entries : List Entry) (tag : ℕ) (ws : List PageWrite) (result : Option SubmitError) → known ≡ config → pending ≡ config.pending →
-    result ≡ first_refusals (record { logical = known.logical; pending = pending }) entries tag ws → result ≡ None → first_refusals (limits_of config) entries tag ws ≡ None
-not_refused config known pending entries tag ws result same limit is none =
-    ap₂ (λ (c : Config) n. first_refusals (record { logical = c.logical; pending = n }) entries tag ws) (sym same) (sym limit) ∙ sym is ∙ none
+pub not_refused : (config : Config) (logical pending : ℕ) (entries : List Entry) (tag : ℕ) (ws : List PageWrite) (result : Option SubmitError) → logical ≡ config.logical → pending ≡ config.pending →
+    result ≡ first_refusals (record { logical = logical; pending = pending }) entries tag ws → result ≡ None → first_refusals (limits_of config) entries tag ws ≡ None
+not_refused config logical pending entries tag ws result same limit is none =
+    ap₂ (λ m n. first_refusals (record { logical = m; pending = n }) entries tag ws) (sym same) (sym limit) ∙ sym is ∙ none

@@ -4,13 +4,13 @@ pub use Rattle.array_machine.specs.Step
 pub use Rattle.array_machine.specs.Collect
 pub use Rattle.array_machine.specs.UnbrokenCalls as Unbroken
 pub mod Always
+pub mod Breaking
 pub mod Collections
 pub mod Costs
 pub mod Exits
 pub mod Naming
 pub mod OpenTable
 pub mod OpenTables
-pub mod OpeningsIn
 pub mod PendingPages
 pub mod Opens
 pub mod Read

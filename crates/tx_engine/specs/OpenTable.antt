@@ -12,11 +12,18 @@ pub record Opening : Type 0 where
   pub entry : Entry
   pub naming : Naming
 
--- how many bytes a page has, how many pages may be pending, and the open transactions
+-- how many bytes a page has, how many pages there are and may be pending, and the open transactions
 pub record OpenTable : Type 0 where
   pub page_bytes : ℕ
+  pub logical : ℕ
   pub pending : ℕ
   pub all : List Opening
+
+-- the same pages, and as many may be pending
+pub record HasLimitsOf (old new : OpenTable) : Type 0 where
+  pub page_bytes : new.page_bytes ≡ old.page_bytes
+  pub logical : new.logical ≡ old.logical
+  pub pending : new.pending ≡ old.pending
 
 -- what stands for an open transaction where there is none
 abbrev pub no_opening : Opening

@@ -1,18 +1,46 @@
--- The pages of open transactions, one behind another, and the room for those that may be pending beside them.
-use Rattle.std.specs.Prelude.{◌≡◌, ℕ, ◌+◌, ◌≤◌, List, ◌++◌, length, map, take, drop, sum_by, vec_capacity, All, Vec}
+-- The pages of an open transaction, and the room for those that may be pending beside them.
+use Rattle.std.specs.Prelude.{◌≡◌, ℕ, ◌+◌, ◌≤◌, List, ◌++◌, [], ◌∷◌, length, map, slice_set, slice_index_or, option_map, Option, None, vec_capacity, All, Vec}
 use Rattle.std.specs.declared.alloc.Global.{Global}
 use Rattle.tx_types.specs.Batch.{PageWrite, Writes}
 use Rattle.version_index.specs.Noted.{Noted}
-use Rattle.tx_engine.specs.OpenTable.{next_name}
-use Rattle.tx_engine.specs.declared.pending.Opened.{Opened}
+use Rattle.tx_engine.specs.OpenTable.{Opening, next_name}
+use Rattle.tx_engine.specs.Submit.{first_refusal}
+use Rattle.array_machine.specs.declared.answers.SubmitError.{SubmitError}
+use Rattle.array_machine.specs.declared.answers.SubmitError.TheVariants as refused
+use Rattle.tx_engine.specs.declared.pending.OpenTransaction.{OpenTransaction}
 use Rattle.tx_engine.specs.declared.pending.PendingPage.{PendingPage}
 
 abbrev pub write_held : PendingPage → PageWrite
 write_held p = record { page = p.name.page; bytes = p.bytes.items }
 
--- how many pages these transactions have
-abbrev pub pages_held : List Opened → ℕ
-pages_held opened = sum_by (λ o. o.pages) opened
+-- how many pages a transaction has
+abbrev pub pages_of : OpenTransaction → ℕ
+pages_of o = length o.pages.items
+
+-- an open transaction as callers see it
+abbrev pub opening_of : OpenTransaction → Opening
+opening_of o = record {
+  entry = record { tag = o.tag; writes = map write_held o.pages.items; done = o.done; mark = o.mark };
+  naming = record { names = map (λ p. p.name) o.pages.items; noted_count = o.noted_count };
+}
+
+-- the owners of all pages with another one for each of these
+unfoldable pub with_owner : List (Option ℕ) → Option ℕ → List PendingPage → List (Option ℕ)
+with_owner owners owner [] = owners
+with_owner owners owner (p ∷ ps) = with_owner (slice_set owners p.name.page owner) owner ps
+
+-- the refusal of the first write of a page that has an owner
+abbrev pub owned_page : List (Option ℕ) → List PageWrite → Option SubmitError
+owned_page owners = first_refusal
+    (λ w. option_map (λ tag. refused.Overlap w.page tag) (slice_index_or owners w.page None))
+
+-- a page with so many bytes
+abbrev pub IsWhole : ℕ → PendingPage → Type 0
+IsWhole size p = length p.bytes.items ≡ size
+
+-- room for so many bytes
+abbrev pub HasRoom : ℕ → Vec ℕ Global → Type 0
+HasRoom size r = length r.items ≡ size
 
 -- the pages of a batch came behind the others, each with its next name, in rooms that were free
 pub record HoldsPages (n : Noted) (old new : Vec PendingPage Global)
@@ -21,16 +49,18 @@ pub record HoldsPages (n : Noted) (old new : Vec PendingPage Global)
   pub behind : new.items ≡ old.items ++ held
   pub writes : map write_held held ≡ batch.entries
   pub names : map (λ p. p.name) held ≡ map (next_name n) batch.entries
-  pub whole : All (λ p. length p.bytes.items ≡ batch.page_bytes) held
+  pub whole : All (IsWhole batch.page_bytes) held
   pub fewer : length rooms'.items + length held ≡ length rooms.items
   pub capacity : vec_capacity old ≤ vec_capacity new
   pub rooms_capacity : vec_capacity rooms' ≡ vec_capacity rooms
-  pub sizes : All (λ r. length r.items ≡ batch.page_bytes) rooms'.items
+  pub sizes : All (HasRoom batch.page_bytes) rooms'.items
 
--- so many pages went, from an index on, and their rooms are free
+-- the pages went, and their rooms are free
 pub record FreesPages (old new : Vec PendingPage Global) (rooms rooms' : Vec (Vec ℕ Global) Global)
-    (first count : ℕ) : Type 0 where
-  pub left : new.items ≡ take first old.items ++ drop (first + count) old.items
-  pub freed : rooms'.items ≡ rooms.items ++ map (λ p. p.bytes) (take count (drop first old.items))
+    : Type 0 where
+  pub none : new.items ≡ []
+  pub more : length rooms'.items ≡ length rooms.items + length old.items
   pub capacity : vec_capacity new ≡ vec_capacity old
   pub rooms_capacity : vec_capacity rooms ≤ vec_capacity rooms'
+  pub sizes : (size : ℕ) → All (HasRoom size) rooms.items → All (IsWhole size) old.items →
+      All (HasRoom size) rooms'.items

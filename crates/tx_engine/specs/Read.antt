@@ -1,5 +1,5 @@
 -- Reading a page of the array from a flash.
-use Rattle.std.specs.Prelude.{◌≡◌, ℕ, ◌<◌, ◌≤◌, Bool, true, false, List, Option, None, Some, Result, Ok, Err, IsSome}
+use Rattle.std.specs.Prelude.{◌≡◌, ℕ, ◌<◌, Bool, true, false, List, Option, None, Some, Result, Ok, Err, IsSome}
 use Rattle.tx_types.specs.Config.{slots_of}
 use Rattle.flash_model.specs.Calls.{Reads, page_of}
 use Rattle.flash_model.specs.Flash.{FlashState, slot_at}

@@ -28,4 +28,5 @@ pub record IsStanding {F R : Type 0} (state : F → FlashState) (protocol : Prot
   pub stands : Stands state (standing_of state d)
   pub rule : d.store.noted.config.protocol ≡ protocol
   pub page_bytes : d.openings.page_bytes ≡ d.store.noted.config.page_bytes
+  pub logical : d.openings.logical ≡ d.store.noted.config.logical
   pub pending : d.openings.pending ≡ d.store.noted.config.pending

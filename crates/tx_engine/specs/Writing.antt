@@ -16,7 +16,7 @@ use Rattle.version_index.specs.Noted.{Noted, block_to_go, programmed}
 use Rattle.die_alloc.specs.BlockTable.{BlockTable, IsFull, with_slot}
 use Rattle.die_alloc.specs.NextSlot.{next_slot, after_next_slot}
 use Rattle.collector.specs.Collecting.{CollectsForRoom}
-use Rattle.collector.specs.Going.{blocks_to_go, TreatsInTurn}
+use Rattle.collector.specs.Going.{blocks_to_go, TreatsAll}
 use Rattle.collector.specs.Looking.{reads_after}
 use Rattle.collector.specs.Preserves.{IsThere, Preserves}
 use Rattle.collector.specs.Settling.{slots_read}
@@ -56,7 +56,7 @@ pub record WritesRecord {F : Type 0} (state : F → FlashState) (known new : Sta
   pub cleared : Noted
   pub cleared_table : BlockTable
   pub kept : Preserves known.noted cleared
-  pub turns : TreatsInTurn name.page name.version known.noted known.table cleared cleared_table
+  pub turns : TreatsAll name.page name.version known.noted known.table cleared cleared_table
   pub idle : blocks_to_go known.noted name.page name.version ≡ 0 →
       (cleared ≡ known.noted) × (cleared_table ≡ known.table)
   pub clear : block_to_go cleared name.page name.version ≡ None

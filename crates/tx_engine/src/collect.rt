@@ -1,6 +1,8 @@
 ghost use Rattle.std.specs.Prelude.{◌≡◌, OnOk, OnErr, IfOk, Ok};
 ghost use Rattle.std.specs.Result.{is_err};
 ghost use Rattle.collector.specs.declared.unsure.Unsure.TheVariants as unsure;
+ghost use Rattle.collector.specs.BreakingOff.{RoomBreaksOff};
+ghost use Rattle.tx_engine.specs.Breaking.{CollectBreaks};
 ghost use Rattle.tx_engine.specs.Collect.{CollectsAs};
 ghost use Rattle.tx_engine.specs.Collections.{CollectsTables, HasNothingToCollect};
 ghost use Rattle.tx_engine.specs.Exits.{Exits, CollectRises, is_there};
@@ -34,6 +36,7 @@ impl<F: Flash, R: CommitRule> Device<F, R> {
             CollectsTables (F.state self.old.flash) (F.state self.new.flash)
             found.noted self.new.noted found.table self.new.table answer) }
         ensures failed { OnErr result (CollectFails F.state self.old self.new) }
+        ensures breaks { OnErr result (CollectBreaks F.state self.old self.new) }
         ensures nothing { result ≡ Ok Collected.Nothing →
             HasNothingToCollect self.old.config.protocol self.old.config.logical
             (F.state self.new.flash).image self.new.machine.entries }
@@ -61,6 +64,8 @@ fn collect_settled<F: Flash, R: CommitRule>(
     ensures tables { IfOk result (CollectsTables (F.state store.old.flash) (F.state store.new.flash)
         store.old.noted store.new.noted store.old.table store.new.table) }
     ensures stays { OnErr result (store.new.table ≡ store.old.table) }
+    ensures broken { OnErr result (RoomBreaksOff store.old.noted store.old.table
+        (F.state store.old.flash) (F.state store.new.flash) store.new.noted store.new.unsure) }
     ensures sure { OnOk result (store.new.unsure ≡ unsure.Nothing) }
     ensures nothing { result ≡ Ok Collected.Nothing →
         HasNothingToCollect store.new.noted.config.protocol store.new.noted.config.logical

@@ -1,6 +1,7 @@
 //! What holds of all devices. The functions do nothing of their own: each is there for what it ensures.
 ghost use Rattle.std.specs.Prelude.{◌≡◌, ◌⊎◌, ℕ, Bool, Err};
-ghost use Rattle.version_index.specs.Images.{IsSoundImage, array_in, records_in};
+ghost use Rattle.version_index.specs.Images.{IsSoundImage, array_in, records_in, current_in};
+ghost use Rattle.version_index.specs.Noted.{current_of};
 ghost use Rattle.version_index.specs.Notes.{found_in};
 ghost use Rattle.collector.specs.Known.{known_image};
 ghost use Rattle.collector.specs.declared.unsure.Unsure.TheVariants as unsure;
@@ -24,6 +25,16 @@ pub fn devices_stand<F: Flash, R: CommitRule>()
         × (array_in R.protocol s.config.logical
         (known_image s.noted s.table.spare s.unsure (F.state s.flash).image)
         ≡ s.machine.pages) }
+    // Its records are those that are noted, and its current versions those of the tables.
+    ensures known_records { (s : Standing F) → Stands F.state s → s.config.protocol ≡ R.protocol →
+        records_in R.protocol
+        (known_image s.noted s.table.spare s.unsure (F.state s.flash).image)
+        ≡ found_in s.noted.notes }
+    ensures known_versions { (s : Standing F) (page : ℕ) →
+        Stands F.state s → s.config.protocol ≡ R.protocol →
+        current_in R.protocol s.config.logical
+        (known_image s.noted s.table.spare s.unsure (F.state s.flash).image) page
+        ≡ current_of s.noted page }
     ensures array { (s : Standing F) → Stands F.state s → s.config.protocol ≡ R.protocol →
         StandsFor s.machine (array_in R.protocol s.config.logical (F.state s.flash).image) }
     ensures records { (s : Standing F) → Stands F.state s → s.config.protocol ≡ R.protocol →

@@ -1,14 +1,16 @@
-ghost use Rattle.std.specs.Prelude.{◌≡◌, ◌+◌, ◌<◌, ◌≤◌, ◌∷◌, ◌++◌, [], length, remove, position, All, IfOk};
+ghost use Rattle.std.specs.Prelude.{◌≡◌, ◌≢◌, ◌+◌, ◌<◌, ◌≤◌, ◌∷◌, ◌++◌, [], length, remove, position, All, AllPairs, IfOk};
 ghost use Rattle.tx_types.specs.Config.{IsConfig};
 ghost use Rattle.tx_types.specs.Limits.{max_version};
+ghost use Rattle.record_list.specs.Transaction.{ShareNoPage};
 ghost use Rattle.version_index.specs.Noted.{mention_of};
 ghost use Rattle.tx_engine.specs.ArrayState.{pending_pages, has_tag, is_doubted};
-ghost use Rattle.tx_engine.specs.OpenTable.{IsOpenTable, opening_at, entries_of, begun, with_opening, with_done, with_mark, with_noted_count};
+ghost use Rattle.tx_engine.specs.OpenTable.{IsOpenTable, opening_at, entries_of, namings_of, begun, with_opening, with_done, with_mark, with_noted_count};
 ghost use Rattle.tx_engine.specs.Standing.{name_at, write_at};
 ghost use Rattle.tx_engine.specs.Submit.{first_refusals};
 
 use crate::pending::{
-    Opened, PendingPage, free_pages, hold_pages, pages_before, place_of_doubt, place_of_tag, rooms,
+    OpenTransaction, PendingPage, free_pages, hold_pages, page_lists, place_of_doubt, place_of_tag,
+    rooms, set_owner,
 };
 use crate::refusals::{batch_refusal, first_overlap, is_tag_used, too_many};
 use crate::{Mark, SubmitError};
@@ -23,11 +25,13 @@ use version_index::Index;
 pub struct Openings {
     page_bytes: u32,
     pending: u32,
-    opened: Vec<Opened>,
-    /// The pages of all open transactions, those of each behind one another.
-    pages: Vec<PendingPage>,
-    /// Room for the pages that may be pending beside them.
+    all: Vec<OpenTransaction>,
+    /// The tag of the open transaction that writes a page, for each page.
+    owners: Vec<Option<u32>>,
+    /// Room for the pages that may be pending beside theirs.
     rooms: Vec<Vec<u8>>,
+    /// Room for the transactions that may be open beside them.
+    lists: Vec<Vec<PendingPage>>,
 }
 
 impl Model for Openings {
@@ -48,6 +52,7 @@ impl Openings {
         requires { IsConfig config }
         ensures { IfOk result (λ o. o ≡ record {
           page_bytes = config.page_bytes;
+          logical = config.logical;
           pending = config.pending;
           all = [];
         }) }
@@ -56,9 +61,10 @@ impl Openings {
         Ok(Openings {
             page_bytes: config.page_bytes,
             pending: config.pending,
-            opened: Vec::with_capacity(alloc, most)?,
-            pages: Vec::with_capacity(alloc, most)?,
+            all: Vec::with_capacity(alloc, most)?,
+            owners: vec![in alloc; None; config.logical as usize]?,
             rooms: rooms(alloc, config)?,
+            lists: page_lists(alloc, config)?,
         })
     }
 
@@ -67,32 +73,33 @@ impl Openings {
         ensures count { result ≡ length self.now.all }
         ensures kept { IsOpenTable self.now }
     {
-        self.opened.len() as u32
+        self.all.len() as u32
     }
 
     /// The number of the pages of all open transactions.
     pub fn pending(&self) -> u32
         ensures { result ≡ pending_pages (entries_of self.now) }
     {
-        self.pages.len() as u32
+        self.pending - self.rooms.len() as u32
     }
 
     /// The first refusal of a batch for which what is kept of open transactions and the number of logical pages are enough:
     /// any but that of a page which has no version left, which is tried last.
-    pub fn refusal(&self, logical: u32, tag: u32, batch: &Batch) -> Option<SubmitError>
-        ensures { result ≡ first_refusals (record { logical = logical; pending = self.now.pending })
+    pub fn refusal(&self, tag: u32, batch: &Batch) -> Option<SubmitError>
+        ensures { result ≡ first_refusals
+            (record { logical = self.now.logical; pending = self.now.pending })
             (entries_of self.now) tag batch.now.entries }
     {
-        if let Some(refusal) = batch_refusal(batch, logical) {
+        if let Some(refusal) = batch_refusal(batch, self.owners.len()) {
             return Some(refusal);
         }
-        if is_tag_used(&self.opened, tag) {
+        if is_tag_used(&self.all, tag) {
             return Some(SubmitError::Tag);
         }
-        if let Some(refusal) = first_overlap(batch, &self.opened, &self.pages) {
+        if let Some(refusal) = first_overlap(batch, &self.owners) {
             return Some(refusal);
         }
-        too_many(batch, self.pending - self.pages.len() as u32)
+        too_many(batch, self.rooms.len() as u32)
     }
 
     /// Opens a transaction, with no page written. Each page is named one version above its greatest mention.
@@ -102,20 +109,24 @@ impl Openings {
         requires free { pending_pages (entries_of self.old) + length batch.now.entries ≤ self.old.pending }
         requires each { All (λ o. 0 < length o.entry.writes) self.old.all }
         requires range { All (λ w. w.page < index.now.config.logical) batch.now.entries }
+        requires logical { self.old.logical ≡ index.now.config.logical }
+        requires apart { All (λ w. All (λ e. All (λ v. v.page ≢ w.page) e.writes)
+            (entries_of self.old)) batch.now.entries }
         requires unspent { All (λ w. mention_of index.now w.page < max_version) batch.now.entries }
         ensures { self.new ≡ record self.old {
           all = self.old.all ++ begun index.now tag batch.now.entries ∷ [];
         } }
     {
-        let pages = batch.len();
-        hold_pages(&mut self.pages, &mut self.rooms, batch, index);
-        self.opened
-            .push(Opened {
+        let mut pages = self.lists.pop().unwrap();
+        hold_pages(&mut pages, &mut self.rooms, batch, index);
+        set_owner(&mut self.owners, &pages, Some(tag));
+        self.all
+            .push(OpenTransaction {
                 tag,
-                pages: pages as u32,
                 done: 0,
                 noted_count: 0,
                 mark: Mark::Plain,
+                pages,
             })
             .unwrap();
     }
@@ -124,14 +135,14 @@ impl Openings {
     pub fn position(&self, tag: u32) -> Option<usize>
         ensures { result ≡ position (λ o. has_tag tag o.entry) self.now.all }
     {
-        place_of_tag(&self.opened, tag)
+        place_of_tag(&self.all, tag)
     }
 
     /// Where the transaction in doubt stands.
     pub fn doubtful(&self) -> Option<usize>
         ensures { result ≡ position (λ o. is_doubted o.entry.mark) self.now.all }
     {
-        place_of_doubt(&self.opened)
+        place_of_doubt(&self.all)
     }
 
     /// How many pages the transaction at an index writes.
@@ -139,7 +150,7 @@ impl Openings {
         requires { at < length self.now.all }
         ensures { result ≡ length (opening_at self.now at).entry.writes }
     {
-        self.opened[at].pages
+        self.all[at].pages.len() as u32
     }
 
     /// How many of them are written.
@@ -147,7 +158,7 @@ impl Openings {
         requires { at < length self.now.all }
         ensures { result ≡ (opening_at self.now at).entry.done }
     {
-        self.opened[at].done
+        self.all[at].done
     }
 
     /// How many of its records are noted.
@@ -155,7 +166,7 @@ impl Openings {
         requires { at < length self.now.all }
         ensures { result ≡ (opening_at self.now at).naming.noted_count }
     {
-        self.opened[at].noted_count
+        self.all[at].noted_count
     }
 
     /// What is known of its last page.
@@ -163,7 +174,7 @@ impl Openings {
         requires { at < length self.now.all }
         ensures { result ≡ (opening_at self.now at).entry.mark }
     {
-        self.opened[at].mark
+        self.all[at].mark
     }
 
     /// The name that it writes at this place, from 0.
@@ -172,8 +183,7 @@ impl Openings {
         requires place { place < length (opening_at self.now at).entry.writes }
         ensures { result ≡ name_at (opening_at self.now at).naming place }
     {
-        let first = pages_before(&self.opened, at);
-        self.pages[first + place as usize].name
+        self.all[at].pages[place as usize].name
     }
 
     /// The bytes that it writes there.
@@ -183,8 +193,7 @@ impl Openings {
         ensures bytes { result.now ≡ (write_at (opening_at self.now at).entry place).bytes }
         ensures whole { length result.now ≡ self.now.page_bytes }
     {
-        let first = pages_before(&self.opened, at);
-        &self.pages[first + place as usize].bytes
+        &self.all[at].pages[place as usize].bytes
     }
 
     /// So many of its pages are written.
@@ -192,7 +201,7 @@ impl Openings {
         requires { at < length self.old.all }
         ensures { self.new ≡ with_opening self.old at (with_done (opening_at self.old at) done) }
     {
-        self.opened[at].done = done;
+        self.all[at].done = done;
     }
 
     /// So many of its records are noted.
@@ -200,7 +209,7 @@ impl Openings {
         requires { at < length self.old.all }
         ensures { self.new ≡ with_opening self.old at (with_noted_count (opening_at self.old at) count) }
     {
-        self.opened[at].noted_count = count;
+        self.all[at].noted_count = count;
     }
 
     /// This is known of its last page.
@@ -208,16 +217,18 @@ impl Openings {
         requires { at < length self.old.all }
         ensures { self.new ≡ with_opening self.old at (with_mark (opening_at self.old at) mark) }
     {
-        self.opened[at].mark = mark;
+        self.all[at].mark = mark;
     }
 
     /// Takes a transaction away.
     pub fn remove(&mut self, at: usize)
-        requires { at < length self.old.all }
+        requires at { at < length self.old.all }
+        requires apart { AllPairs (λ a b. ShareNoPage a.names b.names) (namings_of self.old) }
         ensures { self.new ≡ record self.old { all = remove self.old.all at } }
     {
-        let first = pages_before(&self.opened, at);
-        let Opened { pages, .. } = self.opened.remove(at);
-        free_pages(&mut self.pages, &mut self.rooms, first, pages as usize);
+        let OpenTransaction { mut pages, .. } = self.all.remove(at);
+        set_owner(&mut self.owners, &pages, None);
+        free_pages(&mut pages, &mut self.rooms);
+        self.lists.push(pages).unwrap();
     }
 }

@@ -1,10 +1,10 @@
-ghost use Rattle.std.specs.Prelude.{◌≡◌, ◌+◌, ◌<◌, ◌≤◌, ◌==◌, List, length, take, position, All, IfOk, vec_capacity};
+ghost use Rattle.std.specs.Prelude.{◌≡◌, ◌+◌, ◌<◌, ◌≤◌, ◌==◌, List, [], length, position, All, IfOk, vec_capacity};
 ghost use Rattle.tx_types.specs.Config.{IsConfig};
 ghost use Rattle.tx_types.specs.Limits.{max_version};
 ghost use Rattle.version_index.specs.Noted.{mention_of};
 ghost use Rattle.tx_engine.specs.ArrayState.{is_doubted};
 ghost use Rattle.tx_engine.specs.declared.pending.PendingPage.{PendingPage};
-ghost use Rattle.tx_engine.specs.PendingPages.{pages_held, HoldsPages, FreesPages};
+ghost use Rattle.tx_engine.specs.PendingPages.{HoldsPages, FreesPages, with_owner};
 
 use crate::Mark;
 use record_list::CommitRule;
@@ -12,17 +12,16 @@ use std::alloc::Global;
 use tx_types::{Batch, Config, Link, Memory};
 use version_index::Index;
 
-/// An open transaction, but for its pages.
-#[derive(Clone, Copy, Debug)]
-pub struct Opened {
+/// An open transaction, with the pages that it writes.
+#[derive(Debug, Drop)]
+pub struct OpenTransaction {
     pub tag: u32,
-    /// How many pages it writes.
-    pub pages: u32,
-    /// How many of them are written.
+    /// How many of its pages are written.
     pub done: u32,
     /// How many of its records are noted.
     pub noted_count: u32,
     pub mark: Mark,
+    pub pages: Vec<PendingPage>,
 }
 
 /// A page that an open transaction writes.
@@ -48,27 +47,44 @@ pub fn rooms(alloc: Global, config: Config) -> Result<Vec<Vec<u8>>, Memory>
     Ok(rooms)
 }
 
-/// How many pages stand before those of the transaction at this index.
-pub fn pages_before(opened: &[Opened], at: usize) -> usize
-    requires within { at ≤ length opened.now }
-    requires few { pages_held opened.now ≤ 256 }
-    ensures { result ≡ pages_held (take at opened.now) }
+/// For each transaction that may be open, a list in which there is room for the pages of all.
+pub fn page_lists(alloc: Global, config: Config) -> Result<Vec<Vec<PendingPage>>, Memory>
+    requires { IsConfig config }
+    ensures count { IfOk result (λ lists. length lists.items ≡ config.pending) }
+    ensures capacity { IfOk result (λ lists. config.pending ≤ vec_capacity lists) }
+    ensures empty { IfOk result (λ lists.
+        All (λ l. (l.items ≡ []) × (config.pending ≤ vec_capacity l)) lists.items) }
 {
-    opened[..at].iter().map(|o| o.pages as usize).sum()
+    let most = config.pending as usize;
+    let mut lists = Vec::with_capacity(alloc, most)?;
+    for _ in 0..config.pending {
+        lists.push(Vec::with_capacity(alloc, most)?)?;
+    }
+    Ok(lists)
+}
+
+/// Each of these pages belongs to this transaction now, or to none.
+pub fn set_owner(owners: &mut [Option<u32>], pages: &[PendingPage], owner: Option<u32>)
+    requires { All (λ p. p.name.page < length owners.old) pages.now }
+    ensures { owners.new ≡ with_owner owners.old owner pages.now }
+{
+    for p in pages {
+        owners[p.name.page as usize] = owner;
+    }
 }
 
 /// The index of the first transaction with this tag.
-pub fn place_of_tag(opened: &[Opened], tag: u32) -> Option<usize>
-    ensures { result ≡ position (λ o. o.tag == tag) opened.now }
+pub fn place_of_tag(all: &[OpenTransaction], tag: u32) -> Option<usize>
+    ensures { result ≡ position (λ o. o.tag == tag) all.now }
 {
-    opened.iter().position(|o| o.tag == tag)
+    all.iter().position(|o| o.tag == tag)
 }
 
 /// The index of the first transaction in doubt.
-pub fn place_of_doubt(opened: &[Opened]) -> Option<usize>
-    ensures { result ≡ position (λ o. is_doubted o.mark) opened.now }
+pub fn place_of_doubt(all: &[OpenTransaction]) -> Option<usize>
+    ensures { result ≡ position (λ o. is_doubted o.mark) all.now }
 {
-    opened.iter().position(|o| matches!(o.mark, Mark::Doubt))
+    all.iter().position(|o| matches!(o.mark, Mark::Doubt))
 }
 
 /// Writes a page into the room that is kept for it.
@@ -87,7 +103,7 @@ pub fn hold_pages<R: CommitRule>(
     index: &Index<R>,
 )
     requires room { length batch.now.entries ≤ length rooms.old.items }
-    requires capacity { length pages.old.items + length rooms.old.items ≤ vec_capacity pages.old }
+    requires capacity { length pages.old.items + length batch.now.entries ≤ vec_capacity pages.old }
     requires sizes { All (λ r. length r.items ≡ batch.now.page_bytes) rooms.old.items }
     requires range { All (λ w. w.page < index.now.config.logical) batch.now.entries }
     requires unspent { All (λ w. mention_of index.now w.page < max_version) batch.now.entries }
@@ -108,19 +124,13 @@ pub fn hold_pages<R: CommitRule>(
     }
 }
 
-/// Takes so many pages away, from an index on. Their rooms are free again.
-pub fn free_pages(
-    pages: &mut Vec<PendingPage>,
-    rooms: &mut Vec<Vec<u8>>,
-    first: usize,
-    count: usize,
-)
-    requires within { first + count ≤ length pages.old.items }
-    requires capacity { length pages.old.items + length rooms.old.items ≤ vec_capacity rooms.old }
-    ensures { FreesPages pages.old pages.new rooms.old rooms.new first count }
+/// Takes all pages of a transaction away. Their rooms are free again.
+pub fn free_pages(pages: &mut Vec<PendingPage>, rooms: &mut Vec<Vec<u8>>)
+    requires { length pages.old.items + length rooms.old.items ≤ vec_capacity rooms.old }
+    ensures { FreesPages pages.old pages.new rooms.old rooms.new }
 {
-    for _ in 0..count {
-        let PendingPage { name: _, bytes } = pages.remove(first);
+    for _ in 0..pages.len() {
+        let PendingPage { name: _, bytes } = pages.pop().unwrap();
         rooms.push(bytes).unwrap();
     }
 }

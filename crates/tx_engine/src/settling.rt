@@ -4,7 +4,7 @@ ghost use Rattle.flash_model.specs.Operations.{moment_of};
 ghost use Rattle.collector.specs.Looking.{ReadsAtMost, reads_after};
 ghost use Rattle.collector.specs.Settling.{settlement, slots_read};
 ghost use Rattle.collector.specs.declared.unsure.Unsure.TheVariants as unsure;
-ghost use Rattle.tx_engine.specs.OpenTable.{opening_at, with_opening};
+ghost use Rattle.tx_engine.specs.OpenTable.{HasLimitsOf, opening_at, with_opening};
 ghost use Rattle.tx_engine.specs.Settling.{with_next, is_writing, IsSettled};
 ghost use Rattle.tx_engine.specs.Exits.{Exits, is_there};
 ghost use Rattle.tx_engine.specs.Standing.{Stands};
@@ -37,8 +37,7 @@ pub(crate) fn settle<F: Flash, R: CommitRule>(
         × (openings.new ≡ openings.old)) }
     ensures idle { store.old.unsure ≡ unsure.Nothing →
         (is_err result ≡ false) × (store.new ≡ store.old) × (openings.new ≡ openings.old) }
-    ensures limits { (openings.new.page_bytes ≡ openings.old.page_bytes)
-        × (openings.new.pending ≡ openings.old.pending) }
+    ensures limits { HasLimitsOf openings.old openings.new }
     ensures exits { Exits F.state (standing_in F.state store.old openings.old)
         (standing_in F.state store.new openings.new) (is_err result) }
     ensures moment { moment_of (F.state store.new.flash) ≡ moment_of (F.state store.old.flash) }

@@ -7,12 +7,13 @@ ghost use Rattle.tx_engine.specs.ArrayState.{entry_of};
 ghost use Rattle.tx_engine.specs.Step.{StepsAs};
 ghost use Rattle.tx_engine.specs.Exits.{Exits, StepRises, is_there, is_step_fault};
 ghost use Rattle.tx_engine.specs.Costs.{CostsStep, StepCosts};
-ghost use Rattle.tx_engine.specs.OpenTable.{opening_at};
+ghost use Rattle.tx_engine.specs.OpenTable.{HasLimitsOf, opening_at};
 ghost use Rattle.tx_engine.specs.Settling.{Advances, AdvanceRises, Counts, CountsOn, is_due, link_place};
 ghost use Rattle.tx_engine.specs.Settling.{AddsOnly, settlement_of};
 ghost use Rattle.tx_engine.specs.Standing.{Stands, name_at, write_at};
 ghost use Rattle.tx_engine.specs.Tables.{standing_in};
 ghost use Rattle.tx_engine.specs.Writing.{BringsPage, StepNotes, WritesRecord, next_of, open_of};
+ghost use Rattle.tx_engine.specs.Breaking.{StepBreaks, WritingBreaks};
 ghost use Rattle.collector.specs.declared.unsure.Unsure.TheVariants as unsure;
 
 use crate::Device;
@@ -47,6 +48,10 @@ impl<F: Flash, R: CommitRule> Device<F, R> {
         ensures brings { OnOk result (IfSome (open_of self.old tag) (λ (e, x).
             BringsPage F.state self.old self.new e x)) }
         ensures fresh { StepNotes F.state self.old self.new tag result }
+
+        // Where it failed: the place could not be read, or the writing of the record broke off, and
+        // the blocks are as they were known then.
+        ensures failed { result ≡ Err StepError.Fault → StepBreaks F.state self.old self.new tag }
     {
         let Some(at) = self.openings.position(tag) else {
             return Err(StepError::Unknown);
@@ -82,8 +87,7 @@ fn advance<F: Flash, R: CommitRule>(
     ensures rises { AdvanceRises (standing_in F.state store.old openings.old)
         (standing_in F.state store.new openings.new) (opening_at openings.old at).entry result }
     ensures sure { OnOk result (store.new.unsure ≡ unsure.Nothing) }
-    ensures limits { (openings.new.page_bytes ≡ openings.old.page_bytes)
-        × (openings.new.pending ≡ openings.old.pending) }
+    ensures limits { HasLimitsOf openings.old openings.new }
     ensures costs { StepCosts F.state (standing_in F.state store.old openings.old)
         (standing_in F.state store.new openings.new)
         (name_at (opening_at openings.old at).naming (opening_at openings.old at).entry.done) }
@@ -98,6 +102,9 @@ fn advance<F: Flash, R: CommitRule>(
     ensures fresh { let its = opening_at openings.old at in OnOk result (
         AddsOnly (name_at its.naming its.entry.done) store.old.noted store.new.noted) }
     ensures kept { OnErr result (Preserves store.old.noted store.new.noted) }
+    ensures breaks { let its = opening_at openings.old at in OnErr result (
+        WritingBreaks F.state (standing_in F.state store.old openings.old)
+        (standing_in F.state store.new openings.new) (name_at its.naming its.entry.done)) }
 {
     if !is_due(openings, at) {
         return Ok(count_next(store, openings, at));
@@ -138,8 +145,7 @@ fn count_next<F: Flash, R: CommitRule>(
     ensures stays { store.new
         ≡ record store.old { noted = record store.old.noted { pins = store.new.noted.pins } } }
     ensures sure { store.new.unsure ≡ unsure.Nothing }
-    ensures limits { (openings.new.page_bytes ≡ openings.old.page_bytes)
-        × (openings.new.pending ≡ openings.old.pending) }
+    ensures limits { HasLimitsOf openings.old openings.new }
 {
     match openings.mark(at) {
         Mark::Whole => {

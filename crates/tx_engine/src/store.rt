@@ -16,11 +16,12 @@ ghost use Rattle.die_alloc.specs.NextSlot.{next_slot, after_next_slot};
 ghost use Rattle.collector.specs.declared.unsure.Unsure.{Unsure};
 ghost use Rattle.collector.specs.declared.unsure.Unsure.TheVariants as unsure;
 ghost use Rattle.collector.specs.declared.unsure.Settled.TheVariants as settled;
+ghost use Rattle.collector.specs.BreakingOff.{ClearingBreaks, RoomBreaksOff};
 ghost use Rattle.collector.specs.Collecting.{CollectsForRoom};
 ghost use Rattle.collector.specs.Looking.{ReadsAtMost, reads_after};
 ghost use Rattle.collector.specs.Matches.{CanTake, CanTakeOwn};
 ghost use Rattle.collector.specs.Settling.{settlement, slots_read};
-ghost use Rattle.collector.specs.Going.{IsNextName, CostsAtMost, TreatsInTurn, blocks_to_go};
+ghost use Rattle.collector.specs.Going.{IsNextName, CostsAtMost, TreatsAll, blocks_to_go};
 ghost use Rattle.collector.specs.Known.{page_known};
 ghost use Rattle.collector.specs.Victim.{garbage_in};
 ghost use Rattle.tx_engine.specs.Collections.{CollectsTables};
@@ -244,6 +245,8 @@ impl<F: Flash, R: CommitRule> Store<F, R> {
             (F.state self.old.flash) (F.state self.new.flash)
             self.old.noted self.new.noted self.old.table self.new.table) }
         ensures stays { OnErr result (self.new.table ≡ self.old.table) }
+        ensures broken { OnErr result (RoomBreaksOff self.old.noted self.old.table
+            (F.state self.old.flash) (F.state self.new.flash) self.new.noted self.new.unsure) }
         ensures sure { OnOk result (self.new.unsure ≡ unsure.Nothing) }
         ensures others { (at : Slot) (rec : Rec) → self.new.unsure ≡ unsure.Own at rec → ⊥ }
     {
@@ -275,8 +278,11 @@ impl<F: Flash, R: CommitRule> Store<F, R> {
             × IsNextName self.old.noted names (record { page = page; version = below }) }
         ensures keeps { KeepsStored F.state self.old self.new (is_err result) }
         ensures cleared { OnOk result (block_to_go self.new.noted page below ≡ None) }
-        ensures turns { OnOk result (TreatsInTurn page below
+        ensures turns { OnOk result (TreatsAll page below
             self.old.noted self.old.table self.new.noted self.new.table) }
+        ensures broken { OnErr result (ClearingBreaks page below
+            (F.state self.old.flash) (F.state self.new.flash)
+            self.old.noted self.old.table self.new.noted self.new.table self.new.unsure) }
         ensures sure { OnOk result (self.new.unsure ≡ unsure.Nothing) }
         ensures others { (at : Slot) (rec : Rec) → self.new.unsure ≡ unsure.Own at rec → ⊥ }
         ensures idle { block_to_go self.old.noted page below ≡ None →
@@ -310,6 +316,9 @@ impl<F: Flash, R: CommitRule> Store<F, R> {
             × (self.new ≡ record self.old { table = after_next_slot self.old.table }) }
         ensures collects { IsFull self.old.table → IfOk result (λ at. CollectsForRoom
             self.old.noted self.old.table self.new.noted self.new.table at) }
+        ensures stays { OnErr result (self.new.table ≡ self.old.table) }
+        ensures broken { OnErr result (RoomBreaksOff self.old.noted self.old.table
+            (F.state self.old.flash) (F.state self.new.flash) self.new.noted self.new.unsure) }
         ensures costs { CostsAtMost self.old.noted.config.pages_per_block 1
             (F.state self.old.flash) (F.state self.new.flash) }
         ensures still_clear { (page below : ℕ) → block_to_go self.old.noted page below ≡ None →

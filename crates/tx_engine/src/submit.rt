@@ -65,8 +65,7 @@ impl<F: Flash, R: CommitRule> Device<F, R> {
         // All else stays, but for the pins of what is opened.
         ensures keeps { KeepsTables self.old self.new }
     {
-        let logical = self.store.config().logical;
-        if let Some(refusal) = self.openings.refusal(logical, tag, batch) {
+        if let Some(refusal) = self.openings.refusal(tag, batch) {
             return Err(refusal);
         }
         if let Some(spent) = self.store.spent(batch) {

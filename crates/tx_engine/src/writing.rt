@@ -9,7 +9,8 @@ ghost use Rattle.record_list.specs.Transaction.{back_version};
 ghost use Rattle.version_index.specs.Notes.{found_in};
 ghost use Rattle.version_index.specs.Noted.{block_to_go};
 ghost use Rattle.die_alloc.specs.BlockTable.{IsFull, IsFirstFree};
-ghost use Rattle.collector.specs.Going.{IsNextName, CostsAtMost, TreatsInTurn, blocks_to_go};
+ghost use Rattle.collector.specs.Going.{IsNextName, CostsAtMost, TreatsAll, blocks_to_go};
+ghost use Rattle.collector.specs.BreakingOff.{ClearingBreaks, RoomBreaksOff};
 ghost use Rattle.collector.specs.Matches.{CanTakeOwn};
 ghost use Rattle.collector.specs.declared.unsure.Unsure.TheVariants as unsure;
 ghost use Rattle.tx_engine.specs.Costs.{StepCosts};
@@ -20,6 +21,7 @@ ghost use Rattle.tx_engine.specs.Standing.{Stands, name_at, write_at};
 ghost use Rattle.tx_engine.specs.Stored.{IsStored, WritesStored, WriteBreaks};
 ghost use Rattle.tx_engine.specs.Tables.{standing_in};
 ghost use Rattle.tx_engine.specs.Writing.{FindsSlot, WritesRecord};
+ghost use Rattle.tx_engine.specs.Breaking.{WritingBreaks};
 
 use crate::Mark;
 use crate::openings::Openings;
@@ -66,6 +68,9 @@ pub(crate) fn write_next<F: Flash, R: CommitRule>(
         (name_at its.naming (link_place its.entry)) (write_at its.entry its.entry.done).bytes) }
     ensures fresh { let its = opening_at openings.old at in OnOk result (
         AddsOnly (name_at its.naming its.entry.done) store.old.noted store.new.noted) }
+    ensures breaks { let its = opening_at openings.old at in OnErr result (
+        WritingBreaks F.state (standing_in F.state store.old openings.old)
+        (standing_in F.state store.new openings.new) (name_at its.naming its.entry.done)) }
 {
     laws::images_stand::<R>();
     laws::noted_writes::<R>();
@@ -95,8 +100,11 @@ fn clear<F: Flash, R: CommitRule>(
         (standing_in F.state store.new openings.now) (is_err result) }
     ensures sure { OnOk result (store.new.unsure ≡ unsure.Nothing) }
     ensures cleared { OnOk result (block_to_go store.new.noted name.page name.version ≡ None) }
-    ensures turns { OnOk result (TreatsInTurn name.page name.version
+    ensures turns { OnOk result (TreatsAll name.page name.version
         store.old.noted store.old.table store.new.noted store.new.table) }
+    ensures broken { OnErr result (ClearingBreaks name.page name.version
+        (F.state store.old.flash) (F.state store.new.flash)
+        store.old.noted store.old.table store.new.noted store.new.table store.new.unsure) }
     ensures idle { block_to_go store.old.noted name.page name.version ≡ None →
         (is_err result ≡ false) × (store.new ≡ store.old) }
     ensures costs { CostsAtMost store.old.noted.config.pages_per_block
@@ -130,6 +138,9 @@ fn find_slot<F: Flash, R: CommitRule>(
         (is_err result ≡ false) × (store.new.flash ≡ store.old.flash) }
     ensures slot { IfOk result (
         FindsSlot store.old.noted store.old.table store.new.noted store.new.table) }
+    ensures stays { OnErr result (store.new.table ≡ store.old.table) }
+    ensures broken { OnErr result (RoomBreaksOff store.old.noted store.old.table
+        (F.state store.old.flash) (F.state store.new.flash) store.new.noted store.new.unsure) }
     ensures costs { CostsAtMost store.old.noted.config.pages_per_block 1
         (F.state store.old.flash) (F.state store.new.flash) }
 {

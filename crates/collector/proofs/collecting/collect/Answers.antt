@@ -137,7 +137,7 @@ returns-in_err-used-clause-broken g c =
     (copies_broke g.R.CommitRule.protocol g.met.R.CommitRule.block_loss (g.F.Flash.state c.args.flash.now) c.args.index.now c.args.blocks.now c.args.unsure.now c.requires.rule c.requires.matches
     (g.F.Flash.state c.clean_spare.new.flash) c.clean_spare.new.index c.clean_spare.new.blocks c.args.block.0
     c.in_ok-clean_spare.ensures.noted c.in_ok-clean_spare.ensures.blocks c.requires.not_spare c.in_ok-clean_spare.ensures.carries.shape c.in_ok-clean_spare.ensures.done c.in_ok-clean_spare.ensures.reads
-    (g.F.Flash.state c.copy_needed.new.flash) c.copy_needed.new.index c.copy_needed.new.unsure c.in_err-used.ensures.broken)
+    c.in_ok-clean_spare.ensures.carries.lives (g.F.Flash.state c.copy_needed.new.flash) c.copy_needed.new.index c.copy_needed.new.unsure c.in_err-used.ensures.broken)
 
 pub returns-clause-broken : goal.returns-clause-broken
 returns-clause-broken g c =

@@ -1,9 +1,10 @@
-use Rattle.std.proofs.Common.{sym, subst}
+use Rattle.std.proofs.Common.{sym, subst, inl}
 use Rattle.flash_model.proofs.MoveLemmas.{FlashMoves-then}
 use Rattle.collector.specs.Going.{HasNoNewRecord}
 use Rattle.collector.proofs.Chains.{HasNoNewRecord-nothing}
+use Rattle.collector.proofs.BrokenCollections.{on_err, err_then}
 use Rattle.collector.proofs.Keeping.{preserves_then}
-use Rattle.collector.proofs.RoomCalls.{cleaned_garbage, cleaned_apart, cleaned_unneeded, array_made, makes_room, has_room, no_new_made, costs_made}
+use Rattle.collector.proofs.RoomCalls.{cleaned_garbage, cleaned_apart, cleaned_unneeded, array_made, room_breaks, makes_room, has_room, no_new_made, costs_made}
 use Rattle.collector.proofs.making_room.make_room.Goals as goal
 
 pub returns-in_err-clean_spare-clause-records : goal.returns-in_err-clean_spare-clause-records
@@ -61,3 +62,16 @@ returns-clause-costs g c =
 pub returns-clause-moves : goal.returns-clause-moves
 returns-clause-moves g c =
     FlashMoves-then (g.F.Flash.state c.args.flash.now) (g.F.Flash.state c.clean_spare.new.flash) (g.F.Flash.state c.collect.new.flash) _ c.in_ok-clean_spare.ensures.carries.shape c.in_ok-clean_spare.ensures.moves c.collect.ensures.moves
+
+pub returns-in_err-clean_spare-clause-broken : goal.returns-in_err-clean_spare-clause-broken
+returns-in_err-clean_spare-clause-broken g c =
+    on_err c.from_residual.result _ (inl (c.in_err-clean_spare.ensures.torn.0, c.in_err-clean_spare.ensures.broken, c.in_err-clean_spare.ensures.torn.1))
+
+pub returns-clause-broken : goal.returns-clause-broken
+returns-clause-broken g c =
+    err_then c.collect.result _ _
+    (room_breaks _ _ _ _ _ _ _ _ c.requires.nothing c.requires.matches c.in_ok-clean_spare.ensures.matches c.in_ok-clean_spare.ensures.sure
+    c.in_ok-clean_spare.ensures.noted c.in_ok-clean_spare.ensures.blocks c.in_ok-clean_spare.ensures.preserves
+    g.R.CommitRule.protocol g.met.R.CommitRule.block_loss c.requires.rule c.in_ok-clean_spare.ensures.carries.shape c.in_ok-clean_spare.ensures.done c.in_ok-clean_spare.ensures.reads
+    c.in_ok-clean_spare.ensures.carries.lives (g.F.Flash.state c.collect.new.flash) c.collect.new.index c.collect.new.unsure c.in-Some.chosen.0 c.in-Some.ensures)
+    c.collect.ensures.broken

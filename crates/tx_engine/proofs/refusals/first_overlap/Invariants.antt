@@ -1,9 +1,6 @@
-use Rattle.std.proofs.Common.{◌≡◌, map, drop}
-use Rattle.tx_engine.specs.OpeningsIn.{openings_in}
-use Rattle.tx_engine.specs.Submit.{overlap}
+use Rattle.std.proofs.Common.{◌≡◌, drop}
+use Rattle.tx_engine.specs.PendingPages.{owned_page}
 use Rattle.tx_engine.proofs.refusals.first_overlap.Given as goal
 
 abbrev pub invariant-loop-i : goal.invariant-loop-i
-invariant-loop-i l =
-    let es = map (λ o. o.entry) (openings_in l.opened l.pages) in
-    overlap es (drop l.i l.batch.entries) ≡ overlap es l.batch.entries
+invariant-loop-i l = owned_page l.owners (drop l.i l.batch.entries) ≡ owned_page l.owners l.batch.entries

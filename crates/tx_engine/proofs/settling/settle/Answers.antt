@@ -142,7 +142,11 @@ returns-in-Some-doubtful g c =
       tables = (c.in_ok-found.ensures.settled.0, c.in_ok-found.ensures.settled.1);
       failed = tt;
       idle = (λ sure. absurd (none_doubted g.F.Flash.state c.args.store.now c.args.openings.now c.requires.stands sure c.in-Some-doubtful.at (sym c.doubtful.ensures ∙ c.in-Some-doubtful.is)));
-      limits = (ap (λ (o : OpenTable). o.page_bytes) c.set_mark.ensures, ap (λ (o : OpenTable). o.pending) c.set_mark.ensures);
+      limits = record {
+        page_bytes = ap (λ (o : OpenTable). o.page_bytes) c.set_mark.ensures;
+        logical = ap (λ (o : OpenTable). o.logical) c.set_mark.ensures;
+        pending = ap (λ (o : OpenTable). o.pending) c.set_mark.ensures;
+      };
       exits = settled_exits g.F.Flash.state c.args.store.now c.settle.new.self c.args.openings.now c.set_mark.new.self
           r c.in_ok-found.ensures.settled.3 c.settle.ensures.moment c.in_ok-found.ensures.carries;
       moment = c.settle.ensures.moment;
@@ -168,7 +172,7 @@ returns-in_default-doubtful g c =
       tables = (c.in_ok-found.ensures.settled.0, c.in_ok-found.ensures.settled.1);
       failed = tt;
       idle = (λ sure. (refl, (c.settle.ensures.idle sure).1, refl));
-      limits = (refl, refl);
+      limits = record { page_bytes = refl; logical = refl; pending = refl };
       exits = settled_exits g.F.Flash.state c.args.store.now c.settle.new.self c.args.openings.now c.args.openings.now
           r c.in_ok-found.ensures.settled.3 c.settle.ensures.moment c.in_ok-found.ensures.carries;
       moment = c.settle.ensures.moment;

@@ -39,5 +39,9 @@ returns-in-Plain g c =
       versions = λ page. refl;
       stays = refl;
       sure = c.requires.sure;
-      limits = (ap (λ (o : OpenTable). o.page_bytes) opens, ap (λ (o : OpenTable). o.pending) opens);
+      limits = record {
+        page_bytes = ap (λ (o : OpenTable). o.page_bytes) opens;
+        logical = ap (λ (o : OpenTable). o.logical) opens;
+        pending = ap (λ (o : OpenTable). o.pending) opens;
+      };
     }

@@ -1,15 +1,18 @@
-use Rattle.std.proofs.Common.{◌≡◌, ◌<◌, length, sym, ap, ◌∙◌, subst, refl, None}
+use Rattle.std.proofs.Common.{◌≡◌, ◌<◌, length, sym, ap, ◌∙◌, subst, refl, None, inl}
 use Rattle.std.specs.Prelude.{false, true}
 use Rattle.std.specs.Result.{is_err}
 use Rattle.tx_types.specs.declared.config.Config.{Config}
 use Rattle.tx_types.specs.declared.record.Link.{Link}
 use Rattle.version_index.specs.Noted.{block_to_go}
-use Rattle.collector.specs.Going.{IsNextName, CostsAtMost, TreatsInTurn, blocks_to_go}
+use Rattle.collector.specs.Going.{IsNextName, CostsAtMost, TreatsAll, blocks_to_go}
 use Rattle.tx_engine.specs.Exits.{Exits}
 use Rattle.tx_engine.specs.OpenTable.{opening_at}
 use Rattle.tx_engine.specs.Settling.{WriteFails, link_place}
 use Rattle.tx_engine.specs.Standing.{name_at, no_name, write_at}
 use Rattle.tx_engine.specs.Tables.{standing_in}
+use Rattle.collector.specs.BreakingOff.{ClearingBreaks}
+use Rattle.tx_engine.specs.Breaking.{WritingBreaks}
+use Rattle.tx_engine.proofs.Breaking.{seeking_breaks, record_breaks}
 use Rattle.tx_engine.proofs.CostFacts.{costs_clear, costs_slot, costs_all}
 use Rattle.tx_engine.proofs.ExitsThen.{exits_then}
 use Rattle.tx_engine.proofs.Leaving.{left_then}
@@ -150,7 +153,7 @@ returns-clause-writes g c = let state = g.F.Flash.state in
     c.next_record-rec.ensures.named c.next_record-rec.ensures.next c.next_record-rec.ensures.back
     (free_within (state c.find_slot.new.store.flash) c.find_slot.new.store.noted c.find_slot.new.store.table c.find_slot.new.store.unsure c.in_ok-slot.ensures.left.stands.matches c.in_ok-slot.slot.0 c.in_ok-slot.ensures.free)
     c.in_default.ensures.written
-    (subst (λ (a : Link). TreatsInTurn a.page a.version c.args.store.now.noted c.args.store.now.table c.clear.new.store.noted c.clear.new.store.table) is c.in_ok-clear.ensures.turns)
+    (subst (λ (a : Link). TreatsAll a.page a.version c.args.store.now.noted c.args.store.now.table c.clear.new.store.noted c.clear.new.store.table) is c.in_ok-clear.ensures.turns)
     (left_then state (standing_in state c.args.store.now c.args.openings.now) (standing_in state c.clear.new.store c.args.openings.now) (standing_in state c.find_slot.new.store c.args.openings.now) false refl refl c.in_ok-clear.ensures.left c.in_ok-slot.ensures.left).exits.moves
 
 pub returns-clause-fresh : goal.returns-clause-fresh
@@ -160,3 +163,27 @@ returns-clause-fresh g c = let state = g.F.Flash.state in
     (subst NotesWrites (sym (ap (λ (k : Config). k.protocol) (c.in_ok-slot.ensures.left.exits.tables.config ∙ c.in_ok-clear.ensures.left.exits.tables.config) ∙ c.requires.rule)) (record { names = c.noted_writes.ensures.names; partial = c.noted_writes.ensures.partial; completing = c.noted_writes.ensures.completing }))
     c.in_ok-slot.ensures.left.stands.matches.noted c.find_slot.new.store.unsure c.in_ok-slot.ensures.left.stands.matches c.in_ok-slot.ensures.free c.in_ok-clear.ensures.left.kept c.in_ok-slot.ensures.left.kept
     c.next_record-rec.ensures.named c.in_default.ensures.written
+
+pub returns-in_err-clear-clause-breaks : goal.returns-in_err-clear-clause-breaks
+returns-in_err-clear-clause-breaks g c = let state = g.F.Flash.state in
+    let its = opening_at c.args.openings.now c.args.at in
+    let is = c.name-name.ensures ∙ ap (name_at its.naming) c.done.ensures in
+    where_failed c.from_residual.result (WritingBreaks state (standing_in state c.args.store.now c.args.openings.now) (standing_in state c.clear.new.store c.args.openings.now) (name_at its.naming its.entry.done))
+    (inl (subst (λ (a : Link). ClearingBreaks a.page a.version (state c.args.store.now.flash) (state c.clear.new.store.flash) c.args.store.now.noted c.args.store.now.table c.clear.new.store.noted c.clear.new.store.table c.clear.new.store.unsure) is c.in_err-clear.ensures.broken))
+
+pub returns-in_err-slot-clause-breaks : goal.returns-in_err-slot-clause-breaks
+returns-in_err-slot-clause-breaks g c = let state = g.F.Flash.state in
+    let its = opening_at c.args.openings.now c.args.at in
+    let is = c.name-name.ensures ∙ ap (name_at its.naming) c.done.ensures in
+    where_failed c.from_residual-in_err-slot.result (WritingBreaks state (standing_in state c.args.store.now c.args.openings.now) (standing_in state c.find_slot.new.store c.args.openings.now) (name_at its.naming its.entry.done))
+    (seeking_breaks state c.args.store.now c.clear.new.store c.find_slot.new.store c.args.openings.now c.args.openings.now (name_at its.naming its.entry.done)
+    (subst (λ (a : Link). TreatsAll a.page a.version c.args.store.now.noted c.args.store.now.table c.clear.new.store.noted c.clear.new.store.table) is c.in_ok-clear.ensures.turns)
+    c.in_ok-clear.ensures.left.exits.moves c.in_err-slot.ensures.stays c.in_err-slot.ensures.broken)
+
+pub returns-in-Err-clause-breaks : goal.returns-in-Err-clause-breaks
+returns-in-Err-clause-breaks g c = let state = g.F.Flash.state in
+    let its = opening_at c.args.openings.now c.args.at in
+    let is = c.name-name.ensures ∙ ap (name_at its.naming) c.done.ensures in
+    record_breaks state c.args.store.now c.clear.new.store c.find_slot.new.store c.args.openings.now c.doubt_last.new.openings (name_at its.naming its.entry.done) c.program.new.store c.in_ok-slot.slot c.next_record-rec.result
+    (subst (λ (a : Link). TreatsAll a.page a.version c.args.store.now.noted c.args.store.now.table c.clear.new.store.noted c.clear.new.store.table) is c.in_ok-clear.ensures.turns)
+    c.in_ok-slot.ensures.slot c.next_record-rec.ensures.named c.in-Err.ensures.broken.noted c.in-Err.ensures.broken.table c.in-Err.ensures.broken.unsure

@@ -1,5 +1,4 @@
 use Rattle.std.proofs.Common.{◌≡◌, ap, sym, ◌∙◌, subst, refl, inl, inr, Ok, Err}
-use Rattle.std.specs.Prelude.{OnErr}
 use Rattle.flash_model.proofs.CallLemmas.{Carries-nothing}
 use Rattle.flash_model.proofs.MoveLemmas.{FlashMoves-nothing}
 use Rattle.collector.specs.Looking.{ReadsAtMost, reads_after}
@@ -48,8 +47,9 @@ invariant_of-self-2 g c =
     record {
       stands = c.close.ensures.stands;
       rule = ap (λ k. k.protocol) config ∙ c.self.invariant.rule;
-      page_bytes = ap (λ (o : OpenTable). o.page_bytes) c.close.ensures.gone ∙ c.in-Ok.ensures.limits.0 ∙ c.self.invariant.page_bytes ∙ ap (λ k. k.page_bytes) (sym config);
-      pending = ap (λ (o : OpenTable). o.pending) c.close.ensures.gone ∙ c.in-Ok.ensures.limits.1 ∙ c.self.invariant.pending ∙ ap (λ k. k.pending) (sym config);
+      page_bytes = ap (λ (o : OpenTable). o.page_bytes) c.close.ensures.gone ∙ c.in-Ok.ensures.limits.page_bytes ∙ c.self.invariant.page_bytes ∙ ap (λ k. k.page_bytes) (sym config);
+      logical = ap (λ (o : OpenTable). o.logical) c.close.ensures.gone ∙ c.in-Ok.ensures.limits.logical ∙ c.self.invariant.logical ∙ ap (λ k. k.logical) (sym config);
+      pending = ap (λ (o : OpenTable). o.pending) c.close.ensures.gone ∙ c.in-Ok.ensures.limits.pending ∙ c.self.invariant.pending ∙ ap (λ k. k.pending) (sym config);
     }
 
 pub returns-clause-aborts : goal.returns-clause-aborts

@@ -1,15 +1,16 @@
-use Rattle.std.proofs.Common.{◌≡◌, ap, sym, ◌∙◌, subst, refl, inr, Ok, Err}
+use Rattle.std.proofs.Common.{◌≡◌, ap, ◌∙◌, subst, refl, inl, inr, Ok, Err}
 use Rattle.std.specs.Prelude.{false, true}
-use Rattle.std.specs.Result.{is_err}
 use Rattle.tx_types.specs.declared.config.Config.{Config}
 use Rattle.collector.specs.Settling.{settlement}
 use Rattle.tx_engine.specs.Collections.{CollectsTables, HasNothingToCollect}
 use Rattle.array_machine.specs.declared.answers.Collected.TheVariants.{Nothing}
-use Rattle.array_machine.specs.declared.answers.Fault.{Fault}
 use Rattle.tx_engine.specs.Exits.{Exits, VersionsRise, CollectRises, is_there, settled_writes}
 use Rattle.tx_engine.specs.OpenTable.{entries_of}
 use Rattle.tx_engine.specs.Standing.{Standing}
 use Rattle.tx_engine.specs.Tables.{standing_in}
+use Rattle.tx_engine.specs.Breaking.{CollectBreaks}
+use Rattle.tx_engine.proofs.Breaking.{round_breaks}
+use Rattle.tx_engine.proofs.SettleExits.{failed_stays}
 use Rattle.tx_engine.proofs.ExitsThen.{exits_then}
 use Rattle.tx_engine.proofs.Collecting.{settled_low, rises_stay, collects_from, collect_rises_err}
 use Rattle.tx_engine.proofs.device.Device.collect.Goals as goal
@@ -78,3 +79,25 @@ returns-clause-nothing g c = λ is.
     let config : new.noted.config ≡ c.self.inside.store.noted.config = c.in-Ok-collect_settled.ensures.left.exits.tables.config ∙ c.in-Ok.ensures.exits.tables.config in
     subst (λ (s : Standing _). HasNothingToCollect s.config.protocol s.config.logical (state new.flash).image (entries_of c.settle.new.openings)) c.self.view_is
     (subst (λ (k : Config). HasNothingToCollect k.protocol k.logical (state new.flash).image (entries_of c.settle.new.openings)) config nothing)
+
+pub returns-in_default-clause-breaks : goal.returns-in_default-clause-breaks
+returns-in_default-clause-breaks g c =
+    let state = g.F.Flash.state in
+    let new = standing_in state c.settle.new.store c.settle.new.openings in
+    let failed = c.in_default.ensures.failed in
+    subst (λ (s : Standing _). CollectBreaks state s new) c.self.view_is
+    (inl (record {
+      stays = failed_stays state c.self.inside.store c.settle.new.store c.self.inside.openings c.settle.new.openings failed.0 failed.1 c.settle.ensures.moment;
+      moment = c.settle.ensures.moment;
+      reads = c.in_default.ensures.first_failed;
+    }))
+
+pub returns-in_default-collect_settled-clause-breaks : goal.returns-in_default-collect_settled-clause-breaks
+returns-in_default-collect_settled-clause-breaks g c =
+    let state = g.F.Flash.state in
+    let new = standing_in state c.collect_settled.new.store c.settle.new.openings in
+    subst (λ (s : Standing _). CollectBreaks state s new) c.self.view_is
+    (inr (
+    round_breaks state c.self.inside.store c.settle.new.store c.collect_settled.new.store c.self.inside.openings c.settle.new.openings
+    c.in-Ok.ensures.exits.carries.shape c.settle.ensures.moment c.in-Ok.ensures.reads c.in-Ok.ensures.tables.0 c.in-Ok.ensures.tables.1
+    c.in_default-collect_settled.ensures.broken))

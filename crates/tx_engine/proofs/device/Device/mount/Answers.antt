@@ -1,6 +1,7 @@
-use Rattle.std.proofs.Common.{◌≡◌, sym, ap, ◌∙◌, subst}
+use Rattle.std.proofs.Common.{◌≡◌, ◌+◌, ◌≤◌, ℕ, sym, ap, ◌∙◌, subst}
 use Rattle.tx_engine.specs.OpenTable.{OpenTable}
-use Rattle.tx_engine.specs.Opens.{Mounts}
+use Rattle.scan_recovery.proofs.ReadingSteps.{read_more-most}
+use Rattle.tx_engine.specs.Opens.{Mounts, mount_reads}
 use Rattle.tx_engine.specs.Tables.{IsStanding, standing_in}
 use Rattle.tx_engine.proofs.Mounted.{empty_table, opened_stands, opened_mounts}
 use Rattle.tx_engine.proofs.device.Device.mount.Goals as goal
@@ -19,3 +20,10 @@ returns-in-Ok-clause-mounted g c =
     subst (λ (t : OpenTable). Mounts g.F.Flash.state c.args.flash c.args.config (standing_in g.F.Flash.state store t)) (sym is)
     (opened_mounts g.F.Flash.state g.R.CommitRule.protocol c.args.flash c.args.config store c.in_ok-store.ensures.opened c.in_ok-store.ensures.stored
     (record { matches = c.images_stand.ensures.matches; records = c.images_stand.ensures.records; array = c.images_stand.ensures.array; preserves = c.images_stand.ensures.preserves }))
+
+pub returns-in-Err-clause-reads : goal.returns-in-Err-clause-reads
+returns-in-Err-clause-reads g c =
+    let before = g.F.Flash.state c.args.flash in
+    let most = mount_reads c.args.config before in
+    subst (λ f. (g.F.Flash.state f).reads ≤ before.reads + most) (sym c.close.ensures)
+    (subst (λ n. n ≤ before.reads + most) (sym c.in_ok-store.ensures.opened.reads) (read_more-most most before.reads))

@@ -16,6 +16,7 @@ use Rattle.tx_engine.specs.Standing.{Standing}
 use Rattle.tx_engine.specs.Settling.{AddsOnly, settlement_of, with_settlement}
 use Rattle.tx_engine.specs.Step.{StepsAs, settled}
 use Rattle.tx_engine.specs.Tables.{standing_in}
+use Rattle.tx_engine.specs.Breaking.{StepBreaks, WritingBreaks}
 use Rattle.tx_engine.specs.Writing.{BringsPage, StepNotes, next_of, open_of}
 use Rattle.tx_engine.proofs.Aborting.{entry_found, entry_missing, entry_settled}
 use Rattle.tx_engine.proofs.Collecting.{settled_low, own_writes_low}
@@ -25,7 +26,7 @@ use Rattle.tx_engine.proofs.OpenList.{first_position, first_of_own, entry_first}
 use Rattle.tx_engine.proofs.SettleExits.{failed_machine, failed_stays}
 use Rattle.tx_engine.proofs.CostFacts.{costs_still}
 use Rattle.tx_engine.proofs.StepExits.{step_missing, step_unsettled, step_settled, done_low, fault_rises, for_next, for_open, of_each, ok_as}
-use Rattle.tx_engine.proofs.StepWrites.{costs_then, found_then, brings_then, notes_then}
+use Rattle.tx_engine.proofs.StepWrites.{costs_then, found_then, brings_then, notes_then, breaks_then}
 use Rattle.tx_engine.proofs.device.Device.step.Goals as goal
 
 pub returns-in_default-clause-steps : goal.returns-in_default-clause-steps
@@ -258,3 +259,26 @@ returns-clause-brings g c =
     subst (λ (s : Standing _). IfSome (open_of s c.args.tag) (λ (e, x). BringsPage state s new e x)) c.self.view_is
     (for_open state c.self.inside.store c.self.inside.openings c.args.tag c.in-Some.at (BringsPage state old new) first
     (brings_then state c.self.inside.store c.settle.new.store c.self.inside.openings c.settle.new.openings c.in-Some.at (is_there state old) c.in-Ok.ensures.tables.0 c.in-Ok.ensures.tables.1 c.settle.ensures.moment c.settle.ensures.names first.within at.1 c.advance.new.store c.advance.new.openings c.settle.ensures.exits.carries.shape c.in-Ok-advance.ensures.found c.in-Ok.ensures.reads c.in-Ok-advance.ensures.writes))
+
+pub returns-in_default-settle-clause-failed : goal.returns-in_default-settle-clause-failed
+returns-in_default-settle-clause-failed g c =
+    let state = g.F.Flash.state in
+    let new = standing_in state c.settle.new.store c.settle.new.openings in
+    subst (λ (s : Standing _). Err failed.Fault ≡ Err failed.Fault → StepBreaks state s new c.args.tag) c.self.view_is
+    (λ fault. inl (record {
+      stays = failed_stays state c.self.inside.store c.settle.new.store c.self.inside.openings c.settle.new.openings c.in_default-settle.ensures.failed.0 c.in_default-settle.ensures.failed.1 c.settle.ensures.moment;
+      moment = c.settle.ensures.moment;
+      reads = c.in_default-settle.ensures.first_failed;
+    }))
+
+pub returns-in_default-advance-clause-failed : goal.returns-in_default-advance-clause-failed
+returns-in_default-advance-clause-failed g c =
+    let state = g.F.Flash.state in
+    let old = standing_in state c.self.inside.store c.self.inside.openings in
+    let new = standing_in state c.advance.new.store c.advance.new.openings in
+    let first = first_position c.args.tag c.self.inside.openings.all c.in-Some.at (sym c.position.ensures ∙ c.in-Some.is) in
+    let at = entry_settled (is_there state old) c.self.inside.openings c.settle.new.openings c.in-Some.at (ap (λ (m : ArrayState). m.entries) c.in-Ok.ensures.settles.machine) first.within in
+    subst (λ (s : Standing _). Err failed.Fault ≡ Err failed.Fault → StepBreaks state s new c.args.tag) c.self.view_is
+    (λ fault. inr (for_next state c.self.inside.store c.self.inside.openings c.args.tag c.in-Some.at (WritingBreaks state (with_settlement state old) new) first
+    (breaks_then state c.self.inside.store c.settle.new.store c.self.inside.openings c.settle.new.openings c.in-Some.at (is_there state old) c.in-Ok.ensures.tables.0 c.in-Ok.ensures.tables.1 c.settle.ensures.moment c.settle.ensures.names first.within at.1
+    c.advance.new.store c.advance.new.openings c.settle.ensures.exits.carries.shape c.in_default-advance.ensures.breaks)))

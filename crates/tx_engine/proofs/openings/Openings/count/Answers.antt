@@ -1,16 +1,13 @@
 use Rattle.std.proofs.Common.{arith}
-use Rattle.tx_engine.proofs.OpenPages.{openings_length}
-use Rattle.tx_engine.proofs.OpenTests.{length-le-pages, kept_is_table}
+use Rattle.tx_engine.proofs.OpenPages.{openings_long, kept_is_table}
 use Rattle.tx_engine.proofs.openings.Openings.count.Goals as goal
 
 pub overflow_cast-result : goal.overflow_cast-result
-overflow_cast-result c =
-    let few = length-le-pages c.self.inside.opened.items c.self.invariant.each in
-    omega arith
+overflow_cast-result c = omega (arith, c.self.invariant.lists, c.self.invariant.few)
 
 pub returns-clause-count : goal.returns-clause-count
 returns-clause-count c =
-    let count = openings_length c.self.inside.opened.items c.self.inside.pages.items in
+    let count = openings_long c.self.inside.all.items in
     rw (← c.self.view_is) (omega arith)
 
 pub returns-clause-kept : goal.returns-clause-kept

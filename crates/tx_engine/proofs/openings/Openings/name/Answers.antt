@@ -1,32 +1,28 @@
-use Rattle.std.proofs.Common.{◌≡◌, take, arith}
-use Rattle.tx_engine.specs.PendingPages.{pages_held}
-use Rattle.tx_engine.proofs.OpenPages.{openings_length, page_of_opening}
+use Rattle.std.proofs.Common.{arith}
+use Rattle.tx_engine.proofs.OpenPages.{openings_long, pages_read, name_read}
 use Rattle.tx_engine.proofs.openings.Openings.name.Goals as goal
-
-pub pages_before-first-requires-clause-within : goal.pages_before-first-requires-clause-within
-pages_before-first-requires-clause-within c =
-    let requires = rw (← c.self.view_is) at c.requires.at in
-    let count = openings_length c.self.inside.opened.items c.self.inside.pages.items in
-    omega arith
 
 pub index-requires : goal.index-requires
 index-requires c =
     let at = rw (← c.self.view_is) at c.requires.at in
+    let count = openings_long c.self.inside.all.items in
+    omega arith
+
+pub index-requires-2 : goal.index-requires-2
+index-requires-2 c =
+    let at = rw (← c.self.view_is) at c.requires.at in
     let place = rw (← c.self.view_is) at c.requires.place in
-    let os = c.self.inside.opened.items in
-    let ps = c.self.inside.pages.items in
-    let count = openings_length os ps in
-    let first : c.pages_before-first.result ≡ pages_held (take c.args.at os) = rw c.deref.ensures.value at c.pages_before-first.ensures in
-    let its = rw (← first) at (page_of_opening os ps c.args.at c.args.place c.self.invariant.sum (omega arith) place) in
-    omega (arith, its.within)
+    let os = c.self.inside.all.items in
+    let count = openings_long os in
+    let many = pages_read os c.args.at c.index.result.now (omega arith) c.index.ensures in
+    omega arith
 
 pub returns : goal.returns
 returns c =
     let at = rw (← c.self.view_is) at c.requires.at in
     let place = rw (← c.self.view_is) at c.requires.place in
-    let os = c.self.inside.opened.items in
-    let ps = c.self.inside.pages.items in
-    let count = openings_length os ps in
-    let first : c.pages_before-first.result ≡ pages_held (take c.args.at os) = rw c.deref.ensures.value at c.pages_before-first.ensures in
-    let its = rw (← first) at (page_of_opening os ps c.args.at c.args.place c.self.invariant.sum (omega arith) place) in
-    rw (← c.self.view_is) (its.name c.index.result.now c.index.ensures)
+    let os = c.self.inside.all.items in
+    let count = openings_long os in
+    let many = pages_read os c.args.at c.index.result.now (omega arith) c.index.ensures in
+    rw (← c.self.view_is) (name_read os c.args.at c.args.place c.index.result.now c.index-2.result.now (omega arith) c.index.ensures
+    (omega arith) c.index-2.ensures)

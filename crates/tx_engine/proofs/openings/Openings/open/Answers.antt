@@ -1,40 +1,75 @@
-use Rattle.std.proofs.Common.{refl, arith}
+use Rattle.std.proofs.Common.{◌≡◌, ◌<◌, ◌++◌, ◌∷◌, [], Some, All, length, refl, sym, ap, ap₂, ◌∙◌, subst, arith}
 use Rattle.array_machine.specs.declared.mark.Mark.TheVariants.{Plain}
-use Rattle.tx_engine.proofs.OpenTests.{pages_of_openings, length-le-pages}
-use Rattle.tx_engine.proofs.OpenChanges.{IsTakenIn, kept_after_opening, table_after_opening}
+use Rattle.std.specs.Vec.{with_items}
+use Rattle.tx_engine.specs.PendingPages.{with_owner}
+use Rattle.tx_engine.proofs.OpenChanges.{IsTakenIn, refilled, list_empty, list_left, pages_low, kept_after_opening, table_after_opening}
+use Rattle.tx_engine.proofs.OpenPages.{pages_of_openings}
+use Rattle.tx_engine.proofs.Owners.{length-with_owner}
 use Rattle.tx_engine.proofs.openings.Openings.open.Goals as goal
+
+pub unwrap-pages-requires : goal.unwrap-pages-requires
+unwrap-pages-requires g c =
+    let free = rw (← c.self.view_is) at c.requires.free in
+    let count = pages_of_openings c.self.inside.all.items in
+    let some = list_left c.self.inside c.self.invariant (omega (arith, c.requires.some)) in
+    c.pop.ensures.variant.1 (omega arith)
 
 pub hold_pages-requires-clause-room : goal.hold_pages-requires-clause-room
 hold_pages-requires-clause-room g c =
-    let room = rw (← c.self.view_is) at c.requires.free in
-    let count = pages_of_openings c.self.inside.opened.items c.self.inside.pages.items c.self.invariant.sum in
+    let free = rw (← c.self.view_is) at c.requires.free in
+    let count = pages_of_openings c.self.inside.all.items in
     omega (arith, c.self.invariant.rooms)
 
-pub unwrap-requires : goal.unwrap-requires
-unwrap-requires g c =
-    let room = rw (← c.self.view_is) at c.requires.free in
-    let count = pages_of_openings c.self.inside.opened.items c.self.inside.pages.items c.self.invariant.sum in
-    let few = length-le-pages c.self.inside.opened.items c.self.invariant.each in
-    c.push.ensures.succeeds (omega (arith, c.self.invariant.opened_capacity, c.self.invariant.sum))
+pub set_owner-requires : goal.set_owner-requires
+set_owner-requires g c =
+    let popped : c.self.inside.lists.items ≡ c.pop.new.self.items ++ c.unwrap-pages.result ∷ [] = rw c.unwrap-pages.ensures at c.pop.ensures.items in
+    let low = subst (λ k. All (λ w. w.page < k) c.args.batch.now.entries) (sym (rw (← c.self.view_is) at c.requires.logical)) c.requires.range in
+    rw (c.deref.ensures.value, c.deref_mut.ensures.value)
+    (pages_low c.args.index.now c.unwrap-pages.result c.hold_pages.new.pages c.self.inside.rooms c.hold_pages.new.rooms c.args.batch.now c.hold_pages.ensures.0
+    (length c.self.inside.owners.items) c.hold_pages.ensures.1
+    (list_empty c.self.inside c.pop.new.self.items c.unwrap-pages.result c.self.invariant popped).0 low)
 
 taken_in : (g : _) (c : goal.After-unwrap g) → IsTakenIn c.args.index.now c.self.inside
-    (record c.self.inside { opened = c.push.new.self; pages = c.hold_pages.new.pages; rooms = c.hold_pages.new.rooms })
-    c.args.batch.now (record { tag = c.args.tag; pages = c.len-pages.result; done = 0; noted_count = 0; mark = Plain }) c.hold_pages.ensures.0
-taken_in g c = record {
-  page_bytes = refl;
-  pending = refl;
-  size = rw (← c.self.view_is) at c.requires.pages;
-  some = c.requires.some;
-  count = c.len-pages.ensures;
-  opened = rw c.unwrap.ensures at c.push.ensures.items;
-  capacity = c.push.ensures.capacity;
-  holds = c.hold_pages.ensures.1;
-}
+    (record c.self.inside {
+      all = c.push.new.self;
+      owners = with_items c.self.inside.owners c.set_owner.new.owners;
+      rooms = c.hold_pages.new.rooms;
+      lists = c.pop.new.self;
+    })
+    c.args.batch.now (record {
+      tag = c.args.tag;
+      done = 0;
+      noted_count = 0;
+      mark = Plain;
+      pages = c.hold_pages.new.pages;
+    }) c.unwrap-pages.result c.hold_pages.ensures.0
+taken_in g c =
+    let popped : c.self.inside.lists.items ≡ c.pop.new.self.items ++ c.unwrap-pages.result ∷ [] = rw c.unwrap-pages.ensures at c.pop.ensures.items in
+    let low = subst (λ k. All (λ w. w.page < k) c.args.batch.now.entries) (sym (rw (← c.self.view_is) at c.requires.logical)) c.requires.range in
+    let owners : c.set_owner.new.owners ≡ with_owner c.self.inside.owners.items (Some c.args.tag) c.hold_pages.new.pages.items =
+    c.set_owner.ensures ∙ ap₂ (λ os ps. with_owner os (Some c.args.tag) ps) c.deref_mut.ensures.value c.deref.ensures.value in
+    record {
+      page_bytes = refl;
+      pending = refl;
+      size = rw (← c.self.view_is) at c.requires.pages;
+      some = c.requires.some;
+      exist = low;
+      apart = rw (← c.self.view_is) at c.requires.apart;
+      all = rw c.unwrap.ensures at c.push.ensures.items;
+      capacity = c.push.ensures.capacity;
+      owners = refilled c.self.inside.owners c.set_owner.new.owners
+          (ap length owners ∙ length-with_owner c.self.inside.owners.items (Some c.args.tag) c.hold_pages.new.pages.items) ∙ owners;
+      holds = c.hold_pages.ensures.1;
+      lists = popped;
+      lists_capacity = c.pop.ensures.capacity;
+    }
 
 pub invariant_of-self : goal.invariant_of-self
-invariant_of-self g c = kept_after_opening c.args.index.now c.self.inside _ c.args.batch.now _ c.hold_pages.ensures.0 c.self.invariant (taken_in g c)
+invariant_of-self g c = kept_after_opening c.args.index.now c.self.inside _ c.args.batch.now _ c.unwrap-pages.result c.hold_pages.ensures.0 c.self.invariant
+    (taken_in g c)
 
 pub returns : goal.returns
 returns g c =
     rw (← c.self.view_is)
-    (table_after_opening c.args.index.now c.self.inside _ c.args.batch.now _ c.hold_pages.ensures.0 c.self.invariant (taken_in g c) refl refl refl)
+    (table_after_opening c.args.index.now c.self.inside _ c.args.batch.now _ c.unwrap-pages.result c.hold_pages.ensures.0 c.self.invariant
+    (taken_in g c) refl refl refl)

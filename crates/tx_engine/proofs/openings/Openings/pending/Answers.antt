@@ -1,8 +1,8 @@
 use Rattle.std.proofs.Common.{arith}
-use Rattle.tx_engine.proofs.OpenTests.{pages_of_openings}
+use Rattle.tx_engine.proofs.OpenPages.{pages_of_openings}
 use Rattle.tx_engine.proofs.openings.Openings.pending.Goals as goal
 
 pub returns : goal.returns
 returns c =
-    let count = pages_of_openings c.self.inside.opened.items c.self.inside.pages.items c.self.invariant.sum in
-    rw (← c.self.view_is) (omega arith)
+    let count = pages_of_openings c.self.inside.all.items in
+    rw (← c.self.view_is) (omega (arith, c.self.invariant.rooms))

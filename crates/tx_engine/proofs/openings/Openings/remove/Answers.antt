@@ -1,48 +1,41 @@
-use Rattle.std.proofs.Common.{◌≡◌, take, refl, arith}
-use Rattle.tx_engine.specs.PendingPages.{pages_held}
-use Rattle.tx_engine.proofs.OpenPages.{openings_length, pages_within}
-use Rattle.tx_engine.proofs.OpenChanges.{IsTakenAway, kept_after_removal, table_after_removal}
+use Rattle.std.proofs.Common.{◌≡◌, None, length, refl, ap, ap₂, ◌∙◌, arith}
+use Rattle.std.specs.Vec.{with_items}
+use Rattle.tx_engine.specs.PendingPages.{with_owner}
+use Rattle.tx_engine.proofs.OpenChanges.{IsTakenAway, refilled, kept_after_removal, table_after_removal}
+use Rattle.tx_engine.proofs.OpenPages.{openings_long}
+use Rattle.tx_engine.proofs.Owners.{length-with_owner}
 use Rattle.tx_engine.proofs.openings.Openings.remove.Goals as goal
 
-pub pages_before-first-requires-clause-within : goal.pages_before-first-requires-clause-within
-pages_before-first-requires-clause-within c =
-    let at = rw (← c.self.view_is) at c.requires in
-    let count = openings_length c.self.inside.opened.items c.self.inside.pages.items in
-    omega arith
-
-pub remove-pages-requires : goal.remove-pages-requires
-remove-pages-requires c =
-    let at = rw (← c.self.view_is) at c.requires in
-    let count = openings_length c.self.inside.opened.items c.self.inside.pages.items in
-    omega arith
-
-pub free_pages-requires-clause-within : goal.free_pages-requires-clause-within
-free_pages-requires-clause-within c =
-    let at = rw (← c.self.view_is) at c.requires in
-    let os = c.self.inside.opened.items in
-    let count = openings_length os c.self.inside.pages.items in
-    let first : c.pages_before-first.result ≡ pages_held (take c.args.at os) = rw c.deref.ensures.value at c.pages_before-first.ensures in
-    let within = pages_within os c.args.at c.remove-pages.result (omega arith) c.remove-pages.ensures.value in
-    omega (arith, c.self.invariant.sum)
-
-taken_away : (c : goal.After-free_pages) → IsTakenAway c.self.inside (record c.self.inside { opened = c.remove-pages.new.self; pages = c.free_pages.new.pages; rooms = c.free_pages.new.rooms }) c.args.at c.remove-pages.result
+taken_away : (c : goal.After-unwrap) → IsTakenAway c.self.inside
+    (record c.self.inside {
+      all = c.remove-pages.new.self;
+      owners = with_items c.self.inside.owners c.set_owner.new.owners;
+      rooms = c.free_pages.new.rooms;
+      lists = c.push.new.self;
+    })
+    c.args.at c.remove-pages.result c.free_pages.new.pages
 taken_away c =
-    let at = rw (← c.self.view_is) at c.requires in
-    let os = c.self.inside.opened.items in
-    let count = openings_length os c.self.inside.pages.items in
-    let first : c.pages_before-first.result ≡ pages_held (take c.args.at os) = rw c.deref.ensures.value at c.pages_before-first.ensures in
+    let at = rw (← c.self.view_is) at c.requires.at in
+    let count = openings_long c.self.inside.all.items in
+    let owners : c.set_owner.new.owners ≡ with_owner c.self.inside.owners.items None c.remove-pages.result.pages.items =
+    c.set_owner.ensures ∙ ap₂ (λ os ps. with_owner os None ps) c.deref_mut.ensures.value c.deref.ensures.value in
     record {
       page_bytes = refl;
       pending = refl;
       within = omega arith;
       its = c.remove-pages.ensures.value;
-      opened = c.remove-pages.ensures.items;
+      apart = rw (← c.self.view_is) at c.requires.apart;
+      all = c.remove-pages.ensures.items;
       capacity = c.remove-pages.ensures.capacity;
-      freed = rw first at c.free_pages.ensures;
+      owners = refilled c.self.inside.owners c.set_owner.new.owners
+          (ap length owners ∙ length-with_owner c.self.inside.owners.items None c.remove-pages.result.pages.items) ∙ owners;
+      freed = c.free_pages.ensures;
+      lists = rw c.unwrap.ensures at c.push.ensures.items;
+      lists_capacity = c.push.ensures.capacity;
     }
 
 pub invariant_of-self : goal.invariant_of-self
-invariant_of-self c = kept_after_removal c.self.inside _ c.args.at c.remove-pages.result c.self.invariant (taken_away c)
+invariant_of-self c = kept_after_removal c.self.inside _ c.args.at c.remove-pages.result c.free_pages.new.pages c.self.invariant (taken_away c)
 
 pub returns : goal.returns
-returns c = rw (← c.self.view_is) (table_after_removal c.self.inside _ c.args.at c.remove-pages.result c.self.invariant (taken_away c))
+returns c = rw (← c.self.view_is) (table_after_removal c.self.inside _ c.args.at c.remove-pages.result c.free_pages.new.pages (taken_away c))

@@ -1,24 +1,27 @@
-use Rattle.std.proofs.Common.{set, refl, sym, ap, ◌∙◌, arith}
+use Rattle.std.proofs.Common.{refl, arith}
 use Rattle.tx_engine.specs.OpenTable.{with_noted_count}
-use Rattle.tx_engine.specs.OpeningsIn.{openings_in}
-use Rattle.tx_engine.proofs.OpenPages.{openings_length, opening_read, opening_written, same_table}
+use Rattle.tx_engine.proofs.OpenChanges.{kept_with, table_with}
+use Rattle.tx_engine.proofs.OpenPages.{openings_long}
 use Rattle.tx_engine.proofs.openings.Openings.set_noted_count.Goals as goal
 
 pub index_mut-requires : goal.index_mut-requires
 index_mut-requires c =
     let requires = rw (← c.self.view_is) at c.requires in
-    let count = openings_length c.self.inside.opened.items c.self.inside.pages.items in
+    let count = openings_long c.self.inside.all.items in
     omega arith
+
+pub invariant_of-self : goal.invariant_of-self
+invariant_of-self c =
+    let requires = rw (← c.self.view_is) at c.requires in
+    let count = openings_long c.self.inside.all.items in
+    let x = c.index_mut.result.now in
+    kept_with c.self.inside c.args.at x (record x { noted_count = c.args.count }) c.self.invariant (omega arith) c.index_mut.ensures.value refl refl
 
 pub returns : goal.returns
 returns c =
     let requires = rw (← c.self.view_is) at c.requires in
-    let os = c.self.inside.opened.items in
-    let ps = c.self.inside.pages.items in
+    let count = openings_long c.self.inside.all.items in
     let x = c.index_mut.result.now in
-    let count = openings_length os ps in
-    let is = c.index_mut.ensures.value in
     rw (← c.self.view_is)
-    (same_table _ _ _ _
-    (opening_written os ps c.args.at x (record x { noted_count = c.args.count }) (omega arith) is refl
-    ∙ ap (λ o. set (openings_in os ps) c.args.at (with_noted_count o c.args.count)) (sym (opening_read os ps c.args.at x (omega arith) is))))
+    (table_with c.self.inside c.args.at x (record x { noted_count = c.args.count }) (λ o. with_noted_count o c.args.count)
+    (omega arith) c.index_mut.ensures.value refl)

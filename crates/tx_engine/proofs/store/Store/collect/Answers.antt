@@ -1,9 +1,11 @@
-use Rattle.std.proofs.Common.{true, false, sym, ap, ◌∙◌, subst}
+use Rattle.std.proofs.Common.{true, false, sym, ap, ◌∙◌, subst, inl}
 use Rattle.tx_types.specs.declared.config.Config.{Config}
 use Rattle.flash_model.specs.Calls.{Carries}
 use Rattle.flash_model.specs.Moves.{FlashMoves}
 use Rattle.flash_model.proofs.CallLemmas.{Carries-then}
 use Rattle.flash_model.proofs.MoveLemmas.{FlashMoves-then}
+use Rattle.tx_engine.proofs.WriteAfter.{where_failed}
+use Rattle.collector.proofs.RoomCalls.{room_breaks}
 use Rattle.tx_engine.proofs.StoreCalls.{as_long}
 use Rattle.tx_engine.proofs.CollectCalls.{victim_apart, victim_unneeded, collects_one}
 use Rattle.tx_engine.proofs.KeptTwice.{Preserves-then, array_then}
@@ -68,3 +70,21 @@ returns-clause-collects g c =
     (collects_one s s1 s2 c.self.inside.index c.clean_spare.new.index c.collect.new.index c.self.inside.blocks c.clean_spare.new.blocks c.collect.new.blocks
     c.self.inside.unsure c.clean_spare.new.unsure (rw (← c.self.view_is) at c.requires) first.sure c.self.invariant.stored.matches first.matches
     first.blocks first.noted first.carries.shape first.done c.in-Some.block.0 c.in-Some.ensures second.done second.noted second.blocks)
+
+pub returns-in_err-clean_spare-clause-broken : goal.returns-in_err-clean_spare-clause-broken
+returns-in_err-clean_spare-clause-broken g c =
+    let first = c.in_err-clean_spare.ensures in
+    rw (← c.self.view_is) (where_failed c.from_residual.result _ (inl (first.torn.0, first.broken, first.torn.1)))
+
+pub returns-in_err-collect-clause-broken : goal.returns-in_err-collect-clause-broken
+returns-in_err-collect-clause-broken g c =
+    let first = c.in_ok-clean_spare.ensures in
+    let s = g.F.Flash.state c.self.inside.flash in
+    let s1 = g.F.Flash.state c.clean_spare.new.flash in
+    let s2 = g.F.Flash.state c.collect.new.flash in
+    rw (← c.self.view_is)
+    (where_failed c.from_residual-in_err-collect.result _
+    (room_breaks s s1 c.self.inside.index c.clean_spare.new.index c.self.inside.blocks c.clean_spare.new.blocks c.self.inside.unsure c.clean_spare.new.unsure
+    (rw (← c.self.view_is) at c.requires) c.self.invariant.stored.matches first.matches first.sure first.noted first.blocks first.preserves
+    g.R.CommitRule.protocol g.met.R.CommitRule.block_loss c.self.invariant.stored.rule first.carries.shape first.done first.reads first.carries.lives
+    s2 c.collect.new.index c.collect.new.unsure c.in-Some.block.0 c.in-Some.ensures c.in_err-collect.ensures.broken))

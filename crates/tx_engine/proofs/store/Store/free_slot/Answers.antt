@@ -21,3 +21,6 @@ returns-clause-direct g c =
 
 pub returns-clause-still_clear : goal.returns-clause-still_clear
 returns-clause-still_clear g c = rw (← c.self.view_is) c.free_slot.ensures.still_clear
+
+pub returns-clause-broken : goal.returns-clause-broken
+returns-clause-broken g c = rw (← c.self.view_is) c.free_slot.ensures.broken
