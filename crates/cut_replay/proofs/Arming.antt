@@ -13,7 +13,7 @@ use Rattle.flash_model.specs.Calls.{BothTell, NoMoreToCome}
 use Rattle.flash_model.specs.Operations.{Moment, moment_of}
 use Rattle.record_list.specs.Records.{mention}
 use Rattle.version_index.specs.Images.{IsSoundImage, records_in}
-use Rattle.page_cache.specs.CachedPages.{CachedPage}
+use Rattle.page_cache.specs.CachedPages.{CachedPage, CachedPages}
 use Rattle.tx_engine.specs.Standing.{Standing}
 use Rattle.host_protocol.specs.declared.command.Command.{Command}
 use Rattle.host_protocol.specs.declared.command.Command.TheVariants as command
@@ -24,7 +24,7 @@ use Rattle.cut_replay.specs.Bounds.{IsSet}
 use Rattle.tx_engine.proofs.Seen.{seen_flash}
 use Rattle.tx_engine.specs.Always.{HoldsAlways}
 use Rattle.cut_replay.specs.Mounted.{point_at, IsCachedAs, IsCached}
-use Rattle.cut_replay.specs.Sessions.{flash_in, point_of, Fits, StandsAt, StandsMounted, IsSpentBy, ServesSession, SetsArm}
+use Rattle.cut_replay.specs.Sessions.{flash_in, point_of, Fits, StandsAt, StandsMounted, IsSpentBy, ServesSession, SetsArm, CachesFrom, CachesSession, Serves}
 use Rattle.cut_replay.specs.declared.session.Session.{Session}
 use Rattle.cut_replay.specs.declared.session.Session.TheVariants as session
 use Rattle.cut_replay.proofs.Mountings.{mounted_point}
@@ -133,7 +133,7 @@ armed_moment state protocol sets (session.Mounted s) (session.Unmounted f) h = a
 armed_moment state protocol sets (session.Unmounted e) (session.Mounted t) h = absurd h
 armed_moment state protocol sets (session.Unmounted e) (session.Unmounted f) h = still_armed sets (state e) (state f) h
 
-pub armed_serves : {F R : Type 0} (state : F → FlashState) (its : Config) (protocol : Protocol) (sets : Told → Told → Type 0) (entries : List CachedPage) (c : Command) (old new : Session F R) →
+armed_serves : {F R : Type 0} (state : F → FlashState) (its : Config) (protocol : Protocol) (sets : Told → Told → Type 0) (entries : List CachedPage) (c : Command) (old new : Session F R) →
     IsArming c sets → Fits state its entries old → SetsArm state protocol sets old new → ServesSession state its c old reply.Armed new
 armed_serves state its protocol sets entries c old new arming fits h = record {
   in_run = λ seen faulted stands. record {
@@ -156,7 +156,7 @@ armed_serves state its protocol sets entries c old new arming fits h = record {
 fits_flash : {F : Type 0} (s : Standing F) (flash : F) (e : CachedPage) → IsCachedAs s e → IsCachedAs (record s { flash = flash }) e
 fits_flash s flash e h = record { exists = h.exists; least = h.least; current = h.current }
 
-pub armed_fits : {F R : Type 0} (state : F → FlashState) (its : Config) (protocol : Protocol) (sets : Told → Told → Type 0) (entries : List CachedPage) (old new : Session F R) → its.protocol ≡ protocol →
+armed_fits : {F R : Type 0} (state : F → FlashState) (its : Config) (protocol : Protocol) (sets : Told → Told → Type 0) (entries : List CachedPage) (old new : Session F R) → its.protocol ≡ protocol →
     Fits state its entries old → SetsArm state protocol sets old new → Fits state its entries new
 armed_fits {F = F} state its protocol sets entries (session.Mounted s) (session.Mounted t) rule fits h = record {
   config = ap (λ (x : Standing F). x.config) h.stays ∙ fits.config;
@@ -170,7 +170,21 @@ armed_fits state its protocol sets entries (session.Unmounted e) (session.Mounte
 armed_fits state its protocol sets entries (session.Unmounted e) (session.Unmounted f) rule fits h = fits ∙ ap (λ (x : FlashState). Ok x.shape) (sym h.stays)
 
 -- at the command that was read
-pub armed_as : {F R : Type 0} (state : F → FlashState) (its : Config) (protocol : Protocol) (sets : Told → Told → Type 0) (entries : List CachedPage) (c d : Command) (old new : Session F R) →
+armed_as : {F R : Type 0} (state : F → FlashState) (its : Config) (protocol : Protocol) (sets : Told → Told → Type 0) (entries : List CachedPage) (c d : Command) (old new : Session F R) →
     c ≡ d → IsArming d sets → Fits state its entries old → SetsArm state protocol sets old new → ServesSession state its c old reply.Armed new
 armed_as state its protocol sets entries c d old new is arming fits h =
     subst (λ x. ServesSession state its x old reply.Armed new) (sym is) (armed_serves state its protocol sets entries d old new arming fits h)
+
+armed_caches : {F R : Type 0} (state : F → FlashState) (its : Config) (c : Command) (old new : Session F R) (cache : CachedPages) → is_arm c ≡ true → CachesSession state its c old reply.Armed new cache cache
+armed_caches state its c old new cache arm = subst (λ b. MatchBool b (cache ≡ cache) (CachesFrom state its c old reply.Armed new cache cache)) (sym arm) refl
+
+-- the whole of it
+pub armed : {F R : Type 0} (state : F → FlashState) (its : Config) (protocol : Protocol) (sets : Told → Told → Type 0) (cache : CachedPages) (c d : Command) (old new : Session F R) →
+    c ≡ d → IsArming d sets → its.protocol ≡ protocol → Fits state its cache.entries old → SetsArm state protocol sets old new → Serves state its c old (Ok reply.Armed) new cache cache
+armed state its protocol sets cache c d old new is arming rule fits h = record {
+  fits = armed_fits state its protocol sets cache.entries old new rule fits h;
+  serves = armed_as state its protocol sets cache.entries c d old new is arming fits h;
+  caches = armed_caches state its c old new cache (ap is_arm is ∙ arming.arm);
+  ends = tt;
+  size = refl;
+}

@@ -1,6 +1,6 @@
 -- What a command comes to that was done on a mounted device.
 use Rattle.std.proofs.Common.{◌≡◌, ◌⊎◌, ℕ, ◌<◌, ◌≤◌, Bool, true, false, ◌||◌, List, [], Option, Result, Ok, Err, refl, sym, ap, ◌∙◌, subst, inl, inr, arith}
-use Rattle.std.specs.Prelude.{nat_le, ◌^◌, MatchBool, IfOk, IfErr}
+use Rattle.std.specs.Prelude.{nat_le, ◌^◌, MatchBool, IfOk, IfErr, OnOk}
 use Rattle.std.proofs.lemmas.Bool.{cases_Bool, or_parts}
 use Rattle.std.proofs.lemmas.Bool.Decides.{nat_tests}
 use Rattle.tx_types.specs.declared.config.Config.{Config}
@@ -29,7 +29,7 @@ use Rattle.cut_replay.specs.Bounds.{is_cut, CountsBreak}
 use Rattle.cut_replay.specs.MountedAgain.{MountsAfter}
 use Rattle.tx_engine.specs.Always.{IsSeen, HoldsAlways}
 use Rattle.cut_replay.specs.Mounted.{point_at, IsCached, CachesCommand, ServesHere}
-use Rattle.cut_replay.specs.Sessions.{flash_in, point_of, IsSoundFlash, Fits, FitsMounted, StandsMounted, IsSoundOrSame, IsSpentBy, ServesIn, ServesSession, EndsServing, Mounted, Unmounted, MountsAgain, Follows, CachesServed, CachesSession}
+use Rattle.cut_replay.specs.Sessions.{flash_in, point_of, IsSoundFlash, Fits, FitsMounted, StandsMounted, IsSoundOrSame, IsSpentBy, ServesIn, ServesSession, EndsServing, Mounted, Unmounted, MountsAgain, Follows, Serves, left, CachesServed, CachesSession}
 use Rattle.cut_replay.specs.declared.serving.ServeError.{ServeError}
 use Rattle.cut_replay.specs.declared.serving.ServeError.TheVariants as failed
 use Rattle.cut_replay.specs.declared.session.Session.{Session}
@@ -186,12 +186,12 @@ pub after_check : {F : Type 0} (state : F → FlashState) (its : Config) (c : Co
 after_check state its c s t r entries w = ap checked (sym (w.here.config ∙ w.config)) ∙ w.always.check
 
 again_fits : {F R : Type 0} (state : F → FlashState) (its : Config) (flash : F) (result : Sessions F R) → checked its ≡ Ok (state flash).shape →
-    (t : Standing F) → t.flash ≡ flash → MountsAgain state its t result → FitsAfter F R state its [] result
-again_fits state its flash (Ok done) check t same h = mounted_fits state its flash done.0 check (subst (λ x. Mounted state its x done.0) same h.0)
-again_fits state its flash (Err e) check t same h = tt
+    MountsAgain state its flash result → FitsAfter F R state its [] result
+again_fits state its flash (Ok done) check h = mounted_fits state its flash done.0 check h.0
+again_fits state its flash (Err e) check h = tt
 
 pub fits_after : {F R : Type 0} (state : F → FlashState) (its : Config) (c : Command) (s t : Standing F) (r : Reply) (result : Sessions F R) (before after : CachedPages) →
-    WasDone state its c s t r before.entries → Follows state its t r result before after → FitsAfter F R state its after.entries result
+    WasDone state its c s t r before.entries → Follows state its (session.Mounted t) r result before after → FitsAfter F R state its after.entries result
 fits_after {F = F} {R = R} state its c s t r result before after w follows = elim (cases_Bool (state t.flash).live) [
   | inl on ↦ (
       let went = follows.went_on on in
@@ -204,7 +204,7 @@ fits_after {F = F} {R = R} state its c s t r result before after w follows = eli
       }))
   | inr off ↦ (
       let cut = follows.was_cut off in
-      subst (λ (x : CachedPages). FitsAfter F R state its x.entries result) (sym cut.1) (again_fits state its t.flash result (after_check state its c s t r before.entries w) t refl cut.0))
+      subst (λ (x : CachedPages). FitsAfter F R state its x.entries result) (sym cut.1) (again_fits state its t.flash result (after_check state its c s t r before.entries w) cut.0))
 ]
 
 -- the image is sound
@@ -283,7 +283,7 @@ cut_serves state c s t r entries after w off mounted =
     }
 
 again_serves : {F R : Type 0} (state : F → FlashState) (c : Command) (s t : Standing F) (r : Reply) (entries : List CachedPage) (result : Sessions F R) → WasDone state s.config c s t r entries →
-    (state t.flash).live ≡ false → MountsAgain state s.config t result → ServesAfter F R state s.config c s result
+    (state t.flash).live ≡ false → MountsAgain state s.config t.flash result → ServesAfter F R state s.config c s result
 again_serves {F = F} {R = R} state c s t r entries (Ok done) w off h =
     subst (λ (q : Reply). ServesSession {R = R} state s.config c (session.Mounted s) q done.0) (sym h.1)
     (cut_serves state c s t r entries done.0 w off h.0)
@@ -299,13 +299,13 @@ again_ends {F = F} R state c s t r entries flash failed.Memory w off h =
     record { cause = inr (serves.in_run, serves.spends, serves.faults); shape = h.still.shape ∙ w.here.carries.shape; extras = h.still.extras ∙ w.here.carries.extras; kept = serves.kept }
 
 again_ends_all : {F R : Type 0} (state : F → FlashState) (c : Command) (s t : Standing F) (r : Reply) (entries : List CachedPage) (result : Sessions F R) → WasDone state s.config c s t r entries →
-    (state t.flash).live ≡ false → MountsAgain state s.config t result → EndsAfter F R state s.config c s result
+    (state t.flash).live ≡ false → MountsAgain state s.config t.flash result → EndsAfter F R state s.config c s result
 again_ends_all state c s t r entries (Ok done) w off h = tt
 again_ends_all {R = R} state c s t r entries (Err e) w off h = again_ends R state c s t r entries e.flash e.why w off h
 
 -- at the configuration of the device, and so at that of the session
 serves_at : {F R : Type 0} (state : F → FlashState) (c : Command) (s t : Standing F) (r : Reply) (result : Sessions F R) (before after : CachedPages) →
-    WasDone state s.config c s t r before.entries → Follows state s.config t r result before after → ServesAfter F R state s.config c s result × EndsAfter F R state s.config c s result
+    WasDone state s.config c s t r before.entries → Follows state s.config (session.Mounted t) r result before after → ServesAfter F R state s.config c s result × EndsAfter F R state s.config c s result
 serves_at {F = F} {R = R} state c s t r result before after w follows = elim (cases_Bool (state t.flash).live) [
   | inl on ↦ (let went = follows.went_on on in
       let done : Sessions F R = Ok (session.Mounted t, r) in (
@@ -317,14 +317,14 @@ serves_at {F = F} {R = R} state c s t r result before after w follows = elim (ca
 ]
 
 pub serves_after : {F R : Type 0} (state : F → FlashState) (its : Config) (c : Command) (s t : Standing F) (r : Reply) (result : Sessions F R) (before after : CachedPages) →
-    WasDone state its c s t r before.entries → Follows state its t r result before after → ServesAfter F R state its c s result × EndsAfter F R state its c s result
+    WasDone state its c s t r before.entries → Follows state its (session.Mounted t) r result before after → ServesAfter F R state its c s result × EndsAfter F R state its c s result
 serves_after {F = F} {R = R} state its c s t r result before after w follows =
     subst (λ (x : Config). ServesAfter F R state x c s result × EndsAfter F R state x c s result) w.config
     (serves_at state c s t r result before after (subst (λ (x : Config). WasDone state x c s t r before.entries) (sym w.config) w)
-    (subst (λ (x : Config). Follows state x t r result before after) (sym w.config) follows))
+    (subst (λ (x : Config). Follows state x (session.Mounted t) r result before after) (sym w.config) follows))
 
 -- the cache keeps the size of its pages
-pub follows_size : {F R : Type 0} (state : F → FlashState) (its : Config) (t : Standing F) (r : Reply) (result : Sessions F R) (before after : CachedPages) → Follows state its t r result before after →
+pub follows_size : {F R : Type 0} (state : F → FlashState) (its : Config) (t : Standing F) (r : Reply) (result : Sessions F R) (before after : CachedPages) → Follows state its (session.Mounted t) r result before after →
     after.page_bytes ≡ before.page_bytes
 follows_size state its t r result before after follows = elim (cases_Bool (state t.flash).live) [
   | inl on ↦ ap (λ (x : CachedPages). x.page_bytes) (follows.went_on on).1
@@ -347,14 +347,14 @@ no_arm_caches : {F R : Type 0} (state : F → FlashState) (its : Config) (c : Co
 no_arm_caches state its c s r new before after no_arm h = subst (λ b. MatchBool b (after ≡ before) (CachesServed state c s r new before after)) (sym no_arm) h
 
 again_caches : {F R : Type 0} (state : F → FlashState) (its : Config) (c : Command) (s t : Standing F) (before after : CachedPages) (result : Sessions F R) → is_arm c ≡ false → after ≡ record before { entries = [] } →
-    MountsAgain state its t result → CachesAfter F R state its c s before after result
+    MountsAgain state its t.flash result → CachesAfter F R state its c s before after result
 again_caches {R = R} state its c s t before after (Ok done) no_arm empty h =
     no_arm_caches {R = R} state its c s done.1 done.0 before after no_arm
     (subst (λ (q : Reply). CachesServed state c s q done.0 before after) (sym h.1) (cut_caches state c s done.0 before after empty))
 again_caches state its c s t before after (Err e) no_arm empty h = tt
 
 pub caches_after : {F R : Type 0} (state : F → FlashState) (its : Config) (c : Command) (s t : Standing F) (r : Reply) (result : Sessions F R) (before mid after : CachedPages) → is_arm c ≡ false → is_cut r ≡ false →
-    CachesCommand state c s t before mid → mid.page_bytes ≡ before.page_bytes → Follows state its t r result mid after → CachesAfter F R state its c s before after result
+    CachesCommand state c s t before mid → mid.page_bytes ≡ before.page_bytes → Follows state its (session.Mounted t) r result mid after → CachesAfter F R state its c s before after result
 caches_after {F = F} {R = R} state its c s t r result before mid after no_arm whole caches size follows = elim (cases_Bool (state t.flash).live) [
   | inl on ↦ (
       let went = follows.went_on on in
@@ -367,6 +367,34 @@ caches_after {F = F} {R = R} state its c s t r result before mid after no_arm wh
       let cut = follows.was_cut off in
       again_caches state its c s t before after result no_arm (emptied before mid after size cut.1) cut.0)
 ]
+
+-- The same of a session that is changed
+pub left_ok : {F R : Type 0} (P : Session F R → Reply → Type 0) (new : Session F R) (result : Result Reply ServeError) → IfOk (left new result) (λ done. P done.0 done.1) → IfOk result (λ r. P new r)
+left_ok P new (Ok r) h = h
+left_ok P new (Err why) h = tt
+
+left_on : {F R : Type 0} (P : Session F R → Type 0) (new : Session F R) (result : Result Reply ServeError) → IfOk (left new result) (λ done. P done.0) → OnOk result (P new)
+left_on P new (Ok r) h = h
+left_on P new (Err why) h = tt
+
+left_err : {F R : Type 0} (P : F → ServeError → Type 0) (new : Session F R) (result : Result Reply ServeError) → IfErr (left new result) (λ e. P e.flash e.why) → IfErr result (λ why. P (flash_in new) why)
+left_err P new (Ok r) h = tt
+left_err P new (Err why) h = h
+
+pub mounted_serves : {F R : Type 0} (state : F → FlashState) (its : Config) (c : Command) (s t : Standing F) (r : Reply) (result : Result Reply ServeError) (new : Session F R) (before mid after : CachedPages) →
+    WasDone state its c s t r mid.entries → CachesCommand state c s t before mid → mid.page_bytes ≡ before.page_bytes → Follows state its (session.Mounted t) r (left new result) mid after →
+    Serves state its c (session.Mounted s) result new before after
+mounted_serves {F = F} {R = R} state its c s t r result new before mid after w caches size follows =
+    let old : Session F R = session.Mounted s in
+    let both = serves_after state its c s t r (left new result) mid after w follows in
+    record {
+      fits = left_on (Fits state its after.entries) new result (fits_after state its c s t r (left new result) mid after w follows);
+      serves = left_ok (λ (x : Session F R) q. ServesSession state its c old q x) new result both.0;
+      caches = left_ok (λ (x : Session F R) q. CachesSession state its c old q x before after) new result
+          (caches_after state its c s t r (left new result) before mid after w.no_arm w.here.whole caches size follows);
+      ends = left_err (λ flash why. EndsServing state its c old flash why) new result both.1;
+      size = follows_size state its t r (left new result) mid after follows ∙ size;
+    }
 
 pub was_done : {F : Type 0} (state : F → FlashState) (its : Config) (protocol : Protocol) (c : Command) (s t : Standing F) (r : Reply) (before entries : List CachedPage) → its.protocol ≡ protocol →
     FitsMounted state its before s → is_arm c ≡ false → ServesHere state c s t r → IsCached t entries → HoldsAlways state protocol t → WasDone state its c s t r entries

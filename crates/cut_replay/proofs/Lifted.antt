@@ -1,6 +1,6 @@
 -- A command that mounts the device first.
 use Rattle.std.proofs.Common.{◌≡◌, ◌⊎◌, ℕ, ◌≤◌, Bool, true, false, [], Result, Ok, Err, refl, sym, ap, ◌∙◌, subst, inl, inr, arith}
-use Rattle.std.specs.Prelude.{MatchBool, IfOk, IfErr}
+use Rattle.std.specs.Prelude.{MatchBool}
 use Rattle.tx_types.specs.declared.config.Config.{Config}
 use Rattle.tx_types.specs.declared.config.Shape.{Shape}
 use Rattle.tx_types.specs.Config.{checked, shape_of}
@@ -21,10 +21,9 @@ use Rattle.cut_replay.specs.Bounds.{CountsBreak}
 use Rattle.cut_replay.specs.MountedAgain.{MountsAfter}
 use Rattle.cut_replay.specs.Mounted.{point_at, MomentStays}
 use Rattle.page_cache.specs.CachedPages.{CachedPages}
-use Rattle.cut_replay.specs.Sessions.{flash_in, point_of, StandsMounted, StandsUnmounted, IsSpentBy, ServesIn, ServesSession, IsSoundOrSame, EndsServing, EndsFor, MountsIn, MeetsFault, Mounted, Unmounted, CachesServed, CachesFrom, CachesSession}
+use Rattle.cut_replay.specs.Sessions.{flash_in, is_mounted, point_of, StandsMounted, StandsUnmounted, IsSpentBy, ServesIn, ServesSession, IsSoundOrSame, EndsServing, EndsFor, MountsIn, MeetsFault, Mounted, Unmounted, CachesServed, CachesFrom, CachesSession, Fits, Serves}
 use Rattle.cut_replay.specs.declared.serving.ServeError.{ServeError}
 use Rattle.cut_replay.specs.declared.serving.ServeError.TheVariants as failed
-use Rattle.cut_replay.specs.declared.session.Ended.{Ended}
 use Rattle.cut_replay.specs.declared.session.Session.{Session}
 use Rattle.cut_replay.specs.declared.session.Session.TheVariants as session
 use Rattle.cut_replay.proofs.Mountings.{mounted_stands, mounted_point}
@@ -99,7 +98,7 @@ lifted_mounts a b r new before first now up quiet (inl again) = inl (λ cut. eli
 lifted_mounts a b r new before first now up quiet (inr failed) =
     inr (failed.0, subst (λ n. counted_by 2 n ≤ now) quiet failed.1)
 
-pub lifted_serves : {F R : Type 0} (state : F → FlashState) (its : Config) (flash : F) (t : Standing F) (c : Command) (r : Reply) (new : Session F R) → is_arm c ≡ false → MountsIn state its flash t →
+lifted_serves : {F R : Type 0} (state : F → FlashState) (its : Config) (flash : F) (t : Standing F) (c : Command) (r : Reply) (new : Session F R) → is_arm c ≡ false → MountsIn state its flash t →
     ServesSession {R = R} state its c (session.Mounted t) r new → ServesSession {R = R} state its c (session.Unmounted flash) r new
 lifted_serves state its flash t c r new no_arm mounts h = record {
   in_run = lifted_run state its flash t c r new no_arm mounts h.in_run;
@@ -134,7 +133,7 @@ lifted_cause {F = F} R state its flash t c new failed.Memory no_arm mounts (inr 
       subst (λ n. Rose n (state new).faults) mounts.quiet cut.2,
     )
 
-pub lifted_ends : {F : Type 0} (R : Type 0) (state : F → FlashState) (its : Config) (flash : F) (t : Standing F) (c : Command) (new : F) (why : ServeError) → is_arm c ≡ false → MountsIn state its flash t →
+lifted_ends : {F : Type 0} (R : Type 0) (state : F → FlashState) (its : Config) (flash : F) (t : Standing F) (c : Command) (new : F) (why : ServeError) → is_arm c ≡ false → MountsIn state its flash t →
     EndsServing {R = R} state its c (session.Mounted t) new why → EndsServing {R = R} state its c (session.Unmounted flash) new why
 lifted_ends R state its flash t c new why no_arm mounts h = record {
   cause = lifted_cause R state its flash t c new why no_arm mounts h.cause;
@@ -144,12 +143,12 @@ lifted_ends R state its flash t c new why no_arm mounts h = record {
 }
 
 -- The device was not mounted
-pub unmounted_ends : {F : Type 0} (R : Type 0) (state : F → FlashState) (its : Config) (c : Command) (flash new : F) (why : ServeError) → Unmounted state its flash new why →
+unmounted_ends : {F : Type 0} (R : Type 0) (state : F → FlashState) (its : Config) (c : Command) (flash new : F) (why : ServeError) → Unmounted state its flash new why →
     EndsServing {R = R} state its c (session.Unmounted flash) new why
 unmounted_ends R state its c flash new (failed.Unsound law slot) h = record { cause = h; shape = h.0.still.shape; extras = h.0.still.extras; kept = inr h.0.still.moment }
 unmounted_ends R state its c flash new failed.Memory h = record { cause = inl h; shape = h.still.shape; extras = h.still.extras; kept = inr h.still.moment }
 
-abbrev IsFaultOrCut : FlashState → Reply → Type 0
+abbrev pub IsFaultOrCut : FlashState → Reply → Type 0
 IsFaultOrCut s r = ((r ≡ reply.Fault) × (s.live ≡ true)) ⊎ ((r ≡ reply.Cut) × (s.live ≡ false))
 
 not_done_reply : (s : FlashState) (r : Reply) → IsFaultOrCut s r → (r ≡ reply.Fault) ⊎ (r ≡ reply.Cut)
@@ -170,7 +169,7 @@ not_opened : (s : FlashState) (c : Command) (seen : ℕ → ℕ) (r : Reply) (pa
 not_opened s c seen r page (inl is) = ap (λ q. seen_after seen c q page) is.0
 not_opened s c seen r page (inr is) = ap (λ q. seen_after seen c q page) is.0
 
-pub not_done_serves : {F : Type 0} (R : Type 0) (state : F → FlashState) (its : Config) (c : Command) (flash new : F) (r : Reply) → is_arm c ≡ false → MeetsFault (state flash) (state new) → IsFaultOrCut (state new) r →
+not_done_serves : {F : Type 0} (R : Type 0) (state : F → FlashState) (its : Config) (c : Command) (flash new : F) (r : Reply) → is_arm c ≡ false → MeetsFault (state flash) (state new) → IsFaultOrCut (state new) r →
     ServesSession {R = R} state its c (session.Unmounted flash) r (session.Unmounted new)
 not_done_serves {F = F} R state its c flash new r no_arm h is =
     let after : Session F R = session.Unmounted new in
@@ -197,15 +196,8 @@ not_done_serves {F = F} R state its c flash new r no_arm h is =
       extras = h.still.extras;
     }
 
-pub unmounted_check : (its : Config) (old new : FlashState) → checked its ≡ Ok old.shape → MomentStays old new → checked its ≡ Ok new.shape
+unmounted_check : (its : Config) (old new : FlashState) → checked its ≡ Ok old.shape → MomentStays old new → checked its ≡ Ok new.shape
 unmounted_check its old new check still = check ∙ ap (λ (x : Shape). Ok x) (sym still.shape)
-
--- What was mounted
-pub is_mounted : {F R : Type 0} (state : F → FlashState) (its : Config) (flash : F) (s : Session F R) (t : Standing F) → Mounted state its flash s → s ≡ session.Mounted t → MountsIn state its flash t
-is_mounted state its flash s t h is = subst (λ x. Mounted state its flash x) is h
-
-pub is_unmounted : {F R : Type 0} (state : F → FlashState) (its : Config) (flash : F) (s : Session F R) (new : F) → Mounted state its flash s → s ≡ session.Unmounted new → MeetsFault (state flash) (state new)
-is_unmounted state its flash s new h is = subst (λ x. Mounted state its flash x) is h
 
 -- and what is in the cache
 lifted_from : {F R : Type 0} (state : F → FlashState) (its : Config) (flash : F) (t : Standing F) (c : Command) (r : Reply) (new : Session F R) (before mid after : CachedPages) → MountsIn state its flash t →
@@ -222,27 +214,41 @@ lifted_caches {R = R} state its flash t c r new before mid after no_arm mounts e
     let here : CachesServed state c t r new mid after = subst (λ b. MatchBool b (after ≡ mid) (CachesServed state c t r new mid after)) no_arm h in
     subst (λ b. MatchBool b (after ≡ before) (CachesFrom state its c old r new before after)) (sym no_arm) (lifted_from state its flash t c r new before mid after mounts empty here)
 
-pub unmounted_caches : {F : Type 0} (R : Type 0) (state : F → FlashState) (its : Config) (flash new : F) (c : Command) (r : Reply) (before after : CachedPages) → is_arm c ≡ false → after ≡ record before { entries = [] } →
+unmounted_caches : {F : Type 0} (R : Type 0) (state : F → FlashState) (its : Config) (flash new : F) (c : Command) (r : Reply) (before after : CachedPages) → is_arm c ≡ false → after ≡ record before { entries = [] } →
     CachesSession {R = R} state its c (session.Unmounted flash) r (session.Unmounted new) before after
 unmounted_caches R state its flash new c r before after no_arm empty =
     subst (λ b. MatchBool b (after ≡ before) (after ≡ record before { entries = [] })) (sym no_arm) empty
 
--- the same of each result
-abbrev Results : (F R : Type 0) → Type 0
-Results F R = Result (Session F R × Reply) (Ended F)
+-- A session without its device
+pub lifted : {F R : Type 0} (state : F → FlashState) (its : Config) (c : Command) (old between : Session F R) (result : Result Reply ServeError) (new : Session F R) (before mid after : CachedPages) →
+    is_mounted old ≡ false → is_mounted between ≡ true → is_arm c ≡ false → Mounted state its (flash_in old) between → mid ≡ record before { entries = [] } →
+    Serves state its c between result new mid after → Serves state its c old result new before after
+lifted state its c (session.Mounted s) between result new before mid after off on no_arm mounts empty h = absurd (cc)
+lifted state its c (session.Unmounted flash) (session.Unmounted other) result new before mid after off on no_arm mounts empty h = absurd (cc)
+lifted {F = F} {R = R} state its c (session.Unmounted flash) (session.Mounted t) (Ok r) new before mid after off on no_arm mounts empty h = record {
+  fits = h.fits;
+  serves = lifted_serves state its flash t c r new no_arm mounts h.serves;
+  caches = lifted_caches state its flash t c r new before mid after no_arm mounts empty h.caches;
+  ends = tt;
+  size = h.size ∙ ap (λ (x : CachedPages). x.page_bytes) empty;
+}
+lifted {F = F} {R = R} state its c (session.Unmounted flash) (session.Mounted t) (Err why) new before mid after off on no_arm mounts empty h = record {
+  fits = tt;
+  serves = tt;
+  caches = tt;
+  ends = lifted_ends R state its flash t c (flash_in new) why no_arm mounts h.ends;
+  size = h.size ∙ ap (λ (x : CachedPages). x.page_bytes) empty;
+}
 
-pub lifted_result : {F R : Type 0} (state : F → FlashState) (its : Config) (flash : F) (t : Standing F) (c : Command) (result : Results F R) → is_arm c ≡ false → MountsIn state its flash t →
-    IfOk result (λ done. ServesSession {R = R} state its c (session.Mounted t) done.1 done.0) → IfOk result (λ done. ServesSession {R = R} state its c (session.Unmounted flash) done.1 done.0)
-lifted_result {R = R} state its flash t c (Ok done) no_arm mounts h = lifted_serves {R = R} state its flash t c done.1 done.0 no_arm mounts h
-lifted_result state its flash t c (Err e) no_arm mounts h = tt
-
-pub lifted_error : {F R : Type 0} (state : F → FlashState) (its : Config) (flash : F) (t : Standing F) (c : Command) (result : Results F R) → is_arm c ≡ false → MountsIn state its flash t →
-    IfErr result (λ e. EndsServing {R = R} state its c (session.Mounted t) e.flash e.why) → IfErr result (λ e. EndsServing {R = R} state its c (session.Unmounted flash) e.flash e.why)
-lifted_error state its flash t c (Ok done) no_arm mounts h = tt
-lifted_error {R = R} state its flash t c (Err e) no_arm mounts h = lifted_ends R state its flash t c e.flash e.why no_arm mounts h
-
-pub lifted_cache : {F R : Type 0} (state : F → FlashState) (its : Config) (flash : F) (t : Standing F) (c : Command) (result : Results F R) (before mid after : CachedPages) → is_arm c ≡ false → MountsIn state its flash t →
-    mid ≡ record before { entries = [] } → IfOk result (λ done. CachesSession {R = R} state its c (session.Mounted t) done.1 done.0 mid after) →
-    IfOk result (λ done. CachesSession {R = R} state its c (session.Unmounted flash) done.1 done.0 before after)
-lifted_cache {R = R} state its flash t c (Ok done) before mid after no_arm mounts empty h = lifted_caches {R = R} state its flash t c done.1 done.0 before mid after no_arm mounts empty h
-lifted_cache state its flash t c (Err e) before mid after no_arm mounts empty h = tt
+pub not_done : {F R : Type 0} (state : F → FlashState) (its : Config) (c : Command) (old new : Session F R) (r : Reply) (before after : CachedPages) →
+    is_mounted old ≡ false → is_mounted new ≡ false → is_arm c ≡ false → Fits state its before.entries old → Mounted state its (flash_in old) new → IsFaultOrCut (state (flash_in new)) r → after ≡ record before { entries = [] } →
+    Serves state its c old (Ok r) new before after
+not_done state its c (session.Mounted s) new r before after off still no_arm fits mounts is empty = absurd (cc)
+not_done state its c (session.Unmounted flash) (session.Mounted t) r before after off still no_arm fits mounts is empty = absurd (cc)
+not_done {R = R} state its c (session.Unmounted flash) (session.Unmounted new) r before after off still no_arm fits mounts is empty = record {
+  fits = unmounted_check its (state flash) (state new) fits mounts.still;
+  serves = not_done_serves R state its c flash new r no_arm mounts is;
+  caches = unmounted_caches R state its flash new c r before after no_arm empty;
+  ends = tt;
+  size = ap (λ (x : CachedPages). x.page_bytes) empty;
+}

@@ -1,5 +1,5 @@
 -- After a cut the device is mounted again, or a fault more was counted.
-use Rattle.std.proofs.Common.{◌≡◌, ◌⊎◌, ℕ, ◌+◌, ◌≤◌, Bool, true, false, List, [], ◌∷◌, ◌++◌, refl, sym, ap, ◌∙◌, subst, inl, inr, arith}
+use Rattle.std.proofs.Common.{◌≡◌, ℕ, ◌+◌, ◌≤◌, Bool, List, [], ◌∷◌, ◌++◌, refl, ap, ◌∙◌, subst, inl, inr, arith}
 use Rattle.std.specs.Prelude.{count_by, MatchBool, if◌then◌else◌}
 use Rattle.std.proofs.lemmas.Bool.{cases_Bool}
 use Rattle.std.proofs.lemmas.List.Sums.{sum_by_push}
@@ -9,7 +9,7 @@ use Rattle.flash_model.specs.Calls.{Rose}
 use Rattle.flash_model.specs.Operations.{moment_of}
 use Rattle.host_protocol.specs.declared.reply.Reply.{Reply}
 use Rattle.host_protocol.specs.declared.reply.Reply.TheVariants as reply
-use Rattle.cut_replay.specs.Run.{RunState, is_break}
+use Rattle.cut_replay.specs.Run.{is_break}
 use Rattle.cut_replay.specs.FlashRun.{Point, opening_point, last_state}
 use Rattle.cut_replay.specs.Bounds.{CountsBreak}
 use Rattle.cut_replay.specs.MountedAgain.{IsMountedAgain, MountsAfter, FailedMounts, CountsMounts}

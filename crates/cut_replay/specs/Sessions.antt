@@ -1,5 +1,5 @@
 -- A flash on which commands are served, with its device while that is mounted.
-use Rattle.std.specs.Prelude.{◌≡◌, ◌⊎◌, ◌<◌, ◌≤◌, ◌+◌, ℕ, Bool, true, false, ◌||◌, List, [], IfSome, Result, Ok, Err}
+use Rattle.std.specs.Prelude.{◌≡◌, ◌⊎◌, ◌<◌, ◌≤◌, ◌+◌, ℕ, Bool, true, false, ◌||◌, List, [], IfSome, IfOk, IfErr, OnOk, Result, Ok, Err}
 use Rattle.std.specs.Prelude.{MatchBool, if◌then◌else◌}
 use Rattle.tx_types.specs.declared.config.Config.{Config}
 use Rattle.tx_types.specs.declared.config.Protocol.{Protocol}
@@ -37,6 +37,11 @@ use Rattle.cut_replay.specs.declared.serving.ServeError.TheVariants as failed
 abbrev pub flash_in : {F R : Type 0} → Session F R → F
 flash_in (session.Mounted s) = s.flash
 flash_in (session.Unmounted flash) = flash
+
+-- whether it has its device
+abbrev pub is_mounted : {F R : Type 0} → Session F R → Bool
+is_mounted (session.Mounted s) = true
+is_mounted (session.Unmounted flash) = false
 
 -- the point of a run that a session is at
 abbrev pub point_of : {F R : Type 0} → (F → FlashState) → Config → Session F R → Point
@@ -234,15 +239,31 @@ SetsArm state protocol sets (session.Unmounted old) (session.Mounted new) = ⊥
 
 -- What comes of a call of a device: nothing more where it is live still, and else a mount of its
 -- flash.
-abbrev pub MountsAgain : {F R : Type 0} → (F → FlashState) → Config → Standing F →
+abbrev pub MountsAgain : {F R : Type 0} → (F → FlashState) → Config → F →
     Result (Session F R × Reply) (Ended F) → Type 0
-MountsAgain state its s (Ok done) = Mounted state its s.flash done.0 × (done.1 ≡ reply.Cut)
-MountsAgain state its s (Err ended) = Unmounted state its s.flash ended.flash ended.why
+MountsAgain state its flash (Ok done) = Mounted state its flash done.0 × (done.1 ≡ reply.Cut)
+MountsAgain state its flash (Err ended) = Unmounted state its flash ended.flash ended.why
 
 pub record Follows {F R : Type 0}
-    (state : F → FlashState) (its : Config) (s : Standing F) (r : Reply)
+    (state : F → FlashState) (its : Config) (old : Session F R) (r : Reply)
     (result : Result (Session F R × Reply) (Ended F)) (before after : CachedPages) : Type 0 where
-  pub went_on : (state s.flash).live ≡ true →
-      (result ≡ Ok (session.Mounted s, r)) × (after ≡ before)
-  pub was_cut : (state s.flash).live ≡ false →
-      MountsAgain state its s result × (after ≡ record before { entries = [] })
+  pub went_on : (state (flash_in old)).live ≡ true → (result ≡ Ok (old, r)) × (after ≡ before)
+  pub was_cut : (state (flash_in old)).live ≡ false →
+      MountsAgain state its (flash_in old) result × (after ≡ record before { entries = [] })
+
+-- the session that is left with what was answered: it goes on, or ends with its flash
+abbrev pub left : {F R : Type 0} → Session F R → Result Reply ServeError →
+    Result (Session F R × Reply) (Ended F)
+left new (Ok r) = Ok (new, r)
+left new (Err why) = Err (record { flash = flash_in new; why = why })
+
+-- What serving a command leaves.
+pub record Serves {F R : Type 0}
+    (state : F → FlashState) (its : Config)
+    (c : Command) (old : Session F R) (result : Result Reply ServeError) (new : Session F R)
+    (before after : CachedPages) : Type 0 where
+  pub fits : OnOk result (Fits state its after.entries new)
+  pub serves : IfOk result (λ r. ServesSession state its c old r new)
+  pub caches : IfOk result (λ r. CachesSession state its c old r new before after)
+  pub ends : IfErr result (λ why. EndsServing state its c old (flash_in new) why)
+  pub size : after.page_bytes ≡ before.page_bytes

@@ -1,4 +1,4 @@
-ghost use Rattle.std.specs.Prelude.{◌≡◌, Ok, false, [], length, OnOk, IfOk, IfErr, All};
+ghost use Rattle.std.specs.Prelude.{◌≡◌, Ok, true, false, [], length, OnOk, IfOk, IfErr, All};
 ghost use Rattle.flash_model.specs.Operations.{moment_of};
 ghost use Rattle.tx_types.specs.Config.{checked};
 ghost use Rattle.flash_model.specs.Flash.{FlashState, IsSteady};
@@ -6,21 +6,20 @@ ghost use Rattle.host_protocol.specs.Commands.{Suits};
 ghost use Rattle.cut_replay.specs.Run.{is_arm};
 ghost use Rattle.cut_replay.specs.Bounds.{CountsBreaks};
 ghost use Rattle.cut_replay.specs.Mounted.{IsCached};
-ghost use Rattle.cut_replay.specs.Sessions.{flash_in, Fits, ServesSession, EndsServing, Unmounted};
-ghost use Rattle.cut_replay.specs.Sessions.{IsSoundFlash, IsSoundOrSame, CachesSession};
+ghost use Rattle.cut_replay.specs.Sessions.{flash_in, is_mounted, Fits, Serves, Unmounted};
+ghost use Rattle.cut_replay.specs.Sessions.{IsSoundFlash, IsSoundOrSame};
 ghost use Rattle.cut_replay.specs.Beginning.{Begins, MountsFirst};
 ghost use Rattle.cut_replay.specs.Served.{ServesSound, ServesUnsound, RefusesUnsound};
 
 use crate::Watch;
 use crate::doing::done;
-use crate::mounting::{followed, mount};
+use crate::mounting::{followed, mount, mount_again};
 use crate::session::{Ended, Session};
 use flash_model::{Arms, Power};
 use host_protocol::{Command, Reply};
 use page_cache::PageCache;
 use record_list::CommitRule;
 use std::alloc::Global;
-use tx_engine::Device;
 use tx_types::{Config, Memory, Slot};
 
 /// Why the commands were not all served.
@@ -38,63 +37,54 @@ pub enum ServeError {
 fn serve_mounted<F: Power, R: CommitRule>(
     alloc: Global,
     config: Config,
-    mut device: Device<F, R>,
+    session: &mut Session<F, R>,
     cache: &mut PageCache,
     room: &mut [u8],
     command: &Command,
-) -> Result<(Session<F, R>, Reply), Ended<F>>
+) -> Result<Reply, ServeError>
+    requires mounted { is_mounted session.old ≡ true }
     requires rule { config.protocol ≡ R.protocol }
-    requires fits { Fits {R = R} F.state config cache.old.entries (Session.Mounted device) }
+    requires fits { Fits F.state config cache.old.entries session.old }
     requires no_arm { is_arm command.now ≡ false }
     requires suits { Suits config.page_bytes command.now }
     requires room { length room.old ≡ config.page_bytes }
     requires size { cache.old.page_bytes ≡ config.page_bytes }
-    ensures fits { IfOk result (λ done. Fits {R = R} F.state config cache.new.entries done.0) }
-    ensures serves { IfOk result (λ done.
-        ServesSession F.state config command.now (Session.Mounted device) done.1 done.0) }
-    ensures caches { IfOk result (λ done. CachesSession F.state config command.now
-        (Session.Mounted device) done.1 done.0 cache.old cache.new) }
-    ensures ends { IfErr result (λ e.
-        EndsServing {R = R} F.state config command.now (Session.Mounted device) e.flash e.why) }
-    ensures size { cache.new.page_bytes ≡ cache.old.page_bytes }
+    ensures { Serves F.state config command.now session.old result session.new cache.old cache.new }
 {
-    match done(alloc, &mut device, cache, room, command) {
-        Ok(reply) => followed(alloc, config, device, cache, reply),
-        Err(_) => Err(Ended {
-            flash: device.close(),
-            why: ServeError::Memory,
-        }),
-    }
+    let Session::Mounted(device) = session else {
+        unreachable!();
+    };
+    let Ok(reply) = done(alloc, device, cache, room, command) else {
+        return Err(ServeError::Memory);
+    };
+    followed(alloc, config, session, cache, reply)
 }
 
 /// Serves a command that is no arm where the device is to be mounted first.
 fn serve_unmounted<F: Power, R: CommitRule>(
     alloc: Global,
     config: Config,
-    flash: F,
+    session: &mut Session<F, R>,
     cache: &mut PageCache,
     room: &mut [u8],
     command: &Command,
-) -> Result<(Session<F, R>, Reply), Ended<F>>
+) -> Result<Reply, ServeError>
+    requires unmounted { is_mounted session.old ≡ false }
     requires rule { config.protocol ≡ R.protocol }
-    requires check { checked config ≡ Ok (F.state flash).shape }
+    requires fits { Fits F.state config cache.old.entries session.old }
     requires no_arm { is_arm command.now ≡ false }
     requires suits { Suits config.page_bytes command.now }
     requires room { length room.old ≡ config.page_bytes }
     requires size { cache.old.page_bytes ≡ config.page_bytes }
-    ensures fits { IfOk result (λ done. Fits {R = R} F.state config cache.new.entries done.0) }
-    ensures serves { IfOk result (λ done.
-        ServesSession F.state config command.now (Session.Unmounted flash) done.1 done.0) }
-    ensures caches { IfOk result (λ done. CachesSession F.state config command.now
-        (Session.Unmounted flash) done.1 done.0 cache.old cache.new) }
-    ensures ends { IfErr result (λ e.
-        EndsServing {R = R} F.state config command.now (Session.Unmounted flash) e.flash e.why) }
-    ensures size { cache.new.page_bytes ≡ cache.old.page_bytes }
+    ensures { Serves F.state config command.now session.old result session.new cache.old cache.new }
 {
-    match mount(alloc, flash, config, cache)? {
-        Session::Mounted(device) => serve_mounted(alloc, config, device, cache, room, command),
-        Session::Unmounted(flash) if flash.live() => Ok((Session::Unmounted(flash), Reply::Fault)),
-        Session::Unmounted(flash) => Ok((Session::Unmounted(flash), Reply::Cut)),
+    mount_again(alloc, config, session, cache)?;
+    if session.is_mounted() {
+        serve_mounted(alloc, config, session, cache, room, command)
+    } else if session.flash().live() {
+        Ok(Reply::Fault)
+    } else {
+        Ok(Reply::Cut)
     }
 }
 
@@ -102,38 +92,33 @@ fn serve_unmounted<F: Power, R: CommitRule>(
 fn serve_one<F: Power + Arms, R: CommitRule>(
     alloc: Global,
     config: Config,
-    session: Session<F, R>,
+    session: &mut Session<F, R>,
     cache: &mut PageCache,
     room: &mut [u8],
     command: &Command,
-) -> Result<(Session<F, R>, Reply), Ended<F>>
+) -> Result<Reply, ServeError>
     requires rule { config.protocol ≡ R.protocol }
-    requires fits { Fits {R = R} F.state config cache.old.entries session }
+    requires fits { Fits F.state config cache.old.entries session.old }
     requires suits { Suits config.page_bytes command.now }
     requires room { length room.old ≡ config.page_bytes }
     requires size { cache.old.page_bytes ≡ config.page_bytes }
-    ensures fits { IfOk result (λ done. Fits {R = R} F.state config cache.new.entries done.0) }
-    ensures serves { IfOk result (λ done.
-        ServesSession F.state config command.now session done.1 done.0) }
-    ensures caches { IfOk result (λ done. CachesSession F.state config command.now
-        session done.1 done.0 cache.old cache.new) }
-    ensures ends { IfErr result (λ e.
-        EndsServing {R = R} F.state config command.now session e.flash e.why) }
-    ensures size { cache.new.page_bytes ≡ cache.old.page_bytes }
+    ensures { Serves F.state config command.now session.old result session.new cache.old cache.new }
 {
     match command {
-        Command::Cut { count, outcome } => Ok((session.with_cut(*count, *outcome), Reply::Armed)),
-        Command::Fault { count, outcome } => Ok((
-            session.with_fault(*count, *outcome),
-            Reply::Armed,
-        )),
-        Command::BadRead { count } => Ok((session.with_bad_read(*count), Reply::Armed)),
-        _ => match session {
-            Session::Mounted(device) => serve_mounted(alloc, config, device, cache, room, command),
-            Session::Unmounted(flash) => serve_unmounted(
-                alloc, config, flash, cache, room, command,
-            ),
-        },
+        Command::Cut { count, outcome } => {
+            session.arm_cut(*count, *outcome);
+            Ok(Reply::Armed)
+        }
+        Command::Fault { count, outcome } => {
+            session.arm_fault(*count, *outcome);
+            Ok(Reply::Armed)
+        }
+        Command::BadRead { count } => {
+            session.arm_bad_read(*count);
+            Ok(Reply::Armed)
+        }
+        _ if session.is_mounted() => serve_mounted(alloc, config, session, cache, room, command),
+        _ => serve_unmounted(alloc, config, session, cache, room, command),
     }
 }
 
@@ -169,14 +154,13 @@ fn serve_all<F: Power + Arms, R: CommitRule, W: Watch<F>>(
     ensures extras { (F.state result.0).extras ≡ (F.state (flash_in session)).extras }
 {
     for command in list {
-        match serve_one(alloc, config, session, cache, room, command) {
-            Ok((next, reply)) => {
-                session = next;
+        match serve_one(alloc, config, &mut session, cache, room, command) {
+            Ok(reply) => {
                 if out.tell(session.flash(), &reply).is_err() {
                     return (session.close(), Err(ServeError::Memory));
                 }
             }
-            Err(ended) => return (ended.flash, Err(ended.why)),
+            Err(why) => return (session.close(), Err(why)),
         }
     }
     (session.close(), Ok(()))
@@ -214,8 +198,9 @@ fn begin<F: Power, R: CommitRule>(
     ensures failed { IfErr result (λ e. Unmounted F.state config flash e.flash e.why) }
     ensures size { cache.new.page_bytes ≡ cache.old.page_bytes }
 {
+    cache.clear();
     if flash.live() {
-        mount(alloc, flash, config, cache)
+        mount(alloc, flash, config)
     } else {
         Ok(Session::Unmounted(flash))
     }

@@ -1,6 +1,6 @@
 ghost use Rattle.std.specs.Prelude.{◌≡◌, ◌≤◌};
 ghost use Rattle.flash_model.specs.Arms.{SetsCut, SetsFault, SetsBadRead};
-ghost use Rattle.cut_replay.specs.Sessions.{flash_in, SetsArm};
+ghost use Rattle.cut_replay.specs.Sessions.{flash_in, is_mounted, SetsArm};
 
 use crate::ServeError;
 use flash_model::{Arms, Flash, Outcome};
@@ -34,6 +34,13 @@ impl<F: Flash, R: CommitRule> Session<F, R> {
         }
     }
 
+    /// Whether its device is mounted.
+    pub fn is_mounted(&self) -> bool
+        ensures { result ≡ is_mounted self.now }
+    {
+        matches!(self, Session::Mounted(_))
+    }
+
     /// The flash, as it stands.
     pub fn close(self) -> F
         ensures { result ≡ flash_in self }
@@ -48,59 +55,47 @@ impl<F: Flash, R: CommitRule> Session<F, R> {
 impl<F: Arms, R: CommitRule> Session<F, R> {
     /// A program or an erase from now on, the one of this number from 1, will be cut with this
     /// outcome.
-    pub fn with_cut(self, count: u32, outcome: Outcome) -> Session<F, R>
+    pub fn arm_cut(&mut self, count: u32, outcome: Outcome)
         requires { 1 ≤ count }
         ensures { SetsArm F.state R.protocol (SetsCut (record { count = count; outcome = outcome }))
-            self result }
+            self.old self.new }
     {
         match self {
-            Session::Mounted(mut device) => {
+            Session::Mounted(device) => {
                 device.arm_cut(count, outcome);
-                held_always(&device);
-                Session::Mounted(device)
+                held_always(device);
             }
-            Session::Unmounted(mut flash) => {
-                flash.arm_cut(count, outcome);
-                Session::Unmounted(flash)
-            }
+            Session::Unmounted(flash) => flash.arm_cut(count, outcome),
         }
     }
 
     /// A program or an erase from now on, the one of this number from 1, will meet a fault with
     /// this outcome.
-    pub fn with_fault(self, count: u32, outcome: Outcome) -> Session<F, R>
+    pub fn arm_fault(&mut self, count: u32, outcome: Outcome)
         requires { 1 ≤ count }
         ensures { SetsArm F.state R.protocol (SetsFault (record { count = count; outcome = outcome }))
-            self result }
+            self.old self.new }
     {
         match self {
-            Session::Mounted(mut device) => {
+            Session::Mounted(device) => {
                 device.arm_fault(count, outcome);
-                held_always(&device);
-                Session::Mounted(device)
+                held_always(device);
             }
-            Session::Unmounted(mut flash) => {
-                flash.arm_fault(count, outcome);
-                Session::Unmounted(flash)
-            }
+            Session::Unmounted(flash) => flash.arm_fault(count, outcome),
         }
     }
 
     /// A read from now on, the one of this number from 1, will meet a fault.
-    pub fn with_bad_read(self, count: u32) -> Session<F, R>
+    pub fn arm_bad_read(&mut self, count: u32)
         requires { 1 ≤ count }
-        ensures { SetsArm F.state R.protocol (SetsBadRead count) self result }
+        ensures { SetsArm F.state R.protocol (SetsBadRead count) self.old self.new }
     {
         match self {
-            Session::Mounted(mut device) => {
+            Session::Mounted(device) => {
                 device.arm_bad_read(count);
-                held_always(&device);
-                Session::Mounted(device)
+                held_always(device);
             }
-            Session::Unmounted(mut flash) => {
-                flash.arm_bad_read(count);
-                Session::Unmounted(flash)
-            }
+            Session::Unmounted(flash) => flash.arm_bad_read(count),
         }
     }
 }

@@ -7,8 +7,12 @@ use Rattle.std.proofs.lemmas.Bool.{le-leb, lt-leb}
 use Rattle.hex.proofs.HexLemmas.{decode_of-ok}
 use Rattle.hex.specs.Hex.{decode_of}
 use Rattle.hex.specs.declared.error.FromHexError.{FromHexError}
-use Rattle.hex.specs.declared.error.FromHexError.TheVariants.{OutOfMemory, InvalidHexCharacter, OddLength, InvalidStringLength}
-use Rattle.host_protocol.specs.Reading.{Fails, error_of}
+use Rattle.std.specs.Prelude.{IfOk}
+use Rattle.std.specs.Option.{unwrap_or}
+use Rattle.std.specs.Result.{result_ok}
+use Rattle.host_protocol.specs.Reading.{AnswersAs}
+use Rattle.host_protocol.specs.declared.error.LineError.{LineError}
+use Rattle.host_protocol.specs.declared.error.LineError.TheVariants.{Bad, Memory}
 use Rattle.tx_types.specs.Batch.{padded}
 use Rattle.host_protocol.specs.Commands.{page_contents, contents_from, page_write_of, page_write_from, write_of_texts, is_equals}
 use Rattle.host_protocol.proofs.PartLemmas.{parts, split_some, split_none}
@@ -70,13 +74,13 @@ outside size bytes (inr more) =
     rw (le-leb 1 (length bytes) some, lt-leb (length bytes) size more) refl
 
 -- the digits of a page
-pub contents_ok : (size : ℕ) (text bytes : List ℕ) → bytes_eq text (codes "-") ≡ false → decode_of text ≡ Ok bytes
+contents_ok : (size : ℕ) (text bytes : List ℕ) → bytes_eq text (codes "-") ≡ false → decode_of text ≡ Ok bytes
     → length text ≢ 0 → length text / 2 ≤ size → page_contents size text ≡ Some (padded size bytes)
 contents_ok size text bytes other h some most =
     let twice : length text ≡ 2 * length bytes = (decode_of-ok text bytes h).2 in
     contents_hex size text bytes other h ∙ within size bytes (omega arith) (omega arith)
 
-pub contents_length : (size : ℕ) (text bytes : List ℕ) → decode_of text ≡ Ok bytes → length text / 2 ≤ size → length bytes ≤ size
+contents_length : (size : ℕ) (text bytes : List ℕ) → decode_of text ≡ Ok bytes → length text / 2 ≤ size → length bytes ≤ size
 contents_length size text bytes h most =
     let twice : length text ≡ 2 * length bytes = (decode_of-ok text bytes h).2 in omega arith
 
@@ -84,14 +88,6 @@ contents_length size text bytes h most =
 contents_err : (size : ℕ) (text : List ℕ) (e : FromHexError) → bytes_eq text (codes "-") ≡ false → decode_of text ≡ Err e → page_contents size text ≡ None
 unfolding page_contents
 contents_err size text e other h = rw (other, h) refl
-
-pub contents_fails : (size : ℕ) (text : List ℕ) (e : FromHexError) → bytes_eq text (codes "-") ≡ false → (e ≡ OutOfMemory) ⊎ (decode_of text ≡ Err e)
-    → Fails (error_of e) (page_contents size text)
-contents_fails size text OutOfMemory other h = tt
-contents_fails size text e other (inl h) = absurd (cc)
-contents_fails size text (InvalidHexCharacter c i) other (inr h) = contents_err size text (InvalidHexCharacter c i) other h
-contents_fails size text OddLength other (inr h) = contents_err size text OddLength other h
-contents_fails size text InvalidStringLength other (inr h) = contents_err size text InvalidStringLength other h
 
 by_decoding : (size : ℕ) (text : List ℕ) → bytes_eq text (codes "-") ≡ false → (length text ≡ 0) ⊎ (size < length text / 2)
     → (r : Result (List ℕ) FromHexError) → decode_of text ≡ r → page_contents size text ≡ None
@@ -103,3 +99,24 @@ by_decoding size text other out (Err e) h = contents_err size text e other h
 -- no digits, or too many
 pub contents_out : (size : ℕ) (text : List ℕ) → bytes_eq text (codes "-") ≡ false → (length text ≡ 0) ⊎ (size < length text / 2) → page_contents size text ≡ None
 contents_out size text other out = by_decoding size text other out (decode_of text) refl
+
+is_decoded : (d : Result (List ℕ) FromHexError) (bytes : List ℕ) → result_ok d ≡ Some bytes → d ≡ Ok bytes
+is_decoded (Ok x) bytes h = ap (λ o. Ok (unwrap_or o x)) h
+is_decoded (Err e) bytes h = absurd (cc)
+
+not_decoded : (size : ℕ) (text : List ℕ) → bytes_eq text (codes "-") ≡ false → result_ok (decode_of text) ≡ None → page_contents size text ≡ None
+unfolding page_contents
+not_decoded size text other h = rw (other, h) refl
+
+-- what the digits tell is the contents of the page
+pub contents_as : {X : Type 0} (view : X → List ℕ) (size : ℕ) (text : List ℕ) (r : Result X LineError)
+    → bytes_eq text (codes "-") ≡ false → length text ≢ 0 → length text / 2 ≤ size
+    → AnswersAs view r (result_ok (decode_of text)) → AnswersAs (λ x. padded size (view x)) r (page_contents size text)
+contents_as view size text (Ok x) other some most h = contents_ok size text (view x) other (is_decoded (decode_of text) (view x) h) some most
+contents_as view size text (Err Bad) other some most h = not_decoded size text other h
+contents_as view size text (Err Memory) other some most h = tt
+
+pub contents_within : {X : Type 0} (view : X → List ℕ) (size : ℕ) (text : List ℕ) (r : Result X LineError) → length text / 2 ≤ size
+    → AnswersAs view r (result_ok (decode_of text)) → IfOk r (λ x. length (view x) ≤ size)
+contents_within view size text (Ok x) most h = contents_length size text (view x) (is_decoded (decode_of text) (view x) h) most
+contents_within view size text (Err e) most h = tt

@@ -7,4 +7,5 @@ pub mod PartLemmas
 pub mod ReadingLemmas
 pub mod ReplyLemmas
 pub mod WordLemmas
+mod HexLemmas
 mod SearchLemmas

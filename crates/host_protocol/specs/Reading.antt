@@ -1,7 +1,5 @@
 -- What reading a part of a line gave.
 use Rattle.std.specs.Prelude.{◌≡◌, ◌<◌, ◌≤◌, true, ℕ, List, length, map, Option, Some, None, Result, Ok, Err}
-use Rattle.hex.specs.declared.error.FromHexError.{FromHexError}
-use Rattle.hex.specs.declared.error.FromHexError.TheVariants.{OutOfMemory}
 use Rattle.tx_types.specs.Batch.{PageWrite, Writes}
 use Rattle.host_protocol.specs.Commands.{page_write_of, verb_of, AreOperands, IsCommand, AreWriteOperands}
 use Rattle.host_protocol.specs.Files.{entries_in, is_command_line, IsFirstBad}
@@ -13,11 +11,6 @@ use Rattle.host_protocol.specs.declared.command.Command.TheVariants as command
 use Rattle.host_protocol.specs.declared.verb.Verb.{Verb}
 use Rattle.host_protocol.specs.declared.error.LineError.{LineError}
 use Rattle.host_protocol.specs.declared.error.LineError.TheVariants.{Bad, Memory}
-
--- a text that is no digits makes a bad line
-abbrev pub error_of : FromHexError → LineError
-error_of OutOfMemory = Memory
-error_of _ = Bad
 
 -- nothing is read, unless memory ran out
 abbrev pub Fails : {Y : Type 0} → LineError → Option Y → Type 0

@@ -5,6 +5,7 @@ ghost use Rattle.host_protocol.specs.Commands.{page_contents, page_write_of, wri
 ghost use Rattle.host_protocol.specs.Reading.{AnswersAs};
 
 use crate::error::LineError;
+use crate::hexadecimal::decoded;
 use crate::numbers::number;
 use memchr::memchr;
 use std::alloc::Global;
@@ -69,5 +70,5 @@ fn contents(alloc: Global, text: &[u8], page_bytes: u32) -> Result<Vec<u8>, Line
     if text.is_empty() || text.len() / 2 > page_bytes as usize {
         return Err(LineError::Bad);
     }
-    Ok(hex::decode(alloc, text)?)
+    decoded(alloc, text)
 }

@@ -1,9 +1,7 @@
 ghost use Rattle.std.specs.Prelude.{◌≡◌};
-ghost use Rattle.host_protocol.specs.Reading.{error_of, text_error};
+ghost use Rattle.host_protocol.specs.Reading.{text_error};
 ghost use Rattle.host_protocol.specs.declared.error.LineError.TheVariants.{Memory};
 ghost use Rattle.host_protocol.specs.declared.error.TextError.TheVariants as text;
-
-use hex::FromHexError;
 
 /// Why a line gave no command.
 #[derive(Clone, Copy, Debug)]
@@ -28,17 +26,6 @@ impl From<tx_types::Memory> for LineError {
 
     fn from(_: tx_types::Memory) -> Self {
         LineError::Memory
-    }
-}
-
-impl From<FromHexError> for LineError {
-    ghost from_gives = { λ e found. found ≡ error_of e };
-
-    fn from(e: FromHexError) -> Self {
-        match e {
-            FromHexError::OutOfMemory => LineError::Memory,
-            _ => LineError::Bad,
-        }
     }
 }
 

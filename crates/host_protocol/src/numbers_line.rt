@@ -7,7 +7,7 @@ use itoa::Buffer;
 use tx_types::Memory;
 
 /// The most bytes of a number of 32 bits with a space before it.
-const NUMBER_BYTES: usize = 11;
+pub(crate) const NUMBER_BYTES: usize = 11;
 
 /// Appends the line of these words and of the numbers behind them, or nothing where there is no memory.
 pub fn add_line(words: &[u8], numbers: &[u32], out: &mut Vec<u8>) -> Result<(), Memory>
@@ -26,7 +26,7 @@ pub fn add_line(words: &[u8], numbers: &[u32], out: &mut Vec<u8>) -> Result<(), 
 }
 
 /// Appends a space and a number, for which there is room.
-fn add_number(number: u32, out: &mut Vec<u8>)
+pub fn add_number(number: u32, out: &mut Vec<u8>)
     requires { vec_len out.old + NUMBER_BYTES ≤ vec_capacity out.old }
     ensures items { out.new.items ≡ out.old.items ++ 32 ∷ decimal number }
     ensures len { vec_len out.new ≤ vec_len out.old + NUMBER_BYTES }

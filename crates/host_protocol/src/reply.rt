@@ -1,8 +1,9 @@
 ghost use Rattle.std.specs.Prelude.{◌≡◌, ◌++◌, IfOk, IsOkAnd, OnOk, OnErr};
 ghost use Rattle.std.specs.String.{string_bytes};
-ghost use Rattle.host_protocol.specs.Replies.{text_of, line_of, page_words, stats_words, flash_stats};
+ghost use Rattle.host_protocol.specs.Replies.{text_of, line_of, stats_words, flash_stats};
 
 use crate::numbers_line::add_line;
+use crate::page_line::add_page;
 use std::alloc::{AllocError, Global};
 use tx_types::{Bytes, Memory, Stats};
 
@@ -62,7 +63,7 @@ pub fn reply_text(alloc: Global, reply: &Reply, out: &mut Vec<u8>) -> Result<(),
 {
     match reply {
         Reply::Blank(page) => add_line(b"blank", &[*page], out),
-        Reply::Page(page, bytes) => push(page_line(alloc, *page, bytes.as_slice()), out),
+        Reply::Page(page, bytes) => add_page(*page, bytes.as_slice(), out),
         Reply::Opened(tag, pages) => add_line(b"open", &[*tag, *pages], out),
         Reply::Wrote(tag, done, all) => add_line(b"wrote", &[*tag, *done, *all], out),
         Reply::Done(tag) => add_line(b"done", &[*tag], out),
@@ -101,14 +102,6 @@ fn push(line: Result<String, AllocError>, out: &mut Vec<u8>) -> Result<(), Memor
     ensures err { OnErr result (out.new.items ≡ out.old.items) }
 {
     append(line?.as_bytes(), out)
-}
-
-/// The line of a page with its contents.
-fn page_line(alloc: Global, page: u32, bytes: &[u8]) -> Result<String, AllocError>
-    ensures { IfOk result (λ l. string_bytes l ≡ line_of (page_words page bytes.now)) }
-{
-    let digits = hex::encode(alloc, bytes)?;
-    format!(in alloc; "page {page} {digits}\n")
 }
 
 /// The line of the numbers of a device.

@@ -6,6 +6,7 @@ ghost use Rattle.host_protocol.specs.Commands.{Suits};
 ghost use Rattle.host_protocol.specs.Files.{IsFile};
 ghost use Rattle.host_protocol.specs.declared.file.TheConstants.{MAX_FILE_BYTES};
 ghost use Rattle.version_index.specs.Images.{IsSoundImage, records_in};
+ghost use Rattle.version_index.specs.Notes.{found_in};
 ghost use Rattle.verdict_report.specs.Report.{report};
 ghost use Rattle.txflash.specs.Runs.{IsRun, blank_image, default_config};
 ghost use Rattle.txflash.specs.Steps.{ReadsImage};
@@ -18,7 +19,7 @@ use cut_replay::{Lines, ServeError, serve};
 use host_protocol::{Command, TextError, parse};
 use image_file::{ImageError, take_image};
 use mem_flash::MemFlash;
-use record_list::CommitRule;
+use record_list::{CommitRule, Found};
 use scc_commit::Scc;
 use std::alloc::Global;
 use tx_engine::laws::devices_stand;
@@ -170,10 +171,17 @@ fn explained_by<R: CommitRule>(
     let device = opened::<R>(alloc, flash, config)?;
     devices_stand::<MemFlash, R>();
     let _ = device.config();
-    let found = device.found()?;
+    let found = records_of(device)?;
     let mut text = Vec::new(alloc);
     explain::<R>(alloc, &found, config.logical, &mut text)?;
     Ok(text)
+}
+
+/// The records that a device found, which is given up.
+fn records_of<R: CommitRule>(device: Device<MemFlash, R>) -> Result<Vec<Found>, Memory>
+    ensures { IfOk result (λ found. found.items ≡ found_in device.noted.notes) }
+{
+    device.found()
 }
 
 /// A device that is opened from its flash.

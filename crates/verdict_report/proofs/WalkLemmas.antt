@@ -7,7 +7,7 @@ use Rattle.tx_types.specs.declared.config.Protocol.{Protocol}
 use Rattle.record_list.specs.declared.found.Found.{Found}
 use Rattle.record_list.specs.declared.found.Why.TheVariants.{Cycle, Absent}
 use Rattle.record_list.specs.Records.{is_same}
-use Rattle.record_list.specs.Verdict.{newest_name, link_of, passed, is_ahead, is_behind, walk, why}
+use Rattle.record_list.specs.Verdict.{newest_name, link_of, passed, is_ahead, is_behind, walk}
 use Rattle.verdict_report.specs.Walks.{is_end, walk_links, links_of, why_by_last_link, IsDecidingWalk}
 
 -- the last of a link and those after it

@@ -2,6 +2,7 @@
 #![tactic(auto)]
 
 mod line;
+mod number;
 mod records;
 mod report;
 #[cfg(test)]

@@ -1,10 +1,10 @@
 ghost use Rattle.std.specs.Prelude.{◌≡◌, ◌++◌, Some, IfOk, OnOk, OnErr, length};
-ghost use Rattle.std.specs.String.{string_bytes};
 ghost use Rattle.verdict_report.specs.Report.{pages, verdict_line, last_line, report};
 ghost use Rattle.verdict_report.specs.Newest.{IsNewestRecord};
 ghost use Rattle.verdict_report.specs.Lines.{line_text};
 
 use crate::line::Line;
+use crate::number::add_number;
 use crate::records::Records;
 use crate::walk::Walk;
 use record_list::{CommitRule, Found};
@@ -32,9 +32,13 @@ pub fn explain<R: CommitRule>(
     ensures text { OnOk result (out.new.items ≡ out.old.items ++ report R.protocol list.now logical) }
     ensures err { OnErr result (out.new.items ≡ out.old.items) }
 {
-    let mut text = String::new(alloc);
+    let mut text = Vec::new(alloc);
     let count = write_report(alloc, R::protocol(), list, logical, &mut text)?;
-    out.extend_from_slice(text.as_bytes())?;
+    if out.is_empty() {
+        *out = text;
+    } else {
+        out.extend_from_slice(&text)?;
+    }
     Ok(count)
 }
 
@@ -44,11 +48,11 @@ fn write_report(
     protocol: Protocol,
     list: &[Found],
     logical: u32,
-    text: &mut String,
+    text: &mut Vec<u8>,
 ) -> Result<u32, Memory>
     ensures count { IfOk result (λ n. n ≡ length (pages list.now logical)) }
-    ensures text { OnOk result (string_bytes text.new
-        ≡ string_bytes text.old ++ report protocol list.now logical) }
+    ensures text { OnOk result (text.new.items
+        ≡ text.old.items ++ report protocol list.now logical) }
 {
     let records = Records::new(alloc, list)?;
     let mut count = 0;
@@ -64,10 +68,12 @@ fn write_report(
 }
 
 /// Appends the last line of a report on so many pages.
-fn write_last(count: u32, text: &mut String) -> Result<(), AllocError>
-    ensures { OnOk result (string_bytes text.new ≡ string_bytes text.old ++ last_line count) }
+fn write_last(count: u32, text: &mut Vec<u8>) -> Result<(), AllocError>
+    ensures { OnOk result (text.new.items ≡ text.old.items ++ last_line count) }
 {
-    writeln!(text, "explained {count}")
+    text.extend_from_slice(b"explained ")?;
+    add_number(u64::from(count), text)?;
+    text.extend_from_slice(b"\n")
 }
 
 /// What the report says of a page, from its newest record.

@@ -48,7 +48,8 @@ fn first_links(
 {
     let start = records.newest_name(page);
     let mut last = records.newest_link(page);
-    let mut links = vec![in alloc; last]?;
+    let mut links = Vec::with_capacity(alloc, SHOWN_LINKS as usize)?;
+    links.push(last)?;
     for _turn in 0..logical.min(SHOWN_LINKS - 1) {
         let Some(link) = records.next_link(start, last) else {
             break;

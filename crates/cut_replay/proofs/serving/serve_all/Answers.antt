@@ -6,7 +6,7 @@ use Rattle.host_protocol.specs.declared.command.Command.{Command}
 use Rattle.flash_model.specs.Operations.{moment_of}
 use Rattle.cut_replay.specs.Served.{Watched, ServesUnsound}
 use Rattle.cut_replay.specs.declared.serving.ServeError.TheVariants as failed
-use Rattle.cut_replay.specs.Sessions.{flash_in, IsSoundOrSame}
+use Rattle.cut_replay.specs.Sessions.{flash_in, IsSoundOrSame, EndsServing}
 use Rattle.cut_replay.specs.Watching.{Grew}
 use Rattle.cut_replay.proofs.Progress.{HasServed, StaysUnmounted, moment_stays, unmounted_none, unmounted_more, unmounted_in, ended_counts, unmounted_to_the_end, served_none, served_more, next_of, ended_in, untold_in, served_to_the_end, kept_more, refused_in, on_ok, on_err}
 use Rattle.cut_replay.proofs.Begun.{fits_shape}
@@ -26,7 +26,7 @@ loop-command-init g c = record {
 pub returns-then-is_err-clause-serves : goal.returns-then-is_err-clause-serves
 returns-then-is_err-clause-serves g c = λ init begins.
     let none = on_err _ c.tell.result (sym c.is_err.ensures.value ∙ c.if-is_err.true) c.tell.ensures.err in
-    untold_in g.F.Flash.state c.args.config init c.args.list.now c.loop-command.command-index c.command-item.result c.in-Ok.reply c.loop-command.session c.in-Ok.next c.close.result
+    untold_in g.F.Flash.state c.args.config init c.args.list.now c.loop-command.command-index c.command-item.result c.in-Ok.reply c.loop-command.session c.serve_one.new.session c.close.result
     (record { text = g.W.Watch.text c.args.out.now; kept = g.W.Watch.kept c.args.out.now })
     (record { text = g.W.Watch.text c.loop-command.out; kept = g.W.Watch.kept c.loop-command.out })
     (record { text = g.W.Watch.text c.tell.new.self; kept = g.W.Watch.kept c.tell.new.self })
@@ -34,20 +34,22 @@ returns-then-is_err-clause-serves g c = λ init begins.
 
 pub returns-in-Err-clause-serves : goal.returns-in-Err-clause-serves
 returns-in-Err-clause-serves g c = λ init begins.
-    ended_in g.F.Flash.state c.args.config init c.args.list.now c.loop-command.command-index c.command-item.result c.loop-command.session c.in-Err.ended.flash c.in-Err.ended.why
+    ended_in g.F.Flash.state c.args.config init c.args.list.now c.loop-command.command-index c.command-item.result c.loop-command.session c.close-in-Err.result c.in-Err.why
     (record { text = g.W.Watch.text c.args.out.now; kept = g.W.Watch.kept c.args.out.now })
     (record { text = g.W.Watch.text c.loop-command.out; kept = g.W.Watch.kept c.loop-command.out })
-    c.loop-command-test.true c.command-item.is (c.loop-command.invariant.served init begins) c.in-Err.ensures.ends
+    c.loop-command-test.true c.command-item.is (c.loop-command.invariant.served init begins)
+    (subst (λ flash. EndsServing {R = g.row.R.Denot} g.F.Flash.state c.args.config c.command-item.result c.loop-command.session flash c.in-Err.why) (sym c.close-in-Err.ensures) c.in-Err.ensures.ends)
 
 pub returns-in-Err-clause-refuses : goal.returns-in-Err-clause-refuses
 returns-in-Err-clause-refuses g c = λ init kept.
-    refused_in g.F.Flash.state c.args.config init c.command-item.result c.loop-command.session c.in-Err.ended.flash c.in-Err.ended.why
-    (c.loop-command.invariant.kept init kept) c.in-Err.ensures.ends
+    refused_in g.F.Flash.state c.args.config init c.command-item.result c.loop-command.session c.close-in-Err.result c.in-Err.why
+    (c.loop-command.invariant.kept init kept)
+    (subst (λ flash. EndsServing {R = g.row.R.Denot} g.F.Flash.state c.args.config c.command-item.result c.loop-command.session flash c.in-Err.why) (sym c.close-in-Err.ensures) c.in-Err.ensures.ends)
 
 pub returns-then-is_err-clause-refuses : goal.returns-then-is_err-clause-refuses
 returns-then-is_err-clause-refuses g c = λ init kept.
     subst (λ flash. IsSoundOrSame c.args.config init (g.F.Flash.state flash)) (sym c.close.ensures)
-    (kept_more c.args.config init (g.F.Flash.state (flash_in c.loop-command.session)) (g.F.Flash.state (flash_in c.in-Ok.next))
+    (kept_more c.args.config init (g.F.Flash.state (flash_in c.loop-command.session)) (g.F.Flash.state (flash_in c.serve_one.new.session))
     (c.loop-command.invariant.kept init kept) c.in-Ok.ensures.serves.kept)
 
 pub returns-clause-refuses : goal.returns-clause-refuses
@@ -57,12 +59,12 @@ returns-clause-refuses g c = λ init kept.
 pub returns-then-is_err-clause-shape : goal.returns-then-is_err-clause-shape
 returns-then-is_err-clause-shape g c =
     subst (λ flash. checked c.args.config ≡ Ok (g.F.Flash.state flash).shape) (sym c.close.ensures)
-    (fits_shape g.F.Flash.state c.args.config c.serve_one.new.cache.entries c.in-Ok.next c.in-Ok.ensures.fits)
+    (fits_shape g.F.Flash.state c.args.config c.serve_one.new.cache.entries c.serve_one.new.session c.in-Ok.ensures.fits)
 
 pub returns-in-Err-clause-shape : goal.returns-in-Err-clause-shape
 returns-in-Err-clause-shape g c =
     fits_shape g.F.Flash.state c.args.config c.loop-command.cache.entries c.loop-command.session c.loop-command.invariant.fits
-    ∙ ap (λ (x : Shape). Ok x) (sym c.in-Err.ensures.ends.shape)
+    ∙ ap (λ (x : Shape). Ok x) (sym (ap (λ flash. (g.F.Flash.state flash).shape) c.close-in-Err.ensures ∙ c.in-Err.ensures.ends.shape))
 
 pub loop-command-preserved : goal.loop-command-preserved
 loop-command-preserved g c =
@@ -77,22 +79,22 @@ loop-command-preserved g c =
     let told = sym c.is_err.ensures.value ∙ c.if-is_err.false in
     record {
       fits = c.in-Ok.ensures.fits;
-      size = c.serve_one.ensures.size ∙ c.loop-command.invariant.size;
+      size = c.in-Ok.ensures.size ∙ c.loop-command.invariant.size;
       room = c.serve_one.auto.room ∙ c.loop-command.invariant.room;
       served = λ init begins.
           let text = on_ok _ c.tell.result told c.tell.ensures.text in
           let kept = on_ok _ c.tell.result told c.tell.ensures.kept in
-          subst (λ (cs : List Command). HasServed state its init cs c.in-Ok.next before after) (sym (next_of list at command c.loop-command-test.true c.command-item.is))
-          (served_more state its init (take at list) command c.in-Ok.reply c.loop-command.session c.in-Ok.next before between after (c.loop-command.invariant.served init begins) c.in-Ok.ensures.serves text
+          subst (λ (cs : List Command). HasServed state its init cs c.serve_one.new.session before after) (sym (next_of list at command c.loop-command-test.true c.command-item.is))
+          (served_more state its init (take at list) command c.in-Ok.reply c.loop-command.session c.serve_one.new.session before between after (c.loop-command.invariant.served init begins) c.in-Ok.ensures.serves text
           (subst (λ flash. Grew between.kept after.kept (record { text = text_of c.in-Ok.reply; moment = moment_of (state flash) } ∷ [])) c.flash.ensures kept));
-      kept = λ init kept. kept_more its init (state (flash_in c.loop-command.session)) (state (flash_in c.in-Ok.next))
+      kept = λ init kept. kept_more its init (state (flash_in c.loop-command.session)) (state (flash_in c.serve_one.new.session))
           (c.loop-command.invariant.kept init kept) c.in-Ok.ensures.serves.kept;
       extras = c.in-Ok.ensures.serves.extras ∙ c.loop-command.invariant.extras;
       unsound = λ init unsound same counted.
           let text = on_ok _ c.tell.result told c.tell.ensures.text in
           let kept = on_ok _ c.tell.result told c.tell.ensures.kept in
-          subst (λ (cs : List Command). StaysUnmounted cs init (state (flash_in c.in-Ok.next)) before after) (sym (next_of list at command c.loop-command-test.true c.command-item.is))
-          (unmounted_more state its init (take at list) command c.in-Ok.reply c.loop-command.session c.in-Ok.next before between after unsound (c.loop-command.invariant.unsound init unsound same counted) c.in-Ok.ensures.serves text
+          subst (λ (cs : List Command). StaysUnmounted cs init (state (flash_in c.serve_one.new.session)) before after) (sym (next_of list at command c.loop-command-test.true c.command-item.is))
+          (unmounted_more state its init (take at list) command c.in-Ok.reply c.loop-command.session c.serve_one.new.session before between after unsound (c.loop-command.invariant.unsound init unsound same counted) c.in-Ok.ensures.serves text
           (subst (λ flash. Grew between.kept after.kept (record { text = text_of c.in-Ok.reply; moment = moment_of (state flash) } ∷ [])) c.flash.ensures kept));
     }
 
@@ -106,7 +108,7 @@ returns-then-is_err-clause-unsound g c = λ init unsound same counted.
     (record { text = g.W.Watch.text c.loop-command.out; kept = g.W.Watch.kept c.loop-command.out })
     (record { text = g.W.Watch.text c.tell.new.self; kept = g.W.Watch.kept c.tell.new.self }) failed.Memory stays
     (subst (λ flash. moment_of (state flash) ≡ moment_of init) (sym c.close.ensures)
-    (moment_stays c.args.config init (state (flash_in c.loop-command.session)) (state (flash_in c.in-Ok.next)) unsound stays.still c.in-Ok.ensures.serves.kept))
+    (moment_stays c.args.config init (state (flash_in c.loop-command.session)) (state (flash_in c.serve_one.new.session)) unsound stays.still c.in-Ok.ensures.serves.kept))
     none.0 none.1 tt
 
 pub returns-in-Err-clause-unsound : goal.returns-in-Err-clause-unsound
@@ -114,11 +116,12 @@ returns-in-Err-clause-unsound g c = λ init unsound same counted.
     let state = g.F.Flash.state in
     let stays = c.loop-command.invariant.unsound init unsound same counted in
     let between : Watched = record { text = g.W.Watch.text c.loop-command.out; kept = g.W.Watch.kept c.loop-command.out } in
-    unmounted_in init (state (flash_in c.loop-command.session)) (state c.in-Err.ended.flash) c.args.list.now c.loop-command.command-index
-    (record { text = g.W.Watch.text c.args.out.now; kept = g.W.Watch.kept c.args.out.now }) between between c.in-Err.ended.why stays
-    (moment_stays c.args.config init (state (flash_in c.loop-command.session)) (state c.in-Err.ended.flash) unsound stays.still c.in-Err.ensures.ends.kept)
+    let ends = subst (λ flash. EndsServing {R = g.row.R.Denot} state c.args.config c.command-item.result c.loop-command.session flash c.in-Err.why) (sym c.close-in-Err.ensures) c.in-Err.ensures.ends in
+    unmounted_in init (state (flash_in c.loop-command.session)) (state c.close-in-Err.result) c.args.list.now c.loop-command.command-index
+    (record { text = g.W.Watch.text c.args.out.now; kept = g.W.Watch.kept c.args.out.now }) between between c.in-Err.why stays
+    (moment_stays c.args.config init (state (flash_in c.loop-command.session)) (state c.close-in-Err.result) unsound stays.still ends.kept)
     refl refl
-    (ended_counts state c.args.config init stays.replies c.command-item.result c.loop-command.session c.in-Err.ended.flash c.in-Err.ended.why stays.faults c.in-Err.ensures.ends)
+    (ended_counts state c.args.config init stays.replies c.command-item.result c.loop-command.session c.close-in-Err.result c.in-Err.why stays.faults ends)
 
 pub returns-clause-unsound : goal.returns-clause-unsound
 returns-clause-unsound g c = λ init unsound same counted.
@@ -146,7 +149,7 @@ returns-then-is_err-clause-extras g c =
     ∙ c.in-Ok.ensures.serves.extras ∙ c.loop-command.invariant.extras
 
 pub returns-in-Err-clause-extras : goal.returns-in-Err-clause-extras
-returns-in-Err-clause-extras g c = c.in-Err.ensures.ends.extras ∙ c.loop-command.invariant.extras
+returns-in-Err-clause-extras g c = ap (λ flash. (g.F.Flash.state flash).extras) c.close-in-Err.ensures ∙ c.in-Err.ensures.ends.extras ∙ c.loop-command.invariant.extras
 
 pub returns-clause-extras : goal.returns-clause-extras
 returns-clause-extras g c = ap (λ flash. (g.F.Flash.state flash).extras) c.close-2.ensures ∙ c.loop-command.invariant.extras

@@ -1,39 +1,21 @@
-use Rattle.std.proofs.Common.{refl, inl, inr, sym, ◌∙◌}
-use Rattle.cut_replay.proofs.Lifted.{is_mounted, is_unmounted, lifted_result, lifted_error, lifted_cache, unmounted_caches, not_done_serves}
+use Rattle.std.proofs.Common.{refl, sym, ap, inl, inr, ◌∙◌}
 use Rattle.host_protocol.specs.declared.reply.Reply.TheVariants.{Fault, Cut}
+use Rattle.cut_replay.proofs.Lifted.{lifted, not_done}
 use Rattle.cut_replay.proofs.serving.serve_unmounted.Goals as goal
 
-pub returns-in-Mounted-clause-serves : goal.returns-in-Mounted-clause-serves
-returns-in-Mounted-clause-serves g c =
-    lifted_result g.F.Flash.state c.args.config c.args.flash c.in-Mounted.device c.args.command.now c.serve_mounted.result c.requires.no_arm
-    (is_mounted g.F.Flash.state c.args.config c.args.flash c.in_ok-device.field-0 c.in-Mounted.device c.in_ok-device.ensures.mounted c.in-Mounted.is) c.serve_mounted.ensures.serves
+pub returns-then-is_mounted : goal.returns-then-is_mounted
+returns-then-is_mounted g c =
+    lifted g.F.Flash.state c.args.config c.args.command.now c.args.session.now c.mount_again.new.session c.serve_mounted.result c.serve_mounted.new.session c.args.cache.now c.mount_again.new.cache c.serve_mounted.new.cache
+    c.requires.unmounted (sym c.is_mounted.ensures ∙ c.if-is_mounted.true) c.requires.no_arm c.in_ok-mount_again.ensures.mounted c.mount_again.ensures.cache c.serve_mounted.ensures
 
-pub returns-in-Mounted-clause-ends : goal.returns-in-Mounted-clause-ends
-returns-in-Mounted-clause-ends g c =
-    lifted_error g.F.Flash.state c.args.config c.args.flash c.in-Mounted.device c.args.command.now c.serve_mounted.result c.requires.no_arm
-    (is_mounted g.F.Flash.state c.args.config c.args.flash c.in_ok-device.field-0 c.in-Mounted.device c.in_ok-device.ensures.mounted c.in-Mounted.is) c.serve_mounted.ensures.ends
+pub returns-then-live : goal.returns-then-live
+returns-then-live g c =
+    not_done g.F.Flash.state c.args.config c.args.command.now c.args.session.now c.mount_again.new.session Fault c.args.cache.now c.mount_again.new.cache
+    c.requires.unmounted (sym c.is_mounted.ensures ∙ c.if-is_mounted.false) c.requires.no_arm c.requires.fits c.in_ok-mount_again.ensures.mounted
+    (inl (refl, sym (c.live.ensures ∙ ap (λ f. (g.F.Flash.state f).live) c.flash.ensures) ∙ c.if-live.true)) c.mount_again.ensures.cache
 
-pub returns-in-Unmounted-clause-serves : goal.returns-in-Unmounted-clause-serves
-returns-in-Unmounted-clause-serves g c =
-    not_done_serves _ g.F.Flash.state c.args.config c.args.command.now c.args.flash c.in-Unmounted.flash Fault c.requires.no_arm
-    (is_unmounted g.F.Flash.state c.args.config c.args.flash c.in_ok-device.field-0 c.in-Unmounted.flash c.in_ok-device.ensures.mounted c.in-Unmounted.is)
-    (inl (refl, sym c.live.ensures ∙ c.if-live.true))
-
-pub returns-in-Unmounted-2-clause-serves : goal.returns-in-Unmounted-2-clause-serves
-returns-in-Unmounted-2-clause-serves g c =
-    not_done_serves _ g.F.Flash.state c.args.config c.args.command.now c.args.flash c.in-Unmounted.flash Cut c.requires.no_arm
-    (is_unmounted g.F.Flash.state c.args.config c.args.flash c.in_ok-device.field-0 c.in-Unmounted.flash c.in_ok-device.ensures.mounted c.in-Unmounted.is)
-    (inr (refl, sym c.live.ensures ∙ c.if-live.false))
-
-pub returns-in-Mounted-clause-caches : goal.returns-in-Mounted-clause-caches
-returns-in-Mounted-clause-caches g c =
-    lifted_cache g.F.Flash.state c.args.config c.args.flash c.in-Mounted.device c.args.command.now c.serve_mounted.result c.args.cache.now c.mount.new.cache c.serve_mounted.new.cache c.requires.no_arm
-    (is_mounted g.F.Flash.state c.args.config c.args.flash c.in_ok-device.field-0 c.in-Mounted.device c.in_ok-device.ensures.mounted c.in-Mounted.is) c.mount.ensures.cache c.serve_mounted.ensures.caches
-
-pub returns-in-Unmounted-clause-caches : goal.returns-in-Unmounted-clause-caches
-returns-in-Unmounted-clause-caches g c =
-    unmounted_caches g.row.R.Denot g.F.Flash.state c.args.config c.args.flash c.in-Unmounted.flash c.args.command.now Fault c.args.cache.now c.mount.new.cache c.requires.no_arm c.mount.ensures.cache
-
-pub returns-in-Unmounted-2-clause-caches : goal.returns-in-Unmounted-2-clause-caches
-returns-in-Unmounted-2-clause-caches g c =
-    unmounted_caches g.row.R.Denot g.F.Flash.state c.args.config c.args.flash c.in-Unmounted.flash c.args.command.now Cut c.args.cache.now c.mount.new.cache c.requires.no_arm c.mount.ensures.cache
+pub returns-else-live : goal.returns-else-live
+returns-else-live g c =
+    not_done g.F.Flash.state c.args.config c.args.command.now c.args.session.now c.mount_again.new.session Cut c.args.cache.now c.mount_again.new.cache
+    c.requires.unmounted (sym c.is_mounted.ensures ∙ c.if-is_mounted.false) c.requires.no_arm c.requires.fits c.in_ok-mount_again.ensures.mounted
+    (inr (refl, sym (c.live.ensures ∙ ap (λ f. (g.F.Flash.state f).live) c.flash.ensures) ∙ c.if-live.false)) c.mount_again.ensures.cache

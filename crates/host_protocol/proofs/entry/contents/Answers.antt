@@ -1,8 +1,7 @@
 use Rattle.std.proofs.Common.{rules, ◌≡◌, false, sym, inl, inr, length, codes, ◌≢◌}
 use Rattle.std.proofs.lemmas.Bool.{eqb-true}
 use Rattle.std.specs.Str.{bytes_eq}
-use Rattle.std.proofs.lemmas.Result.{err_from_is_err_and}
-use Rattle.host_protocol.proofs.EntryLemmas.{contents_dash, contents_ok, contents_fails, contents_out, contents_length}
+use Rattle.host_protocol.proofs.EntryLemmas.{contents_dash, contents_as, contents_out, contents_within}
 use Rattle.host_protocol.proofs.entry.contents.Goals as goal
 use Rattle.host_protocol.proofs.entry.contents.Goals.{then-is_empty-via-then-is_empty, then-is_empty-via-else-is_empty+then-text-page_bytes}
 
@@ -17,17 +16,11 @@ returns-then-is_empty-clause-contents c =
       | then-is_empty-via-else-is_empty+then-text-page_bytes w ↦ contents_out c.args.page_bytes c.args.text.now other (inr w.if-text-page_bytes.true)
     ]
 
-pub returns-in_err-decode-clause-contents : goal.returns-in_err-decode-clause-contents
-returns-in_err-decode-clause-contents c =
-    let other : bytes_eq c.args.text.now (codes "-") ≡ false = rw c.as_slice.ensures at (sym c.if-eq.ensures) in
-    let p = err_from_is_err_and c.from_residual.result c.from_residual.ensures.1 in
-    rw (p.1, p.2) (contents_fails c.args.page_bytes c.args.text.now c.in_err-decode.field-0.0 other c.in_err-decode.ensures.err)
-
 pub returns-clause-contents : goal.returns-clause-contents
 returns-clause-contents c =
     let other : bytes_eq c.args.text.now (codes "-") ≡ false = rw c.as_slice.ensures at (sym c.if-eq.ensures) in
     let some : length c.args.text.now ≢ 0 = search rules in
-    contents_ok c.args.page_bytes c.args.text.now c.in_ok-decode.field-0.items other c.in_ok-decode.ensures.ok some c.if-text-page_bytes.false
+    contents_as (λ v. v.items) c.args.page_bytes c.args.text.now c.decoded.result other some c.if-text-page_bytes.false c.decoded.ensures
 
 pub returns-clause-within : goal.returns-clause-within
-returns-clause-within c = contents_length c.args.page_bytes c.args.text.now c.in_ok-decode.field-0.items c.in_ok-decode.ensures.ok c.if-text-page_bytes.false
+returns-clause-within c = contents_within (λ v. v.items) c.args.page_bytes c.args.text.now c.decoded.result c.if-text-page_bytes.false c.decoded.ensures

@@ -1,5 +1,4 @@
 use Rattle.std.proofs.Common.{arith, ◌∙◌, ◌++◌, ap, length, ◌≡◌}
-use Rattle.std.specs.String.{string_bytes}
 use Rattle.verdict_report.specs.Report.{pages}
 use Rattle.verdict_report.proofs.PageLemmas.{length-pages, lines_with, lines_without, lines_report}
 use Rattle.verdict_report.proofs.Alike.{pages_alike, report_alike}
@@ -13,10 +12,10 @@ pub loop-page-preserved : goal.loop-page-preserved
 loop-page-preserved c =
     elim c.match-newest_record.branch [
       | in-Some+in_ok-line+in_ok-write w ↦ lines_with _ c.in_ok-records.records.chart c.loop-page.page _ _ _ _ _ _ w.in-Some.ensures c.loop-page.invariant
-          (ap string_bytes w.text-is ∙ w.in_ok-write.ensures ∙ ap (λ line. string_bytes c.loop-page.text ++ line) w.in_ok-line.ensures)
+          (ap (λ t. t.items) w.text-is ∙ w.in_ok-write.ensures ∙ ap (λ line. c.loop-page.text.items ++ line) w.in_ok-line.ensures)
           w.count-is
       | in_default w ↦ lines_without _ c.in_ok-records.records.chart c.loop-page.page _ _ _ _ _ w.in_default.ensures c.loop-page.invariant
-          (ap string_bytes w.text-is) w.count-is
+          (ap (λ t. t.items) w.text-is) w.count-is
     ]
 
 pub returns-clause-count : goal.returns-clause-count
@@ -28,4 +27,4 @@ returns-clause-count c =
 pub returns-clause-text : goal.returns-clause-text
 returns-clause-text c =
     lines_report c.args.protocol c.in_ok-records.records.chart c.args.logical _ _ _ _ _ (omega arith) c.loop-page.invariant c.in_ok-write_last.ensures
-    ∙ ap (λ t. string_bytes c.args.text.now ++ t) (report_alike c.args.list.now c.in_ok-records.records.chart c.in_ok-records.ensures c.args.protocol c.args.logical)
+    ∙ ap (λ t. c.args.text.now.items ++ t) (report_alike c.args.list.now c.in_ok-records.records.chart c.in_ok-records.ensures c.args.protocol c.args.logical)

@@ -7,12 +7,12 @@ use Rattle.verdict_report.proofs.walk.first_links.Goals.{else-loop-turn-test, th
 
 pub loop-turn-init : goal.loop-turn-init
 loop-turn-init c =
-    rw c.in_ok-links.ensures.items (taking_first c.args.records.now.chart c.newest_name-start.result c.newest_link-last.result _
+    rw (c.in_ok-push.ensures.items, c.in_ok-links.ensures.items) (taking_first c.args.records.now.chart c.newest_name-start.result c.newest_link-last.result _
     (c.newest_link-last.ensures ∙ link_of_newest c.args.records.now.chart c.args.page _ c.newest_name-start.ensures))
 
 pub loop-turn-preserved : goal.loop-turn-preserved
 loop-turn-preserved c =
-    rw c.in_ok-push.ensures.items (taking_next c.args.records.now.chart c.newest_name-start.result _ c.loop-turn._turn c.loop-turn.links.items
+    rw c.in_ok-push-2.ensures.items (taking_next c.args.records.now.chart c.newest_name-start.result _ c.loop-turn._turn c.loop-turn.links.items
     c.loop-turn.last c.in-Some.link (omega arith) c.in-Some.ensures c.loop-turn.invariant)
 
 pub returns : goal.returns

@@ -1,0 +1,63 @@
+//! Hexadecimal digits, of which all are read before the first that is none is found out.
+ghost use Rattle.std.specs.Prelude.{◌≡◌, ◌*◌, true, false, Ok, IsErr, IfOk, length};
+ghost use Rattle.std.specs.Option.{unwrap_or};
+ghost use Rattle.std.specs.Result.{result_ok};
+ghost use Rattle.hex.specs.Hex.{decode_of, decode_pairs, hex_digit_value};
+ghost use Rattle.host_protocol.specs.Reading.{AnswersAs};
+
+use crate::error::LineError;
+use std::alloc::Global;
+use tx_types::Memory;
+
+/// What stands for the value of a byte that is no digit. The values of digits are below 16.
+const NO_DIGIT: u8 = 255;
+
+/// The bytes that a text of digits tells, two digits for each.
+pub fn decoded(alloc: Global, text: &[u8]) -> Result<Vec<u8>, LineError>
+    ensures { AnswersAs (λ v. v.items) result (result_ok (decode_of text.now)) }
+{
+    if text.len() % 2 != 0 {
+        return Err(LineError::Bad);
+    }
+    let mut bytes = zeros(alloc, text.len() / 2)?;
+    if decode_into(text, &mut bytes) {
+        Ok(bytes)
+    } else {
+        Err(LineError::Bad)
+    }
+}
+
+/// So many zeros.
+fn zeros(alloc: Global, count: usize) -> Result<Vec<u8>, Memory>
+    ensures { IfOk result (λ v. length v.items ≡ count) }
+{
+    Ok(vec![in alloc; 0; count]?)
+}
+
+/// Reads a text twice as long as `bytes`, and says whether it is all digits. Where it is not, the bytes are no matter.
+fn decode_into(text: &[u8], bytes: &mut [u8]) -> bool
+    requires { length text.now ≡ 2 * length bytes.old }
+    ensures digits { result ≡ true → decode_pairs 0 text.now ≡ Ok bytes.new }
+    ensures others { result ≡ false → IsErr (decode_pairs 0 text.now) }
+{
+    let mut greatest: u8 = 0;
+    for i in 0..bytes.len() {
+        let high = digit_value(text[2 * i]);
+        let low = digit_value(text[2 * i + 1]);
+        greatest = greatest.max(high).max(low);
+        bytes[i] = high.wrapping_mul(16).wrapping_add(low);
+    }
+    greatest < 16
+}
+
+/// The value of a digit, and `NO_DIGIT` for any other byte.
+fn digit_value(byte: u8) -> u8
+    ensures { result ≡ unwrap_or (hex_digit_value byte) NO_DIGIT }
+{
+    match byte {
+        b'0'..=b'9' => byte - b'0',
+        b'a'..=b'f' => byte - b'a' + 10,
+        b'A'..=b'F' => byte - b'A' + 10,
+        _ => NO_DIGIT,
+    }
+}
