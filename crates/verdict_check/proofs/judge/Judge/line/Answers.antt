@@ -1,0 +1,19 @@
+use Rattle.std.proofs.Common.{refl, sym}
+use Rattle.verdict_check.proofs.PlaceLemmas.{newest_stands}
+use Rattle.verdict_check.proofs.JudgeLemmas.{ends_within, is_expected}
+use Rattle.verdict_check.proofs.judge.Judge.line.Goals as goal
+
+pub course-course-requires-clause-newest : goal.course-course-requires-clause-newest
+course-course-requires-clause-newest c = newest_stands c.args.self.now.records.list.now c.args.page c.args.place c.requires.place
+
+pub why-why-requires : goal.why-why-requires
+why-why-requires c = ends_within c.args.self.now.protocol c.args.self.now.records.list.now c.args.self.now.logical c.args.page c.args.place
+    (sym c.requires.place) c.course-course.result c.course-course.ensures.course
+
+pub current-requires-clause-newest : goal.current-requires-clause-newest
+current-requires-clause-newest c = newest_stands c.args.self.now.records.list.now c.args.page c.args.place c.requires.place
+
+pub returns-clause-is : goal.returns-clause-is
+returns-clause-is c =
+    is_expected c.args.self.now.protocol c.args.self.now.records.list.now c.args.self.now.logical c.args.page c.args.place c.course-course.result _
+    c.requires.place c.requires.scanned c.course-course.ensures.course refl refl c.why-why.ensures c.current.ensures c.links.ensures

@@ -1,0 +1,9 @@
+use Rattle.std.proofs.Common.{ap, ◌∙◌, codes, decimal}
+use Rattle.verdict_check.specs.Texts.{left, left_behind}
+use Rattle.verdict_check.proofs.TextLemmas.{three}
+use Rattle.verdict_check.proofs.line.read_last.Goals as goal
+
+pub returns : goal.returns
+returns c =
+    three (codes "explained ") (decimal c.args.pages) (codes "\n") (left c.args.reading) _ _ _ c.then.ensures
+    (c.then_number.ensures ∙ ap (λ n. left_behind (decimal n) (left c.then.result)) c.from.ensures) c.then-2.ensures

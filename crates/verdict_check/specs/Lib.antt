@@ -1,0 +1,6 @@
+pub mod Texts
+pub mod Places
+pub mod Courses
+pub mod Older
+pub mod Expected
+pub mod Meaning

@@ -1,0 +1,135 @@
+ghost use Rattle.std.specs.Prelude.{◌≡◌, ◌<◌, ◌≤◌, Some, All, if◌then◌else◌, length};
+ghost use Rattle.record_list.specs.Records.{greatest, record_at, IsScanned};
+ghost use Rattle.record_list.specs.Verdict.{passed, straddling, is_committed};
+ghost use Rattle.record_list.specs.Current.{fallback};
+ghost use Rattle.record_chart.specs.Charts.{ending};
+ghost use Rattle.verdict_check.specs.Places.{newest_place, IsNewestAt};
+ghost use Rattle.verdict_check.specs.Older.{AreOlder};
+ghost use Rattle.verdict_check.specs.Courses.{AreCourses, EndsWithin, IsCounted, shown_by, links_by};
+ghost use Rattle.verdict_check.specs.Expected.{IsExpected};
+
+use crate::course::Course;
+use crate::courses::course;
+use crate::expected::Expected;
+use crate::records::Records;
+use record_list::{Found, Why};
+use tx_types::{Link, Protocol, Rec};
+
+/// What the verdict on a page is judged by.
+#[derive(Clone, Copy)]
+pub struct Judge<'a> {
+    pub records: Records<'a>,
+    /// The greatest version of each page below its newest one.
+    pub older: &'a [u64],
+    pub protocol: Protocol,
+    pub logical: u32,
+}
+
+impl<'a> Judge<'a> {
+    /// What the line of a page is to say, whose newest record stands at this place.
+    pub fn line(&self, courses: &mut [Option<Course>], page: u32, place: u32) -> Expected
+        requires logical { self.now.logical ≤ 65536 }
+        requires place { Some place ≡ newest_place self.now.records.list.now page }
+        requires pages { All (λ f. f.rec.page < length courses.old) self.now.records.list.now }
+        requires scanned { IsScanned self.now.records.list.now }
+        requires older { AreOlder self.now.records.list.now (length self.now.records.list.now) self.now.older.now }
+        requires known { AreCourses self.now.records.list.now self.now.logical courses.old }
+        ensures is { IsExpected self.now.protocol self.now.records.list.now self.now.logical result }
+        ensures page { result.page ≡ page }
+        ensures known { AreCourses self.now.records.list.now self.now.logical courses.new }
+        ensures size { length courses.new ≡ length courses.old }
+    {
+        let course = course(&self.records, courses, self.logical, place);
+        let why = self.why(course);
+        Expected {
+            page,
+            newest: self.records.list[place as usize].rec.version,
+            why,
+            current: self.current(place, why),
+            links: self.links(course),
+        }
+    }
+
+    /// What a course shows.
+    fn why(&self, course: Course) -> Why
+        requires { EndsWithin self.now.records.list.now course }
+        ensures { result ≡ shown_by self.now.protocol self.now.records.list.now course }
+    {
+        match course {
+            Course::Ends { at, .. } => self.ending(self.records.list[at as usize].rec.next),
+            Course::Round { .. } => Why::Cycle,
+            Course::Long => Why::Absent,
+        }
+    }
+
+    /// The number of links of a walk along a course.
+    fn links(&self, course: Course) -> u32
+        requires logical { self.now.logical ≤ 65536 }
+        requires counted { IsCounted self.now.logical course }
+        ensures { result ≡ links_by self.now.logical course }
+    {
+        match course {
+            Course::Ends { after, .. } => after + 1,
+            Course::Round { links } => links,
+            Course::Long => self.logical + 1,
+        }
+    }
+
+    /// What a link shows that leads to no newest record.
+    fn ending(&self, link: Link) -> Why
+        ensures { result ≡ ending self.now.protocol self.now.records.list.now link }
+    {
+        if link.version < self.records.newest(link.page) {
+            self.passed(link)
+        } else {
+            Why::Absent
+        }
+    }
+
+    /// What a link shows below the newest version of its page.
+    fn passed(&self, link: Link) -> Why
+        ensures { result ≡ passed self.now.protocol self.now.records.list.now link }
+    {
+        match self.protocol {
+            Protocol::Scc => Why::Passed,
+            Protocol::Bpcc => match straddling(self.records.list, link) {
+                0 => Why::Passed,
+                version => Why::Straddled(version),
+            },
+        }
+    }
+
+    /// The current version of the page whose newest record stands at this place, from what decides the verdict on
+    /// that.
+    fn current(&self, place: u32, why: Why) -> u64
+        requires within { place < length self.now.records.list.now }
+        requires newest { IsNewestAt self.now.records.list.now place }
+        requires older { AreOlder self.now.records.list.now (length self.now.records.list.now) self.now.older.now }
+        ensures { result ≡ (if is_committed why then (record_at self.now.records.list.now place).version
+            else fallback self.now.protocol self.now.records.list.now (record_at self.now.records.list.now place).page) }
+    {
+        let rec = self.records.list[place as usize].rec;
+        match why {
+            Why::Cycle | Why::Passed => rec.version,
+            Why::Absent | Why::Straddled(_) => match self.protocol {
+                Protocol::Scc => self.older.get(rec.page as usize).copied().unwrap_or(0),
+                Protocol::Bpcc => rec.back,
+            },
+        }
+    }
+}
+
+/// The greatest version that straddles a name, 0 for none.
+#[tactic(auto, using(record_list::proofs::Greatest::greatest_step))]
+fn straddling(list: &[Found], name: Link) -> u64
+    ensures { result ≡ straddling list.now name }
+{
+    let mut best = 0;
+    for found in list {
+        let rec = found.rec;
+        if rec.page == name.page && rec.back < name.version && name.version < rec.version {
+            best = rec.version.max(best);
+        }
+    }
+    best
+}

@@ -1,0 +1,20 @@
+//! Whether a report is that on a list of records: it is read once, line by line, against the list. Nothing
+//! of what writes reports is called, and no memory is taken.
+#![tactic(auto)]
+
+mod check;
+mod course;
+mod courses;
+mod expected;
+mod judge;
+mod line;
+mod older;
+mod places;
+mod reading;
+mod records;
+#[cfg(test)]
+mod tests;
+mod theorems;
+
+pub use check::check_report;
+pub use theorems::yes_means;
