@@ -1,0 +1,15 @@
+pub mod BucketChanges
+pub mod EntriesLeft
+pub mod EntryLists
+pub mod Existing
+pub mod PageLists
+pub mod Parts
+pub mod PutGiven
+pub mod PutLoop
+pub mod PutWrites
+pub mod Spelling
+pub mod Steps
+pub mod StoreReads
+pub mod StoreWrites
+pub mod WriteSteps
+pub mod Zeros

@@ -1,0 +1,6 @@
+use Rattle.std.proofs.Common.{take}
+use Rattle.page_keys.specs.Entries.{AreBelow}
+use Rattle.page_keys.proofs.entries.place.Given as goal
+
+abbrev pub invariant-loop-i : goal.invariant-loop-i
+invariant-loop-i l = AreBelow l.key (take l.i l.entries)

@@ -1,0 +1,7 @@
+use Rattle.std.proofs.Common.{◌≡◌, ◌++◌, take, flat_map}
+use Rattle.page_keys.specs.Buckets.{entry_bytes}
+use Rattle.page_keys.proofs.entries.write.Given as goal
+
+abbrev pub invariant-loop-key : goal.invariant-loop-key
+invariant-loop-key l =
+    l.out.items ≡ l.initial.out.items ++ flat_map entry_bytes (take l.key-index l.entries)

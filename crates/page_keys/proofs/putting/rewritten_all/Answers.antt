@@ -1,0 +1,85 @@
+use Rattle.std.proofs.Common.{◌<◌, false, get_or, length, ap, sym, subst, ◌∙◌, arith}
+use Rattle.std.specs.Prelude.{Result, Ok, Err, IfErr}
+use Rattle.std.specs.Result.{IsErrAnd}
+use Rattle.page_keys.specs.Putting.{IsFull}
+use Rattle.page_keys.specs.declared.answers.PutError.{PutError}
+use Rattle.tx_types.specs.Batch.{Writes}
+use Rattle.tx_engine.specs.Standing.{Standing}
+use Rattle.page_keys.specs.KeyMaps.{KeyMap, after}
+use Rattle.page_keys.specs.Buckets.{ShowsMap}
+use Rattle.page_keys.specs.Puts.{is_over}
+use Rattle.page_keys.proofs.StoreReads.{keeps_keys, reads_then}
+use Rattle.page_keys.proofs.PutLoop.{page_exists, find_past, is_full, all_written, entry_added, shows_there, bytes_back, much_back}
+use Rattle.page_keys.proofs.putting.rewritten_all.Goals as goal
+
+if_err : {X E : Type 0} (r : Result X E) (P Q : E → Type 0) → IsErrAnd r P →
+    ((e : E) → P e → Q e) → IfErr r Q
+if_err (Ok x) P Q h f = tt
+if_err (Err e) P Q h f = f e h
+
+pub rewritten-requires-clause-keys : goal.rewritten-requires-clause-keys
+rewritten-requires-clause-keys g c =
+    keeps_keys c.args.device.now c.loop-page.device c.loop-page.invariant.reads.stays
+    c.requires.keys
+
+pub rewritten-requires-clause-exists : goal.rewritten-requires-clause-exists
+rewritten-requires-clause-exists g c =
+    let same = ap (λ (s : Standing g.row.F.Denot). s.config.logical)
+    c.loop-page.invariant.reads.stays in
+    subst (λ k. get_or c.args.pages.now c.loop-page.page-index 0 < k) (sym same)
+    (page_exists c.args.device.now.config.logical c.args.changes.now c.args.pages.now
+    c.loop-page.page-index c.requires.pages c.loop-page-test.true)
+
+pub add-requires : goal.add-requires
+add-requires g c =
+    let same = ap (λ (s : Standing g.row.F.Denot). s.config.page_bytes)
+    c.loop-page.invariant.reads.stays in
+    let size = ap length c.deref.ensures.value in
+    omega (arith, size, c.in_ok-bytes.ensures.within, same, c.loop-page.invariant.size)
+
+pub returns-in_err-bytes-clause-refused : goal.returns-in_err-bytes-clause-refused
+returns-in_err-bytes-clause-refused g c =
+    let i = c.loop-page.invariant in
+    let s = c.args.device.now in
+    let t = c.loop-page.device in
+    let e = c.in_err-bytes.field-0.0 in
+    let F : PutError → Type 0 = λ x. (m : KeyMap) → ShowsMap s.config s.machine.pages m →
+    IsFull s.config m c.args.changes.now x in
+    let one : F e = λ m shows.
+    is_full s.config m c.args.changes.now c.args.pages.now c.loop-page.page-index
+    c.requires.pages (i.writes m shows).1 c.loop-page-test.true e
+    (much_back s t i.reads.stays m c.args.changes.now _ e
+    (c.in_err-bytes.ensures.refused m (shows_there s t i.reads.stays m shows))) in
+    if_err c.from_residual.result _ F c.from_residual.ensures.1 (λ x is. subst F (sym is) one)
+
+pub loop-page-preserved : goal.loop-page-preserved
+loop-page-preserved g c =
+    let i = c.loop-page.invariant in
+    let s = c.args.device.now in
+    let t = c.loop-page.device in
+    let p = get_or c.args.pages.now c.loop-page.page-index 0 in
+    let added = c.in_ok-add.ensures.ok in
+    record {
+      size = ap (λ (b : Writes). b.page_bytes) added ∙ i.size;
+      reads = reads_then g.F.Flash.state s t c.rewritten.new.device false i.reads
+          c.in_ok-bytes.ensures.reads;
+      count = omega (arith, i.count, c.in_ok-bytes.ensures.once);
+      writes = λ m shows.
+          let before = i.writes m shows in
+          let made = bytes_back s t i.reads.stays m c.args.changes.now p _
+          (c.in_ok-bytes.ensures.bytes m (shows_there s t i.reads.stays m shows)) in (
+            ap (λ (b : Writes). b.entries) added
+                ∙ entry_added s.config (after m c.args.changes.now) c.loop-page.batch c.args.pages.now
+                c.loop-page.page-index c.deref.result.now c.loop-page-test.true i.size
+                (c.deref.ensures.value ∙ made.bytes_are) before.0,
+            before.1 ∙ find_past (is_over s.config (after m c.args.changes.now)) c.args.pages.now
+                c.loop-page.page-index c.loop-page-test.true made.fits,
+          );
+    }
+
+pub returns-clause-writes : goal.returns-clause-writes
+returns-clause-writes g c m shows =
+    let before = c.loop-page.invariant.writes m shows in
+    all_written c.args.device.now.config m c.args.changes.now c.args.pages.now
+    c.loop-page.page-index c.requires.pages before.1 c.loop-page.batch.entries
+    c.loop-page-test.false c.loop-page.auto.page-index-end before.0

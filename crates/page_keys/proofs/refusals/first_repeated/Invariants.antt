@@ -1,0 +1,7 @@
+use Rattle.std.proofs.Common.{◌≡◌, [], take, drop}
+use Rattle.page_keys.specs.Puts.{repeated}
+use Rattle.page_keys.proofs.refusals.first_repeated.Given as goal
+
+abbrev pub invariant-loop-i : goal.invariant-loop-i
+invariant-loop-i l =
+    repeated [] l.changes ≡ repeated (take l.i l.changes) (drop l.i l.changes)

@@ -1,0 +1,18 @@
+use Rattle.std.proofs.Common.{take, sym, ◌∙◌}
+use Rattle.page_keys.proofs.PageLists.{no_pages, pages_more, few_pages}
+use Rattle.page_keys.proofs.refusals.pages.Goals as goal
+
+pub loop-change-init : goal.loop-change-init
+loop-change-init c = c.new-pages.ensures.items ∙ sym (no_pages c.args.logical)
+
+pub loop-change-preserved : goal.loop-change-preserved
+loop-change-preserved c =
+    let more = pages_more c.args.logical c.bucket.result c.args.changes.now
+    c.loop-change.change-index c.change-item.result c.as_slice.result.now
+    c.loop-change-test.true c.change-item.is c.as_slice.ensures.bytes c.bucket.ensures.bucket
+    c.bucket.ensures.exists in
+    rw (c.in_ok-add_page.ensures, c.loop-change.invariant) (sym more)
+
+pub returns-clause-few : goal.returns-clause-few
+returns-clause-few c =
+    rw c.loop-change.invariant (few_pages c.args.logical (take c.loop-change.change-index c.args.changes.now))

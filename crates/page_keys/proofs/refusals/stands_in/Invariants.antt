@@ -1,0 +1,8 @@
+use Rattle.std.proofs.Common.{◌≡◌, drop}
+use Rattle.std.specs.List.{list_any}
+use Rattle.page_keys.specs.Puts.{has_key}
+use Rattle.page_keys.proofs.refusals.stands_in.Given as goal
+
+abbrev pub invariant-loop-change : goal.invariant-loop-change
+invariant-loop-change l =
+    list_any (has_key l.key) l.changes ≡ list_any (has_key l.key) (drop l.change-index l.changes)

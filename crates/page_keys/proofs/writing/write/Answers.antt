@@ -1,0 +1,81 @@
+use Rattle.std.proofs.Common.{◌+◌, Ok, Some, false, ap, subst, ◌∙◌}
+use Rattle.version_index.specs.Noted.{Noted}
+use Rattle.tx_engine.specs.Naming.{is_spent}
+use Rattle.tx_engine.specs.Standing.{limits_of}
+use Rattle.array_machine.specs.declared.answers.SubmitError.{SubmitError}
+use Rattle.array_machine.specs.declared.answers.Progress.TheVariants as progress
+use Rattle.tx_engine.specs.Exits.{is_there}
+use Rattle.tx_engine.specs.ArrayState.{ArrayState}
+use Rattle.tx_engine.specs.Step.{StepsAs}
+use Rattle.page_keys.proofs.Steps.{wrote, done_writing}
+use Rattle.page_keys.proofs.WriteSteps.{moved_then, breaks_off, named_spent}
+use Rattle.page_keys.proofs.writing.write.Goals as goal
+
+pub steps-preserved : goal.steps-preserved
+steps-preserved g c =
+    let i = c.steps.invariant.1 in
+    let k = c.steps.invariant.0 in
+    let steps = subst (λ (m : ArrayState).
+    StepsAs (is_there g.F.Flash.state c.steps.device) m c.step.new.self.machine 0
+    (Ok (progress.Wrote c.in-Ok-Wrote.field-0-0 c.in-Ok-Wrote.field-0-1))) i.machine
+    (rw c.in-Ok-Wrote.field-0-is at c.in-Ok-Wrote.ensures.steps) in
+    let exits = c.in-Ok-Wrote.ensures.exits in
+    let next = wrote c.args.device.now.machine.pages c.args.batch.now.entries k
+    c.step.new.self.machine _ _ _ steps in (
+      k + 1,
+      record {
+        machine = next.0;
+        less = next.1;
+        unspent = i.unspent;
+        moved = moved_then g.F.Flash.state c.args.device.now c.steps.device c.step.new.self false
+            i.moved exits;
+      },
+    )
+
+pub returns-in-Ok-Done-clause-written : goal.returns-in-Ok-Done-clause-written
+returns-in-Ok-Done-clause-written g c =
+    let i = c.steps.invariant.1 in
+    let k = c.steps.invariant.0 in
+    let steps = subst (λ (m : ArrayState).
+    StepsAs (is_there g.F.Flash.state c.steps.device) m c.step.new.self.machine 0
+    (Ok progress.Done)) i.machine
+    (rw c.in-Ok-Done.field-0-is at c.in-Ok-Done.ensures.steps) in
+    let exits = c.in-Ok-Done.ensures.exits in
+    record {
+      unspent = i.unspent;
+      machine = done_writing c.args.device.now.machine.pages c.args.batch.now.entries k
+          c.step.new.self.machine _ steps;
+      moved = moved_then g.F.Flash.state c.args.device.now c.steps.device c.step.new.self false
+          i.moved exits;
+    }
+
+pub returns-in-Err-step-clause-not_written : goal.returns-in-Err-step-clause-not_written
+returns-in-Err-step-clause-not_written g c =
+    let i = c.steps.invariant.1 in
+    breaks_off g.F.Flash.state c.args.device.now c.steps.device c.step.new.self
+    c.args.batch.now.entries c.steps.invariant.0 (is_there g.F.Flash.state c.steps.device)
+    c.in-Err-step.field-0 i.machine i.unspent i.moved c.in-Err-step.ensures.steps
+    c.in-Err-step.ensures.exits c.held_always.ensures.always.array
+
+pub spent-requires : goal.spent-requires
+spent-requires g c =
+    (named_spent (limits_of c.args.device.now.config) (is_spent c.args.device.now.noted.mentions)
+    c.args.device.now.machine c.submit.new.self.machine c.args.batch.now.entries
+    c.requires.closed c.requires.fits c.in-Err.refusal c.in-Err.ensures.submits).0
+
+pub returns-in-Err-clause-not_written : goal.returns-in-Err-clause-not_written
+returns-in-Err-clause-not_written g c =
+    let named = named_spent (limits_of c.args.device.now.config)
+    (is_spent c.args.device.now.noted.mentions) c.args.device.now.machine
+    c.submit.new.self.machine c.args.batch.now.entries c.requires.closed c.requires.fits
+    c.in-Err.refusal c.in-Err.ensures.submits in
+    let keeps = c.in-Err.ensures.keeps in
+    rw (c.spent.ensures named.0.0 named.0.1) (
+      named.1 ∙ ap (λ (e : SubmitError). Some e) named.0.1,
+      record {
+        config = keeps.config;
+        machine = named.2;
+        flash = keeps.flash;
+        mentions = ap (λ (n : Noted). n.mentions) keeps.noted;
+      },
+    )

@@ -1,0 +1,18 @@
+use Rattle.std.proofs.Common.{◌≡◌, ◌<◌, ℕ, None, false, length}
+use Rattle.array_machine.specs.Run.{pages_left}
+use Rattle.tx_engine.specs.Submit.{spent_page}
+use Rattle.tx_engine.specs.Naming.{is_spent}
+use Rattle.page_keys.specs.Writing.{writing, Moved}
+use Rattle.page_keys.proofs.writing.write.Given as goal
+
+abbrev pub decreases-steps : goal.decreases-steps
+decreases-steps g l = pages_left 0 l.device.machine
+
+abbrev pub invariant-steps : goal.invariant-steps
+invariant-steps g l =
+    (done : ℕ) × record {
+      machine : l.device.machine ≡ writing l.fn.device.machine.pages l.batch.entries done;
+      less : done < length l.batch.entries;
+      unspent : spent_page (is_spent l.fn.device.noted.mentions) l.batch.entries ≡ None;
+      moved : Moved g.F.Flash.state l.fn.device l.device false;
+    }

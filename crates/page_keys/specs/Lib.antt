@@ -1,0 +1,11 @@
+pub mod Buckets
+pub mod Entries
+pub mod KeyMaps
+pub mod Pages
+pub mod PutAnswers
+pub mod Puts
+pub mod Putting
+pub mod Shorts
+pub mod StoreParts
+pub mod Stores
+pub mod Writing

@@ -1,0 +1,52 @@
+-- What a put answers, and what it leaves.
+use Rattle.std.specs.Prelude.{◌≡◌, ◌⊎◌, true, false, List, None, Some, Result, Ok, Err}
+use Rattle.flash_model.specs.Flash.{FlashState}
+use Rattle.flash_model.specs.Calls.{Carries}
+use Rattle.flash_model.specs.Operations.{moment_of}
+use Rattle.version_index.specs.Images.{array_in}
+use Rattle.tx_engine.specs.Naming.{is_spent}
+use Rattle.page_keys.specs.Buckets.{ShowsMap}
+use Rattle.page_keys.specs.KeyMaps.{KeyMap, after}
+use Rattle.page_keys.specs.Puts.{put_refusal}
+use Rattle.page_keys.specs.Stores.{Keyed}
+use Rattle.page_keys.specs.Writing.{Moved}
+use Rattle.page_keys.specs.declared.answers.PutError.{PutError}
+use Rattle.page_keys.specs.declared.answers.PutError.TheVariants as refused
+use Rattle.page_keys.specs.declared.changes.Change.{Change}
+
+-- the array and the image are as before, and the store can be used
+pub record StaysPut {F : Type 0} (state : F → FlashState) (old new : Keyed F) : Type 0 where
+  pub config : new.device.config ≡ old.device.config
+  pub machine : new.device.machine ≡ old.device.machine
+  pub mentions : new.device.noted.mentions ≡ old.device.noted.mentions
+  pub moment : moment_of (state new.device.flash) ≡ moment_of (state old.device.flash)
+  pub carries : Carries (state old.device.flash) (state new.device.flash) false
+  pub usable : new.broken ≡ false
+
+-- all changes are made
+pub record MakesAll {F : Type 0} (state : F → FlashState) (old new : Keyed F) (m : KeyMap)
+    (cs : List Change) : Type 0 where
+  pub taken : put_refusal old.device.config (is_spent old.device.noted.mentions) m cs ≡ None
+  pub shows : ShowsMap new.device.config new.device.machine.pages (after m cs)
+  pub moved : Moved state old.device new.device false
+  pub usable : new.broken ≡ false
+
+-- the image shows the map as it was, or with all changes, which were not refused
+pub record MakesAllOrNone {F : Type 0} (state : F → FlashState) (old new : Keyed F) (m : KeyMap)
+    (cs : List Change) : Type 0 where
+  pub left : let array = array_in new.device.config.protocol new.device.config.logical
+      (state new.device.flash).image in
+      ShowsMap new.device.config array m
+      ⊎ ((put_refusal old.device.config (is_spent old.device.noted.mentions) m cs ≡ None)
+      × ShowsMap new.device.config array (after m cs))
+  pub moved : Moved state old.device new.device true
+  pub broken : new.broken ≡ true
+
+abbrev pub PutGives : {F : Type 0} → (F → FlashState) → Keyed F → Keyed F → KeyMap →
+    List Change → Result (Unit {0}) PutError → Type 0
+PutGives state old new m cs (Ok u) = MakesAll state old new m cs
+PutGives state old new m cs (Err refused.Fault) = MakesAllOrNone state old new m cs
+PutGives state old new m cs (Err refused.Memory) = StaysPut state old new
+PutGives state old new m cs (Err e) =
+    (put_refusal old.device.config (is_spent old.device.noted.mentions) m cs ≡ Some e)
+    × StaysPut state old new

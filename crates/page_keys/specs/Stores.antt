@@ -1,0 +1,46 @@
+-- A store of keys as its callers see it.
+use Rattle.std.specs.Prelude.{◌≡◌, ℕ, ◌<◌, Bool, true, false, []}
+use Rattle.flash_model.specs.Flash.{FlashState}
+use Rattle.flash_model.specs.Calls.{Carries}
+use Rattle.flash_model.specs.Operations.{moment_of}
+use Rattle.tx_engine.specs.ArrayState.{page_at}
+use Rattle.tx_engine.specs.Standing.{Standing}
+use Rattle.page_keys.specs.Buckets.{AreBuckets, IsBucket, shown}
+use Rattle.page_keys.specs.declared.answers.KeyError.{KeyError}
+use Rattle.page_keys.specs.declared.answers.KeyError.TheVariants as failed
+
+-- the device, and whether a call met a fault
+pub record Keyed (F : Type 0) : Type 0 where
+  pub device : Standing F
+  pub broken : Bool
+
+-- nothing is open, and each page is a bucket
+pub record HasKeys {F : Type 0} (s : Standing F) : Type 0 where
+  pub closed : s.machine.entries ≡ []
+  pub buckets : AreBuckets s.config s.machine.pages
+
+-- only the flash may differ, which was read from: it has the same moment
+pub record OnlyReads {F : Type 0} (state : F → FlashState) (old new : Standing F)
+    (broken : Bool) : Type 0 where
+  pub stays : new ≡ record old { flash = new.flash }
+  pub moment : moment_of (state new.flash) ≡ moment_of (state old.flash)
+  pub carries : Carries (state old.flash) (state new.flash) broken
+
+abbrev pub is_key_fault : KeyError → Bool
+is_key_fault (failed.Bucket page) = false
+is_key_fault failed.Fault = true
+is_key_fault failed.Memory = false
+
+-- the least page that is no bucket
+pub record IsFirstBad {F : Type 0} (s : Standing F) (page : ℕ) : Type 0 where
+  pub exists : page < s.config.logical
+  pub bad : ¬ IsBucket s.config.page_bytes s.config.logical page
+      (shown s.config.page_bytes (page_at s.machine.pages page))
+  pub before : (earlier : ℕ) → earlier < page →
+      IsBucket s.config.page_bytes s.config.logical earlier
+      (shown s.config.page_bytes (page_at s.machine.pages earlier))
+
+abbrev pub OpensNot : {F : Type 0} → Standing F → KeyError → Type 0
+OpensNot s (failed.Bucket page) = IsFirstBad s page
+OpensNot s failed.Fault = Unit {0}
+OpensNot s failed.Memory = Unit {0}

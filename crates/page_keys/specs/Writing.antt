@@ -1,0 +1,62 @@
+-- Writing the pages of a put as one transaction.
+use Rattle.std.specs.Prelude.{◌≡◌, ◌⊎◌, ℕ, ◌+◌, Bool, true, false, List, [], ◌∷◌, count_by, None, Some}
+use Rattle.tx_types.specs.Batch.{PageWrite}
+use Rattle.flash_model.specs.Flash.{FlashState}
+use Rattle.flash_model.specs.Calls.{Carries}
+use Rattle.flash_model.specs.Moves.{FlashMoves}
+use Rattle.version_index.specs.Images.{array_in}
+use Rattle.tx_engine.specs.ArrayState.{ArrayState, Pages, put, idle}
+use Rattle.tx_engine.specs.Submit.{spent_page, is_of}
+use Rattle.tx_engine.specs.Naming.{is_spent}
+use Rattle.tx_engine.specs.Standing.{Standing}
+use Rattle.array_machine.specs.declared.mark.Mark.TheVariants.{Plain}
+use Rattle.array_machine.specs.declared.answers.SubmitError.TheVariants as submit
+use Rattle.page_keys.specs.declared.answers.PutError.{PutError}
+use Rattle.page_keys.specs.declared.answers.PutError.TheVariants as refused
+
+-- a page may be mentioned once more for each write of it
+abbrev pub seen_more : (ℕ → ℕ) → List PageWrite → ℕ → ℕ
+seen_more seen writes page = seen page + count_by (is_of page) writes
+
+-- what stays of a device, and how its flash moved
+pub record Moved {F : Type 0} (state : F → FlashState) (old new : Standing F)
+    (broken : Bool) : Type 0 where
+  pub config : new.config ≡ old.config
+  pub moves : FlashMoves (state old.flash) (state new.flash) broken
+  pub carries : Carries (state old.flash) (state new.flash) broken
+
+-- the array has all the writes, and nothing is open
+pub record Writes {F : Type 0} (state : F → FlashState) (old new : Standing F)
+    (writes : List PageWrite) : Type 0 where
+  pub unspent : spent_page (is_spent old.noted.mentions) writes ≡ None
+  pub machine : new.machine ≡ idle (put old.machine.pages writes)
+  pub moved : Moved state old new false
+
+-- nothing changed but what is pinned
+pub record Refuses {F : Type 0} (old new : Standing F) : Type 0 where
+  pub config : new.config ≡ old.config
+  pub machine : new.machine ≡ old.machine
+  pub flash : new.flash ≡ old.flash
+  pub mentions : new.noted.mentions ≡ old.noted.mentions
+
+-- the image has the array, or that with all the writes
+pub record Breaks {F : Type 0} (state : F → FlashState) (old new : Standing F)
+    (writes : List PageWrite) : Type 0 where
+  pub unspent : spent_page (is_spent old.noted.mentions) writes ≡ None
+  pub moved : Moved state old new true
+  pub left : let array = array_in new.config.protocol new.config.logical (state new.flash).image in
+      (array ≡ old.machine.pages) ⊎ (array ≡ put old.machine.pages writes)
+
+abbrev pub WritesNot : {F : Type 0} → (F → FlashState) → Standing F → Standing F →
+    List PageWrite → PutError → Type 0
+WritesNot state old new writes (refused.Spent page) =
+    (spent_page (is_spent old.noted.mentions) writes ≡ Some (submit.Spent page)) × Refuses old new
+WritesNot state old new writes refused.Fault = Breaks state old new writes
+WritesNot state old new writes _ = ⊥
+
+-- a machine that has one transaction open, with so many pages written
+abbrev pub writing : Pages → List PageWrite → ℕ → ArrayState
+writing array writes done = record {
+  pages = array;
+  entries = record { tag = 0; writes = writes; done = done; mark = Plain } ∷ [];
+}

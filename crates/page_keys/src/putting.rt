@@ -1,0 +1,88 @@
+ghost use Rattle.std.specs.Prelude.{◌≡◌, ◌<◌, ◌≤◌, ◌+◌, ◌^◌, [], None, Some, true, length, IfOk, IfErr, OnErr};
+ghost use Rattle.tx_engine.specs.ArrayState.{page_at};
+ghost use Rattle.page_keys.specs.KeyMaps.{KeyMap, pages_of};
+ghost use Rattle.page_keys.specs.Buckets.{ShowsMap};
+ghost use Rattle.std.specs.List.{AllByRecursion};
+ghost use Rattle.page_keys.specs.Puts.{IsKeyChange};
+ghost use Rattle.page_keys.specs.Stores.{HasKeys, OnlyReads};
+ghost use Rattle.page_keys.specs.Putting.{is_put_fault, is_failed, HasNewBytes, IsTooMuch, HasWrites, IsFull};
+
+use crate::answers::PutError;
+use crate::changes::Change;
+use crate::entries::{merge, write};
+use crate::pages::read_page;
+use crate::reading::{ENTRY_BYTES, read};
+use flash_model::Flash;
+use record_list::CommitRule;
+use std::alloc::Global;
+use tx_engine::{Device, held_always};
+use tx_types::Batch;
+
+/// The bytes of the entries of a page after changes. The page is read, once.
+fn rewritten<F: Flash, R: CommitRule>(
+    alloc: Global,
+    device: &mut Device<F, R>,
+    room: &mut [u8],
+    page: u32,
+    changes: &[Change],
+) -> Result<Vec<u8>, PutError>
+    requires keys { HasKeys device.old }
+    requires valid { AllByRecursion IsKeyChange changes.now }
+    requires room { length room.old ≡ device.old.config.page_bytes }
+    requires exists { page < device.old.config.logical }
+    ensures bytes { IfOk result (λ v. (m : KeyMap) →
+        ShowsMap device.old.config device.old.machine.pages m →
+        HasNewBytes device.old.config m changes.now page v.items) }
+    ensures within { IfOk result (λ v. length v.items ≤ device.old.config.page_bytes) }
+    ensures refused { IfErr result (λ e. (m : KeyMap) →
+        ShowsMap device.old.config device.old.machine.pages m →
+        IsTooMuch device.old.config m changes.now page e) }
+    ensures reads { OnlyReads F.state device.old device.new (is_failed result) }
+    ensures once { (F.state device.new.flash).reads ≤ (F.state device.old.flash).reads + 1 }
+{
+    let config = held_always(device);
+    read_page(device, room, page)?;
+    let mut entries = Vec::new(alloc);
+    if !read(room, config.logical, page, &mut entries)? {
+        unreachable!();
+    }
+    merge(&mut entries, changes, config.logical, page)?;
+    if entries.len() > config.page_bytes as usize / ENTRY_BYTES {
+        return Err(PutError::Bucket(page));
+    }
+    let mut bytes = Vec::new(alloc);
+    write(&entries, &mut bytes)?;
+    Ok(bytes)
+}
+
+/// What a put writes of the pages of its keys. Each of them is read, once.
+pub(crate) fn rewritten_all<F: Flash, R: CommitRule>(
+    alloc: Global,
+    device: &mut Device<F, R>,
+    room: &mut [u8],
+    pages: &[u32],
+    changes: &[Change],
+) -> Result<Batch, PutError>
+    requires keys { HasKeys device.old }
+    requires valid { AllByRecursion IsKeyChange changes.now }
+    requires room { length room.old ≡ device.old.config.page_bytes }
+    requires pages { pages.now ≡ pages_of device.old.config.logical changes.now }
+    ensures size { IfOk result (λ b. b.page_bytes ≡ device.old.config.page_bytes) }
+    ensures writes { IfOk result (λ b. (m : KeyMap) →
+        ShowsMap device.old.config device.old.machine.pages m →
+        HasWrites device.old.config m changes.now b.entries) }
+    ensures refused { IfErr result (λ e. (m : KeyMap) →
+        ShowsMap device.old.config device.old.machine.pages m →
+        IsFull device.old.config m changes.now e) }
+    ensures reads { OnlyReads F.state device.old device.new (is_failed result) }
+    ensures count { (F.state device.new.flash).reads
+        ≤ (F.state device.old.flash).reads + length pages.now }
+{
+    let page_bytes = held_always(device).page_bytes;
+    let mut batch = Batch::new(alloc, page_bytes);
+    for page in pages {
+        let bytes = rewritten(alloc, device, room, *page, changes)?;
+        batch.add(*page, &bytes)?;
+    }
+    Ok(batch)
+}

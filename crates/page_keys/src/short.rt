@@ -1,0 +1,91 @@
+ghost use Rattle.std.specs.Prelude.{◌≡◌, ◌≤◌, ◌++◌, ◌≢◌, ℕ, List, length, OnOk, OnErr, IfSome, IfNone, IsTrue, ◌↔◌, replicate};
+ghost use Rattle.page_keys.specs.Buckets.{padded_short};
+
+use std::marker::Model;
+use tx_types::Memory;
+
+/// The most bytes of a key, and of a value.
+pub const MAX_SHORT: usize = 15;
+
+/// The bytes of a short field of an entry: the number of its bytes, and room for all that it may have.
+pub const FIELD_BYTES: usize = MAX_SHORT + 1;
+
+/// Up to 15 bytes, seen as a list.
+#[derive(Debug, Drop)]
+pub struct Short {
+    len: u8,
+    /// Zeros behind the first `len` bytes.
+    room: [u8; 15],
+}
+
+impl Model for Short {
+    ghost use Rattle.std.specs.Prelude.{ℕ, List};
+
+    ghost Value = { List ℕ };
+
+    ghost use Rattle.page_keys.specs.Shorts.{short_of, IsShort};
+
+    ghost view = { short_of };
+
+    ghost invariant = { IsShort };
+}
+
+impl Short {
+    /// These bytes.
+    pub fn new(bytes: &[u8]) -> Short
+        requires { length bytes.now ≤ MAX_SHORT }
+        ensures { result ≡ bytes.now }
+    {
+        let mut room = [0; 15];
+        let len = bytes.len();
+        room[..len].copy_from_slice(bytes);
+        Short {
+            len: len as u8,
+            room,
+        }
+    }
+
+    /// What a field of an entry holds, where its bytes behind are zeros.
+    pub(crate) fn read(field: &[u8]) -> Option<Short>
+        requires { length field.now ≡ FIELD_BYTES }
+        ensures some { IfSome result (λ s. field.now ≡ padded_short s) }
+        ensures none { IfNone result ((s : List ℕ) → length s ≤ MAX_SHORT → field.now ≢ padded_short s) }
+    {
+        let len = field[0] as usize;
+        if len > MAX_SHORT {
+            return None;
+        }
+        let (used, behind) = field[1..].split_at(len);
+        if !all_zero(behind) {
+            return None;
+        }
+        Some(Short::new(used))
+    }
+
+    /// Appends the field of an entry that holds it.
+    pub(crate) fn write(&self, out: &mut Vec<u8>) -> Result<(), Memory>
+        ensures ok { OnOk result (out.new.items ≡ out.old.items ++ padded_short self.now) }
+        ensures err { OnErr result (out.new.items ≡ out.old.items) }
+    {
+        out.reserve(FIELD_BYTES)?;
+        out.push_reserved(self.len);
+        out.extend_from_slice(&self.room).unwrap();
+        Ok(())
+    }
+
+    /// All bytes.
+    pub fn as_slice(&self) -> &[u8]
+        ensures bytes { result.now ≡ self.now }
+        ensures few { length result.now ≤ MAX_SHORT }
+    {
+        &self.room[..self.len as usize]
+    }
+}
+
+/// Whether all bytes are zero.
+#[tactic(auto, using(crate::proofs::Zeros::all_zeros))]
+pub(crate) fn all_zero(bytes: &[u8]) -> bool
+    ensures { IsTrue result ↔ (bytes.now ≡ replicate (length bytes.now) 0) }
+{
+    bytes.iter().all(|b| *b == 0)
+}

@@ -1,0 +1,47 @@
+ghost use Rattle.std.specs.Prelude.{◌≡◌, ℕ, [], None, OnOk, IfErr};
+ghost use Rattle.tx_engine.specs.Standing.{limits_of};
+ghost use Rattle.tx_engine.specs.Submit.{first_refusals};
+ghost use Rattle.page_keys.specs.Writing.{Writes, WritesNot};
+
+use crate::answers::PutError;
+use flash_model::Flash;
+use record_list::CommitRule;
+use tx_engine::{Device, Progress, SubmitError, held_always};
+use tx_types::Batch;
+
+/// Writes a batch as one transaction, on a device on which nothing is open. Only a page that has no version left is refused.
+pub(crate) fn write<F: Flash, R: CommitRule>(
+    device: &mut Device<F, R>,
+    batch: &Batch,
+) -> Result<(), PutError>
+    requires closed { device.old.machine.entries ≡ [] }
+    requires size { batch.now.page_bytes ≡ device.old.config.page_bytes }
+    requires fits { first_refusals (limits_of device.old.config) [] 0 batch.now.entries ≡ None }
+    ensures written { OnOk result (Writes F.state device.old device.new batch.now.entries) }
+    ensures not_written { IfErr result (WritesNot F.state device.old device.new batch.now.entries) }
+{
+    if let Err(refusal) = device.submit(0, batch) {
+        return Err(spent(refusal));
+    }
+    'steps: loop {
+        match device.step(0) {
+            Ok(Progress::Wrote { .. }) => {}
+            Ok(Progress::Done) => return Ok(()),
+            Err(_) => {
+                held_always(device);
+                return Err(PutError::Fault);
+            }
+        }
+    }
+}
+
+/// The refusal of a page that has no version left.
+fn spent(refusal: SubmitError) -> PutError
+    requires { (page : ℕ) × (refusal ≡ SubmitError.Spent page) }
+    ensures { (page : ℕ) → refusal ≡ SubmitError.Spent page → result ≡ PutError.Spent page }
+{
+    match refusal {
+        SubmitError::Spent(page) => PutError::Spent(page),
+        _ => unreachable!(),
+    }
+}
