@@ -1,11 +1,10 @@
 //! A desk: files that are loaded and saved by their names, and a place where bytes are said.
 #![tactic(auto)]
 
-mod beside;
 mod desk;
 mod memory;
 mod real;
-mod saving;
+mod real_folder;
 #[cfg(test)]
 mod tests;
 

@@ -1,8 +1,9 @@
 ghost use Rattle.std.specs.Prelude.{◌≡◌, IfOk};
 ghost use Rattle.desk_io.specs.System.{FindsSame, closed_desk, load_answer, load_faults, save_answer, say_answer, sink_faults};
 
-use crate::saving::save_file;
+use crate::real_folder::RealFolder;
 use crate::{Desk, LoadError, MAX_FILE_BYTES, SinkError};
+use durable_folder::save;
 use std::alloc::Global;
 use std::fs::OpenFile;
 use std::io::{ErrorKind, Read};
@@ -101,10 +102,13 @@ impl<'a, R: Files + Print + AllocGlobal> Desk for RealDesk<'a, R> {
         loaded(read_file(self.rt, name), &mut self.faults)
     }
 
-    /// A plain file is replaced by a new one that was written beside it, so that after a crash it is
-    /// the old one or the new one; see `saving` for what is written in place.
+    /// It is the save of durable_folder over the files of the system.
     fn save(&mut self, name: &str, bytes: &[u8]) -> Result<(), SinkError> {
-        saved(save_file(self.rt, name, bytes), &mut self.faults)
+        let mut folder = RealFolder { rt: self.rt };
+        saved(
+            save(&mut folder, self.rt.alloc(), name, bytes),
+            &mut self.faults,
+        )
     }
 
     fn say(&mut self, bytes: &[u8]) -> Result<(), SinkError> {

@@ -1,4 +1,7 @@
 //! Where a new file is made that is to take the place of another one.
+ghost use Rattle.std.specs.Prelude.{◌≡◌};
+ghost use Rattle.durable_folder.specs.Places.{folder_of};
+
 use std::alloc::{AllocError, Global};
 use std::path::{Path, PathBuf};
 
@@ -10,7 +13,9 @@ pub const MAX_TRIES: u32 = 99;
 const MAX_KEPT: usize = 246;
 
 /// The folder in which the file of this name stands.
-pub fn folder_of(name: &str) -> &str {
+pub fn folder_of(name: &str) -> &str
+    ensures { result.now ≡ folder_of name.now }
+{
     match Path::new(name).parent() {
         Some(folder) if !folder.as_str().is_empty() => folder.as_str(),
         _ => ".",

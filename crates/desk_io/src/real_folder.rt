@@ -1,0 +1,118 @@
+//! The files of the system, as a folder. This is what is trusted of a save: each method is one call of
+//! the system.
+ghost use Rattle.std.specs.Prelude.{[], None};
+
+use durable_folder::{Folder, Found};
+use std::fs::{File, Metadata, OpenFile, OpenOptions, Permissions};
+use std::io::{Seek, SeekFrom, Write};
+use std::os::unix::fs::{MetadataExt, OpenOptionsExt, lchown};
+use std::path::PathBuf;
+use std::rt::Files;
+use std::{fs, io};
+
+/// The files of the system.
+#[derive(Drop)]
+pub struct RealFolder<'a, R: Files + AllocGlobal> {
+    pub rt: &'a R,
+}
+
+/// What the system tells of a file, field by field.
+fn found(metadata: Metadata) -> Found {
+    Found {
+        is_file: metadata.is_file(),
+        is_link: metadata.is_symlink(),
+        names: metadata.nlink(),
+        device: metadata.dev(),
+        inode: metadata.ino(),
+        user: metadata.uid(),
+        group: metadata.gid(),
+        permissions: metadata.permissions(),
+    }
+}
+
+impl<'a, R: Files + AllocGlobal> Folder for RealFolder<'a, R> {
+    type File = R::File;
+
+    type Place = R::File;
+
+    ghost told = { λ _. None };
+
+    ghost handle = { λ _. record { file = None; offset = 0 } };
+
+    ghost place = { λ _. [] };
+
+    fn find(&mut self, name: &str) -> io::Result<Found> {
+        fs::symlink_metadata(self.rt, name).map(found)
+    }
+
+    fn find_open(&mut self, file: &R::File) -> io::Result<Found> {
+        file.metadata().map(found)
+    }
+
+    fn find_folder(&mut self, folder: &R::File) -> io::Result<Found> {
+        folder.metadata().map(found)
+    }
+
+    fn resolve(&mut self, name: &str) -> io::Result<PathBuf> {
+        fs::canonicalize(self.rt, name)
+    }
+
+    fn open(&mut self, name: &str) -> io::Result<R::File> {
+        OpenOptions::new().write(true).open(self.rt, name)
+    }
+
+    fn open_or_create(&mut self, name: &str) -> io::Result<R::File> {
+        OpenOptions::new()
+            .write(true)
+            .create(true)
+            .open(self.rt, name)
+    }
+
+    fn create_new(&mut self, name: &str, mode: u32) -> io::Result<R::File> {
+        OpenOptions::new()
+            .write(true)
+            .create_new(true)
+            .mode(mode)
+            .open(self.rt, name)
+    }
+
+    fn open_folder(&mut self, folder: &str) -> io::Result<R::File> {
+        File::open(self.rt, folder)
+    }
+
+    fn set_owner(&mut self, name: &str, user: u32, group: u32) -> io::Result<()> {
+        lchown(self.rt, name, Some(user), Some(group))
+    }
+
+    fn set_permissions(&mut self, file: &R::File, permissions: Permissions) -> io::Result<()> {
+        file.set_permissions(permissions)
+    }
+
+    fn write(&mut self, file: &mut R::File, bytes: &[u8]) -> io::Result<()> {
+        file.write_all(bytes)
+    }
+
+    fn seek(&mut self, file: &mut R::File, offset: u64) -> io::Result<()> {
+        file.seek(SeekFrom::Start(offset)).map(|_| ())
+    }
+
+    fn set_length(&mut self, file: &R::File, length: u64) -> io::Result<()> {
+        file.set_len(length)
+    }
+
+    fn sync(&mut self, file: &R::File) -> io::Result<()> {
+        file.sync_all()
+    }
+
+    fn rename(&mut self, from: &str, to: &str) -> io::Result<()> {
+        fs::rename(self.rt, from, to)
+    }
+
+    fn sync_folder(&mut self, folder: &R::File) -> io::Result<()> {
+        folder.sync_all()
+    }
+
+    fn remove(&mut self, name: &str) -> io::Result<()> {
+        fs::remove_file(self.rt, name)
+    }
+}

@@ -1,0 +1,12 @@
+mod Blocks
+mod Filling
+mod Finishing
+mod Heads
+mod Making
+mod Over
+mod Passing
+mod Putting
+mod Replacements
+mod Tearing
+mod Versions
+mod Writing

@@ -1,0 +1,68 @@
+-- What a loss of power leaves of a folder.
+use Rattle.std.specs.Prelude.{◌≡◌, ◌≢◌, ◌⊎◌, ℕ, ◌+◌, ◌*◌, ◌<◌, ◌≤◌, Bool, List, [], ◌∷◌, length, Option, None, Some, slice_index}
+use Rattle.durable_folder.specs.declared.folder.Found.{Found}
+
+-- A folder as a loss of power sees it. A plain file is a number, so that two names can have one file.
+pub record FolderState : Type 0 where
+  -- the plain files that a name had since its folder was synced, the newest first, and None where it had none
+  pub names : List ℕ → List (Option ℕ)
+  -- the bytes that a file had since it was synced, the newest first
+  pub files : ℕ → List (List ℕ)
+  -- to which name a name leads: to itself, or to where its link ends
+  pub leads : List ℕ → List ℕ
+  -- what the system tells of a name, and on which device a folder is
+  pub found : List ℕ → Found
+  pub device : List ℕ → ℕ
+  -- a folder was found that the system cannot sync
+  pub cannot_sync : Bool
+
+-- the first, or this where there is none
+abbrev pub newest : {A : Type 0} → A → List A → A
+newest none [] = none
+newest none (x ∷ xs) = x
+
+-- it holds of one of them
+abbrev pub SomeOf : {A : Type 0} → (A → Type 0) → List A → Type 0
+SomeOf P [] = ⊥
+SomeOf P (x ∷ xs) = P x ⊎ SomeOf P xs
+
+-- the file that a name has now, and the bytes that are read of a file now
+abbrev pub file_of : FolderState → List ℕ → Option ℕ
+file_of s name = newest None (s.names name)
+
+abbrev pub bytes_of : FolderState → ℕ → List ℕ
+bytes_of s file = newest [] (s.files file)
+
+-- the byte at a place, and 0 behind the end
+abbrev pub byte_at : List ℕ → ℕ → ℕ
+byte_at bytes i = slice_index bytes i
+
+-- how many bytes a disk writes at once, at the least
+abbrev pub block_bytes : ℕ
+block_bytes = 64
+
+-- these bytes have in the block of this number what the version has there
+abbrev pub HasBlock : List ℕ → ℕ → List ℕ → Type 0
+HasBlock bytes k version =
+    (i : ℕ) → block_bytes * k ≤ i → i < block_bytes * k + block_bytes → i < length bytes →
+    byte_at bytes i ≡ byte_at version i
+
+-- What a file with these versions may hold: each block is that of one of them, and so 0 where that one was shorter. The
+-- length is one that it had, or lies between.
+pub record MayHold (versions : List (List ℕ)) (bytes : List ℕ) : Type 0 where
+  pub blocks : (k : ℕ) → SomeOf (HasBlock bytes k) versions
+  pub least : SomeOf (λ v. length v ≤ length bytes) versions
+  pub most : SomeOf (λ v. length bytes ≤ length v) versions
+
+-- what is left at a name that has this file: its bytes, or nothing
+abbrev pub LeavesOf : FolderState → Option (List ℕ) → Option ℕ → Type 0
+LeavesOf s left None = left ≡ None
+LeavesOf s left (Some file) = (bytes : List ℕ) × MayHold (s.files file) bytes × (left ≡ Some bytes)
+
+-- a loss of power may leave this at the name
+abbrev pub Leaves : FolderState → List ℕ → Option (List ℕ) → Type 0
+Leaves s name left = SomeOf (LeavesOf s left) (s.names name)
+
+-- it leaves these bytes there and nothing else
+abbrev pub IsDurable : FolderState → List ℕ → List ℕ → Type 0
+IsDurable s name bytes = (left : Option (List ℕ)) → Leaves s name left → left ≡ Some bytes

@@ -1,0 +1,9 @@
+pub mod Answers
+pub mod Calls
+pub mod FolderState
+pub mod Histories
+pub mod InPlace
+pub mod NewFiles
+pub mod Places
+pub mod Saving
+pub mod Ways

@@ -1,0 +1,142 @@
+-- What a save leaves of a name, whichever call fails and wherever power is lost.
+use Rattle.std.specs.Prelude.{◌≡◌, ◌≢◌, ◌⊎◌, ℕ, ◌<◌, ◌≤◌, Bool, true, false, List, [], ◌∷◌, length, Option, None, Some, Result, Ok, Err}
+use Rattle.std.specs.IoError.{error_kind}
+use Rattle.std.specs.declared.io.Error.{Error}
+use Rattle.durable_folder.specs.declared.answers.Replaced.{Replaced}
+use Rattle.durable_folder.specs.declared.answers.Replaced.TheVariants as replaced
+use Rattle.durable_folder.specs.FolderState.{FolderState, SomeOf, Leaves, IsDurable, file_of}
+use Rattle.durable_folder.specs.Calls.{Handle, Spares, SparesFiles, OfFile, Drops, is_refusal}
+use Rattle.durable_folder.specs.Histories.{History, Runs}
+use Rattle.durable_folder.specs.Places.{folder_of}
+use Rattle.durable_folder.specs.declared.replacing.Owner.{Owner}
+use Rattle.durable_folder.specs.InPlace.{AfterOk, FileRuns}
+
+-- A loss of power leaves at the name what it might have left before, or the new bytes. At each other name that has a
+-- file it leaves what it might have left before.
+pub record KeepsOrReplaces (name bytes : List ℕ) (s t : FolderState) : Type 0 where
+  pub here : (left : Option (List ℕ)) → Leaves t name left → Leaves s name left ⊎ (left ≡ Some bytes)
+  pub others : (n : List ℕ) → n ≢ name → file_of s n ≢ None → (left : Option (List ℕ)) → Leaves t n left → Leaves s n left
+
+-- A new file has come to a name where there was none, and nothing else has changed.
+pub record IsNew (name beside : List ℕ) (file : ℕ) (s t : FolderState) : Type 0 where
+  pub apart : beside ≢ name
+  pub is_free : file_of s beside ≡ None
+  pub is_fresh : (n : List ℕ) → SomeOf (λ f. f ≡ Some file) (s.names n) → ⊥
+  pub spares : Spares beside file s t
+
+-- nothing has changed but for a new file at another name
+abbrev pub Prepares : List ℕ → FolderState → FolderState → Type 0
+Prepares name s t = (t ≡ s) ⊎ ((beside : List ℕ) × (file : ℕ) × IsNew name beside file s t)
+
+-- where this error says that the system gave no leave, it gave none since
+abbrev pub WasRefused : Error → History → History → Type 0
+WasRefused error h k = is_refusal (error_kind error) ≡ true → h.refusals < k.refusals
+
+-- A new file was made: it is open, empty, and has this name.
+pub record IsMade (handle : Handle) (name beside : List ℕ) (file : ℕ) (s t : FolderState) : Type 0 where
+  pub opened : handle ≡ record { file = Some file; offset = 0 }
+  pub new : IsNew name beside file s t
+  pub named : file_of t beside ≡ Some file
+  pub empty : t.files file ≡ [] ∷ []
+
+-- what making the new file comes to
+abbrev pub MakesNew : {F : Type 0} → (F → Handle) → (F → List ℕ) → List ℕ → Result F Error → Option History → Option History → Type 0
+MakesNew handle beside name (Ok new) =
+    Runs (Prepares name) (λ h k. (file : ℕ) × IsMade (handle new) name (beside new) file h.now k.now)
+MakesNew handle beside name (Err error) = Runs (Prepares name) (λ h k. (k.now ≡ h.now) × WasRefused error h k)
+
+-- the owner and the mode were given, or the system gave no leave
+abbrev pub Gives : Bool → Option History → Option History → Type 0
+Gives given = Runs (λ s t. t ≡ s) (λ h k. (k.now ≡ h.now) × (given ≡ false → h.refusals < k.refusals))
+
+-- nothing has changed
+abbrev pub Rests : Option History → Option History → Type 0
+Rests = Runs (λ s t. t ≡ s) (λ h k. k.now ≡ h.now)
+
+-- an empty file gets these bytes durably where the answer is Ok
+abbrev pub WritesWhole : Handle → List ℕ → Result (Unit {0}) Error → Option History → Option History → Type 0
+WritesWhole file bytes result =
+    FileRuns file.file (λ old new. Unit {0}) (λ old new. file.offset ≡ 0 → old ≡ [] ∷ [] → AfterOk result (new ≡ bytes ∷ []))
+
+-- the same, where it had to be given to somebody first
+abbrev pub FillEnds : Handle → List ℕ → Result Replaced Error → History → History → Type 0
+FillEnds file bytes (Ok replaced.Done) h k =
+    OfFile (λ old new. file.offset ≡ 0 → old ≡ [] ∷ [] → new ≡ bytes ∷ []) file.file h.now k.now
+FillEnds file bytes (Ok replaced.Refused) h k = (k.now ≡ h.now) × (h.refusals < k.refusals)
+FillEnds file bytes (Err error) h k = OfFile (λ old new. Unit {0}) file.file h.now k.now
+
+abbrev pub Fills : Handle → List ℕ → Result Replaced Error → Option History → Option History → Type 0
+Fills file bytes result = Runs (OfFile (λ old new. Unit {0}) file.file) (FillEnds file bytes result)
+
+-- the first name may have given its file to the second one, or lost it
+pub record Shifts (beside name : List ℕ) (s t : FolderState) : Type 0 where
+  pub here : (e : Option ℕ) → SomeOf (λ f. f ≡ e) (t.names name) → (e ≡ file_of s beside) ⊎ SomeOf (λ f. f ≡ e) (s.names name)
+  pub others : (n : List ℕ) → n ≢ beside → n ≢ name → (e : Option ℕ) → SomeOf (λ f. f ≡ e) (t.names n) → SomeOf (λ f. f ≡ e) (s.names n)
+  pub files : SparesFiles s t
+
+-- what putting the new file in its place comes to
+abbrev pub PutEnds : List ℕ → List ℕ → Result Replaced Error → History → History → Type 0
+PutEnds beside name (Ok replaced.Done) h k =
+    (k.now.names name ≡ file_of h.now beside ∷ []) ⊎ (k.now.cannot_sync ≡ true)
+PutEnds beside name (Ok replaced.Refused) h k =
+    ((n : List ℕ) → n ≢ beside → k.now.names n ≡ h.now.names n) × (h.refusals < k.refusals)
+PutEnds beside name (Err error) h k = Unit {0}
+
+-- the new file is put in its place, or removed
+abbrev pub Puts : List ℕ → List ℕ → Result Replaced Error → Option History → Option History → Type 0
+Puts beside name result =
+    Runs (λ s t. file_of s beside ≢ file_of s name → Shifts beside name s t)
+    (λ h k. file_of h.now beside ≢ file_of h.now name → Shifts beside name h.now k.now × PutEnds beside name result h k)
+
+-- only this name may have changed, and no file
+pub record Aside (beside : List ℕ) (s t : FolderState) : Type 0 where
+  pub names : (n : List ℕ) → n ≢ beside → t.names n ≡ s.names n
+  pub files : SparesFiles s t
+
+-- Once a new file was filled it is put in its place, and else it is removed.
+abbrev pub FinishSteps : List ℕ → List ℕ → Result Replaced Error → FolderState → FolderState → Type 0
+FinishSteps beside name (Ok replaced.Done) s t = file_of s beside ≢ file_of s name → Shifts beside name s t
+FinishSteps beside name _ s t = Aside beside s t
+
+-- what comes of that
+abbrev pub FinishEnds : List ℕ → List ℕ → Result Replaced Error → Result Replaced Error → History → History → Type 0
+FinishEnds beside name (Ok replaced.Done) result h k =
+    file_of h.now beside ≢ file_of h.now name → PutEnds beside name result h k
+FinishEnds beside name filled (Ok answer) h k = (filled ≡ Ok answer) × Aside beside h.now k.now
+FinishEnds beside name filled (Err error) h k = Unit {0}
+
+abbrev pub Ends : List ℕ → List ℕ → Result Replaced Error → Result Replaced Error → Option History → Option History → Type 0
+Ends beside name filled result = Runs (FinishSteps beside name filled) (FinishEnds beside name filled result)
+
+-- what a replacement comes to, from the state before the new file was made
+abbrev pub ReplaceEnds : List ℕ → List ℕ → Result Replaced Error → FolderState → History → History → Type 0
+ReplaceEnds name bytes (Ok replaced.Done) s h k = IsDurable k.now name bytes ⊎ (k.now.cannot_sync ≡ true)
+ReplaceEnds name bytes (Ok replaced.Refused) s h k = Prepares name s k.now × (h.refusals < k.refusals)
+ReplaceEnds name bytes (Err error) s h k = Unit {0}
+
+abbrev pub ReplacesBy : Handle → List ℕ → List ℕ → List ℕ → Result Replaced Error → Option History → Option History → Type 0
+ReplacesBy handle beside name bytes result =
+    Runs (λ t u. (s : FolderState) (file : ℕ) → IsMade handle name beside file s t → KeepsOrReplaces name bytes s u)
+    (λ h k. (s : FolderState) (file : ℕ) → IsMade handle name beside file s h.now → ReplaceEnds name bytes result s h k)
+
+-- What a replacement comes to.
+abbrev pub Replaces : List ℕ → List ℕ → Result Replaced Error → Option History → Option History → Type 0
+Replaces name bytes result = Runs (KeepsOrReplaces name bytes) (λ h k. ReplaceEnds name bytes result h.now h k)
+
+-- whether it is a mount point, by its device and that of its folder
+abbrev pub IsMounted : List ℕ → Option Owner → FolderState → Type 0
+IsMounted place None s = ⊥
+IsMounted place (Some owner) s = owner.device ≢ s.device place
+
+abbrev pub Mounted : List ℕ → Option Owner → Result Bool Error → Option History → Option History → Type 0
+Mounted place owner result = Runs (λ s t. t ≡ s) (λ h k. (k.now ≡ h.now) × (result ≡ Ok true → IsMounted place owner h.now))
+
+-- A replacement is refused where the system gives no leave, and where the file is a mount point.
+abbrev pub ReplaceOrNotEnds : List ℕ → Option Owner → List ℕ → Result Replaced Error → History → History → Type 0
+ReplaceOrNotEnds name owner bytes (Ok replaced.Done) h k = IsDurable k.now name bytes ⊎ (k.now.cannot_sync ≡ true)
+ReplaceOrNotEnds name owner bytes (Ok replaced.Refused) h k =
+    Prepares name h.now k.now × (IsMounted (folder_of name) owner h.now ⊎ (h.refusals < k.refusals))
+ReplaceOrNotEnds name owner bytes (Err error) h k = Unit {0}
+
+abbrev pub ReplacesOrNot : List ℕ → Option Owner → List ℕ → Result Replaced Error → Option History → Option History → Type 0
+ReplacesOrNot name owner bytes result = Runs (KeepsOrReplaces name bytes) (ReplaceOrNotEnds name owner bytes result)

@@ -1,0 +1,121 @@
+ghost use Rattle.std.specs.Prelude.{◌≡◌, ℕ, List, Option, IfOk};
+ghost use Rattle.std.specs.Path.{path_buf_bytes};
+
+use std::fs::Permissions;
+use std::io;
+use std::path::PathBuf;
+
+/// What the system tells of a file, or of what else stands at a name.
+#[derive(Drop)]
+pub struct Found {
+    /// Whether it is a plain file.
+    pub is_file: bool,
+    /// Whether it is a symbolic link.
+    pub is_link: bool,
+    /// How many names it has.
+    pub names: u64,
+    /// The device that it stands on.
+    pub device: u64,
+    /// Its number on that device.
+    pub inode: u64,
+    /// The user whose it is.
+    pub user: u32,
+    /// The group whose it is.
+    pub group: u32,
+    /// Who may do what with it.
+    pub permissions: Permissions,
+}
+
+/// The calls of a file system that a save makes, each of them one call of the system. What a loss of
+/// power leaves after each is `Leaves` of the states that the folder tells.
+pub trait Folder {
+    ghost use Rattle.durable_folder.specs.Histories.{History, Turns};
+    ghost use Rattle.durable_folder.specs.Calls.{Handle, Finds, FindsOpen, FindsFolder, Resolves, Opens, OpensFolder, OpensOrCreates, Creates, Writes, ResizesFile, SyncsFile, Seeks, Renames, Removes, SyncsFolder, Stays, refusals_in, errors_in};
+
+    /// A file that was opened for writing.
+    type File: Drop;
+
+    /// A folder that was opened, to be synced.
+    type Place: Drop;
+
+    /// The states through which the folder went, if it tells them.
+    ghost told: { Self → Option History };
+
+    /// Which file was opened, and where the next bytes go.
+    ghost handle: { Self.File → Handle };
+
+    /// Which folder was opened.
+    ghost place: { Self.Place → List ℕ };
+
+    /// What stands at a name. A link is not followed.
+    fn find(&mut self, name: &str) -> io::Result<Found>
+        ensures { Turns (Finds name.now result) (refusals_in result) (told self.old) (told self.new) };
+
+    /// What is known of an open file.
+    fn find_open(&mut self, file: &Self::File) -> io::Result<Found>
+        ensures { Turns (FindsOpen (handle file.now) result) (refusals_in result) (told self.old) (told self.new) };
+
+    /// What is known of an open folder.
+    fn find_folder(&mut self, folder: &Self::Place) -> io::Result<Found>
+        ensures { Turns (FindsFolder (place folder.now) result) (refusals_in result) (told self.old) (told self.new) };
+
+    /// Where a link leads in the end.
+    fn resolve(&mut self, name: &str) -> io::Result<PathBuf>
+        ensures { Turns (Resolves path_buf_bytes name.now result) (errors_in result) (told self.old) (told self.new) };
+
+    /// Opens a file for writing that is there. It is not truncated, and links are followed.
+    fn open(&mut self, name: &str) -> io::Result<Self::File>
+        ensures start { IfOk result (λ file. (handle file).offset ≡ 0) }
+        ensures opens { Turns (Opens handle name.now result) (refusals_in result) (told self.old) (told self.new) };
+
+    /// Opens a file for writing, or makes it. It is not truncated, and links are followed.
+    fn open_or_create(&mut self, name: &str) -> io::Result<Self::File>
+        ensures start { IfOk result (λ file. (handle file).offset ≡ 0) }
+        ensures opens { Turns (OpensOrCreates handle name.now result) (refusals_in result) (told self.old) (told self.new) };
+
+    /// Makes a file of this mode for writing, where there is nothing of its name.
+    fn create_new(&mut self, name: &str, mode: u32) -> io::Result<Self::File>
+        ensures { Turns (Creates handle name.now result) (refusals_in result) (told self.old) (told self.new) };
+
+    /// Opens a folder.
+    fn open_folder(&mut self, folder: &str) -> io::Result<Self::Place>
+        ensures { Turns (OpensFolder place folder.now result) (refusals_in result) (told self.old) (told self.new) };
+
+    /// Gives the file of this name to a user and a group.
+    fn set_owner(&mut self, name: &str, user: u32, group: u32) -> io::Result<()>
+        ensures { Turns Stays (errors_in result) (told self.old) (told self.new) };
+
+    /// Says who may do what with a file.
+    fn set_permissions(&mut self, file: &Self::File, permissions: Permissions) -> io::Result<()>
+        ensures { Turns Stays (errors_in result) (told self.old) (told self.new) };
+
+    /// Writes bytes where the next ones go.
+    fn write(&mut self, file: &mut Self::File, bytes: &[u8]) -> io::Result<()>
+        ensures same { (handle file.new).file ≡ (handle file.old).file }
+        ensures writes { Turns (Writes (handle file.old) bytes.now result) (refusals_in result) (told self.old) (told self.new) };
+
+    /// Has the next bytes go to an offset from the start.
+    fn seek(&mut self, file: &mut Self::File, offset: u64) -> io::Result<()>
+        ensures same { (handle file.new).file ≡ (handle file.old).file }
+        ensures seeks { Turns (Seeks (handle file.new) offset result) (refusals_in result) (told self.old) (told self.new) };
+
+    /// Gives a file a length in bytes.
+    fn set_length(&mut self, file: &Self::File, length: u64) -> io::Result<()>
+        ensures { Turns (ResizesFile (handle file.now).file length result) (refusals_in result) (told self.old) (told self.new) };
+
+    /// Waits until the bytes of a file are in the system's store.
+    fn sync(&mut self, file: &Self::File) -> io::Result<()>
+        ensures { Turns (SyncsFile (handle file.now).file result) (refusals_in result) (told self.old) (told self.new) };
+
+    /// Puts a file at another name, in the place of what is there.
+    fn rename(&mut self, from: &str, to: &str) -> io::Result<()>
+        ensures { Turns (Renames from.now to.now result) (refusals_in result) (told self.old) (told self.new) };
+
+    /// Waits until the names of a folder are in the system's store.
+    fn sync_folder(&mut self, folder: &Self::Place) -> io::Result<()>
+        ensures { Turns (SyncsFolder (place folder.now) result) (refusals_in result) (told self.old) (told self.new) };
+
+    /// Removes a name.
+    fn remove(&mut self, name: &str) -> io::Result<()>
+        ensures { Turns (Removes name.now result) (refusals_in result) (told self.old) (told self.new) };
+}

@@ -1,0 +1,15 @@
+//! A folder of files, what a loss of power leaves of it, and a save that survives one.
+#![tactic(auto)]
+
+mod answers;
+mod beside;
+mod folder;
+mod in_place;
+mod new_file;
+mod replacing;
+mod saving;
+#[cfg(test)]
+mod tests;
+
+pub use folder::{Folder, Found};
+pub use saving::save;

@@ -1,0 +1,52 @@
+//! A new file that is to take the place of another one.
+ghost use Rattle.std.specs.Prelude.{◌≢◌, IfOk};
+ghost use Rattle.durable_folder.specs.NewFiles.{beside_of, handle_of};
+ghost use Rattle.durable_folder.specs.Saving.{MakesNew};
+
+use crate::Folder;
+use crate::beside::{MAX_TRIES, name_beside};
+use std::alloc::Global;
+use std::io;
+use std::io::{Error, ErrorKind};
+use std::path::PathBuf;
+
+/// A file that was made, and its name.
+#[derive(Drop)]
+pub struct NewFile<H> {
+    pub file: H,
+    pub name: PathBuf,
+}
+
+/// The mode of a file that is to get an owner: nobody else may open it before.
+const OWN_MODE: u32 = 0o600;
+
+/// The mode that is asked for where no owner is given. The system takes off what its mask says.
+const ANY_MODE: u32 = 0o666;
+
+/// A new file beside the one of this name, of a name that nobody else has.
+pub fn new_file<F: Folder>(
+    folder: &mut F,
+    alloc: Global,
+    name: &str,
+    is_owned: bool,
+) -> io::Result<NewFile<F::File>>
+    ensures apart { IfOk result (λ new. beside_of new ≢ name.now) }
+    ensures makes { MakesNew (handle_of F.handle) beside_of name.now result (F.told folder.old) (F.told folder.new) }
+{
+    let mode = if is_owned { OWN_MODE } else { ANY_MODE };
+    for number in 1..MAX_TRIES + 1 {
+        let Ok(beside) = name_beside(alloc, name, number) else {
+            return Err(Error::from(ErrorKind::OutOfMemory));
+        };
+        // A long name may be the name that is tried for itself.
+        if beside.as_str() == name {
+            continue;
+        }
+        match folder.create_new(beside.as_str(), mode) {
+            Ok(file) => return Ok(NewFile { file, name: beside }),
+            Err(error) if error.kind() == ErrorKind::AlreadyExists => {}
+            Err(error) => return Err(error),
+        }
+    }
+    Err(Error::from(ErrorKind::AlreadyExists))
+}

@@ -1,0 +1,203 @@
+//! A file is replaced by a new one that was written beside it.
+ghost use Rattle.std.specs.Prelude.{◌≡◌, ◌≢◌, ◌↔◌, IsTrue};
+ghost use Rattle.durable_folder.specs.NewFiles.{beside_of, handle_of};
+ghost use Rattle.durable_folder.specs.Histories.{IsTold};
+ghost use Rattle.durable_folder.specs.Places.{folder_of};
+ghost use Rattle.durable_folder.specs.Saving.{Gives, Rests, WritesWhole, Fills, Puts, Ends, ReplacesBy, Replaces, Mounted, ReplacesOrNot};
+
+use crate::answers::{Replaced, late, refused, synced};
+use crate::beside::folder_of;
+use crate::new_file::{NewFile, new_file};
+use crate::{Folder, Found};
+use std::alloc::Global;
+use std::fs::Permissions;
+use std::io;
+use std::io::{Error, ErrorKind};
+use std::path::PathBuf;
+
+/// Whose a file is, who may do what with it, and the device that it stands on.
+#[derive(Drop)]
+pub struct Owner {
+    pub user: u32,
+    pub group: u32,
+    pub permissions: Permissions,
+    pub device: u64,
+}
+
+/// Gives a new file its owner and mode, if it is to have them. Answers whether the system gave leave.
+fn give<F: Folder>(folder: &mut F, file: &F::File, beside: &str, owner: Option<Owner>) -> bool
+    ensures { Gives result (F.told folder.old) (F.told folder.new) }
+{
+    let Some(owner) = owner else {
+        return true;
+    };
+    if folder.set_owner(beside, owner.user, owner.group).is_err() {
+        return false;
+    }
+    folder.set_permissions(file, owner.permissions).is_ok()
+}
+
+/// Writes the bytes of a new file, up to the system's store.
+fn write_whole<F: Folder>(folder: &mut F, file: &mut F::File, bytes: &[u8]) -> io::Result<()>
+    ensures { WritesWhole (F.handle file.old) bytes.now result (F.told folder.old) (F.told folder.new) }
+{
+    folder.write(file, bytes)?;
+    folder.sync(file)
+}
+
+/// Gives a new file its owner and mode, and then its bytes.
+fn fill<F: Folder>(
+    folder: &mut F,
+    file: &mut F::File,
+    beside: &str,
+    owner: Option<Owner>,
+    bytes: &[u8],
+) -> io::Result<Replaced>
+    ensures { Fills (F.handle file.old) bytes.now result (F.told folder.old) (F.told folder.new) }
+{
+    if !give(folder, file, beside, owner) {
+        return Ok(Replaced::Refused);
+    }
+    write_whole(folder, file, bytes)?;
+    Ok(Replaced::Done)
+}
+
+/// Whether two findings are of one file.
+fn is_same(one: &Found, other: &Found) -> bool
+    ensures { IsTrue result ↔ ((one.now.device ≡ other.now.device) × (one.now.inode ≡ other.now.inode)) }
+{
+    one.device == other.device && one.inode == other.inode
+}
+
+/// Whether the file still has the name under which it was made.
+fn has_name<F: Folder>(folder: &mut F, file: &F::File, beside: &str) -> io::Result<bool>
+    ensures { Rests (F.told folder.old) (F.told folder.new) }
+{
+    let named = folder.find(beside)?;
+    let made = folder.find_open(file)?;
+    Ok(is_same(&made, &named))
+}
+
+/// Puts a new file in the place of the one of this name. Where that is refused, it is removed.
+fn put<F: Folder>(
+    folder: &mut F,
+    place: &F::Place,
+    beside: &str,
+    name: &str,
+) -> io::Result<Replaced>
+    ensures { beside.now ≢ name.now → (IsTold (F.told folder.old) → F.place place.now ≡ folder_of name.now) → Puts beside.now name.now result (F.told folder.old) (F.told folder.new) }
+{
+    match folder.rename(beside, name) {
+        Ok(()) => {
+            late(synced(folder.sync_folder(place)))?;
+            Ok(Replaced::Done)
+        }
+        Err(error) => {
+            folder.remove(beside)?;
+            refused(error)
+        }
+    }
+}
+
+/// Puts a new file in its place once it was filled, and else removes it. What somebody else put at
+/// its name is neither renamed nor removed.
+fn finish<F: Folder>(
+    folder: &mut F,
+    place: &F::Place,
+    file: &F::File,
+    beside: &str,
+    name: &str,
+    filled: io::Result<Replaced>,
+) -> io::Result<Replaced>
+    ensures { beside.now ≢ name.now → (IsTold (F.told folder.old) → F.place place.now ≡ folder_of name.now) → Ends beside.now name.now filled result (F.told folder.old) (F.told folder.new) }
+{
+    if !has_name(folder, file, beside)? {
+        return Err(Error::from(ErrorKind::Other));
+    }
+    let answer = match filled {
+        Ok(answer) => answer,
+        Err(error) => {
+            folder.remove(beside)?;
+            return Err(error);
+        }
+    };
+    match answer {
+        Replaced::Done => put(folder, place, beside, name),
+        Replaced::Refused => {
+            folder.remove(beside)?;
+            Ok(Replaced::Refused)
+        }
+    }
+}
+
+/// Fills a new file and puts it in the place of the one of this name.
+fn replace_by<F: Folder>(
+    folder: &mut F,
+    place: &F::Place,
+    new: NewFile<F::File>,
+    name: &str,
+    owner: Option<Owner>,
+    bytes: &[u8],
+) -> io::Result<Replaced>
+    ensures { beside_of new ≢ name.now → (IsTold (F.told folder.old) → F.place place.now ≡ folder_of name.now) →
+        ReplacesBy (handle_of F.handle new) (beside_of new) name.now bytes.now result (F.told folder.old) (F.told folder.new) }
+{
+    let NewFile { file, name: beside } = new;
+    let mut file = file;
+    let filled = fill(folder, &mut file, beside.as_str(), owner, bytes);
+    finish(folder, place, &file, beside.as_str(), name, filled)
+}
+
+/// Makes a new file, and puts it in the place of the one of this name.
+fn replace_in<F: Folder>(
+    folder: &mut F,
+    alloc: Global,
+    place: &F::Place,
+    name: &str,
+    owner: Option<Owner>,
+    bytes: &[u8],
+) -> io::Result<Replaced>
+    ensures { (IsTold (F.told folder.old) → F.place place.now ≡ folder_of name.now) → Replaces name.now bytes.now result (F.told folder.old) (F.told folder.new) }
+{
+    match new_file(folder, alloc, name, owner.is_some()) {
+        Ok(new) => replace_by(folder, place, new, name, owner, bytes),
+        Err(error) => refused(error),
+    }
+}
+
+/// Whether a file that is given an owner stands on another device than its folder. Then it is a
+/// mount point, which can't be replaced.
+fn is_mounted<F: Folder>(
+    folder: &mut F,
+    place: &F::Place,
+    owner: &Option<Owner>,
+) -> io::Result<bool>
+    ensures { Mounted (F.place place.now) owner.now result (F.told folder.old) (F.told folder.new) }
+{
+    let Some(old) = owner else {
+        return Ok(false);
+    };
+    let found = folder.find_folder(place)?;
+    Ok(found.device != old.device)
+}
+
+/// Puts a new file in the place of the one of this name. It has its owner and mode before its first
+/// byte, and comes to the name once it is whole and in the system's store.
+pub fn replace<F: Folder>(
+    folder: &mut F,
+    alloc: Global,
+    name: &str,
+    owner: Option<Owner>,
+    bytes: &[u8],
+) -> io::Result<Replaced>
+    ensures { ReplacesOrNot name.now owner bytes.now result (F.told folder.old) (F.told folder.new) }
+{
+    let place = match folder.open_folder(folder_of(name)) {
+        Ok(place) => place,
+        Err(error) => return refused(error),
+    };
+    if is_mounted(folder, &place, &owner)? {
+        return Ok(Replaced::Refused);
+    }
+    replace_in(folder, alloc, &place, name, owner, bytes)
+}

@@ -1,0 +1,132 @@
+//! How the bytes of a save come to a name.
+ghost use Rattle.durable_folder.specs.Ways.{Chooses, SavesOver};
+
+use crate::answers::{Replaced, late, synced};
+use crate::beside::folder_of;
+use crate::in_place::write_through;
+use crate::replacing::{Owner, replace};
+use crate::{Folder, Found};
+use std::alloc::Global;
+use std::io;
+use std::io::ErrorKind;
+
+/// How bytes come to what is found at a name.
+#[derive(Drop)]
+enum Way {
+    /// By a new file that is put in the place of the old one, with the same owner and mode.
+    Replace(Owner),
+    /// By writing to what is there: to a file with several names, or to what is no plain file.
+    InPlace,
+}
+
+/// How bytes come to a name, by what is there and how many names it has.
+fn way_of(found: Found) -> Way
+    ensures { Chooses found result }
+{
+    if found.is_file && found.names <= 1 {
+        Way::Replace(Owner {
+            user: found.user,
+            group: found.group,
+            permissions: found.permissions,
+            device: found.device,
+        })
+    } else {
+        Way::InPlace
+    }
+}
+
+/// Makes these the bytes of the file of this name, or of the one that a link of this name leads to.
+/// After Ok they are in the system's store, as far as it tells.
+pub fn save<F: Folder>(folder: &mut F, alloc: Global, name: &str, bytes: &[u8]) -> io::Result<()> {
+    let found = folder.find(name);
+    if !matches!(&found, Ok(old) if old.is_link) {
+        return save_at(folder, alloc, name, found, bytes);
+    }
+    // Who may not write through a link may not replace what it leads to.
+    let file = match folder.open(name) {
+        Ok(file) => file,
+        Err(error) if error.kind() == ErrorKind::NotFound => {
+            return make_through(folder, name, bytes);
+        }
+        Err(error) => return Err(error),
+    };
+    match folder.resolve(name) {
+        Ok(target) => {
+            let found = folder.find(target.as_str());
+            save_at(folder, alloc, target.as_str(), found, bytes)
+        }
+        Err(error) if error.kind() == ErrorKind::OutOfMemory => Err(error),
+        Err(_) => write_through(folder, file, bytes),
+    }
+}
+
+/// Makes the file that a link leads to.
+fn make_through<F: Folder>(folder: &mut F, name: &str, bytes: &[u8]) -> io::Result<()> {
+    let file = folder.open_or_create(name)?;
+    write_through(folder, file, bytes)?;
+    match folder.resolve(name) {
+        Ok(target) => sync_folder_of(folder, target.as_str()),
+        Err(error) => late(Err(error)),
+    }
+}
+
+/// Waits until the name of a file that was made is in the system's store. A folder that may not be
+/// read can't be synced.
+fn sync_folder_of<F: Folder>(folder: &mut F, name: &str) -> io::Result<()> {
+    match folder.open_folder(folder_of(name)) {
+        Ok(place) => late(synced(folder.sync_folder(&place))),
+        Err(error) if error.kind() == ErrorKind::PermissionDenied => Ok(()),
+        Err(error) => late(Err(error)),
+    }
+}
+
+/// Saves at a name that is no link, by what was found there.
+fn save_at<F: Folder>(
+    folder: &mut F,
+    alloc: Global,
+    name: &str,
+    found: io::Result<Found>,
+    bytes: &[u8],
+) -> io::Result<()> {
+    let old = match found {
+        Ok(old) => old,
+        Err(error) if error.kind() == ErrorKind::NotFound => {
+            return make(folder, alloc, name, bytes);
+        }
+        Err(error) => return Err(error),
+    };
+    save_over(folder, alloc, name, old, bytes)
+}
+
+/// Saves at a name that is no link, where this was found.
+fn save_over<F: Folder>(
+    folder: &mut F,
+    alloc: Global,
+    name: &str,
+    old: Found,
+    bytes: &[u8],
+) -> io::Result<()>
+    ensures { SavesOver name.now old bytes.now result (F.told folder.old) (F.told folder.new) }
+{
+    // Who may not write a file may not replace it.
+    let file = folder.open(name)?;
+    match way_of(old) {
+        Way::Replace(owner) => match replace(folder, alloc, name, Some(owner), bytes)? {
+            Replaced::Done => Ok(()),
+            Replaced::Refused => write_through(folder, file, bytes),
+        },
+        Way::InPlace => write_through(folder, file, bytes),
+    }
+}
+
+/// Makes a file where there is none.
+fn make<F: Folder>(folder: &mut F, alloc: Global, name: &str, bytes: &[u8]) -> io::Result<()> {
+    match replace(folder, alloc, name, None, bytes)? {
+        Replaced::Done => Ok(()),
+        Replaced::Refused => {
+            let file = folder.open_or_create(name)?;
+            write_through(folder, file, bytes)?;
+            sync_folder_of(folder, name)
+        }
+    }
+}
