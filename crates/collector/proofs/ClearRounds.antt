@@ -1,8 +1,6 @@
 -- The rounds of clearing: what is so between two rounds, and what a round leaves.
-use Rattle.std.proofs.Common.{◌≡◌, ℕ, ◌+◌, ◌<◌, ◌≤◌, true, false, List, Some, refl, sym, ap, ◌∙◌, subst, inl, inr, arith}
-use Rattle.std.proofs.Math.Nat.{mul_comm}
+use Rattle.std.proofs.Common.{◌≡◌, ◌≢◌, ℕ, ◌+◌, ◌<◌, ◌≤◌, true, false, List, Some, refl, sym, ap, ◌∙◌, subst, inl, inr, arith}
 use Rattle.std.proofs.lemmas.Bool.{cases_eq}
-use Rattle.std.proofs.lemmas.Nat.{div_below}
 use Rattle.tx_types.specs.Config.{shape_of, blocks_of}
 use Rattle.tx_types.specs.declared.config.Config.{Config}
 use Rattle.tx_types.specs.declared.config.Protocol.{Protocol}
@@ -15,7 +13,6 @@ use Rattle.flash_model.proofs.MoveLemmas.{FlashMoves-nothing, FlashMoves-then}
 use Rattle.record_list.specs.Changes.{LossLaw}
 use Rattle.version_index.specs.declared.note.Note.TheVariants.{Blank}
 use Rattle.version_index.specs.Noted.{Noted, block_to_go, erased}
-use Rattle.version_index.proofs.FoundIn.{noted_from}
 use Rattle.die_alloc.specs.BlockTable.{BlockTable}
 use Rattle.collector.specs.declared.unsure.Unsure.{Unsure}
 use Rattle.collector.specs.declared.unsure.Unsure.TheVariants as unsure
@@ -27,7 +24,8 @@ use Rattle.collector.specs.Preserves.{Preserves, KeepsArray}
 use Rattle.collector.proofs.Chains.{CostsAtMost-nothing, CostsAtMost-then, CostsAtMost-more}
 use Rattle.collector.proofs.Keeping.{preserves_then, preserves_same, keeps_array_then, keeps_array_same}
 use Rattle.collector.proofs.GoneRecords.{GoesFrom, going_some}
-use Rattle.collector.proofs.GoingCounts.{at_going, goes_unneeded, erased_fewer, collected_fewer, some_going}
+use Rattle.collector.proofs.GoingCounts.{Leaves, at_going, still_going, fewer_going, goes_unneeded, erased_left, collected_left, some_going}
+use Rattle.collector.proofs.GoingOrder.{slot_exists}
 use Rattle.collector.proofs.Losing.{preserves}
 use Rattle.collector.proofs.NextNames.{next_stays}
 use Rattle.collector.proofs.RoomMade.{spare_within}
@@ -89,12 +87,7 @@ module _ (p : Protocol) (page below : ℕ) (s0 s : FlashState) (n0 n : Noted) (t
     from = going_some n page below block found
 
     pub block_exists : block < blocks_of (shape_of n.config)
-    block_exists =
-        let per = n.config.pages_per_block in
-        let within = (noted_from n.notes from.found from.is_in).0 in
-        let some : 0 < n.config.pages_per_block = (let b = so.matches.noted.bounds.shape.pages_least in omega arith) in
-        subst (λ b. b < blocks_of (shape_of n.config)) from.slot
-        (div_below from.found.slot.0 per (blocks_of (shape_of n.config)) some (omega (arith, within, so.matches.noted.slots, mul_comm per (blocks_of (shape_of n.config)))))
+    block_exists = subst (λ b. b < blocks_of (shape_of n.config)) from.slot (slot_exists n so.matches.noted from.found from.is_in)
 
     pub block_unneeded : HasUnneeded n block
     block_unneeded = goes_unneeded n so.matches.noted page below so.names so.next block from
@@ -124,20 +117,27 @@ module _ (p : Protocol) (page below : ℕ) (s0 s : FlashState) (n0 n : Noted) (t
       law : LossLaw n.config.protocol
       law = subst LossLaw (sym rule ∙ ap (λ (k : Config). k.protocol) (sym so.kept.config)) loss
 
-      -- there are fewer such blocks after the round
-      pub round_fewer : IsTreated n t block n' t' → blocks_to_go n' page below < blocks_to_go n page below
-      round_fewer treated = elim (cases_eq block t.spare) [
+      -- each record that must go after the round stood there before, and none is left of the block
+      leaves : IsTreated n t block n' t' → Leaves n n' page below block
+      leaves treated = elim (cases_eq block t.spare) [
         | inl same ↦ (
             let is : n' ≡ erased n block = (treated.0 same).0 ∙ ap (erased n) (sym same) in
-            subst (λ (k : Noted). blocks_to_go k page below < blocks_to_go n page below) (sym is)
-            (erased_fewer n so.matches.noted page below so.names so.next block block_exists now (subst (Preserves n) is kept')))
+            subst (λ (k : Noted). Leaves n k page below block) (sym is)
+            (erased_left n so.matches.noted page below so.names so.next block block_exists (subst (Preserves n) is kept')))
         | inr apart ↦ (
             let is = (treated.1 apart).0 in
             let low = spare_within s n t calm in
-            subst (λ (k : Noted). blocks_to_go k page below < blocks_to_go n page below) (sym is)
-            (collected_fewer n so.matches.noted page below so.names so.next block t.spare low block_exists
-            (preserves n so.matches.noted law t.spare low so.matches.spared Blank refl) (subst (Preserves n) is kept') now))
+            subst (λ (k : Noted). Leaves n k page below block) (sym is)
+            (collected_left n so.matches.noted page below so.names so.next block t.spare low block_exists
+            (preserves n so.matches.noted law t.spare low so.matches.spared Blank refl) (subst (Preserves n) is kept')))
       ]
+
+      pub round_still : IsTreated n t block n' t' → (b : ℕ) → is_going n' page below b ≡ true → (is_going n page below b ≡ true) × (b ≢ block)
+      round_still treated = still_going n n' page below block (leaves treated)
+
+      -- there are fewer such blocks after the round
+      pub round_fewer : IsTreated n t block n' t' → blocks_to_go n' page below < blocks_to_go n page below
+      round_fewer treated = fewer_going n n' page below block kept'.config block_exists now (leaves treated)
 
       per_same : n.config.pages_per_block ≡ n0.config.pages_per_block
       per_same = ap (λ (k : Config). k.pages_per_block) so.kept.config

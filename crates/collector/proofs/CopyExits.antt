@@ -29,10 +29,11 @@ use Rattle.version_index.proofs.ImageLaws.{image_copy_law, image_damage_law}
 use Rattle.die_alloc.specs.BlockTable.{BlockTable, IsFree, block_of_slot}
 use Rattle.die_alloc.proofs.Changes.{block_within, has_room_not_spare}
 use Rattle.collector.specs.declared.unsure.Unsure.TheVariants as unsure
-use Rattle.collector.specs.Matches.{Matches}
+use Rattle.collector.specs.Matches.{Matches, IsNotedAt}
 use Rattle.collector.specs.Preserves.{KeepsArray}
 use Rattle.collector.proofs.Calm.{noted_as_read}
 use Rattle.collector.proofs.CopyNotes.{copy_spared}
+use Rattle.collector.proofs.SureCounts.{sure_counts}
 
 -- a slot that is noted blank as it reads is blank
 pub blank_noted : (p : Protocol) (contents : Contents) → note_of p contents ≡ Blank → contents ≡ blank
@@ -129,6 +130,15 @@ module _ (s s' : FlashState) (n : Noted) (t : BlockTable) (m : Matches s n t uns
       let now = left_done e.done.image in
       let long : from.0 < length n.notes = omega (arith, from_within, m.noted.slots) in
       let long' : to.0 < length n.notes = omega (arith, to_within, m.noted.slots) in
+      let now_noted : (slot : ℕ) → slot < slots_of s'.shape → IsNotedAt s'.image (copied n from.0 to.0) slot = λ slot within. elim (cases_Bool (slot == to.0)) [
+        | inl here ↦ subst (λ k. note_at (copied n from.0 to.0).notes k ≡ note_of p (slot_at s'.image k)) (sym (eqb-true slot to.0 here))
+            (get_or-set_same n.notes to.0 (note_at n.notes from.0) Blank long'
+            ∙ noted_as_read s n t m from.0 (omega (arith, from_within, ap slots_of m.shape))
+            ∙ ap (note_of p) reads ∙ ap (note_of p) (sym now.there))
+        | inr other ↦ get_or-set_other n.notes to.0 slot (note_at n.notes from.0) Blank (eqb-false slot to.0 other)
+            ∙ noted_as_read s n t m slot (omega (arith, within, ap slots_of same))
+            ∙ ap (note_of p) (sym (now.others slot (eqb-false slot to.0 other)))
+      ] in
       record {
         shape = same ∙ m.shape;
         flash = now.flash;
@@ -137,15 +147,8 @@ module _ (s s' : FlashState) (n : Noted) (t : BlockTable) (m : Matches s n t uns
         table = m.table;
         blocks = m.blocks ∙ sym same;
         spare = m.spare;
-        sure = λ slot within sure. elim (cases_Bool (slot == to.0)) [
-          | inl here ↦ subst (λ k. note_at (copied n from.0 to.0).notes k ≡ note_of p (slot_at s'.image k)) (sym (eqb-true slot to.0 here))
-              (get_or-set_same n.notes to.0 (note_at n.notes from.0) Blank long'
-              ∙ noted_as_read s n t m from.0 (omega (arith, from_within, ap slots_of m.shape))
-              ∙ ap (note_of p) reads ∙ ap (note_of p) (sym now.there))
-          | inr other ↦ get_or-set_other n.notes to.0 slot (note_at n.notes from.0) Blank (eqb-false slot to.0 other)
-              ∙ noted_as_read s n t m slot (omega (arith, within, ap slots_of same))
-              ∙ ap (note_of p) (sym (now.others slot (eqb-false slot to.0 other)))
-        ];
+        sure = λ slot within sure. now_noted slot within;
+        counts = sure_counts s' (copied n from.0 to.0) (same ∙ m.shape) now.flash now.sound noted.slots now_noted;
         place = tt;
         spared = copy_spared n m.noted law from.0 to.0 rec source long long' was noted t.spare m.spared;
         victim = tt;
@@ -161,6 +164,7 @@ module _ (s s' : FlashState) (n : Noted) (t : BlockTable) (m : Matches s n t uns
         flash = now.flash;
         sound = now.sound;
         noted = m.noted;
+        counts = m.counts;
         table = m.table;
         blocks = m.blocks ∙ sym same;
         spare = m.spare;

@@ -35,6 +35,7 @@ use Rattle.collector.proofs.Exchange.{free_away, free_before, tail_blank}
 use Rattle.collector.proofs.SettledBlocks.{out_of, noted_out}
 use Rattle.collector.specs.Collecting.{exchanged}
 use Rattle.die_alloc.specs.BlockTable.{table_with_spare}
+use Rattle.collector.proofs.SureCounts.{sure_counts}
 
 module _ (s : FlashState) (n : Noted) (t : BlockTable) (m : Matches s n t unsure.Nothing)
     (loss : LossLaw n.config.protocol) (written_loss : WrittenLossLaw n.config.protocol)
@@ -189,6 +190,9 @@ module _ (s s' : FlashState) (n : Noted) (t : BlockTable) (m : Matches s n t uns
     flash = flash_erased s s' n t m loss written_loss t.spare spare_below m.spared e.shape e.done;
     sound = sound_erased s s' n t m loss written_loss t.spare spare_below m.spared e.shape e.done;
     noted = noted;
+    counts = sure_counts s' (erased n t.spare) (e.shape ∙ m.shape) (flash_erased s s' n t m loss written_loss t.spare spare_below m.spared e.shape e.done)
+        (sound_erased s s' n t m loss written_loss t.spare spare_below m.spared e.shape e.done) noted.slots
+        (λ slot within. mirrors_erased s s' n t m loss written_loss t.spare spare_below m.spared e.shape e.done slot within);
     table = m.table;
     blocks = m.blocks ∙ sym e.shape;
     spare = m.spare;
@@ -208,6 +212,7 @@ module _ (s s' : FlashState) (n : Noted) (t : BlockTable) (m : Matches s n t uns
         flash = torn.flash;
         sound = torn.sound;
         noted = m.noted;
+        counts = m.counts;
         table = m.table;
         blocks = m.blocks ∙ sym e.shape;
         spare = m.spare;
@@ -230,6 +235,7 @@ module _ (s s' : FlashState) (n : Noted) (t : BlockTable) (m : Matches s n t uns
         flash = torn.flash;
         sound = torn.sound;
         noted = m.noted;
+        counts = m.counts;
         table = m.table;
         blocks = m.blocks ∙ sym e.shape;
         spare = m.spare;
@@ -256,6 +262,9 @@ module _ (s s' : FlashState) (n : Noted) (t : BlockTable) (m : Matches s n t uns
         flash = flash_erased s s' n t m loss written_loss block below spared e.shape e.done;
         sound = sound_erased s s' n t m loss written_loss block below spared e.shape e.done;
         noted = noted;
+        counts = sure_counts s' (with_spare (erased n block) block) (e.shape ∙ m.shape) (flash_erased s s' n t m loss written_loss block below spared e.shape e.done)
+            (sound_erased s s' n t m loss written_loss block below spared e.shape e.done) noted.slots
+            (λ slot within. mirrors_erased s s' n t m loss written_loss block below spared e.shape e.done slot within);
         table = table;
         blocks = m.blocks ∙ sym e.shape;
         spare = refl;

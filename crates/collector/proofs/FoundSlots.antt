@@ -14,6 +14,7 @@ moved s n t good m = record {
   flash = m.flash;
   sound = m.sound;
   noted = m.noted;
+  counts = m.counts;
   table = good;
   blocks = m.blocks;
   spare = m.spare;

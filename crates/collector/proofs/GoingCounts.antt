@@ -33,7 +33,7 @@ pub record GoesIn (n : Noted) (page below block : ℕ) (f : Found) : Type 0 wher
   pub slot : f.slot.0 / n.config.pages_per_block ≡ block
   pub goes : must_go n.config.protocol (found_in n.notes) n.config.logical page below f.rec ≡ true
 
-going_at : (n : Noted) (page below block : ℕ) → is_going n page below block ≡ true → (f : Found) × GoesIn n page below block f
+pub going_at : (n : Noted) (page below block : ℕ) → is_going n page below block ≡ true → (f : Found) × GoesIn n page below block f
 going_at n page below block h =
     let any = any_of (λ f. eqb (f.slot.0 / n.config.pages_per_block) block && must_go n.config.protocol (found_in n.notes) n.config.logical page below f.rec) (found_in n.notes) h in
     let parts = and_parts (eqb (any.0.slot.0 / n.config.pages_per_block) block) (must_go n.config.protocol (found_in n.notes) n.config.logical page below any.0.rec) any.2 in
@@ -45,15 +45,25 @@ at_going n page below block f g =
     (and_from (eqb (f.slot.0 / n.config.pages_per_block) block) (must_go n.config.protocol (found_in n.notes) n.config.logical page below f.rec)
     (eq-eqb (f.slot.0 / n.config.pages_per_block) block g.slot) g.goes)
 
--- where the records that must go afterwards stood there before, and none is left of a block that held one, there are fewer
--- such blocks
+-- each record that must go afterwards stood there before, and none is left of a block
+pub record Leaves (n m : Noted) (page below block : ℕ) : Type 0 where
+  pub still : (b : ℕ) (f : Found) → GoesIn m page below b f → GoesIn n page below b f × (b ≢ block)
+
+-- no block holds one that did not, and this one holds none
+pub still_going : (n m : Noted) (page below block : ℕ) → Leaves n m page below block → (b : ℕ) → is_going m page below b ≡ true →
+    (is_going n page below b ≡ true) × (b ≢ block)
+still_going n m page below block left b there =
+    let g = going_at m page below b there in
+    let old = left.still b g.0 g.1 in (at_going n page below b g.0 old.0, old.1)
+
+-- so there are fewer such blocks where it held one
 pub fewer_going : (n m : Noted) (page below block : ℕ) → m.config ≡ n.config → block < blocks_of (shape_of n.config) → is_going n page below block ≡ true →
-    ((b : ℕ) (f : Found) → GoesIn m page below b f → GoesIn n page below b f × (b ≢ block)) → blocks_to_go m page below < blocks_to_go n page below
+    Leaves n m page below block → blocks_to_go m page below < blocks_to_go n page below
 unfolding blocks_to_go
-fewer_going n m page below block config within now still =
+fewer_going n m page below block config within now left =
     let less = count_less (is_going n page below) (is_going m page below) 0 (blocks_of (shape_of n.config)) block
-    (λ k low high there. let g = going_at m page below k there in at_going n page below k g.0 (still k g.0 g.1).0) (omega arith) (omega arith) now
-    (false_from_ne_true (is_going m page below block) (λ there. let g = going_at m page below block there in (still block g.0 g.1).1 refl)) in
+    (λ k low high there. (still_going n m page below block left k there).0) (omega arith) (omega arith) now
+    (false_from_ne_true (is_going m page below block) (λ there. (still_going n m page below block left block there).1 refl)) in
     subst (λ (c : Config). count_by (is_going m page below) (range_with_len 0 (blocks_of (shape_of c))) < count_by (is_going n page below) (range_with_len 0 (blocks_of (shape_of n.config))))
     (sym config) less
 
@@ -103,33 +113,36 @@ module _ (n : Noted) (noted : IsNoted n.config.protocol n) (page below : ℕ) (n
   page_of : (f : Found) → Contains (found_in n.notes) f → f.rec.page < n.config.logical
   page_of f i = (All-contains (PagesExist n.config.logical) (found_in n.notes) f (noted.sound Pages) i).0
 
-  pub erased_fewer : block < blocks_of (shape_of n.config) → is_going n page below block ≡ true → Preserves n (erased n block) →
-      blocks_to_go (erased n block) page below < blocks_to_go n page below
-  erased_fewer within now kept = fewer_going n (erased n block) page below block refl within now (λ b f g.
-      let was = erased_from n some noted.slots block within f g.is_in in (
-        record { is_in = was.0; slot = g.slot; goes = sym (goes_same n (erased n block) kept page below f.rec (page_of f was.0)) ∙ g.goes },
-        λ same. other_block (f.slot.0 / n.config.pages_per_block) block (eqb (f.slot.0 / n.config.pages_per_block) block) refl was.1 (g.slot ∙ same),
-      ))
+  pub erased_left : block < blocks_of (shape_of n.config) → Preserves n (erased n block) → Leaves n (erased n block) page below block
+  erased_left within kept = record {
+    still = λ b f g.
+        let was = erased_from n some noted.slots block within f g.is_in in (
+          record { is_in = was.0; slot = g.slot; goes = sym (goes_same n (erased n block) kept page below f.rec (page_of f was.0)) ∙ g.goes },
+          λ same. other_block (f.slot.0 / n.config.pages_per_block) block (eqb (f.slot.0 / n.config.pages_per_block) block) refl was.1 (g.slot ∙ same),
+        );
+  }
 
   module _ (spare : ℕ) (spare_below : spare < blocks_of (shape_of n.config)) (within : block < blocks_of (shape_of n.config))
       (clean : Preserves n (noted_cleaned n spare)) (done : Preserves n (collected n spare block)) where
-    pub collected_fewer : is_going n page below block ≡ true → blocks_to_go (collected n spare block) page below < blocks_to_go n page below
-    collected_fewer now = fewer_going n (collected n spare block) page below block done.config within now (λ b f g.
-        let out = collected_outside n some noted.slots spare block spare_below within f g.is_in in
-        let slot = subst (λ (c : Config). f.slot.0 / c.pages_per_block ≡ b) done.config g.slot in (
-          elim (collected_from n some noted.slots spare block spare_below within f g.is_in) [
-            | in_place was away ↦ record { is_in = was; slot = slot; goes = sym (goes_same n (collected n spare block) done page below f.rec (page_of f was)) ∙ g.goes }
-            | in_copy from was needed ↦ (
-                let before = (erased_from n some noted.slots spare spare_below _ was).0 in
-                let low = page_of _ before in
-                let goes = goes_same n (noted_cleaned n spare) clean page below f.rec low
-                ∙ sym (goes_same n (collected n spare block) done page below f.rec low) ∙ g.goes in
-                absurd (both_ways (needed_of (noted_cleaned n spare) from)
-                (slot_needless (noted_cleaned n spare) names (record { page = page; version = below })
-                (next_stays n (noted_cleaned n spare) names (record { page = page; version = below }) noted.pages clean next) _ was goes) needed))
-          ],
-          λ same. other_block (f.slot.0 / n.config.pages_per_block) block (eqb (f.slot.0 / n.config.pages_per_block) block) refl out (slot ∙ same),
-        ))
+    pub collected_left : Leaves n (collected n spare block) page below block
+    collected_left = record {
+      still = λ b f g.
+          let out = collected_outside n some noted.slots spare block spare_below within f g.is_in in
+          let slot = subst (λ (c : Config). f.slot.0 / c.pages_per_block ≡ b) done.config g.slot in (
+            elim (collected_from n some noted.slots spare block spare_below within f g.is_in) [
+              | in_place was away ↦ record { is_in = was; slot = slot; goes = sym (goes_same n (collected n spare block) done page below f.rec (page_of f was)) ∙ g.goes }
+              | in_copy from was needed ↦ (
+                  let before = (erased_from n some noted.slots spare spare_below _ was).0 in
+                  let low = page_of _ before in
+                  let goes = goes_same n (noted_cleaned n spare) clean page below f.rec low
+                  ∙ sym (goes_same n (collected n spare block) done page below f.rec low) ∙ g.goes in
+                  absurd (both_ways (needed_of (noted_cleaned n spare) from)
+                  (slot_needless (noted_cleaned n spare) names (record { page = page; version = below })
+                  (next_stays n (noted_cleaned n spare) names (record { page = page; version = below }) noted.pages clean next) _ was goes) needed))
+            ],
+            λ same. other_block (f.slot.0 / n.config.pages_per_block) block (eqb (f.slot.0 / n.config.pages_per_block) block) refl out (slot ∙ same),
+          );
+    }
 
 -- a block that holds one is counted
 pub some_going : (n : Noted) (page below block : ℕ) → block < blocks_of (shape_of n.config) → is_going n page below block ≡ true → 0 < blocks_to_go n page below

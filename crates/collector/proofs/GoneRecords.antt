@@ -12,7 +12,7 @@ use Rattle.tx_types.specs.declared.record.Rec.{Rec}
 use Rattle.record_list.specs.declared.found.Found.{Found}
 use Rattle.record_list.specs.Records.{name_of, mentions_below}
 use Rattle.record_list.specs.Current.{cur, IsCurrent, is_loose, is_held, must_go}
-use Rattle.record_list.specs.Transaction.{next_names, back_version, IsAsked, IsBegun}
+use Rattle.record_list.specs.Transaction.{next_names, IsAsked, IsBegun, IsAskedAt}
 use Rattle.record_list.specs.Written.{first_slot}
 use Rattle.record_list.proofs.Progress.{underway_of, one_name}
 use Rattle.record_list.proofs.Rounds.{follows_of, follows_in}
@@ -53,7 +53,7 @@ module _ (p : Protocol) (l : List Found) (logical : ℕ) (name : Link) where
   off_transaction others begun only f i own (inr at) =
       let after = follows_of others (name_of f.rec) own in
       let asks = All-contains (λ g. IsAsked p l logical others g.rec) l f begun.asked i in
-      let pair = All-contains (λ (x : Link × Link). name_of f.rec ≡ x.0 → (f.rec.next ≡ x.1) × (f.rec.back ≡ back_version p l logical x.0.page))
+      let pair = All-contains (IsAskedAt p l logical others f.rec)
       (zip others (next_names others)) (name_of f.rec, after.0) asks after.1 in
       let link = (pair refl).0 in
       let same = only f.rec.next (subst (Contains others) (sym link) (follows_in others (name_of f.rec) after.0 after.1).1) at.0 in

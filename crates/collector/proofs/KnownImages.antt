@@ -44,6 +44,7 @@ use Rattle.collector.specs.Known.{is_unsure, contents_noted, contents_known, kno
 use Rattle.collector.specs.Matches.{Matches}
 use Rattle.collector.proofs.KeptArrays.{none_at_zero}
 use Rattle.collector.proofs.WantedImages.{IsNotedAndWritten, current_written}
+use Rattle.record_list.specs.Counts.{HasCounts}
 
 -- the bytes that a list has under a name, zeros where it has none
 abbrev bytes_or_zeros : ℕ → List Written → Link → List ℕ
@@ -183,6 +184,7 @@ module _ (s : FlashState) (n : Noted) (t : BlockTable) (u : Unsure) (m : Matches
     written = record {
       records = subst (λ l. IsSoundList p l n.config.logical) (sym known_records) m.noted.sound;
       bytes = known_agree;
+      counts = subst HasCounts (sym known_records) m.counts;
       removable = record { block = t.spare; exists = omega (arith, m.table.spare_within, ap blocks_of m.blocks); removable = removable };
     };
   }

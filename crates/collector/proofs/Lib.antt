@@ -48,6 +48,7 @@ pub mod GoneRecords
 pub mod RoundCosts
 pub mod CollectedNotes
 pub mod GoingCounts
+pub mod GoingOrder
 pub mod RoomMade
 pub mod RoomCalls
 pub mod ClearRounds
@@ -55,3 +56,4 @@ pub mod FoundSlots
 pub mod OpenedTables
 mod BreakingOff
 mod BrokenCollections
+pub mod SureCounts

@@ -45,6 +45,7 @@ use Rattle.scan_recovery.specs.Opening.{reads_blank, seen_in, seen_in_block, rea
 use Rattle.collector.specs.declared.unsure.Unsure.TheVariants as unsure
 use Rattle.collector.specs.Matches.{Matches, CanSpare}
 use Rattle.collector.proofs.SettledExits.{matches_still}
+use Rattle.collector.proofs.SureCounts.{sure_counts}
 
 -- no more slots are used than there are
 used_low : (slots : List Seen) → used_in slots ≤ length slots
@@ -256,6 +257,7 @@ module _ (its : Config) (s : FlashState) (check : checked its ≡ Ok s.shape) (w
     flash = whole;
     sound = sound;
     noted = opening_kept;
+    counts = sure_counts s n known.1 whole sound opening_kept.slots (λ slot low. noted_at slot (omega (arith, low, whole.slots)));
     table = table_kept sh (seen_in s.image) spare known.0.shape spare_low;
     blocks = sym known.1;
     spare = refl;

@@ -17,7 +17,7 @@ use Rattle.flash_model.specs.Flash.{FlashState}
 use Rattle.record_list.specs.declared.found.Found.{Found}
 use Rattle.record_list.specs.Records.{name_of}
 use Rattle.record_list.specs.Current.{IsCurrent, responsible}
-use Rattle.record_list.specs.Transaction.{next_names, back_version, IsAsked, InProgress}
+use Rattle.record_list.specs.Transaction.{next_names, IsAsked, InProgress, IsAskedAt}
 use Rattle.record_list.specs.Written.{is_outside, is_slot}
 use Rattle.record_list.proofs.LossCounted.{responsible_high}
 use Rattle.record_list.proofs.Progress.{underway_of, name_loose, absent_name}
@@ -63,7 +63,7 @@ unanswered n noted ts h f i own =
     let logical = n.config.logical in
     let after = follows_of ts (name_of f.rec) own in
     let asks = All-contains (λ g. IsAsked n.config.protocol (found_in n.notes) n.config.logical ts g.rec) (found_in n.notes) f h.begun.asked i in
-    let pair = All-contains (λ (x : Link × Link). name_of f.rec ≡ x.0 → (f.rec.next ≡ x.1) × (f.rec.back ≡ back_version n.config.protocol (found_in n.notes) n.config.logical x.0.page))
+    let pair = All-contains (IsAskedAt n.config.protocol (found_in n.notes) n.config.logical ts f.rec)
     (zip ts (next_names ts)) (name_of f.rec, after.0) asks after.1 in
     let link = (pair refl).0 in
     let gone = absent_name list ts h.absent in

@@ -21,6 +21,7 @@ use Rattle.collector.specs.Collecting.{exchanged}
 use Rattle.collector.specs.Matches.{Matches, IsNotedAt, AllOfBlock, IsFilledTo}
 use Rattle.collector.proofs.Losing.{blocked, spared_still}
 use Rattle.collector.proofs.Exchange.{free_away, free_before, tail_blank}
+use Rattle.collector.proofs.SureCounts.{sure_counts}
 
 -- a slot of another block is outside the block
 pub out_of : (shape : Shape) (block slot : ℕ) → slot / shape.pages_per_block ≢ block → is_outside shape block slot ≡ true
@@ -70,6 +71,8 @@ settled_spare s n t m loss contents note fits none all noted =
       flash = m.flash;
       sound = m.sound;
       noted = noted;
+      counts = sure_counts s (blocked n t.spare note) m.shape m.flash m.sound noted.slots (λ slot within.
+          sure_blocked s n t unsure.SpareErase m t.spare below note contents fits all other slot within);
       table = m.table;
       blocks = m.blocks;
       spare = m.spare;
@@ -100,6 +103,8 @@ settled_victim s n t block m loss contents note fits none all filled below apart
       flash = m.flash;
       sound = m.sound;
       noted = noted;
+      counts = sure_counts s (with_spare (blocked n block.0 note) block.0) m.shape m.flash m.sound noted.slots (λ slot within.
+          sure_blocked s n t (unsure.VictimErase block) m block.0 below note contents fits all other slot within);
       table = table;
       blocks = m.blocks;
       spare = refl;

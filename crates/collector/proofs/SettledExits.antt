@@ -19,6 +19,7 @@ use Rattle.collector.specs.declared.unsure.Unsure.{Unsure}
 use Rattle.collector.specs.declared.unsure.Unsure.TheVariants as unsure
 use Rattle.collector.specs.Known.{is_unsure}
 use Rattle.collector.specs.Matches.{Matches, IsNotedAt, IsPlace, CanSpare}
+use Rattle.collector.proofs.SureCounts.{sure_counts}
 
 -- a call that leaves image and shape leaves what matches
 pub matches_still : (s s' : FlashState) (n : Noted) (t : BlockTable) (u : Unsure) → s'.shape ≡ s.shape → s'.image ≡ s.image → Matches s n t u → Matches s' n t u
@@ -28,6 +29,7 @@ matches_still s s' n t u shape image m = record {
   sound = subst (λ i. IsSoundImage n.config.protocol n.config.logical s'.shape i) (sym image)
       (subst (λ sh. IsSoundImage n.config.protocol n.config.logical sh s.image) (sym shape) m.sound);
   noted = m.noted;
+  counts = m.counts;
   table = m.table;
   blocks = m.blocks ∙ sym shape;
   spare = m.spare;
@@ -49,6 +51,7 @@ matches_surely s n t u m place = record {
   flash = m.flash;
   sound = m.sound;
   noted = m.noted;
+  counts = m.counts;
   table = m.table;
   blocks = m.blocks;
   spare = m.spare;
@@ -92,6 +95,7 @@ module _ (s : FlashState) (n : Noted) (t t' : BlockTable) (u : Unsure) (m : Matc
     flash = m.flash;
     sound = m.sound;
     noted = noted;
+    counts = sure_counts s (record n { notes = set n.notes at note; mentions = ms }) m.shape m.flash m.sound noted.slots (λ slot low. sure_now slot low);
     table = table;
     blocks = shape ∙ m.blocks;
     spare = m.spare ∙ ap Some (sym spare);

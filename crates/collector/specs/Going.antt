@@ -1,28 +1,20 @@
 -- Making room for the next record of a transaction: which blocks hold records that must go before it, and what is known
 -- of the pinned records beside it.
-use Rattle.std.specs.Prelude.{◌≡◌, ◌≢◌, ◌⊎◌, ℕ, ◌+◌, ◌-◌, ◌*◌, ◌/◌, ◌≤◌, ◌==◌, Bool, false, ◌&&◌, Some, List, All, Any, Contains, count_by, length}
-use Rattle.std.specs.List.{list_any, range_with_len}
+use Rattle.std.specs.Prelude.{◌≡◌, ◌≢◌, ◌⊎◌, ℕ, ◌+◌, ◌-◌, ◌*◌, ◌≤◌, false, Some, List, All, Any, Contains, count_by, length}
+use Rattle.std.specs.List.{range_with_len}
 use Rattle.tx_types.specs.Config.{shape_of, blocks_of}
 use Rattle.tx_types.specs.declared.record.Link.{Link}
 use Rattle.flash_model.specs.Flash.{FlashState}
 use Rattle.record_list.specs.Records.{is_present}
-use Rattle.record_list.specs.Current.{must_go}
 use Rattle.record_list.specs.Transaction.{InProgress, ShareNoPage}
 use Rattle.version_index.specs.Notes.{found_in}
+pub use Rattle.version_index.specs.Noted.{is_going}
 use Rattle.version_index.specs.Noted.{Noted, current_of, pinned_names, erased, block_to_go}
 use Rattle.die_alloc.specs.BlockTable.{BlockTable}
 use Rattle.collector.specs.Victim.{IsVictim}
 use Rattle.collector.specs.Collecting.{collected, exchanged, needed_slots, noted_cleaned}
 
--- whether a block holds a record that must go before this version of a page is programmed
-abbrev pub is_going : Noted → ℕ → ℕ → ℕ → Bool
-is_going n page below block =
-    list_any
-    (λ f. (f.slot.0 / n.config.pages_per_block == block)
-    && must_go n.config.protocol (found_in n.notes) n.config.logical page below f.rec)
-    (found_in n.notes)
-
--- how many blocks hold such a record
+-- how many blocks hold a record that must go before this version of a page is programmed
 unfoldable pub blocks_to_go : Noted → ℕ → ℕ → ℕ
 blocks_to_go n page below =
     count_by (is_going n page below) (range_with_len 0 (blocks_of (shape_of n.config)))

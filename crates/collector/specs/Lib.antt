@@ -7,4 +7,5 @@ pub mod Settling
 pub mod Looking
 pub mod Going
 pub mod Tidy
+pub mod Best
 pub mod BreakingOff

@@ -6,6 +6,7 @@ use Rattle.flash_model.specs.Flash.{FlashState, IsFlash, Contents, blank, damage
 use Rattle.page_record.specs.Spelling.{CanBeSpelled, spelling}
 use Rattle.record_list.specs.Records.{is_present}
 use Rattle.record_list.specs.Changes.{left}
+use Rattle.record_list.specs.Counts.{HasCounts}
 use Rattle.record_list.specs.Written.{is_outside, IsDispensable}
 use Rattle.version_index.specs.declared.note.Note.TheVariants.{Blank, Holds}
 use Rattle.version_index.specs.Images.{IsSoundImage}
@@ -101,6 +102,7 @@ pub record Matches (s : FlashState) (n : Noted) (t : BlockTable) (u : Unsure) : 
   pub flash : IsFlash s
   pub sound : IsSoundImage n.config.protocol n.config.logical s.shape s.image
   pub noted : IsNoted n.config.protocol n
+  pub counts : HasCounts (found_in n.notes)
   pub table : IsBlockTable t
   pub blocks : t.shape ≡ s.shape
   pub spare : n.spare ≡ Some t.spare

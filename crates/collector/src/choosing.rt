@@ -1,6 +1,7 @@
-ghost use Rattle.std.specs.Prelude.{◌≡◌, ◌<◌, Some};
+ghost use Rattle.std.specs.Prelude.{◌≡◌, ◌<◌, ◌≤◌, Some};
 ghost use Rattle.tx_types.specs.Config.{shape_of, blocks_of};
 ghost use Rattle.collector.specs.Victim.{FindsVictim, garbage_in, is_shut};
+ghost use Rattle.collector.specs.Best.{IsBest};
 
 use die_alloc::Blocks;
 use record_list::CommitRule;
@@ -14,16 +15,68 @@ pub fn victim<R: CommitRule>(index: &Index<R>, blocks: &Blocks) -> Option<Block>
     requires spare { index.now.spare ≡ Some blocks.now.spare }
     ensures { FindsVictim index.now blocks.now result }
 {
+    let Some(most) = index.most_garbage() else {
+        return None;
+    };
+    if is_shut(blocks.state(most)) {
+        return Some(most);
+    }
+    search(index, blocks)
+}
+
+/// The block with the most garbage of those that were looked at, the lowest of such blocks, and how
+/// much that is: no block where it is 0.
+#[derive(Clone, Copy)]
+struct Best {
+    block: Option<Block>,
+    garbage: u32,
+}
+
+/// The same, where the blank slots of an open block are no garbage: by a look at each block of the
+/// sixteens that may have more than those before.
+fn search<R: CommitRule>(index: &Index<R>, blocks: &Blocks) -> Option<Block>
+    requires shape { blocks.now.shape ≡ shape_of index.now.config }
+    ensures { FindsVictim index.now blocks.now result }
+{
     let Ok(shape) = index.config().check() else {
         unreachable!();
     };
-    let mut best = None;
-    let mut most = 0;
-    for block in 0..shape.blocks() {
+    let count = shape.blocks();
+    let mut best = Best {
+        block: None,
+        garbage: 0,
+    };
+    for sixteen in 0..count.div_ceil(16) {
+        if index.most_garbage_among(sixteen) > best.garbage {
+            let first = 16 * sixteen;
+            best = best_from(index, blocks, best, first, (first + 16).min(count));
+        }
+    }
+    best.block
+}
+
+/// The best of the blocks below `first` and those from there to `end`.
+fn best_from<R: CommitRule>(
+    index: &Index<R>,
+    blocks: &Blocks,
+    before: Best,
+    first: u32,
+    end: u32,
+) -> Best
+    requires shape { blocks.now.shape ≡ shape_of index.now.config }
+    requires exist { end ≤ blocks_of (shape_of index.now.config) }
+    requires order { first ≤ end }
+    requires before { IsBest index.now blocks.now first before }
+    ensures { IsBest index.now blocks.now end result }
+{
+    let mut best = before;
+    for block in first..end {
         let garbage = garbage_in(index, blocks, Block(block));
-        if garbage > most {
-            most = garbage;
-            best = Some(Block(block));
+        if garbage > best.garbage {
+            best = Best {
+                block: Some(Block(block)),
+                garbage,
+            };
         }
     }
     best

@@ -15,7 +15,7 @@ use crate::erasing::erase_spare;
 use die_alloc::Blocks;
 use flash_model::{Broken, Flash, Seen};
 use record_list::CommitRule;
-use tx_types::{Block, Slot};
+use tx_types::Block;
 use version_index::Index;
 
 /// Makes the spare all blank: erases it where it is not. After a broken erase it is not known what
@@ -61,14 +61,7 @@ fn is_noted_blank<R: CommitRule>(index: &Index<R>, block: Block) -> bool
     requires { block.0 < blocks_of (shape_of index.now.config) }
     ensures { result ≡ is_noted_blank index.now block.0 }
 {
-    let pages = index.config().pages_per_block;
-    let first = block.0 * pages;
-    for at in first..first + pages {
-        if !is_blank(index.seen(Slot(at))) {
-            return false;
-        }
-    }
-    true
+    index.blanks(block) == index.config().pages_per_block
 }
 
 /// Whether a slot reads blank.

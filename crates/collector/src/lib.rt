@@ -2,6 +2,7 @@
 //! left. Whatever breaks, the image stays sound and stands for the same array.
 #![tactic(auto)]
 
+mod block_room;
 mod block_settling;
 mod broken_operation;
 mod choosing;
@@ -18,6 +19,7 @@ mod settling;
 mod tests;
 mod unsure;
 
+pub use block_room::BlockRoom;
 pub use broken_operation::settle;
 pub use choosing::victim;
 pub use cleaning::clean_spare;

@@ -16,10 +16,10 @@ ghost use Rattle.collector.specs.Going.{IsTreated, TreatsAll, HasNoNewRecord, Ma
 ghost use Rattle.collector.specs.BreakingOff.{BreaksOff, ClearingBreaks, RoomBreaksOff};
 ghost use Rattle.collector.specs.Collecting.{CollectsForRoom, HasUnneeded};
 
-use crate::Unsure;
 use crate::choosing::victim;
 use crate::cleaning::clean_spare;
 use crate::collecting::collect;
+use crate::{BlockRoom, Unsure};
 use die_alloc::Blocks;
 use flash_model::{Broken, Flash};
 use record_list::CommitRule;
@@ -35,6 +35,7 @@ pub fn clear<F: Flash, R: CommitRule>(
     blocks: &mut Blocks,
     unsure: &mut Unsure,
     room: &mut [u8],
+    going: &mut BlockRoom,
     page: u32,
     below: u64,
 ) -> Result<(), Broken>
@@ -67,8 +68,15 @@ pub fn clear<F: Flash, R: CommitRule>(
     ensures moves { FlashMoves (F.state flash.old) (F.state flash.new) (is_err result) }
     ensures carries { Carries (F.state flash.old) (F.state flash.new) (is_err result) }
 {
-    while let Some(block) = index.must_go(page, below) {
-        treat(flash, index, blocks, unsure, room, block)?;
+    if index.must_go(page, below).is_none() {
+        return Ok(());
+    }
+    index.blocks_to_go(page, below, &mut going.blocks);
+    for block in going.blocks.iter() {
+        // The spare may have been made blank meanwhile.
+        if index.is_going(page, below, *block) {
+            treat(flash, index, blocks, unsure, room, *block)?;
+        }
     }
     Ok(())
 }

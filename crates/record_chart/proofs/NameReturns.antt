@@ -25,10 +25,10 @@ module _ (l : List Found) where
   abbrev place : Link → Option ℕ
   place name = position (λ f. has_name name f.rec) l
 
-  next_place : (i : ℕ) → i < length l → next_of (name_graph l) i ≡ place (record_at l i).next
+  pub next_place : (i : ℕ) → i < length l → next_of (name_graph l) i ≡ place (record_at l i).next
   next_place i within = get_or-map (λ f. place f.rec.next) l i nothing None within
 
-  place_within : (name : Link) (i : ℕ) → place name ≡ Some i → i < length l
+  pub place_within : (name : Link) (i : ℕ) → place name ≡ Some i → i < length l
   place_within name i at = (position-Some (λ f. has_name name f.rec) l i nothing at).0
 
   -- a place is that of one name
@@ -49,7 +49,7 @@ module _ (l : List Found) where
       some_within (Some j) all = all j refl
 
   -- so many links lead to the name of the place at which so many steps are
-  steps_follow : (n : ℕ) (name : Link) (p x : ℕ) → place name ≡ Some p → steps (name_graph l) n p ≡ Some x → place (follow l name n) ≡ Some x
+  pub steps_follow : (n : ℕ) (name : Link) (p x : ℕ) → place name ≡ Some p → steps (name_graph l) n p ≡ Some x → place (follow l name n) ≡ Some x
   steps_follow zero name p x at leads = at ∙ sym (steps_none (name_graph l) p) ∙ leads
   steps_follow (suc n) name p x at leads = elim (some_or_none (next_of (name_graph l) p)) [
     | inl stop ↦ absurd (let e = steps_stop (name_graph l) n p stop in cc)

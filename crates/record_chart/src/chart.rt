@@ -1,13 +1,15 @@
-ghost use Rattle.std.specs.Prelude.{◌≡◌, ◌<◌, ◌^◌, position, filter, IfOk, length};
+ghost use Rattle.std.specs.Prelude.{◌≡◌, ◌<◌, ◌^◌, position, filter, IfOk, length, slice_index_or};
 ghost use Rattle.tx_types.specs.declared.config.Protocol.TheVariants.{Bpcc};
 ghost use Rattle.record_list.specs.Records.{greatest, has_name, is_present, newest, next_older};
 ghost use Rattle.record_list.specs.Verdict.{link_of, back_of, straddling, why};
 ghost use Rattle.record_list.specs.Current.{cur, responsible, straddling_upto};
 ghost use Rattle.record_chart.specs.Charts.{IsInOrder, Sorts, IsOrbitOfNewest};
+ghost use Rattle.record_chart.specs.Minima.{AreMinima};
 
-use crate::group::{straddling, straddling_up_to};
+use crate::group::{straddling, straddling_up_to, straddling_up_to_bound};
 use crate::in_order::{back_of, find, link_of, named, newest, next_older, sort};
 use crate::minima::minima;
+use crate::search::page_starts;
 use crate::walks::{links, shown};
 use crate::{Orbit, Orbits};
 use record_list::{Found, Verdict, Why};
@@ -19,6 +21,7 @@ use tx_types::{Link, Protocol};
 #[derive(Debug, Drop)]
 pub struct Chart {
     records: Vec<Found>,
+    starts: Vec<u32>,
     least: Vec<u64>,
     orbits: Orbits,
 }
@@ -46,11 +49,13 @@ impl Chart {
             return Err(AllocError);
         }
         sort(&mut records)?;
+        let starts = page_starts(alloc, &records)?;
         let least = minima(alloc, &records, &[])?;
-        let links = links(alloc, &records)?;
+        let links = links(alloc, &records, &starts)?;
         let orbits = Orbits::new(alloc, &links)?;
         Ok(Chart {
             records,
+            starts,
             least,
             orbits,
         })
@@ -69,14 +74,14 @@ impl Chart {
     pub fn find(&self, name: Link) -> Option<u32>
         ensures { result ≡ position (λ f. has_name name f.rec) self.now }
     {
-        find(&self.records, name)
+        find(&self.records, &self.starts, name)
     }
 
     /// The records with this name.
     pub fn named(&self, name: Link) -> &[Found]
         ensures { result.now ≡ filter (λ f. has_name name f.rec) self.now }
     {
-        named(&self.records, name)
+        named(&self.records, &self.starts, name)
     }
 
     /// Whether some record has this name.
@@ -90,35 +95,35 @@ impl Chart {
     pub fn newest(&self, page: u32) -> u64
         ensures { result ≡ newest self.now page }
     {
-        newest(&self.records, page)
+        newest(&self.records, &self.starts, page)
     }
 
     /// The greatest version of a page below a version, 0 for none.
     pub fn next_older(&self, page: u32, below: u64) -> u64
         ensures { result ≡ next_older self.now page below }
     {
-        next_older(&self.records, page, below)
+        next_older(&self.records, &self.starts, page, below)
     }
 
     /// The greatest version of a record that straddles this name, 0 for none.
     pub fn straddling(&self, name: Link) -> u64
         ensures { result ≡ straddling self.now name }
     {
-        straddling(&self.records, &self.least, name)
+        straddling(&self.records, &self.starts, &self.least, name)
     }
 
     /// The link of the first record with this name, and the name itself where no record has it.
     pub fn link_of(&self, name: Link) -> Link
         ensures { result ≡ link_of self.now name }
     {
-        link_of(&self.records, name)
+        link_of(&self.records, &self.starts, name)
     }
 
     /// The back version of the first record with this name, 0 where no record has it.
     pub fn back_of(&self, name: Link) -> u64
         ensures { result ≡ back_of self.now name }
     {
-        back_of(&self.records, name)
+        back_of(&self.records, &self.starts, name)
     }
 
     /// Where the links of newest records lead from that of a page; nothing where the page has no record.
@@ -135,7 +140,14 @@ impl Chart {
         ensures { result ≡ why protocol self.now logical page }
     {
         match self.orbit(page) {
-            Some(orbit) => shown(protocol, &self.records, &self.least, logical, orbit),
+            Some(orbit) => shown(
+                protocol,
+                &self.records,
+                &self.starts,
+                &self.least,
+                logical,
+                orbit,
+            ),
             None => Why::Cycle,
         }
     }
@@ -158,7 +170,18 @@ impl Chart {
     pub fn straddling_up_to(&self, name: Link, top: u64) -> u64
         ensures { result ≡ greatest (straddling_upto top name) self.now }
     {
-        straddling_up_to(&self.records, name, top)
+        straddling_up_to(&self.records, &self.starts, name, top)
+    }
+
+    /// The greatest version, up to the bound of its page, of a record that straddles this name, 0 for none,
+    /// by the least back versions of the records up to their bounds.
+    pub(crate) fn straddling_up_to_bound(&self, tops: &[u64], least: &[u64], name: Link) -> u64
+        requires minima { AreMinima self.now tops.now least.now }
+        requires bound { name.page < length tops.now }
+        ensures { result
+            ≡ greatest (straddling_upto (slice_index_or tops.now name.page 0) name) self.now }
+    {
+        straddling_up_to_bound(&self.records, &self.starts, tops, least, name)
     }
 
     /// Under Back Pointer Cyclic Commit the version of the record that is responsible for the loose

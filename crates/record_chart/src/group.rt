@@ -16,20 +16,26 @@ use tx_types::Link;
 
 /// The greatest version of a record that straddles this name, 0 for none, by the least back versions of
 /// the records.
-pub fn straddling(records: &[Found], least: &[u64], name: Link) -> u64
+pub fn straddling(records: &[Found], starts: &[u32], least: &[u64], name: Link) -> u64
     requires order { IsInOrder records.now }
     requires minima { AreMinima records.now [] least.now }
     ensures { result ≡ straddling records.now name }
 {
-    let from = names_below(records, Link { version: 0, ..name });
-    let end = pages_up_to(records, name.page);
+    let from = names_below(records, starts, Link { version: 0, ..name });
+    let end = pages_up_to(records, starts, name.page);
     let count = count_below(&least[from..end], name.version);
     last_above(records, from, count, name.version)
 }
 
 /// The greatest version, up to the bound of its page, of a record that straddles this name, 0 for none,
 /// by the least back versions of the records up to their bounds.
-pub fn straddling_up_to_bound(records: &[Found], tops: &[u64], least: &[u64], name: Link) -> u64
+pub fn straddling_up_to_bound(
+    records: &[Found],
+    starts: &[u32],
+    tops: &[u64],
+    least: &[u64],
+    name: Link,
+) -> u64
     requires order { IsInOrder records.now }
     requires minima { AreMinima records.now tops.now least.now }
     requires bound { name.page < length tops.now }
@@ -37,9 +43,10 @@ pub fn straddling_up_to_bound(records: &[Found], tops: &[u64], least: &[u64], na
         ≡ greatest (straddling_upto (slice_index_or tops.now name.page 0) name) records.now }
 {
     let top = tops[name.page as usize];
-    let from = names_below(records, Link { version: 0, ..name });
+    let from = names_below(records, starts, Link { version: 0, ..name });
     let end = names_up_to(
         records,
+        starts,
         Link {
             version: top,
             ..name
@@ -50,11 +57,11 @@ pub fn straddling_up_to_bound(records: &[Found], tops: &[u64], least: &[u64], na
 }
 
 /// The greatest version, up to `top`, of a record that straddles this name, 0 for none.
-pub fn straddling_up_to(records: &[Found], name: Link, top: u64) -> u64
+pub fn straddling_up_to(records: &[Found], starts: &[u32], name: Link, top: u64) -> u64
     requires { IsInOrder records.now }
     ensures { result ≡ greatest (straddling_upto top name) records.now }
 {
-    greatest_up_to(group(records, name.page), name, top)
+    greatest_up_to(group(records, starts, name.page), name, top)
 }
 
 /// The greatest version, up to `top`, of one of these records that straddles this name, 0 for none.
@@ -73,12 +80,12 @@ fn greatest_up_to(group: &[Found], name: Link, top: u64) -> u64
 }
 
 /// The records of a page: what is 0 for those of other pages has the same greatest value among them.
-fn group(records: &[Found], page: u32) -> &[Found]
+fn group<'a>(records: &'a [Found], starts: &[u32], page: u32) -> &'a [Found]
     requires { IsInOrder records.now }
     ensures { (of : Rec → ℕ) → ((r : Rec) → r.page ≢ page → of r ≡ 0) →
         greatest of result.now ≡ greatest of records.now }
 {
-    let from = names_below(records, Link { page, version: 0 });
-    let to = pages_up_to(records, page);
+    let from = names_below(records, starts, Link { page, version: 0 });
+    let to = pages_up_to(records, starts, page);
     &records[from..to]
 }

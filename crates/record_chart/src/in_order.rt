@@ -27,12 +27,12 @@ pub fn sort_by_link(records: &mut Vec<Found>) -> Result<(), AllocError>
 }
 
 /// The place of the first record with this name.
-pub fn find(records: &[Found], name: Link) -> Option<u32>
+pub fn find(records: &[Found], starts: &[u32], name: Link) -> Option<u32>
     requires order { IsInOrder records.now }
     requires few { length records.now < 2 ^ 32 }
     ensures { result ≡ position (λ f. has_name name f.rec) records.now }
 {
-    let at = names_below(records, name);
+    let at = names_below(records, starts, name);
     if at < records.len() && has_name(&records[at].rec, name) {
         Some(at as u32)
     } else {
@@ -41,23 +41,23 @@ pub fn find(records: &[Found], name: Link) -> Option<u32>
 }
 
 /// The records with this name.
-pub fn named(records: &[Found], name: Link) -> &[Found]
+pub fn named<'a>(records: &'a [Found], starts: &[u32], name: Link) -> &'a [Found]
     requires { IsInOrder records.now }
     ensures { result.now ≡ filter (λ f. has_name name f.rec) records.now }
 {
-    let from = names_below(records, name);
-    let to = names_up_to(records, name);
+    let from = names_below(records, starts, name);
+    let to = names_up_to(records, starts, name);
     &records[from..to]
 }
 
 /// The link of the first record with this name, and the name itself where no record has it.
 #[tactic(auto, using(crate::proofs::WalkOrbits::link_found, crate::proofs::WalkOrbits::link_nowhere))]
-pub fn link_of(records: &[Found], name: Link) -> Link
+pub fn link_of(records: &[Found], starts: &[u32], name: Link) -> Link
     requires order { IsInOrder records.now }
     requires few { length records.now < 2 ^ 32 }
     ensures { result ≡ link_of records.now name }
 {
-    match find(records, name) {
+    match find(records, starts, name) {
         Some(place) => records[place as usize].rec.next,
         None => name,
     }
@@ -65,27 +65,27 @@ pub fn link_of(records: &[Found], name: Link) -> Link
 
 /// The back version of the first record with this name, 0 where no record has it.
 #[tactic(auto, using(crate::proofs::WalkOrbits::back_found, crate::proofs::WalkOrbits::back_nowhere))]
-pub fn back_of(records: &[Found], name: Link) -> u64
+pub fn back_of(records: &[Found], starts: &[u32], name: Link) -> u64
     requires order { IsInOrder records.now }
     requires few { length records.now < 2 ^ 32 }
     ensures { result ≡ back_of records.now name }
 {
-    match find(records, name) {
+    match find(records, starts, name) {
         Some(place) => records[place as usize].rec.back,
         None => 0,
     }
 }
 
 /// The greatest version of a page, 0 for none.
-pub fn newest(records: &[Found], page: u32) -> u64
+pub fn newest(records: &[Found], starts: &[u32], page: u32) -> u64
     requires { IsInOrder records.now }
     ensures { result ≡ newest records.now page }
 {
-    last_version(records, pages_up_to(records, page), page)
+    last_version(records, pages_up_to(records, starts, page), page)
 }
 
 /// The greatest version of a page below a version, 0 for none.
-pub fn next_older(records: &[Found], page: u32, below: u64) -> u64
+pub fn next_older(records: &[Found], starts: &[u32], page: u32, below: u64) -> u64
     requires { IsInOrder records.now }
     ensures { result ≡ next_older records.now page below }
 {
@@ -93,7 +93,7 @@ pub fn next_older(records: &[Found], page: u32, below: u64) -> u64
         page,
         version: below,
     };
-    last_version(records, names_below(records, name), page)
+    last_version(records, names_below(records, starts, name), page)
 }
 
 /// Whether a record has this name.
@@ -104,14 +104,14 @@ fn has_name(rec: &Rec, name: Link) -> bool
 }
 
 /// How many of the records have names up to this one: they are the first.
-pub fn names_up_to(records: &[Found], name: Link) -> usize
+pub fn names_up_to(records: &[Found], starts: &[u32], name: Link) -> usize
     requires { IsInOrder records.now }
     ensures within { result ≤ length records.now }
     ensures first { IsPartitionPoint (λ f. is_below name (name_of f.rec) ≡ false)
         (λ f. is_below name (name_of f.rec) ≡ true) records.now result }
 {
     match name.version.checked_add(1) {
-        Some(version) => names_below(records, Link { version, ..name }),
+        Some(version) => names_below(records, starts, Link { version, ..name }),
         None => records.partition_point(|found| {
             found.rec.page < name.page
                 || found.rec.page == name.page && found.rec.version <= name.version
@@ -120,14 +120,14 @@ pub fn names_up_to(records: &[Found], name: Link) -> usize
 }
 
 /// How many of the records are of pages up to this one: they are the first.
-pub fn pages_up_to(records: &[Found], page: u32) -> usize
+pub fn pages_up_to(records: &[Found], starts: &[u32], page: u32) -> usize
     requires { IsInOrder records.now }
     ensures within { result ≤ length records.now }
     ensures first { IsPartitionPoint (λ f. f.rec.page ≤ page) (λ f. page < f.rec.page)
         records.now result }
 {
     match page.checked_add(1) {
-        Some(page) => names_below(records, Link { page, version: 0 }),
+        Some(page) => names_below(records, starts, Link { page, version: 0 }),
         None => records.partition_point(|found| found.rec.page <= page),
     }
 }

@@ -1,36 +1,69 @@
-//! A search among records in order of their names, which begins where the record is likely to stand.
-ghost use Rattle.std.specs.Prelude.{◌≡◌, ℕ, ◌<◌, ◌≤◌, true, false, length};
+//! A search among records in order of their names, which begins where the records of a page are likely to
+//! begin. A wrong guess makes it slower, and no other.
+ghost use Rattle.std.specs.Prelude.{◌≡◌, ℕ, ◌<◌, ◌≤◌, ◌^◌, true, false, length};
 ghost use Rattle.std.specs.List.Sorted.{IsPartitionPoint};
 ghost use Rattle.record_list.specs.Records.{name_of, record_at};
 ghost use Rattle.record_chart.specs.Charts.{is_below, IsInOrder};
 
 use record_list::Found;
+use std::alloc::{AllocError, Global};
 use tx_types::Link;
 
+/// For each page up to the last one how many records stand before its own. Where that would be more
+/// than four numbers for a record, the rest is left out.
+pub fn page_starts(alloc: Global, records: &[Found]) -> Result<Vec<u32>, AllocError>
+    requires { length records.now < 2 ^ 32 }
+{
+    let pages = match records.last() {
+        None => 0,
+        Some(found) => found.rec.page as usize + 1,
+    };
+    let size = pages.min(records.len().saturating_mul(4));
+    let mut starts = Vec::with_capacity(alloc, size)?;
+    for at in 0..records.len() {
+        let end = size.min(records[at].rec.page as usize + 1);
+        if starts.len() < end {
+            starts.resize(end, at as u32)?;
+        }
+    }
+    Ok(starts)
+}
+
 /// How many of the records have names below this one: they are the first.
-pub fn names_below(records: &[Found], name: Link) -> usize
+pub fn names_below(records: &[Found], starts: &[u32], name: Link) -> usize
     requires { IsInOrder records.now }
     ensures within { result ≤ length records.now }
     ensures first { IsPartitionPoint (λ f. is_below (name_of f.rec) name ≡ true)
         (λ f. is_below (name_of f.rec) name ≡ false) records.now result }
 {
-    let near = likely_place(records, name.page);
+    let near = likely_place(records, starts, name.page);
     let from = start(records, name, near);
-    let to = end(records, name, near);
+    let to = end(records, name, likely_end(records, starts, name, near));
     from + count_below(&records[from..to], name)
 }
 
-/// Where the first record of a page would stand if each page had as many records.
-fn likely_place(records: &[Found], page: u32) -> usize
+/// From a place on where a page is likely to begin, where no name is likely to be below this one: this place
+/// itself, or the next page's.
+fn likely_end(records: &[Found], starts: &[u32], name: Link, near: usize) -> usize
+    requires { near ≤ length records.now }
+    ensures high { near ≤ result }
+    ensures within { result ≤ length records.now }
+{
+    if near < records.len() && is_below(&records[near], name) {
+        near.max(likely_place(records, starts, name.page.saturating_add(1)))
+    } else {
+        near
+    }
+}
+
+/// Where the records of a page begin, or the end where that is not known.
+fn likely_place(records: &[Found], starts: &[u32], page: u32) -> usize
     ensures { result ≤ length records.now }
 {
     let len = records.len();
-    match records.last() {
-        None => 0,
-        Some(last) => {
-            let place = u64::from(page).saturating_mul(len as u64) / (u64::from(last.rec.page) + 1);
-            len.min(place as usize)
-        }
+    match starts.get(page as usize) {
+        None => len,
+        Some(start) => len.min(*start as usize),
     }
 }
 

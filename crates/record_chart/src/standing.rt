@@ -5,7 +5,6 @@ ghost use Rattle.record_list.specs.Current.{cur, responsible, is_loose, straddli
 ghost use Rattle.record_chart.specs.Standings.{Judged};
 
 use crate::Chart;
-use crate::group::straddling_up_to_bound;
 use crate::minima::minima;
 use std::alloc::{AllocError, Global};
 use std::marker::Model;
@@ -93,7 +92,8 @@ impl Standing {
         ensures { result ≡ responsible self.now.protocol self.now.list self.now.logical name }
     {
         if name.page < self.logical {
-            straddling_up_to_bound(self.chart.records(), &self.current, &self.settled, name)
+            self.chart
+                .straddling_up_to_bound(&self.current, &self.settled, name)
         } else {
             let top = self.current(name.page);
             self.chart.straddling_up_to(name, top)

@@ -1,4 +1,4 @@
-use crate::{Chart, Orbit, Orbits};
+use crate::{Chart, Orbit, Orbits, Standing};
 use record_list::{Found, Why};
 use std::process::Abort;
 use tx_types::{Link, Protocol, Rec, Slot};
@@ -66,4 +66,50 @@ fn chart_of_a_few_records(rt: HostRuntime) {
     assert_eq!(rt; chart.why(Protocol::Bpcc, 3, 2), Why::Straddled(4));
     assert_eq!(rt; chart.current(Protocol::Bpcc, 3, 2), 0);
     assert_eq!(rt; chart.responsible(3, link(1, 3)), 4);
+}
+
+#[test]
+fn standings_of_a_few_records(rt: HostRuntime) {
+    // pages 0 and 1 stand in one cycle; page 2 links to an aborted version of page 1, which is straddled
+    let straddled = [
+        found(0, (1, 4), (0, 2), 1),
+        found(1, (2, 1), (1, 3), 0),
+        found(2, (0, 2), (1, 4), 0),
+        found(3, (1, 1), (1, 1), 0),
+    ];
+    // two records of page 0 are loose, of which one goes further back than the current one
+    let loose = [
+        found(0, (1, 1), (0, 1), 0),
+        found(1, (0, 2), (3, 1), 1),
+        found(2, (0, 3), (2, 9), 0),
+        found(3, (0, 4), (2, 8), 2),
+        found(4, (3, 1), (4, 1), 0),
+        found(5, (4, 2), (4, 2), 1),
+    ];
+    for (list, protocol, current, name, responsible) in [
+        (
+            straddled.as_slice(),
+            Protocol::Bpcc,
+            [2, 4, 0],
+            link(1, 3),
+            4,
+        ),
+        (
+            straddled.as_slice(),
+            Protocol::Scc,
+            [2, 4, 1],
+            link(1, 4),
+            0,
+        ),
+        (loose.as_slice(), Protocol::Bpcc, [2, 0, 0], link(0, 1), 0),
+    ] {
+        let mut records = Vec::new(rt.alloc());
+        records.extend_from_slice(list).expect(&rt, "memory");
+        let chart = Chart::new(rt.alloc(), records).expect(&rt, "memory");
+        let standing = Standing::new(rt.alloc(), chart, protocol, 5).expect(&rt, "memory");
+        for (page, version) in current.iter().enumerate() {
+            assert_eq!(rt; standing.current(page as u32), *version, "page {page}");
+        }
+        assert_eq!(rt; standing.responsible(name), responsible);
+    }
 }

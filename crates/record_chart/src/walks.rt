@@ -13,25 +13,29 @@ use tx_types::{Link, Protocol};
 
 /// For each record the place to which its link leads: that of the first record of this name, where this
 /// is the newest of its page.
-pub fn links(alloc: Global, records: &[Found]) -> Result<Vec<Option<u32>>, AllocError>
+pub fn links(
+    alloc: Global,
+    records: &[Found],
+    starts: &[u32],
+) -> Result<Vec<Option<u32>>, AllocError>
     requires order { IsInOrder records.now }
     requires few { length records.now < 2 ^ 32 }
     ensures { IfOk result (λ links. links.items ≡ link_graph records.now) }
 {
     records
         .iter()
-        .map(|found| place(records, found.rec.next))
+        .map(|found| place(records, starts, found.rec.next))
         .collect(alloc)
 }
 
 /// The place to which a link leads.
-fn place(records: &[Found], link: Link) -> Option<u32>
+fn place(records: &[Found], starts: &[u32], link: Link) -> Option<u32>
     requires order { IsInOrder records.now }
     requires few { length records.now < 2 ^ 32 }
     ensures { result ≡ place_of records.now link }
 {
-    if newest(records, link.page) == link.version {
-        find(records, link)
+    if newest(records, starts, link.page) == link.version {
+        find(records, starts, link)
     } else {
         None
     }
@@ -41,6 +45,7 @@ fn place(records: &[Found], link: Link) -> Option<u32>
 pub fn shown(
     protocol: Protocol,
     records: &[Found],
+    starts: &[u32],
     least: &[u64],
     logical: u32,
     orbit: Orbit,
@@ -52,7 +57,13 @@ pub fn shown(
 {
     match orbit {
         Orbit::Ends { after, at } if after <= logical => {
-            ending(protocol, records, least, records[at as usize].rec.next)
+            ending(
+                protocol,
+                records,
+                starts,
+                least,
+                records[at as usize].rec.next,
+            )
         }
         Orbit::Round { length } if u64::from(length) <= u64::from(logical) + 1 => Why::Cycle,
         _ => Why::Absent,
@@ -60,27 +71,27 @@ pub fn shown(
 }
 
 /// What a link shows at which a walk ends, if it is not that to its start.
-fn ending(protocol: Protocol, records: &[Found], least: &[u64], link: Link) -> Why
+fn ending(protocol: Protocol, records: &[Found], starts: &[u32], least: &[u64], link: Link) -> Why
     requires order { IsInOrder records.now }
     requires minima { AreMinima records.now [] least.now }
     ensures { result ≡ ending protocol records.now link }
 {
-    if link.version < newest(records, link.page) {
-        passed(protocol, records, least, link)
+    if link.version < newest(records, starts, link.page) {
+        passed(protocol, records, starts, least, link)
     } else {
         Why::Absent
     }
 }
 
 /// What a link shows that leads below the newest version of its page.
-fn passed(protocol: Protocol, records: &[Found], least: &[u64], link: Link) -> Why
+fn passed(protocol: Protocol, records: &[Found], starts: &[u32], least: &[u64], link: Link) -> Why
     requires order { IsInOrder records.now }
     requires minima { AreMinima records.now [] least.now }
     ensures { result ≡ passed protocol records.now link }
 {
     match protocol {
         Protocol::Scc => Why::Passed,
-        Protocol::Bpcc => match straddling(records, least, link) {
+        Protocol::Bpcc => match straddling(records, starts, least, link) {
             0 => Why::Passed,
             version => Why::Straddled(version),
         },

@@ -21,6 +21,7 @@ use Rattle.record_list.specs.declared.found.Found.{Found}
 use Rattle.record_list.specs.declared.found.Breach.{Breach}
 use Rattle.record_list.specs.Records.{mention, IsScanned}
 use Rattle.record_list.specs.SoundList.{Law, Pages, Copies, Links, Present, Counted, Loose, Ending, number, Keeps, PagesExist, CopiesAgree, IsSoundList, IsLeastBreach}
+use Rattle.record_list.specs.Counts.{HasCounts}
 use Rattle.record_list.specs.Written.{Written, found_of, records_of, BytesAgree, KeepsWritten, HasRemovable, IsFirstBrokenLaw}
 use Rattle.record_list.proofs.WrittenLists.{in_records}
 use Rattle.die_alloc.specs.BlockTable.{BlockTable}
@@ -138,13 +139,14 @@ module _ (p : Protocol) (logical : ℕ) (shape : Shape) (image : List Contents) 
   all_with_bytes : (l : Law) → All (Keeps p records logical l) records → All (KeepsWritten p ws logical l) ws
   all_with_bytes l h = all_from (KeepsWritten p ws logical l) ws (λ w i. with_bytes l w (agree w i) (All-contains (Keeps p records logical l) records (found_of w) h (in_records ws w i)))
 
-  pub sound_image : IsSoundList p records logical × HasRemovable p records logical shape → IsSoundImage p logical shape image
+  pub sound_image : IsSoundList p records logical × HasRemovable p records logical shape × HasCounts records → IsSoundImage p logical shape image
   sound_image h = record {
     reads = reads;
     written = record {
       records = h.0;
       bytes = all_from (BytesAgree ws) ws agree;
       removable = h.1;
+      counts = h.2;
     };
   }
 
@@ -175,9 +177,13 @@ module _ (p : Protocol) (logical : ℕ) (shape : Shape) (image : List Contents) 
 
   pub broken_image : (b : Breach) → IsBroken p records logical shape b → IsLeastImageBreach p logical shape image b
   broken_image b (inl h) = inr (record { reads = reads; broken = inl (broken_written b h) })
-  broken_image b (inr h) = inr (record {
+  broken_image b (inr (inl h)) = inr (record {
     reads = reads;
-    broken = inr (record { law = h.1; slot = h.2; earlier_laws = λ l. all_with_bytes l (h.0 l); breaks = h.3 });
+    broken = inr (inl (record { law = h.1; slot = h.2; earlier_laws = λ l. all_with_bytes l (h.0 l); breaks = h.3 }));
+  })
+  broken_image b (inr (inr h)) = inr (record {
+    reads = reads;
+    broken = inr (inr (record { earlier_laws = λ l. all_with_bytes l (h.0 l); removable = h.1; miscount = h.2 }));
   })
 
   -- what each record keeps, none breaks
@@ -200,7 +206,8 @@ module _ (p : Protocol) (logical : ℕ) (shape : Shape) (image : List Contents) 
 
   pub broken_reads : (b : Breach) → IsBroken p records logical shape b → reads_again records b ≡ 2 * compared records
   broken_reads b (inl h) = broken_law b h.law h.law_number h.breaks
-  broken_reads b (inr h) = rw h.1 refl
+  broken_reads b (inr (inl h)) = rw h.1 refl
+  broken_reads b (inr (inr h)) = rw h.2.law refl
 
 module _ {T : Type 0} (p protocol : Protocol) (rule : p ≡ protocol) (logical : ℕ) (a d : FlashState) (shape : Shape) (its : shape ≡ a.shape) (slots : List Seen) (list : List Found)
     (scan : IsScanOf p logical a.image slots list) (copies : All (KeepsWritten p (written_in p a.image) logical Copies) (written_in p a.image)) (r : Result T RecoverError) where
@@ -208,10 +215,10 @@ module _ {T : Type 0} (p protocol : Protocol) (rule : p ≡ protocol) (logical :
   as_image : (P : Protocol → List Found → Shape → Type 0) → P protocol list shape → P p (records_in p a.image) a.shape
   as_image P h = subst (λ q. P q (records_in p a.image) a.shape) (sym rule) (subst (P protocol (records_in p a.image)) its (subst (λ l. P protocol l shape) scan.records h))
 
-  pub recovered_sound : OnOk r (IsSoundList protocol list logical × HasRemovable protocol list logical shape) → OnOk r (IsSoundImage protocol logical a.shape a.image)
+  pub recovered_sound : OnOk r (IsSoundList protocol list logical × HasRemovable protocol list logical shape × HasCounts list) → OnOk r (IsSoundImage protocol logical a.shape a.image)
   recovered_sound h =
       on_ok_weaker r (λ both. subst (λ q. IsSoundImage q logical a.shape a.image) rule
-      (sound_image p logical a.shape a.image scan.reads copies (as_image (λ q l s. IsSoundList q l logical × HasRemovable q l logical s) both))) h
+      (sound_image p logical a.shape a.image scan.reads copies (as_image (λ q l s. IsSoundList q l logical × HasRemovable q l logical s × HasCounts l) both))) h
 
   pub recovered_unsound : IfErr r (λ e. IfUnsound e (IsBroken protocol list logical shape)) → IfErr r (λ e. IfUnsound e (IsLeastImageBreach protocol logical a.shape a.image))
   recovered_unsound h = IfErr-weaker r (λ e. IfUnsound e (IsBroken protocol list logical shape)) (λ e. IfUnsound e (IsLeastImageBreach protocol logical a.shape a.image)) of_error h

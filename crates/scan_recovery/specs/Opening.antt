@@ -16,6 +16,7 @@ use Rattle.record_list.specs.declared.found.Found.{Found}
 use Rattle.record_list.specs.declared.found.Breach.{Breach}
 use Rattle.record_list.specs.Records.{mention}
 use Rattle.record_list.specs.SoundList.{IsSoundList, IsLeastBreach}
+use Rattle.record_list.specs.Counts.{IsLeastMiscount}
 use Rattle.record_list.specs.Written.{IsRemovable, HasRemovable}
 use Rattle.die_alloc.specs.declared.block_use.BlockUse.{BlockUse}
 use Rattle.die_alloc.specs.BlockTable.{BlockTable, with_use}
@@ -129,12 +130,14 @@ pub record IsOpenedFrom
   pub noted_is : noted ≡ with_spare scan spare
   pub table_is : table ≡ opening_table (shape_of config) slots spare
 
--- the records break one of laws 1 to 7 first, or law 8 alone, which names slot 0
+-- the records break one of laws 1 to 7 first, or law 8, which names slot 0, or law 9 alone
 abbrev pub IsBroken : Protocol → List Found → ℕ → Shape → Breach → Type 0
 IsBroken protocol list logical shape b =
     IsLeastBreach protocol list logical b
     ⊎ (IsSoundList protocol list logical × (b.law ≡ 8) × (b.slot.0 ≡ 0)
     × (HasRemovable protocol list logical shape → ⊥))
+    ⊎ (IsSoundList protocol list logical × HasRemovable protocol list logical shape
+    × IsLeastMiscount list b)
 
 -- the tables of a device that was opened from this image
 pub record IsOpened (config : Config) (image : List Contents) (noted : Noted)

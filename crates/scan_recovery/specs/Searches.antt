@@ -39,10 +39,6 @@ next_slot list k = (slice_index_or list (suc k) nothing).slot
 abbrev pub IsLowestSharer : List Found → ℕ → Option Slot → Type 0
 IsLowestSharer list end lowest = IsLowestBelow (end - 1) (NextShares list) (next_slot list) lowest
 
--- the graph of the places of records, each of which leads to that of the first record that its link names
-abbrev pub name_graph : List Found → List (Option ℕ)
-name_graph list = map (λ f. position (λ g. has_name f.rec.next g.rec) list) list
-
 -- the links from a name lead to an absent one
 abbrev pub LeadsOut : List Found → Link → Type 0
 LeadsOut list name = (n : ℕ) × (is_present list (follow list name n) ≡ false)

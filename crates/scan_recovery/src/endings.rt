@@ -5,9 +5,10 @@ ghost use Rattle.record_list.specs.Current.{is_loose};
 ghost use Rattle.record_list.specs.SoundList.{LooseEnds};
 ghost use Rattle.record_list.specs.Search.{FindsFirst};
 ghost use Rattle.record_chart.specs.Orbits.{AreOrbits};
-ghost use Rattle.scan_recovery.specs.Searches.{name_graph, LeadsOut};
+ghost use Rattle.record_chart.specs.NameGraph.{name_graph};
+ghost use Rattle.scan_recovery.specs.Searches.{LeadsOut};
 
-use record_chart::{Chart, Orbit, Orbits, Standing};
+use record_chart::{Chart, Orbit, Orbits, Standing, name_orbits};
 use record_list::Found;
 use std::alloc::{AllocError, Global};
 use tx_types::{Link, Protocol};
@@ -25,7 +26,7 @@ pub fn first_endless(
     if !has_loose(standing, list) {
         return Ok(None);
     }
-    let orbits = link_orbits(alloc, standing.chart())?;
+    let orbits = name_orbits(alloc, standing.chart())?;
     Ok(
         list.iter()
             .position(|found| !is_ending(standing, &orbits, found)),
@@ -49,26 +50,6 @@ fn any_loose(standing: &Standing, list: &[Found]) -> bool
         result ≡ list_any (λ f. is_loose s.protocol s.list s.logical f.rec) list.now }
 {
     list.iter().any(|found| standing.is_loose(found.rec))
-}
-
-/// Where the links of records lead, each to the first record that it names.
-fn link_orbits(alloc: Global, chart: &Chart) -> Result<Orbits, AllocError>
-    ensures { IfOk result (AreOrbits (name_graph chart.now)) }
-{
-    let graph = links(alloc, chart)?;
-    Orbits::new(alloc, &graph)
-}
-
-/// For each record the place of the first record that its link names.
-fn links(alloc: Global, chart: &Chart) -> Result<Vec<Option<u32>>, AllocError>
-    ensures graph { IfOk result (λ graph. graph.items ≡ name_graph chart.now) }
-    ensures few { IfOk result (λ graph. length graph.items < 2 ^ 32) }
-{
-    chart
-        .records()
-        .iter()
-        .map(|found| chart.find(found.rec.next))
-        .collect(alloc)
 }
 
 /// Whether the links of a record, if it is loose, lead to an absent name.

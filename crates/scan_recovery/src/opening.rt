@@ -3,6 +3,7 @@ ghost use Rattle.tx_types.specs.Config.{IsShape, checked, shape_of, slots_of, bl
 ghost use Rattle.record_list.specs.Records.{IsScanned};
 ghost use Rattle.record_list.specs.SoundList.{PagesExist, CopiesAgree, IsSoundList};
 ghost use Rattle.record_list.specs.Written.{HasRemovable};
+ghost use Rattle.record_list.specs.Counts.{HasCounts};
 ghost use Rattle.record_chart.specs.Charts.{Sorts};
 ghost use Rattle.die_alloc.specs.BlockTable.{IsBlockTable};
 ghost use Rattle.version_index.specs.Notes.{complete_slots};
@@ -14,13 +15,13 @@ use crate::laws::first_breach;
 use crate::spare::{chosen_spare, is_blank, slots_in};
 use die_alloc::Blocks;
 use flash_model::Seen;
-use record_chart::Standing;
+use record_chart::{Standing, counts};
 use record_list::{Breach, CommitRule, Found};
 use std::alloc::Global;
 use tx_types::{Block, BlockState, Config, Memory, Shape, Slot};
 use version_index::Index;
 
-/// The tables of slots that read so and hold these records, or the first of laws 3 to 8 that the
+/// The tables of slots that read so and hold these records, or the first of laws 3 to 9 that the
 /// records break, and the slot that it names. They keep laws 1 and 2.
 pub fn open_tables<R: CommitRule>(
     alloc: Global,
@@ -42,7 +43,8 @@ pub fn open_tables<R: CommitRule>(
     requires logical { standing.now.logical ≡ config.logical }
     ensures sound { OnOk result
         (IsSoundList R.protocol list.now config.logical
-        × HasRemovable R.protocol list.now config.logical shape) }
+        × HasRemovable R.protocol list.now config.logical shape
+        × HasCounts list.now) }
     ensures tables { IfOk result (λ opened.
         IsOpenedFrom config seen.now list.now opened.0 opened.1) }
     ensures unsound { IfErr result (λ e. IfUnsound e
@@ -58,7 +60,10 @@ pub fn open_tables<R: CommitRule>(
             slot: Slot(0),
         });
     };
-    let mut index = Index::from_scan(alloc, config, seen, list)?;
+    if let Some(Breach { law, slot }) = counts(alloc, standing.chart(), list)? {
+        return Err(RecoverError::Unsound { law, slot });
+    }
+    let mut index = Index::from_standing(alloc, config, seen, list, standing)?;
     index.set_spare(spare);
     let blocks = block_table(alloc, shape, seen, spare)?;
     Ok((index, blocks))

@@ -23,7 +23,7 @@ use tx_types::Config;
 use version_index::Index;
 
 /// Opens a device from its flash alone: the tables of a sound image, with the block that becomes
-/// the spare, or the first of laws 1 to 8 that the image breaks.
+/// the spare, or the first of laws 1 to 9 that the image breaks.
 ///
 /// Each slot is read once, the lowest first. Where law 1 holds, law 2 is tried record by record,
 /// the lowest slot first: where another slot is the lowest that holds the record's name, and the

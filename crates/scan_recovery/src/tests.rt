@@ -110,7 +110,7 @@ fn program(rt: &impl Abort, flash: &mut MemFlash, at: u32, fill: u8, spare_area:
 fn spare_area_of(rt: &impl Abort, protocol: Protocol, rec: Rec) -> [u8; 64] {
     assert!(rt; 1 <= rec.version && rec.version <= MAX_VERSION);
     assert!(rt; 1 <= rec.next.version && rec.next.version <= MAX_VERSION);
-    assert!(rt; rec.count == 0 && !rec.discard);
+    assert!(rt; rec.count <= 256 && (rec.count > 0 || !rec.discard));
     match protocol {
         Protocol::Scc => assert!(rt; rec.back == 0),
         Protocol::Bpcc => assert!(rt; rec.back < rec.version),
@@ -278,6 +278,63 @@ fn the_least_law_is_named_with_its_slot(rt: HostRuntime) -> Result<(), Fail> {
             (refusal, reads),
             "{items:?}"
         );
+    }
+    Ok(())
+}
+
+/// A slot with a record that counts: its page and version, those of its link, its count, and whether
+/// it discards its page.
+type Counted = (u32, (u32, u64), (u32, u64), u32, bool);
+
+/// Records that count, and the law that is broken with the slot that is named, if one is.
+const COUNTED: [(&[Counted], Option<(u8, u32)>); 8] = [
+    (
+        &[(0, (0, 1), (1, 1), 2, false), (1, (1, 1), (0, 1), 2, true)],
+        None,
+    ),
+    (
+        &[(0, (0, 1), (1, 1), 2, false), (1, (1, 1), (0, 1), 3, false)],
+        Some((9, 0)),
+    ),
+    (&[(0, (0, 1), (0, 1), 2, false)], Some((9, 0))),
+    // a record of format 1 counts none
+    (&[(4, (0, 1), (0, 1), 0, false)], None),
+    (
+        &[(0, (0, 1), (1, 1), 0, false), (1, (1, 1), (0, 1), 2, false)],
+        Some((9, 0)),
+    ),
+    // a transaction that did not end
+    (&[(0, (0, 1), (1, 1), 3, false)], None),
+    // two copies of which one discards the page, and two that break another law besides
+    (
+        &[(0, (0, 1), (0, 1), 1, false), (4, (0, 1), (0, 1), 1, true)],
+        Some((2, 4)),
+    ),
+    (
+        &[
+            (0, (0, 1), (0, 1), 2, false),
+            (4, (20, 1), (0, 1), 1, false),
+        ],
+        Some((1, 4)),
+    ),
+];
+
+#[test]
+fn records_count_the_pages_of_their_transaction(rt: HostRuntime) -> Result<(), Fail> {
+    for (items, breach) in COUNTED {
+        let mut flash = written(&rt, rt.alloc(), S, &[])?;
+        for (slot, name, next, count, discard) in items {
+            let mut record = rec(*name, *next, 0);
+            record.count = *count;
+            record.discard = *discard;
+            let spare_area = spare_area_of(&rt, S, record);
+            assert!(rt; program(&rt, &mut flash, *slot, 0, &spare_area));
+        }
+        let refusal = breach.map(|(law, slot)| RecoverError::Unsound {
+            law,
+            slot: Slot(slot),
+        });
+        assert_eq!(rt; refused(rt.alloc(), &mut flash, S).0, refusal, "{items:?}");
     }
     Ok(())
 }

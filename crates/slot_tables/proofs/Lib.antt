@@ -18,3 +18,4 @@ pub mod FirstTables
 pub mod SpareSetting
 pub mod SpareFrame
 pub mod Ranges
+pub mod GatheredSlots

@@ -1,10 +1,10 @@
 -- Which slots are needed after what was given has changed.
-use Rattle.std.proofs.Common.{◌≡◌, ◌≢◌, ℕ, ◌<◌, ◌⊎◌, Bool, false, ◌&&◌, ◌||◌, eqb, ltb, inl, inr, Option, Some, None, List, length, get_or, set, count_by, refl, sym, ◌∙◌, ap, ap₂, arith, length-set}
+use Rattle.std.proofs.Common.{◌≡◌, ◌≢◌, ℕ, ◌<◌, ◌⊎◌, Bool, true, false, cond, ◌&&◌, ◌||◌, eqb, ltb, inl, inr, Option, Some, None, List, length, get_or, set, count_by, refl, sym, ◌∙◌, ap, ap₂, arith, length-set, eqb-true}
 use Rattle.std.specs.List.{Contains, slice_get, find}
 use Rattle.std.specs.Option.{IfSome, option_map_or, option_and_then}
-use Rattle.std.proofs.lemmas.Bool.{cases_eq}
+use Rattle.std.proofs.lemmas.Bool.{cases_eq, false≢true}
 use Rattle.std.proofs.lemmas.Bool.Decides.{nat_tests}
-use Rattle.std.proofs.lemmas.List.{get_or-set_same, get_or-set_other}
+use Rattle.std.proofs.lemmas.List.{get_or-set_same, get_or-set_other, set-set}
 use Rattle.std.proofs.lemmas.List.Sums.{sum_by-set}
 use Rattle.list_facts.proofs.Counts.{one_of}
 use Rattle.list_facts.proofs.Membership.{got_within}
@@ -14,7 +14,7 @@ use Rattle.tx_types.specs.declared.record.Rec.{Rec}
 use Rattle.record_list.specs.Written.{is_slot, is_outside_spare}
 use Rattle.slot_tables.specs.Kept.{Kept, use_at, number_in, number_at, record_at, is_number, is_answerer, home, copies_of, is_wanted, is_wanted_as, is_needed, is_needed_for}
 use Rattle.slot_tables.specs.Counts.{is_marked}
-use Rattle.slot_tables.specs.Given.{settled}
+use Rattle.slot_tables.specs.Given.{settled, is_same_slot, moved_settled}
 use Rattle.slot_tables.proofs.Answering.{any_counted}
 use Rattle.slot_tables.proofs.Copying.{copies_have}
 
@@ -81,6 +81,38 @@ settled_at k needed (Some s) at low right = elim (cases_eq at s) [
 pub settled_long : (k : Kept) (needed : List Bool) (o : Option ℕ) → length (settled k needed o) ≡ length needed
 settled_long k needed None = refl
 settled_long k needed (Some s) = length-set needed s (is_needed k s)
+
+-- settled twice is settled
+pub settled_twice : (k : Kept) (needed : List Bool) (o : Option ℕ) → settled k (settled k needed o) o ≡ settled k needed o
+settled_twice k needed None = refl
+settled_twice k needed (Some s) = set-set needed s (is_needed k s) (is_needed k s)
+
+pub same_slot : (a b : Option ℕ) → is_same_slot a b ≡ true → a ≡ b
+same_slot None None e = refl
+same_slot None (Some b) e = absurd (false≢true e)
+same_slot (Some a) None e = absurd (false≢true e)
+same_slot (Some a) (Some b) e = ap Some (eqb-true a b e)
+
+-- of two slots that are settled where they are not the same
+module _ (k : Kept) (needed : List Bool) (before after : Option ℕ) where
+  pub moved_long : length (moved_settled k needed before after) ≡ length needed
+  moved_long = by (is_same_slot before after)
+    where
+      by : (b : Bool) → length (cond b needed (settled k (settled k needed before) after)) ≡ length needed
+      by true = refl
+      by false = settled_long k (settled k needed before) after ∙ settled_long k needed before
+
+  pub moved_at : (at : ℕ) → IfSome before (λ s. s < length needed) → IfSome after (λ s. s < length needed)
+      → (before ≡ after → is_marked needed at ≡ is_needed k at)
+      → ((before ≡ Some at → ⊥) → (after ≡ Some at → ⊥) → is_marked needed at ≡ is_needed k at)
+      → is_marked (moved_settled k needed before after) at ≡ is_needed k at
+  moved_at at low low' same off = by (is_same_slot before after) refl
+    where
+      by : (b : Bool) → is_same_slot before after ≡ b
+          → is_marked (cond b needed (settled k (settled k needed before) after)) at ≡ is_needed k at
+      by true e = same (same_slot before after e)
+      by false e = settled_at k (settled k needed before) after at (rw (settled_long k needed before) low') (λ apart.
+          settled_at k needed before at low (λ away. off away apart))
 
 -- whether a record is wanted, by its own
 pub wanted_by : (k k' : Kept) (number : ℕ) → k'.records ≡ k.records

@@ -1,5 +1,5 @@
 -- The tables after a slot is set.
-use Rattle.std.proofs.Common.{◌≡◌, ◌≢◌, ℕ, ◌<◌, ◌⊎◌, Bool, true, false, ◌&&◌, inl, inr, Option, Some, None, List, length, set, map, refl, sym, ◌∙◌, ap, length-set}
+use Rattle.std.proofs.Common.{◌≡◌, ◌≢◌, ℕ, ◌<◌, ◌⊎◌, Bool, true, false, ◌&&◌, inl, inr, Option, Some, None, List, length, set, map, refl, sym, ◌∙◌, ap, subst, length-set}
 use Rattle.std.specs.Option.{IfSome, option_and_then}
 use Rattle.std.proofs.lemmas.Bool.{cases_eq}
 use Rattle.std.proofs.lemmas.List.{get_or-set_same, get_or-set_other, map-set}
@@ -11,11 +11,12 @@ use Rattle.slot_tables.specs.declared.tables.Tables.TheInside.{Inside}
 use Rattle.slot_tables.specs.declared.given.Given.{Given}
 use Rattle.slot_tables.specs.Kept.{Kept, use_at, number_in, holds, is_blank, home, is_wanted, is_needed}
 use Rattle.slot_tables.specs.Copies.{NumbersBelow}
-use Rattle.slot_tables.specs.Given.{kept_of, settled, IsSized}
+use Rattle.slot_tables.specs.Given.{kept_of, moved_settled, IsSized}
+use Rattle.slot_tables.specs.Counts.{is_marked}
 use Rattle.slot_tables.specs.Tables.{AreTables}
-use Rattle.slot_tables.proofs.Copying.{copies_stay}
+use Rattle.slot_tables.proofs.Copying.{copies_stay, copies_have}
 use Rattle.slot_tables.proofs.Held.{holds_number}
-use Rattle.slot_tables.proofs.Needing.{needed_some, needed_none, not_slot, need_stays, settled_at, settled_long, home_lies}
+use Rattle.slot_tables.proofs.Needing.{needed_some, needed_none, not_slot, need_stays, moved_at, moved_long, home_copy, home_lies}
 use Rattle.slot_tables.proofs.Settling.{home_at}
 
 -- a slot that holds a record of another number, or none
@@ -115,26 +116,53 @@ module _ (t : Inside) (h : AreTables t) (at : ℕ) (to : SlotUse) (low : at < le
           needed_some k at some.0 some.1
           ∙ ap (λ b. b && is_wanted k some.0) (not_slot at (home k some.0) (λ e. off (ap (option_and_then (home k)) some.1 ∙ e)))
 
+  decide_slot : (o : Option ℕ) (s : ℕ) → (o ≡ Some s) ⊎ (o ≡ Some s → ⊥)
+  decide_slot None s = inr (λ e. cc)
+  decide_slot (Some y) s = elim (cases_eq y s) [ inl e ↦ inl (ap Some e) | inr other ↦ inr (λ e. other (let same : y ≡ s = cc in same)) ]
+
+  -- a slot that is the home of a record before and after is needed as it was
+  keeps : (o : Option ℕ) (s : ℕ) → home_at k o ≡ Some s → home_at k' o ≡ Some s → is_needed k' s ≡ is_needed k s
+  keeps None s here there = absurd (cc)
+  keeps (Some x) s here there =
+      let was = ap number_in (holds_number x (use_at k.slots s) ((copies_have k.slots x s).0 (home_copy k x s here)).1) in
+      let is = ap number_in (holds_number x (use_at k'.slots s) ((copies_have k'.slots x s).0 (home_copy k' x s there)).1) in
+      need_stays k k' s (is ∙ sym was) (λ y e.
+      let both : Some x ≡ Some y = sym was ∙ e in
+      let same : x ≡ y = cc in
+      inl (subst (λ z. home k' z ≡ home k z) same (there ∙ sym here), refl))
+
+  -- the home of a record is the same before and after, or neither is this slot
+  abbrev Calm : Option ℕ → ℕ → Type 0
+  Calm o s = (home_at k o ≡ home_at k' o) ⊎ ((home_at k o ≡ Some s → ⊥) × (home_at k' o ≡ Some s → ⊥))
+
+  stands : (o : Option ℕ) (s : ℕ) → Calm o s
+      → (is_needed k' s ≡ is_needed k s) ⊎ ((home_at k o ≡ Some s → ⊥) × (home_at k' o ≡ Some s → ⊥))
+  stands o s (inr off) = inr off
+  stands o s (inl same) = elim (decide_slot (home_at k o) s) [
+    | inl here ↦ inl (keeps o s here (sym same ∙ here))
+    | inr off ↦ inr (off, λ e. off (same ∙ e))
+  ]
+
+  calm_needs : (s : ℕ) → Calm left s → Calm joined s → is_needed k' s ≡ is_needed k s
+  calm_needs s l j = elim (stands left s l) [
+    | inl there ↦ there
+    | inr off ↦ elim (stands joined s j) [ inl there ↦ there | inr away ↦ needs_stay s off.0 away.0 off.1 away.1 ]
+  ]
+
   pub old_lies : (o : Option ℕ) → IfSome (home_at k o) (λ s. s < length k'.slots)
   old_lies o = rw (length-set t.given.slots at to) (home_lies k o)
 
   abbrev first : List Bool
-  first = settled k' t.needs.needed (home_at k left)
+  first = moved_settled k' t.needs.needed (home_at k left) (home_at k' left)
 
-  abbrev second : List Bool
-  second = settled k' first (home_at k joined)
+  pub first_long : length first ≡ slots_of k.shape
+  first_long = moved_long k' t.needs.needed (home_at k left) (home_at k' left) ∙ h.needs.slots
 
-  abbrev third : List Bool
-  third = settled k' second (home_at k' left)
-
-  long1 : length first ≡ slots_of k.shape
-  long1 = settled_long k' t.needs.needed (home_at k left) ∙ h.needs.slots
-
-  long2 : length second ≡ slots_of k.shape
-  long2 = settled_long k' first (home_at k joined) ∙ long1
-
-  long3 : length third ≡ slots_of k.shape
-  long3 = settled_long k' second (home_at k' left) ∙ long2
+  marked_first : (s : ℕ) → Calm joined s → is_marked first s ≡ is_needed k' s
+  marked_first s j =
+      moved_at k' t.needs.needed (home_at k left) (home_at k' left) s (rw (h.needs.slots, ← slots_long) (old_lies left))
+      (rw (h.needs.slots, ← slots_long) (home_lies k' left))
+      (λ same. h.needs.needed s ∙ sym (calm_needs s (inl same) j)) (λ off away. h.needs.needed s ∙ sym (calm_needs s (inr (off, away)) j))
 
   pub slot_set : (mark : Bool) → mark ≡ is_blank to
       → AreTables (record t {
@@ -142,7 +170,7 @@ module _ (t : Inside) (h : AreTables t) (at : ℕ) (to : SlotUse) (low : at < le
         blanks = record t.blanks { marks = set t.blanks.marks at mark };
         needs = record t.needs {
           needed =
-              settled k' third (home_at k' joined);
+              moved_settled k' first (home_at k joined) (home_at k' joined);
         };
       })
   slot_set mark is = record {
@@ -152,15 +180,12 @@ module _ (t : Inside) (h : AreTables t) (at : ℕ) (to : SlotUse) (low : at < le
       size = h.blanks.size;
     };
     needs = record {
-      slots = settled_long k' third (home_at k' joined) ∙ long3;
+      slots = moved_long k' first (home_at k joined) (home_at k' joined) ∙ first_long;
       size = h.needs.size;
       blocks = h.needs.blocks;
       spare = h.needs.spare;
       needed = λ s.
-          settled_at k' third (home_at k' joined) s (rw (long3, ← slots_long) (home_lies k' joined)) (λ d.
-          settled_at k' second (home_at k' left) s (rw (long2, ← slots_long) (home_lies k' left)) (λ c.
-          settled_at k' first (home_at k joined) s (rw (long1, ← slots_long) (old_lies joined)) (λ b.
-          settled_at k' t.needs.needed (home_at k left) s (rw (h.needs.slots, ← slots_long) (old_lies left)) (λ a.
-          h.needs.needed s ∙ sym (needs_stay s a b c d)))));
+          moved_at k' first (home_at k joined) (home_at k' joined) s (rw (first_long, ← slots_long) (old_lies joined))
+          (rw (first_long, ← slots_long) (home_lies k' joined)) (λ same. marked_first s (inl same)) (λ off away. marked_first s (inr (off, away)));
     };
   }

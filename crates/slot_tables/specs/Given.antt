@@ -1,5 +1,5 @@
 -- What the tables are given.
-use Rattle.std.specs.Prelude.{◌≡◌, ℕ, ◌⊎◌, Bool, Option, Some, None, List, length, slice_set}
+use Rattle.std.specs.Prelude.{◌≡◌, ℕ, ◌==◌, ◌⊎◌, Bool, true, false, Option, Some, None, List, length, slice_set, if◌then◌else◌}
 use Rattle.std.specs.Option.{option_map, option_and_then}
 use Rattle.slot_tables.specs.declared.given.Given.{Given}
 use Rattle.slot_tables.specs.declared.slots.SlotUse.TheVariants.{Holds}
@@ -29,6 +29,17 @@ pub record IsSized (g : Given) : Type 0 where
 abbrev pub settled : Kept → List Bool → Option ℕ → List Bool
 settled k needed None = needed
 settled k needed (Some at) = slice_set needed at (is_needed k at)
+
+abbrev pub is_same_slot : Option ℕ → Option ℕ → Bool
+is_same_slot None None = true
+is_same_slot None (Some other) = false
+is_same_slot (Some slot) None = false
+is_same_slot (Some slot) (Some other) = slot == other
+
+-- with those of two slots, if they are not the same
+abbrev pub moved_settled : Kept → List Bool → Option ℕ → Option ℕ → List Bool
+moved_settled k needed before after =
+    if is_same_slot before after then needed else settled k (settled k needed before) after
 
 -- with that of the home of the record of a number, and of its home by an older spare
 abbrev pub held_settled : Kept → Option ℕ → List Bool → Option ℕ → List Bool

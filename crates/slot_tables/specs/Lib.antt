@@ -12,3 +12,4 @@ pub mod KeptAnswers
 pub mod KeptWaits
 pub mod KeptCurrent
 pub mod Tables
+pub mod Gathered

@@ -1,5 +1,6 @@
 ghost use Rattle.std.specs.Prelude.{◌≡◌, ℕ, ◌<◌, [], length, slice_set, Some, None, IfSome, IsSomeAnd};
 ghost use Rattle.tx_types.specs.Config.{slots_of, blocks_of};
+ghost use Rattle.tx_types.specs.declared.record.Rec.{Rec};
 ghost use Rattle.slot_tables.specs.Kept.{record_at, added, given_up, IsNewest, copies_of};
 ghost use Rattle.slot_tables.specs.Versions.{HasFree};
 ghost use Rattle.slot_tables.specs.Copies.{NumbersBelow};
@@ -45,10 +46,8 @@ impl Tables {
         let other = self.given.home_of(joined);
         self.given.slots.set(at.0, to);
         self.blanks.set(at.0, is_blank(to));
-        self.given.settle(&mut self.needs, old);
-        self.given.settle(&mut self.needs, other);
-        self.given.settle_home(&mut self.needs, left);
-        self.given.settle_home(&mut self.needs, joined);
+        self.given.settle_moved(&mut self.needs, old, left);
+        self.given.settle_moved(&mut self.needs, other, joined);
     }
 
     /// Says which record of a page is current.
@@ -99,6 +98,21 @@ impl Tables {
         self.given.pins[page as usize] = version;
         self.given.settle_home(&mut self.needs, before);
         self.given.settle_home(&mut self.needs, now);
+    }
+
+    /// Pins a page at no version. None of its records has version 0.
+    pub fn unpin(&mut self, page: u32)
+        requires page { page < length self.old.pages }
+        requires above { (number : ℕ) (r : Rec) → record_at self.old.records number ≡ Some r →
+            r.page ≡ page → 0 < r.version }
+        ensures { self.new ≡ record self.old { pins = slice_set self.old.pins page 0 } }
+    {
+        let before = self
+            .given
+            .records
+            .number_of(page, self.given.pins[page as usize]);
+        self.given.pins[page as usize] = 0;
+        self.given.settle_home(&mut self.needs, before);
     }
 
     /// Makes a block the spare. This goes through the slots of the old and the new spare.

@@ -2,8 +2,8 @@ ghost use Rattle.std.specs.Prelude.{◌≡◌, ℕ, ◌<◌, length, IfSome};
 ghost use Rattle.std.specs.Option.{option_map, option_and_then};
 ghost use Rattle.tx_types.specs.Config.{blocks_of};
 ghost use Rattle.record_list.specs.Written.{is_slot};
-ghost use Rattle.slot_tables.specs.Kept.{home, home_in, is_wanted, is_needed, first_below};
-ghost use Rattle.slot_tables.specs.Given.{kept_of, settled, held_settled, IsSized, IsSettledFrom};
+ghost use Rattle.slot_tables.specs.Kept.{home, home_in, is_wanted, is_needed, first_below, links_below, record_at};
+ghost use Rattle.slot_tables.specs.Given.{kept_of, settled, held_settled, is_same_slot, moved_settled, IsSized, IsSettledFrom};
 
 use crate::answers::Answers;
 use crate::current::Current;
@@ -84,9 +84,22 @@ impl Given {
         requires number { number < length self.now.slots }
         ensures { result ≡ first_below (kept_of self.now) below number }
     {
+        if self.links_below(number, below) {
+            self.slots.first(number)
+        } else {
+            None
+        }
+    }
+
+    /// Whether the version of the link of the record of a number is below this one.
+    pub fn links_below(&self, number: u32, below: u64) -> bool
+        requires sized { IsSized self.now }
+        requires number { number < length self.now.slots }
+        ensures { result ≡ links_below below (record_at (kept_of self.now).records number) }
+    {
         match self.records.get(number) {
-            Some(rec) if rec.next.version < below => self.slots.first(number),
-            _ => None,
+            Some(rec) => rec.next.version < below,
+            None => false,
         }
     }
 
@@ -99,6 +112,25 @@ impl Given {
             needs.new ≡ record needs.old { needed = settled (kept_of self.now) needs.old.needed at } }
     {
         self.settle(needs, self.home_of(number));
+    }
+
+    /// Where the home of the record of a number is another slot than before, says anew whether each of the two is
+    /// needed.
+    pub fn settle_moved(&self, needs: &mut Needs, before: Option<u32>, number: Option<u32>)
+        requires sized { IsSized self.now }
+        requires before { IfSome before (λ at. at < length self.now.slots) }
+        requires number { IfSome number (λ number. number < length self.now.slots) }
+        requires needs { length needs.old.needed ≡ length self.now.slots }
+        ensures { let after = option_and_then (home (kept_of self.now)) number in
+            needs.new ≡ record needs.old {
+              needed = moved_settled (kept_of self.now) needs.old.needed before after;
+            } }
+    {
+        let home = self.home_of(number);
+        if !is_same(before, home) {
+            self.settle(needs, before);
+            self.settle(needs, home);
+        }
     }
 
     /// Says anew whether a slot is needed, if there is one.
@@ -140,9 +172,12 @@ impl Given {
               held_settled (kept_of self.now) (option_map (λ b. b.0) older) needs.old.needed number;
         } }
     {
-        let home = self.home_by(older, number);
-        self.settle(needs, home);
-        self.settle_home(needs, number);
+        let before = self.home_by(older, number);
+        self.settle(needs, before);
+        let home = self.home_of(number);
+        if !is_same(before, home) {
+            self.settle(needs, home);
+        }
     }
 }
 
@@ -153,5 +188,16 @@ fn is_at(slot: Option<u32>, at: u32) -> bool
     match slot {
         None => false,
         Some(slot) => slot == at,
+    }
+}
+
+/// Whether two slots are the same, or neither is there.
+fn is_same(slot: Option<u32>, other: Option<u32>) -> bool
+    ensures { result ≡ is_same_slot slot other }
+{
+    match (slot, other) {
+        (None, None) => true,
+        (Some(slot), Some(other)) => slot == other,
+        (None, Some(_)) | (Some(_), None) => false,
     }
 }

@@ -6,6 +6,7 @@
 mod answers;
 mod changing;
 mod current;
+mod gathering;
 mod given;
 mod needs;
 mod reading;
@@ -13,6 +14,8 @@ mod records;
 mod slots;
 mod tables;
 mod tally;
+#[cfg(test)]
+mod tests;
 mod waits;
 
 pub use slots::SlotUse;

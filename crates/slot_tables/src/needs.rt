@@ -99,6 +99,9 @@ impl Needs {
         requires { at < length self.old.needed }
         ensures { self.new ≡ record self.old { needed = slice_set self.old.needed at needed } }
     {
+        if self.needed.get(at) == needed {
+            return;
+        }
         self.needed.set(at, needed);
         let block = Block(at / self.size);
         if !is_spare(self.spare, block) {

@@ -1,4 +1,4 @@
-ghost use Rattle.std.specs.Prelude.{◌≡◌, ℕ, ◌+◌, ◌*◌, ◌<◌, ◌≤◌, length, replicate, slice_set, find, Some, IfOk};
+ghost use Rattle.std.specs.Prelude.{◌≡◌, ℕ, ◌+◌, ◌*◌, ◌<◌, ◌≤◌, ◌++◌, length, map, replicate, slice_set, find, vec_len, vec_capacity, Some, IfOk};
 ghost use Rattle.std.specs.List.{insert, remove, position_or_len, slice_get};
 ghost use Rattle.std.specs.Option.{option_map};
 ghost use Rattle.record_list.specs.Written.{is_outside_spare};
@@ -6,6 +6,7 @@ ghost use Rattle.tx_types.specs.Config.{IsShape};
 ghost use Rattle.plain_tables.specs.ChainLists.{AreDisjoint, list_of, with_list, index_in, IsListed};
 ghost use Rattle.slot_tables.specs.declared.slots.SlotUse.TheVariants as slot;
 ghost use Rattle.slot_tables.specs.Kept.{use_at, copies_of, home_in, number_in, is_blank};
+ghost use Rattle.slot_tables.specs.Gathered.{block_at};
 ghost use Rattle.slot_tables.specs.Copies.{is_above, last_of, HoldsNone, NumbersBelow, Rises};
 
 use plain_tables::Chains;
@@ -86,6 +87,22 @@ impl Slots {
             slot = self.copies.next(at);
         }
         None
+    }
+
+    /// Appends the block of each slot that holds the record of a number, where a block has so many slots.
+    pub fn put_blocks(&self, size: u32, number: u32, into: &mut Vec<Block>)
+        requires size { 0 < size }
+        requires number { number < length self.now }
+        requires room { vec_len into.old + length (copies_of self.now number) ≤ vec_capacity into.old }
+        ensures put { into.new.items ≡ into.old.items ++ map (block_at size) (copies_of self.now number) }
+        ensures len { vec_len into.new ≡ vec_len into.old + length (copies_of self.now number) }
+        ensures room { vec_capacity into.new ≡ vec_capacity into.old }
+    {
+        let mut slot = self.copies.first(number);
+        while let Some(at) = slot {
+            into.push_reserved(Block(at / size));
+            slot = self.copies.next(at);
+        }
     }
 
     /// The home of the record of a number, where this is the spare. This goes through the copies in it.

@@ -9,7 +9,7 @@ use Rattle.record_list.specs.declared.found.Found.{Found}
 use Rattle.record_list.specs.Records.{newest, greatest, name_of, is_present}
 use Rattle.record_list.specs.Verdict.{back_of}
 use Rattle.record_list.specs.Current.{cur, straddling_upto, responsible}
-use Rattle.record_list.specs.Transaction.{next_names, back_version, IsAsked, IsBegun}
+use Rattle.record_list.specs.Transaction.{next_names, back_version, IsAsked, IsBegun, IsAskedAt}
 use Rattle.record_list.proofs.Names.{greatest_bound, greatest_least, found_named, newest_bound, present_in}
 use Rattle.record_list.proofs.SoundNames.{IsSoundMap, map_back}
 use Rattle.record_list.proofs.Rounds.{cases_page, follows_of}
@@ -26,7 +26,7 @@ name_back p l logical names begun a i here =
     let f = found_named l a here in
     let after = follows_of names a i in
     let asks = All-contains (λ g. IsAsked p l logical names g.rec) l f.0 begun.asked f.1 in
-    let pair = All-contains (λ (x : Link × Link). name_of f.0.rec ≡ x.0 → (f.0.rec.next ≡ x.1) × (f.0.rec.back ≡ back_version p l logical x.0.page)) (zip names (next_names names)) (a, after.0) asks after.1 in
+    let pair = All-contains (IsAskedAt p l logical names f.0.rec) (zip names (next_names names)) (a, after.0) asks after.1 in
     sym f.4 ∙ (pair f.2).1
 
 module _ (l l' : List Found) (logical : ℕ) (names : List Link) (f : Found) (s : IsStep l l' logical names f.rec) (m : IsSoundMap Bpcc l logical)

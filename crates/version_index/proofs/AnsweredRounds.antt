@@ -1,13 +1,13 @@
 -- The records of a whole cycle answer, one after the other.
-use Rattle.std.proofs.Common.{◌≡◌, ◌≢◌, ℕ, ◌+◌, ◌<◌, ◌≤◌, List, length, take, get_or, option_and_then, Option, Some, None, refl, sym, ap, ◌∙◌, subst, inl, inr, arith}
+use Rattle.std.proofs.Common.{◌≡◌, ◌≢◌, ℕ, ◌+◌, ◌<◌, ◌≤◌, List, length, take, get_or, Some, None, sym, ap, ◌∙◌, subst, inl, inr, arith}
 use Rattle.std.proofs.lemmas.Bool.{cases_lt}
 use Rattle.std.proofs.lemmas.List.{get_or_past, take_all}
 use Rattle.std.proofs.lemmas.Option.{none-some, same_Some}
 use Rattle.tx_types.specs.declared.record.Link.{Link}
 use Rattle.tx_types.specs.declared.record.Rec.{Rec}
 use Rattle.record_list.specs.Records.{name_of}
-use Rattle.slot_tables.specs.Kept.{Kept, record_at, number_at}
-use Rattle.version_index.specs.Committing.{LinksExist, newest_at, newest_named, OnlyJudges, IsAnswered, IsTop, IsRoundIn, AnswersRound}
+use Rattle.slot_tables.specs.Kept.{Kept, record_at}
+use Rattle.version_index.specs.Committing.{LinksExist, newest_at, newest_named, OnlyJudges, IsAnswered, IsRoundIn, AnswersRound}
 use Rattle.version_index.specs.JudgedChanges.{Judged, with_answers, all_answered}
 use Rattle.version_index.specs.Numbered.{AreJudged}
 use Rattle.version_index.specs.Tables.{numbered_of}

@@ -1,11 +1,10 @@
 -- The newest record of a page answers for one after the other of those that wait for the page.
-use Rattle.std.proofs.Common.{◌≡◌, ◌≢◌, ℕ, ◌+◌, ◌<◌, ◌≤◌, ◌⊎◌, Bool, true, cond, List, length, set, get_or, count_by, Option, Some, None, refl, sym, ap, ◌∙◌, subst, inl, inr, arith, eq-eqb}
+use Rattle.std.proofs.Common.{◌≡◌, ◌≢◌, ℕ, ◌<◌, ◌⊎◌, cond, List, length, set, get_or, count_by, Option, Some, None, refl, sym, ap, ◌∙◌, inl, inr, arith, eq-eqb}
 use Rattle.std.proofs.lemmas.Bool.{cases_eq, cases_lt}
 use Rattle.std.proofs.lemmas.List.{length-set, get_or-set_same, get_or-set_other, get_or_past}
 use Rattle.std.proofs.lemmas.List.Sums.{sum_by-set}
 use Rattle.std.proofs.lemmas.Option.{none-some}
-use Rattle.tx_types.specs.Config.{slots_of}
-use Rattle.slot_tables.specs.Kept.{Kept, IsKept, is_number, record_at, number_at}
+use Rattle.slot_tables.specs.Kept.{Kept, IsKept, is_number, number_at}
 use Rattle.version_index.specs.Committing.{OnlyJudges, IsAnswered, newest_at}
 
 -- some of those that waited are answered

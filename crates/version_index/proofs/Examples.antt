@@ -43,8 +43,8 @@ misplaced_spelled = record {
   next_version_least = omega arith;
   next_version_most = omega arith;
   back = refl;
-  count = refl;
-  discard = refl;
+  count = omega arith;
+  discard = λ none. refl;
 }
 
 -- and so does a record of a page that does not exist

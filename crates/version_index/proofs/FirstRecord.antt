@@ -7,30 +7,32 @@ use Rattle.tx_types.specs.declared.record.Rec.{Rec}
 use Rattle.tx_types.specs.declared.config.Protocol.TheVariants.{Scc}
 use Rattle.record_list.specs.declared.found.Found.{Found}
 use Rattle.record_list.specs.Records.{name_of, is_present}
-use Rattle.record_list.specs.Transaction.{back_version, IsAsked, IsBegun, InProgress}
+use Rattle.record_list.specs.Transaction.{IsAsked, IsBegun, InProgress, IsAskedAt}
 use Rattle.record_list.specs.Changes.{NothingMustGo}
 use Rattle.version_index.specs.Notes.{found_in}
 use Rattle.version_index.specs.Noted.{Noted, IsNextRecord}
 
--- a record that links to itself
+-- a record that links to itself, and counts itself
 pub record IsAlone (logical : ℕ) (rec : Rec) : Type 0 where
   pub page : rec.page < logical
   pub low : 1 ≤ rec.version
   pub high : rec.version ≤ max_version
   pub own : rec.next ≡ name_of rec
   pub back : rec.back ≡ 0
+  pub count : rec.count ≡ 1
 
 module _ (logical : ℕ) (rec : Rec) (a : IsAlone logical rec) where
   alone_asked : (list : List Found) → IsAsked Scc list logical (name_of rec ∷ []) rec
   alone_asked list =
-      All-from_recursion (λ (x : Link × Link). name_of rec ≡ x.0 → (rec.next ≡ x.1) × (rec.back ≡ back_version Scc list logical x.0.page)) ((name_of rec, name_of rec) ∷ [])
-      ((λ same. (a.own, a.back)), tt)
+      All-from_recursion (IsAskedAt Scc list logical (name_of rec ∷ []) rec) ((name_of rec, name_of rec) ∷ [])
+      ((λ same. (a.own, a.back, a.count)), tt)
 
   alone_begun : IsBegun Scc [] logical (name_of rec ∷ [])
   alone_begun = record {
     transaction = record {
       distinct = λ i j d less within. absurd (omega arith);
       in_range = All-from_recursion (λ (x : Link). (x.page < logical) × (1 ≤ x.version) × (x.version ≤ max_version)) (name_of rec ∷ []) ((a.page, a.low, a.high), tt);
+      few = omega arith;
     };
     asked = λ k d within. absurd (omega arith);
     others = λ k d within. absurd (omega arith);

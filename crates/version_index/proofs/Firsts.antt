@@ -1,10 +1,10 @@
 -- The first number of a range that passes two tests.
-use Rattle.std.proofs.Common.{◌≡◌, ℕ, zero, suc, ◌+◌, ◌<◌, ◌≤◌, Bool, true, false, cond, List, [], ◌∷◌, filter, find, Option, Some, None, refl, sym, ap, ◌∙◌, subst, inl, inr, arith}
+use Rattle.std.proofs.Common.{◌≡◌, ℕ, zero, suc, ◌+◌, ◌<◌, ◌≤◌, Bool, true, false, List, [], ◌∷◌, filter, find, Some, None, refl, sym, ap, ◌∙◌, inl, inr, arith}
 use Rattle.std.specs.List.{range_with_len, slice_get}
 use Rattle.std.proofs.lemmas.Bool.{false≢true, cases_Bool, cases_eq, cond-true, cond-false}
 use Rattle.std.proofs.lemmas.Option.{none-some, same_Some}
 use Rattle.list_facts.proofs.Membership.{in_filter, from_filter}
-use Rattle.list_facts.proofs.Ranges.{in_range, range_bounds}
+use Rattle.list_facts.proofs.Ranges.{in_range}
 use Rattle.list_facts.proofs.Tests.{find_stands, none_found}
 
 -- the first item is the first that passes where each passes

@@ -1,5 +1,5 @@
 -- Pins, spares, damaged slots and copies leave tables that have what was noted.
-use Rattle.std.proofs.Common.{◌≡◌, ◌≢◌, ℕ, ◌<◌, ◌≤◌, List, length, map, set, get_or, IfSome, IsSome, Option, Some, None, refl, sym, ap, ap₂, ◌∙◌, subst, inl, inr, arith}
+use Rattle.std.proofs.Common.{◌≡◌, ◌≢◌, ℕ, ◌<◌, List, length, set, IsSome, Some, refl, sym, ap, ap₂, ◌∙◌, subst, inl, inr, arith}
 use Rattle.std.proofs.lemmas.Bool.{cases_eq}
 use Rattle.std.proofs.lemmas.List.{length-set, get_or-set_same, get_or-set_other, map-set}
 use Rattle.tx_types.specs.declared.config.Config.{Config}
@@ -14,13 +14,13 @@ use Rattle.slot_tables.specs.Kept.{Kept, use_at}
 use Rattle.version_index.specs.declared.note.Note.{Note}
 use Rattle.version_index.specs.declared.note.Note.TheVariants as note
 use Rattle.version_index.specs.Notes.{note_at, rec_of, found_in}
-use Rattle.version_index.specs.Noted.{Noted, IsNoted, current_of, pinned, with_spare, damaged_at, copied}
+use Rattle.version_index.specs.Noted.{Noted, IsNoted, current_of, damaged_at, copied}
 use Rattle.version_index.specs.Judged.{answerer, is_waiting, answerer_of, waits_of}
-use Rattle.version_index.specs.JudgedChanges.{Judged, judged_of, NothingMoves, IsJudgedAs}
-use Rattle.version_index.specs.Numbered.{Numbered, rec_at, AreJudged}
+use Rattle.version_index.specs.JudgedChanges.{Judged, judged_of, NothingMoves}
+use Rattle.version_index.specs.Numbered.{rec_at, AreJudged}
 use Rattle.version_index.specs.Tables.{note_in, notes_in, noted_by, numbered_of, AreHeld, AreIndexed}
 use Rattle.version_index.proofs.Copies.{copy_moves_nothing, damage_moves_nothing}
-use Rattle.version_index.proofs.KeptNotes.{note_by, kept_noted, blank_slot, held_number, length-notes}
+use Rattle.version_index.proofs.KeptNotes.{note_by, kept_noted, blank_slot, length-notes}
 use Rattle.version_index.proofs.NotedChanges.{damaged_noted, copied_noted}
 use Rattle.version_index.proofs.Numbered.{judged_as}
 use Rattle.version_index.proofs.WholeJudged.{judged_still}

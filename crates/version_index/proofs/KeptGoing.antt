@@ -1,5 +1,5 @@
 -- The lowest block that must go, by the tables.
-use Rattle.std.proofs.Common.{◌≡◌, ℕ, ◌<◌, ◌≤◌, ◌/◌, ◌⊎◌, Bool, true, false, ◌↔◌, List, length, min, IsSome, IsSomeAnd, Option, Some, None, refl, sym, ap, ◌∙◌, subst, inl, inr, arith}
+use Rattle.std.proofs.Common.{◌≡◌, ℕ, ◌<◌, ◌/◌, ◌⊎◌, true, ◌↔◌, List, length, min, IsSome, IsSomeAnd, Option, Some, None, refl, sym, ap, ◌∙◌, subst, inl, inr, arith}
 use Rattle.std.specs.List.{slice_get}
 use Rattle.std.specs.Option.{option_map}
 use Rattle.std.proofs.lemmas.Bool.{false≢true, cases_Bool, cases_lt}
@@ -7,7 +7,6 @@ use Rattle.std.proofs.lemmas.Option.{none-some, same_Some}
 use Rattle.std.proofs.lemmas.List.{get_or_past}
 use Rattle.std.proofs.lemmas.List.Elements.{All-contains}
 use Rattle.list_facts.proofs.Options.{cases_Option}
-use Rattle.tx_types.specs.declared.record.Link.{Link}
 use Rattle.tx_types.specs.declared.record.Rec.{Rec}
 use Rattle.tx_types.specs.declared.config.Config.{Config}
 use Rattle.tx_types.specs.declared.config.Protocol.{Protocol}
@@ -32,7 +31,7 @@ use Rattle.version_index.proofs.Newest.{newest_number, no_number}
 use Rattle.version_index.proofs.NumberedReadings.{waiting_number}
 use Rattle.version_index.proofs.Readings.{going_reading, none_goes}
 
-use_within : (k : Kept) (at x : ℕ) → use_at k.slots at ≡ slot.Holds x → at < length k.slots
+pub use_within : (k : Kept) (at x : ℕ) → use_at k.slots at ≡ slot.Holds x → at < length k.slots
 use_within k at x e = elim (cases_lt at (length k.slots)) [
   | inl within ↦ within
   | inr past ↦ (let other : slot.Blank ≡ slot.Holds x = sym (get_or_past k.slots at slot.Blank past) ∙ e in absurd cc)
@@ -117,7 +116,7 @@ module _ (protocol : Protocol) (its : Config) (m : List ℕ) (k : Kept) (i : Are
       ap (λ p. is_waiting p l its.logical r) scc ∙ ap (λ p. is_loose p l its.logical r) (sym scc)
 
   -- a number goes where its record does
-  number_goes : (x : ℕ) (r : Rec) → rec_at k.records x ≡ Some r → Goes k page below x → goes_of (noted_by its m k) page below r ≡ true
+  pub number_goes : (x : ℕ) (r : Rec) → rec_at k.records x ≡ Some r → Goes k page below x → goes_of (noted_by its m k) page below r ≡ true
   number_goes x r is goes =
       let n = noted_by its m k in
       let f = kept_found k i.held x r is in
@@ -142,7 +141,7 @@ module _ (protocol : Protocol) (its : Config) (m : List ℕ) (k : Kept) (i : Are
             inr (record { waits = both.0; next_page = both.1; low = some_and (rec_at k.records x) (λ s. s.next.version < below) r is link.1 }))
       ])
 
-  goes_number : (x : ℕ) (r : Rec) → rec_at k.records x ≡ Some r → goes_of (noted_by its m k) page below r ≡ true → Goes k page below x
+  pub goes_number : (x : ℕ) (r : Rec) → rec_at k.records x ≡ Some r → goes_of (noted_by its m k) page below r ≡ true → Goes k page below x
   goes_number x r is goes =
       let n = noted_by its m k in
       let f = kept_found k i.held x r is in

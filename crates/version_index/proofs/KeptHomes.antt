@@ -1,21 +1,18 @@
 -- Where the record of a number is read: its home, and its lowest slot outside a block.
-use Rattle.std.proofs.Common.{◌≡◌, ℕ, ◌<◌, ◌≤◌, Bool, true, false, eqb, ◌&&◌, List, length, find, Option, Some, None, refl, sym, ap, ◌∙◌, subst, inl, inr, arith, eq-eqb, eqb-true}
+use Rattle.std.proofs.Common.{◌≡◌, ℕ, ◌<◌, Bool, true, eqb, ◌&&◌, List, length, find, Some, None, refl, sym, ap, ◌∙◌, inl, inr, arith, eq-eqb, eqb-true}
 use Rattle.std.specs.List.{slice_get}
 use Rattle.std.specs.Option.{option_or}
-use Rattle.std.proofs.lemmas.Bool.{false≢true, cases_Bool, cases_lt, and_from, and_parts, and_left, and_right}
-use Rattle.std.proofs.lemmas.List.{get_or_past}
+use Rattle.std.proofs.lemmas.Bool.{false≢true, cases_Bool, and_from, and_parts, and_left, and_right}
 use Rattle.list_facts.proofs.Options.{cases_Option}
-use Rattle.tx_types.specs.declared.record.Link.{Link}
 use Rattle.tx_types.specs.declared.record.Rec.{Rec}
 use Rattle.tx_types.specs.declared.config.Config.{Config}
 use Rattle.tx_types.specs.Config.{shape_of}
-use Rattle.record_list.specs.declared.found.Found.{Found}
 use Rattle.record_list.specs.Records.{name_of, has_name}
 use Rattle.record_list.specs.Written.{is_outside, is_outside_spare}
 use Rattle.record_list.proofs.Names.{has_name_true}
 use Rattle.slot_tables.specs.declared.slots.SlotUse.{SlotUse}
 use Rattle.slot_tables.specs.declared.slots.SlotUse.TheVariants as slot
-use Rattle.slot_tables.specs.Kept.{Kept, use_at, holds, copies_of, home_in, copy_off}
+use Rattle.slot_tables.specs.Kept.{Kept, use_at, holds, copies_of, home_in}
 use Rattle.version_index.specs.declared.note.Note.TheVariants as note
 use Rattle.version_index.specs.Notes.{note_at}
 use Rattle.version_index.specs.Noted.{home_of, slot_off}

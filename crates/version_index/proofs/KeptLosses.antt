@@ -1,18 +1,17 @@
 -- A block whose slots are used otherwise leaves tables that have what was noted.
-use Rattle.std.proofs.Common.{◌≡◌, ◌≢◌, ℕ, zero, suc, ◌+◌, ◌*◌, ◌<◌, ◌≤◌, ◌⊎◌, true, false, List, length, map, set, get_or, Contains, Option, Some, None, refl, sym, ap, ◌∙◌, subst, inl, inr, arith}
+use Rattle.std.proofs.Common.{◌≡◌, ◌≢◌, ℕ, zero, suc, ◌+◌, ◌*◌, ◌<◌, ◌≤◌, ◌⊎◌, true, false, List, length, set, get_or, Option, Some, None, refl, sym, ap, ◌∙◌, subst, inl, inr, arith}
 use Rattle.std.specs.List.{slice_get}
 use Rattle.std.specs.Option.{option_map_or}
 use Rattle.std.proofs.lemmas.Bool.{false≢true, cases_Bool, cases_eq, cases_lt}
 use Rattle.std.proofs.lemmas.List.{length-set, get_or-set_same, get_or-set_other, get_or_past, ext_get_or}
 use Rattle.std.proofs.lemmas.List.Elements.{All-contains}
 use Rattle.std.proofs.lemmas.Option.{none-some, same_Some}
-use Rattle.list_facts.proofs.Membership.{from_filter, in_any}
-use Rattle.list_facts.proofs.Options.{cases_Option}
+use Rattle.list_facts.proofs.Membership.{from_filter}
 use Rattle.flash_model.proofs.ImageLemmas.{block_within}
 use Rattle.tx_types.specs.declared.config.Config.{Config}
 use Rattle.tx_types.specs.declared.config.Protocol.{Protocol}
 use Rattle.tx_types.specs.declared.record.Rec.{Rec}
-use Rattle.tx_types.specs.Config.{shape_of, slots_of, blocks_of}
+use Rattle.tx_types.specs.Config.{shape_of, blocks_of}
 use Rattle.record_list.specs.Records.{name_of, is_present}
 use Rattle.record_list.specs.Changes.{LossLaw, left}
 use Rattle.record_list.specs.Written.{is_outside}
@@ -27,7 +26,7 @@ use Rattle.version_index.specs.Notes.{note_at, rec_of, found_in, with_block_note
 use Rattle.version_index.specs.Noted.{Noted, IsNoted, CanLose, current_of}
 use Rattle.version_index.specs.Judged.{answerer_of}
 use Rattle.version_index.specs.JudgedChanges.{judged_of, NothingMoves}
-use Rattle.version_index.specs.Losing.{freed, bared, bared_as, without, used_so, used_from}
+use Rattle.version_index.specs.Losing.{freed, bared_as, without, used_so, used_from}
 use Rattle.version_index.specs.Numbered.{rec_at, number_at, AreJudged}
 use Rattle.version_index.specs.Tables.{note_in, notes_in, noted_by, numbered_of, AreHeld, AreIndexed}
 use Rattle.version_index.proofs.Blocks.{length-with_item, item_in, item_out, outside_it}
@@ -35,7 +34,7 @@ use Rattle.version_index.proofs.Firsts.{head_find, first_passed, none_passed}
 use Rattle.version_index.proofs.FoundIn.{found}
 use Rattle.version_index.proofs.KeptChanges.{still_indexed}
 use Rattle.version_index.proofs.KeptHomes.{holds_use, use_holds}
-use Rattle.version_index.proofs.KeptNotes.{note_by, kept_found, kept_noted, found_number, length-notes}
+use Rattle.version_index.proofs.KeptNotes.{note_by, kept_found, found_number, length-notes}
 use Rattle.version_index.proofs.Losses.{left_in, loss_moves_nothing, lost_answers_none, lost_not_current}
 use Rattle.version_index.proofs.NotedChanges.{block_noted}
 use Rattle.version_index.proofs.Numbered.{given_up_judged}

@@ -1,9 +1,7 @@
 -- What tables of slots and records have noted, slot by slot and record by record.
-use Rattle.std.proofs.Common.{◌≡◌, ℕ, ◌<◌, ◌≤◌, length, map, get_or, Contains, List, Any, Option, Some, None, refl, sym, ap, ◌∙◌, subst, inl, inr, arith}
+use Rattle.std.proofs.Common.{◌≡◌, ℕ, length, Contains, List, Any, Option, Some, refl, sym, ap, ◌∙◌, inl, inr}
 use Rattle.std.proofs.Math.ListN.{get_or-map}
-use Rattle.std.proofs.lemmas.Bool.{cases_lt}
-use Rattle.std.proofs.lemmas.List.{length-map, get_or_past}
-use Rattle.std.proofs.lemmas.Option.{none-some, same_Some}
+use Rattle.std.proofs.lemmas.List.{length-map}
 use Rattle.std.specs.Option.{option_map_or}
 use Rattle.list_facts.proofs.Membership.{any_in}
 use Rattle.list_facts.proofs.Options.{cases_Option}
@@ -14,13 +12,11 @@ use Rattle.record_list.specs.declared.found.Found.{Found}
 use Rattle.slot_tables.specs.declared.slots.SlotUse.{SlotUse}
 use Rattle.slot_tables.specs.declared.slots.SlotUse.TheVariants as slot
 use Rattle.slot_tables.specs.Kept.{Kept, use_at}
-use Rattle.version_index.specs.declared.note.Note.{Note}
 use Rattle.version_index.specs.declared.note.Note.TheVariants as note
 use Rattle.version_index.specs.Notes.{note_at, rec_of, found_in}
 use Rattle.version_index.specs.Numbered.{rec_at}
 use Rattle.version_index.specs.Tables.{note_in, notes_in, noted_by, numbered_of, AreHeld, AreIndexed}
 use Rattle.version_index.proofs.FoundIn.{found, noted_from, noted_in, holds_within}
-use Rattle.version_index.proofs.Numbered.{AreNoted}
 use Rattle.version_index.proofs.NumberedReadings.{IsNumbering}
 
 -- what is noted of a slot is by how it is used

@@ -1,5 +1,5 @@
 -- A programmed record leaves tables that have what was noted.
-use Rattle.std.proofs.Common.{◌≡◌, ◌≢◌, ℕ, suc, ◌+◌, ◌<◌, ◌≤◌, true, false, List, ◌∷◌, length, map, set, get_or, Contains, Option, Some, None, refl, sym, ap, ◌∙◌, subst, inl, inr, arith}
+use Rattle.std.proofs.Common.{◌≡◌, ◌≢◌, ℕ, suc, ◌+◌, ◌<◌, ◌≤◌, true, false, List, ◌∷◌, length, map, set, get_or, Contains, Some, None, refl, sym, ap, ◌∙◌, subst, inl, inr, arith}
 use Rattle.std.specs.Option.{option_map_or}
 use Rattle.std.proofs.Math.ListN.{get_or-map}
 use Rattle.std.proofs.lemmas.Bool.{cases_eq, cases_Bool}
@@ -18,16 +18,16 @@ use Rattle.record_list.specs.Changes.{PartialWriteLaw, CompletingWriteLaw}
 use Rattle.record_list.proofs.Names.{same_name, newest_bound, present_in, found_named}
 use Rattle.slot_tables.specs.declared.slots.SlotUse.{SlotUse}
 use Rattle.slot_tables.specs.declared.slots.SlotUse.TheVariants as slot
-use Rattle.slot_tables.specs.Kept.{Kept, IsKept, use_at, record_at, number_at, numbers_at, number_in, added, IsNewest}
+use Rattle.slot_tables.specs.Kept.{Kept, IsKept, use_at, record_at, numbers_at, number_in, added, IsNewest}
 use Rattle.slot_tables.specs.Versions.{HasFree}
 use Rattle.version_index.specs.declared.note.Note.TheVariants as note
 use Rattle.version_index.specs.Committing.{LinksExist, newest_at, OnlyJudges, IsTop, IsRoundIn, Rests, MayComplete, JudgesWhole, IsSettledSo}
 use Rattle.record_list.specs.Verdict.{link_of}
 use Rattle.version_index.specs.JudgedLaws.{IsCompleted}
-use Rattle.version_index.specs.JudgedChanges.{Judged, judged_of, IsJudgedAs, IsRoundByIndex, completes, once_whole}
+use Rattle.version_index.specs.JudgedChanges.{judged_of, IsJudgedAs, completes, once_whole}
 use Rattle.version_index.specs.Notes.{note_at, found_in}
 use Rattle.version_index.specs.Noted.{Noted, IsNoted, IsNextRecord, programmed, raised}
-use Rattle.version_index.specs.Numbered.{rec_at, AreJudged}
+use Rattle.version_index.specs.Numbered.{AreJudged}
 use Rattle.version_index.specs.Tables.{note_in, notes_in, noted_by, numbered_of, AreHeld, AreIndexed}
 use Rattle.version_index.proofs.CurrentNames.{rested}
 use Rattle.version_index.proofs.FoundIn.{found}

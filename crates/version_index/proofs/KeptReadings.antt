@@ -1,16 +1,15 @@
 -- What is read of the tables, by what was noted.
-use Rattle.std.proofs.Common.{◌≡◌, ℕ, ◌<◌, ◌≤◌, Bool, true, false, eqb, ◌&&◌, ◌||◌, cond, List, [], ◌∷◌, ◌+◌, ◌*◌, ap₂, length, get_or, count_by, find, Option, Some, None, refl, sym, ap, ◌∙◌, subst, inl, inr, arith, eq-eqb, eqb-true}
-use Rattle.std.specs.List.{slice_get, range_with_len, list_any}
-use Rattle.std.specs.Option.{option_map, option_map_or, option_and_then}
+use Rattle.std.proofs.Common.{◌≡◌, ℕ, ◌<◌, Bool, true, false, eqb, ◌&&◌, ◌||◌, cond, List, [], ◌∷◌, ◌+◌, ◌*◌, ap₂, length, get_or, count_by, find, Option, Some, None, refl, sym, ap, ◌∙◌, inl, inr, eq-eqb, eqb-true}
+use Rattle.std.specs.List.{range_with_len, list_any}
+use Rattle.std.specs.Option.{option_map_or, option_and_then}
 use Rattle.std.proofs.lemmas.Bool.{false≢true, cases_Bool, cases_lt, and_left}
-use Rattle.std.proofs.lemmas.Option.{none-some, same_Some}
+use Rattle.std.proofs.lemmas.Option.{none-some}
 use Rattle.std.proofs.lemmas.List.{get_or_past}
 use Rattle.std.proofs.lemmas.List.Elements.{All-contains, Contains-get_or, at_from_Contains}
 use Rattle.std.proofs.lemmas.List.Sums.{sum_by-cons}
 use Rattle.list_facts.proofs.Options.{cases_Option}
 use Rattle.list_facts.proofs.Tests.{any_of, any_from}
 use Rattle.list_facts.proofs.Values.{one_test}
-use Rattle.tx_types.specs.declared.record.Link.{Link}
 use Rattle.tx_types.specs.declared.record.Rec.{Rec}
 use Rattle.tx_types.specs.declared.config.Config.{Config}
 use Rattle.tx_types.specs.declared.config.Protocol.{Protocol}
@@ -18,23 +17,23 @@ use Rattle.tx_types.specs.declared.config.Shape.{Shape}
 use Rattle.tx_types.specs.Config.{shape_of}
 use Rattle.record_list.specs.Records.{name_of, has_name}
 use Rattle.record_list.specs.Written.{is_outside, is_slot, is_garbage}
-use Rattle.record_list.proofs.Names.{has_name_true, present_as}
+use Rattle.record_list.proofs.Names.{absent_record, has_name_true, present_as}
 use Rattle.slot_tables.specs.declared.slots.SlotUse.{SlotUse}
 use Rattle.slot_tables.specs.declared.slots.SlotUse.TheVariants as slot
 use Rattle.version_index.specs.declared.note.Note.TheVariants as note
 use Rattle.version_index.specs.Noted as noted
 use Rattle.slot_tables.specs.Kept.{Kept, is_blank, is_garbage_at, garbage_of, shut_or_part, use_at, copies_of, home, copy_off, is_wanted, is_wanted_as, is_needed, is_needed_for, number_in, is_answerer, is_number}
 use Rattle.version_index.specs.Notes.{note_at, rec_of, found_in}
-use Rattle.version_index.specs.Noted.{current_of, current_name_of, home_of, slot_off, held_of, needed_of}
+use Rattle.version_index.specs.Noted.{current_of, current_name_of, discarded_of, home_of, slot_off, held_of, needed_of}
 use Rattle.version_index.specs.Judged.{name_at, wanted_of}
 use Rattle.version_index.specs.Numbered.{rec_at, number_at, named}
-use Rattle.version_index.specs.Tables.{version_at, note_in, notes_in, noted_by, numbered_of, AreIndexed}
+use Rattle.version_index.specs.Tables.{discard_at, version_at, note_in, notes_in, noted_by, numbered_of, AreIndexed}
 use Rattle.version_index.proofs.FoundIn.{found, noted_in, holds_within}
 use Rattle.version_index.proofs.Judged.{name_at_is}
 use Rattle.version_index.proofs.KeptHomes.{kept_home, kept_off}
 use Rattle.version_index.proofs.KeptNotes.{note_by, note_held, kept_found, numbering}
 use Rattle.version_index.proofs.LowestSlots.{off_none}
-use Rattle.version_index.proofs.NotedFacts.{home_missing, noted_positive}
+use Rattle.version_index.proofs.NotedFacts.{home_missing, noted_discard, noted_positive}
 use Rattle.version_index.proofs.Numbered.{named_some}
 use Rattle.version_index.proofs.NumberedReadings.{uncurrent_number, current_number, held_number}
 use Rattle.version_index.proofs.Readings.{wanted_reading, needed_reading, unneeded_reading}
@@ -60,13 +59,13 @@ at_any x xs y e = elim (cases_lt y (length xs)) [
   | inr past ↦ absurd (none-some x (sym (get_or_past xs y None past) ∙ e))
 ]
 
-count_same : (p q : ℕ → Bool) (xs : List ℕ) → ((x : ℕ) → p x ≡ q x) → count_by p xs ≡ count_by q xs
+pub count_same : (p q : ℕ → Bool) (xs : List ℕ) → ((x : ℕ) → p x ≡ q x) → count_by p xs ≡ count_by q xs
 count_same p q [] h = refl
 count_same p q (x ∷ xs) h = sum_by-cons (λ y. cond (p y) 1 0) x xs ∙ ap₂ (λ b c. cond b 1 0 + c) (h x) (count_same p q xs h)
     ∙ sym (sum_by-cons (λ y. cond (q y) 1 0) x xs)
 
 -- a slot is blank where it is noted so
-blank_reading : (k : Kept) (at : ℕ) → is_blank (use_at k.slots at) ≡ noted.is_blank (note_at (notes_in k) at)
+pub blank_reading : (k : Kept) (at : ℕ) → is_blank (use_at k.slots at) ≡ noted.is_blank (note_at (notes_in k) at)
 blank_reading k at = of_use (use_at k.slots at) ∙ ap noted.is_blank (sym (note_by k at))
   where
     of_use : (u : SlotUse) → is_blank u ≡ noted.is_blank (note_in k.records u)
@@ -150,6 +149,24 @@ module _ (protocol : Protocol) (its : Config) (m : List ℕ) (k : Kept) (i : Are
             let c = current_record page some.0 below some.1 in
             ap (λ o. option_map_or version o 0) some.1 ∙ ap (λ o. option_map_or (λ r. r.version) o 0) c.is
             ∙ ap (λ l. l.version) c.name)
+      ]
+
+  -- whether the current record discards its page
+  pub read_discard : (page : ℕ) → page < its.logical →
+      discard_at k (number_at k.current page) ≡ discarded_of (noted_by its m k) page
+  unfolding discarded_of
+  read_discard page below =
+      let n = noted_by its m k in
+      let l = found_in n.notes in
+      let discard : ℕ → Bool = λ x. option_map_or (λ r. r.discard) (rec_at k.records x) false in
+      elim (cases_Option (number_at k.current page)) [
+        | inl none ↦ ap (λ o. option_map_or discard o false) none
+            ∙ sym (ap (λ r. r.discard) (absent_record l (current_name_of n page) (noted_positive protocol n i.noted _ (current_none page below none))))
+        | inr some ↦ (
+            let c = current_record page some.0 below some.1 in
+            let used = i.held.used some.0 c.rec c.is in
+            ap (λ o. option_map_or discard o false) some.1 ∙ ap (λ o. option_map_or (λ r. r.discard) o false) c.is
+            ∙ noted_discard protocol n i.noted page used.0 c.rec (note_held k used.0 some.0 c.rec used.1 c.is) c.name)
       ]
 
   -- a record is wanted where its number is

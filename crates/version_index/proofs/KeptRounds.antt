@@ -1,5 +1,5 @@
 -- The records of a whole cycle are current, or answer, one after the other.
-use Rattle.std.proofs.Common.{◌≡◌, ◌≢◌, ℕ, ◌+◌, ◌<◌, ◌≤◌, ◌⊎◌, true, false, cond, eqb, List, length, take, get_or, option_and_then, Option, Some, None, refl, sym, ap, ◌∙◌, subst, inl, inr, arith, eq-eqb, eqb-true}
+use Rattle.std.proofs.Common.{◌≡◌, ◌≢◌, ℕ, ◌+◌, ◌<◌, ◌≤◌, eqb, List, length, take, get_or, option_and_then, Option, Some, None, refl, sym, ap, ◌∙◌, subst, inl, inr, arith, eq-eqb, eqb-true}
 use Rattle.std.specs.Option.{option_map, option_map_or}
 use Rattle.std.proofs.lemmas.Bool.{cases_Bool, cases_lt, cond-true, cond-false}
 use Rattle.std.proofs.lemmas.List.{get_or_past, take_all}
@@ -9,15 +9,15 @@ use Rattle.tx_types.specs.declared.record.Link.{Link}
 use Rattle.tx_types.specs.declared.record.Rec.{Rec}
 use Rattle.record_list.specs.Records.{name_of}
 use Rattle.slot_tables.specs.Kept.{Kept, record_at, number_at}
-use Rattle.version_index.specs.Committing.{LinksExist, newest_at, newest_named, with_version, OnlyJudges, IsTaken, IsAnswered, IsTop, IsRoundIn, Rests, TakesRound, AnswersRound}
+use Rattle.version_index.specs.Committing.{LinksExist, newest_at, newest_named, with_version, OnlyJudges, IsTaken, IsTop, IsRoundIn, Rests, TakesRound}
 use Rattle.version_index.specs.Judged.{name_at}
-use Rattle.version_index.specs.JudgedChanges.{Judged, with_current, with_answers, all_current, all_answered}
+use Rattle.version_index.specs.JudgedChanges.{Judged, with_current, all_current}
 use Rattle.version_index.specs.Numbered.{AreJudged, named}
 use Rattle.version_index.specs.Tables.{version_at, numbered_of}
-use Rattle.version_index.proofs.CurrentNames.{IsRested, IsAtRest, rested_on}
+use Rattle.version_index.proofs.CurrentNames.{IsRested, rested_on}
 use Rattle.version_index.proofs.Judged.{name_at_is, name_at_some}
-use Rattle.version_index.proofs.Numbered.{named_some, IsMadeCurrent, made_current, IsMadeAnswerer, made_answerer}
-use Rattle.version_index.proofs.RoundSteps.{current_more, answered_more}
+use Rattle.version_index.proofs.Numbered.{named_some, made_current}
+use Rattle.version_index.proofs.RoundSteps.{current_more}
 
 -- one change after another
 pub judges_then : (k t u : Kept) → OnlyJudges k t → OnlyJudges t u → OnlyJudges k u

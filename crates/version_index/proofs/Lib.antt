@@ -38,8 +38,12 @@ pub mod KeptNotes
 pub mod Firsts
 pub mod KeptHomes
 pub mod KeptReadings
+pub mod MostGarbage
 pub mod Newest
 pub mod KeptGoing
+mod GatheredMore
+mod OrderedBlocks
+pub mod GoingBlocks
 pub mod KeptChanges
 pub mod UsedSlots
 pub mod KeptLosses

@@ -15,7 +15,7 @@ use Rattle.flash_model.specs.declared.flash.Seen.{Seen}
 use Rattle.record_list.specs.declared.found.Found.{Found}
 use Rattle.record_list.specs.Records.{mention, mentioned_at, name_of, is_present, IsScanned}
 use Rattle.record_list.specs.SoundList.{IsSoundList}
-use Rattle.record_list.specs.Transaction.{next_names, back_version}
+use Rattle.record_list.specs.Transaction.{next_names, IsAskedAt}
 use Rattle.record_list.specs.Changes.{IsWrite, PartialWriteLaw, CompletingWriteLaw, CopyLaw, LossLaw, left}
 use Rattle.record_list.specs.Written.{is_outside, IsRemovable}
 use Rattle.record_list.proofs.Names.{greatest_bound, greatest_least}
@@ -64,7 +64,7 @@ module _ (n : Noted) (rec : Rec) (next : IsNextRecord n rec) where
   pub next_follows : Follows next.names (name_of rec) rec.next
   next_follows =
       let after = follows_of next.names (name_of rec) names_in in
-      let asked = All-contains (λ (x : Link × Link). name_of rec ≡ x.0 → (rec.next ≡ x.1) × (rec.back ≡ back_version n.config.protocol (found_in n.notes) n.config.logical x.0.page)) (zip next.names (next_names next.names)) (name_of rec, after.0) next.asked after.1 in
+      let asked = All-contains (IsAskedAt n.config.protocol (found_in n.notes) n.config.logical next.names rec) (zip next.names (next_names next.names)) (name_of rec, after.0) next.asked after.1 in
       subst (Follows next.names (name_of rec)) (sym (asked refl).0) after.1
 
   pub next_spelled : IsSpelledOut n.config.logical rec

@@ -1,23 +1,25 @@
 -- What was noted: current records are present, and homes hold them.
-use Rattle.std.proofs.Common.{◌≡◌, ℕ, ◌*◌, Bool, true, false, count_by, Option, Some, None, IsNone, IfSome, IsSomeAnd, ◌↔◌, ◌⊎◌, refl, sym, ◌∙◌, subst, inl, inr, arith}
+use Rattle.std.proofs.Common.{◌≡◌, ℕ, ◌*◌, Bool, true, false, count_by, Option, Some, None, IsNone, IfSome, IsSomeAnd, ◌↔◌, ◌⊎◌, refl, sym, ap, ◌∙◌, subst, inl, inr, arith}
 use Rattle.std.proofs.lemmas.Bool.{false≢true, cases_Bool, cond-true, cond-false, and_parts}
 use Rattle.std.proofs.lemmas.Option.{none-some}
 use Rattle.std.specs.Option.{option_map}
 use Rattle.std.specs.List.{range_with_len}
 use Rattle.tx_types.specs.declared.record.Link.{Link}
+use Rattle.tx_types.specs.declared.record.Rec.{Rec}
 use Rattle.tx_types.specs.declared.config.Slot.{Slot}
 use Rattle.tx_types.specs.declared.config.Protocol.{Protocol}
 use Rattle.tx_types.specs.Config.{shape_of}
 use Rattle.record_list.specs.Records.{name_of, has_name, is_present}
 use Rattle.record_list.specs.Current.{cur}
+use Rattle.record_list.specs.Verdict.{record_named}
 use Rattle.record_list.specs.Written.{is_slot}
 use Rattle.record_list.proofs.Names.{has_name_true}
 use Rattle.record_list.proofs.SoundNames.{IsSoundMap, sound_map}
 use Rattle.record_list.proofs.Facts.{cur_present}
 use Rattle.version_index.specs.declared.note.Note.TheVariants.{Holds}
 use Rattle.version_index.specs.Notes.{note_at, rec_of, found_in}
-use Rattle.version_index.specs.Noted.{Noted, IsNoted, current_of, current_name_of, home_of, slot_off, garbage_of, is_garbage_at, shut_or_part, HoldsName}
-use Rattle.version_index.proofs.FoundIn.{noted_from}
+use Rattle.version_index.specs.Noted.{Noted, IsNoted, IsBlank, current_of, current_name_of, discarded_of, home_of, slot_off, garbage_of, is_garbage_at, shut_or_part, HoldsName}
+use Rattle.version_index.proofs.FoundIn.{found, holds_within, noted_from, noted_in}
 use Rattle.version_index.proofs.HomeFacts.{StandsAt, first_stands, home_stands, home_absent, home_present}
 
 module _ (protocol : Protocol) (n : Noted) (k : IsNoted protocol n) where
@@ -38,6 +40,13 @@ module _ (protocol : Protocol) (n : Noted) (k : IsNoted protocol n) where
     | inl here ↦ (let positive = (noted_map.linked.versions name here).0 in absurd (omega arith))
     | inr gone ↦ gone
   ]
+
+  -- a noted record of the current name says whether it discards the page
+  pub noted_discard : (page at : ℕ) (rec : Rec) → note_at n.notes at ≡ Holds rec → name_of rec ≡ current_name_of n page → rec.discard ≡ discarded_of n page
+  unfolding discarded_of
+  noted_discard page at rec here name =
+      let i = noted_in n.notes at rec (holds_within n.notes at rec here) here in
+      ap (λ (r : Rec). r.discard) (noted_map.copies (found at rec) i ∙ ap (record_named (found_in n.notes)) name)
 
   -- a slot where a record of a name stands holds it
   pub noted_stands : (name : Link) (at : ℕ) → StandsAt (λ f. has_name name f.rec) (found_in n.notes) at → HoldsName n at name
@@ -73,9 +82,16 @@ module _ (protocol : Protocol) (n : Noted) (k : IsNoted protocol n) where
       noted_stands name at (record { found = h.found; is_in = h.is_in; its_slot = h.its_slot; passes = (and_parts _ _ h.passes).0 })
 
   -- what an answer is that names the home of a page's current record
-  pub located_none : (page : ℕ) (r : Option Slot) → option_map (λ at. at.0) r ≡ home_of n (current_name_of n page) → IsNone r ↔ (current_of n page ≡ 0)
-  located_none page None e = (λ none. home_there page (sym e), λ none. refl)
-  located_none page (Some at) e = (λ none. absurd (false≢true (sym none)), λ none. absurd (none-some at.0 (sym (home_missing page none) ∙ sym e)))
+  pub located_none : (page : ℕ) (r : Option Slot) → discarded_of n page ≡ false → option_map (λ at. at.0) r ≡ home_of n (current_name_of n page) →
+      IsNone r ↔ IsBlank n page
+  located_none page None held e = (λ none. inl (home_there page (sym e)), λ none. refl)
+  located_none page (Some at) held e = (
+    λ none. absurd (false≢true (sym none)),
+    λ blank. elim blank [
+      | inl none ↦ absurd (none-some at.0 (sym (home_missing page none) ∙ sym e))
+      | inr discards ↦ absurd (false≢true (sym held ∙ discards))
+    ],
+  )
 
   pub located_holds : (name : Link) (r : Option Slot) → option_map (λ at. at.0) r ≡ home_of n name → IfSome r (λ at. HoldsName n at.0 name)
   located_holds name None e = tt

@@ -7,9 +7,11 @@ use Rattle.list_facts.proofs.Quantifiers.{all_mapped, all_both}
 use Rattle.tx_types.specs.declared.config.Protocol.{Protocol}
 use Rattle.tx_types.specs.declared.config.Shape.{Shape}
 use Rattle.flash_model.specs.Flash.{Contents, slot_at}
+use Rattle.record_list.specs.declared.found.Found.{Found}
 use Rattle.record_list.specs.declared.found.Breach.{Breach}
 use Rattle.record_list.specs.SoundList.{Law, Pages, Copies, Links, Present, Counted, Loose, Ending, number, Keeps}
-use Rattle.record_list.specs.Written.{Written, BytesAgree, IsFirstBrokenLaw, IsSoundWritten, IsUnremovable, KeepsWritten, found_of, records_of}
+use Rattle.record_list.specs.Counts.{KeepsCount, IsLeastMiscount}
+use Rattle.record_list.specs.Written.{Written, BytesAgree, IsFirstBrokenLaw, IsSoundWritten, KeepsWritten, found_of, records_of}
 use Rattle.record_list.proofs.Breaches.{one_law_more}
 use Rattle.version_index.specs.Images.{IsFirstOfRecords, IsFirstUnread, IsLeastImageBreach, IsSoundImage, SlotReads, written_in}
 
@@ -42,10 +44,10 @@ law_same l m e =
 none_breaks : {X : Type 0} (K P : X → Type 0) (xs : List X) → Any (λ x. P x × (K x → ⊥)) xs → All K xs → ⊥
 none_breaks K P xs (k, x, within, at, (its, breaks)) h = breaks (subst K at (h k x within))
 
-none_before : (K : Written → Type 0) (list : List Written) (a b : ℕ) → a < b →
-    Any (λ w. (w.slot.0 ≡ a) × (K w → ⊥)) list → All (λ w. w.slot.0 < b → K w) list → ⊥
-none_before K list a b less (k, w, within, at, (its, breaks)) h =
-    let keeps : w.slot.0 < b → K w = subst (λ v. v.slot.0 < b → K v) at (h k w within) in
+none_before : {X : Type 0} (slot : X → ℕ) (K : X → Type 0) (list : List X) (a b : ℕ) → a < b →
+    Any (λ w. (slot w ≡ a) × (K w → ⊥)) list → All (λ w. slot w < b → K w) list → ⊥
+none_before slot K list a b less (k, w, within, at, (its, breaks)) h =
+    let keeps : slot w < b → K w = subst (λ v. slot v < b → K v) at (h k w within) in
     breaks (keeps (omega arith))
 
 first_same : (protocol : Protocol) (list : List Written) (logical : ℕ) (a b : Breach) →
@@ -59,8 +61,8 @@ first_same protocol list logical a b h k = elim (cases_order (number h.law) (num
       subst (λ l. All (λ w. w.slot.0 < a.slot.0 → KeepsWritten protocol list logical l w) list) one h.earlier_slots in
       elim (cases_order a.slot.0 b.slot.0) [
         | inl slot ↦ breach_same a b (sym h.law_number ∙ same ∙ k.law_number) slot
-        | inr (inl less) ↦ absurd (none_before (KeepsWritten protocol list logical k.law) list a.slot.0 b.slot.0 less breaks k.earlier_slots)
-        | inr (inr more) ↦ absurd (none_before (KeepsWritten protocol list logical k.law) list b.slot.0 a.slot.0 more k.breaks earlier)
+        | inr (inl less) ↦ absurd (none_before (λ (w : Written). w.slot.0) (KeepsWritten protocol list logical k.law) list a.slot.0 b.slot.0 less breaks k.earlier_slots)
+        | inr (inr more) ↦ absurd (none_before (λ (w : Written). w.slot.0) (KeepsWritten protocol list logical k.law) list b.slot.0 a.slot.0 more k.breaks earlier)
       ]
   | inr (inl less) ↦
       absurd (none_breaks (KeepsWritten protocol list logical h.law) (λ w. w.slot.0 ≡ a.slot.0) list h.breaks (k.earlier_laws h.law less))
@@ -68,11 +70,19 @@ first_same protocol list logical a b h k = elim (cases_order (number h.law) (num
       absurd (none_breaks (KeepsWritten protocol list logical k.law) (λ w. w.slot.0 ≡ b.slot.0) list k.breaks (h.earlier_laws k.law more))
 ]
 
--- law 8 is not broken first where another law is
-not_both : (protocol : Protocol) (list : List Written) (logical : ℕ) (shape : Shape) (a b : Breach) →
-    IsFirstBrokenLaw protocol list logical a → IsUnremovable protocol list logical shape b → ⊥
-not_both protocol list logical shape a b h k =
-    none_breaks (KeepsWritten protocol list logical h.law) (λ w. w.slot.0 ≡ a.slot.0) list h.breaks (k.earlier_laws h.law)
+-- a later law is not broken first where another law is
+not_both : (protocol : Protocol) (list : List Written) (logical : ℕ) (a : Breach) →
+    IsFirstBrokenLaw protocol list logical a → ((l : Law) → All (KeepsWritten protocol list logical l) list) → ⊥
+not_both protocol list logical a h all =
+    none_breaks (KeepsWritten protocol list logical h.law) (λ w. w.slot.0 ≡ a.slot.0) list h.breaks (all h.law)
+
+-- law 9 is broken first at one slot
+miscount_same : (list : List Found) (a b : Breach) → IsLeastMiscount list a → IsLeastMiscount list b → a ≡ b
+miscount_same list a b h k = elim (cases_order a.slot.0 b.slot.0) [
+  | inl slot ↦ breach_same a b (h.law ∙ sym k.law) slot
+  | inr (inl less) ↦ absurd (none_before (λ (f : Found). f.slot.0) (KeepsCount list) list a.slot.0 b.slot.0 less h.breaks k.earlier_slots)
+  | inr (inr more) ↦ absurd (none_before (λ (f : Found). f.slot.0) (KeepsCount list) list b.slot.0 a.slot.0 more k.breaks h.earlier_slots)
+]
 
 -- ---- images
 
@@ -92,16 +102,25 @@ unread_same protocol logical image a b h k = elim (cases_order a.slot.0 b.slot.0
 
 records_same : (protocol : Protocol) (logical : ℕ) (shape : Shape) (image : List Contents) (a b : Breach) →
     IsFirstOfRecords protocol logical shape image a → IsFirstOfRecords protocol logical shape image b → a ≡ b
-records_same protocol logical shape image a b h k = elim h.broken [
-  | inl first ↦ elim k.broken [
-    | inl other ↦ first_same protocol (written_in protocol image) logical a b first other
-    | inr last ↦ absurd (not_both protocol (written_in protocol image) logical shape a b first last)
-  ]
-  | inr last ↦ elim k.broken [
-    | inl other ↦ absurd (not_both protocol (written_in protocol image) logical shape b a other last)
-    | inr also ↦ breach_same a b (last.law ∙ sym also.law) (last.slot ∙ sym also.slot)
-  ]
-]
+records_same protocol logical shape image a b h k =
+    let list = written_in protocol image in
+    elim h.broken [
+      | inl first ↦ elim k.broken [
+        | inl other ↦ first_same protocol list logical a b first other
+        | inr (inl last) ↦ absurd (not_both protocol list logical a first last.earlier_laws)
+        | inr (inr count) ↦ absurd (not_both protocol list logical a first count.earlier_laws)
+      ]
+      | inr (inl last) ↦ elim k.broken [
+        | inl other ↦ absurd (not_both protocol list logical b other last.earlier_laws)
+        | inr (inl also) ↦ breach_same a b (last.law ∙ sym also.law) (last.slot ∙ sym also.slot)
+        | inr (inr count) ↦ absurd (last.breaks count.removable)
+      ]
+      | inr (inr count) ↦ elim k.broken [
+        | inl other ↦ absurd (not_both protocol list logical b other count.earlier_laws)
+        | inr (inl last) ↦ absurd (last.breaks count.removable)
+        | inr (inr also) ↦ miscount_same (records_of list) a b count.miscount also.miscount
+      ]
+    ]
 
 -- an image breaks one law first, at one slot
 pub breach_one : (protocol : Protocol) (logical : ℕ) (shape : Shape) (image : List Contents) (a b : Breach) →
@@ -119,5 +138,8 @@ sound_unbroken protocol logical shape image b s (inr h) = elim h.broken [
   | inl first ↦
       none_breaks (KeepsWritten protocol (written_in protocol image) logical first.law) (λ w. w.slot.0 ≡ b.slot.0) (written_in protocol image)
       first.breaks (sound_keeps protocol (written_in protocol image) logical shape s.written first.law)
-  | inr last ↦ last.breaks s.written.removable
+  | inr (inl last) ↦ last.breaks s.written.removable
+  | inr (inr count) ↦
+      let list = records_of (written_in protocol image) in
+      none_breaks (KeepsCount list) (λ f. f.slot.0 ≡ b.slot.0) list count.miscount.breaks s.written.counts
 ]

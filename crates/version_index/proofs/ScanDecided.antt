@@ -1,5 +1,5 @@
 -- What is judged of the records of a scan, number by number.
-use Rattle.std.proofs.Common.{◌≡◌, ◌≢◌, ℕ, ◌+◌, ◌<◌, ◌≤◌, Bool, true, false, List, length, set, get_or, option_and_then, Contains, IfSome, Option, Some, None, refl, sym, ap, ◌∙◌, subst, inl, inr, arith}
+use Rattle.std.proofs.Common.{◌≡◌, ◌≢◌, ℕ, ◌+◌, ◌<◌, Bool, true, List, length, set, get_or, IfSome, Option, Some, None, refl, sym, ap, ◌∙◌, subst, inl, inr, arith}
 use Rattle.std.specs.Prelude.{position}
 use Rattle.std.specs.Option.{option_map}
 use Rattle.std.proofs.lemmas.Bool.{cases_eq, cases_lt, cases_Bool, cond-true, cond-false}
@@ -17,7 +17,7 @@ use Rattle.record_list.specs.Records as records
 use Rattle.record_list.specs.Records.{has_name, nothing}
 use Rattle.record_list.specs.Current.{cur}
 use Rattle.slot_tables.specs.Kept.{Kept, IsKept, record_at, number_at}
-use Rattle.version_index.specs.Filling.{judged_by, number_by, AreNumbered, AreCurrent, AreDecided}
+use Rattle.version_index.specs.Filling.{judged_by, number_by, AreNumbered, AreDecided}
 use Rattle.version_index.specs.Judged.{name_at, answerer}
 use Rattle.version_index.specs.JudgedChanges.{Judged}
 use Rattle.version_index.specs.Numbered.{awaited}

@@ -1,13 +1,12 @@
 -- Tables that are filled with the records of a scan are judged as what was noted.
-use Rattle.std.proofs.Common.{◌≡◌, ℕ, ◌<◌, ◌≤◌, true, false, List, length, get_or, Bool, cond, Contains, Option, Some, None, refl, sym, ap, ◌∙◌, subst, inl, inr, arith}
+use Rattle.std.proofs.Common.{◌≡◌, ℕ, ◌<◌, true, List, length, get_or, Bool, cond, Option, Some, None, refl, sym, ap, ◌∙◌, subst, inl, inr, arith}
 use Rattle.std.specs.Prelude.{position}
 use Rattle.std.specs.Option.{option_map}
-use Rattle.std.proofs.lemmas.Bool.{cases_Bool, cond-true, cond-false}
-use Rattle.std.proofs.lemmas.List.Elements.{All-contains, Contains-get_or, at_from_Contains}
+use Rattle.std.proofs.lemmas.List.Elements.{Contains-get_or}
 use Rattle.std.proofs.lemmas.List.Sorted.{IsPermutation-sym, Contains-permutation}
 use Rattle.std.proofs.lemmas.Option.{none-some, same_Some}
 use Rattle.list_facts.proofs.Options.{cases_Option}
-use Rattle.list_facts.proofs.Positions.{position_some, position-all}
+use Rattle.list_facts.proofs.Positions.{position_some}
 use Rattle.list_facts.proofs.Tests.{find-position, find_stands}
 use Rattle.tx_types.specs.declared.config.Config.{Config}
 use Rattle.tx_types.specs.declared.config.Protocol.{Protocol}
@@ -19,19 +18,19 @@ use Rattle.record_list.specs.declared.found.Found.{Found}
 use Rattle.record_list.specs.Records as records
 use Rattle.record_list.specs.Records.{name_of, has_name, is_present, nothing}
 use Rattle.record_list.specs.Current.{cur}
-use Rattle.record_list.proofs.Names.{has_name_true, present_in, present_as}
+use Rattle.record_list.proofs.Names.{has_name_true, present_as}
 use Rattle.record_chart.specs.Charts.{Sorts}
 use Rattle.record_chart.proofs.Alike.{cur_alike, responsible_alike, present_alike}
 use Rattle.slot_tables.specs.declared.slots.SlotUse.TheVariants as slot
-use Rattle.slot_tables.specs.Kept.{Kept, use_at, record_at, number_at}
+use Rattle.slot_tables.specs.Kept.{Kept, record_at, number_at}
 use Rattle.version_index.specs.Filling.{judged_by, number_by, AreFilled}
 use Rattle.version_index.specs.Judged.{name_at, answerer, is_waiting, answerer_of, waits_of}
 use Rattle.version_index.specs.JudgedChanges.{judged_of}
 use Rattle.version_index.specs.Notes.{found_in}
-use Rattle.version_index.specs.Noted.{Noted, IsNoted, current_of}
+use Rattle.version_index.specs.Noted.{IsNoted, current_of}
 use Rattle.version_index.specs.Numbered.{AreJudged, named, awaited}
 use Rattle.version_index.specs.Tables.{notes_in, noted_by, numbered_of, AreHeld, AreIndexed}
-use Rattle.version_index.proofs.FoundIn.{found, noted_from}
+use Rattle.version_index.proofs.FoundIn.{noted_from}
 use Rattle.version_index.proofs.Judged.{name_at_is, answerer_held}
 use Rattle.version_index.proofs.KeptNotes.{held_number}
 use Rattle.version_index.proofs.NotedFacts.{noted_present}

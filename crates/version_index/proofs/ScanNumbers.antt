@@ -1,5 +1,5 @@
 -- The numbers that the records of a scan get, in the order of their names.
-use Rattle.std.proofs.Common.{◌≡◌, ◌≢◌, ℕ, ◌+◌, ◌<◌, ◌≤◌, ◌⊎◌, List, [], ◌∷◌, ◌++◌, length, set, get_or, replicate, All, Contains, Option, Some, None, refl, sym, ap, ◌∙◌, subst, inl, inr, arith}
+use Rattle.std.proofs.Common.{◌≡◌, ◌≢◌, ℕ, ◌+◌, ◌<◌, ◌≤◌, ◌⊎◌, List, [], ◌∷◌, ◌++◌, length, get_or, replicate, All, Contains, Option, Some, None, refl, sym, ap, ◌∙◌, subst, inl, inr, arith}
 use Rattle.std.proofs.Math.ListN.{get_or-append}
 use Rattle.std.proofs.Math.Seq.{get_or-append_seam}
 use Rattle.std.proofs.lemmas.Bool.{cases_eq, cases_lt}
@@ -15,10 +15,10 @@ use Rattle.record_list.specs.Records as records
 use Rattle.record_list.specs.Records.{name_of, nothing}
 use Rattle.record_list.specs.SoundList.{OwnPageExists}
 use Rattle.record_chart.specs.Charts.{IsInOrder}
-use Rattle.record_chart.proofs.Order.{IsFrom, later_from}
+use Rattle.record_chart.proofs.Order.{later_from}
 use Rattle.slot_tables.specs.Kept.{Kept, IsKept, record_at, added, blank_tables, IsNewest}
 use Rattle.slot_tables.specs.Versions.{HasFree}
-use Rattle.version_index.specs.Filling.{NamesAgree, IsNotOlder, IsKnown, IsNumbered, HasNumber, AreNumbered, AreBlankBut}
+use Rattle.version_index.specs.Filling.{NamesAgree, IsNotOlder, IsNumbered, HasNumber, AreNumbered, AreBlankBut}
 use Rattle.version_index.proofs.FreeNumbers.{covers, find_free}
 
 -- a record that is added has its number

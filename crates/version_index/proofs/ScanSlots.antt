@@ -1,12 +1,12 @@
 -- The slots of a scan hold the numbers of their records.
-use Rattle.std.proofs.Common.{◌≡◌, ◌≢◌, ℕ, ◌+◌, ◌-◌, ◌<◌, ◌≤◌, Bool, true, false, eqb, List, length, map, set, get_or, find, Contains, Option, Some, None, refl, sym, ap, ◌∙◌, subst, inl, inr, arith, eq-eqb}
+use Rattle.std.proofs.Common.{◌≡◌, ℕ, ◌+◌, ◌<◌, ◌≤◌, Bool, true, eqb, List, length, map, set, get_or, Contains, Some, None, refl, sym, ap, ◌∙◌, subst, inl, inr, arith, eq-eqb}
 use Rattle.std.specs.Option.{option_map_or}
 use Rattle.std.specs.Prelude.{position}
 use Rattle.std.proofs.Math.ListN.{get_or-map}
 use Rattle.std.proofs.lemmas.Bool.{false≢true, cases_eq, cases_lt, and_from}
 use Rattle.std.proofs.lemmas.List.{length-map, length-set, get_or-set_same, get_or-set_other, get_or_past, ext_get_or}
 use Rattle.std.proofs.lemmas.List.Elements.{at_from_Contains, Contains-get_or}
-use Rattle.std.proofs.lemmas.Option.{none-some, same_Some}
+use Rattle.std.proofs.lemmas.Option.{none-some}
 use Rattle.list_facts.proofs.Positions.{position-all, position_some}
 use Rattle.list_facts.proofs.Tests.{find-position, find_stands}
 use Rattle.tx_types.specs.Config.{slots_of}
@@ -19,11 +19,11 @@ use Rattle.record_list.proofs.Names.{found_named, present_in, has_name_true}
 use Rattle.slot_tables.specs.declared.slots.SlotUse.{SlotUse}
 use Rattle.slot_tables.specs.declared.slots.SlotUse.TheVariants as slot
 use Rattle.slot_tables.specs.Copies.{NumbersBelow}
-use Rattle.slot_tables.specs.Kept.{Kept, IsKept, record_at, use_at}
+use Rattle.slot_tables.specs.Kept.{Kept, record_at, use_at}
 use Rattle.version_index.specs.declared.note.Note.{Note}
 use Rattle.version_index.specs.declared.note.Note.TheVariants as note
 use Rattle.version_index.specs.Filling.{NamesAgree, AreNumbered, AreListed, IsListed, IsNumberAt, UsesNote}
-use Rattle.version_index.specs.Notes.{note_at, found_in}
+use Rattle.version_index.specs.Notes.{note_at}
 use Rattle.version_index.specs.Tables.{note_in, notes_in}
 use Rattle.version_index.proofs.FoundIn.{noted_in, holds_within, found}
 

@@ -1,12 +1,11 @@
 -- Slots that are used otherwise, step by step.
-use Rattle.std.proofs.Common.{◌≡◌, ℕ, zero, suc, ◌+◌, Option, Some, None, refl, sym, ap, ◌∙◌, arith}
+use Rattle.std.proofs.Common.{◌≡◌, ℕ, zero, suc, ◌+◌, Option, Some, None, refl, ap, ◌∙◌, arith}
 use Rattle.std.specs.Prelude.{slice_set}
 use Rattle.std.specs.List.{slice_get}
 use Rattle.tx_types.specs.declared.record.Rec.{Rec}
-use Rattle.tx_types.specs.declared.config.Shape.{Shape}
 use Rattle.slot_tables.specs.declared.slots.SlotUse.{SlotUse}
 use Rattle.slot_tables.specs.Kept.{Kept, use_at, record_at, copies_of, number_in}
-use Rattle.version_index.specs.Losing.{bared, bared_as, without, used_so, used_from}
+use Rattle.version_index.specs.Losing.{bared_as, without, used_so, used_from}
 
 bared_as_shape : (k : Kept) (x : ℕ) (r : Option Rec) (at : Option ℕ) → (bared_as k x r at).shape ≡ k.shape
 bared_as_shape k x None at = refl

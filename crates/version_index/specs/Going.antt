@@ -1,6 +1,7 @@
 -- The numbers whose records must go before a version of a page is programmed.
-use Rattle.std.specs.Prelude.{◌≡◌, ℕ, ◌<◌, ◌≤◌, ◌⊎◌, Option, Some, None, IsSome, IsSomeAnd}
-use Rattle.std.specs.List.{slice_get}
+use Rattle.std.specs.Prelude.{◌≡◌, ℕ, ◌/◌, ◌<◌, ◌≤◌, ◌⊎◌, List, Option, Some, None, IsSome, IsSomeAnd}
+use Rattle.std.specs.List.{AllPairs, slice_get}
+use Rattle.tx_types.specs.declared.config.Block.{Block}
 use Rattle.slot_tables.specs.declared.slots.SlotUse.TheVariants.{Holds}
 use Rattle.slot_tables.specs.Kept.{Kept, use_at, record_at, numbers_at, number_at, WaitsBelow}
 
@@ -29,3 +30,21 @@ pub record IsLowestOf (k : Kept) (Such : ℕ → Type 0) (at : ℕ) : Type 0 whe
 abbrev pub IsLowestIn : Kept → (ℕ → Type 0) → Option ℕ → Type 0
 IsLowestIn k Such None = (at x : ℕ) → use_at k.slots at ≡ Holds x → Such x → ⊥
 IsLowestIn k Such (Some at) = IsLowestOf k Such at
+
+-- a slot holds such a number
+abbrev pub SlotGoes : Kept → ℕ → ℕ → ℕ → Type 0
+SlotGoes k page below at = (x : ℕ) × (use_at k.slots at ≡ Holds x) × Goes k page below x
+
+-- a block has such a slot
+pub record BlockGoes (k : Kept) (page below block : ℕ) : Type 0 where
+  pub at : ℕ
+  pub inside : at / k.shape.pages_per_block ≡ block
+  pub goes : SlotGoes k page below at
+
+-- the newest record of this page goes, and does not wait for the page at a version below
+abbrev pub IsTopBeside : Kept → ℕ → ℕ → ℕ → Type 0
+IsTopBeside k page below x = IsTopBelow k page below x × (WaitsBelow k page below x → ⊥)
+
+-- blocks stand in their order, each once
+abbrev pub AreRising : List Block → Type 0
+AreRising blocks = AllPairs (λ x y. x.0 < y.0) blocks

@@ -35,7 +35,7 @@ unfoldable pub current_in : Protocol → ℕ → List Contents → ℕ → ℕ
 current_in protocol logical image page = cur protocol (records_in protocol image) logical page
 
 -- the array of pages that an image stands for: of each page the bytes of its current record, nothing where it
--- has none
+-- has none or this discards it
 unfoldable pub array_in : Protocol → ℕ → List Contents → List (Option (List ℕ))
 array_in protocol logical image = array_of protocol (written_in protocol image) logical
 
@@ -51,7 +51,7 @@ SlotReads protocol logical damaged = Unit {0}
 SlotReads protocol logical (complete bytes spare) =
     IsSomeAnd (record_of protocol spare) (HasPages logical)
 
--- a sound image: law 1 holds at each slot, and the eight laws of its records
+-- a sound image: law 1 holds at each slot, and the nine laws of its records
 pub record IsSoundImage (protocol : Protocol) (logical : ℕ) (shape : Shape)
     (image : List Contents) : Type 0 where
   pub reads : All (SlotReads protocol logical) image
@@ -64,14 +64,14 @@ pub record IsFirstUnread (protocol : Protocol) (logical : ℕ) (image : List Con
   pub breaks : SlotReads protocol logical (slot_at image b.slot.0) → ⊥
   pub earlier_slots : (k : ℕ) → k < b.slot.0 → SlotReads protocol logical (slot_at image k)
 
--- law 1 holds at each slot, and this is the first of the eight laws that the records break, and the slot that
+-- law 1 holds at each slot, and this is the first of the nine laws that the records break, and the slot that
 -- it names
 pub record IsFirstOfRecords (protocol : Protocol) (logical : ℕ) (shape : Shape)
     (image : List Contents) (b : Breach) : Type 0 where
   pub reads : All (SlotReads protocol logical) image
   pub broken : IsLeastWrittenBreach protocol (written_in protocol image) logical shape b
 
--- the first of the eight laws that an image breaks, and the slot that it names
+-- the first of the nine laws that an image breaks, and the slot that it names
 abbrev pub IsLeastImageBreach : Protocol → ℕ → Shape → List Contents → Breach → Type 0
 IsLeastImageBreach protocol logical shape image b =
     IsFirstUnread protocol logical image b ⊎ IsFirstOfRecords protocol logical shape image b

@@ -1,9 +1,10 @@
 -- What a device has noted of its flash, what follows from it, and how it changes.
-use Rattle.std.specs.Prelude.{◌≡◌, ℕ, ◌*◌, ◌/◌, ◌<◌, ◌≤◌, ◌==◌, max, Bool, true, false, ◌&&◌, List, map, length, replicate, slice_index, slice_set, count_by, filter_map, Option, Some, None, Ok, IsSomeAnd, IfSome, All, Contains, if◌then◌else◌}
-use Rattle.std.specs.List.{zip, enumerate_from, range_with_len}
+use Rattle.std.specs.Prelude.{◌≡◌, ℕ, ◌+◌, ◌*◌, ◌/◌, ◌<◌, ◌≤◌, ◌==◌, ◌⊎◌, max, Bool, true, false, ◌&&◌, List, map, length, replicate, slice_index, slice_set, count_by, filter_map, Option, Some, None, Ok, IsSomeAnd, IfSome, All, Contains, if◌then◌else◌}
+use Rattle.std.specs.List.{zip, enumerate_from, filter, list_any, range_with_len}
 use Rattle.std.specs.Option.{option_map}
 use Rattle.tx_types.specs.declared.record.Link.{Link}
 use Rattle.tx_types.specs.declared.record.Rec.{Rec}
+use Rattle.tx_types.specs.declared.config.Block.{Block}
 use Rattle.tx_types.specs.declared.config.Config.{Config}
 use Rattle.tx_types.specs.declared.config.Protocol.{Protocol}
 use Rattle.tx_types.specs.declared.config.BlockState.{BlockState}
@@ -12,7 +13,7 @@ use Rattle.tx_types.specs.Config.{IsConfig, checked, shape_of, slots_of, blocks_
 use Rattle.flash_model.specs.declared.flash.Seen.{Seen}
 use Rattle.record_list.specs.declared.found.Found.{Found}
 use Rattle.record_list.specs.Records.{newest, mention, name_of, has_name, is_present, IsScanned}
-use Rattle.record_list.specs.Verdict.{link_of}
+use Rattle.record_list.specs.Verdict.{link_of, record_named}
 use Rattle.record_list.specs.Current.{cur, must_go, is_held}
 use Rattle.record_list.specs.SoundList.{IsSoundList}
 use Rattle.record_list.specs.Transaction.{IsAsked, InProgress, next_names}
@@ -53,6 +54,10 @@ current_of n page = cur n.config.protocol (found_in n.notes) n.config.logical pa
 abbrev pub current_name_of : Noted → ℕ → Link
 current_name_of n page = record { page = page; version = current_of n page }
 
+-- whether the current record of a page discards it
+unfoldable pub discarded_of : Noted → ℕ → Bool
+discarded_of n page = (record_named (found_in n.notes) (current_name_of n page)).discard
+
 -- whether the record is responsible for some loose record
 unfoldable pub held_of : Noted → Rec → Bool
 held_of n rec = is_held n.config.protocol (found_in n.notes) n.config.logical rec
@@ -60,6 +65,14 @@ held_of n rec = is_held n.config.protocol (found_in n.notes) n.config.logical re
 -- the home of the record of this name, if there is such a record
 unfoldable pub home_of : Noted → Link → Option ℕ
 home_of n name = home (shape_of n.config) n.spare (found_in n.notes) name
+
+-- the slot from which a page is read: the home of its current record, none where that discards it
+abbrev pub place_of : Noted → ℕ → Option ℕ
+place_of n page = if discarded_of n page then None else home_of n (current_name_of n page)
+
+-- a page is blank: it has no current record, or that discards it
+abbrev pub IsBlank : Noted → ℕ → Type 0
+IsBlank n page = (current_of n page ≡ 0) ⊎ (discarded_of n page ≡ true)
 
 -- the lowest slot outside a block that holds the record of this name
 unfoldable pub slot_off : Noted → ℕ → Link → Option ℕ
@@ -110,6 +123,55 @@ garbage_of n block shut =
     count_by
     (is_garbage_at n (shut_or_part shut))
     (range_with_len (block * n.config.pages_per_block) n.config.pages_per_block)
+
+-- the number of blank slots of a block
+unfoldable pub blanks_of : Noted → ℕ → ℕ
+blanks_of n block =
+    count_by
+    (λ at. is_blank (note_at n.notes at))
+    (range_with_len (block * n.config.pages_per_block) n.config.pages_per_block)
+
+-- the block has garbage if all are shut, none has more, shut or not, and none that is lower has as much
+pub record HasMostGarbage (n : Noted) (block : ℕ) : Type 0 where
+  pub exists : block < blocks_of (shape_of n.config)
+  pub some : 0 < garbage_of n block true
+  pub most :
+      (other : ℕ) (shut : Bool) → other < blocks_of (shape_of n.config) →
+      garbage_of n other shut ≤ garbage_of n block true
+  pub lowest :
+      (other : ℕ) (shut : Bool) → other < block → garbage_of n other shut < garbage_of n block true
+
+abbrev pub FindsMostGarbage : Noted → Option Block → Type 0
+FindsMostGarbage n None =
+    (block : ℕ) (shut : Bool) → block < blocks_of (shape_of n.config) → garbage_of n block shut ≡ 0
+FindsMostGarbage n (Some block) = HasMostGarbage n block.0
+
+-- a block of sixteen that follow one another
+pub record IsAmong (n : Noted) (sixteen block : ℕ) : Type 0 where
+  pub first : 16 * sixteen ≤ block
+  pub last : block < 16 * sixteen + 16
+  pub exists : block < blocks_of (shape_of n.config)
+
+-- the most garbage of a sixteen of blocks if all are shut: one has it, and none has more, shut or not
+pub record IsMostAmong (n : Noted) (sixteen count : ℕ) : Type 0 where
+  pub block : ℕ
+  pub among : IsAmong n sixteen block
+  pub has : garbage_of n block true ≡ count
+  pub most :
+      (other : ℕ) (shut : Bool) → IsAmong n sixteen other → garbage_of n other shut ≤ count
+
+-- whether a block holds a record that must go before this version of a page is programmed
+abbrev pub is_going : Noted → ℕ → ℕ → ℕ → Bool
+is_going n page below block =
+    list_any
+    (λ f. (f.slot.0 / n.config.pages_per_block == block)
+    && must_go n.config.protocol (found_in n.notes) n.config.logical page below f.rec)
+    (found_in n.notes)
+
+-- the blocks that do, in their order
+unfoldable pub going_blocks : Noted → ℕ → ℕ → List ℕ
+going_blocks n page below =
+    filter (is_going n page below) (range_with_len 0 (blocks_of (shape_of n.config)))
 
 -- each current and each held record has a slot outside the block
 abbrev pub CanLose : Noted → ℕ → Type 0

@@ -1,5 +1,5 @@
 -- How the tables keep what was noted.
-use Rattle.std.specs.Prelude.{◌≡◌, ℕ, length, map, List, Option, Some, None}
+use Rattle.std.specs.Prelude.{◌≡◌, ℕ, length, map, List, Option, Some, None, Bool, false}
 use Rattle.std.specs.Option.{option_map_or}
 use Rattle.tx_types.specs.Config.{shape_of}
 use Rattle.tx_types.specs.declared.config.Config.{Config}
@@ -41,6 +41,10 @@ noted_of d = noted_by d.config d.mentions.items d.tables
 -- the version of the record of a number, 0 where there is none
 abbrev pub version_at : Kept → Option ℕ → ℕ
 version_at k number = option_map_or (λ x. option_map_or (λ r. r.version) (rec_at k.records x) 0) number 0
+
+-- whether the record of a number discards its page, which none does where there is none
+abbrev pub discard_at : Kept → Option ℕ → Bool
+discard_at k number = option_map_or (λ x. option_map_or (λ r. r.discard) (rec_at k.records x) false) number false
 
 abbrev pub numbered_of : Kept → Numbered
 numbered_of k = record {

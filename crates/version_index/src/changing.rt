@@ -101,7 +101,7 @@ impl<R: CommitRule> Index<R> {
         requires { page < self.old.config.logical }
         ensures { self.new ≡ unpinned self.old page }
     {
-        self.tables.pin(page, 0);
+        self.tables.unpin(page);
     }
 
     /// Makes a block the spare.

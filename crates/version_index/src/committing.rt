@@ -6,7 +6,7 @@ ghost use Rattle.record_list.specs.Records.{name_of, has_name};
 ghost use Rattle.slot_tables.specs.Kept.{IsKept, number_at};
 ghost use Rattle.version_index.specs.Committing.{LinksExist, newest_named, with_version, OnlyJudges, AreLetGo, IsTaken, IsAnswered, MayComplete, TakesRound, AnswersRound, JudgesWhole, IsSettledSo};
 ghost use Rattle.version_index.specs.JudgedChanges.{completes};
-ghost use Rattle.version_index.specs.Tables.{noted_by, version_at};
+ghost use Rattle.version_index.specs.Tables.{discard_at, noted_by, version_at};
 
 use crate::losing::let_go;
 use slot_tables::Tables;
@@ -32,6 +32,20 @@ pub fn current_version(tables: &Tables, page: u32) -> u64
     ensures { result ≡ version_at tables.now (number_at tables.now.current page) }
 {
     version_of(tables, tables.current(page))
+}
+
+/// Whether the current record of a page discards it.
+pub fn discards_now(tables: &Tables, page: u32) -> bool
+    requires { page < length tables.now.pages }
+    ensures { result ≡ discard_at tables.now (number_at tables.now.current page) }
+{
+    match tables.current(page) {
+        None => false,
+        Some(number) => match tables.record(number) {
+            None => false,
+            Some(rec) => rec.discard,
+        },
+    }
 }
 
 /// The newest record of a page, if it has this version.

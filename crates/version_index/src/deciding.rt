@@ -4,51 +4,43 @@ ghost use Rattle.version_index.specs.Filling.{judged_by, number_by, AreNumbered,
 ghost use Rattle.version_index.specs.Judged.{name_at, answerer, is_waiting};
 ghost use Rattle.version_index.specs.Numbered.{awaited};
 
-use record_chart::Chart;
+use record_chart::Standing;
 use slot_tables::Tables;
 use tx_types::{Link, Protocol, Rec};
 
 /// Says of each page which record is current.
-pub fn decide_current(
-    tables: &mut Tables,
-    protocol: Protocol,
-    logical: u32,
-    chart: &Chart,
-    numbers: &[u32],
-)
-    requires numbered { AreNumbered chart.now numbers.now tables.old }
-    requires whole { length numbers.now ≡ length chart.now }
+pub fn decide_current(tables: &mut Tables, logical: u32, standing: &Standing, numbers: &[u32])
+    requires logical { standing.now.logical ≡ logical }
+    requires numbered { AreNumbered standing.now.list numbers.now tables.old }
+    requires whole { length numbers.now ≡ length standing.now.list }
     requires pages { length tables.old.pages ≡ logical }
-    ensures { AreCurrent protocol chart.now numbers.now logical tables.old tables.new }
+    ensures { AreCurrent standing.now.protocol standing.now.list numbers.now logical
+        tables.old tables.new }
 {
     let _ = tables.shape();
     for page in 0..logical {
-        let name = name_at(page, chart.current(protocol, logical, page));
-        tables.set_current(page, number_by(chart, numbers, name));
+        let name = name_at(page, standing.current(page));
+        tables.set_current(page, number_by(standing, numbers, name));
     }
 }
 
 /// Says of each record which one answers for it, and whether it waits.
-pub fn decide_records(
-    tables: &mut Tables,
-    protocol: Protocol,
-    logical: u32,
-    chart: &Chart,
-    numbers: &[u32],
-)
-    requires numbered { AreNumbered chart.now numbers.now tables.old }
-    requires whole { length numbers.now ≡ length chart.now }
+pub fn decide_records(tables: &mut Tables, logical: u32, standing: &Standing, numbers: &[u32])
+    requires logical { standing.now.logical ≡ logical }
+    requires numbered { AreNumbered standing.now.list numbers.now tables.old }
+    requires whole { length numbers.now ≡ length standing.now.list }
     requires pages { length tables.old.pages ≡ logical }
-    requires exist { All (PagesExist logical) chart.now }
-    ensures { AreDecided protocol chart.now numbers.now logical tables.old tables.new (length chart.now) }
+    requires exist { All (PagesExist logical) standing.now.list }
+    ensures { AreDecided standing.now.protocol standing.now.list numbers.now logical
+        tables.old tables.new (length standing.now.list) }
 {
     let _ = tables.shape();
-    let records = chart.records();
+    let records = standing.chart().records();
     for i in 0..records.len() {
         let rec = records[i].rec;
-        let name = answerer(chart, protocol, logical, rec);
-        tables.set_answerer(numbers[i], number_by(chart, numbers, name));
-        tables.set_waits(numbers[i], awaited(chart, protocol, logical, rec));
+        let name = answerer(standing, rec);
+        tables.set_answerer(numbers[i], number_by(standing, numbers, name));
+        tables.set_waits(numbers[i], awaited(standing, rec));
     }
 }
 
@@ -64,13 +56,13 @@ fn name_at(page: u32, version: u64) -> Option<Link>
 }
 
 /// The number at the place of a name, if there is a name that has a place.
-fn number_by(chart: &Chart, numbers: &[u32], name: Option<Link>) -> Option<u32>
-    requires { length numbers.now ≡ length chart.now }
-    ensures { result ≡ number_by chart.now numbers.now name }
+fn number_by(standing: &Standing, numbers: &[u32], name: Option<Link>) -> Option<u32>
+    requires { length numbers.now ≡ length standing.now.list }
+    ensures { result ≡ number_by standing.now.list numbers.now name }
 {
     match name {
         None => None,
-        Some(name) => match chart.find(name) {
+        Some(name) => match standing.chart().find(name) {
             None => None,
             Some(place) => Some(numbers[place as usize]),
         },
@@ -78,14 +70,14 @@ fn number_by(chart: &Chart, numbers: &[u32], name: Option<Link>) -> Option<u32>
 }
 
 /// The name of the record that answers for a record, if one does.
-fn answerer(chart: &Chart, protocol: Protocol, logical: u32, rec: Rec) -> Option<Link>
-    ensures { result ≡ answerer protocol chart.now logical rec }
+fn answerer(standing: &Standing, rec: Rec) -> Option<Link>
+    ensures { result ≡ answerer standing.now.protocol standing.now.list standing.now.logical rec }
 {
-    match protocol {
+    match standing.protocol() {
         Protocol::Scc => None,
         Protocol::Bpcc => {
-            if chart.current(Protocol::Bpcc, logical, rec.page) < rec.version {
-                name_at(rec.next.page, chart.responsible(logical, rec.next))
+            if standing.is_loose(rec) {
+                name_at(rec.next.page, standing.responsible(rec.next))
             } else {
                 None
             }
@@ -94,10 +86,11 @@ fn answerer(chart: &Chart, protocol: Protocol, logical: u32, rec: Rec) -> Option
 }
 
 /// The page that a record waits for, if it waits.
-fn awaited(chart: &Chart, protocol: Protocol, logical: u32, rec: Rec) -> Option<u32>
-    ensures { result ≡ awaited (judged_by protocol chart.now logical) rec }
+fn awaited(standing: &Standing, rec: Rec) -> Option<u32>
+    ensures { result ≡ awaited
+        (judged_by standing.now.protocol standing.now.list standing.now.logical) rec }
 {
-    if is_waiting(chart, protocol, logical, rec) {
+    if is_waiting(standing, rec) {
         Some(rec.next.page)
     } else {
         None
@@ -105,14 +98,12 @@ fn awaited(chart: &Chart, protocol: Protocol, logical: u32, rec: Rec) -> Option<
 }
 
 /// Whether a record waits.
-fn is_waiting(chart: &Chart, protocol: Protocol, logical: u32, rec: Rec) -> bool
-    ensures { result ≡ is_waiting protocol chart.now logical rec }
+fn is_waiting(standing: &Standing, rec: Rec) -> bool
+    ensures { result ≡ is_waiting standing.now.protocol standing.now.list standing.now.logical rec }
 {
-    let loose = chart.current(protocol, logical, rec.page) < rec.version;
-    match protocol {
+    let loose = standing.is_loose(rec);
+    match standing.protocol() {
         Protocol::Scc => loose,
-        Protocol::Bpcc => {
-            loose && chart.current(Protocol::Bpcc, logical, rec.next.page) < rec.next.version
-        }
+        Protocol::Bpcc => loose && standing.current(rec.next.page) < rec.next.version,
     }
 }

@@ -10,45 +10,51 @@ use crate::Note;
 use crate::deciding::{decide_current, decide_records};
 use crate::holding::hold_notes;
 use crate::numbering::number_records;
-use record_chart::Chart;
+use record_chart::{Chart, Standing};
 use record_list::Found;
 use slot_tables::Tables;
 use std::alloc::{AllocError, Global};
-use tx_types::{Config, Memory};
+use tx_types::{Memory, Protocol};
 
-/// Fills tables of blank slots with what is noted of the slots. A chart has the noted records.
+/// Fills tables of blank slots with what is noted of the slots. Of the noted records it is known where
+/// their pages stand.
 pub fn fill(
     alloc: Global,
     tables: &mut Tables,
-    config: Config,
+    logical: u32,
     notes: &[Note],
-    chart: &Chart,
+    standing: &Standing,
 ) -> Result<(), Memory>
-    requires blank { tables.old ≡ blank_tables tables.old.shape config.logical }
+    requires blank { tables.old ≡ blank_tables tables.old.shape logical }
     requires notes { length notes.now ≡ slots_of tables.old.shape }
-    requires agree { NamesAgree chart.now }
-    requires exist { All (PagesExist config.logical) chart.now }
-    requires listed { AreListed notes.now chart.now }
-    requires few { length chart.now ≤ slots_of tables.old.shape }
+    requires logical { standing.now.logical ≡ logical }
+    requires agree { NamesAgree standing.now.list }
+    requires exist { All (PagesExist logical) standing.now.list }
+    requires listed { AreListed notes.now standing.now.list }
+    requires few { length standing.now.list ≤ slots_of tables.old.shape }
     ensures notes { OnOk result (notes_in tables.new ≡ notes.now) }
     ensures filled { OnOk result
-        (AreFilled config.protocol chart.now tables.old.shape config.logical tables.new) }
+        (AreFilled standing.now.protocol standing.now.list tables.old.shape logical tables.new) }
 {
-    let Config {
-        protocol,
-        logical,
-        ..
-    } = config;
+    let chart = standing.chart();
     let numbers = number_records(alloc, tables, chart.records())?;
     hold_notes(tables, chart, &numbers, notes);
-    decide_current(tables, protocol, logical, chart, &numbers);
-    decide_records(tables, protocol, logical, chart, &numbers);
+    decide_current(tables, logical, standing, &numbers);
+    decide_records(tables, logical, standing, &numbers);
     Ok(())
 }
 
-/// The records of a list in the order of their names.
-pub fn sorted(alloc: Global, list: &[Found]) -> Result<Chart, AllocError>
-    ensures { IfOk result (λ chart. Sorts list.now chart) }
+/// The records of a list in the order of their names, and where their pages stand.
+pub fn standing_of(
+    alloc: Global,
+    list: &[Found],
+    protocol: Protocol,
+    logical: u32,
+) -> Result<Standing, AllocError>
+    ensures sorts { IfOk result (λ s. Sorts list.now s.list) }
+    ensures protocol { IfOk result (λ s. s.protocol ≡ protocol) }
+    ensures logical { IfOk result (λ s. s.logical ≡ logical) }
 {
-    Chart::new(alloc, list.to_vec(alloc)?)
+    let chart = Chart::new(alloc, list.to_vec(alloc)?)?;
+    Standing::new(alloc, chart, protocol, logical)
 }

@@ -2,13 +2,15 @@ ghost use Rattle.std.specs.Prelude.{◌≡◌, length, map, IfOk, Ok};
 ghost use Rattle.tx_types.specs.Config.{checked, shape_of, slots_of};
 ghost use Rattle.record_list.specs.Records.{IsScanned};
 ghost use Rattle.record_list.specs.SoundList.{IsSoundList};
+ghost use Rattle.record_chart.specs.Charts.{Sorts};
 ghost use Rattle.version_index.specs.Notes.{complete_slots};
 ghost use Rattle.version_index.specs.Noted.{IsNoted, IsNotedFrom};
 
-use crate::filling::{fill, sorted};
+use crate::filling::{fill, standing_of};
 use crate::mentioning::first_mentions;
 use crate::noting::noted_slots;
 use flash_model::Seen;
+use record_chart::Standing;
 use record_list::{CommitRule, Found};
 use slot_tables::Tables;
 use std::alloc::Global;
@@ -55,13 +57,36 @@ impl<R: CommitRule> Index<R> {
         requires sound { IsSoundList R.protocol list.now config.logical }
         ensures { IfOk result (λ index. IsNotedFrom config seen.now list.now index) }
     {
+        let standing = standing_of(alloc, list, config.protocol, config.logical)?;
+        Index::from_standing(alloc, config, seen, list, &standing)
+    }
+
+    /// The same of records that were put in the order of their names before, where it is known how
+    /// their pages stand.
+    pub fn from_standing(
+        alloc: Global,
+        config: Config,
+        seen: &[Seen],
+        list: &[Found],
+        standing: &Standing,
+    ) -> Result<Index<R>, Memory>
+        requires check { checked config ≡ Ok (shape_of config) }
+        requires rule { config.protocol ≡ R.protocol }
+        requires seen { length seen.now ≡ slots_of (shape_of config) }
+        requires complete { map (λ f. f.slot.0) list.now ≡ complete_slots seen.now }
+        requires scanned { IsScanned list.now }
+        requires sound { IsSoundList R.protocol list.now config.logical }
+        requires sorts { Sorts list.now standing.now.list }
+        requires protocol { standing.now.protocol ≡ config.protocol }
+        requires logical { standing.now.logical ≡ config.logical }
+        ensures { IfOk result (λ index. IsNotedFrom config seen.now list.now index) }
+    {
         let Ok(shape) = config.check() else {
             unreachable!();
         };
         let notes = noted_slots(alloc, seen, list)?;
-        let chart = sorted(alloc, list)?;
         let mut tables = Tables::new(alloc, shape, config.logical)?;
-        fill(alloc, &mut tables, config, &notes, &chart)?;
+        fill(alloc, &mut tables, config.logical, &notes, standing)?;
         Ok(Index {
             config,
             tables,

@@ -1,17 +1,17 @@
-ghost use Rattle.std.specs.Prelude.{◌≡◌, ◌+◌, ◌<◌, ◌≤◌, ◌↔◌, IsNone, IfSome, count_by};
+ghost use Rattle.std.specs.Prelude.{◌≡◌, ◌+◌, ◌*◌, ◌<◌, ◌≤◌, ◌↔◌, map, IsNone, IfSome, count_by, vec_capacity};
 ghost use Rattle.std.specs.List.{range_with_len};
 ghost use Rattle.std.specs.Option.{option_map};
 ghost use Rattle.tx_types.specs.Config.{shape_of, slots_of, blocks_of};
 ghost use Rattle.version_index.specs.Notes.{note_at, seen_as, rec_of};
-ghost use Rattle.version_index.specs.Noted.{mention_of, current_of, current_name_of, home_of, slot_off, needed_of, block_to_go, garbage_of, shut_or_part, is_garbage_at, HoldsName};
+ghost use Rattle.version_index.specs.Noted.{mention_of, current_of, current_name_of, discarded_of, place_of, IsBlank, slot_off, needed_of, block_to_go, garbage_of, shut_or_part, is_garbage_at, blanks_of, is_going, going_blocks, FindsMostGarbage, IsMostAmong, HoldsName};
 
 use crate::Index;
-use crate::clearing::lowest_to_go;
-use crate::committing::current_version;
+use crate::clearing::{block_goes, lowest_to_go, order_blocks, put_going};
+use crate::committing::{current_version, discards_now};
 use flash_model::Seen;
 use record_list::CommitRule;
 use slot_tables::SlotUse;
-use tx_types::{Block, Rec, Slot};
+use tx_types::{Block, Protocol, Rec, Slot};
 
 impl<R: CommitRule> Index<R> {
     /// How a slot reads, as it was noted.
@@ -54,16 +54,27 @@ impl<R: CommitRule> Index<R> {
         self.mentions[page as usize]
     }
 
+    /// Whether the current record of a page discards it.
+    pub fn discards(&self, page: u32) -> bool
+        requires { page < self.now.config.logical }
+        ensures { result ≡ discarded_of self.now page }
+    {
+        discards_now(&self.tables, page)
+    }
+
     /// Where the current record of a page is read: its lowest slot outside the spare, or its lowest
-    /// slot where it has none outside. Nothing where the page has no current record.
+    /// slot where it has none outside. Nothing where the page has no current record, or that discards
+    /// it.
     pub fn locate(&self, page: u32) -> Option<Slot>
         requires { page < self.now.config.logical }
-        ensures home { option_map (λ at. at.0) result
-            ≡ home_of self.now (current_name_of self.now page) }
-        ensures none { IsNone result ↔ (current_of self.now page ≡ 0) }
+        ensures home { option_map (λ at. at.0) result ≡ place_of self.now page }
+        ensures none { IsNone result ↔ IsBlank self.now page }
         ensures holds { IfSome result (λ at.
             HoldsName self.now at.0 (current_name_of self.now page)) }
     {
+        if self.discards(page) {
+            return None;
+        }
         self.tables.locate(page)
     }
 
@@ -101,6 +112,36 @@ impl<R: CommitRule> Index<R> {
         }
     }
 
+    /// Whether a block holds a record that must go before the version `below` of a page is programmed.
+    pub fn is_going(&self, page: u32, below: u64, block: Block) -> bool
+        requires page { page < self.now.config.logical }
+        requires block { block.0 < blocks_of (shape_of self.now.config) }
+        ensures { result ≡ is_going self.now page below block.0 }
+    {
+        match self.config.protocol {
+            Protocol::Scc => block_goes(&self.tables, page, below, block),
+            Protocol::Bpcc => false,
+        }
+    }
+
+    /// The blocks that hold a record which must go before the version `below` of a page is programmed,
+    /// in their order. They replace what the caller's room has.
+    pub fn blocks_to_go(&self, page: u32, below: u64, into: &mut Vec<Block>)
+        requires page { page < self.now.config.logical }
+        requires room { slots_of (shape_of self.now.config) ≤ vec_capacity into.old }
+        ensures blocks { map (λ block. block.0) into.new.items ≡ going_blocks self.now page below }
+        ensures room { vec_capacity into.new ≡ vec_capacity into.old }
+    {
+        into.clear();
+        match self.config.protocol {
+            Protocol::Scc => {
+                put_going(&self.tables, page, below, into);
+                order_blocks(into);
+            }
+            Protocol::Bpcc => {}
+        }
+    }
+
     /// The number of garbage slots of a block: those that are not needed, without its blank ones where
     /// it is not shut. The spare has none.
     pub fn garbage(&self, block: Block, shut: bool) -> u32
@@ -108,5 +149,29 @@ impl<R: CommitRule> Index<R> {
         ensures { result ≡ garbage_of self.now block.0 shut }
     {
         self.tables.garbage(block, shut)
+    }
+
+    /// The number of blank slots of a block.
+    pub fn blanks(&self, block: Block) -> u32
+        requires { block.0 < blocks_of (shape_of self.now.config) }
+        ensures { result ≡ blanks_of self.now block.0 }
+    {
+        self.tables.blanks(block)
+    }
+
+    /// The lowest of the blocks that have the most garbage if all blocks are shut. Where there is no
+    /// garbage at all there is no such block.
+    pub fn most_garbage(&self) -> Option<Block>
+        ensures { FindsMostGarbage self.now result }
+    {
+        self.tables.most_garbage()
+    }
+
+    /// The most garbage that one of sixteen blocks which follow one another has if all blocks are shut.
+    pub fn most_garbage_among(&self, sixteen: u32) -> u32
+        requires { 16 * sixteen < blocks_of (shape_of self.now.config) }
+        ensures { IsMostAmong self.now sixteen result }
+    {
+        self.tables.most_garbage_among(sixteen)
     }
 }

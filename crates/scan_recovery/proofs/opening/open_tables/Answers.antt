@@ -11,8 +11,8 @@ chosen_spare-requires-clause-shape g c =
     let its = checked_config c.args.config c.args.shape c.requires.check in
     subst IsShape (sym its.1) its.0.shape
 
-pub from_scan-requires-clause-seen : goal.from_scan-requires-clause-seen
-from_scan-requires-clause-seen g c = c.requires.seen ∙ ap slots_of (checked_config c.args.config c.args.shape c.requires.check).1
+pub from_standing-requires-clause-seen : goal.from_standing-requires-clause-seen
+from_standing-requires-clause-seen g c = c.requires.seen ∙ ap slots_of (checked_config c.args.config c.args.shape c.requires.check).1
 
 pub returns-clause-sound : goal.returns-clause-sound
 returns-clause-sound g c =
@@ -21,6 +21,7 @@ returns-clause-sound g c =
     let finds = rw c.in-Some-2.is at c.in_ok-spare.ensures in (
       subst₂ (λ p logical. IsSoundList p list logical) c.requires.protocol c.requires.logical keeps,
       subst₂ (λ p logical. HasRemovable p list logical c.args.shape) c.requires.protocol c.requires.logical finds.1,
+      rw c.in_default-3.is at c.in_ok-law-2.ensures,
     )
 
 pub returns-clause-tables : goal.returns-clause-tables

@@ -1,4 +1,4 @@
-use Rattle.std.proofs.Common.{◌≡◌, ◌≤◌, vec_len, vec_capacity}
+use Rattle.std.proofs.Common.{◌≡◌, ◌≤◌, ◌*◌, vec_len, vec_capacity}
 use Rattle.std.specs.Prelude.{MatchOption}
 use Rattle.scan_recovery.specs.Reading.{ReadsAll}
 use Rattle.scan_recovery.proofs.ScanSteps.{IsScanTo, IsUnreadTo}
@@ -14,5 +14,5 @@ invariant-loop-at g l = record {
   seen_len : vec_len l.seen ≤ l.at;
   list_len : vec_len l.list ≤ l.at;
   seen_room : vec_capacity l.seen ≡ l.slots;
-  list_room : vec_capacity l.list ≡ l.slots;
+  list_room : vec_capacity l.list ≡ 4 * l.slots;
 }

@@ -1,4 +1,4 @@
-use Rattle.std.proofs.Common.{◌≡◌, ℕ, subst, sym, ◌∙◌}
+use Rattle.std.proofs.Common.{subst, sym, ◌∙◌}
 use Rattle.std.proofs.lemmas.Option.{same_Some}
 use Rattle.version_index.specs.Going.{IsTopBelow, IsLowestIn}
 use Rattle.version_index.proofs.KeptGoing.{lowest_copy}

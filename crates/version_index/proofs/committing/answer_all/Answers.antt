@@ -1,4 +1,4 @@
-use Rattle.std.proofs.Common.{sym, arith}
+use Rattle.std.proofs.Common.{sym}
 use Rattle.version_index.proofs.AnsweredRounds.{start_answering, answering_ends, answering_fails, answering_more, answering_whole}
 use Rattle.version_index.proofs.committing.answer_all.Goals as goal
 

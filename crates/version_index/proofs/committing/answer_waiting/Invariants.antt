@@ -1,6 +1,5 @@
-use Rattle.std.proofs.Common.{◌≡◌, ℕ, count_by}
+use Rattle.std.proofs.Common.{count_by}
 use Rattle.slot_tables.specs.Kept.{is_number}
-use Rattle.version_index.specs.Committing.{OnlyJudges}
 use Rattle.version_index.proofs.Answering.{IsAnswering}
 use Rattle.version_index.proofs.committing.answer_waiting.Given as goal
 

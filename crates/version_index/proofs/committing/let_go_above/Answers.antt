@@ -1,13 +1,12 @@
-use Rattle.std.proofs.Common.{◌≡◌, ◌<◌, ◌≤◌, ℕ, List, Option, Some, None, IfSome, ap, sym, subst, ◌∙◌, arith}
+use Rattle.std.proofs.Common.{◌≡◌, ◌<◌, ◌≤◌, ℕ, List, Option, Some, IfSome, ap, sym, subst, ◌∙◌}
 use Rattle.std.specs.Option.{option_map_or}
 use Rattle.std.proofs.lemmas.Option.{none-some, same_Some}
 use Rattle.plain_tables.specs.ChainLists.{next_in}
-use Rattle.tx_types.specs.Config.{slots_of}
 use Rattle.tx_types.specs.declared.record.Rec.{Rec}
 use Rattle.slot_tables.specs.Kept.{Kept, record_at, numbers_at}
 use Rattle.version_index.specs.Losing.{freed}
 use Rattle.version_index.specs.Tables.{version_at}
-use Rattle.version_index.proofs.Taking.{IsTaking, over_of, left_over, none_taken, one_taken, less_over, all_taken, older_below}
+use Rattle.version_index.proofs.Taking.{IsTaking, over_of, none_taken, one_taken, less_over, all_taken, older_below}
 use Rattle.version_index.proofs.committing.let_go_above.Goals as goal
 
 pub loop-next-init : goal.loop-next-init

@@ -1,4 +1,4 @@
-use Rattle.std.proofs.Common.{◌≡◌, length, arith, set, ap, sym, subst, ◌∙◌}
+use Rattle.std.proofs.Common.{length, arith, set, ap, sym, subst, ◌∙◌}
 use Rattle.slot_tables.specs.Kept.{Kept}
 use Rattle.version_index.specs.Committing.{OnlyJudges, IsTaken}
 use Rattle.version_index.proofs.Taking.{taken_then, taken_judges}

@@ -1,4 +1,4 @@
-use Rattle.std.proofs.Common.{◌≡◌, ◌+◌, ◌<◌, length, set, get_or, All, IfSome, ap, sym, subst, ◌∙◌, arith}
+use Rattle.std.proofs.Common.{◌≡◌, ◌+◌, ◌<◌, length, set, get_or, IfSome, ap, sym, subst, ◌∙◌, arith}
 use Rattle.std.proofs.lemmas.List.Elements.{All-contains, Contains-get_or}
 use Rattle.tx_types.specs.Config.{slots_of}
 use Rattle.record_list.specs.Records as records
@@ -12,62 +12,66 @@ use Rattle.version_index.proofs.ScanDecided.{start_decided, decided_more, place_
 use Rattle.version_index.proofs.deciding.decide_records.Goals as goal
 
 pub loop-i-init : goal.loop-i-init
-loop-i-init c = start_decided c.args.protocol c.args.chart.now c.args.numbers.now c.args.logical c.args.tables.now
+loop-i-init c = start_decided c.args.standing.now.protocol c.args.standing.now.list c.args.numbers.now c.args.logical c.args.tables.now
 
 pub set_answerer-requires-clause-number : goal.set_answerer-requires-clause-number
 set_answerer-requires-clause-number c =
     let shape = ap (λ (t : Kept). t.shape) c.loop-i.invariant.rest in
-    let long = ap length c.records-records.ensures.records in
+    let long = ap length (c.records-records.ensures.records ∙ c.chart.ensures) in
     let below = c.loop-i-test.true in
     subst (λ s. get_or c.args.numbers.now c.loop-i.i 0 < slots_of s) (sym shape)
-    (place_below c.args.chart.now c.args.numbers.now c.args.tables.now c.requires.numbered c.requires.whole c.shape.ensures.kept c.loop-i.i (omega arith))
+    (place_below c.args.standing.now.list c.args.numbers.now c.args.tables.now c.requires.numbered c.requires.whole c.shape.ensures.kept c.loop-i.i (omega arith))
 
 pub set_answerer-requires-clause-answerer : goal.set_answerer-requires-clause-answerer
 set_answerer-requires-clause-answerer c =
     let shape = ap (λ (t : Kept). t.shape) c.loop-i.invariant.rest in
     subst (λ s. IfSome c.number_by.result (λ x. x < slots_of s)) (sym shape)
-    (name_below c.args.chart.now c.args.numbers.now c.args.tables.now c.requires.numbered c.requires.whole c.shape.ensures.kept
+    (name_below c.args.standing.now.list c.args.numbers.now c.args.tables.now c.requires.numbered c.requires.whole c.shape.ensures.kept
     c.answerer-name.result c.number_by.result c.number_by.ensures)
 
 pub set_waits-requires-clause-number : goal.set_waits-requires-clause-number
 set_waits-requires-clause-number c =
     let shape = ap (λ (t : Kept). t.shape) c.set_answerer.ensures ∙ ap (λ (t : Kept). t.shape) c.loop-i.invariant.rest in
-    let long = ap length c.records-records.ensures.records in
+    let long = ap length (c.records-records.ensures.records ∙ c.chart.ensures) in
     let below = c.loop-i-test.true in
     subst (λ s. get_or c.args.numbers.now c.loop-i.i 0 < slots_of s) (sym shape)
-    (place_below c.args.chart.now c.args.numbers.now c.args.tables.now c.requires.numbered c.requires.whole c.shape.ensures.kept c.loop-i.i (omega arith))
+    (place_below c.args.standing.now.list c.args.numbers.now c.args.tables.now c.requires.numbered c.requires.whole c.shape.ensures.kept c.loop-i.i (omega arith))
 
 pub set_waits-requires-clause-page : goal.set_waits-requires-clause-page
 set_waits-requires-clause-page c =
-    let list = c.args.chart.now in
+    let list = c.args.standing.now.list in
     let i = c.loop-i.i in
-    let long = ap length c.records-records.ensures.records in
+    let long = ap length (c.records-records.ensures.records ∙ c.chart.ensures) in
     let below = c.loop-i-test.true in
     let within : i < length list = omega arith in
     let rec = records.record_at list i in
     let pages = ap (λ (t : Kept). length t.pages) c.set_answerer.ensures ∙ ap (λ (t : Kept). length t.pages) c.loop-i.invariant.rest ∙ c.requires.pages in
     let exist = All-contains (PagesExist c.args.logical) list (get_or list i nothing) c.requires.exist (Contains-get_or list i nothing within) in
-    let is = c.awaited.ensures ∙ ap (λ l. awaited (judged_by c.args.protocol list c.args.logical) (records.record_at l i)) c.records-records.ensures.records in
+    let protocol = c.args.standing.now.protocol in
+    let is = c.awaited.ensures ∙ ap (λ g. awaited (judged_by protocol list g) (records.record_at c.records-records.result.now c.loop-i.i)) c.requires.logical
+    ∙ ap (λ l. awaited (judged_by protocol list c.args.logical) (records.record_at l i)) (c.records-records.ensures.records ∙ c.chart.ensures) in
     subst (λ count. IfSome c.awaited.result (λ page. page < count)) (sym pages)
-    (awaited_exists (judged_by c.args.protocol list c.args.logical) rec c.args.logical c.awaited.result is exist.1)
+    (awaited_exists (judged_by c.args.standing.now.protocol list c.args.logical) rec c.args.logical c.awaited.result is exist.1)
 
 pub loop-i-preserved : goal.loop-i-preserved
 loop-i-preserved c =
     let k = c.args.tables.now in
     let t = c.loop-i.tables in
-    let list = c.args.chart.now in
+    let list = c.args.standing.now.list in
     let numbers = c.args.numbers.now in
-    let protocol = c.args.protocol in
+    let protocol = c.args.standing.now.protocol in
     let logical = c.args.logical in
     let i = c.loop-i.i in
-    let same = c.records-records.ensures.records in
+    let same = c.records-records.ensures.records ∙ c.chart.ensures in
     let long = ap length same in
     let below = c.loop-i-test.true in
     let a = c.number_by.result in
     let w = c.awaited.result in
     let is_a = c.number_by.ensures ∙ ap (number_by list numbers)
-    (c.answerer-name.ensures ∙ ap (λ l. answerer protocol list logical (records.record_at l i)) same) in
-    let is_w = c.awaited.ensures ∙ ap (λ l. awaited (judged_by protocol list logical) (records.record_at l i)) same in
+    (c.answerer-name.ensures ∙ ap (λ g. answerer protocol list g (records.record_at c.records-records.result.now c.loop-i.i)) c.requires.logical
+    ∙ ap (λ l. answerer protocol list logical (records.record_at l i)) same) in
+    let is_w = c.awaited.ensures ∙ ap (λ g. awaited (judged_by protocol list g) (records.record_at c.records-records.result.now c.loop-i.i)) c.requires.logical
+    ∙ ap (λ l. awaited (judged_by protocol list logical) (records.record_at l i)) same in
     let both = c.set_waits.ensures ∙ ap (λ (u : Kept). record u { waits = set u.waits (get_or numbers i 0) w }) c.set_answerer.ensures in
     subst (λ u. AreDecided protocol list numbers logical k u (i + 1)) (sym both)
     (decided_more protocol list numbers logical k t c.requires.numbered c.requires.whole c.shape.ensures.kept i c.loop-i.invariant (omega arith) a w
@@ -76,8 +80,8 @@ loop-i-preserved c =
 pub returns : goal.returns
 returns c =
     let h = c.loop-i.invariant in
-    let long = ap length c.records-records.ensures.records in
+    let long = ap length (c.records-records.ensures.records ∙ c.chart.ensures) in
     let all = c.loop-i-test.false in
     let end = c.loop-i.auto.i-end in
-    subst (AreDecided c.args.protocol c.args.chart.now c.args.numbers.now c.args.logical c.args.tables.now c.loop-i.tables)
-    (let same : c.loop-i.i ≡ length c.args.chart.now = omega arith in same) h
+    subst (AreDecided c.args.standing.now.protocol c.args.standing.now.list c.args.numbers.now c.args.logical c.args.tables.now c.loop-i.tables)
+    (let same : c.loop-i.i ≡ length c.args.standing.now.list = omega arith in same) h

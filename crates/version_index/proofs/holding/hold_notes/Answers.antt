@@ -1,6 +1,6 @@
 use Rattle.std.proofs.Common.{◌+◌, ◌-◌, length, refl, sym, subst, arith}
 use Rattle.version_index.specs.Notes.{note_at}
-use Rattle.version_index.proofs.ScanSlots.{IsHolding, start_holding, hold_more, all_held, all_placed, note_listed, uses_note, uses_below}
+use Rattle.version_index.proofs.ScanSlots.{IsHolding, hold_more, all_held, all_placed, note_listed, uses_note}
 use Rattle.version_index.proofs.holding.hold_notes.Goals as goal
 
 pub use_of-held-requires-clause-listed : goal.use_of-held-requires-clause-listed

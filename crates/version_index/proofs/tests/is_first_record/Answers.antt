@@ -13,4 +13,5 @@ returns c none =
       high = c.if-rec-gt-MAX_VERSION.false;
       own = same_name c.args.rec.next (name_of c.args.rec) c.if-rec.false c.if-rec-2.false;
       back = eqb-true c.args.rec.back 0 none;
+      count = c.if-rec-ne1.false;
     })

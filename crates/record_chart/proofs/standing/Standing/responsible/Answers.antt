@@ -18,7 +18,7 @@ pub returns-then-name-self : goal.returns-then-name-self
 returns-then-name-self c =
     let s = c.self.inside in
     let name = c.args.name in
-    rw (c.deref.ensures.value, c.records.ensures.records) at c.straddling_up_to_bound.ensures
+    rw (c.deref.ensures.value) at c.straddling_up_to_bound.ensures
     ∙ ap (λ l. greatest (straddling_upto (get_or l name.page 0) name) s.chart) c.self.invariant.current
     ∙ ap (λ t. greatest (straddling_upto t name) s.chart)
     (get_or-map-range_with_len (cur s.protocol s.chart s.logical) 0 s.logical name.page name.page 0 (omega arith) (omega arith))

@@ -3,40 +3,32 @@ use Rattle.std.proofs.Common.{◌<◌, length}
 use Rattle.slot_tables.proofs.SlotSetting.{slot_set, set_sized, old_lies}
 use Rattle.slot_tables.proofs.tables.Tables.set_slot.Goals as goal
 
-pub settle-requires-clause-slot : goal.settle-requires-clause-slot
-settle-requires-clause-slot c =
+pub settle_moved-requires-clause-before : goal.settle_moved-requires-clause-before
+settle_moved-requires-clause-before c =
     let t = c.self.inside in
     let h = c.self.invariant in
     let low : c.args.at.0 < length t.given.slots = rw h.sized.kept.slots (rw (← c.self.view_is) at c.requires.slot) in
     let numbered = rw (← c.self.view_is) at c.requires.number in
     rw (c.home_of-old.ensures, c.set.ensures) (old_lies t h c.args.at.0 c.args.to low numbered c.number_in-left.result)
 
-pub settle-requires-2-clause-sized : goal.settle-requires-2-clause-sized
-settle-requires-2-clause-sized c =
+pub settle_moved-requires-2-clause-sized : goal.settle_moved-requires-2-clause-sized
+settle_moved-requires-2-clause-sized c =
     let t = c.self.inside in
     let h = c.self.invariant in
     let low : c.args.at.0 < length t.given.slots = rw h.sized.kept.slots (rw (← c.self.view_is) at c.requires.slot) in
     let numbered = rw (← c.self.view_is) at c.requires.number in
     rw c.set.ensures (set_sized t h c.args.at.0 c.args.to low numbered)
 
-pub settle-requires-2-clause-slot : goal.settle-requires-2-clause-slot
-settle-requires-2-clause-slot c =
+pub settle_moved-requires-2-clause-before : goal.settle_moved-requires-2-clause-before
+settle_moved-requires-2-clause-before c =
     let t = c.self.inside in
     let h = c.self.invariant in
     let low : c.args.at.0 < length t.given.slots = rw h.sized.kept.slots (rw (← c.self.view_is) at c.requires.slot) in
     let numbered = rw (← c.self.view_is) at c.requires.number in
     rw (c.home_of-other.ensures, c.set.ensures) (old_lies t h c.args.at.0 c.args.to low numbered c.number_in-joined.result)
 
-pub settle_home-requires-clause-sized : goal.settle_home-requires-clause-sized
-settle_home-requires-clause-sized c =
-    let t = c.self.inside in
-    let h = c.self.invariant in
-    let low : c.args.at.0 < length t.given.slots = rw h.sized.kept.slots (rw (← c.self.view_is) at c.requires.slot) in
-    let numbered = rw (← c.self.view_is) at c.requires.number in
-    rw c.set.ensures (set_sized t h c.args.at.0 c.args.to low numbered)
-
-pub settle_home-requires-2-clause-sized : goal.settle_home-requires-2-clause-sized
-settle_home-requires-2-clause-sized c =
+pub settle_moved-requires-clause-sized : goal.settle_moved-requires-clause-sized
+settle_moved-requires-clause-sized c =
     let t = c.self.inside in
     let h = c.self.invariant in
     let low : c.args.at.0 < length t.given.slots = rw h.sized.kept.slots (rw (← c.self.view_is) at c.requires.slot) in
@@ -50,10 +42,8 @@ invariant_of-self c =
     let low : c.args.at.0 < length t.given.slots = rw h.sized.kept.slots (rw (← c.self.view_is) at c.requires.slot) in
     let numbered = rw (← c.self.view_is) at c.requires.number in
     rw (
-      c.settle_home-2.ensures,
-      c.settle_home.ensures,
-      c.settle-2.ensures,
-      c.settle.ensures,
+      c.settle_moved-2.ensures,
+      c.settle_moved.ensures,
       c.set-2.ensures,
       c.home_of-other.ensures,
       c.home_of-old.ensures,

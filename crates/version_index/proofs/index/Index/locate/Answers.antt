@@ -1,19 +1,27 @@
-use Rattle.std.proofs.Common.{ap, subst, sym, ◌∙◌, ◌<◌}
-use Rattle.version_index.specs.Noted.{IsNoted, current_name_of, home_of}
+use Rattle.std.proofs.Common.{◌≡◌, Bool, false, true, None, refl, ap, subst, sym, inr, ◌∙◌, ◌<◌}
+use Rattle.std.proofs.lemmas.Bool.{cond-true, cond-false}
+use Rattle.version_index.specs.Noted.{IsNoted, current_name_of, discarded_of, home_of}
 use Rattle.version_index.proofs.KeptReadings.{read_home}
 use Rattle.version_index.proofs.NotedFacts.{located_none, located_holds}
 use Rattle.version_index.proofs.index.Index.locate.Goals as goal
 
-pub returns-clause-home : goal.returns-clause-home
-returns-clause-home g c =
-    c.locate.ensures ∙ read_home _ _ _ _ c.self.invariant c.args.page (subst (λ n. c.args.page < n.config.logical) (sym c.self.view_is) c.requires)
-    ∙ ap (λ n. home_of n (current_name_of n c.args.page)) c.self.view_is
+pub returns-then-discards : goal.returns-then-discards
+returns-then-discards g c =
+    let discards : discarded_of c.args.self.now c.args.page ≡ true = sym c.if-discards.ensures in record {
+      home = sym (cond-true (discarded_of c.args.self.now c.args.page) None (home_of c.args.self.now (current_name_of c.args.self.now c.args.page)) discards);
+      none = (λ none. inr discards, λ blank. refl);
+      holds = tt;
+    }
 
-pub returns-clause-none : goal.returns-clause-none
-returns-clause-none g c =
-    located_none _ c.args.self.now (subst (IsNoted _) c.self.view_is c.self.invariant.noted) c.args.page c.locate.result (returns-clause-home g c)
-
-pub returns-clause-holds : goal.returns-clause-holds
-returns-clause-holds g c =
-    located_holds _ c.args.self.now (subst (IsNoted _) c.self.view_is c.self.invariant.noted) (current_name_of c.args.self.now c.args.page)
-    c.locate.result (returns-clause-home g c)
+pub returns : goal.returns
+returns g c =
+    let n = c.args.self.now in
+    let page = c.args.page in
+    let held : discarded_of n page ≡ false = sym c.if-discards.ensures in
+    let home = c.locate.ensures ∙ read_home _ _ _ _ c.self.invariant page (subst (λ n. page < n.config.logical) (sym c.self.view_is) c.requires)
+    ∙ ap (λ n. home_of n (current_name_of n page)) c.self.view_is in
+    let noted = subst (IsNoted _) c.self.view_is c.self.invariant.noted in record {
+      home = home ∙ sym (cond-false (discarded_of n page) None (home_of n (current_name_of n page)) held);
+      none = located_none _ n noted page c.locate.result held home;
+      holds = located_holds _ n noted (current_name_of n page) c.locate.result home;
+    }

@@ -1,4 +1,4 @@
-use Rattle.std.proofs.Common.{◌≡◌, ◌<◌, ◌*◌, refl, ap, subst, sym, ◌∙◌}
+use Rattle.std.proofs.Common.{◌<◌, ◌*◌, refl, ap, subst, sym, ◌∙◌}
 use Rattle.tx_types.specs.declared.config.Shape.{Shape}
 use Rattle.tx_types.specs.Config.{shape_of, blocks_of}
 use Rattle.slot_tables.specs.declared.slots.SlotUse.TheVariants as slot

@@ -1,12 +1,12 @@
-use Rattle.std.proofs.Common.{◌≡◌, ◌<◌, ◌∷◌, length, set, Some, refl, ap, subst, sym, ◌∙◌, arith}
+use Rattle.std.proofs.Common.{◌≡◌, ◌<◌, length, set, Some, ap, subst, sym, ◌∙◌, arith}
 use Rattle.std.proofs.lemmas.List.{length-set}
 use Rattle.tx_types.specs.Config.{shape_of, slots_of}
 use Rattle.slot_tables.specs.declared.slots.SlotUse.TheVariants as slot
-use Rattle.slot_tables.specs.Kept.{Kept, IsKept, numbers_at}
+use Rattle.slot_tables.specs.Kept.{Kept, IsKept}
 use Rattle.version_index.specs.declared.note.Note.TheVariants as note
 use Rattle.version_index.specs.Committing.{LinksExist, OnlyJudges, IsSettledSo}
 use Rattle.version_index.specs.Notes.{note_at}
-use Rattle.version_index.specs.Noted.{IsNextRecord, programmed, raised}
+use Rattle.version_index.specs.Noted.{IsNextRecord, programmed}
 use Rattle.version_index.specs.Tables.{noted_by, AreIndexed}
 use Rattle.version_index.proofs.NotedChanges.{next_spelled}
 use Rattle.version_index.proofs.KeptPrograms.{its_free, its_newest, with_links, whole_is, settled_indexed}

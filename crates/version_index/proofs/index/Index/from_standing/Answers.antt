@@ -1,4 +1,4 @@
-use Rattle.std.proofs.Common.{◌≡◌, ◌≤◌, ◌+◌, ◌-◌, ◌*◌, length, map, Contains, ap, sym, subst, refl, ◌∙◌, arith}
+use Rattle.std.proofs.Common.{◌≡◌, ◌≤◌, ◌-◌, ◌*◌, length, map, Contains, ap, sym, subst, refl, ◌∙◌, arith}
 use Rattle.std.specs.Result.{result_unwrap_or}
 use Rattle.std.proofs.Math.Nat.{mul-le-mul_right}
 use Rattle.std.proofs.lemmas.List.{length-map}
@@ -7,24 +7,24 @@ use Rattle.tx_types.specs.Config.{IsShape, shape_of, slots_of, blocks_of}
 use Rattle.record_chart.specs.Charts.{Sorts}
 use Rattle.slot_tables.specs.Kept.{Kept, blank_tables}
 use Rattle.version_index.specs.Filling.{AreFilled}
-use Rattle.version_index.specs.Noted.{IsNoted, IsNotedFrom}
+use Rattle.version_index.specs.Noted.{IsNotedFrom}
 use Rattle.version_index.specs.Notes.{found_in, seen_as}
-use Rattle.version_index.specs.Tables.{noted_by, notes_in, AreIndexed}
+use Rattle.version_index.specs.Tables.{noted_by, AreIndexed}
 use Rattle.version_index.proofs.NotedChanges.{fresh_noted}
 use Rattle.version_index.proofs.ScanJudged.{filled_indexed}
 use Rattle.version_index.proofs.ScanSizes.{found_length, sorted_agree, sorted_exist}
-use Rattle.version_index.proofs.index.Index.from_scan.Goals as goal
+use Rattle.version_index.proofs.index.Index.from_standing.Goals as goal
 
 pub fill-requires-clause-agree : goal.fill-requires-clause-agree
 fill-requires-clause-agree g c =
-    sorted_agree _ c.args.list.now c.in_ok-chart.chart c.args.config.logical c.requires.sound c.requires.scanned c.in_ok-chart.ensures
+    sorted_agree _ c.args.list.now c.args.standing.now.list c.args.config.logical c.requires.sound c.requires.scanned c.requires.sorts
 
 pub fill-requires-clause-few : goal.fill-requires-clause-few
 fill-requires-clause-few g c =
     let same : c.in-Ok.shape ≡ shape_of c.args.config =
     ap (λ r. result_unwrap_or r (shape_of c.args.config)) (sym c.in-Ok.is ∙ c.check.ensures.exact ∙ c.requires.check) in
     let slots = ap (λ (t : Kept). slots_of t.shape) c.in_ok-tables.ensures ∙ ap slots_of same in
-    let long = length_permutation c.args.list.now c.in_ok-chart.chart c.in_ok-chart.ensures.records in
+    let long = length_permutation c.args.list.now c.args.standing.now.list c.requires.sorts.records in
     let notes = sym (length-map c.in_ok-notes.notes.items seen_as) ∙ ap length c.in_ok-notes.ensures.seen in
     let found = ap length c.in_ok-notes.ensures.found in
     let few = found_length c.in_ok-notes.notes.items in
@@ -41,7 +41,8 @@ invariant_of-result-2 g c =
     let shape = ap (λ (u : Kept). u.shape) c.in_ok-tables.ensures ∙ same in
     let notes = c.in_ok-fill.ensures.notes ∙ c.deref.ensures.value in
     let found = ap found_in notes ∙ c.in_ok-notes.ensures.found in
-    let filled = subst (λ s. AreFilled its.protocol c.in_ok-chart.chart s its.logical t) shape c.in_ok-fill.ensures.filled in
+    let filled = subst (λ p. AreFilled p c.args.standing.now.list (shape_of its) its.logical t) c.requires.protocol
+    (subst (λ s. AreFilled c.args.standing.now.protocol c.args.standing.now.list s its.logical t) shape c.in_ok-fill.ensures.filled) in
     let noted = fresh_noted _ its c.args.seen.now c.args.list.now (noted_by its m t) c.requires.check c.in-Ok.ensures.bounds c.requires.rule
     c.requires.seen c.requires.scanned c.requires.sound (record {
       config = refl;
@@ -52,7 +53,7 @@ invariant_of-result-2 g c =
       mentions = c.in_ok-first_mentions.ensures;
     }) in
     subst (λ (k : Kept). AreIndexed g.R.CommitRule.protocol its m k) (sym c.tables.view_is)
-    (filled_indexed _ its m t c.in_ok-chart.chart noted (subst (λ l. Sorts l c.in_ok-chart.chart) (sym found) c.in_ok-chart.ensures) filled)
+    (filled_indexed _ its m t c.args.standing.now.list noted (subst (λ l. Sorts l c.args.standing.now.list) (sym found) c.requires.sorts) filled)
 
 pub returns : goal.returns
 returns g c =
@@ -83,11 +84,11 @@ new-requires-clause-pages g c =
 
 pub fill-requires-clause-exist : goal.fill-requires-clause-exist
 fill-requires-clause-exist g c =
-    sorted_exist _ c.args.list.now c.in_ok-chart.chart c.args.config.logical c.requires.sound c.requires.scanned c.in_ok-chart.ensures
+    sorted_exist _ c.args.list.now c.args.standing.now.list c.args.config.logical c.requires.sound c.requires.scanned c.requires.sorts
 
 pub fill-requires-clause-listed : goal.fill-requires-clause-listed
 fill-requires-clause-listed g c f i =
-    Contains-permutation c.args.list.now c.in_ok-chart.chart f c.in_ok-chart.ensures.records
+    Contains-permutation c.args.list.now c.args.standing.now.list f c.requires.sorts.records
     (subst (λ l. Contains l f) (ap found_in c.deref.ensures.value ∙ c.in_ok-notes.ensures.found) i)
 
 pub fill-requires-clause-notes : goal.fill-requires-clause-notes

@@ -1,0 +1,7 @@
+use Rattle.std.proofs.Common.{◌*◌, min}
+use Rattle.tx_types.specs.Config.{shape_of, blocks_of}
+use Rattle.collector.specs.Best.{IsBest}
+use Rattle.collector.proofs.choosing.search.Given as goal
+
+abbrev pub invariant-loop-sixteen : goal.invariant-loop-sixteen
+invariant-loop-sixteen g l = IsBest l.index l.blocks (min (16 * l.sixteen) (blocks_of (shape_of l.index.config))) l.best

@@ -1,0 +1,14 @@
+use Rattle.std.proofs.Common.{◌≡◌, List, None, slice_index, sym, ap, ◌∙◌}
+use Rattle.std.specs.List.{position}
+use Rattle.std.specs.Option.{option_map}
+use Rattle.record_list.specs.declared.found.Found.{Found}
+use Rattle.record_list.specs.Records.{has_name}
+use Rattle.version_index.specs.Filling.{number_by}
+use Rattle.version_index.proofs.deciding.number_by.Goals as goal
+
+pub returns-in-None-find : goal.returns-in-None-find
+returns-in-None-find c =
+    let list = c.args.standing.now.list in
+    let numbers = c.args.numbers.now in
+    let place = sym c.in-None-find.is ∙ c.find.ensures ∙ ap (λ (l : List Found). position (λ f. has_name c.in-Some.name f.rec) l) c.chart.ensures in
+    ap (option_map (λ p. slice_index numbers p)) place ∙ ap (number_by list numbers) (sym c.in-Some.is)

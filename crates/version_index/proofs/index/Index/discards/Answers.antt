@@ -1,0 +1,9 @@
+use Rattle.std.proofs.Common.{ap, subst, sym, ◌∙◌, ◌<◌}
+use Rattle.version_index.specs.Noted.{discarded_of}
+use Rattle.version_index.proofs.KeptReadings.{read_discard}
+use Rattle.version_index.proofs.index.Index.discards.Goals as goal
+
+pub returns : goal.returns
+returns g c =
+    let below = subst (λ n. c.args.page < n.config.logical) (sym c.self.view_is) c.requires in
+    c.discards_now.ensures ∙ read_discard _ _ _ _ c.self.invariant c.args.page below ∙ ap (λ n. discarded_of n c.args.page) c.self.view_is

@@ -1,0 +1,9 @@
+use Rattle.std.proofs.Common.{subst}
+use Rattle.version_index.specs.Noted.{FindsMostGarbage}
+use Rattle.version_index.proofs.MostGarbage.{finds_most}
+use Rattle.version_index.proofs.index.Index.most_garbage.Goals as goal
+
+pub returns : goal.returns
+returns g c =
+    subst (λ n. FindsMostGarbage n c.most_garbage.result) c.self.view_is
+    (finds_most _ _ _ _ c.self.invariant c.most_garbage.result c.most_garbage.ensures.none c.most_garbage.ensures.first)
