@@ -193,11 +193,11 @@ serves_done limits spent c old r new tag e ok serves told found = absurd told
 pub acknowledged_stays : (limits : Limits) (spent : ℕ → Bool) (c : Command) (old : RunState) (r : Reply) (mid : RunState) (tag : ℕ) (e : Entry)
     (seen : ℕ → ℕ) (cs : List Command) (rs : List Reply) (new : RunState) (pages : Pages) (w : PageWrite) →
     IsConsistent old.machine → Serves limits spent c old r mid → Acknowledges c r tag → entry_of tag old.machine.entries ≡ Some e → Run limits seen mid cs rs new → StandsFor new.machine pages →
-    Contains e.writes w → NoneOpens w.page cs rs → page_at pages w.page ≡ Some w.bytes
+    Contains e.writes w → NoneOpens w.page cs rs → page_at pages w.page ≡ w.value
 acknowledged_stays limits spent c old r mid tag e seen cs rs new pages w ok serves told found run stands has none =
     let done = serves_done limits spent c old r mid tag e ok serves told found in
     run_stands limits seen mid cs rs new w.page pages run (All-contains (λ w. AllAvoid w.page mid.machine.entries) e.writes w done.1 has) none stands
-    ∙ All-contains (λ w. page_at mid.machine.pages w.page ≡ Some w.bytes) e.writes w done.0 has
+    ∙ All-contains (λ w. page_at mid.machine.pages w.page ≡ w.value) e.writes w done.0 has
 
 -- ---- a transaction is in the array wholly or not at all
 

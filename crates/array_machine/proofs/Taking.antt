@@ -13,13 +13,13 @@ use Rattle.array_machine.specs.Run.{Avoid, AllAvoid, EntriesAreApart}
 
 pub put_length : (ws : List PageWrite) (pages : Pages) → length (put pages ws) ≡ length pages
 put_length [] pages = refl
-put_length (w ∷ ws) pages = put_length ws _ ∙ length-set pages w.page (Some w.bytes)
+put_length (w ∷ ws) pages = put_length ws _ ∙ length-set pages w.page w.value
 
 pub put_other : (page : ℕ) (ws : List PageWrite) (pages : Pages) → Avoid page ws → page_at (put pages ws) page ≡ page_at pages page
 put_other page [] pages h = refl
 put_other page (w ∷ ws) pages h =
     put_other page ws _ (All-tail (λ w. w.page ≢ page) w ws h)
-    ∙ get_or-set_other pages w.page page (Some w.bytes) None (λ e. All-head (λ w. w.page ≢ page) w ws h (sym e))
+    ∙ get_or-set_other pages w.page page w.value None (λ e. All-head (λ w. w.page ≢ page) w ws h (sym e))
 
 abbrev pub AreWithin : Pages → List PageWrite → Type 0
 AreWithin pages ws = All (λ w. w.page < length pages) ws
@@ -28,15 +28,15 @@ pub within_kept : (old new : Pages) (ws : List PageWrite) → length new ≡ len
 within_kept old new ws long h = λ k d lt. (let at = h k d lt in omega arith)
 
 -- it has them all
-pub put_has : (ws : List PageWrite) (pages : Pages) → AllPairs (λ v w. v.page ≢ w.page) ws → AreWithin pages ws → All (λ w. page_at (put pages ws) w.page ≡ Some w.bytes) ws
-put_has [] pages distinct within = All-nil (λ w. page_at pages w.page ≡ Some w.bytes)
+pub put_has : (ws : List PageWrite) (pages : Pages) → AllPairs (λ v w. v.page ≢ w.page) ws → AreWithin pages ws → All (λ w. page_at (put pages ws) w.page ≡ w.value) ws
+put_has [] pages distinct within = All-nil (λ w. page_at pages w.page ≡ w.value)
 put_has (w ∷ ws) pages distinct within =
     let R = λ (v : PageWrite) (w : PageWrite). v.page ≢ w.page in
     let P = λ (w : PageWrite). w.page < length pages in
     let others : Avoid w.page ws = all_from (λ v. v.page ≢ w.page) ws (λ v i e. pairs_head R w ws v distinct i (sym e)) in
-    All-cons (λ v. page_at (put pages (w ∷ ws)) v.page ≡ Some v.bytes) w ws
-    (put_other w.page ws _ others ∙ get_or-set_same pages w.page (Some w.bytes) None (All-head P w ws within))
-    (put_has ws _ (pairs_tail R w ws distinct) (within_kept pages _ ws (length-set pages w.page (Some w.bytes)) (All-tail P w ws within)))
+    All-cons (λ v. page_at (put pages (w ∷ ws)) v.page ≡ v.value) w ws
+    (put_other w.page ws _ others ∙ get_or-set_same pages w.page w.value None (All-head P w ws within))
+    (put_has ws _ (pairs_tail R w ws distinct) (within_kept pages _ ws (length-set pages w.page w.value) (All-tail P w ws within)))
 
 pub put_append : (vs ws : List PageWrite) (pages : Pages) → put pages (vs ++ ws) ≡ put (put pages vs) ws
 put_append [] ws pages = refl

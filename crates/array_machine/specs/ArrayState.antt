@@ -28,7 +28,7 @@ pub record ArrayState : Type 0 where
 -- the array with all the writes taken at once
 abbrev pub put : Pages → List PageWrite → Pages
 put pages [] = pages
-put pages (w ∷ ws) = put (slice_set pages w.page (Some w.bytes)) ws
+put pages (w ∷ ws) = put (slice_set pages w.page w.value) ws
 
 -- what the array has at a page
 abbrev pub page_at : Pages → ℕ → Option (List ℕ)

@@ -203,7 +203,7 @@ EntriesAreApart a b = All (λ w. Avoid w.page b.writes) a.writes
 
 -- the array has all that a transaction writes
 abbrev pub HasWhole : Pages → Entry → Type 0
-HasWhole pages e = All (λ w. page_at pages w.page ≡ Some w.bytes) e.writes
+HasWhole pages e = All (λ w. page_at pages w.page ≡ w.value) e.writes
 
 -- an array has at each page of a transaction what another one has
 abbrev pub HasSame : Pages → Pages → Entry → Type 0

@@ -156,7 +156,7 @@ pub fn acknowledged_transactions()
         entry_of tag old.machine.entries ≡ Some e →
         Run limits seen mid cs rs new → StandsFor new.machine pages →
         Contains e.writes w → NoneOpens w.page cs rs →
-        page_at pages w.page ≡ Some w.bytes }
+        page_at pages w.page ≡ w.value }
 {}
 
 /// Over cuts and faults no two open transactions have one tag.

@@ -1,5 +1,5 @@
 -- The list of commands that a number gives.
-use Rattle.std.specs.Prelude.{ℕ, zero, suc, ◌+◌, ◌%◌, ◌==◌, nat_le, min, List, [], ◌∷◌, ◌++◌, map, if◌then◌else◌}
+use Rattle.std.specs.Prelude.{ℕ, zero, suc, ◌+◌, ◌%◌, ◌==◌, nat_le, min, List, [], ◌∷◌, ◌++◌, map, Some, if◌then◌else◌}
 use Rattle.std.specs.List.{flat_map, range_with_len}
 use Rattle.flash_model.specs.declared.outcome.Outcome.{Outcome}
 use Rattle.flash_model.specs.declared.outcome.Outcome.TheVariants as outcome
@@ -14,7 +14,7 @@ use Rattle.drive_gen.specs.declared.kind.Kind.TheVariants as kind
 
 -- a page with this first byte, and zeros behind it
 abbrev pub page_write : Config → ℕ → ℕ → PageWrite
-page_write c page byte = record { page = page; bytes = padded c.page_bytes (byte ∷ []) }
+page_write c page byte = record { page = page; value = Some (padded c.page_bytes (byte ∷ [])) }
 
 -- a write that is finished at once
 abbrev pub written_at_once : ℕ → Writes → List Command

@@ -8,13 +8,13 @@ use Rattle.hex.proofs.HexLemmas.{decode_of-ok}
 use Rattle.hex.specs.Hex.{decode_of}
 use Rattle.hex.specs.declared.error.FromHexError.{FromHexError}
 use Rattle.std.specs.Prelude.{IfOk}
-use Rattle.std.specs.Option.{unwrap_or}
+use Rattle.std.specs.Option.{unwrap_or, option_map}
 use Rattle.std.specs.Result.{result_ok}
-use Rattle.host_protocol.specs.Reading.{AnswersAs}
+use Rattle.host_protocol.specs.Reading.{AnswersAs, Fails}
 use Rattle.host_protocol.specs.declared.error.LineError.{LineError}
 use Rattle.host_protocol.specs.declared.error.LineError.TheVariants.{Bad, Memory}
 use Rattle.tx_types.specs.Batch.{padded}
-use Rattle.host_protocol.specs.Commands.{page_contents, contents_from, page_write_of, page_write_from, write_of_texts, is_equals}
+use Rattle.host_protocol.specs.Commands.{page_contents, page_value, contents_from, page_write_of, page_write_from, write_of_texts, is_equals}
 use Rattle.host_protocol.proofs.PartLemmas.{parts, split_some, split_none}
 
 -- a word without an equals sign has no two parts
@@ -120,3 +120,17 @@ pub contents_within : {X : Type 0} (view : X → List ℕ) (size : ℕ) (text : 
     → AnswersAs view r (result_ok (decode_of text)) → IfOk r (λ x. length (view x) ≤ size)
 contents_within view size text (Ok x) most h = contents_length size text (view x) (is_decoded (decode_of text) (view x) h) most
 contents_within view size text (Err e) most h = tt
+
+-- a tilde discards, and any other text is its contents
+pub value_tilde : (size : ℕ) (text : List ℕ) → bytes_eq text (codes "~") ≡ true → page_value size text ≡ Some None
+unfolding page_value
+value_tilde size text h = rw h refl
+
+pub value_contents : (size : ℕ) (text : List ℕ) → bytes_eq text (codes "~") ≡ false → page_value size text ≡ option_map Some (page_contents size text)
+unfolding page_value
+value_contents size text h = rw h refl
+
+-- what is no contents is no value
+pub value_fails : (size : ℕ) (text : List ℕ) (e : LineError) → bytes_eq text (codes "~") ≡ false → Fails e (page_contents size text) → Fails e (page_value size text)
+value_fails size text Bad other none = value_contents size text other ∙ ap (option_map Some) none
+value_fails size text Memory other none = tt

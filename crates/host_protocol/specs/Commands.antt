@@ -37,19 +37,24 @@ page_contents page_bytes text =
     if bytes_eq text (codes "-") then Some (padded page_bytes [])
     else option_and_then (contents_from page_bytes) (result_ok (decode_of text))
 
--- a page and its contents, by their texts
+-- what a page is to hold, by its text: nothing for a tilde, else its contents
+unfoldable pub page_value : ℕ → List ℕ → Option (Option (List ℕ))
+page_value page_bytes text =
+    if bytes_eq text (codes "~") then Some None else option_map Some (page_contents page_bytes text)
+
+-- a page and what it is to hold, by their texts
 abbrev pub write_of_texts : ℕ → List ℕ → List ℕ → Option PageWrite
 write_of_texts page_bytes page text =
     option_and_then
-    (λ p. option_map (λ bytes. record { page = p; bytes = bytes })
-    (page_contents page_bytes text)) (number_of page)
+    (λ p. option_map (λ value. record { page = p; value = value })
+    (page_value page_bytes text)) (number_of page)
 
 -- an entry's two parts around its one equals sign
 abbrev pub page_write_from : ℕ → List (List ℕ) → Option PageWrite
 page_write_from page_bytes (page ∷ text ∷ []) = write_of_texts page_bytes page text
 page_write_from page_bytes _ = None
 
--- the page and the contents that an entry gives
+-- the page that an entry gives, and what it is to hold
 unfoldable pub page_write_of : ℕ → List ℕ → Option PageWrite
 page_write_of page_bytes word = page_write_from page_bytes (slice_split is_equals word)
 

@@ -1,7 +1,8 @@
 ghost use Rattle.std.specs.Prelude.{◌≡◌, ◌≢◌, ◌≤◌, ◌∷◌, [], ℕ, List, length, position, IfOk, IfSome, IfNone};
+ghost use Rattle.std.specs.Option.{option_map};
 ghost use Rattle.std.specs.List.{slice_split};
 ghost use Rattle.tx_types.specs.Batch.{padded};
-ghost use Rattle.host_protocol.specs.Commands.{page_contents, page_write_of, write_of_texts, is_equals};
+ghost use Rattle.host_protocol.specs.Commands.{page_contents, page_value, page_write_of, write_of_texts, is_equals};
 ghost use Rattle.host_protocol.specs.Reading.{AnswersAs};
 
 use crate::error::LineError;
@@ -10,19 +11,25 @@ use crate::numbers::number;
 use memchr::memchr;
 use std::alloc::Global;
 
-/// The page and the bytes that an entry gives, without the zeros that fill the page.
-pub fn entry(alloc: Global, word: &[u8], page_bytes: u32) -> Result<(u32, Vec<u8>), LineError>
-    ensures entry { AnswersAs (λ e. record { page = e.0; bytes = padded page_bytes e.1.items })
+/// The page that an entry gives, and the bytes, without the zeros that fill the page, or nothing where
+/// it discards the page.
+pub fn entry(
+    alloc: Global,
+    word: &[u8],
+    page_bytes: u32,
+) -> Result<(u32, Option<Vec<u8>>), LineError>
+    ensures entry { AnswersAs
+        (λ e. record { page = e.0; value = option_map (λ v. padded page_bytes v.items) e.1 })
         result (page_write_of page_bytes word.now) }
-    ensures within { IfOk result (λ e. length e.1.items ≤ page_bytes) }
+    ensures within { IfOk result (λ e. IfSome e.1 (λ v. length v.items ≤ page_bytes)) }
 {
     let (page, text) = texts(word).ok_or(LineError::Bad)?;
     let page = number(page).ok_or(LineError::Bad)?;
-    let bytes = contents(alloc, text, page_bytes)?;
-    Ok((page, bytes))
+    let value = value(alloc, text, page_bytes)?;
+    Ok((page, value))
 }
 
-/// The texts of the page and of the contents that an entry gives.
+/// The texts of the page and of what it is to hold that an entry gives.
 #[tactic(auto, using(crate::proofs::EntryLemmas::entry_parts, crate::proofs::EntryLemmas::entry_others))]
 fn texts(word: &[u8]) -> Option<(&[u8], &[u8])>
     ensures some { IfSome result (λ f. (size : ℕ) →
@@ -56,6 +63,18 @@ fn first_equals(word: &[u8]) -> Option<usize>
     ensures { result ≡ position is_equals word.now }
 {
     memchr(b'=', word)
+}
+
+/// What a page is to hold, by its text: nothing for a tilde, else the bytes.
+fn value(alloc: Global, text: &[u8], page_bytes: u32) -> Result<Option<Vec<u8>>, LineError>
+    ensures value { AnswersAs (λ o. option_map (λ v. padded page_bytes v.items) o)
+        result (page_value page_bytes text.now) }
+    ensures within { IfOk result (λ o. IfSome o (λ v. length v.items ≤ page_bytes)) }
+{
+    if text == b"~".as_slice() {
+        return Ok(None);
+    }
+    Ok(Some(contents(alloc, text, page_bytes)?))
 }
 
 /// The bytes of a page, by their text: none for a dash, else one to all of them by hexadecimal digits.

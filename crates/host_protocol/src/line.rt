@@ -151,8 +151,11 @@ fn entries(
         if batch.len() >= entries_left {
             return Err(LineError::Bad);
         }
-        let (page, bytes) = entry(alloc, word, page_bytes)?;
-        batch.add(page, &bytes)?;
+        let (page, value) = entry(alloc, word, page_bytes)?;
+        match value {
+            Some(bytes) => batch.add(page, &bytes)?,
+            None => batch.add_discard(page)?,
+        }
         rest = behind;
     }
     Ok(batch)

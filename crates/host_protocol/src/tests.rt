@@ -80,15 +80,19 @@ fn spelled(alloc: Global, tag: u32, batch: &Batch) -> Result<String, AllocError>
     let mut all = format!(in alloc; "write {tag}")?;
     for i in 0..batch.len() {
         let page = batch.page(i);
-        let digits = hex::encode(alloc, batch.bytes(i))?;
-        all.push_str(format!(in alloc; " {page}={digits}")?.as_str())?;
+        if batch.discards(i) {
+            all.push_str(format!(in alloc; " {page}=~")?.as_str())?;
+        } else {
+            let digits = hex::encode(alloc, batch.bytes(i))?;
+            all.push_str(format!(in alloc; " {page}={digits}")?.as_str())?;
+        }
     }
     Ok(all)
 }
 
 const ZEROS: &str = "write 1 0=00000000000000000000000000000000";
 
-const WRITES: [(&[u8], &str); 17] = [
+const WRITES: [(&[u8], &str); 22] = [
     (b"write", BAD),
     (b"write x 0=-", BAD),
     (b"write 1", "write 1"),
@@ -110,6 +114,14 @@ const WRITES: [(&[u8], &str); 17] = [
     (b"write 1 0=41=42", BAD),
     (b"write 1 0==41", BAD),
     (b"write 1 0=--", BAD),
+    (b"write 1 0=~", "write 1 0=~"),
+    (
+        b"write 1 3=~ 4=- 3=~",
+        "write 1 3=~ 4=00000000000000000000000000000000 3=~",
+    ),
+    (b"write 1 0=~~", BAD),
+    (b"write 1 0=~00", BAD),
+    (b"write 1 0=-~", BAD),
     (b"write 1 0 = 41", BAD),
     (b"write 1 4294967296=41", BAD),
 ];

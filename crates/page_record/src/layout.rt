@@ -6,8 +6,14 @@ use tx_types::Protocol;
 /// What each spare area begins with.
 pub const MARK: [u8; 4] = *b"TXFR";
 
-/// The format of the layout.
-pub const FORMAT: u8 = 1;
+/// The format of a record that does not say how many its transaction has.
+pub const PLAIN: u8 = 1;
+
+/// The format of one that does, and that may be a discard.
+pub const COUNTED: u8 = 2;
+
+/// The greatest count: as many pages may be pending.
+pub const MAX_COUNT: u32 = 256;
 
 /// The byte that stands for a protocol.
 pub fn code(protocol: Protocol) -> u8

@@ -3,10 +3,10 @@ ghost use Rattle.std.specs.Result.{result_ok, result_err};
 ghost use Rattle.std.specs.Int.{w32, w64};
 ghost use Rattle.tx_types.specs.declared.record.Rec.{Rec};
 ghost use Rattle.page_record.specs.Spelling.{spelling, CanBeSpelled};
-ghost use Rattle.page_record.specs.Rules.{number_at, fields_of, are_zeros, is_version, is_back, first_broken, record_of};
+ghost use Rattle.page_record.specs.Rules.{number_at, fields_of, are_zeros, is_counted, has_flags, is_count, rest_of, is_version, is_back, first_broken, record_of};
 
 use crate::SpareError;
-use crate::layout::{FORMAT, MARK, code};
+use crate::layout::{COUNTED, MARK, MAX_COUNT, PLAIN, code};
 use tx_types::{Link, MAX_VERSION, Protocol, Rec};
 
 /// The record that a spare area spells under this protocol, or the first rule that its bytes break.
@@ -36,17 +36,19 @@ fn broken_rule(spare_area: &[u8; 64], protocol: Protocol) -> Option<SpareError>
     let rec = fields(spare_area);
     if !spare_area.starts_with(&MARK) {
         Some(SpareError::Mark)
-    } else if spare_area[4] != FORMAT {
+    } else if spare_area[4] != PLAIN && spare_area[4] != COUNTED {
         Some(SpareError::Format)
     } else if spare_area[5] != code(protocol) {
         Some(SpareError::Protocol)
-    } else if !are_zeros(&spare_area[6..8]) {
+    } else if !has_flags(spare_area) {
         Some(SpareError::Flags)
     } else if !has_versions(rec) {
         Some(SpareError::Version)
     } else if !is_back(protocol, rec.version, rec.back) {
         Some(SpareError::Back)
-    } else if !are_zeros(&spare_area[40..]) {
+    } else if is_counted(spare_area) && !is_count(rec.count) {
+        Some(SpareError::Count)
+    } else if !are_zeros(rest(spare_area)) {
         Some(SpareError::Rest)
     } else {
         None
@@ -65,8 +67,8 @@ fn fields(spare_area: &[u8; 64]) -> Rec
             version: u64_at(spare_area, 24),
         },
         back: u64_at(spare_area, 32),
-        count: 0,
-        discard: false,
+        count: u32_at(spare_area, 40),
+        discard: spare_area[6] == 1,
     }
 }
 
@@ -90,6 +92,39 @@ fn u64_at(spare_area: &[u8; 64], offset: usize) -> u64
     u64::from_le_bytes([
         bytes[0], bytes[1], bytes[2], bytes[3], bytes[4], bytes[5], bytes[6], bytes[7],
     ])
+}
+
+/// Whether the format is the one with a count.
+fn is_counted(spare_area: &[u8; 64]) -> bool
+    ensures { result ≡ is_counted spare_area.now }
+{
+    spare_area[4] == COUNTED
+}
+
+/// Whether the flags are 0, or 1 where the format has a count.
+fn has_flags(spare_area: &[u8; 64]) -> bool
+    ensures { result ≡ has_flags spare_area.now }
+{
+    let flag = spare_area[6];
+    (flag == 0 || (is_counted(spare_area) && flag == 1)) && spare_area[7] == 0
+}
+
+/// Whether a number may be a count.
+fn is_count(number: u32) -> bool
+    ensures { result ≡ is_count number }
+{
+    1 <= number && number <= MAX_COUNT
+}
+
+/// The bytes behind the last field, which is the back version where the format has no count.
+fn rest(spare_area: &[u8; 64]) -> &[u8]
+    ensures { result.now ≡ rest_of spare_area.now }
+{
+    if is_counted(spare_area) {
+        &spare_area[44..]
+    } else {
+        &spare_area[40..]
+    }
 }
 
 /// Whether each byte is 0.

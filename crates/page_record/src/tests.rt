@@ -23,6 +23,17 @@ const BPCC: [u8; 64] = [
     0, 0, 0, 0, 0, 0, 0, 0, 0, 0, 0, 0, 0, 0, 0, 0, 0, 0, 0, 0, 0, 0, 0, 0, // rest
 ];
 
+/// Page 0 at version 1 under Simple Cyclic Commit, with a link to itself: a discard of one page.
+const DISCARD: [u8; 64] = [
+    0x54, 0x58, 0x46, 0x52, 2, 1, 1, 0, // mark, format, protocol, flags
+    0, 0, 0, 0, 0, 0, 0, 0, // page, link page
+    1, 0, 0, 0, 0, 0, 0, 0, // version
+    1, 0, 0, 0, 0, 0, 0, 0, // link version
+    0, 0, 0, 0, 0, 0, 0, 0, // back version
+    1, 0, 0, 0, // count
+    0, 0, 0, 0, 0, 0, 0, 0, 0, 0, 0, 0, 0, 0, 0, 0, 0, 0, 0, 0, // rest
+];
+
 /// Numbers whose bytes all differ, under Back Pointer Cyclic Commit.
 const WIDE: [u8; 64] = [
     0x54, 0x58, 0x46, 0x52, 1, 2, 0, 0, // mark, format, protocol, flags
@@ -45,6 +56,15 @@ fn rec(page: u32, version: u64, link_page: u32, link_version: u64, back: u64) ->
         back,
         count: 0,
         discard: false,
+    }
+}
+
+/// The record with a count, and whether it is a discard.
+fn counted(rec: Rec, count: u32, discard: bool) -> Rec {
+    Rec {
+        count,
+        discard,
+        ..rec
     }
 }
 
@@ -106,6 +126,21 @@ fn writes_over_what_stood_there(rt: HostRuntime) {
     };
     write_spare(wide, Bpcc, &mut area);
     assert!(rt; area == WIDE);
+
+    let link = Link {
+        page: 0,
+        version: 1,
+    };
+    let discard = Rec {
+        page: 0,
+        version: 1,
+        next: link,
+        back: 0,
+        count: 1,
+        discard: true,
+    };
+    write_spare(discard, Scc, &mut area);
+    assert!(rt; area == DISCARD);
 }
 
 /// A spare area, what is changed in it, the protocol that it is read for, and the rule that is broken.
@@ -116,7 +151,7 @@ type Broken = (
     SpareError,
 );
 
-const BROKEN: [Broken; 26] = [
+const BROKEN: [Broken; 38] = [
     // Every rule is broken, and then one rule fewer at each line.
     (
         &SCC,
@@ -150,9 +185,39 @@ const BROKEN: [Broken; 26] = [
     ),
     (&SCC, &[(32, 1), (63, 1)], Scc, SpareError::Back),
     (&SCC, &[(63, 1)], Scc, SpareError::Rest),
+    // The same in format 2, where the count comes before the rest.
+    (
+        &DISCARD,
+        &[(6, 2), (31, 0x80), (32, 1), (40, 0), (63, 1)],
+        Scc,
+        SpareError::Flags,
+    ),
+    (
+        &DISCARD,
+        &[(31, 0x80), (32, 1), (40, 0), (63, 1)],
+        Scc,
+        SpareError::Version,
+    ),
+    (
+        &DISCARD,
+        &[(32, 1), (40, 0), (63, 1)],
+        Scc,
+        SpareError::Back,
+    ),
+    (&DISCARD, &[(40, 0), (63, 1)], Scc, SpareError::Count),
+    (&DISCARD, &[(63, 1)], Scc, SpareError::Rest),
+    // Counts 0, one above the greatest, and one far above; each end of the rest.
+    (&SCC, &[(4, 2)], Scc, SpareError::Count),
+    (&DISCARD, &[(40, 1), (41, 1)], Scc, SpareError::Count),
+    (&DISCARD, &[(43, 1)], Scc, SpareError::Count),
+    (&DISCARD, &[(44, 1)], Scc, SpareError::Rest),
+    // A flag without a count, another flag, and one in the second byte.
+    (&DISCARD, &[(4, 1), (40, 0)], Scc, SpareError::Flags),
+    (&DISCARD, &[(6, 3)], Scc, SpareError::Flags),
+    (&DISCARD, &[(7, 1)], Scc, SpareError::Flags),
     // The mark in lower case, another format, flags.
     (&SCC, &[(0, 0x74)], Scc, SpareError::Mark),
-    (&SCC, &[(4, 2)], Scc, SpareError::Format),
+    (&SCC, &[(4, 3)], Scc, SpareError::Format),
     (&SCC, &[(6, 1)], Scc, SpareError::Flags),
     // The other protocol, and none.
     (&SCC, &[], Bpcc, SpareError::Protocol),
@@ -208,10 +273,30 @@ fn reads_the_record(rt: HostRuntime) {
         0x2122232425262728,
         0x1032333435363738,
     );
-    let cases: [Read; 7] = [
+    let cases: [Read; 11] = [
         (&SCC, &[], Scc, rec(0, 1, 1, 1, 0)),
         (&BPCC, &[], Bpcc, rec(1, 3, 1, 3, 2)),
         (&WIDE, &[], Bpcc, wide),
+        // A discard, and pages that are none, of transactions of one page, of two and of the most.
+        (&DISCARD, &[], Scc, counted(rec(0, 1, 0, 1, 0), 1, true)),
+        (
+            &DISCARD,
+            &[(6, 0)],
+            Scc,
+            counted(rec(0, 1, 0, 1, 0), 1, false),
+        ),
+        (
+            &SCC,
+            &[(4, 2), (40, 2)],
+            Scc,
+            counted(rec(0, 1, 1, 1, 0), 2, false),
+        ),
+        (
+            &BPCC,
+            &[(4, 2), (6, 1), (41, 1)],
+            Bpcc,
+            counted(rec(1, 3, 1, 3, 2), 256, true),
+        ),
         // The greatest versions.
         (&SCC, &[(16, 0), (23, 0x40)], Scc, rec(0, MOST, 1, 1, 0)),
         (&SCC, &[(24, 0), (31, 0x40)], Scc, rec(0, 1, 1, MOST, 0)),
@@ -239,6 +324,7 @@ fn errors_are_named(rt: HostRuntime) -> Result<(), Fail> {
         (SpareError::Flags, "flags"),
         (SpareError::Version, "version"),
         (SpareError::Back, "back"),
+        (SpareError::Count, "count"),
         (SpareError::Rest, "rest"),
     ];
     for (error, name) in names {

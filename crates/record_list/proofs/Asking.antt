@@ -12,7 +12,7 @@ use Rattle.tx_types.specs.declared.record.Rec.{Rec}
 use Rattle.tx_types.specs.declared.config.Protocol.{Protocol}
 use Rattle.record_list.specs.declared.found.Found.{Found}
 use Rattle.record_list.specs.Records.{mention, mentioned_at, name_of, is_present}
-use Rattle.record_list.specs.Transaction.{IsTransaction, next_names, back_version, IsAsked, InProgress}
+use Rattle.record_list.specs.Transaction.{IsTransaction, next_names, back_version, IsAsked, InProgress, IsAskedAt}
 use Rattle.record_list.proofs.Progress.{mention_parts}
 use Rattle.record_list.proofs.Names.{greatest_bound, found_named}
 
@@ -24,13 +24,14 @@ following names k = if k + 1 == length names then 0 else k + 1
 zip_within : (xs ys : List Link) (i : ℕ) → i < length (zip xs ys) → (i < length xs) × (i < length ys)
 zip_within xs ys i h = let shorter = length-zip xs ys in (omega arith, omega arith)
 
--- a record is as a transaction asks where it has the k-th name, the link to the one that follows, and the back version
+-- a record is as a transaction asks where it has the k-th name, the link to the one that follows, the back version and the
+-- count
 pub asked_at : (p : Protocol) (l : List Found) (logical : ℕ) (names : List Link) (k : ℕ) (r : Rec) (d : Link) → IsTransaction logical names →
     k < length names → name_of r ≡ get_or names k d → r.next ≡ get_or (next_names names) k d → r.back ≡ back_version p l logical r.page →
-    IsAsked p l logical names r
-asked_at p l logical names k r d transaction within named next back i dd inside =
+    r.count ≡ length names → IsAsked p l logical names r
+asked_at p l logical names k r d transaction within named next back count i dd inside =
     let both = zip_within names (next_names names) i inside in
-    subst (λ (pair : Link × Link). name_of r ≡ pair.0 → (r.next ≡ pair.1) × (r.back ≡ back_version p l logical pair.0.page))
+    subst (IsAskedAt p l logical names r)
     (sym (get_or-zip names (next_names names) i dd both.0 both.1))
     (λ same.
     let page : (get_or names i d).page ≡ (get_or names k d).page =
@@ -44,6 +45,7 @@ asked_at p l logical names k r d transaction within named next back i dd inside 
     ] in (
       next ∙ ap (λ n. get_or (next_names names) n d) (sym at) ∙ get_or_default (next_names names) i d dd.1 both.1,
       back ∙ ap (λ (n : Link). back_version p l logical n.page) same,
+      count,
     ))
 
 -- the name that follows, by its place

@@ -10,9 +10,9 @@ use Rattle.record_list.specs.declared.found.Found.{Found}
 use Rattle.record_list.specs.Records.{name_of, mentioned_at, is_present, IsScanned}
 use Rattle.record_list.specs.Verdict.{link_of}
 use Rattle.record_list.specs.SoundList.{CopiesAgree, follow}
-use Rattle.record_list.specs.Transaction.{next_names, back_version, IsAsked}
+use Rattle.record_list.specs.Transaction.{next_names, IsAsked, IsAskedAt}
 use Rattle.record_list.specs.Changes.{IsWrite, left}
-use Rattle.record_list.specs.Counts.{IsFirstReturn, KeepsCount, HasCounts, CountsNames, WriteKeepsCounts, CopyKeepsCounts, LossKeepsCounts}
+use Rattle.record_list.specs.Counts.{IsFirstReturn, KeepsCount, HasCounts, WriteKeepsCounts, CopyKeepsCounts, LossKeepsCounts}
 use Rattle.record_list.proofs.Names.{present_in, links_from}
 use Rattle.record_list.proofs.Follow.{follow_last}
 use Rattle.record_list.proofs.Returns.{one_return, next_returns, next_present, all_present}
@@ -166,21 +166,26 @@ other_round l logical names t (suc k) u here out n r i =
     other_round l logical names t k (link_of l u) (next_present l u n r here)
     (λ j. let low = (t.lower u here out (link_of l u) j).1 refl in omega arith) n (next_returns l u n r) i
 
--- ---- a record of a transaction that counts its names is written
+-- ---- a record of a transaction is written
 
 module _ (p : Protocol) (l l' : List Found) (logical : ℕ) (names : List Link) (f : Found) (w : IsWrite p l l' logical names f)
-    (named : CountsNames l' names) (counts : HasCounts l) where
-  -- the link of a record of the transaction is a name of it
-  its_next : (g : Found) → Contains l' g → Contains names (name_of g.rec) → Contains names g.rec.next
-  its_next g i own =
+    (counts : HasCounts l) where
+  -- a record of the transaction links to a name of it, and counts its names
+  its_parts : (g : Found) → Contains l' g → Contains names (name_of g.rec) → Contains names g.rec.next × (g.rec.count ≡ length names)
+  its_parts g i own =
       let asks : IsAsked p l logical names g.rec = elim (inserted_in l l' f w.added g i) [
         | inl e ↦ subst (λ (x : Found). IsAsked p l logical names x.rec) e w.asked
         | inr old ↦ All-contains (λ (x : Found). IsAsked p l logical names x.rec) l g w.in_progress.begun.asked old
       ] in
       let after = follows_of names (name_of g.rec) own in
-      let pair = All-contains (λ (x : Link × Link). name_of g.rec ≡ x.0 → (g.rec.next ≡ x.1) × (g.rec.back ≡ back_version p l logical x.0.page))
-      (zip names (next_names names)) (name_of g.rec, after.0) asks after.1 in
-      subst (Contains names) (sym (pair refl).0) (follows_in names (name_of g.rec) after.0 after.1).1
+      let pair = All-contains (IsAskedAt p l logical names g.rec) (zip names (next_names names)) (name_of g.rec, after.0) asks after.1 in
+      (subst (Contains names) (sym (pair refl).0) (follows_in names (name_of g.rec) after.0 after.1).1, (pair refl).2)
+
+  its_next : (g : Found) → Contains l' g → Contains names (name_of g.rec) → Contains names g.rec.next
+  its_next g i own = (its_parts g i own).0
+
+  its_count : (g : Found) → Contains l' g → Contains names (name_of g.rec) → g.rec.count ≡ length names
+  its_count g i own = (its_parts g i own).1
 
   -- a record of no name of it was there
   other_old : (g : Found) → Contains l' g → (Contains names (name_of g.rec) → ⊥) → Contains l g
@@ -196,10 +201,6 @@ module _ (p : Protocol) (l l' : List Found) (logical : ℕ) (names : List Link) 
       l g w.in_progress.begun.others old out in
       let low = (mention_parts g.rec g.rec.next (All-contains (λ n. mentioned_at n.page g.rec < n.version) names g.rec.next others j)).1 refl in
       omega arith
-
-  -- a record of the transaction counts its names
-  its_count : (g : Found) → Contains l' g → Contains names (name_of g.rec) → g.rec.count ≡ length names
-  its_count g i own = All-contains (λ (x : Found). Contains names (name_of x.rec) → x.rec.count ≡ length names) l' g named i own
 
   -- the first half of the law
   write_passes : (g : Found) → Contains l' g → PassesCount l' g.rec
@@ -228,5 +229,5 @@ module _ (p : Protocol) (l l' : List Found) (logical : ℕ) (names : List Link) 
 
 -- law 9 stays
 pub write_keeps_counts : WriteKeepsCounts
-write_keeps_counts p l l' logical names f w named counts = all_from (KeepsCount l') l' (λ g i.
-    keeps_from l' g (write_passes p l l' logical names f w named counts g i) (write_returns p l l' logical names f w named counts g i))
+write_keeps_counts p l l' logical names f w counts = all_from (KeepsCount l') l' (λ g i.
+    keeps_from l' g (write_passes p l l' logical names f w counts g i) (write_returns p l l' logical names f w counts g i))

@@ -10,7 +10,7 @@ use Rattle.tx_types.specs.declared.config.Protocol.TheVariants.{Scc, Bpcc}
 use Rattle.record_list.specs.declared.found.Found.{Found}
 use Rattle.record_list.specs.Records.{version_of, linked_at, mentioned_at, name_of, is_present}
 use Rattle.record_list.specs.Current.{cur}
-use Rattle.record_list.specs.Transaction.{next_names, back_version, IsAsked, IsBegun, InProgress, ShareNoPage}
+use Rattle.record_list.specs.Transaction.{next_names, back_version, IsAsked, IsBegun, InProgress, ShareNoPage, IsAskedAt}
 use Rattle.record_list.specs.Changes.{IsWrite}
 use Rattle.record_list.proofs.Rounds.{Follows, follows_in}
 use Rattle.record_list.proofs.Progress.{underway_of}
@@ -23,7 +23,7 @@ step_of p l l' logical names f w = record {
   underway = underway_of p l logical names w.in_progress.begun;
   of_names = w.named;
   next = λ b i.
-      let pair = All-contains (λ (x : Link × Link). name_of f.rec ≡ x.0 → (f.rec.next ≡ x.1) × (f.rec.back ≡ back_version p l logical x.0.page)) (zip names (next_names names)) (name_of f.rec, b) w.asked i in
+      let pair = All-contains (IsAskedAt p l logical names f.rec) (zip names (next_names names)) (name_of f.rec, b) w.asked i in
       (pair refl).0;
 }
 
@@ -31,7 +31,7 @@ step_of p l l' logical names f w = record {
 pub back_of_step : (p : Protocol) (l l' : List Found) (logical : ℕ) (names : List Link) (f : Found) → IsWrite p l l' logical names f →
     (b : Link) → Follows names (name_of f.rec) b → f.rec.back ≡ back_version p l logical f.rec.page
 back_of_step p l l' logical names f w b i =
-    let pair = All-contains (λ (x : Link × Link). name_of f.rec ≡ x.0 → (f.rec.next ≡ x.1) × (f.rec.back ≡ back_version p l logical x.0.page)) (zip names (next_names names)) (name_of f.rec, b) w.asked i in
+    let pair = All-contains (IsAskedAt p l logical names f.rec) (zip names (next_names names)) (name_of f.rec, b) w.asked i in
     (pair refl).1
 
 -- the back version asked for stays with the current version
@@ -43,9 +43,9 @@ same_back Bpcc l l' logical page e = sym e
 pub asked_same : (p : Protocol) (l l' : List Found) (logical : ℕ) (names : List Link) → ((a : Link) → Contains names a → cur p l' logical a.page ≡ cur p l logical a.page) →
     (r : Rec) → IsAsked p l logical names r → IsAsked p l' logical names r
 asked_same p l l' logical names same r asked =
-    all_from (λ (x : Link × Link). name_of r ≡ x.0 → (r.next ≡ x.1) × (r.back ≡ back_version p l' logical x.0.page)) (zip names (next_names names)) (λ x i e.
-    let pair = All-contains (λ (y : Link × Link). name_of r ≡ y.0 → (r.next ≡ y.1) × (r.back ≡ back_version p l logical y.0.page)) (zip names (next_names names)) x asked i e in
-    (pair.0, pair.1 ∙ same_back p l l' logical x.0.page (same x.0 (follows_in names x.0 x.1 i).0)))
+    all_from (IsAskedAt p l' logical names r) (zip names (next_names names)) (λ x i e.
+    let pair = All-contains (IsAskedAt p l logical names r) (zip names (next_names names)) x asked i e in
+    (pair.0, pair.1 ∙ same_back p l l' logical x.0.page (same x.0 (follows_in names x.0 x.1 i).0), pair.2))
 
 -- a name stays absent that is not the new one
 pub absent_still : (l l' : List Found) (logical : ℕ) (names : List Link) (r : Rec) → IsStep l l' logical names r →
@@ -103,7 +103,7 @@ module _ (p : Protocol) (l l' : List Found) (logical : ℕ) (names : List Link) 
           transaction = h.begun.transaction;
           asked = inserted_all (λ g. IsAsked p l' logical others g.rec) l l' f w.added
               (all_from (λ g. IsAsked p l' logical others g.rec) l (λ g i. asked_same p l l' logical others same g.rec (All-contains (λ x. IsAsked p l logical others x.rec) l g h.begun.asked i)))
-              (all_from (λ (x : Link × Link). name_of f.rec ≡ x.0 → (f.rec.next ≡ x.1) × (f.rec.back ≡ back_version p l' logical x.0.page)) (zip others (next_names others)) (λ x i e.
+              (all_from (IsAskedAt p l' logical others f.rec) (zip others (next_names others)) (λ x i e.
               absurd (own_out (subst (Contains others) (sym e) (follows_in others x.0 x.1 i).0))));
           others = inserted_all (λ g. (Contains others (name_of g.rec) → ⊥) → All (λ a. mentioned_at a.page g.rec < a.version) others) l l' f w.added
               h.begun.others (λ out. all_from (λ a. mentioned_at a.page f.rec < a.version) others (λ b j.

@@ -12,7 +12,7 @@ use Rattle.record_list.specs.declared.found.Found.{Found}
 use Rattle.record_list.specs.Records.{newest, version_of, linked_at, mentioned_at, name_of, is_present}
 use Rattle.record_list.specs.Verdict.{newest_name, link_of}
 use Rattle.record_list.specs.Current.{cur}
-use Rattle.record_list.specs.Transaction.{next_names, back_version, IsAsked, IsBegun}
+use Rattle.record_list.specs.Transaction.{next_names, IsAsked, IsBegun, IsAskedAt}
 use Rattle.record_list.proofs.Names.{same_name, found_named, newest_bound, newest_present}
 use Rattle.record_list.proofs.Safe.{top_link, Goes, IsSafe, IsLinked, Counts, counts_safe}
 use Rattle.record_list.proofs.SoundNames.{IsSoundMap}
@@ -47,7 +47,7 @@ underway_of p l logical names begun = record {
   asked = λ a b i here.
       let f = found_named l a here in
       let asks = All-contains (λ g. IsAsked p l logical names g.rec) l f.0 begun.asked f.1 in
-      let pair = All-contains (λ (x : Link × Link). name_of f.0.rec ≡ x.0 → (f.0.rec.next ≡ x.1) × (f.0.rec.back ≡ back_version p l logical x.0.page)) (zip names (next_names names)) (a, b) asks i in
+      let pair = All-contains (IsAskedAt p l logical names f.0.rec) (zip names (next_names names)) (a, b) asks i in
       sym f.3 ∙ (pair f.2).0;
   lower = λ u here out a i.
       let f = found_named l u here in

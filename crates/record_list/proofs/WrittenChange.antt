@@ -10,11 +10,13 @@ use Rattle.record_list.specs.declared.found.Found.{Found}
 use Rattle.record_list.specs.Records.{name_of, is_present, IsScanned}
 use Rattle.record_list.specs.Verdict.{record_named}
 use Rattle.record_list.specs.Current.{cur, is_held}
-use Rattle.record_list.specs.SoundList.{IsSoundList}
+use Rattle.record_list.specs.SoundList.{Copies, IsSoundList}
 use Rattle.record_list.specs.Changes.{IsInserted, IsCopy, left, KeepsCounted, PartialWriteLaw, PartialWriteKeeps, CompletingWriteLaw, CompletingWriteKeeps, CopyLaw, CopyKeeps, LossLaw, LossKeeps}
+use Rattle.record_list.specs.Counts.{HasCounts}
 use Rattle.record_list.specs.Written.{Written, found_of, records_of, BytesAgree, is_outside}
 use Rattle.record_list.specs.WrittenChanges.{WrittenPartialWriteLaw, WrittenCompletingWriteLaw, WrittenCopyLaw, left_outside, WrittenLossLaw}
 use Rattle.record_list.proofs.OneMore.{in_inserted}
+use Rattle.record_list.proofs.Counting.{write_keeps_counts, copy_keeps_counts, loss_keeps_counts}
 use Rattle.record_list.proofs.LossAmong.{among_of, among_present, among_record, one_each}
 use Rattle.record_list.proofs.LossCurrent.{left_scanned}
 use Rattle.record_list.proofs.LossCounted.{IsCounted, IsCountedKept, counted_names, counted_records, held_present}
@@ -57,6 +59,7 @@ written_partial_write p law l m n shape names w sound i write some =
       record {
         records = k.sound;
         bytes = bytes_inserted l m w i sound.bytes (fresh_bytes l w write.fresh);
+        counts = write_keeps_counts p (records_of l) (records_of m) n names (found_of w) write sound.counts;
         removable = record {
           block = sound.removable.block;
           exists = sound.removable.exists;
@@ -78,6 +81,7 @@ written_completing_write p law l m n shape names w sound i write all room =
       record {
         records = k.sound;
         bytes = bytes_inserted l m w i sound.bytes (fresh_bytes l w write.fresh);
+        counts = write_keeps_counts p (records_of l) (records_of m) n names (found_of w) write sound.counts;
         removable = record {
           block = room.block;
           exists = room.exists;
@@ -126,6 +130,7 @@ written_copy p law l m n shape w sound i scanned scanned' source =
       record {
         records = k.sound;
         bytes = bytes_copied l m w i scanned source sound.bytes;
+        counts = copy_keeps_counts (records_of l) (records_of m) (found_of w) (sound.records Copies) copy sound.counts;
         removable = record {
           block = sound.removable.block;
           exists = sound.removable.exists;
@@ -164,6 +169,7 @@ written_loss p law l n shape block sound scanned exists removable =
       record {
         records = k'.sound;
         bytes = bytes_filtered (λ w. keep w.slot.0) l sound.bytes;
+        counts = subst HasCounts (sym is) (loss_keeps_counts (records_of l) keep (sound.records Copies) scanned sound.counts);
         removable = record { block = block; exists = exists; removable = subst (λ z. KeepsCounted p z n keep) (sym is) r };
       },
       k',

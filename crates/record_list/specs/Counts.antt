@@ -1,6 +1,6 @@
 -- Law 9, on how many records a transaction has, as a fact on one record of the list, and what keeps it; the
 -- discards of a transaction.
-use Rattle.std.specs.Prelude.{◌≡◌, ◌≢◌, ℕ, ◌<◌, ◌≤◌, Bool, Option, MatchOption, List, All, Any, Contains, length}
+use Rattle.std.specs.Prelude.{◌≡◌, ◌≢◌, ℕ, ◌<◌, ◌≤◌, Bool, Option, MatchOption, List, All, Any, Contains}
 use Rattle.std.specs.List.{zip}
 use Rattle.tx_types.specs.declared.record.Link.{Link}
 use Rattle.tx_types.specs.declared.record.Rec.{Rec}
@@ -39,16 +39,11 @@ pub record IsLeastMiscount (list : List Found) (b : Breach) : Type 0 where
 abbrev pub IsFirstMiscount : List Found → Option Breach → Type 0
 IsFirstMiscount list breach = MatchOption breach (HasCounts list) (IsLeastMiscount list)
 
--- each record with one of the names counts the names
-abbrev pub CountsNames : List Found → List Link → Type 0
-CountsNames list names = All (λ f. Contains names (name_of f.rec) → f.rec.count ≡ length names) list
-
--- law 9 stays where a transaction whose records count its names writes one of them
+-- law 9 stays where a record is written that a transaction asks for
 abbrev pub WriteKeepsCounts : Type 0
 WriteKeepsCounts =
     (protocol : Protocol) (list list' : List Found) (logical : ℕ) (names : List Link) (f : Found) →
     IsWrite protocol list list' logical names f →
-    CountsNames list' names →
     HasCounts list → HasCounts list'
 
 -- and where a record is copied, of a list that keeps law 2

@@ -1,7 +1,7 @@
 -- A transaction, and when it is in progress among the records of a list.
-use Rattle.std.specs.Prelude.{◌≡◌, ◌≢◌, ℕ, ◌<◌, ◌≤◌, false, List, [], ◌∷◌, ◌++◌, All, Any, AllPairs, Contains}
+use Rattle.std.specs.Prelude.{◌≡◌, ◌≢◌, ℕ, ◌<◌, ◌≤◌, false, List, [], ◌∷◌, ◌++◌, All, Any, AllPairs, Contains, length}
 use Rattle.std.specs.List.{zip}
-use Rattle.tx_types.specs.Limits.{max_version}
+use Rattle.tx_types.specs.Limits.{max_pending, max_version}
 use Rattle.tx_types.specs.declared.record.Link.{Link}
 use Rattle.tx_types.specs.declared.record.Rec.{Rec}
 use Rattle.tx_types.specs.declared.config.Protocol.{Protocol}
@@ -10,10 +10,11 @@ use Rattle.record_list.specs.declared.found.Found.{Found}
 use Rattle.record_list.specs.Records.{mentioned_at, name_of, is_present}
 use Rattle.record_list.specs.Current.{cur}
 
--- the names that a transaction writes: distinct pages, each at a version
+-- the names that a transaction writes: distinct pages, each at a version, no more than may be pending
 pub record IsTransaction (logical : ℕ) (names : List Link) : Type 0 where
   pub distinct : AllPairs (λ a b. a.page ≢ b.page) names
   pub in_range : All (λ a. (a.page < logical) × (1 ≤ a.version) × (a.version ≤ max_version)) names
+  pub few : length names ≤ max_pending
 
 -- the names from the second on, and then the first: `zip names (next_names names)` has each name with the one that follows it
 abbrev pub next_names : List Link → List Link
@@ -25,13 +26,18 @@ abbrev pub back_version : Protocol → List Found → ℕ → ℕ → ℕ
 back_version Scc list logical page = 0
 back_version Bpcc list logical page = cur Bpcc list logical page
 
--- a record with one of the names has the link and the back version that the transaction asks for, as the list stands
+-- a record with a name that another follows links to that one, has the back version that the transaction asks for, as
+-- the list stands, and counts the names
+abbrev pub IsAskedAt : Protocol → List Found → ℕ → List Link → Rec → Link × Link → Type 0
+IsAskedAt protocol list logical names r pair =
+    name_of r ≡ pair.0 →
+    (r.next ≡ pair.1) × (r.back ≡ back_version protocol list logical pair.0.page)
+    × (r.count ≡ length names)
+
+-- a record with one of the names is as the transaction asks
 abbrev pub IsAsked : Protocol → List Found → ℕ → List Link → Rec → Type 0
 IsAsked protocol list logical names r =
-    All
-    (λ (name, next). name_of r ≡ name →
-    (r.next ≡ next) × (r.back ≡ back_version protocol list logical name.page))
-    (zip names (next_names names))
+    All (IsAskedAt protocol list logical names r) (zip names (next_names names))
 
 -- the records of the transaction are as it asks, and every other record mentions its pages below its versions
 pub record IsBegun (protocol : Protocol) (list : List Found) (logical : ℕ)

@@ -1,7 +1,7 @@
--- A list of records with the bytes of their slots: the texts that it has, the array that it stands for, laws 1 to 8, homes and
--- garbage. Law 1 is here its part on pages: a slot whose spare area does not read has no record, so that part
+-- A list of records with the bytes of their slots: the texts that it has, the array that it stands for, the nine laws, homes
+-- and garbage. Law 1 is here its part on pages: a slot whose spare area does not read has no record, so that part
 -- of the law comes with the image, above this crate.
-use Rattle.std.specs.Prelude.{◌≡◌, ℕ, ◌/◌, ◌<◌, ◌==◌, ◌⊎◌, Bool, true, false, not, ◌&&◌, ◌||◌, Option, Some, None, option_and_then, List, All, Any, map, find}
+use Rattle.std.specs.Prelude.{◌≡◌, ℕ, ◌/◌, ◌<◌, ◌==◌, ◌⊎◌, Bool, true, false, not, ◌&&◌, ◌||◌, if◌then◌else◌, Option, Some, None, option_and_then, List, All, Any, map, find}
 use Rattle.std.specs.List.{list_any, range_with_len}
 use Rattle.std.specs.Option.{option_map, option_or}
 use Rattle.tx_types.specs.declared.record.Link.{Link}
@@ -18,6 +18,7 @@ use Rattle.record_list.specs.Records.{name_of, has_name, is_present}
 use Rattle.record_list.specs.Current.{cur, is_held}
 use Rattle.record_list.specs.SoundList.{current_name, Law, Pages, Copies, Links, Present, Counted, Loose, Ending, number, Keeps, IsSoundList}
 use Rattle.record_list.specs.Changes.{left, KeepsCounted}
+use Rattle.record_list.specs.Counts.{HasCounts, IsLeastMiscount}
 
 -- a record, its slot, and the bytes of the slot's contents
 pub record Written : Type 0 where
@@ -43,9 +44,9 @@ text_of w = record { discard = w.rec.discard; bytes = w.bytes }
 abbrev pub text_at : List Written → Link → Option PageText
 text_at list name = option_map text_of (find (λ w. has_name name w.rec) list)
 
--- what a page holds by a text: its bytes
+-- what a page holds by a text: nothing where it is discarded, else the bytes
 abbrev pub value_of : PageText → Option (List ℕ)
-value_of text = Some text.bytes
+value_of text = if text.discard then None else Some text.bytes
 
 -- what a page holds by the first record with this name, nothing where there is none
 abbrev pub value_at : List Written → Link → Option (List ℕ)
@@ -96,12 +97,13 @@ pub record HasRemovable (protocol : Protocol) (list : List Found) (logical : ℕ
   pub exists : block < blocks_of shape
   pub removable : IsRemovable protocol list logical shape block
 
--- laws 1 to 8 of the records and their bytes
+-- the nine laws of the records and their bytes
 pub record IsSoundWritten (protocol : Protocol) (list : List Written) (logical : ℕ)
     (shape : Shape) : Type 0 where
   pub records : IsSoundList protocol (records_of list) logical
   pub bytes : All (BytesAgree list) list
   pub removable : HasRemovable protocol (records_of list) logical shape
+  pub counts : HasCounts (records_of list)
 
 -- a record keeps the law, bytes included
 abbrev pub KeepsWritten : Protocol → List Written → ℕ → Law → Written → Type 0
@@ -131,7 +133,7 @@ pub record IsFirstBrokenLaw (protocol : Protocol) (list : List Written) (logical
       All (KeepsWritten protocol list logical l) list
   pub earlier_slots : All (λ w. w.slot.0 < b.slot.0 → KeepsWritten protocol list logical law w) list
 
--- law 8 alone is broken; it names slot 0
+-- laws 1 to 7 hold and law 8 is broken; it names slot 0
 pub record IsUnremovable (protocol : Protocol) (list : List Written) (logical : ℕ) (shape : Shape)
     (b : Breach) : Type 0 where
   pub law : b.law ≡ 8
@@ -139,10 +141,19 @@ pub record IsUnremovable (protocol : Protocol) (list : List Written) (logical : 
   pub earlier_laws : (l : Law) → All (KeepsWritten protocol list logical l) list
   pub breaks : HasRemovable protocol (records_of list) logical shape → ⊥
 
--- the first of laws 1 to 8 that is broken by records and bytes, and the slot that it names
+-- law 9 alone is broken, first at this slot
+pub record IsMiscounted (protocol : Protocol) (list : List Written) (logical : ℕ) (shape : Shape)
+    (b : Breach) : Type 0 where
+  pub earlier_laws : (l : Law) → All (KeepsWritten protocol list logical l) list
+  pub removable : HasRemovable protocol (records_of list) logical shape
+  pub miscount : IsLeastMiscount (records_of list) b
+
+-- the first of the nine laws that is broken by records and bytes, and the slot that it names
 abbrev pub IsLeastWrittenBreach : Protocol → List Written → ℕ → Shape → Breach → Type 0
 IsLeastWrittenBreach protocol list logical shape b =
-    IsFirstBrokenLaw protocol list logical b ⊎ IsUnremovable protocol list logical shape b
+    IsFirstBrokenLaw protocol list logical b
+    ⊎ IsUnremovable protocol list logical shape b
+    ⊎ IsMiscounted protocol list logical shape b
 
 -- a slot lies outside the spare, if there is one
 abbrev pub is_outside_spare : Shape → Option ℕ → ℕ → Bool

@@ -1,4 +1,4 @@
--- The four commit laws of a sound list with bytes: laws 1 to 8 of records and bytes stay.
+-- The four commit laws of a sound list with bytes: the nine laws of records and bytes stay.
 use Rattle.std.specs.Prelude.{◌≡◌, ℕ, ◌<◌, true, false, List, All, Any, filter}
 use Rattle.tx_types.specs.declared.record.Link.{Link}
 use Rattle.tx_types.specs.declared.config.Protocol.{Protocol}

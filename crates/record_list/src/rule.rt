@@ -55,7 +55,7 @@ pub trait CommitRule {
         ensures { IsFirstBreach protocol list.now logical result };
 
     // The commit laws: what the four changes of a list of records keep. Each is a law of a list that
-    // keeps laws 1 to 7, and beside it of a list with bytes that keeps laws 1 to 8.
+    // keeps laws 1 to 7, and beside it of a list with bytes that keeps laws 1 to 9.
     ghost partial_write: { PartialWriteLaw protocol };
 
     ghost completing_write: { CompletingWriteLaw protocol };

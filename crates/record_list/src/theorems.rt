@@ -38,8 +38,8 @@ pub fn array_changes()
     ensures block_loss { (protocol : Protocol) → LossLaw protocol → BlockLossLeavesArray protocol }
 {}
 
-/// Law 9 stays where a record of a transaction is written whose records count its names, where a record
-/// is copied, and where records are lost. The last two ask for law 2, and none for another law.
+/// Law 9 stays where a record of a transaction is written, where a record is copied, and where records
+/// are lost. The last two ask for law 2, and none for another law.
 pub fn counts_stay()
     ensures write { WriteKeepsCounts }
     ensures copy { CopyKeepsCounts }

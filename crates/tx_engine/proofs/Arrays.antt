@@ -37,17 +37,17 @@ set_page f n at v =
 
 -- The array takes the writes, where it has the bytes of each write at its page then, and at all other pages what it had.
 pub put_is : (ws : List PageWrite) (old new : ℕ → Option (List ℕ)) (n : ℕ) →
-    All (λ w. new w.page ≡ Some w.bytes) ws →
+    All (λ w. new w.page ≡ w.value) ws →
     ((page : ℕ) → page < n → All (λ w. w.page ≢ page) ws → new page ≡ old page) →
     map new (range_with_len 0 n) ≡ put (map old (range_with_len 0 n)) ws
 put_is [] old new n takes stays = same_range new old n (λ page within. stays page within (λ k d less. absurd (omega arith)))
 put_is (w ∷ ws) old new n takes stays =
-    put_is ws (with_page old w.page (Some w.bytes)) new n (All-tail (λ w. new w.page ≡ Some w.bytes) w ws takes)
+    put_is ws (with_page old w.page w.value) new n (All-tail (λ w. new w.page ≡ w.value) w ws takes)
     (λ page within others. elim (cases_eq page w.page) [
-      | inl same ↦ ap new same ∙ All-head (λ w. new w.page ≡ Some w.bytes) w ws takes ∙ sym (cond-true (page == w.page) (Some w.bytes) (old page) (eq-eqb page w.page same))
-      | inr other ↦ stays page within (All-cons (λ w. w.page ≢ page) w ws (λ e. other (sym e)) others) ∙ sym (cond-false (page == w.page) (Some w.bytes) (old page) (ne_eqb page w.page other))
+      | inl same ↦ ap new same ∙ All-head (λ w. new w.page ≡ w.value) w ws takes ∙ sym (cond-true (page == w.page) w.value (old page) (eq-eqb page w.page same))
+      | inr other ↦ stays page within (All-cons (λ w. w.page ≢ page) w ws (λ e. other (sym e)) others) ∙ sym (cond-false (page == w.page) w.value (old page) (ne_eqb page w.page other))
     ])
-    ∙ ap (λ pages. put pages ws) (sym (set_page old n w.page (Some w.bytes)))
+    ∙ ap (λ pages. put pages ws) (sym (set_page old n w.page w.value))
 
 -- Names and writes of the same pages, place by place
 pub page_of_name : (names : List Link) (ws : List PageWrite) (k : ℕ) → map (λ (name : Link). name.page) names ≡ map (λ (w : PageWrite). w.page) ws → k < length names →
@@ -64,13 +64,13 @@ as_many_names names ws pages = sym (length-map names (λ (name : Link). name.pag
 -- The same where each name of the transaction has the bytes of its write, by place.
 pub put_by_names : (names : List Link) (ws : List PageWrite) (old new : ℕ → Option (List ℕ)) (n : ℕ) →
     map (λ (name : Link). name.page) names ≡ map (λ (w : PageWrite). w.page) ws →
-    ((k : ℕ) → k < length names → new (get_or names k no_name).page ≡ Some (get_or ws k no_write).bytes) →
+    ((k : ℕ) → k < length names → new (get_or names k no_name).page ≡ (get_or ws k no_write).value) →
     ((page : ℕ) → page < n → All (λ (name : Link). name.page ≢ page) names → new page ≡ old page) →
     map new (range_with_len 0 n) ≡ put (map old (range_with_len 0 n)) ws
 put_by_names names ws old new n pages takes stays =
     let long = as_many_names names ws pages in
     put_is ws old new n
-    (All-from_get_or (λ w. new w.page ≡ Some w.bytes) ws no_write (λ k within.
+    (All-from_get_or (λ w. new w.page ≡ w.value) ws no_write (λ k within.
     let inside : k < length names = omega arith in
     ap new (sym (page_of_name names ws k pages inside)) ∙ takes k inside))
     (λ page within others. stays page within (All-from_get_or (λ (name : Link). name.page ≢ page) names no_name (λ k inside same.

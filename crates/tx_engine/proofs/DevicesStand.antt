@@ -29,9 +29,9 @@ use Rattle.tx_engine.specs.ArrayState.{Entry, Pages, put, is_doubted}
 use Rattle.array_machine.specs.declared.mark.Mark.{Mark}
 use Rattle.array_machine.specs.declared.mark.Mark.TheVariants.{Plain, Doubt, Whole}
 use Rattle.tx_engine.specs.Exits.{StandsFor}
-use Rattle.tx_engine.specs.Standing.{Standing, Naming, Stands, DoubtsAs, IsOwn, IsOpenAs, IsUnderWay, write_at}
+use Rattle.tx_engine.specs.Standing.{Standing, Naming, Stands, DoubtsAs, IsOwn, IsOpenAs, IsUnderWay, write_at, text_with}
 use Rattle.tx_engine.proofs.OpenOnes.{under_way, can_take}
-use Rattle.tx_engine.proofs.InDoubt.{slot_text, text_as, partly_array, wholly_array}
+use Rattle.tx_engine.proofs.InDoubt.{slot_text, partly_array, wholly_array}
 use Rattle.tx_engine.proofs.Tools.{Settles, NotesWrites}
 
 -- a mark is the one of doubt where it counts as doubted
@@ -64,7 +64,7 @@ module _ (p : Protocol) (laws : Settles p) (notes : NotesWrites p) (s : FlashSta
     | inr (inr asked) ↦ (let both : complete bytes spare ≡ complete asked.0 (spelling n.config.protocol rec) = sym is ∙ asked.1 in cc)
   ]
 
-  pub text_there : text_at (written_in n.config.protocol s.image) (name_of rec) ≡ Some (record { discard = rec.discard; bytes = bytes })
+  pub text_there : text_at (written_in n.config.protocol s.image) (name_of rec) ≡ Some (text_with rec bytes)
   text_there = slot_text s n t (unsure.Own at rec) m at.0 bytes rec within m.place.2 (is ∙ spelled_there)
 
   module _ (entries : List Entry) (namings : List Naming) (each : AllZip (IsOpenAs s.image n) entries namings) (own : IsOwn s.image n entries namings at rec) where
@@ -84,7 +84,7 @@ module _ (p : Protocol) (laws : Settles p) (notes : NotesWrites p) (s : FlashSta
         doubt_is own.entry.mark (own.doubt ∙ eq-eqb _ _ last),
         array_there
             ∙ wholly_array p notes n noted_there rule at.0 rec own.next within m.place.1 s.image own.entry own.naming open_there.named under_there own.its own.written own.named last
-            (text_as _ rec bytes (write_at own.entry own.entry.done) text_there (m.place.2).discard (own.bytes bytes spare is))
+            (text_there ∙ ap Some (own.text bytes spare is))
             ∙ ap (λ ps. put ps own.entry.writes) (sym known),
       )
       | inr more ↦ inl (array_there

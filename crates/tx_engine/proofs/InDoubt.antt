@@ -1,10 +1,10 @@
 -- The record of an open transaction whose program was broken, and is there: the array takes the transaction where it is its
 -- last record, and else stays.
-use Rattle.std.proofs.Common.{◌≡◌, ◌≢◌, ℕ, ◌+◌, ◌<◌, ◌≤◌, Bool, true, false, List, length, get_or, All, Any, Option, Some, refl, sym, ap, ◌∙◌, subst, inl, inr, arith}
-use Rattle.std.specs.Prelude.{option_and_then}
+use Rattle.std.proofs.Common.{◌≡◌, ◌≢◌, ℕ, ◌+◌, ◌<◌, ◌≤◌, Bool, true, false, List, length, get_or, All, Any, Option, None, Some, refl, sym, ap, ◌∙◌, subst, inl, inr, arith}
+use Rattle.std.specs.Prelude.{is_none, option_and_then}
 use Rattle.std.proofs.lemmas.Bool.{cases_Bool, cases_lt, lt-ltb, le-ltb, both_ways}
 use Rattle.std.proofs.lemmas.List.Elements.{All-from_get_or, Contains-get_or}
-use Rattle.tx_types.specs.Batch.{PageWrite}
+use Rattle.tx_types.specs.Batch.{contents_of}
 use Rattle.tx_types.specs.Config.{shape_of, slots_of}
 use Rattle.tx_types.specs.declared.config.Protocol.{Protocol}
 use Rattle.tx_types.specs.declared.record.Link.{Link}
@@ -15,7 +15,7 @@ use Rattle.page_record.proofs.Spellings.{record_of-spelling}
 use Rattle.record_list.specs.Records.{is_present, name_of}
 use Rattle.record_list.specs.Changes.{PartialWriteKeeps, CompletingWriteKeeps}
 use Rattle.record_list.specs.Current.{cur}
-use Rattle.record_list.specs.Written.{PageText, text_at, value_at, value_of}
+use Rattle.record_list.specs.Written.{text_at, value_at, value_of}
 use Rattle.record_list.proofs.Arrays.{text_named}
 use Rattle.record_list.proofs.WrittenLists.{one_text}
 use Rattle.version_index.specs.declared.note.Note.TheVariants.{Blank}
@@ -29,26 +29,24 @@ use Rattle.collector.specs.Known.{page_known, array_known}
 use Rattle.collector.specs.Matches.{Matches}
 use Rattle.collector.proofs.KnownArrays.{same_known}
 use Rattle.tx_engine.specs.ArrayState.{Entry, put}
-use Rattle.tx_engine.specs.Standing.{Naming, IsNamed, IsUnderWay, name_at, write_at, text_in, no_name}
+use Rattle.tx_engine.specs.Standing.{Naming, IsNamed, IsUnderWay, name_at, write_at, text_in, text_with, no_name}
 use Rattle.tx_engine.proofs.Arrays.{put_by_names, as_many_names}
 use Rattle.tx_engine.proofs.Tools.{NotesWrites}
 
 -- the text that a complete slot has is that of its record
 pub slot_text : (s : FlashState) (n : Noted) (t : BlockTable) (u : Unsure) → Matches s n t u → (at : ℕ) (bytes : List ℕ) (rec : Rec) → at < slots_of (shape_of n.config) →
     CanBeSpelled n.config.protocol rec → slot_at s.image at ≡ complete bytes (spelling n.config.protocol rec) →
-    text_at (written_in n.config.protocol s.image) (name_of rec) ≡ Some (record { discard = rec.discard; bytes = bytes })
+    text_at (written_in n.config.protocol s.image) (name_of rec) ≡ Some (text_with rec bytes)
 slot_text s n t u m at bytes rec within spelled is =
     let inside : at < length s.image = omega (arith, m.flash.slots, ap slots_of m.shape) in
     text_named (written_in n.config.protocol s.image) (written at rec bytes)
     (one_text n.config.protocol (written_in n.config.protocol s.image) n.config.logical m.sound.written.records (records_scanned n.config.protocol s.image) m.sound.written.bytes)
     (read_slot n.config.protocol s.image at bytes (spelling n.config.protocol rec) rec inside is (record_of-spelling n.config.protocol rec spelled))
 
--- a record that discards nothing, with the bytes of a write, says what the write says
-pub text_as : (text : Option PageText) (rec : Rec) (bytes : List ℕ) (w : PageWrite) → text ≡ Some (record { discard = rec.discard; bytes = bytes }) →
-    rec.discard ≡ false → bytes ≡ w.bytes → text ≡ Some (text_in w)
-text_as text rec bytes w is flag same =
-    is ∙ ap (λ (d : Bool). Some (record { discard = d; bytes = bytes })) flag
-    ∙ ap (λ (b : List ℕ). Some (record { discard = false; bytes = b })) same
+-- the text of a write is of what it writes
+value_in : (size : ℕ) (value : Option (List ℕ)) → value_of (record { discard = is_none value; bytes = contents_of size value }) ≡ value
+value_in size None = refl
+value_in size (Some bytes) = refl
 
 -- a page that has its version still is known as before
 pub known_page : (n n' : Noted) (image : List Contents) (page : ℕ) → n'.config ≡ n.config → current_of n' page ≡ current_of n page → page_known n' image page ≡ page_known n image page
@@ -142,18 +140,19 @@ module _ (p : Protocol) (notes : NotesWrites p) (n : Noted) (is_noted : IsNoted 
   known_named a is = ap (λ v. value_at (written_in n.config.protocol image) (record { page = a.page; version = v })) is
 
   -- and the array takes its writes
-  pub wholly_array : e.done + 1 ≡ length e.writes → text_at (written_in n.config.protocol image) (name_of rec) ≡ Some (text_in (write_at e e.done)) →
+  pub wholly_array : e.done + 1 ≡ length e.writes → text_at (written_in n.config.protocol image) (name_of rec) ≡ Some (text_in n.config.page_bytes (write_at e e.done)) →
       array_known new image ≡ put (array_known n image) e.writes
   unfolding array_known
   wholly_array last come =
       put_by_names x.names e.writes (page_known n image) (page_known new image) n.config.logical named.pages
       (λ k inside.
-      known_named (name_at x k) (wholly_current last k no_name inside)
-      ∙ ap (option_and_then value_of) (elim (cases_lt k e.done) [
+      let text : text_at (written_in n.config.protocol image) (name_at x k) ≡ Some (text_in n.config.page_bytes (write_at e k)) = elim (cases_lt k e.done) [
         | inl less ↦ under.texts k (omega arith)
         | inr past ↦ (let here : k ≡ e.done = omega (arith, long) in
             ap (λ j. text_at (written_in n.config.protocol image) (name_at x j)) here
             ∙ ap (text_at (written_in n.config.protocol image)) (sym name)
-            ∙ come ∙ ap (λ j. Some (text_in (write_at e j))) (sym here))
-      ]))
+            ∙ come ∙ ap (λ j. Some (text_in n.config.page_bytes (write_at e j))) (sym here))
+      ] in
+      known_named (name_at x k) (wholly_current last k no_name inside)
+      ∙ ap (option_and_then value_of) text ∙ value_in n.config.page_bytes (write_at e k).value)
       (λ page inside others. known_page n new image page refl (wholly_elsewhere last page inside others))

@@ -129,7 +129,7 @@ module _ (s s' : FlashState) (n n' : Noted) (t t' : BlockTable) (u u' : Unsure) 
     texts = λ k h.
         let inside : k < length x.names = let short = w.short in omega arith in
         let there : IsThere n (name_at x k) = w.noted k inside ∙ lt-ltb k x.noted_count h in
-        subst (λ (c : Config). text_at (written_in c.protocol s'.image) (name_at x k) ≡ Some (text_in (write_at e k))) (sym keep.config)
+        subst (λ (c : Config). text_at (written_in c.protocol s'.image) (name_at x k) ≡ Some (text_in c.page_bytes (write_at e k))) (sym keep.config)
         (law.texts s s' n n' t t' u u' (name_at x k) m m' refl keep same (name_in (Contains (pinned_names n.pins)) x k pins inside) there ∙ w.texts k h);
   }
 

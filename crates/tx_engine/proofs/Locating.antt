@@ -1,6 +1,6 @@
 -- The slot from which the current record of a page is read has the bytes that are known of the page.
 use Rattle.std.proofs.Common.{◌≡◌, ◌⊎◌, ℕ, ◌<◌, ◌≤◌, Bool, true, false, ◌&&◌, eqb, eqb-true, List, [], ◌∷◌, find, Option, Some, None, IsNone, IfSome, IfNone, IsSomeAnd, ◌↔◌, refl, sym, ap, ◌∙◌, subst, inl, inr, arith, Contains}
-use Rattle.std.specs.Prelude.{option_and_then}
+use Rattle.std.specs.Prelude.{option_and_then, if◌then◌else◌}
 use Rattle.std.specs.Option.{option_map, option_or}
 use Rattle.std.proofs.lemmas.Bool.{false≢true, cases_Bool, cond-true, cond-false, and_parts, and_from, not_from_true}
 use Rattle.std.proofs.lemmas.Option.{none-some}
@@ -27,18 +27,18 @@ use Rattle.version_index.specs.declared.note.Note.{Note}
 use Rattle.version_index.specs.declared.note.Note.TheVariants.{Blank, Damaged, Holds}
 use Rattle.version_index.specs.Images.{written_in}
 use Rattle.version_index.specs.Notes.{note_at, rec_of, found_in}
-use Rattle.version_index.specs.Noted.{Noted, current_of, current_name_of, home_of, slot_off, HoldsName, pinned_names}
+use Rattle.version_index.specs.Noted.{Noted, current_of, current_name_of, IsBlank, discarded_of, home_of, place_of, slot_off, HoldsName, pinned_names}
 use Rattle.version_index.proofs.FoundIn.{found, noted_in}
 use Rattle.version_index.proofs.HomeFacts.{first_stands}
 use Rattle.version_index.proofs.ImageScans.{written, records_scanned, read_slot}
-use Rattle.version_index.proofs.NotedFacts.{noted_present}
+use Rattle.version_index.proofs.NotedFacts.{noted_discard, noted_present}
 use Rattle.die_alloc.specs.BlockTable.{BlockTable}
 use Rattle.collector.specs.declared.unsure.Unsure.{Unsure}
 use Rattle.collector.specs.declared.unsure.Unsure.TheVariants as unsure
 use Rattle.collector.specs.Known.{is_unsure, page_known}
 use Rattle.collector.specs.Matches.{Matches, CanSpare}
 use Rattle.collector.proofs.SpelledNotes.{noted_record}
-use Rattle.tx_engine.specs.Read.{ShowsKnown, read_place}
+use Rattle.tx_engine.specs.Read.{ShowsKnown, current_place, read_place}
 
 holds_it : (note : Note) (rec : Rec) → rec_of note ≡ Some rec → note ≡ Holds rec
 holds_it Blank rec e = absurd (none-some rec e)
@@ -78,9 +78,9 @@ module _ (s : FlashState) (n : Noted) (t : BlockTable) (u : Unsure) (m : Matches
   abbrev name : Link
   name = current_name_of n page
 
-  -- where its slot is noted as it reads
-  shows_known : (at : ℕ) → HoldsName n at name → is_unsure s.shape t.spare u at ≡ false → ShowsKnown s n page at
-  shows_known at holds sure = of_record (rec_of (note_at n.notes at)) refl holds.1
+  -- where its slot is noted as it reads, and does not discard it
+  shows_known : (at : ℕ) → HoldsName n at name → is_unsure s.shape t.spare u at ≡ false → discarded_of n page ≡ false → ShowsKnown s n page at
+  shows_known at holds sure held = of_record (rec_of (note_at n.notes at)) refl holds.1
     where
       within : at < slots_of s.shape
       within = (let w = holds.0 in omega (arith, w, ap slots_of m.shape))
@@ -92,9 +92,11 @@ module _ (s : FlashState) (n : Noted) (t : BlockTable) (u : Unsure) (m : Matches
           let list = written_in n.config.protocol s.image in
           let there = read_slot n.config.protocol s.image at has.bytes has.spare rec (omega (arith, within, m.flash.slots)) has.is has.spells in
           let one = one_text n.config.protocol list n.config.logical m.sound.written.records (records_scanned n.config.protocol s.image) m.sound.written.bytes in
+          let flag : rec.discard ≡ false = noted_discard n.config.protocol n m.noted page at rec (holds_it (note_at n.notes at) rec e) h ∙ held in
           record {
             within = within;
             shows = ap (value_at list) (sym h) ∙ ap (option_and_then value_of) (text_named list (written at rec has.bytes) one there)
+                ∙ ap (λ d. value_of (record { discard = d; bytes = has.bytes })) flag
                 ∙ ap (λ c. Some (page_of s.shape.page_bytes c)) (sym has.is);
           }
 
@@ -181,22 +183,29 @@ home_sure s n t (unsure.VictimErase block) m page at holds home other = absurd (
 -- what an answer is that names the home of a page
 pub located : (s : FlashState) (n : Noted) (t : BlockTable) (u : Unsure) (m : Matches s n t u) (page : ℕ) (r : Option Slot) →
     ((block : Block) → u ≡ unsure.VictimErase block → ⊥) → option_map (λ at. at.0) r ≡ home_of n (current_name_of n page) →
-    IsNone r ↔ (current_of n page ≡ 0) → IfSome r (λ at. HoldsName n at.0 (current_name_of n page)) →
+    discarded_of n page ≡ false → IsNone r ↔ IsBlank n page → IfSome r (λ at. HoldsName n at.0 (current_name_of n page)) →
     IfNone r (page_known n s.image page ≡ None) × IfSome r (λ at. ShowsKnown s n page at.0)
-located s n t u m page None other home none holds = (unknown s n t u m page (none.0 refl), tt)
-located s n t u m page (Some at) other home none holds =
-    (tt, shows_known s n t u m page at.0 holds (home_sure s n t u m page at.0 holds (sym home) other))
+located s n t u m page None other home held none holds = (
+  elim (none.0 refl) [
+    | inl missing ↦ unknown s n t u m page missing
+    | inr discards ↦ absurd (false≢true (sym held ∙ discards))
+  ],
+  tt,
+)
+located s n t u m page (Some at) other home held none holds =
+    (tt, shows_known s n t u m page at.0 holds (home_sure s n t u m page at.0 holds (sym home) other) held)
 
 -- and one that names a slot outside a block that is being erased
 pub located_off : (s : FlashState) (n : Noted) (t : BlockTable) (block : Block) (m : Matches s n t (unsure.VictimErase block)) (page : ℕ) (r : Option Slot) →
-    option_map (λ at. at.0) r ≡ slot_off n block.0 (current_name_of n page) → IfSome r (λ at. HoldsName n at.0 (current_name_of n page)) →
+    option_map (λ at. at.0) r ≡ slot_off n block.0 (current_name_of n page) → discarded_of n page ≡ false →
+    IfSome r (λ at. HoldsName n at.0 (current_name_of n page)) →
     IfNone r (page_known n s.image page ≡ None) × IfSome r (λ at. ShowsKnown s n page at.0)
-located_off s n t block m page None lowest holds =
+located_off s n t block m page None lowest held holds =
     (unknown s n t (unsure.VictimErase block) m page (off_there s n t (unsure.VictimErase block) m page block.0 m.victim (sym lowest)), tt)
-located_off s n t block m page (Some at) lowest holds = (
+located_off s n t block m page (Some at) lowest held holds = (
   tt,
   shows_known s n t (unsure.VictimErase block) m page at.0 holds
-      (not_from_true (is_outside s.shape block.0 at.0) (off_outside s n t (unsure.VictimErase block) m page block.0 at.0 (sym lowest))),
+      (not_from_true (is_outside s.shape block.0 at.0) (off_outside s n t (unsure.VictimErase block) m page block.0 at.0 (sym lowest))) held,
 )
 
 -- none of the other places is a block that is being erased
@@ -212,10 +221,27 @@ not_victim (unsure.VictimErase b) (inr (inl (at, rec, e))) block is = cc
 not_victim (unsure.VictimErase b) (inr (inr (inl (from, to, e)))) block is = cc
 not_victim (unsure.VictimErase b) (inr (inr (inr e))) block is = cc
 
--- where none of them is, a page is read from its home
-pub home_place : (n : Noted) (u : Unsure) (page : ℕ) → ((block : Block) → u ≡ unsure.VictimErase block → ⊥) → home_of n (current_name_of n page) ≡ read_place n u page
-home_place n unsure.Nothing page other = refl
-home_place n (unsure.Own at rec) page other = refl
-home_place n (unsure.Copy from to) page other = refl
-home_place n unsure.SpareErase page other = refl
-home_place n (unsure.VictimErase block) page other = absurd (other block refl)
+-- where none of them is, the current record is read from its home
+home_current : (n : Noted) (u : Unsure) (page : ℕ) → ((block : Block) → u ≡ unsure.VictimErase block → ⊥) → home_of n (current_name_of n page) ≡ current_place n u page
+home_current n unsure.Nothing page other = refl
+home_current n (unsure.Own at rec) page other = refl
+home_current n (unsure.Copy from to) page other = refl
+home_current n unsure.SpareErase page other = refl
+home_current n (unsure.VictimErase block) page other = absurd (other block refl)
+
+-- and so is a page that its record does not discard, as an answer says that names the home
+pub home_place : (n : Noted) (u : Unsure) (page : ℕ) (r : Option ℕ) → ((block : Block) → u ≡ unsure.VictimErase block → ⊥) →
+    r ≡ place_of n page → r ≡ read_place n u page
+home_place n u page r other is = is ∙ ap (λ home. if discarded_of n page then None else home) (home_current n u page other)
+
+-- while a block is being erased, from its lowest slot outside that block
+pub off_place : (n : Noted) (u : Unsure) (page : ℕ) (r : Option ℕ) → discarded_of n page ≡ false → r ≡ current_place n u page → r ≡ read_place n u page
+off_place n u page r held is = is ∙ sym (cond-false (discarded_of n page) None (current_place n u page) held)
+
+-- the home of a page that its record does not discard
+pub place_home : (n : Noted) (page : ℕ) (r : Option ℕ) → discarded_of n page ≡ false → r ≡ place_of n page → r ≡ home_of n (current_name_of n page)
+place_home n page r held is = is ∙ cond-false (discarded_of n page) None (home_of n (current_name_of n page)) held
+
+-- a page that its record discards is read nowhere
+pub nowhere : (n : Noted) (u : Unsure) (page : ℕ) → discarded_of n page ≡ true → None ≡ read_place n u page
+nowhere n u page discards = sym (cond-true (discarded_of n page) None (current_place n u page) discards)

@@ -53,7 +53,7 @@ pub record IsNextOf (p : Protocol) (n : Noted) (at : ℕ) (rec : Rec) (image : L
   pub its : next.names ≡ o.naming.names
   pub due : o.naming.noted_count ≡ o.entry.done
   pub name : name_of rec ≡ name_at o.naming o.entry.done
-  pub come : text_at (written_in n.config.protocol image) (name_of rec) ≡ Some (text_in (write_at o.entry o.entry.done))
+  pub come : text_at (written_in n.config.protocol image) (name_of rec) ≡ Some (text_in n.config.page_bytes (write_at o.entry o.entry.done))
   pub plain : o.entry.done + 1 ≢ length o.entry.writes → o.entry.mark ≡ Plain
 
 -- two lists share no page either way round

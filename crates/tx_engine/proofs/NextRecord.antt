@@ -180,7 +180,7 @@ module _ (s : FlashState) (n : Noted) (t : BlockTable) (o : OpenTable) (i : ℕ)
   }
 
   module _ (rec : Rec) (own : name_of rec ≡ name) (link : rec.next ≡ name_at x (if e.done + 1 == length e.writes then 0 else e.done + 1))
-      (back : rec.back ≡ back_version n.config.protocol (found_in n.notes) n.config.logical rec.page) where
+      (back : rec.back ≡ back_version n.config.protocol (found_in n.notes) n.config.logical rec.page) (counts : rec.count ≡ length e.writes) where
     abbrev pub next_record : block_to_go n rec.page rec.version ≡ None → IsNextRecord n rec
     next_record clear = record {
       names = x.names;
@@ -188,7 +188,8 @@ module _ (s : FlashState) (n : Noted) (t : BlockTable) (o : OpenTable) (i : ℕ)
       named = subst (Contains x.names) (sym own) due_has;
       fresh = ap (is_present (found_in n.notes)) own ∙ due_absent;
       asked = asked_at n.config.protocol (found_in n.notes) n.config.logical x.names e.done rec no_name due_named.transaction due_inside own
-          (link ∙ ap (λ len. name_at x (if e.done + 1 == len then 0 else e.done + 1)) (sym (as_many_names x.names e.writes due_named.pages)) ∙ sym (rounded_at x.names e.done no_name due_inside)) back;
+          (link ∙ ap (λ len. name_at x (if e.done + 1 == len then 0 else e.done + 1)) (sym (as_many_names x.names e.writes due_named.pages)) ∙ sym (rounded_at x.names e.done no_name due_inside)) back
+          (counts ∙ sym (as_many_names x.names e.writes due_named.pages));
       clear = nothing_goes n rec clear;
     }
 
@@ -200,8 +201,8 @@ module _ (s : FlashState) (n : Noted) (t : BlockTable) (o : OpenTable) (i : ℕ)
           (own_pinned s n t unsure.Nothing o k i within j d inside) here;
     }
 
-    pub next_can_be_spelled : (rec.count ≡ 0) × (rec.discard ≡ false) → block_to_go n rec.page rec.version ≡ None → CanBeSpelled n.config.protocol rec
-    next_can_be_spelled plain clear =
+    pub next_can_be_spelled : block_to_go n rec.page rec.version ≡ None → CanBeSpelled n.config.protocol rec
+    next_can_be_spelled clear =
         let next = next_record clear in
         let bounds = k.matches.noted.bounds in
         let most : (blocks_of (shape_of n.config) - 1) * n.config.pages_per_block ≤ blocks_of (shape_of n.config) * n.config.pages_per_block = mul-le-mul_right n.config.pages_per_block (omega arith) in
@@ -217,8 +218,8 @@ module _ (s : FlashState) (n : Noted) (t : BlockTable) (o : OpenTable) (i : ℕ)
           next_version_least = spelled.next_version;
           next_version_most = (range rec.next link_has).2;
           back = is_back n n.config.protocol rec refl back (current_below n k.matches.noted x.names (name_of rec) due_under.in_progress next.named next.fresh);
-          count = plain.0;
-          discard = plain.1;
+          count = omega (arith, counts, as_many_names x.names e.writes due_named.pages, due_named.transaction.few);
+          discard = λ none. absurd (let inside = due_named.within in omega (arith, counts));
         }
 
 -- the current version is the back version under Back Pointer Cyclic Commit

@@ -11,7 +11,7 @@ use Rattle.tx_types.specs.declared.record.Link.{Link}
 use Rattle.tx_types.specs.declared.record.Rec.{Rec}
 use Rattle.flash_model.specs.Flash.{Contents}
 use Rattle.record_list.specs.Records.{is_present, name_of, version_of, linked_at}
-use Rattle.record_list.specs.Transaction.{InProgress, ShareNoPage, next_names, back_version}
+use Rattle.record_list.specs.Transaction.{InProgress, ShareNoPage, next_names, IsAskedAt}
 use Rattle.record_list.specs.Written.{text_at}
 use Rattle.record_list.proofs.Rounds.{follows_of, follows_in}
 use Rattle.version_index.specs.declared.note.Note.TheVariants.{Blank}
@@ -41,7 +41,7 @@ pub next_named : (n : Noted) (rec : Rec) (next : IsNextRecord n rec) → Contain
 next_named n rec next =
     let i = next.named in
     let follows = follows_of next.names (name_of rec) i in
-    let asked = All-contains (λ (name, after). name_of rec ≡ name → (rec.next ≡ after) × (rec.back ≡ back_version n.config.protocol (found_in n.notes) n.config.logical name.page))
+    let asked = All-contains (IsAskedAt n.config.protocol (found_in n.notes) n.config.logical next.names rec)
     (zip next.names (next_names next.names)) (name_of rec, follows.0) next.asked follows.1 refl in
     (i, subst (Contains next.names) (sym asked.0) (follows_in next.names (name_of rec) follows.0 follows.1).1)
 
@@ -136,7 +136,7 @@ module _ (p : Protocol) (notes : NotesWrites p) (n : Noted) (is_noted : IsNoted 
     other_opening w = record { named = w.named; marked = other_marked f.mark w.named w.marked }
 
   -- The transaction itself, where more records come
-  pub more_under : text_at (written_in n.config.protocol image) (name_of rec) ≡ Some (text_in (write_at e e.done)) → e.done + 1 ≢ length e.writes →
+  pub more_under : text_at (written_in n.config.protocol image) (name_of rec) ≡ Some (text_in n.config.page_bytes (write_at e e.done)) → e.done + 1 ≢ length e.writes →
       IsUnderWay image then e (record x { noted_count = x.noted_count + 1 })
   more_under come more =
       let as_many = long p notes n is_noted rule at rec next within was image e x named under its there name in
@@ -157,7 +157,7 @@ module _ (p : Protocol) (notes : NotesWrites p) (n : Noted) (is_noted : IsNoted 
           | inr past ↦ (let here : k ≡ e.done = omega (arith, there) in
               ap (λ j. text_at (written_in n.config.protocol image) (name_at x j)) here
               ∙ ap (text_at (written_in n.config.protocol image)) (sym name)
-              ∙ come ∙ ap (λ j. Some (text_in (write_at e j))) (sym here))
+              ∙ come ∙ ap (λ j. Some (text_in n.config.page_bytes (write_at e j))) (sym here))
         ];
       }
 
@@ -166,7 +166,7 @@ pub next_opening : (p : Protocol) (notes : NotesWrites p) (n : Noted) (is_noted 
     (next : IsNextRecord n rec) (within : at < slots_of (shape_of n.config)) (was : note_at n.notes at ≡ Blank)
     (image : List Contents) (o : Opening) (named : IsNamed n.config.page_bytes n.config.logical o.entry o.naming) (under : IsUnderWay image n o.entry o.naming)
     (its : next.names ≡ o.naming.names) (there : o.naming.noted_count ≡ o.entry.done) (name : name_of rec ≡ name_at o.naming o.entry.done) →
-    text_at (written_in n.config.protocol image) (name_of rec) ≡ Some (text_in (write_at o.entry o.entry.done)) →
+    text_at (written_in n.config.protocol image) (name_of rec) ≡ Some (text_in n.config.page_bytes (write_at o.entry o.entry.done)) →
     (o.entry.done + 1 ≢ length o.entry.writes → o.entry.mark ≡ Plain) →
     IsOpening image (programmed n at rec) (with_next o)
 next_opening p notes n is_noted rule at rec next within was image o named under its there name come plain =

@@ -1,12 +1,13 @@
 -- The open transactions as callers see them: the one at an index, another one in its place, and how many pages they have.
-use Rattle.std.proofs.Common.{◌≡◌, ℕ, ◌<◌, ◌≤◌, Bool, List, [], ◌∷◌, length, map, ◌||◌, ◌==◌, refl, sym, subst, ap, ◌∙◌, arith}
-use Rattle.std.specs.Prelude.{slice_index_or, position, sum_by, All}
+use Rattle.std.proofs.Common.{◌≡◌, ℕ, ◌<◌, ◌≤◌, Bool, true, false, List, [], ◌∷◌, length, map, ◌||◌, ◌==◌, refl, sym, subst, ap, ◌∙◌, arith}
+use Rattle.std.specs.Prelude.{is_none, slice_index_or, position, sum_by, All}
 use Rattle.std.specs.List.{position_or_len, list_any}
 use Rattle.std.proofs.lemmas.List.{get_or-map, length-map}
 use Rattle.std.proofs.lemmas.List.Sums.{sum_by-cons, sum_by_more_le}
 use Rattle.std.proofs.lemmas.List.Elements.{All-nil, All-cons, All-head, All-tail, All-map}
 use Rattle.std.proofs.lemmas.Simd.{map-map}
-use Rattle.tx_types.specs.Batch.{PageWrite, no_write}
+use Rattle.tx_types.specs.Batch.{PageWrite, bytes_in, no_write}
+use Rattle.tx_types.specs.Entries.{value_if}
 use Rattle.tx_engine.specs.ArrayState.{pending_pages, has_tag}
 use Rattle.tx_engine.specs.Standing.{name_at, write_at, no_name}
 use Rattle.tx_engine.specs.OpenTable.{Opening, IsOpenTable, no_opening}
@@ -37,13 +38,24 @@ name_read os k place x p lt is within at =
     ∙ sym (get_or-map (λ (q : PendingPage). q.name) x.pages.items place p no_name within)
     ∙ ap (λ (o : Opening). name_at o.naming place) (sym (opening_read os k x lt is))
 
-pub bytes_read : (os : List OpenTransaction) (k place : ℕ) (x : OpenTransaction) (p : PendingPage) → k < length os → x ≡ slice_index_or os k x →
+-- what it writes
+write_read : (os : List OpenTransaction) (k place : ℕ) (x : OpenTransaction) (p : PendingPage) → k < length os → x ≡ slice_index_or os k x →
     place < length x.pages.items → p ≡ slice_index_or x.pages.items place p →
-    p.bytes.items ≡ (write_at (slice_index_or (map opening_of os) k no_opening).entry place).bytes
-bytes_read os k place x p lt is within at =
-    ap (λ (q : PendingPage). q.bytes.items) at
-    ∙ ap (λ (w : PageWrite). w.bytes) (sym (get_or-map write_held x.pages.items place p no_write within))
-    ∙ ap (λ (o : Opening). (write_at o.entry place).bytes) (sym (opening_read os k x lt is))
+    write_held p ≡ write_at (slice_index_or (map opening_of os) k no_opening).entry place
+write_read os k place x p lt is within at =
+    ap write_held at
+    ∙ sym (get_or-map write_held x.pages.items place p no_write within)
+    ∙ ap (λ (o : Opening). write_at o.entry place) (sym (opening_read os k x lt is))
+
+none_if : (discard : Bool) (bytes : List ℕ) → is_none (value_if discard bytes) ≡ discard
+none_if true bytes = refl
+none_if false bytes = refl
+
+pub discard_read : (os : List OpenTransaction) (k place : ℕ) (x : OpenTransaction) (p : PendingPage) → k < length os → x ≡ slice_index_or os k x →
+    place < length x.pages.items → p ≡ slice_index_or x.pages.items place p →
+    p.discard ≡ is_none (write_at (slice_index_or (map opening_of os) k no_opening).entry place).value
+discard_read os k place x p lt is within at =
+    sym (none_if p.discard p.bytes.items) ∙ ap (λ (w : PageWrite). is_none w.value) (write_read os k place x p lt is within at)
 
 -- its pages are among those of all
 pub pages_within : (os : List OpenTransaction) (k : ℕ) (x : OpenTransaction) → k < length os → x ≡ slice_index_or os k x →
@@ -92,11 +104,13 @@ all_named (o ∷ os) =
     (map-map (λ name. name.page) (λ p. p.name) o.pages.items ∙ sym (map-map (λ w. w.page) write_held o.pages.items)) (all_named os)
 
 all_whole : (size logical pending : ℕ) (os : List OpenTransaction) → All (IsTransactionKept size logical pending) os →
-    All (λ o. All (λ w. length w.bytes ≡ size) o.entry.writes) (map opening_of os)
+    All (λ o. All (λ w. length (bytes_in size w) ≡ size) o.entry.writes) (map opening_of os)
 all_whole size logical pending [] each = All-nil _
 all_whole size logical pending (o ∷ os) each =
-    All-cons (λ (o : Opening). All (λ w. length w.bytes ≡ size) o.entry.writes) (opening_of o) _
-    (All-map (λ (w : PageWrite). length w.bytes ≡ size) write_held o.pages.items (All-head (IsTransactionKept size logical pending) o os each).whole)
+    All-cons (λ (o : Opening). All (λ w. length (bytes_in size w) ≡ size) o.entry.writes) (opening_of o) _
+    (All-map (λ (w : PageWrite). length (bytes_in size w) ≡ size) write_held o.pages.items (λ k d within.
+    let whole = (All-head (IsTransactionKept size logical pending) o os each).whole k d within in
+    ap length (sym whole.bytes) ∙ whole.long))
     (all_whole size logical pending os (All-tail (IsTransactionKept size logical pending) o os each))
 
 -- what is kept is as callers see it
@@ -108,7 +122,14 @@ kept_is_table t kept = record {
 }
 
 pub page_whole : (t : Inside) (k place : ℕ) (x : OpenTransaction) (p : PendingPage) → IsKept t → k < length t.all.items → x ≡ slice_index_or t.all.items k x →
-    place < length x.pages.items → p ≡ slice_index_or x.pages.items place p → length p.bytes.items ≡ t.page_bytes
+    place < length x.pages.items → p ≡ slice_index_or x.pages.items place p → IsWhole t.page_bytes p
 page_whole t k place x p kept lt is within at =
     let its = subst (IsTransactionKept t.page_bytes (length t.owners.items) t.pending) (sym is) (kept.each k x lt) in
     subst (IsWhole t.page_bytes) (sym at) (its.whole place p within)
+
+-- its bytes are those that it writes
+pub bytes_read : (t : Inside) (k place : ℕ) (x : OpenTransaction) (p : PendingPage) → IsKept t → k < length t.all.items → x ≡ slice_index_or t.all.items k x →
+    place < length x.pages.items → p ≡ slice_index_or x.pages.items place p →
+    p.bytes.items ≡ bytes_in t.page_bytes (write_at (slice_index_or (map opening_of t.all.items) k no_opening).entry place)
+bytes_read t k place x p kept lt is within at =
+    (page_whole t k place x p kept lt is within at).bytes ∙ ap (bytes_in t.page_bytes) (write_read t.all.items k place x p lt is within at)

@@ -1,10 +1,11 @@
 -- The pages of a batch that are taken in, and pages that are taken away, as far as the loops have come.
-use Rattle.std.proofs.Common.{◌≡◌, ℕ, ◌+◌, ◌<◌, ◌≤◌, List, [], ◌∷◌, ◌++◌, length, map, take, Some, refl, sym, ap, ◌∙◌, append_assoc, arith}
-use Rattle.std.specs.Prelude.{All, Vec, vec_capacity}
+use Rattle.std.proofs.Common.{◌≡◌, ℕ, ◌+◌, ◌<◌, ◌≤◌, List, [], ◌∷◌, ◌++◌, length, map, take, Bool, Option, None, Some, refl, sym, ap, ◌∙◌, append_assoc, arith}
+use Rattle.std.specs.Prelude.{All, Vec, is_none, vec_capacity}
 use Rattle.std.specs.declared.alloc.Global.{Global}
 use Rattle.std.proofs.lemmas.List.{length-append, take_more, map_push, map_more}
 use Rattle.std.proofs.lemmas.List.Elements.{All-push, All-pop}
-use Rattle.tx_types.specs.Batch.{Writes, entry_at, no_write}
+use Rattle.tx_types.specs.Batch.{Writes, entry_at, no_write, bytes_in, contents_of}
+use Rattle.tx_types.specs.Entries.{value_if}
 use Rattle.version_index.specs.Noted.{Noted}
 use Rattle.tx_engine.specs.OpenTable.{next_name}
 use Rattle.tx_engine.specs.PendingPages.{write_held, FreesPages, IsWhole, HasRoom}
@@ -16,12 +17,18 @@ pub record HoldsFirst (n : Noted) (old new : Vec PendingPage Global) (rooms room
   pub behind : new.items ≡ old.items ++ held
   pub writes : map write_held held ≡ take count batch.entries
   pub names : map (λ p. p.name) held ≡ map (next_name n) (take count batch.entries)
-  pub whole : All (λ p. length p.bytes.items ≡ batch.page_bytes) held
+  pub whole : All (IsWhole batch.page_bytes) held
   pub fewer : length rooms'.items + length held ≡ length rooms.items
   pub many : length held ≡ count
   pub capacity : vec_capacity old ≤ vec_capacity new
   pub rooms_capacity : vec_capacity rooms' ≡ vec_capacity rooms
   pub sizes : All (λ r. length r.items ≡ batch.page_bytes) rooms'.items
+
+-- the contents of a slot tell the value of which they are, with the flag
+pub value_held : (size : ℕ) (value : Option (List ℕ)) (discard : Bool) (bytes : List ℕ) → discard ≡ is_none value → bytes ≡ contents_of size value →
+    value_if discard bytes ≡ value
+value_held size None discard bytes flag is = ap (λ d. value_if d bytes) flag
+value_held size (Some its) discard bytes flag is = ap (λ d. value_if d bytes) flag ∙ ap Some is
 
 -- one more page of the batch is taken in
 pub holds_more : (n : Noted) (old pages pages' : Vec PendingPage Global) (rooms rooms' rooms'' : Vec (Vec ℕ Global) Global)
@@ -29,22 +36,24 @@ pub holds_more : (n : Noted) (old pages pages' : Vec PendingPage Global) (rooms 
     HoldsFirst n old pages rooms rooms' batch count held → count < length batch.entries →
     rooms'.items ≡ rooms''.items ++ room ∷ [] → vec_capacity rooms'' ≡ vec_capacity rooms' →
     pages'.items ≡ pages.items ++ p ∷ [] → vec_capacity pages ≤ vec_capacity pages' →
-    p.name ≡ next_name n (entry_at batch count) → p.bytes.items ≡ (entry_at batch count).bytes →
-    length p.bytes.items ≡ batch.page_bytes →
+    p.name ≡ next_name n (entry_at batch count) → p.discard ≡ is_none (entry_at batch count).value →
+    p.bytes.items ≡ bytes_in batch.page_bytes (entry_at batch count) → length p.bytes.items ≡ batch.page_bytes →
     HoldsFirst n old pages' rooms rooms'' batch (count + 1) (held ++ p ∷ [])
-holds_more n old pages pages' rooms rooms' rooms'' batch count held room p h lt popped kept pushed wide name bytes whole =
+holds_more n old pages pages' rooms rooms' rooms'' batch count held room p h lt popped kept pushed wide name discard bytes whole =
     let push = length-append held (p ∷ []) in
     let pop = length-append rooms''.items (room ∷ []) in
     let less = ap length popped in
     let page = ap (λ x. x.page) name in
-    let written : write_held p ≡ entry_at batch count = rw (page, bytes) refl in
+    let value = value_held batch.page_bytes (entry_at batch count).value p.discard p.bytes.items discard bytes in
+    let written : write_held p ≡ entry_at batch count = rw (page, value) refl in
     record {
       behind = pushed ∙ ap (λ ps. ps ++ p ∷ []) h.behind ∙ append_assoc old.items held (p ∷ []);
       writes = map_push write_held held p
           ∙ rw (h.writes, written) (sym (take_more batch.entries count no_write lt));
       names = map_push (λ p. p.name) held p
           ∙ rw (h.names, name) (sym (map_more (next_name n) batch.entries count no_write lt));
-      whole = All-push (λ (p : PendingPage). length p.bytes.items ≡ batch.page_bytes) held p h.whole whole;
+      whole = All-push (IsWhole batch.page_bytes) held p h.whole
+          (record { long = whole; bytes = bytes ∙ ap (bytes_in batch.page_bytes) (sym written) });
       fewer = omega (arith, h.fewer);
       many = omega (arith, h.many);
       capacity = omega (arith, h.capacity);
@@ -83,7 +92,7 @@ frees_more old pages pages' rooms rooms' rooms'' count p f popped kept pushed wi
       sizes = λ size whole old_whole.
           let so = f.sizes size whole old_whole in
           let last = All-pop (IsWhole size) pages.items pages'.items (Some p) popped so.0 in
-          (last.0, rw pushed (All-push (HasRoom size) rooms'.items p.bytes so.1 last.1));
+          (last.0, rw pushed (All-push (HasRoom size) rooms'.items p.bytes so.1 last.1.long));
     }
 
 pub frees_all : (old new : Vec PendingPage Global) (rooms rooms' : Vec (Vec ℕ Global) Global) → FreesFirst old new rooms rooms' (length old.items) →

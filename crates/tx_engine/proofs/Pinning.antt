@@ -107,6 +107,7 @@ module _ (n : Noted) (page version : ℕ) where
     flash = m.flash;
     sound = m.sound;
     noted = pinned_noted m.noted;
+    counts = m.counts;
     table = m.table;
     blocks = m.blocks;
     spare = m.spare;

@@ -216,6 +216,7 @@ module _ (s : FlashState) (n : Noted) (t : BlockTable) (m : Matches s n t unsure
     flash = subst (λ sh. IsImage sh s'.image) (sym shape) whole;
     sound = subst (λ sh. IsSoundImage p n.config.logical sh s'.image) (sym shape) l.sound;
     noted = m.noted;
+    counts = m.counts;
     table = m.table;
     blocks = m.blocks ∙ sym shape;
     spare = m.spare;

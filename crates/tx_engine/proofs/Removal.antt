@@ -105,6 +105,7 @@ matches_pins s n t pins m long fewer = record {
     sound = m.noted.sound;
     mentioned = m.noted.mentioned;
   };
+  counts = m.counts;
   table = m.table;
   blocks = m.blocks;
   spare = m.spare;

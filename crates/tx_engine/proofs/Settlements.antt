@@ -36,7 +36,6 @@ use Rattle.tx_engine.specs.OpenTable.{OpenTable, Opening, no_opening, opening_at
 use Rattle.tx_engine.specs.Settling.{with_next, is_writing}
 use Rattle.tx_engine.proofs.Arrays.{as_many_names}
 use Rattle.tx_engine.proofs.DevicesStand.{settles_there, text_there, spare_other, doubt_is}
-use Rattle.tx_engine.proofs.InDoubt.{text_as}
 use Rattle.tx_engine.proofs.OpenOnes.{under_way, take_unsure}
 use Rattle.tx_engine.proofs.Kept.{IsKept, IsOpening, IsCalm, HasSameParts, kept_with, each_stays}
 use Rattle.tx_engine.proofs.SettledLists.{CalmBeside, calm_all, calm_at, calm_entry, entries_in, any_moved, settled_at, settled_calm, doubted_at, moved_calm, moved_none, moved_one, not_moved, are_moved}
@@ -160,9 +159,9 @@ module _ (s : FlashState) (n : Noted) (t : BlockTable) (o : OpenTable) (settles 
           its = own.its ∙ ap (λ (x : Naming). x.names) (sym naming.1);
           due = ap (λ (x : Naming). x.noted_count) naming.1 ∙ own.written ∙ ap (λ (e : Entry). e.done) (sym entry.1);
           name = name;
-          come = text_as _ rec bytes (write_at own.entry own.entry.done)
-              (text_there n.config.protocol settles notes s n t at rec k.matches refl take bytes spare is) (k.matches.place.2).discard (own.bytes bytes spare is)
-              ∙ ap (λ (e : Entry). Some (text_in (write_at e e.done))) (sym entry.1);
+          come = text_there n.config.protocol settles notes s n t at rec k.matches refl take bytes spare is
+              ∙ ap Some (own.text bytes spare is)
+              ∙ ap (λ (e : Entry). Some (text_in n.config.page_bytes (write_at e e.done))) (sym entry.1);
           plain = λ more. plain_is its.entry.mark not_whole (doubt ∙ ne_eqb (its.entry.done + 1) (length its.entry.writes) more);
         };
         calm = λ j inside other. own.others j (opening_at o j).entry other (slice_get_at (λ (x : Opening). x.entry) o.all j no_opening inside);

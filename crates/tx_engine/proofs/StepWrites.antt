@@ -1,6 +1,7 @@
 -- What a step did with its next page, by the tables that are known once the device is settled.
-use Rattle.std.proofs.Common.{◌≡◌, ℕ, ◌<◌, Bool, List, length, sym, ap, ◌∙◌, subst}
+use Rattle.std.proofs.Common.{◌≡◌, ℕ, ◌<◌, Bool, length, sym, ap, ◌∙◌, subst}
 use Rattle.std.specs.Prelude.{slice_index_or}
+use Rattle.tx_types.specs.declared.config.Config.{Config}
 use Rattle.tx_types.specs.declared.record.Link.{Link}
 use Rattle.flash_model.specs.Flash.{FlashState}
 use Rattle.flash_model.specs.Operations.{moment_of}
@@ -11,12 +12,12 @@ use Rattle.collector.specs.Settling.{Settlement, slots_read}
 use Rattle.tx_engine.specs.ArrayState.{Entry}
 use Rattle.tx_engine.specs.Costs.{StepCosts}
 use Rattle.tx_engine.specs.OpenTable.{OpenTable, opening_at}
-use Rattle.tx_engine.specs.Settling.{AddsOnly, HasTables, link_place, settlement_of, with_settlement}
-use Rattle.tx_engine.specs.Standing.{Standing, Naming, name_at, no_name, write_at}
+use Rattle.tx_engine.specs.Settling.{AddsOnly, HasTables, settlement_of, with_settlement}
+use Rattle.tx_engine.specs.Standing.{Standing, Naming, name_at, no_name}
 use Rattle.tx_engine.specs.Step.{settled_entry}
 use Rattle.tx_engine.specs.Stored.{Stored}
 use Rattle.tx_engine.specs.Tables.{standing_in}
-use Rattle.tx_engine.specs.Writing.{BringsPage, WritesRecord}
+use Rattle.tx_engine.specs.Writing.{BringsPage, WritesRecord, due_record}
 use Rattle.tx_engine.specs.Breaking.{WritingBreaks}
 use Rattle.tx_engine.proofs.Breaking.{breaks_from}
 use Rattle.tx_engine.proofs.CostFacts.{costs_from}
@@ -60,11 +61,10 @@ module _ {F : Type 0} (state : F → FlashState) (S T : Stored F) (O P : OpenTab
   name_is : name_at y f.done ≡ name_at x e.done
   name_is = same_names f.done ∙ ap (λ (a : Entry). name_at x a.done) entry
 
-  link_is : name_at y (link_place f) ≡ name_at x (link_place e)
-  link_is = same_names (link_place f) ∙ ap (λ (a : Entry). name_at x (link_place a)) entry
-
-  bytes_is : (write_at f f.done).bytes ≡ (write_at e e.done).bytes
-  bytes_is = ap (λ (a : Entry). (write_at a a.done).bytes) entry
+  due_is : (size : ℕ) → due_record size f y ≡ due_record size e x
+  due_is size =
+      ap (λ ns. due_record size f (record y { names = ns })) (names_at O P i names within)
+      ∙ ap (λ (a : Entry). due_record size a x) entry
 
   -- it is there once the device settled
   here_then : IsThere found.noted (name_at x e.done) → IsThere T.noted (name_at y f.done)
@@ -82,23 +82,21 @@ module _ {F : Type 0} (state : F → FlashState) (S T : Stored F) (O P : OpenTab
   pub found_then : (U : Stored F) → (IsThere T.noted (name_at y f.done) → KeepsButPins T U) → IsThere found.noted (name_at x e.done) → moment_of (state U.flash) ≡ moment_of (state S.flash)
   found_then U stays here = ap (λ (s : Stored F). moment_of (state s.flash)) (stays (here_then here)) ∙ moment
 
-  pub brings_then : (U : Stored F) (Q : OpenTable) → (state T.flash).shape ≡ (state S.flash).shape → (IsThere T.noted (name_at y f.done) → KeepsButPins T U) →
+  pub brings_then : (U : Stored F) (Q : OpenTable) → T.noted.config ≡ S.noted.config → (state T.flash).shape ≡ (state S.flash).shape → (IsThere T.noted (name_at y f.done) → KeepsButPins T U) →
       (state T.flash).reads ≡ reads_after (slots_read S.noted S.unsure) (state S.flash).reads →
       ((IsThere T.noted (name_at y f.done) → ⊥) →
-      WritesRecord state (standing_in state T P) (standing_in state U Q) (name_at y f.done) (name_at y (link_place f)) (write_at f f.done).bytes) →
+      WritesRecord state (standing_in state T P) (standing_in state U Q) (due_record T.noted.config.page_bytes f y)) →
       BringsPage state (standing_in state S O) (standing_in state U Q) e x
-  brings_then U Q shape stays reads writes = record {
+  brings_then U Q config shape stays reads writes = record {
     there = λ here. record {
       tables = has_tables state found T U Q is_noted is_table (stays (here_then here));
       reads = ap (λ (s : Stored F). (state s.flash).reads) (stays (here_then here)) ∙ reads;
     };
     absent = λ none.
         let w = writes (λ here. none (here_before here)) in
-        writes_from state (with_settlement state (standing_in state S O)) (standing_in state T P) (standing_in state U Q) (name_at x e.done) (name_at x (link_place e)) (write_at e e.done).bytes
-        moment shape is_noted is_table
-        (subst (λ (a : Link). WritesRecord state (standing_in state T P) (standing_in state U Q) a (name_at x (link_place e)) (write_at e e.done).bytes) name_is
-        (subst (λ (a : Link). WritesRecord state (standing_in state T P) (standing_in state U Q) (name_at y f.done) a (write_at e e.done).bytes) link_is
-        (subst (λ (b : List ℕ). WritesRecord state (standing_in state T P) (standing_in state U Q) (name_at y f.done) (name_at y (link_place f)) b) bytes_is w)));
+        let due = due_is T.noted.config.page_bytes ∙ ap (λ (k : Config). due_record k.page_bytes e x) config in
+        writes_from state (with_settlement state (standing_in state S O)) (standing_in state T P) (standing_in state U Q) (due_record S.noted.config.page_bytes e x)
+        moment shape is_noted is_table (subst (WritesRecord state (standing_in state T P) (standing_in state U Q)) due w);
   }
 
   pub breaks_then : (U : Stored F) (Q : OpenTable) → (state T.flash).shape ≡ (state S.flash).shape →

@@ -12,7 +12,7 @@ use Rattle.list_facts.proofs.Membership.{all_from, in_map, map_in}
 use Rattle.list_facts.proofs.Quantifiers.{any_before, any_push_cases}
 use Rattle.list_facts.proofs.Lists.{got_before, got_push}
 use Rattle.list_facts.proofs.Pairs.{pairs_cons, pairs_head, pairs_tail, zip_weaker, zip_push, zip_at}
-use Rattle.tx_types.specs.Batch.{PageWrite}
+use Rattle.tx_types.specs.Batch.{PageWrite, bytes_in}
 use Rattle.tx_types.specs.declared.config.Protocol.{Protocol}
 use Rattle.tx_types.specs.declared.record.Link.{Link}
 use Rattle.tx_types.specs.declared.record.Rec.{Rec}
@@ -89,7 +89,7 @@ doubt_push image n pins entries namings e x plain (unsure.Own at rec) own = reco
   next = next_aside n pins rec own.next;
   its = own.its;
   named = own.named;
-  bytes = own.bytes;
+  text = own.text;
   doubt = own.doubt;
   others = λ k f other got. elim (got_push entries e k f got) [
     | inl before ↦ own.others k f other before
@@ -122,7 +122,7 @@ write_of_name names ws pages a i =
 
 module _ {F : Type 0} (state : F → FlashState) (p : Protocol) (s : Stored F) (t : OpenTable) (stands : Stands state (standing_in state s t)) (rule : s.noted.config.protocol ≡ p)
     (tag : ℕ) (ws : List PageWrite) (ok : IsAccepted (limits_of s.noted.config) (entries_of t) tag ws)
-    (unspent : All (λ w. mention_of s.noted w.page < 2 ^ 62) ws) (whole : All (λ w. length w.bytes ≡ s.noted.config.page_bytes) ws) where
+    (unspent : All (λ w. mention_of s.noted w.page < 2 ^ 62) ws) (whole : All (λ w. length (bytes_in s.noted.config.page_bytes w) ≡ s.noted.config.page_bytes) ws) where
   abbrev pub n : Noted
   n = s.noted
 
@@ -153,6 +153,7 @@ module _ {F : Type 0} (state : F → FlashState) (p : Protocol) (s : Stored F) (
         let within = All-contains (λ v. v.page < n.config.logical) ws of_write.0 ok.in_range of_write.1 in
         let less = All-contains (λ v. mention_of n v.page < 2 ^ 62) ws of_write.0 unspent of_write.1 in
         subst (λ (b : Link). (b.page < n.config.logical) × (1 ≤ b.version) × (b.version ≤ 2 ^ 62)) of_write.2 (within, omega arith, omega arith));
+    few = let most = stands.matches.noted.bounds.pending_most in omega (arith, length-map ws (next_name n), ok.room);
   }
 
   all_below : All (λ a. mention (found_in n.notes) a.page < a.version) names
@@ -259,10 +260,10 @@ module _ {F : Type 0} (state : F → FlashState) (p : Protocol) (s : Stored F) (
     }
 
 -- the writes of the last transaction of a table are whole
-whole_last : (t t' : OpenTable) (o : Opening) → t' ≡ record t { all = t.all ++ o ∷ [] } → IsOpenTable t' → All (λ w. length w.bytes ≡ t.page_bytes) o.entry.writes
+whole_last : (t t' : OpenTable) (o : Opening) → t' ≡ record t { all = t.all ++ o ∷ [] } → IsOpenTable t' → All (λ w. length (bytes_in t.page_bytes w) ≡ t.page_bytes) o.entry.writes
 whole_last t t' o same kept =
     let is : IsOpenTable (record t { all = t.all ++ o ∷ [] }) = subst IsOpenTable same kept in
-    All-contains (λ (x : Opening). All (λ w. length w.bytes ≡ t.page_bytes) x.entry.writes) (t.all ++ o ∷ []) o is.whole (Contains-push t.all o)
+    All-contains (λ (x : Opening). All (λ w. length (bytes_in t.page_bytes w) ≡ t.page_bytes) x.entry.writes) (t.all ++ o ∷ []) o is.whole (Contains-push t.all o)
 
 -- The device after a batch that is not refused was opened, with the calls that do it.
 module _ {F R : Type 0} (state : F → FlashState) (p : Protocol) (d : Inside F R) (h : IsStanding state p d) (tag : ℕ) (ws : List PageWrite)
@@ -279,8 +280,8 @@ module _ {F R : Type 0} (state : F → FlashState) (p : Protocol) (d : Inside F 
 
   pub standing_then : IsStanding {F = F} {R = R} state p (record { store = store; openings = openings })
   standing_then =
-      let whole : All (λ w. length w.bytes ≡ d.store.noted.config.page_bytes) ws =
-      subst (λ size. All (λ (w : PageWrite). length w.bytes ≡ size) ws) h.page_bytes (whole_last d.openings openings (begun d.store.noted tag ws) opens kept) in
+      let whole : All (λ w. length (bytes_in d.store.noted.config.page_bytes w) ≡ d.store.noted.config.page_bytes) ws =
+      subst (λ size. All (λ (w : PageWrite). length (bytes_in size w) ≡ size) ws) h.page_bytes (whole_last d.openings openings (begun d.store.noted tag ws) opens kept) in
       let is : IsStanding {F = F} {R = R} state p (record { store = new_store; openings = new_table }) = record {
         stands = stands_then state p d.store d.openings h.stands h.rule tag ws ok unspent whole (subst (IsStored state p) pins stored);
         rule = h.rule;

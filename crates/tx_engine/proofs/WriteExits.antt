@@ -1,12 +1,12 @@
 -- The program of the next record of an open transaction: what it leaves of a device, done or broken.
 use Rattle.std.proofs.Common.{◌≡◌, ◌≢◌, ℕ, ◌+◌, ◌<◌, true, false, List, [], length, Some, refl, sym, ap, ap₂, ◌∙◌, subst, inl, inr, arith, eq-eqb, ne_eqb}
-use Rattle.std.specs.Prelude.{slice_set, slice_index, if◌then◌else◌}
+use Rattle.std.specs.Prelude.{is_none, slice_set, slice_index, if◌then◌else◌}
 use Rattle.std.proofs.lemmas.Bool.{cases_eq, cond-true, cond-false}
 use Rattle.std.proofs.lemmas.List.{length-set, get_or-set_same, get_or-set_other}
 use Rattle.std.proofs.lemmas.List.Elements.{All-from_get_or, All-nil}
 use Rattle.std.proofs.Math.Seq.{map-set_same}
 use Rattle.list_facts.proofs.Lists.{slice_get_map, slice_get_at}
-use Rattle.tx_types.specs.Batch.{PageWrite}
+use Rattle.tx_types.specs.Batch.{PageWrite, bytes_in}
 use Rattle.tx_types.specs.Config.{slots_of}
 use Rattle.tx_types.specs.declared.config.Protocol.{Protocol}
 use Rattle.tx_types.specs.declared.config.Slot.{Slot}
@@ -27,19 +27,23 @@ use Rattle.collector.proofs.Keeping.{preserves_same}
 use Rattle.tx_engine.specs.ArrayState.{Entry, Pages, is_doubted, page_at, put}
 use Rattle.array_machine.specs.declared.mark.Mark.TheVariants.{Plain, Doubt, Whole}
 use Rattle.tx_engine.specs.Exits.{Exits, VersionsRise}
-use Rattle.tx_engine.specs.Standing.{Standing, Stands, name_at, write_at}
+use Rattle.tx_engine.specs.Standing.{Standing, Stands, name_at, text_in, text_with, write_at}
 use Rattle.tx_engine.specs.OpenTable.{OpenTable, Opening, no_opening, opening_at, namings_of, with_opening, with_mark}
 use Rattle.tx_engine.specs.Settling.{with_next, is_at_last, next_writes, WritesNext, WriteFails}
 use Rattle.tx_engine.specs.Stored.{Stored, IsStored, WritesStored, WriteBreaks}
 use Rattle.tx_engine.specs.Tables.{standing_in}
 use Rattle.tx_engine.proofs.ExitsThen.{NamedBefore, before_itself}
 use Rattle.tx_engine.proofs.ImageMoves.{KeepsNoted, image_array, image_under, image_opening}
-use Rattle.tx_engine.proofs.InDoubt.{text_as}
 use Rattle.tx_engine.proofs.Kept.{IsKept, IsOpening, HasSameParts, from_stands, to_stands, kept_with}
 use Rattle.tx_engine.proofs.NextNoted.{IsNextOf, next_kept, next_parts, names_before, next_array, last_array, next_stays, next_versions, writes_rise, writes_stay, next_mentions}
 use Rattle.tx_engine.proofs.NextRecord.{due_named, due_under}
 use Rattle.tx_engine.proofs.SettledLists.{CalmBeside, calm_at}
 use Rattle.tx_engine.proofs.Tools.{Settles, NotesWrites}
+
+-- a record with the flag of what is written next says of the page what is written
+pub due_text : (size : ℕ) (e : Entry) (rec : Rec) → rec.discard ≡ is_none (write_at e e.done).value →
+    text_with rec (bytes_in size (write_at e e.done)) ≡ text_in size (write_at e e.done)
+due_text size e rec flag = ap (λ d. record { discard = d; bytes = bytes_in size (write_at e e.done) }) flag
 
 module _ {F : Type 0} (state : F → FlashState) (S S' : Stored F) (O : OpenTable) (i : ℕ) (at : Slot) (rec : Rec) (bytes : List ℕ)
     (h : Stands state (standing_in state S O)) (sure : S.unsure ≡ unsure.Nothing) (within : i < length O.all)
@@ -47,7 +51,7 @@ module _ {F : Type 0} (state : F → FlashState) (S S' : Stored F) (O : OpenTabl
     (settles : Settles S.noted.config.protocol) (notes : NotesWrites S.noted.config.protocol)
     (next : IsNextRecord S.noted rec) (its : next.names ≡ (opening_at O i).naming.names)
     (own : name_of rec ≡ name_at (opening_at O i).naming (opening_at O i).entry.done) (free : IsFirstFree S.table at.0)
-    (is_bytes : bytes ≡ (write_at (opening_at O i).entry (opening_at O i).entry.done).bytes) (no_discard : rec.discard ≡ false) (p : Protocol) (stored : IsStored state p S') where
+    (is_text : text_with rec bytes ≡ text_in S.noted.config.page_bytes (write_at (opening_at O i).entry (opening_at O i).entry.done)) (p : Protocol) (stored : IsStored state p S') where
   abbrev old : FlashState
   old = state S.flash
 
@@ -88,7 +92,7 @@ module _ {F : Type 0} (state : F → FlashState) (S S' : Stored F) (O : OpenTabl
       its = its;
       due = due;
       name = own;
-      come = text_as _ rec bytes (write_at o.entry o.entry.done) w.come no_discard is_bytes;
+      come = w.come ∙ ap Some is_text;
       plain = λ more. plain;
     }
 
@@ -174,8 +178,8 @@ module _ {F : Type 0} (state : F → FlashState) (S S' : Stored F) (O : OpenTabl
     broken_is : S' ≡ stored_broken
     broken_is = ap₂ (λ (m : Noted) (u : Unsure). record S' { noted = m; unsure = u }) w.noted w.unsure
 
-    own_bytes : (b spare : List ℕ) → slot_at new.image at.0 ≡ complete b spare → b ≡ (write_at o.entry o.entry.done).bytes
-    own_bytes b spare is = w.slot b spare is ∙ is_bytes
+    own_text : (b spare : List ℕ) → slot_at new.image at.0 ≡ complete b spare → text_with rec b ≡ text_in n.config.page_bytes (write_at o.entry o.entry.done)
+    own_text b spare is = ap (text_with rec) (w.slot b spare is) ∙ is_text
 
     more_kept : o.entry.done + 1 ≢ length o.entry.writes → IsKept new n S'.table (unsure.Own at rec) O
     more_kept more = record {
@@ -192,7 +196,7 @@ module _ {F : Type 0} (state : F → FlashState) (S S' : Stored F) (O : OpenTabl
         next = next;
         its = its;
         named = own;
-        bytes = own_bytes;
+        text = own_text;
         doubt = ap is_doubted plain ∙ sym (ne_eqb (o.entry.done + 1) (length o.entry.writes) more);
         others = λ j e other is.
             let got = slice_get_map (λ (x : Opening). x.entry) O.all j no_opening e is in
@@ -233,7 +237,7 @@ module _ {F : Type 0} (state : F → FlashState) (S S' : Stored F) (O : OpenTabl
           next = next;
           its = its;
           named = own;
-          bytes = own_bytes;
+          text = own_text;
           doubt = sym (eq-eqb (o.entry.done + 1) (length o.entry.writes) last);
           others = λ j e other is.
               let got = slice_get_map (λ (x : Opening). x.entry) (slice_set O.all i doubted) j no_opening e is in

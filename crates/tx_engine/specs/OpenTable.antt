@@ -1,6 +1,6 @@
 -- What is kept of the open transactions, in the order of their opening.
 use Rattle.std.specs.Prelude.{◌≡◌, ℕ, ◌+◌, ◌≤◌, List, [], length, map, slice_index_or, slice_set, All}
-use Rattle.tx_types.specs.Batch.{PageWrite}
+use Rattle.tx_types.specs.Batch.{PageWrite, bytes_in}
 use Rattle.tx_types.specs.declared.record.Link.{Link}
 use Rattle.version_index.specs.Noted.{Noted, mention_of}
 use Rattle.tx_engine.specs.ArrayState.{Entry, opening, pending_pages}
@@ -43,7 +43,8 @@ namings_of t = map (λ o. o.naming) t.all
 pub record IsOpenTable (t : OpenTable) : Type 0 where
   pub named : All
       (λ o. map (λ name. name.page) o.naming.names ≡ map (λ w. w.page) o.entry.writes) t.all
-  pub whole : All (λ o. All (λ w. length w.bytes ≡ t.page_bytes) o.entry.writes) t.all
+  pub whole : All
+      (λ o. All (λ w. length (bytes_in t.page_bytes w) ≡ t.page_bytes) o.entry.writes) t.all
   pub few : pending_pages (entries_of t) ≤ t.pending
 
 -- the name that a transaction which is opened now writes for a page: one version above its mention

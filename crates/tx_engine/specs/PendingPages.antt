@@ -1,7 +1,8 @@
 -- The pages of an open transaction, and the room for those that may be pending beside them.
 use Rattle.std.specs.Prelude.{◌≡◌, ℕ, ◌+◌, ◌≤◌, List, ◌++◌, [], ◌∷◌, length, map, slice_set, slice_index_or, option_map, Option, None, vec_capacity, All, Vec}
 use Rattle.std.specs.declared.alloc.Global.{Global}
-use Rattle.tx_types.specs.Batch.{PageWrite, Writes}
+use Rattle.tx_types.specs.Batch.{PageWrite, Writes, bytes_in}
+use Rattle.tx_types.specs.Entries.{value_if}
 use Rattle.version_index.specs.Noted.{Noted}
 use Rattle.tx_engine.specs.OpenTable.{Opening, next_name}
 use Rattle.tx_engine.specs.Submit.{first_refusal}
@@ -11,7 +12,7 @@ use Rattle.tx_engine.specs.declared.pending.OpenTransaction.{OpenTransaction}
 use Rattle.tx_engine.specs.declared.pending.PendingPage.{PendingPage}
 
 abbrev pub write_held : PendingPage → PageWrite
-write_held p = record { page = p.name.page; bytes = p.bytes.items }
+write_held p = record { page = p.name.page; value = value_if p.discard p.bytes.items }
 
 -- how many pages a transaction has
 abbrev pub pages_of : OpenTransaction → ℕ
@@ -34,9 +35,10 @@ abbrev pub owned_page : List (Option ℕ) → List PageWrite → Option SubmitEr
 owned_page owners = first_refusal
     (λ w. option_map (λ tag. refused.Overlap w.page tag) (slice_index_or owners w.page None))
 
--- a page with so many bytes
-abbrev pub IsWhole : ℕ → PendingPage → Type 0
-IsWhole size p = length p.bytes.items ≡ size
+-- a page has so many bytes, zeros where it is discarded
+pub record IsWhole (page_bytes : ℕ) (p : PendingPage) : Type 0 where
+  pub long : length p.bytes.items ≡ page_bytes
+  pub bytes : p.bytes.items ≡ bytes_in page_bytes (write_held p)
 
 -- room for so many bytes
 abbrev pub HasRoom : ℕ → Vec ℕ Global → Type 0

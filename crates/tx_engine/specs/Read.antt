@@ -1,9 +1,9 @@
 -- Reading a page of the array from a flash.
-use Rattle.std.specs.Prelude.{◌≡◌, ℕ, ◌<◌, Bool, true, false, List, Option, None, Some, Result, Ok, Err, IsSome}
+use Rattle.std.specs.Prelude.{◌≡◌, ℕ, ◌<◌, ◌==◌, ◌&&◌, not, Bool, true, false, List, Option, None, Some, Result, Ok, Err, IsSome, if◌then◌else◌}
 use Rattle.tx_types.specs.Config.{slots_of}
 use Rattle.flash_model.specs.Calls.{Reads, page_of}
 use Rattle.flash_model.specs.Flash.{FlashState, slot_at}
-use Rattle.version_index.specs.Noted.{Noted, current_name_of, home_of, slot_off}
+use Rattle.version_index.specs.Noted.{Noted, current_of, current_name_of, discarded_of, home_of, slot_off}
 use Rattle.flash_model.specs.declared.flash.Broken.{Broken}
 use Rattle.flash_model.specs.declared.flash.Seen.{Seen}
 use Rattle.collector.specs.declared.unsure.Unsure.{Unsure}
@@ -16,14 +16,22 @@ use Rattle.array_machine.specs.declared.answers.ReadAnswer.TheVariants as answer
 use Rattle.array_machine.specs.declared.answers.ReadError.{ReadError}
 use Rattle.array_machine.specs.declared.answers.ReadError.TheVariants as failed
 
--- the slot from which a page is read, if it has a current record: the home of that, and, while it is not known whether a
--- collected block was erased, its lowest slot outside that block
+-- the slot of the current record of a page from which it is read: its home, and, while it is not known whether a collected
+-- block was erased, its lowest slot outside that block
+abbrev pub current_place : Noted → Unsure → ℕ → Option ℕ
+current_place n unsure.Nothing page = home_of n (current_name_of n page)
+current_place n (unsure.Own at rec) page = home_of n (current_name_of n page)
+current_place n (unsure.Copy from to) page = home_of n (current_name_of n page)
+current_place n unsure.SpareErase page = home_of n (current_name_of n page)
+current_place n (unsure.VictimErase block) page = slot_off n block.0 (current_name_of n page)
+
+-- the slot from which a page is read: that of its current record, if it has one which does not discard it
 abbrev pub read_place : Noted → Unsure → ℕ → Option ℕ
-read_place n unsure.Nothing page = home_of n (current_name_of n page)
-read_place n (unsure.Own at rec) page = home_of n (current_name_of n page)
-read_place n (unsure.Copy from to) page = home_of n (current_name_of n page)
-read_place n unsure.SpareErase page = home_of n (current_name_of n page)
-read_place n (unsure.VictimErase block) page = slot_off n block.0 (current_name_of n page)
+read_place n u page = if discarded_of n page then None else current_place n u page
+
+-- whether a page is not blank: it has a current record, which does not discard it
+abbrev pub is_written : Noted → ℕ → Bool
+is_written n page = not (current_of n page == 0) && not (discarded_of n page)
 
 -- What a read of a page does to a flash and to the bytes of its room: nothing where the page is blank or there is
 -- no such page, and else one read of the slot in this place.

@@ -1,7 +1,7 @@
 -- A device as its callers see it, and when it stands for an array.
-use Rattle.std.specs.Prelude.{◌≡◌, ◌≢◌, ◌↔◌, ℕ, ◌+◌, ◌<◌, ◌≤◌, ◌==◌, nat_lt, false, List, length, map, slice_index_or, slice_get, All, Any, AllPairs, Contains, Some}
+use Rattle.std.specs.Prelude.{◌≡◌, ◌≢◌, ◌↔◌, ℕ, ◌+◌, ◌<◌, ◌≤◌, ◌==◌, nat_lt, false, is_none, List, length, map, slice_index_or, slice_get, All, Any, AllPairs, Contains, Some}
 use Rattle.std.specs.List.{AllZip}
-use Rattle.tx_types.specs.Batch.{PageWrite, no_write}
+use Rattle.tx_types.specs.Batch.{PageWrite, no_write, bytes_in}
 use Rattle.tx_types.specs.declared.config.Config.{Config}
 use Rattle.tx_types.specs.declared.config.Slot.{Slot}
 use Rattle.tx_types.specs.declared.record.Link.{Link}
@@ -54,15 +54,20 @@ name_at x k = slice_index_or x.names k no_name
 abbrev pub write_at : Entry → ℕ → PageWrite
 write_at e k = slice_index_or e.writes k no_write
 
--- what the record of a write says of its page
-abbrev pub text_in : PageWrite → PageText
-text_in w = record { discard = false; bytes = w.bytes }
+-- what the record of a write says of its page, which has so many bytes
+abbrev pub text_in : ℕ → PageWrite → PageText
+text_in page_bytes w =
+    record { discard = is_none w.value; bytes = bytes_in page_bytes w }
+
+-- what a record says of its page with these bytes
+abbrev pub text_with : Rec → List ℕ → PageText
+text_with rec bytes = record { discard = rec.discard; bytes = bytes }
 
 -- a transaction has a name for each page that it writes, and a page still to write
 pub record IsNamed (page_bytes logical : ℕ) (e : Entry) (x : Naming) : Type 0 where
   pub pages : map (λ name. name.page) x.names ≡ map (λ w. w.page) e.writes
   pub within : e.done < length e.writes
-  pub whole : All (λ w. length w.bytes ≡ page_bytes) e.writes
+  pub whole : All (λ w. length (bytes_in page_bytes w) ≡ page_bytes) e.writes
   pub transaction : IsTransaction logical x.names
 
 -- Of a transaction that is not whole: it is in progress; its first names are noted, as many as were written or one more, and
@@ -75,7 +80,8 @@ pub record IsUnderWay (image : List Contents) (n : Noted) (e : Entry) (x : Namin
   pub noted : (k : ℕ) → k < length x.names →
       is_present (found_in n.notes) (name_at x k) ≡ nat_lt k x.noted_count
   pub texts : (k : ℕ) → k < x.noted_count →
-      text_at (written_in n.config.protocol image) (name_at x k) ≡ Some (text_in (write_at e k))
+      text_at (written_in n.config.protocol image) (name_at x k)
+      ≡ Some (text_in n.config.page_bytes (write_at e k))
 
 -- what is so of a transaction with this mark: one in doubt was writing its last page, and the names of a whole one are current
 abbrev pub IsAsMarked : List Contents → Noted → Entry → Naming → Mark → Type 0
@@ -88,7 +94,7 @@ pub record IsOpenAs (image : List Contents) (n : Noted) (e : Entry) (x : Naming)
   pub marked : IsAsMarked image n e x e.mark
 
 -- The record whose program was broken is the next one of an open transaction, which is in doubt exactly where it is its
--- last. Where the slot is complete it has the bytes of the page.
+-- last. Where the slot is complete it says of the page what the transaction does.
 pub record IsOwn (image : List Contents) (n : Noted) (entries : List Entry) (namings : List Naming)
     (at : Slot) (rec : Rec) : Type 0 where
   pub place : ℕ
@@ -101,8 +107,8 @@ pub record IsOwn (image : List Contents) (n : Noted) (entries : List Entry) (nam
   pub next : IsNextRecord n rec
   pub its : next.names ≡ naming.names
   pub named : name_of rec ≡ name_at naming entry.done
-  pub bytes : (bytes spare : List ℕ) → slot_at image at.0 ≡ complete bytes spare →
-      bytes ≡ (write_at entry entry.done).bytes
+  pub text : (bytes spare : List ℕ) → slot_at image at.0 ≡ complete bytes spare →
+      text_with rec bytes ≡ text_in n.config.page_bytes (write_at entry entry.done)
   pub doubt : is_doubted entry.mark ≡ (entry.done + 1 == length entry.writes)
   pub others : (k : ℕ) (e : Entry) → k ≢ place → slice_get entries k ≡ Some e →
       is_doubted e.mark ≡ false

@@ -1,5 +1,5 @@
 -- What a step writes next, what it did with it, and in which slot.
-use Rattle.std.specs.Prelude.{false, ◌≡◌, ◌⊎◌, ℕ, List, [], ◌∷◌, None, Option, Some, find, Result, Ok, Err, IfSome}
+use Rattle.std.specs.Prelude.{false, ◌≡◌, ◌⊎◌, ℕ, List, [], ◌∷◌, length, None, Option, Some, find, Result, Ok, Err, IfSome}
 use Rattle.std.specs.List.{zip}
 use Rattle.std.specs.Option.{option_map}
 use Rattle.tx_types.specs.declared.config.Slot.{Slot}
@@ -11,6 +11,7 @@ use Rattle.flash_model.specs.Operations.{Moment, moment_of, program}
 use Rattle.page_record.specs.Spelling.{spelling}
 use Rattle.record_list.specs.Records.{name_of}
 use Rattle.record_list.specs.Transaction.{back_version}
+use Rattle.record_list.specs.Written.{PageText}
 use Rattle.version_index.specs.Notes.{found_in}
 use Rattle.version_index.specs.Noted.{Noted, block_to_go, programmed}
 use Rattle.die_alloc.specs.BlockTable.{BlockTable, IsFull, with_slot}
@@ -22,7 +23,7 @@ use Rattle.collector.specs.Preserves.{IsThere, Preserves}
 use Rattle.collector.specs.Settling.{slots_read}
 use Rattle.tx_engine.specs.ArrayState.{Entry, has_tag}
 use Rattle.tx_engine.specs.Settling.{AddsOnly, HasTables, StaysUnread, link_place, settlement_of, with_settlement}
-use Rattle.tx_engine.specs.Standing.{Standing, Naming, name_at, write_at}
+use Rattle.tx_engine.specs.Standing.{Standing, Naming, name_at, text_in, write_at}
 use Rattle.array_machine.specs.declared.answers.Progress.{Progress}
 use Rattle.array_machine.specs.declared.answers.StepError.{StepError}
 
@@ -47,38 +48,56 @@ pub record FindsSlot (n : Noted) (t : BlockTable) (n' : Noted) (t' : BlockTable)
   pub direct : (IsFull t → ⊥) → (next_slot t ≡ Some at) × (n' ≡ n) × (t' ≡ after_next_slot t)
   pub collects : IsFull t → CollectsForRoom n t n' t' at
 
+-- what the record of the next page of a transaction is to say: its name, its link, how many pages the transaction has, and of
+-- the page
+pub record DueRecord : Type 0 where
+  pub name : Link
+  pub link : Link
+  pub count : ℕ
+  pub text : PageText
+
+abbrev pub due_record : ℕ → Entry → Naming → DueRecord
+due_record page_bytes e x = record {
+  name = name_at x e.done;
+  link = name_at x (link_place e);
+  count = length e.writes;
+  text = text_in page_bytes (write_at e e.done);
+}
+
 -- A settled device wrote a record. First the records went that had to, block after block, the lowest first: where none had to,
--- nothing was done. Then a slot was found. There the record of this name was programmed, with this link and the bytes of its page,
--- and it is noted there. That program came last. Where nothing had to go and a block had room, it is all that was done to the
+-- nothing was done. Then a slot was found. There the record was programmed that is asked for, with the bytes of its page, and it
+-- is noted there. That program came last. Where nothing had to go and a block had room, it is all that was done to the
 -- flash.
 pub record WritesRecord {F : Type 0} (state : F → FlashState) (known new : Standing F)
-    (name link : Link) (bytes : List ℕ) : Type 0 where
+    (asked : DueRecord) : Type 0 where
   pub cleared : Noted
   pub cleared_table : BlockTable
   pub kept : Preserves known.noted cleared
-  pub turns : TreatsAll name.page name.version known.noted known.table cleared cleared_table
-  pub idle : blocks_to_go known.noted name.page name.version ≡ 0 →
+  pub turns : TreatsAll asked.name.page asked.name.version known.noted known.table cleared cleared_table
+  pub idle : blocks_to_go known.noted asked.name.page asked.name.version ≡ 0 →
       (cleared ≡ known.noted) × (cleared_table ≡ known.table)
-  pub clear : block_to_go cleared name.page name.version ≡ None
+  pub clear : block_to_go cleared asked.name.page asked.name.version ≡ None
   pub open_noted : Noted
   pub open_table : BlockTable
   pub at : Slot
   pub slot : FindsSlot cleared cleared_table open_noted open_table at
   pub rec : Rec
-  pub named : name_of rec ≡ name
-  pub linked : rec.next ≡ link
+  pub named : name_of rec ≡ asked.name
+  pub linked : rec.next ≡ asked.link
+  pub counted : rec.count ≡ asked.count
+  pub flag : rec.discard ≡ asked.text.discard
   pub back : rec.back
       ≡ back_version open_noted.config.protocol
-      (found_in open_noted.notes) open_noted.config.logical name.page
+      (found_in open_noted.notes) open_noted.config.logical asked.name.page
   pub before : Moment
   pub moves : Moves (state known.flash).shape (moment_of (state known.flash)) false before
-  pub direct : blocks_to_go known.noted name.page name.version ≡ 0 → (IsFull known.table → ⊥) →
+  pub direct : blocks_to_go known.noted asked.name.page asked.name.version ≡ 0 → (IsFull known.table → ⊥) →
       before ≡ moment_of (state known.flash)
   pub does : Does (state known.flash).shape before
-      (program at.0 bytes (spelling open_noted.config.protocol rec) ∷ [])
+      (program at.0 asked.text.bytes (spelling open_noted.config.protocol rec) ∷ [])
       (moment_of (state new.flash))
   pub image : slot_at (state new.flash).image at.0
-      ≡ complete bytes (spelling open_noted.config.protocol rec)
+      ≡ complete asked.text.bytes (spelling open_noted.config.protocol rec)
   pub noted : new.noted ≡ record (programmed open_noted at.0 rec) { pins = new.noted.pins }
   pub table : new.table ≡ with_slot open_table at.0
 
@@ -88,9 +107,7 @@ pub record BringsPage {F : Type 0} (state : F → FlashState) (old new : Standin
   pub there : IsThere (settlement_of state old).noted (name_at x e.done) →
       WritesNothing state old new
   pub absent : (IsThere (settlement_of state old).noted (name_at x e.done) → ⊥) →
-      WritesRecord state (with_settlement state old) new (name_at x e.done)
-      (name_at x (link_place e))
-      (write_at e e.done).bytes
+      WritesRecord state (with_settlement state old) new (due_record old.config.page_bytes e x)
 
 -- Which records a step notes: that of its next page at most. Where it failed the place could not be read, or what was known
 -- then is kept, and no record is new.

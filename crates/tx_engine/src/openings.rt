@@ -1,4 +1,5 @@
-ghost use Rattle.std.specs.Prelude.{◌≡◌, ◌≢◌, ◌+◌, ◌<◌, ◌≤◌, ◌∷◌, ◌++◌, [], length, remove, position, All, AllPairs, IfOk};
+ghost use Rattle.std.specs.Prelude.{◌≡◌, ◌≢◌, ◌+◌, ◌<◌, ◌≤◌, ◌∷◌, ◌++◌, [], length, remove, position, All, AllPairs, is_none, IfOk};
+ghost use Rattle.tx_types.specs.Batch.{bytes_in};
 ghost use Rattle.tx_types.specs.Config.{IsConfig};
 ghost use Rattle.tx_types.specs.Limits.{max_version};
 ghost use Rattle.record_list.specs.Transaction.{ShareNoPage};
@@ -186,11 +187,21 @@ impl Openings {
         self.all[at].pages[place as usize].name
     }
 
-    /// The bytes that it writes there.
+    /// Whether it discards the page there.
+    pub fn discards(&self, at: usize, place: u32) -> bool
+        requires at { at < length self.now.all }
+        requires place { place < length (opening_at self.now at).entry.writes }
+        ensures { result ≡ is_none (write_at (opening_at self.now at).entry place).value }
+    {
+        self.all[at].pages[place as usize].discard
+    }
+
+    /// The bytes that it writes there: zeros where it discards the page.
     pub fn bytes(&self, at: usize, place: u32) -> &[u8]
         requires at { at < length self.now.all }
         requires place { place < length (opening_at self.now at).entry.writes }
-        ensures bytes { result.now ≡ (write_at (opening_at self.now at).entry place).bytes }
+        ensures bytes { result.now
+            ≡ bytes_in self.now.page_bytes (write_at (opening_at self.now at).entry place) }
         ensures whole { length result.now ≡ self.now.page_bytes }
     {
         &self.all[at].pages[place as usize].bytes

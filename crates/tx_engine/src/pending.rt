@@ -24,11 +24,13 @@ pub struct OpenTransaction {
     pub pages: Vec<PendingPage>,
 }
 
-/// A page that an open transaction writes.
+/// A page that an open transaction writes or discards.
 #[derive(Debug, Drop)]
 pub struct PendingPage {
     /// The page, and the version at which it is written.
     pub name: Link,
+    pub discard: bool,
+    /// Zeros where it is discarded.
     pub bytes: Vec<u8>,
 }
 
@@ -114,10 +116,12 @@ pub fn hold_pages<R: CommitRule>(
         let mut bytes = rooms.pop().unwrap();
         fill(&mut bytes, batch.bytes(i));
         let page = batch.page(i);
+        let discard = batch.discards(i);
         let version = index.mention(page) + 1;
         pages
             .push(PendingPage {
                 name: Link { page, version },
+                discard,
                 bytes,
             })
             .unwrap();
@@ -130,7 +134,7 @@ pub fn free_pages(pages: &mut Vec<PendingPage>, rooms: &mut Vec<Vec<u8>>)
     ensures { FreesPages pages.old pages.new rooms.old rooms.new }
 {
     for _ in 0..pages.len() {
-        let PendingPage { name: _, bytes } = pages.pop().unwrap();
+        let PendingPage { bytes, .. } = pages.pop().unwrap();
         rooms.push(bytes).unwrap();
     }
 }

@@ -8,11 +8,11 @@ ghost use Rattle.tx_engine.specs.Step.{StepsAs};
 ghost use Rattle.tx_engine.specs.Exits.{Exits, StepRises, is_there, is_step_fault};
 ghost use Rattle.tx_engine.specs.Costs.{CostsStep, StepCosts};
 ghost use Rattle.tx_engine.specs.OpenTable.{HasLimitsOf, opening_at};
-ghost use Rattle.tx_engine.specs.Settling.{Advances, AdvanceRises, Counts, CountsOn, is_due, link_place};
+ghost use Rattle.tx_engine.specs.Settling.{Advances, AdvanceRises, Counts, CountsOn, is_due};
 ghost use Rattle.tx_engine.specs.Settling.{AddsOnly, settlement_of};
-ghost use Rattle.tx_engine.specs.Standing.{Stands, name_at, write_at};
+ghost use Rattle.tx_engine.specs.Standing.{Stands, name_at};
 ghost use Rattle.tx_engine.specs.Tables.{standing_in};
-ghost use Rattle.tx_engine.specs.Writing.{BringsPage, StepNotes, WritesRecord, next_of, open_of};
+ghost use Rattle.tx_engine.specs.Writing.{BringsPage, StepNotes, WritesRecord, due_record, next_of, open_of};
 ghost use Rattle.tx_engine.specs.Breaking.{StepBreaks, WritingBreaks};
 ghost use Rattle.collector.specs.declared.unsure.Unsure.TheVariants as unsure;
 
@@ -97,8 +97,8 @@ fn advance<F: Flash, R: CommitRule>(
     ensures writes { let its = opening_at openings.old at in OnOk result (
         (IsThere store.old.noted (name_at its.naming its.entry.done) → ⊥) →
         WritesRecord F.state (standing_in F.state store.old openings.old)
-        (standing_in F.state store.new openings.new) (name_at its.naming its.entry.done)
-        (name_at its.naming (link_place its.entry)) (write_at its.entry its.entry.done).bytes) }
+        (standing_in F.state store.new openings.new)
+        (due_record store.old.noted.config.page_bytes its.entry its.naming)) }
     ensures fresh { let its = opening_at openings.old at in OnOk result (
         AddsOnly (name_at its.naming its.entry.done) store.old.noted store.new.noted) }
     ensures kept { OnErr result (Preserves store.old.noted store.new.noted) }

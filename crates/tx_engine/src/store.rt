@@ -30,7 +30,7 @@ ghost use Rattle.tx_engine.specs.Read.{ReadsKnown, ShowsKnown, read_place};
 ghost use Rattle.tx_engine.specs.Stored.{IsStored, KeepsStored, WritesStored, WriteBreaks};
 
 use crate::{Collected, MountError};
-use collector::{Settled, Unsure, clean_spare, victim};
+use collector::{BlockRoom, Settled, Unsure, clean_spare, laws, victim};
 use die_alloc::Blocks;
 use flash_model::{Broken, Flash};
 use page_record::write_spare;
@@ -51,6 +51,8 @@ pub struct Store<F: Flash, R: CommitRule> {
     pub(crate) unsure: Unsure,
     /// Room for one page.
     pub(crate) room: Vec<u8>,
+    /// Room for the blocks that are cleared.
+    pub(crate) going: BlockRoom,
 }
 
 impl<F: Flash, R: CommitRule> Model for Store<F, R> {
@@ -78,6 +80,9 @@ impl<F: Flash, R: CommitRule> Store<F, R> {
         let Ok(room) = page_room(alloc, flash.shape()) else {
             return Err((flash, MountError::Memory));
         };
+        let Ok(going) = BlockRoom::new(alloc) else {
+            return Err((flash, MountError::Memory));
+        };
         match recover(alloc, &mut flash, config) {
             Ok((index, blocks)) => Ok(Store {
                 alloc,
@@ -86,6 +91,7 @@ impl<F: Flash, R: CommitRule> Store<F, R> {
                 blocks,
                 unsure: Unsure::Nothing,
                 room,
+                going,
             }),
             Err(RecoverError::Fault) => Err((flash, MountError::Fault)),
             Err(RecoverError::Unsound { law, slot }) => {
@@ -169,8 +175,8 @@ impl<F: Flash, R: CommitRule> Store<F, R> {
         Ok(list)
     }
 
-    /// Reads the current record of a page into room for a page of bytes: whether it has one. A page
-    /// without one is answered without the flash. While the erase of a collected block is unsure, a
+    /// Reads a page that is not blank into room for a page of bytes: whether it is not. A blank one is
+    /// answered without the flash. While the erase of a collected block is unsure, a
     /// page whose record stands there is read from its copy.
     pub fn read(&mut self, page: u32, into: &mut [u8]) -> Result<bool, Broken>
         requires page { page < self.old.noted.config.logical }
@@ -186,8 +192,8 @@ impl<F: Flash, R: CommitRule> Store<F, R> {
         Ok(true)
     }
 
-    /// The slot from which the current record of a page is read, if the page has one. While the
-    /// erase of a collected block is unsure it lies outside that block.
+    /// The slot from which a page is read, if it is not blank. While the erase of a collected block
+    /// is unsure it lies outside that block.
     fn place_of(&self, page: u32) -> Option<Slot>
         requires { page < self.now.noted.config.logical }
         ensures none { let image = (F.state self.now.flash).image in
@@ -197,6 +203,10 @@ impl<F: Flash, R: CommitRule> Store<F, R> {
         ensures slot { option_map (λ at. at.0) result
             ≡ read_place self.now.noted self.now.unsure page }
     {
+        laws::known_images_stand::<R>();
+        if self.index.discards(page) {
+            return None;
+        }
         match self.unsure {
             Unsure::VictimErase { block } => self.index.locate_off(page, block),
             Unsure::Nothing | Unsure::Own { .. } | Unsure::Copy { .. } | Unsure::SpareErase => {
@@ -297,6 +307,7 @@ impl<F: Flash, R: CommitRule> Store<F, R> {
             &mut self.blocks,
             &mut self.unsure,
             &mut self.room,
+            &mut self.going,
             page,
             below,
         )

@@ -6,6 +6,7 @@ ghost use Rattle.version_index.specs.Notes.{found_in};
 ghost use Rattle.collector.specs.Known.{array_known};
 ghost use Rattle.collector.specs.Victim.{garbage_in};
 ghost use Rattle.tx_engine.specs.Collect.{TellsStats};
+ghost use Rattle.tx_engine.specs.Read.{is_written};
 
 use crate::Device;
 use crate::store::Store;
@@ -14,6 +15,14 @@ use record_list::{CommitRule, Found};
 use tx_types::{Memory, Stats};
 
 impl<F: Flash, R: CommitRule> Store<F, R> {
+    /// Whether a page is not blank.
+    fn is_written(&self, page: u32) -> bool
+        requires { page < self.now.noted.config.logical }
+        ensures { result ≡ is_written self.now.noted page }
+    {
+        self.version(page) != 0 && !self.index.discards(page)
+    }
+
     /// The number of pages that are not blank.
     fn written(&self) -> u32
         ensures { result
@@ -23,7 +32,7 @@ impl<F: Flash, R: CommitRule> Store<F, R> {
         let logical = self.config().logical;
         let mut count = 0;
         for page in 0..logical {
-            if self.version(page) != 0 {
+            if self.is_written(page) {
                 count += 1;
             }
         }

@@ -1,5 +1,6 @@
-ghost use Rattle.std.specs.Prelude.{◌≡◌, ◌<◌, ◌≤◌, ◌+◌, List, None, OnOk, OnErr, IfOk, length, false, if◌then◌else◌};
+ghost use Rattle.std.specs.Prelude.{◌≡◌, ◌<◌, ◌≤◌, ◌+◌, List, None, OnOk, OnErr, IfOk, is_none, length, false, if◌then◌else◌};
 ghost use Rattle.std.specs.Result.{is_err};
+ghost use Rattle.tx_types.specs.Batch.{bytes_in};
 ghost use Rattle.tx_types.specs.declared.record.Link.{Link};
 ghost use Rattle.flash_model.specs.Calls.{Carries};
 ghost use Rattle.flash_model.specs.Moves.{FlashMoves};
@@ -20,7 +21,7 @@ ghost use Rattle.tx_engine.specs.Settling.{AddsOnly, IsLeft, WritesNext, WriteFa
 ghost use Rattle.tx_engine.specs.Standing.{Stands, name_at, write_at};
 ghost use Rattle.tx_engine.specs.Stored.{IsStored, WritesStored, WriteBreaks};
 ghost use Rattle.tx_engine.specs.Tables.{standing_in};
-ghost use Rattle.tx_engine.specs.Writing.{FindsSlot, WritesRecord};
+ghost use Rattle.tx_engine.specs.Writing.{FindsSlot, WritesRecord, due_record};
 ghost use Rattle.tx_engine.specs.Breaking.{WritingBreaks};
 
 use crate::Mark;
@@ -64,8 +65,8 @@ pub(crate) fn write_next<F: Flash, R: CommitRule>(
         (name_at (opening_at openings.old at).naming (opening_at openings.old at).entry.done) }
     ensures writes { let its = opening_at openings.old at in OnOk result (
         WritesRecord F.state (standing_in F.state store.old openings.old)
-        (standing_in F.state store.new openings.new) (name_at its.naming its.entry.done)
-        (name_at its.naming (link_place its.entry)) (write_at its.entry its.entry.done).bytes) }
+        (standing_in F.state store.new openings.new)
+        (due_record store.old.noted.config.page_bytes its.entry its.naming)) }
     ensures fresh { let its = opening_at openings.old at in OnOk result (
         AddsOnly (name_at its.naming its.entry.done) store.old.noted store.new.noted) }
     ensures breaks { let its = opening_at openings.old at in OnErr result (
@@ -164,7 +165,9 @@ fn next_record<F: Flash, R: CommitRule>(store: &Store<F, R>, openings: &Openings
         result.next ≡ name_at its.naming (link_place its.entry) }
     ensures back { result.back ≡ back_version store.now.noted.config.protocol
         (found_in store.now.noted.notes) store.now.noted.config.logical result.page }
-    ensures plain { (result.count ≡ 0) × (result.discard ≡ false) }
+    ensures counts { result.count ≡ length (opening_at openings.now at).entry.writes }
+    ensures discard { let its = opening_at openings.now at in
+        result.discard ≡ is_none (write_at its.entry its.entry.done).value }
 {
     let pages = openings.pages(at);
     let done = openings.done(at);
@@ -175,8 +178,8 @@ fn next_record<F: Flash, R: CommitRule>(store: &Store<F, R>, openings: &Openings
         version,
         next: openings.name(at, place),
         back: back_version(store, page),
-        count: 0,
-        discard: false,
+        count: pages,
+        discard: openings.discards(at, done),
     }
 }
 
@@ -211,10 +214,14 @@ fn program<F: Flash, R: CommitRule>(
     ensures stored { IsStored F.state R.protocol store.new }
     ensures written { OnOk result (
         let entry = (opening_at openings.now at).entry in
-        WritesStored F.state store.old store.new slot.0 rec (write_at entry entry.done).bytes) }
+        let size = store.old.noted.config.page_bytes in
+        WritesStored F.state store.old store.new slot.0 rec
+        (bytes_in size (write_at entry entry.done))) }
     ensures broken { OnErr result (
         let entry = (opening_at openings.now at).entry in
-        WriteBreaks F.state store.old store.new slot rec (write_at entry entry.done).bytes) }
+        let size = store.old.noted.config.page_bytes in
+        WriteBreaks F.state store.old store.new slot rec
+        (bytes_in size (write_at entry entry.done))) }
     ensures moves { FlashMoves (F.state store.old.flash) (F.state store.new.flash) (is_err result) }
     ensures carries { Carries (F.state store.old.flash) (F.state store.new.flash) (is_err result) }
     ensures costs { ((F.state store.new.flash).programs ≤ (F.state store.old.flash).programs + 1)

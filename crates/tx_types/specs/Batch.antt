@@ -1,10 +1,10 @@
 -- What a transaction writes.
-use Rattle.std.specs.Prelude.{ℕ, ◌-◌, List, [], ◌∷◌, ◌++◌, length, replicate, slice_index_or}
+use Rattle.std.specs.Prelude.{ℕ, ◌-◌, Option, Some, None, List, [], ◌∷◌, ◌++◌, length, replicate, slice_index_or}
 
--- a page and what it is to hold
+-- a page and what it is to hold: its bytes, or nothing where it is discarded
 pub record PageWrite : Type 0 where
   pub page : ℕ
-  pub bytes : List ℕ
+  pub value : Option (List ℕ)
 
 -- the size of a page, and the writes in order
 pub record Writes : Type 0 where
@@ -20,13 +20,28 @@ abbrev pub with_entry : Writes → ℕ → List ℕ → Writes
 with_entry w page bytes =
     record w {
       entries =
-          w.entries ++ record { page = page; bytes = padded w.page_bytes bytes } ∷ [];
+          w.entries
+          ++ record { page = page; value = Some (padded w.page_bytes bytes) } ∷ [];
     }
+
+-- the writes and a discard at the end
+abbrev pub with_discard : Writes → ℕ → Writes
+with_discard w page =
+    record w { entries = w.entries ++ record { page = page; value = None } ∷ [] }
 
 -- what stands for the write at an index where there is none
 abbrev pub no_write : PageWrite
-no_write = record { page = 0; bytes = [] }
+no_write = record { page = 0; value = None }
 
 -- the write at this index
 abbrev pub entry_at : Writes → ℕ → PageWrite
 entry_at w i = slice_index_or w.entries i no_write
+
+-- the contents of a slot of this size for a value: zeros for none
+abbrev pub contents_of : ℕ → Option (List ℕ) → List ℕ
+contents_of size None = replicate size 0
+contents_of size (Some bytes) = bytes
+
+-- the contents of a slot for a write
+abbrev pub bytes_in : ℕ → PageWrite → List ℕ
+bytes_in size w = contents_of size w.value

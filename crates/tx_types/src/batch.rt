@@ -1,18 +1,18 @@
-ghost use Rattle.std.specs.Prelude.{◌≡◌, ◌<◌, ◌+◌, ◌*◌, ◌≤◌, ◌↔◌, [], ◌++◌, length, IsTrue, OnOk, OnErr};
+ghost use Rattle.std.specs.Prelude.{◌≡◌, ◌<◌, ◌+◌, ◌*◌, ◌≤◌, ◌↔◌, [], ◌++◌, length, is_none, IsTrue, OnOk, OnErr};
 ghost use Rattle.std.specs.Fork.{slice_chunk};
-ghost use Rattle.tx_types.specs.Batch.{padded, with_entry, entry_at};
+ghost use Rattle.tx_types.specs.Batch.{padded, with_entry, with_discard, entry_at, bytes_in};
 
 use crate::Memory;
+use crate::target::Target;
 use std::alloc::Global;
 use std::marker::Model;
 
-/// The pages that one transaction writes, seen as the size of a page and the list of the writes.
+/// The pages that one transaction writes or discards, seen as the size of a page and the list of the writes.
 #[derive(Debug, Drop)]
 pub struct Batch {
     page_bytes: u32,
-    /// The logical page of each entry.
-    pages: Vec<u32>,
-    /// The bytes of each entry, a whole page one behind another.
+    targets: Vec<Target>,
+    /// The bytes of each entry, a whole page one behind another: zeros where the page is discarded.
     bytes: Vec<u8>,
 }
 
@@ -23,9 +23,9 @@ impl Model for Batch {
 
     ghost use Rattle.tx_types.specs.Entries.{writes_of, AreWhole};
 
-    ghost view = { λ b. writes_of b.page_bytes b.pages.items b.bytes.items };
+    ghost view = { λ b. writes_of b.page_bytes b.targets.items b.bytes.items };
 
-    ghost invariant = { λ b. AreWhole b.page_bytes b.pages.items b.bytes.items };
+    ghost invariant = { λ b. AreWhole b.page_bytes b.targets.items b.bytes.items };
 }
 
 impl Batch {
@@ -35,7 +35,7 @@ impl Batch {
     {
         Batch {
             page_bytes,
-            pages: Vec::new(alloc),
+            targets: Vec::new(alloc),
             bytes: Vec::new(alloc),
         }
     }
@@ -47,9 +47,27 @@ impl Batch {
         ensures ok { OnOk result (self.new ≡ with_entry self.old page bytes.now) }
         ensures err { OnErr result (self.new ≡ self.old) }
     {
-        self.pages.reserve(1)?;
+        self.targets.reserve(1)?;
         add_padded(&mut self.bytes, bytes, self.page_bytes as usize)?;
-        self.pages.push_reserved(page);
+        self.targets.push_reserved(Target {
+            page,
+            discard: false,
+        });
+        Ok(())
+    }
+
+    /// Adds an entry at the end that discards a page. Where there is no memory the batch stays as it
+    /// was.
+    pub fn add_discard(&mut self, page: u32) -> Result<(), Memory>
+        ensures ok { OnOk result (self.new ≡ with_discard self.old page) }
+        ensures err { OnErr result (self.new ≡ self.old) }
+    {
+        self.targets.reserve(1)?;
+        add_padded(&mut self.bytes, &[], self.page_bytes as usize)?;
+        self.targets.push_reserved(Target {
+            page,
+            discard: true,
+        });
         Ok(())
     }
 
@@ -57,14 +75,14 @@ impl Batch {
     pub fn len(&self) -> usize
         ensures { result ≡ length self.now.entries }
     {
-        self.pages.len()
+        self.targets.len()
     }
 
     /// Whether there is no entry.
     pub fn is_empty(&self) -> bool
         ensures { IsTrue result ↔ (self.now.entries ≡ []) }
     {
-        self.pages.is_empty()
+        self.targets.is_empty()
     }
 
     /// The bytes of a page.
@@ -79,13 +97,21 @@ impl Batch {
         requires { i < length self.now.entries }
         ensures { result ≡ (entry_at self.now i).page }
     {
-        self.pages[i]
+        self.targets[i].page
     }
 
-    /// The bytes of the entry at this index, as many as a page has.
+    /// Whether the entry at this index discards its page.
+    pub fn discards(&self, i: usize) -> bool
+        requires { i < length self.now.entries }
+        ensures { result ≡ is_none (entry_at self.now i).value }
+    {
+        self.targets[i].discard
+    }
+
+    /// The bytes of the entry at this index, as many as a page has: zeros where it discards its page.
     pub fn bytes(&self, i: usize) -> &[u8]
         requires { i < length self.now.entries }
-        ensures bytes { result.now ≡ (entry_at self.now i).bytes }
+        ensures bytes { result.now ≡ bytes_in self.now.page_bytes (entry_at self.now i) }
         ensures whole { length result.now ≡ self.now.page_bytes }
     {
         page_at(&self.bytes, self.page_bytes as usize, i)

@@ -7,6 +7,7 @@ mod config;
 mod memory;
 mod record;
 mod stats;
+mod target;
 #[cfg(test)]
 mod tests;
 

@@ -158,13 +158,17 @@ fn a_batch_fills_its_pages_up(rt: HostRuntime) -> Result<(), Fail> {
     batch.add(7, &[1, 2])?;
     batch.add(0, &[])?;
     batch.add(7, &[3, 4, 5, 6])?;
+    batch.add_discard(2)?;
     assert_eq!(rt;
         (batch.len(), batch.page_bytes(), batch.is_empty()),
-        (3, 4, false)
+        (4, 4, false)
     );
-    assert_eq!(rt; (batch.page(0), batch.page(1), batch.page(2)), (7, 0, 7));
+    let pages = (batch.page(0), batch.page(1), batch.page(2), batch.page(3));
+    assert_eq!(rt; pages, (7, 0, 7, 2));
+    assert_eq!(rt; (batch.discards(1), batch.discards(3)), (false, true));
     assert_eq!(rt; batch.bytes(0), [1, 2, 0, 0].as_slice());
     assert_eq!(rt; batch.bytes(1), [0; 4].as_slice());
     assert_eq!(rt; batch.bytes(2), [3, 4, 5, 6].as_slice());
+    assert_eq!(rt; batch.bytes(3), [0; 4].as_slice());
     Ok(())
 }

@@ -2,10 +2,11 @@ use Rattle.std.proofs.Common.{◌≡◌, sym, ap, ◌∙◌, subst, refl, eq-eqb
 use Rattle.std.specs.Prelude.{false}
 use Rattle.tx_engine.specs.ArrayState.{with_entry}
 use Rattle.tx_engine.specs.OpenTable.{OpenTable, Opening, opening_at, entries_of}
-use Rattle.tx_engine.specs.Settling.{with_next, CountsOn, Counts, link_place}
-use Rattle.tx_engine.specs.Standing.{name_at, write_at}
+use Rattle.tx_engine.specs.Settling.{with_next, CountsOn, Counts}
+use Rattle.tx_engine.specs.Standing.{name_at}
 use Rattle.tx_engine.specs.Stored.{Stored}
 use Rattle.tx_engine.specs.Tables.{standing_in}
+use Rattle.tx_engine.specs.Writing.{due_record}
 use Rattle.tx_engine.proofs.AdvanceExits.{not_due_ready, due_plain, next_ready, written_advances, written_rises, entries_with, entries_same, next_entry, failed_advances, err_advances}
 use Rattle.tx_engine.proofs.CostFacts.{costs_flash}
 use Rattle.tx_engine.proofs.ExitsThen.{exits_then}
@@ -78,7 +79,7 @@ returns-clause-writes g c = λ absent. let state = g.F.Flash.state in
     let its = opening_at c.args.openings.now c.args.at in
     let stays = c.count_next-2.ensures.stays in
     writes_pinned state (standing_in state c.args.store.now c.args.openings.now) (standing_in state c.write_next.new.store c.write_next.new.openings) (standing_in state c.count_next-2.new.store c.count_next-2.new.openings)
-    (name_at its.naming its.entry.done) (name_at its.naming (link_place its.entry)) (write_at its.entry its.entry.done).bytes
+    (due_record c.args.store.now.noted.config.page_bytes its.entry its.naming)
     (ap (λ (s : Stored _). s.flash) stays) (ap (λ (s : Stored _). s.table) stays) (ap (λ (s : Stored _). s.noted) stays) c.in_ok-write_next.ensures.writes
 
 pub returns-clause-fresh : goal.returns-clause-fresh

@@ -1,4 +1,5 @@
-use Rattle.std.proofs.Common.{sym, subst}
+use Rattle.std.proofs.Common.{ap, sym, subst}
+use Rattle.tx_engine.specs.Stored.{Stored}
 use Rattle.tx_engine.proofs.Leaving.{left_of}
 use Rattle.tx_engine.proofs.RecordWrites.{finds_slot}
 use Rattle.tx_engine.proofs.TableLaws.{IsStayLaw}
@@ -13,3 +14,6 @@ returns-clause-left g c =
 pub returns-clause-slot : goal.returns-clause-slot
 returns-clause-slot g c =
     finds_slot c.args.store.now c.free_slot-slot.new.self c.free_slot-slot.result c.free_slot-slot.ensures.direct c.free_slot-slot.ensures.collects
+
+pub returns-clause-direct : goal.returns-clause-direct
+returns-clause-direct g c = λ room. let d = c.free_slot-slot.ensures.direct room in (d.1, ap (λ (s : Stored _). s.flash) d.2)

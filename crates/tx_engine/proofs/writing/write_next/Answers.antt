@@ -1,15 +1,18 @@
 use Rattle.std.proofs.Common.{◌≡◌, ◌<◌, length, sym, ap, ◌∙◌, subst, refl, None, inl}
 use Rattle.std.specs.Prelude.{false, true}
 use Rattle.std.specs.Result.{is_err}
+use Rattle.tx_types.specs.Batch.{bytes_in}
 use Rattle.tx_types.specs.declared.config.Config.{Config}
 use Rattle.tx_types.specs.declared.record.Link.{Link}
 use Rattle.version_index.specs.Noted.{block_to_go}
 use Rattle.collector.specs.Going.{IsNextName, CostsAtMost, TreatsAll, blocks_to_go}
 use Rattle.tx_engine.specs.Exits.{Exits}
 use Rattle.tx_engine.specs.OpenTable.{opening_at}
-use Rattle.tx_engine.specs.Settling.{WriteFails, link_place}
+use Rattle.tx_engine.specs.Settling.{WriteFails}
 use Rattle.tx_engine.specs.Standing.{name_at, no_name, write_at}
+use Rattle.tx_engine.specs.Stored.{WritesStored}
 use Rattle.tx_engine.specs.Tables.{standing_in}
+use Rattle.tx_engine.specs.Writing.{due_record}
 use Rattle.collector.specs.BreakingOff.{ClearingBreaks}
 use Rattle.tx_engine.specs.Breaking.{WritingBreaks}
 use Rattle.tx_engine.proofs.Breaking.{seeking_breaks, record_breaks}
@@ -20,7 +23,7 @@ use Rattle.tx_engine.proofs.NextRecord.{due_named, due_inside, next_name, next_r
 use Rattle.tx_engine.proofs.RecordWrites.{writes_record, adds_own, free_within}
 use Rattle.tx_engine.proofs.Tools.{Settles, NotesWrites}
 use Rattle.tx_engine.proofs.WriteAfter.{settled_kept, next_low, written_after, fails_after, fails_room, where_failed}
-use Rattle.tx_engine.proofs.WriteExits.{written_stands, written_next, written_exits, broken_stands, broken_fails, broken_exits}
+use Rattle.tx_engine.proofs.WriteExits.{due_text, written_stands, written_next, written_exits, broken_stands, broken_fails, broken_exits}
 use Rattle.tx_engine.proofs.writing.write_next.Goals as goal
 
 pub name-name-requires-clause-place : goal.name-name-requires-clause-place
@@ -69,10 +72,10 @@ pub program-requires-clause-size : goal.program-requires-clause-size
 program-requires-clause-size g c = c.requires.size ∙ ap (λ (k : Config). k.page_bytes) (sym (c.in_ok-slot.ensures.left.exits.tables.config ∙ c.in_ok-clear.ensures.left.exits.tables.config))
 
 pub program-requires-clause-own : goal.program-requires-clause-own
-program-requires-clause-own g c = let state = g.F.Flash.state in next_take (state c.find_slot.new.store.flash) c.find_slot.new.store.noted c.find_slot.new.store.table c.args.openings.now c.args.at (settled_kept state c.find_slot.new.store c.args.openings.now c.in_ok-slot.ensures.left.stands c.in_ok-slot.ensures.sure) c.requires.at c.requires.plain c.requires.due c.next_record-rec.result c.next_record-rec.ensures.named c.next_record-rec.ensures.next c.next_record-rec.ensures.back (subst (λ (a : Link). block_to_go c.find_slot.new.store.noted a.page a.version ≡ None) ((c.name-name.ensures ∙ ap (name_at (opening_at c.args.openings.now c.args.at).naming) c.done.ensures) ∙ sym c.next_record-rec.ensures.named) c.find_slot.ensures.clear)
+program-requires-clause-own g c = let state = g.F.Flash.state in next_take (state c.find_slot.new.store.flash) c.find_slot.new.store.noted c.find_slot.new.store.table c.args.openings.now c.args.at (settled_kept state c.find_slot.new.store c.args.openings.now c.in_ok-slot.ensures.left.stands c.in_ok-slot.ensures.sure) c.requires.at c.requires.plain c.requires.due c.next_record-rec.result c.next_record-rec.ensures.named c.next_record-rec.ensures.next c.next_record-rec.ensures.back c.next_record-rec.ensures.counts (subst (λ (a : Link). block_to_go c.find_slot.new.store.noted a.page a.version ≡ None) ((c.name-name.ensures ∙ ap (name_at (opening_at c.args.openings.now c.args.at).naming) c.done.ensures) ∙ sym c.next_record-rec.ensures.named) c.find_slot.ensures.clear)
 
 pub program-requires-clause-spelled : goal.program-requires-clause-spelled
-program-requires-clause-spelled g c = let state = g.F.Flash.state in next_can_be_spelled (state c.find_slot.new.store.flash) c.find_slot.new.store.noted c.find_slot.new.store.table c.args.openings.now c.args.at (settled_kept state c.find_slot.new.store c.args.openings.now c.in_ok-slot.ensures.left.stands c.in_ok-slot.ensures.sure) c.requires.at c.requires.plain c.requires.due c.next_record-rec.result c.next_record-rec.ensures.named c.next_record-rec.ensures.next c.next_record-rec.ensures.back c.next_record-rec.ensures.plain (subst (λ (a : Link). block_to_go c.find_slot.new.store.noted a.page a.version ≡ None) ((c.name-name.ensures ∙ ap (name_at (opening_at c.args.openings.now c.args.at).naming) c.done.ensures) ∙ sym c.next_record-rec.ensures.named) c.find_slot.ensures.clear)
+program-requires-clause-spelled g c = let state = g.F.Flash.state in next_can_be_spelled (state c.find_slot.new.store.flash) c.find_slot.new.store.noted c.find_slot.new.store.table c.args.openings.now c.args.at (settled_kept state c.find_slot.new.store c.args.openings.now c.in_ok-slot.ensures.left.stands c.in_ok-slot.ensures.sure) c.requires.at c.requires.plain c.requires.due c.next_record-rec.result c.next_record-rec.ensures.named c.next_record-rec.ensures.next c.next_record-rec.ensures.back c.next_record-rec.ensures.counts (subst (λ (a : Link). block_to_go c.find_slot.new.store.noted a.page a.version ≡ None) ((c.name-name.ensures ∙ ap (name_at (opening_at c.args.openings.now c.args.at).naming) c.done.ensures) ∙ sym c.next_record-rec.ensures.named) c.find_slot.ensures.clear)
 
 pub doubt_last-requires-clause-within : goal.doubt_last-requires-clause-within
 doubt_last-requires-clause-within g c = let state = g.F.Flash.state in (due_named (state c.args.store.now.flash) c.args.store.now.noted c.args.store.now.table c.args.openings.now c.args.at (settled_kept state c.args.store.now c.args.openings.now c.requires.stands c.requires.sure) c.requires.at c.requires.plain c.requires.due).within
@@ -82,7 +85,7 @@ returns-in-Err-clause-stands g c = let state = g.F.Flash.state in
     broken_stands state c.find_slot.new.store c.program.new.store c.args.openings.now c.args.at c.in_ok-slot.slot c.next_record-rec.result _ c.in_ok-slot.ensures.left.stands c.in_ok-slot.ensures.sure c.requires.at c.requires.plain c.requires.due
     (subst Settles (sym (ap (λ (k : Config). k.protocol) (c.in_ok-slot.ensures.left.exits.tables.config ∙ c.in_ok-clear.ensures.left.exits.tables.config) ∙ c.requires.rule)) (record { matches = c.images_stand.ensures.matches; records = c.images_stand.ensures.records; array = c.images_stand.ensures.array; preserves = c.images_stand.ensures.preserves }))
     (subst NotesWrites (sym (ap (λ (k : Config). k.protocol) (c.in_ok-slot.ensures.left.exits.tables.config ∙ c.in_ok-clear.ensures.left.exits.tables.config) ∙ c.requires.rule)) (record { names = c.noted_writes.ensures.names; partial = c.noted_writes.ensures.partial; completing = c.noted_writes.ensures.completing }))
-    (next_record (state c.find_slot.new.store.flash) c.find_slot.new.store.noted c.find_slot.new.store.table c.args.openings.now c.args.at (settled_kept state c.find_slot.new.store c.args.openings.now c.in_ok-slot.ensures.left.stands c.in_ok-slot.ensures.sure) c.requires.at c.requires.plain c.requires.due c.next_record-rec.result c.next_record-rec.ensures.named c.next_record-rec.ensures.next c.next_record-rec.ensures.back (subst (λ (a : Link). block_to_go c.find_slot.new.store.noted a.page a.version ≡ None) ((c.name-name.ensures ∙ ap (name_at (opening_at c.args.openings.now c.args.at).naming) c.done.ensures) ∙ sym c.next_record-rec.ensures.named) c.find_slot.ensures.clear)) refl c.next_record-rec.ensures.named c.in_ok-slot.ensures.free refl c.next_record-rec.ensures.plain.1 g.R.CommitRule.protocol c.program.ensures.stored
+    (next_record (state c.find_slot.new.store.flash) c.find_slot.new.store.noted c.find_slot.new.store.table c.args.openings.now c.args.at (settled_kept state c.find_slot.new.store c.args.openings.now c.in_ok-slot.ensures.left.stands c.in_ok-slot.ensures.sure) c.requires.at c.requires.plain c.requires.due c.next_record-rec.result c.next_record-rec.ensures.named c.next_record-rec.ensures.next c.next_record-rec.ensures.back c.next_record-rec.ensures.counts (subst (λ (a : Link). block_to_go c.find_slot.new.store.noted a.page a.version ≡ None) ((c.name-name.ensures ∙ ap (name_at (opening_at c.args.openings.now c.args.at).naming) c.done.ensures) ∙ sym c.next_record-rec.ensures.named) c.find_slot.ensures.clear)) refl c.next_record-rec.ensures.named c.in_ok-slot.ensures.free (due_text c.find_slot.new.store.noted.config.page_bytes (opening_at c.args.openings.now c.args.at).entry c.next_record-rec.result c.next_record-rec.ensures.discard) g.R.CommitRule.protocol c.program.ensures.stored
     c.in-Err.ensures.broken c.doubt_last.new.openings c.doubt_last.ensures
 
 pub returns-in-Err-clause-failed : goal.returns-in-Err-clause-failed
@@ -91,7 +94,7 @@ returns-in-Err-clause-failed g c = let state = g.F.Flash.state in
     (broken_fails state c.find_slot.new.store c.program.new.store c.args.openings.now c.args.at c.in_ok-slot.slot c.next_record-rec.result _ c.in_ok-slot.ensures.left.stands c.in_ok-slot.ensures.sure c.requires.at c.requires.plain c.requires.due
     (subst Settles (sym (ap (λ (k : Config). k.protocol) (c.in_ok-slot.ensures.left.exits.tables.config ∙ c.in_ok-clear.ensures.left.exits.tables.config) ∙ c.requires.rule)) (record { matches = c.images_stand.ensures.matches; records = c.images_stand.ensures.records; array = c.images_stand.ensures.array; preserves = c.images_stand.ensures.preserves }))
     (subst NotesWrites (sym (ap (λ (k : Config). k.protocol) (c.in_ok-slot.ensures.left.exits.tables.config ∙ c.in_ok-clear.ensures.left.exits.tables.config) ∙ c.requires.rule)) (record { names = c.noted_writes.ensures.names; partial = c.noted_writes.ensures.partial; completing = c.noted_writes.ensures.completing }))
-    (next_record (state c.find_slot.new.store.flash) c.find_slot.new.store.noted c.find_slot.new.store.table c.args.openings.now c.args.at (settled_kept state c.find_slot.new.store c.args.openings.now c.in_ok-slot.ensures.left.stands c.in_ok-slot.ensures.sure) c.requires.at c.requires.plain c.requires.due c.next_record-rec.result c.next_record-rec.ensures.named c.next_record-rec.ensures.next c.next_record-rec.ensures.back (subst (λ (a : Link). block_to_go c.find_slot.new.store.noted a.page a.version ≡ None) ((c.name-name.ensures ∙ ap (name_at (opening_at c.args.openings.now c.args.at).naming) c.done.ensures) ∙ sym c.next_record-rec.ensures.named) c.find_slot.ensures.clear)) refl c.next_record-rec.ensures.named c.in_ok-slot.ensures.free refl c.next_record-rec.ensures.plain.1 g.R.CommitRule.protocol c.program.ensures.stored
+    (next_record (state c.find_slot.new.store.flash) c.find_slot.new.store.noted c.find_slot.new.store.table c.args.openings.now c.args.at (settled_kept state c.find_slot.new.store c.args.openings.now c.in_ok-slot.ensures.left.stands c.in_ok-slot.ensures.sure) c.requires.at c.requires.plain c.requires.due c.next_record-rec.result c.next_record-rec.ensures.named c.next_record-rec.ensures.next c.next_record-rec.ensures.back c.next_record-rec.ensures.counts (subst (λ (a : Link). block_to_go c.find_slot.new.store.noted a.page a.version ≡ None) ((c.name-name.ensures ∙ ap (name_at (opening_at c.args.openings.now c.args.at).naming) c.done.ensures) ∙ sym c.next_record-rec.ensures.named) c.find_slot.ensures.clear)) refl c.next_record-rec.ensures.named c.in_ok-slot.ensures.free (due_text c.find_slot.new.store.noted.config.page_bytes (opening_at c.args.openings.now c.args.at).entry c.next_record-rec.result c.next_record-rec.ensures.discard) g.R.CommitRule.protocol c.program.ensures.stored
     c.in-Err.ensures.broken c.doubt_last.new.openings c.doubt_last.ensures)
 
 pub returns-in-Err-clause-exits : goal.returns-in-Err-clause-exits
@@ -100,7 +103,7 @@ returns-in-Err-clause-exits g c = let state = g.F.Flash.state in
     (broken_exits state c.find_slot.new.store c.program.new.store c.args.openings.now c.args.at c.in_ok-slot.slot c.next_record-rec.result _ c.in_ok-slot.ensures.left.stands c.in_ok-slot.ensures.sure c.requires.at c.requires.plain c.requires.due
     (subst Settles (sym (ap (λ (k : Config). k.protocol) (c.in_ok-slot.ensures.left.exits.tables.config ∙ c.in_ok-clear.ensures.left.exits.tables.config) ∙ c.requires.rule)) (record { matches = c.images_stand.ensures.matches; records = c.images_stand.ensures.records; array = c.images_stand.ensures.array; preserves = c.images_stand.ensures.preserves }))
     (subst NotesWrites (sym (ap (λ (k : Config). k.protocol) (c.in_ok-slot.ensures.left.exits.tables.config ∙ c.in_ok-clear.ensures.left.exits.tables.config) ∙ c.requires.rule)) (record { names = c.noted_writes.ensures.names; partial = c.noted_writes.ensures.partial; completing = c.noted_writes.ensures.completing }))
-    (next_record (state c.find_slot.new.store.flash) c.find_slot.new.store.noted c.find_slot.new.store.table c.args.openings.now c.args.at (settled_kept state c.find_slot.new.store c.args.openings.now c.in_ok-slot.ensures.left.stands c.in_ok-slot.ensures.sure) c.requires.at c.requires.plain c.requires.due c.next_record-rec.result c.next_record-rec.ensures.named c.next_record-rec.ensures.next c.next_record-rec.ensures.back (subst (λ (a : Link). block_to_go c.find_slot.new.store.noted a.page a.version ≡ None) ((c.name-name.ensures ∙ ap (name_at (opening_at c.args.openings.now c.args.at).naming) c.done.ensures) ∙ sym c.next_record-rec.ensures.named) c.find_slot.ensures.clear)) refl c.next_record-rec.ensures.named c.in_ok-slot.ensures.free refl c.next_record-rec.ensures.plain.1 g.R.CommitRule.protocol c.program.ensures.stored
+    (next_record (state c.find_slot.new.store.flash) c.find_slot.new.store.noted c.find_slot.new.store.table c.args.openings.now c.args.at (settled_kept state c.find_slot.new.store c.args.openings.now c.in_ok-slot.ensures.left.stands c.in_ok-slot.ensures.sure) c.requires.at c.requires.plain c.requires.due c.next_record-rec.result c.next_record-rec.ensures.named c.next_record-rec.ensures.next c.next_record-rec.ensures.back c.next_record-rec.ensures.counts (subst (λ (a : Link). block_to_go c.find_slot.new.store.noted a.page a.version ≡ None) ((c.name-name.ensures ∙ ap (name_at (opening_at c.args.openings.now c.args.at).naming) c.done.ensures) ∙ sym c.next_record-rec.ensures.named) c.find_slot.ensures.clear)) refl c.next_record-rec.ensures.named c.in_ok-slot.ensures.free (due_text c.find_slot.new.store.noted.config.page_bytes (opening_at c.args.openings.now c.args.at).entry c.next_record-rec.result c.next_record-rec.ensures.discard) g.R.CommitRule.protocol c.program.ensures.stored
     c.in-Err.ensures.broken c.doubt_last.new.openings c.doubt_last.ensures c.in-Err.ensures.moves c.in-Err.ensures.carries)
 
 pub returns-in-Err-clause-costs : goal.returns-in-Err-clause-costs
@@ -116,7 +119,7 @@ returns-clause-stands g c = let state = g.F.Flash.state in
     written_stands state c.find_slot.new.store c.program.new.store c.args.openings.now c.args.at c.in_ok-slot.slot c.next_record-rec.result _ c.in_ok-slot.ensures.left.stands c.in_ok-slot.ensures.sure c.requires.at c.requires.plain c.requires.due
     (subst Settles (sym (ap (λ (k : Config). k.protocol) (c.in_ok-slot.ensures.left.exits.tables.config ∙ c.in_ok-clear.ensures.left.exits.tables.config) ∙ c.requires.rule)) (record { matches = c.images_stand.ensures.matches; records = c.images_stand.ensures.records; array = c.images_stand.ensures.array; preserves = c.images_stand.ensures.preserves }))
     (subst NotesWrites (sym (ap (λ (k : Config). k.protocol) (c.in_ok-slot.ensures.left.exits.tables.config ∙ c.in_ok-clear.ensures.left.exits.tables.config) ∙ c.requires.rule)) (record { names = c.noted_writes.ensures.names; partial = c.noted_writes.ensures.partial; completing = c.noted_writes.ensures.completing }))
-    (next_record (state c.find_slot.new.store.flash) c.find_slot.new.store.noted c.find_slot.new.store.table c.args.openings.now c.args.at (settled_kept state c.find_slot.new.store c.args.openings.now c.in_ok-slot.ensures.left.stands c.in_ok-slot.ensures.sure) c.requires.at c.requires.plain c.requires.due c.next_record-rec.result c.next_record-rec.ensures.named c.next_record-rec.ensures.next c.next_record-rec.ensures.back (subst (λ (a : Link). block_to_go c.find_slot.new.store.noted a.page a.version ≡ None) ((c.name-name.ensures ∙ ap (name_at (opening_at c.args.openings.now c.args.at).naming) c.done.ensures) ∙ sym c.next_record-rec.ensures.named) c.find_slot.ensures.clear)) refl c.next_record-rec.ensures.named c.in_ok-slot.ensures.free refl c.next_record-rec.ensures.plain.1 g.R.CommitRule.protocol c.program.ensures.stored
+    (next_record (state c.find_slot.new.store.flash) c.find_slot.new.store.noted c.find_slot.new.store.table c.args.openings.now c.args.at (settled_kept state c.find_slot.new.store c.args.openings.now c.in_ok-slot.ensures.left.stands c.in_ok-slot.ensures.sure) c.requires.at c.requires.plain c.requires.due c.next_record-rec.result c.next_record-rec.ensures.named c.next_record-rec.ensures.next c.next_record-rec.ensures.back c.next_record-rec.ensures.counts (subst (λ (a : Link). block_to_go c.find_slot.new.store.noted a.page a.version ≡ None) ((c.name-name.ensures ∙ ap (name_at (opening_at c.args.openings.now c.args.at).naming) c.done.ensures) ∙ sym c.next_record-rec.ensures.named) c.find_slot.ensures.clear)) refl c.next_record-rec.ensures.named c.in_ok-slot.ensures.free (due_text c.find_slot.new.store.noted.config.page_bytes (opening_at c.args.openings.now c.args.at).entry c.next_record-rec.result c.next_record-rec.ensures.discard) g.R.CommitRule.protocol c.program.ensures.stored
     c.in_default.ensures.written c.note_next.new.openings c.note_next.ensures
 
 pub returns-clause-written : goal.returns-clause-written
@@ -125,7 +128,7 @@ returns-clause-written g c = let state = g.F.Flash.state in
     (written_next state c.find_slot.new.store c.program.new.store c.args.openings.now c.args.at c.in_ok-slot.slot c.next_record-rec.result _ c.in_ok-slot.ensures.left.stands c.in_ok-slot.ensures.sure c.requires.at c.requires.plain c.requires.due
     (subst Settles (sym (ap (λ (k : Config). k.protocol) (c.in_ok-slot.ensures.left.exits.tables.config ∙ c.in_ok-clear.ensures.left.exits.tables.config) ∙ c.requires.rule)) (record { matches = c.images_stand.ensures.matches; records = c.images_stand.ensures.records; array = c.images_stand.ensures.array; preserves = c.images_stand.ensures.preserves }))
     (subst NotesWrites (sym (ap (λ (k : Config). k.protocol) (c.in_ok-slot.ensures.left.exits.tables.config ∙ c.in_ok-clear.ensures.left.exits.tables.config) ∙ c.requires.rule)) (record { names = c.noted_writes.ensures.names; partial = c.noted_writes.ensures.partial; completing = c.noted_writes.ensures.completing }))
-    (next_record (state c.find_slot.new.store.flash) c.find_slot.new.store.noted c.find_slot.new.store.table c.args.openings.now c.args.at (settled_kept state c.find_slot.new.store c.args.openings.now c.in_ok-slot.ensures.left.stands c.in_ok-slot.ensures.sure) c.requires.at c.requires.plain c.requires.due c.next_record-rec.result c.next_record-rec.ensures.named c.next_record-rec.ensures.next c.next_record-rec.ensures.back (subst (λ (a : Link). block_to_go c.find_slot.new.store.noted a.page a.version ≡ None) ((c.name-name.ensures ∙ ap (name_at (opening_at c.args.openings.now c.args.at).naming) c.done.ensures) ∙ sym c.next_record-rec.ensures.named) c.find_slot.ensures.clear)) refl c.next_record-rec.ensures.named c.in_ok-slot.ensures.free refl c.next_record-rec.ensures.plain.1 g.R.CommitRule.protocol c.program.ensures.stored
+    (next_record (state c.find_slot.new.store.flash) c.find_slot.new.store.noted c.find_slot.new.store.table c.args.openings.now c.args.at (settled_kept state c.find_slot.new.store c.args.openings.now c.in_ok-slot.ensures.left.stands c.in_ok-slot.ensures.sure) c.requires.at c.requires.plain c.requires.due c.next_record-rec.result c.next_record-rec.ensures.named c.next_record-rec.ensures.next c.next_record-rec.ensures.back c.next_record-rec.ensures.counts (subst (λ (a : Link). block_to_go c.find_slot.new.store.noted a.page a.version ≡ None) ((c.name-name.ensures ∙ ap (name_at (opening_at c.args.openings.now c.args.at).naming) c.done.ensures) ∙ sym c.next_record-rec.ensures.named) c.find_slot.ensures.clear)) refl c.next_record-rec.ensures.named c.in_ok-slot.ensures.free (due_text c.find_slot.new.store.noted.config.page_bytes (opening_at c.args.openings.now c.args.at).entry c.next_record-rec.result c.next_record-rec.ensures.discard) g.R.CommitRule.protocol c.program.ensures.stored
     c.in_default.ensures.written c.note_next.new.openings c.note_next.ensures)
 
 pub returns-clause-exits : goal.returns-clause-exits
@@ -134,7 +137,7 @@ returns-clause-exits g c = let state = g.F.Flash.state in
     (written_exits state c.find_slot.new.store c.program.new.store c.args.openings.now c.args.at c.in_ok-slot.slot c.next_record-rec.result _ c.in_ok-slot.ensures.left.stands c.in_ok-slot.ensures.sure c.requires.at c.requires.plain c.requires.due
     (subst Settles (sym (ap (λ (k : Config). k.protocol) (c.in_ok-slot.ensures.left.exits.tables.config ∙ c.in_ok-clear.ensures.left.exits.tables.config) ∙ c.requires.rule)) (record { matches = c.images_stand.ensures.matches; records = c.images_stand.ensures.records; array = c.images_stand.ensures.array; preserves = c.images_stand.ensures.preserves }))
     (subst NotesWrites (sym (ap (λ (k : Config). k.protocol) (c.in_ok-slot.ensures.left.exits.tables.config ∙ c.in_ok-clear.ensures.left.exits.tables.config) ∙ c.requires.rule)) (record { names = c.noted_writes.ensures.names; partial = c.noted_writes.ensures.partial; completing = c.noted_writes.ensures.completing }))
-    (next_record (state c.find_slot.new.store.flash) c.find_slot.new.store.noted c.find_slot.new.store.table c.args.openings.now c.args.at (settled_kept state c.find_slot.new.store c.args.openings.now c.in_ok-slot.ensures.left.stands c.in_ok-slot.ensures.sure) c.requires.at c.requires.plain c.requires.due c.next_record-rec.result c.next_record-rec.ensures.named c.next_record-rec.ensures.next c.next_record-rec.ensures.back (subst (λ (a : Link). block_to_go c.find_slot.new.store.noted a.page a.version ≡ None) ((c.name-name.ensures ∙ ap (name_at (opening_at c.args.openings.now c.args.at).naming) c.done.ensures) ∙ sym c.next_record-rec.ensures.named) c.find_slot.ensures.clear)) refl c.next_record-rec.ensures.named c.in_ok-slot.ensures.free refl c.next_record-rec.ensures.plain.1 g.R.CommitRule.protocol c.program.ensures.stored
+    (next_record (state c.find_slot.new.store.flash) c.find_slot.new.store.noted c.find_slot.new.store.table c.args.openings.now c.args.at (settled_kept state c.find_slot.new.store c.args.openings.now c.in_ok-slot.ensures.left.stands c.in_ok-slot.ensures.sure) c.requires.at c.requires.plain c.requires.due c.next_record-rec.result c.next_record-rec.ensures.named c.next_record-rec.ensures.next c.next_record-rec.ensures.back c.next_record-rec.ensures.counts (subst (λ (a : Link). block_to_go c.find_slot.new.store.noted a.page a.version ≡ None) ((c.name-name.ensures ∙ ap (name_at (opening_at c.args.openings.now c.args.at).naming) c.done.ensures) ∙ sym c.next_record-rec.ensures.named) c.find_slot.ensures.clear)) refl c.next_record-rec.ensures.named c.in_ok-slot.ensures.free (due_text c.find_slot.new.store.noted.config.page_bytes (opening_at c.args.openings.now c.args.at).entry c.next_record-rec.result c.next_record-rec.ensures.discard) g.R.CommitRule.protocol c.program.ensures.stored
     c.in_default.ensures.written c.note_next.new.openings c.note_next.ensures c.in_default.ensures.moves c.in_default.ensures.carries)
 
 pub returns-clause-costs : goal.returns-clause-costs
@@ -146,23 +149,26 @@ pub returns-clause-writes : goal.returns-clause-writes
 returns-clause-writes g c = let state = g.F.Flash.state in
     let its = opening_at c.args.openings.now c.args.at in
     let is = c.name-name.ensures ∙ ap (name_at (opening_at c.args.openings.now c.args.at).naming) c.done.ensures in
-    writes_record state c.args.store.now c.clear.new.store c.find_slot.new.store c.program.new.store c.args.openings.now c.note_next.new.openings (name_at its.naming its.entry.done) (name_at its.naming (link_place its.entry)) c.in_ok-slot.slot c.next_record-rec.result (write_at its.entry its.entry.done).bytes
+    writes_record state c.args.store.now c.clear.new.store c.find_slot.new.store c.program.new.store c.args.openings.now c.note_next.new.openings (due_record c.args.store.now.noted.config.page_bytes its.entry its.naming) c.in_ok-slot.slot c.next_record-rec.result
     c.requires.stands.matches.noted c.in_ok-clear.ensures.left.kept (λ none. (c.clear.ensures.idle (subst (λ (a : Link). block_to_go c.args.store.now.noted a.page a.version ≡ None) (sym is) none)).1)
     (is_err c.find_slot.result) c.find_slot.ensures.direct (c.in_ok-slot.ensures.left.exits.carries.shape ∙ c.in_ok-clear.ensures.left.exits.carries.shape)
     (subst (λ (a : Link). block_to_go c.clear.new.store.noted a.page a.version ≡ None) is c.in_ok-clear.ensures.cleared) c.in_ok-slot.ensures.slot
-    c.next_record-rec.ensures.named c.next_record-rec.ensures.next c.next_record-rec.ensures.back
+    c.next_record-rec.ensures.named c.next_record-rec.ensures.next c.next_record-rec.ensures.counts c.next_record-rec.ensures.discard c.next_record-rec.ensures.back
     (free_within (state c.find_slot.new.store.flash) c.find_slot.new.store.noted c.find_slot.new.store.table c.find_slot.new.store.unsure c.in_ok-slot.ensures.left.stands.matches c.in_ok-slot.slot.0 c.in_ok-slot.ensures.free)
-    c.in_default.ensures.written
+    (subst (λ (k : Config). WritesStored state c.find_slot.new.store c.program.new.store c.in_ok-slot.slot.0 c.next_record-rec.result (bytes_in k.page_bytes (write_at its.entry its.entry.done)))
+    (c.in_ok-slot.ensures.left.exits.tables.config ∙ c.in_ok-clear.ensures.left.exits.tables.config) c.in_default.ensures.written)
     (subst (λ (a : Link). TreatsAll a.page a.version c.args.store.now.noted c.args.store.now.table c.clear.new.store.noted c.clear.new.store.table) is c.in_ok-clear.ensures.turns)
     (left_then state (standing_in state c.args.store.now c.args.openings.now) (standing_in state c.clear.new.store c.args.openings.now) (standing_in state c.find_slot.new.store c.args.openings.now) false refl refl c.in_ok-clear.ensures.left c.in_ok-slot.ensures.left).exits.moves
 
 pub returns-clause-fresh : goal.returns-clause-fresh
 returns-clause-fresh g c = let state = g.F.Flash.state in
     let its = opening_at c.args.openings.now c.args.at in
-    adds_own state c.args.store.now c.clear.new.store c.find_slot.new.store c.program.new.store c.args.openings.now c.note_next.new.openings (name_at its.naming its.entry.done) (name_at its.naming (link_place its.entry)) c.in_ok-slot.slot c.next_record-rec.result (write_at its.entry its.entry.done).bytes
+    adds_own state c.args.store.now c.clear.new.store c.find_slot.new.store c.program.new.store c.args.openings.now c.note_next.new.openings (due_record c.args.store.now.noted.config.page_bytes its.entry its.naming) c.in_ok-slot.slot c.next_record-rec.result
     (subst NotesWrites (sym (ap (λ (k : Config). k.protocol) (c.in_ok-slot.ensures.left.exits.tables.config ∙ c.in_ok-clear.ensures.left.exits.tables.config) ∙ c.requires.rule)) (record { names = c.noted_writes.ensures.names; partial = c.noted_writes.ensures.partial; completing = c.noted_writes.ensures.completing }))
     c.in_ok-slot.ensures.left.stands.matches.noted c.find_slot.new.store.unsure c.in_ok-slot.ensures.left.stands.matches c.in_ok-slot.ensures.free c.in_ok-clear.ensures.left.kept c.in_ok-slot.ensures.left.kept
-    c.next_record-rec.ensures.named c.in_default.ensures.written
+    c.next_record-rec.ensures.named
+    (subst (λ (k : Config). WritesStored state c.find_slot.new.store c.program.new.store c.in_ok-slot.slot.0 c.next_record-rec.result (bytes_in k.page_bytes (write_at its.entry its.entry.done)))
+    (c.in_ok-slot.ensures.left.exits.tables.config ∙ c.in_ok-clear.ensures.left.exits.tables.config) c.in_default.ensures.written)
 
 pub returns-in_err-clear-clause-breaks : goal.returns-in_err-clear-clause-breaks
 returns-in_err-clear-clause-breaks g c = let state = g.F.Flash.state in

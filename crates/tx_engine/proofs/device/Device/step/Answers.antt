@@ -258,7 +258,7 @@ returns-clause-brings g c =
     let at = entry_settled (is_there state old) c.self.inside.openings c.settle.new.openings c.in-Some.at (ap (λ (m : ArrayState). m.entries) c.in-Ok.ensures.settles.machine) first.within in
     subst (λ (s : Standing _). IfSome (open_of s c.args.tag) (λ (e, x). BringsPage state s new e x)) c.self.view_is
     (for_open state c.self.inside.store c.self.inside.openings c.args.tag c.in-Some.at (BringsPage state old new) first
-    (brings_then state c.self.inside.store c.settle.new.store c.self.inside.openings c.settle.new.openings c.in-Some.at (is_there state old) c.in-Ok.ensures.tables.0 c.in-Ok.ensures.tables.1 c.settle.ensures.moment c.settle.ensures.names first.within at.1 c.advance.new.store c.advance.new.openings c.settle.ensures.exits.carries.shape c.in-Ok-advance.ensures.found c.in-Ok.ensures.reads c.in-Ok-advance.ensures.writes))
+    (brings_then state c.self.inside.store c.settle.new.store c.self.inside.openings c.settle.new.openings c.in-Some.at (is_there state old) c.in-Ok.ensures.tables.0 c.in-Ok.ensures.tables.1 c.settle.ensures.moment c.settle.ensures.names first.within at.1 c.advance.new.store c.advance.new.openings c.in-Ok.ensures.exits.tables.config c.settle.ensures.exits.carries.shape c.in-Ok-advance.ensures.found c.in-Ok.ensures.reads c.in-Ok-advance.ensures.writes))
 
 pub returns-in_default-settle-clause-failed : goal.returns-in_default-settle-clause-failed
 returns-in_default-settle-clause-failed g c =

@@ -25,7 +25,7 @@ returns-clause-bytes c =
     let count = openings_long os in
     let many = pages_read os c.args.at c.index.result.now (omega arith) c.index.ensures in
     rw (← c.self.view_is)
-    (c.deref.ensures.value ∙ bytes_read os c.args.at c.args.place c.index.result.now c.index-2.result.now (omega arith) c.index.ensures
+    (c.deref.ensures.value ∙ bytes_read c.self.inside c.args.at c.args.place c.index.result.now c.index-2.result.now c.self.invariant (omega arith) c.index.ensures
     (omega arith) c.index-2.ensures)
 
 pub returns-clause-whole : goal.returns-clause-whole
@@ -37,5 +37,5 @@ returns-clause-whole c =
     let many = pages_read os c.args.at c.index.result.now (omega arith) c.index.ensures in
     rw (← c.self.view_is)
     (ap length c.deref.ensures.value
-    ∙ page_whole c.self.inside c.args.at c.args.place c.index.result.now c.index-2.result.now c.self.invariant (omega arith) c.index.ensures
-    (omega arith) c.index-2.ensures)
+    ∙ (page_whole c.self.inside c.args.at c.args.place c.index.result.now c.index-2.result.now c.self.invariant (omega arith) c.index.ensures
+    (omega arith) c.index-2.ensures).long)

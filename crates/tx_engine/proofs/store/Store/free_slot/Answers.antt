@@ -24,3 +24,6 @@ returns-clause-still_clear g c = rw (← c.self.view_is) c.free_slot.ensures.sti
 
 pub returns-clause-broken : goal.returns-clause-broken
 returns-clause-broken g c = rw (← c.self.view_is) c.free_slot.ensures.broken
+
+pub returns-clause-collects : goal.returns-clause-collects
+returns-clause-collects g c = rw (← c.self.view_is) c.free_slot.ensures.collects

@@ -1,36 +1,52 @@
-use Rattle.std.proofs.Common.{◌≡◌, subst, sym, ◌∙◌}
+use Rattle.std.proofs.Common.{◌≡◌, Bool, true, false, subst, sym, ap, ◌∙◌}
 use Rattle.std.specs.Option.{option_map}
 use Rattle.collector.specs.Matches.{Matches}
-use Rattle.tx_engine.specs.Read.{read_place}
-use Rattle.tx_engine.proofs.Locating.{home_place, located, located_off, not_victim}
+use Rattle.version_index.specs.Noted.{discarded_of}
+use Rattle.tx_engine.specs.Read.{current_place}
+use Rattle.tx_engine.proofs.Locating.{home_place, located, located_off, not_victim, nowhere, off_place, place_home}
+use Rattle.tx_engine.proofs.WrittenPages.{discard_known}
 use Rattle.tx_engine.proofs.store.Store.place_of.Goals as goal
 
-pub returns-in-VictimErase-clause-none : goal.returns-in-VictimErase-clause-none
-returns-in-VictimErase-clause-none g c =
+pub returns-then-discards : goal.returns-then-discards
+returns-then-discards g c =
     let s = g.F.Flash.state c.self.inside.flash in
-    let m = subst (Matches s c.self.inside.index c.self.inside.blocks) c.in-VictimErase.is c.self.invariant.stored.matches in
-    let off = located_off s c.self.inside.index c.self.inside.blocks c.in-VictimErase.block m c.args.page c.locate_off.result c.locate_off.ensures.lowest c.locate_off.ensures.holds in
-    rw (← c.self.view_is) off.0
+    let d = c.self.inside in
+    let stored = c.self.invariant.stored in
+    let within = rw (← c.self.view_is) at c.requires in
+    let notes = c.known_images_stand.ensures.notes s d.index d.blocks d.unsure stored.matches stored.rule in
+    let array = c.known_images_stand.ensures.array s d.index d.blocks d.unsure stored.matches stored.rule in
+    let discards : discarded_of d.index c.args.page ≡ true = sym c.if-discards.ensures in
+    rw (← c.self.view_is) (record {
+      none = discard_known g.R.CommitRule.protocol s d.index d.blocks d.unsure stored.matches stored.rule notes array c.args.page within discards;
+      place = tt;
+      slot = nowhere d.index d.unsure c.args.page discards;
+    })
 
-pub returns-in-VictimErase-clause-place : goal.returns-in-VictimErase-clause-place
-returns-in-VictimErase-clause-place g c =
+pub returns-in-VictimErase : goal.returns-in-VictimErase
+returns-in-VictimErase g c =
     let s = g.F.Flash.state c.self.inside.flash in
-    let m = subst (Matches s c.self.inside.index c.self.inside.blocks) c.in-VictimErase.is c.self.invariant.stored.matches in
-    let off = located_off s c.self.inside.index c.self.inside.blocks c.in-VictimErase.block m c.args.page c.locate_off.result c.locate_off.ensures.lowest c.locate_off.ensures.holds in
-    rw (← c.self.view_is) off.1
-
-pub returns-in-VictimErase-clause-slot : goal.returns-in-VictimErase-clause-slot
-returns-in-VictimErase-clause-slot g c =
-    rw (← c.self.view_is) (subst (λ u. option_map (λ at. at.0) c.locate_off.result ≡ read_place c.self.inside.index u c.args.page) (sym c.in-VictimErase.is) c.locate_off.ensures.lowest)
+    let d = c.self.inside in
+    let m = subst (Matches s d.index d.blocks) c.in-VictimErase.is c.self.invariant.stored.matches in
+    let held : discarded_of d.index c.args.page ≡ false = sym c.if-discards.ensures in
+    let off = located_off s d.index d.blocks c.in-VictimErase.block m c.args.page c.locate_off.result c.locate_off.ensures.lowest held c.locate_off.ensures.holds in
+    rw (← c.self.view_is) (record {
+      none = off.0;
+      place = off.1;
+      slot = off_place d.index d.unsure c.args.page (option_map (λ at. at.0) c.locate_off.result) held
+          (subst (λ u. option_map (λ at. at.0) c.locate_off.result ≡ current_place d.index u c.args.page) (sym c.in-VictimErase.is) c.locate_off.ensures.lowest);
+    })
 
 pub returns-in-Nothing : goal.returns-in-Nothing
 returns-in-Nothing g c =
     let s = g.F.Flash.state c.self.inside.flash in
+    let d = c.self.inside in
     let m = c.self.invariant.stored.matches in
-    let home = located s c.self.inside.index c.self.inside.blocks c.self.inside.unsure m c.args.page c.locate.result (not_victim c.self.inside.unsure c.in-Nothing.is)
-    c.locate.ensures.home c.locate.ensures.none c.locate.ensures.holds in
+    let held : discarded_of d.index c.args.page ≡ false = sym c.if-discards.ensures in
+    let place = place_home d.index c.args.page (option_map (λ at. at.0) c.locate.result) held c.locate.ensures.home in
+    let home = located s d.index d.blocks d.unsure m c.args.page c.locate.result (not_victim d.unsure c.in-Nothing.is)
+    place held c.locate.ensures.none c.locate.ensures.holds in
     rw (← c.self.view_is) (record {
       none = home.0;
       place = home.1;
-      slot = c.locate.ensures.home ∙ home_place c.self.inside.index c.self.inside.unsure c.args.page (not_victim c.self.inside.unsure c.in-Nothing.is);
+      slot = home_place d.index d.unsure c.args.page (option_map (λ at. at.0) c.locate.result) (not_victim d.unsure c.in-Nothing.is) c.locate.ensures.home;
     })

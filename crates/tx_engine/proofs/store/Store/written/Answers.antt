@@ -4,7 +4,7 @@ use Rattle.tx_types.specs.declared.config.Config.{Config}
 use Rattle.collector.specs.Known.{page_known}
 use Rattle.tx_engine.proofs.WrittenPages.{count_some, count_none, count_all}
 use Rattle.tx_engine.proofs.store.Store.written.Goals as goal
-use Rattle.tx_engine.proofs.store.Store.written.Goals.{then-version-ne0, else-version-ne0}
+use Rattle.tx_engine.proofs.store.Store.written.Goals.{then-is_written, else-is_written}
 
 pub loop-page-preserved : goal.loop-page-preserved
 loop-page-preserved g c =
@@ -15,14 +15,14 @@ loop-page-preserved g c =
     let within : page < n.config.logical = subst (λ (k : Config). page < k.logical) c.config-logical.ensures.config c.loop-page-test.true in
     let notes = c.known_images_stand.ensures.notes s n c.args.self.now.table c.args.self.now.unsure stored.matches stored.rule in
     let array = c.known_images_stand.ensures.array s n c.args.self.now.table c.args.self.now.unsure stored.matches stored.rule in
-    elim c.if-version-ne0.branch [
-      | then-version-ne0 w ↦ (
+    elim c.if-is_written.branch [
+      | then-is_written w ↦ (
           let more = count_some g.R.CommitRule.protocol s n c.args.self.now.table c.args.self.now.unsure stored.matches stored.rule notes array page within
-          (λ none. w.if-version-ne0.true (c.version.ensures ∙ none)) in
+          (sym w.if-is_written.ensures) in
           (w.count-is ∙ ap (λ k. k + 1) c.loop-page.invariant.0 ∙ sym more, omega (arith, c.loop-page.invariant.1, w.count-is)))
-      | else-version-ne0 w ↦ (
+      | else-is_written w ↦ (
           let more = count_none g.R.CommitRule.protocol s n c.args.self.now.table c.args.self.now.unsure stored.matches stored.rule notes array page within
-          (sym c.version.ensures ∙ w.if-version-ne0.false) in
+          (sym w.if-is_written.ensures) in
           (omega (arith, w.count-is, c.loop-page.invariant.0, more), omega (arith, c.loop-page.invariant.1, w.count-is)))
     ]
 

@@ -4,6 +4,6 @@ use Rattle.tx_types.proofs.batch.Batch.is_empty.Goals as goal
 
 pub returns : goal.returns
 returns c =
-    let long : vec_len c.self.inside.pages ≡ length c.self.inside.pages.items = omega arith in
+    let long : vec_len c.self.inside.targets ≡ length c.self.inside.targets.items = omega arith in
     let tested = c.is_empty.ensures ∙ ap (λ n. eqb n 0) long in
-    rw (← c.self.view_is) (is_empty-writes_in c.self.inside.page_bytes c.self.inside.pages.items c.self.inside.bytes.items c.is_empty.result tested)
+    rw (← c.self.view_is) (is_empty-writes_in c.self.inside.page_bytes c.self.inside.targets.items c.self.inside.bytes.items c.is_empty.result tested)
