@@ -1,5 +1,5 @@
 -- What a put gives, by what its parts gave.
-use Rattle.std.proofs.Common.{◌≡◌, ◌⊎◌, ◌<◌, ℕ, Bool, true, false, List, [], ◌∷◌, ◌++◌, length, if◌then◌else◌, Option, Some, None, Result, Ok, Err, option_map, refl, sym, ap, subst, ◌∙◌, inl, inr, arith, nat_le}
+use Rattle.std.proofs.Common.{◌≡◌, ◌⊎◌, ◌<◌, ◌≤◌, ℕ, Bool, true, false, List, [], ◌∷◌, ◌++◌, length, if◌then◌else◌, Option, Some, None, Result, Ok, Err, option_map, refl, sym, ap, subst, ◌∙◌, inl, inr, arith, nat_le}
 use Rattle.std.specs.List.{list_any, find}
 use Rattle.std.specs.Option.{option_or}
 use Rattle.std.specs.Result.{IsErrAnd}
@@ -14,10 +14,12 @@ use Rattle.tx_types.specs.declared.config.Protocol.{Protocol}
 use Rattle.std.proofs.lemmas.List.FromFn.{length-map-range_with_len}
 use Rattle.version_index.specs.Images.{array_in}
 use Rattle.tx_engine.specs.ArrayState.{ArrayState, Pages, StandsFor, put, idle}
+use Rattle.tx_engine.specs.Always.{IsSeen}
+use Rattle.tx_engine.proofs.Seen.{seen_flash}
 use Rattle.tx_engine.specs.Naming.{is_spent}
 use Rattle.tx_engine.specs.Standing.{Standing}
 use Rattle.page_keys.specs.Buckets.{ShowsMap}
-use Rattle.page_keys.specs.KeyMaps.{KeyMap, after, pages_of}
+use Rattle.page_keys.specs.KeyMaps.{KeyMap, after, pages_of, seen_by}
 use Rattle.page_keys.specs.PutAnswers.{PutGives, StaysPut, MakesAll, MakesAllOrNone}
 use Rattle.page_keys.specs.Putting.{IsFull, is_put_fault}
 use Rattle.page_keys.specs.Puts as puts
@@ -27,7 +29,8 @@ use Rattle.std.specs.Prelude.{OnOk, IfErr}
 use Rattle.tx_engine.specs.Submit.{spent_page}
 use Rattle.array_machine.specs.declared.answers.SubmitError.TheVariants as submit
 use Rattle.page_keys.specs.Puts.{put_writes}
-use Rattle.page_keys.specs.Writing.{Writes, WritesNot, Breaks, Moved}
+use Rattle.page_keys.specs.Writing.{Writes, WritesNot, Breaks, Moved, seen_more}
+use Rattle.page_keys.proofs.Mentions.{put_seen, seen_by_least, seen_later, seen_same}
 use Rattle.page_keys.proofs.PutWrites.{spent_pages, map_none}
 use Rattle.page_keys.specs.declared.answers.PutError.{PutError}
 use Rattle.page_keys.specs.declared.answers.PutError.TheVariants as refused
@@ -85,6 +88,7 @@ module _ {F : Type 0} (state : F → FlashState) (old : Keyed F) (m : KeyMap) (c
     mentions = refl;
     moment = refl;
     carries = Carries-nothing (state old.device.flash);
+    seen = λ seen h. h;
     usable = usable;
   }
 
@@ -119,7 +123,7 @@ module _ {F : Type 0} (state : F → FlashState) (old : Keyed F) (m : KeyMap) (c
       subst (λ (y : PutError). PutGives state old new m cs (Err y)) (sym is) given
 
 -- nothing open: the image has the array
-stands_idle : (s : ArrayState) (arr : Pages) → s.entries ≡ [] → StandsFor s arr → arr ≡ s.pages
+pub stands_idle : (s : ArrayState) (arr : Pages) → s.entries ≡ [] → StandsFor s arr → arr ≡ s.pages
 stands_idle s arr closed (inl h) = h
 stands_idle s arr closed (inr h) =
     let within = subst (λ k. h.1.0 < k) (ap length closed) h.1.1 in
@@ -131,6 +135,11 @@ module _ {F : Type 0} (state : F → FlashState) (old : Keyed F) (t : Standing F
   after_reads : Bool → Keyed F
   after_reads b = record { device = t; broken = b }
 
+  read_seen : t ≡ record old.device { flash = t.flash } → (seen : ℕ → ℕ) →
+      IsSeen seen old.device → IsSeen seen t
+  read_seen stays seen h =
+      subst (IsSeen seen) (sym stays) (seen_flash seen old.device t.flash h)
+
   reads_stay : OnlyReads state old.device t false → StaysPut state old (record { device = t; broken = false })
   reads_stay reads = record {
     config = ap (λ (s : Standing F). s.config) reads.stays;
@@ -138,6 +147,7 @@ module _ {F : Type 0} (state : F → FlashState) (old : Keyed F) (t : Standing F
     mentions = ap (λ (s : Standing F). s.noted.mentions) reads.stays;
     moment = reads.moment;
     carries = reads.carries;
+    seen = read_seen reads.stays;
     usable = refl;
   }
 
@@ -161,6 +171,8 @@ module _ {F : Type 0} (state : F → FlashState) (old : Keyed F) (t : Standing F
           moves = FlashMoves-nothing (state old.device.flash) (state t.flash) true reads.moment;
           carries = reads.carries;
         };
+        seen = λ seen h. seen_later t t seen (seen_by old.device.config.logical cs seen)
+            (seen_by_least old.device.config.logical cs seen) (read_seen reads.stays seen h);
         broken = refl;
       }
 
@@ -243,6 +255,18 @@ module _ {F : Type 0} (state : F → FlashState) (old new : Keyed F) (t : Standi
   shown_now pages n config h =
       subst (λ (c : Config). ShowsMap c pages n) (sym (config ∙ its_config)) h
 
+  -- what a put may have mentioned
+  written_seen : ((seen : ℕ → ℕ) → IsSeen seen t → IsSeen (seen_more seen ws) new.device) →
+      (seen : ℕ → ℕ) → IsSeen seen old.device →
+      IsSeen (seen_by old.device.config.logical cs seen) new.device
+  written_seen more seen h =
+      seen_later new.device new.device (seen_more seen ws)
+      (seen_by old.device.config.logical cs seen)
+      (λ page. subst (λ (l : List PageWrite).
+      seen_more seen l page ≤ seen_by old.device.config.logical cs seen page) (sym are)
+      (put_seen old.device.config m cs seen page))
+      (more seen (subst (IsSeen seen) (sym reads.stays) (seen_flash seen old.device t.flash h)))
+
   pub all_made : Writes state t new.device ws → new.broken ≡ false → MakesAll state old new m cs
   all_made writes usable = record {
     taken = none_spent writes.unspent;
@@ -250,6 +274,7 @@ module _ {F : Type 0} (state : F → FlashState) (old new : Keyed F) (t : Standi
         (subst (λ (s : ArrayState). ShowsMap old.device.config s.pages (after m cs))
         (sym (writes.machine ∙ ap (λ (s : ArrayState). idle (put s.pages ws)) its_machine)) made);
     moved = moved_on false writes.moved;
+    seen = written_seen writes.seen;
     usable = usable;
   }
 
@@ -272,6 +297,7 @@ module _ {F : Type 0} (state : F → FlashState) (old new : Keyed F) (t : Standi
           )
         ];
         moved = moved_on true breaks.moved;
+        seen = written_seen breaks.seen;
         broken = broken;
       }
 
@@ -292,6 +318,8 @@ module _ {F : Type 0} (state : F → FlashState) (old new : Keyed F) (t : Standi
       moment = ap (λ (f : F). moment_of (state f)) not.1.flash ∙ reads.moment;
       carries = subst (λ (f : F). Carries (state old.device.flash) (state f) false)
           (sym not.1.flash) reads.carries;
+      seen = λ seen h. seen_same t new.device seen not.1.mentions not.1.namings
+          (subst (IsSeen seen) (sym reads.stays) (seen_flash seen old.device t.flash h));
       usable = broken;
     },
   )

@@ -89,10 +89,10 @@ pub entry_added : (its : Config) (n : KeyMap) (batch : Writes) (pages : List ℕ
 entry_added its n batch pages i bytes within size are made =
     let p = get_or pages i 0 in
     let w = write_of its n in
-    let one : padded batch.page_bytes bytes ≡ (w p).bytes =
-    ap (λ k. padded k bytes) size ∙ ap (padded its.page_bytes) are in
-    ap (λ (l : List PageWrite). l ++ record { page = p; bytes = padded batch.page_bytes bytes } ∷ []) made
-    ∙ ap (λ (b : List ℕ). map w (take i pages) ++ record { page = p; bytes = b } ∷ []) one
+    let one : Some (padded batch.page_bytes bytes) ≡ (w p).value =
+    ap (λ k. Some (padded k bytes)) size ∙ ap (λ b. Some (padded its.page_bytes b)) are in
+    ap (λ (l : List PageWrite). l ++ record { page = p; value = Some (padded batch.page_bytes bytes) } ∷ []) made
+    ∙ ap (λ (v : Option (List ℕ)). map w (take i pages) ++ record { page = p; value = v } ∷ []) one
     ∙ sym (ap (map w) (take_more pages i 0 within) ∙ map-append w (take i pages) (p ∷ []))
 
 module _ {F : Type 0} (s t : Standing F) (stays : t ≡ record s { flash = t.flash }) (m : KeyMap) where

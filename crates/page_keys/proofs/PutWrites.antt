@@ -103,29 +103,29 @@ pick false false x y z is = is
 
 module _ (its : Config) (n : KeyMap) where
   set_written : (pages : Pages) (p q : ℕ) → p < length pages →
-      page_at (set pages p (Some (write_of its n p).bytes)) q
-      ≡ (if p == q then Some (write_of its n q).bytes else page_at pages q)
+      page_at (set pages p (write_of its n p).value) q
+      ≡ (if p == q then (write_of its n q).value else page_at pages q)
   set_written pages p q within =
       elim (eqb_tells p q) [
         | inl same ↦
-            rw same.0 (get_or-set_at pages p q (Some (write_of its n p).bytes) None (sym same.1) within
-            ∙ ap (λ k. Some (write_of its n k).bytes) same.1)
+            rw same.0 (get_or-set_at pages p q (write_of its n p).value None (sym same.1) within
+            ∙ ap (λ k. (write_of its n k).value) same.1)
         | inr other ↦
             rw other.0
-            (get_or-set_other pages p q (Some (write_of its n p).bytes) None (λ e. other.1 (sym e)))
+            (get_or-set_other pages p q (write_of its n p).value None (λ e. other.1 (sym e)))
       ]
 
   -- what an array has after the writes of some pages
   put_at : (ps : List ℕ) (pages : Pages) (q : ℕ) →
       AllByRecursion (λ p. p < length pages) ps →
       page_at (put pages (map (write_of its n) ps)) q
-      ≡ (if among q ps then Some (write_of its n q).bytes else page_at pages q)
+      ≡ (if among q ps then (write_of its n q).value else page_at pages q)
   put_at [] pages q within = refl
   put_at (p ∷ ps) pages q within =
-      let v = Some (write_of its n p).bytes in
+      let v = (write_of its n p).value in
       let sized = subst (λ k. AllByRecursion (λ r. r < k) ps) (sym (length-set pages p v)) within.1 in
       put_at ps (set pages p v) q sized
-      ∙ pick (p == q) (among q ps) (Some (write_of its n q).bytes) (page_at (set pages p v) q)
+      ∙ pick (p == q) (among q ps) ((write_of its n q).value) (page_at (set pages p v) q)
       (page_at pages q) (set_written pages p q within.0)
 
 find_head : (b : Bool) (p : ℕ) (r : Option ℕ) → (if b then Some p else r) ≡ None →
@@ -164,7 +164,7 @@ module _ (its : Config) (m : KeyMap) (cs : List Change) (pages : Pages)
     (size : length pages ≡ its.logical) (fits : puts.full its m cs ≡ None) where
   written : (page : ℕ) (b : Bool) → page < its.logical → is_touched its.logical cs page ≡ b →
       HoldsEntries its.page_bytes
-      (shown its.page_bytes (if b then Some (write_of its (after m cs) page).bytes
+      (shown its.page_bytes (if b then (write_of its (after m cs) page).value
       else page_at pages page))
       (keys.entries (part its.logical page (after m cs)))
   written page true exists touched =

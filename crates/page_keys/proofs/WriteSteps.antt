@@ -1,5 +1,5 @@
 -- What the steps of a put keep of a device.
-use Rattle.std.proofs.Common.{◌≡◌, ℕ, Bool, true, false, List, [], ◌∷◌, ◌++◌, if◌then◌else◌, Option, Some, None, Ok, Err, refl, sym, ap, subst, ◌∙◌}
+use Rattle.std.proofs.Common.{◌≡◌, ℕ, ◌<◌, length, arith, Bool, true, false, List, [], ◌∷◌, ◌++◌, if◌then◌else◌, Option, Some, None, Ok, Err, refl, sym, ap, subst, ◌∙◌}
 use Rattle.tx_types.specs.Batch.{PageWrite}
 use Rattle.flash_model.specs.Flash.{FlashState}
 use Rattle.flash_model.specs.Calls.{Carries}
@@ -7,6 +7,7 @@ use Rattle.flash_model.specs.Operations.{moment_of}
 use Rattle.flash_model.proofs.CallLemmas.{Carries-nothing, Carries-then}
 use Rattle.flash_model.proofs.MoveLemmas.{FlashMoves-nothing, FlashMoves-then}
 use Rattle.tx_engine.specs.ArrayState.{ArrayState, Entry, opening}
+use Rattle.tx_engine.specs.Always.{IsSeen}
 use Rattle.tx_engine.specs.Exits.{Exits}
 use Rattle.tx_engine.specs.Standing.{Standing}
 use Rattle.tx_engine.specs.Submit.{Limits, Submits, first_refusals, or_else, spent_page, answer, opened, refusal}
@@ -19,7 +20,7 @@ use Rattle.tx_engine.specs.Naming.{is_spent}
 use Rattle.tx_engine.specs.Step.{StepsAs}
 use Rattle.array_machine.specs.declared.answers.StepError.{StepError}
 use Rattle.array_machine.specs.declared.answers.StepError.TheVariants as failed
-use Rattle.page_keys.specs.Writing.{Moved, Breaks, writing}
+use Rattle.page_keys.specs.Writing.{Moved, Breaks, writing, seen_more}
 use Rattle.page_keys.proofs.Steps.{not_unknown, fault_leaves}
 
 module _ {F : Type 0} (state : F → FlashState) where
@@ -43,6 +44,7 @@ module _ {F : Type 0} (state : F → FlashState) where
 -- a fault in a step leaves the array of the image, or that with all writes
 pub breaks_off : {F : Type 0} (state : F → FlashState) (old mid new : Standing F)
     (ws : List PageWrite) (k : ℕ) (there : Bool) (e : StepError) →
+    ((seen : ℕ → ℕ) → IsSeen seen old → IsSeen (seen_more seen ws) new) →
     mid.machine ≡ writing old.machine.pages ws k →
     spent_page (is_spent old.noted.mentions) ws ≡ None → Moved state old mid false →
     StepsAs there mid.machine new.machine 0 (Err e) →
@@ -50,13 +52,14 @@ pub breaks_off : {F : Type 0} (state : F → FlashState) (old mid new : Standing
     StandsFor new.machine
     (array_in new.config.protocol new.config.logical (state new.flash).image) →
     Breaks state old new ws
-breaks_off state old mid new ws k there failed.Unknown machine unspent moved steps exits stands =
+breaks_off state old mid new ws k there failed.Unknown seen machine unspent moved steps exits stands =
     absurd (not_unknown old.machine.pages ws k new.machine there
     (subst (λ (m : ArrayState). StepsAs there m new.machine 0 (Err failed.Unknown)) machine steps))
-breaks_off state old mid new ws k there failed.Fault machine unspent moved steps exits stands =
+breaks_off state old mid new ws k there failed.Fault seen machine unspent moved steps exits stands =
     record {
       unspent = unspent;
       moved = moved_then state old mid new true moved exits;
+      seen = seen;
       left = fault_leaves old.machine.pages ws k new.machine _ stands there
           (subst (λ (m : ArrayState). StepsAs there m new.machine 0 (Err failed.Fault)) machine
           steps);
@@ -110,3 +113,9 @@ module _ (limits : Limits) (spent : ℕ → Bool) (old new : ArrayState) (ws : L
         page,
         submits.opens ∙ ap (λ (o : Option SubmitError). opened o 0 ws old) some,
       )
+
+-- a batch that is not refused has a write
+pub some_write : (limits : Limits) (ws : List PageWrite) → first_refusals limits [] 0 ws ≡ None →
+    0 < length ws
+some_write limits [] fits = cc
+some_write limits (w ∷ ws) fits = omega arith

@@ -1,5 +1,5 @@
 -- The map machine: a finite map from short keys to short values, and what a put makes of it.
-use Rattle.std.specs.Prelude.{ℕ, ◌+◌, ◌*◌, ◌%◌, ◌^◌, ◌==◌, Bool, List, [], ◌∷◌, filter, fold, Option, None, Some}
+use Rattle.std.specs.Prelude.{ℕ, ◌+◌, ◌*◌, ◌%◌, ◌^◌, ◌==◌, Bool, List, [], ◌∷◌, filter, fold, Option, None, Some, if◌then◌else◌}
 use Rattle.std.specs.List.{list_any, range_with_len}
 use Rattle.std.specs.Cmp.Lexicographic.{slice_cmp}
 use Rattle.std.specs.Ordering.{nat_cmp}
@@ -64,3 +64,8 @@ is_touched logical changes page = list_any (λ c. is_in logical page c.key) chan
 -- the pages of the keys of the changes, in ascending order
 abbrev pub pages_of : ℕ → List Change → List ℕ
 pages_of logical changes = filter (is_touched logical changes) (range_with_len 0 logical)
+
+-- each of these pages may be mentioned once more
+abbrev pub seen_by : ℕ → List Change → (ℕ → ℕ) → ℕ → ℕ
+seen_by logical changes seen page =
+    if is_touched logical changes page then seen page + 1 else seen page

@@ -1,10 +1,16 @@
 pub mod Buckets
 pub mod Entries
 pub mod KeyMaps
+pub mod KeyReplies
+pub mod KeyRuns
+pub mod KeyServed
+pub mod KeySessions
 pub mod Pages
 pub mod PutAnswers
 pub mod Puts
 pub mod Putting
+pub mod ScriptReading
+pub mod Scripts
 pub mod Shorts
 pub mod StoreParts
 pub mod Stores

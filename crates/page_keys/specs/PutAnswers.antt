@@ -1,12 +1,13 @@
 -- What a put answers, and what it leaves.
-use Rattle.std.specs.Prelude.{◌≡◌, ◌⊎◌, true, false, List, None, Some, Result, Ok, Err}
+use Rattle.std.specs.Prelude.{◌≡◌, ◌⊎◌, ℕ, true, false, List, None, Some, Result, Ok, Err}
 use Rattle.flash_model.specs.Flash.{FlashState}
 use Rattle.flash_model.specs.Calls.{Carries}
 use Rattle.flash_model.specs.Operations.{moment_of}
 use Rattle.version_index.specs.Images.{array_in}
+use Rattle.tx_engine.specs.Always.{IsSeen}
 use Rattle.tx_engine.specs.Naming.{is_spent}
 use Rattle.page_keys.specs.Buckets.{ShowsMap}
-use Rattle.page_keys.specs.KeyMaps.{KeyMap, after}
+use Rattle.page_keys.specs.KeyMaps.{KeyMap, after, seen_by}
 use Rattle.page_keys.specs.Puts.{put_refusal}
 use Rattle.page_keys.specs.Stores.{Keyed}
 use Rattle.page_keys.specs.Writing.{Moved}
@@ -21,6 +22,7 @@ pub record StaysPut {F : Type 0} (state : F → FlashState) (old new : Keyed F) 
   pub mentions : new.device.noted.mentions ≡ old.device.noted.mentions
   pub moment : moment_of (state new.device.flash) ≡ moment_of (state old.device.flash)
   pub carries : Carries (state old.device.flash) (state new.device.flash) false
+  pub seen : (seen : ℕ → ℕ) → IsSeen seen old.device → IsSeen seen new.device
   pub usable : new.broken ≡ false
 
 -- all changes are made
@@ -29,6 +31,8 @@ pub record MakesAll {F : Type 0} (state : F → FlashState) (old new : Keyed F) 
   pub taken : put_refusal old.device.config (is_spent old.device.noted.mentions) m cs ≡ None
   pub shows : ShowsMap new.device.config new.device.machine.pages (after m cs)
   pub moved : Moved state old.device new.device false
+  pub seen : (seen : ℕ → ℕ) → IsSeen seen old.device →
+      IsSeen (seen_by old.device.config.logical cs seen) new.device
   pub usable : new.broken ≡ false
 
 -- the image shows the map as it was, or with all changes, which were not refused
@@ -40,6 +44,8 @@ pub record MakesAllOrNone {F : Type 0} (state : F → FlashState) (old new : Key
       ⊎ ((put_refusal old.device.config (is_spent old.device.noted.mentions) m cs ≡ None)
       × ShowsMap new.device.config array (after m cs))
   pub moved : Moved state old.device new.device true
+  pub seen : (seen : ℕ → ℕ) → IsSeen seen old.device →
+      IsSeen (seen_by old.device.config.logical cs seen) new.device
   pub broken : new.broken ≡ true
 
 abbrev pub PutGives : {F : Type 0} → (F → FlashState) → Keyed F → Keyed F → KeyMap →

@@ -66,7 +66,7 @@ put_refusal its spent m cs =
 abbrev pub write_of : Config → KeyMap → ℕ → PageWrite
 write_of its m page = record {
   page = page;
-  bytes = bucket_bytes its.page_bytes (keys.entries (part its.logical page m));
+  value = Some (bucket_bytes its.page_bytes (keys.entries (part its.logical page m)));
 }
 
 -- what a put writes: each page that a key falls in, as the map has it then

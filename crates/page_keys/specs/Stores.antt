@@ -3,7 +3,8 @@ use Rattle.std.specs.Prelude.{◌≡◌, ℕ, ◌<◌, Bool, true, false, []}
 use Rattle.flash_model.specs.Flash.{FlashState}
 use Rattle.flash_model.specs.Calls.{Carries}
 use Rattle.flash_model.specs.Operations.{moment_of}
-use Rattle.tx_engine.specs.ArrayState.{page_at}
+use Rattle.tx_types.specs.declared.config.Config.{Config}
+use Rattle.tx_engine.specs.ArrayState.{Pages, page_at}
 use Rattle.tx_engine.specs.Standing.{Standing}
 use Rattle.page_keys.specs.Buckets.{AreBuckets, IsBucket, shown}
 use Rattle.page_keys.specs.declared.answers.KeyError.{KeyError}
@@ -31,16 +32,16 @@ is_key_fault (failed.Bucket page) = false
 is_key_fault failed.Fault = true
 is_key_fault failed.Memory = false
 
--- the least page that is no bucket
-pub record IsFirstBad {F : Type 0} (s : Standing F) (page : ℕ) : Type 0 where
-  pub exists : page < s.config.logical
-  pub bad : ¬ IsBucket s.config.page_bytes s.config.logical page
-      (shown s.config.page_bytes (page_at s.machine.pages page))
+-- the least page of an array that is no bucket
+pub record IsFirstBad (its : Config) (pages : Pages) (page : ℕ) : Type 0 where
+  pub exists : page < its.logical
+  pub bad : ¬ IsBucket its.page_bytes its.logical page
+      (shown its.page_bytes (page_at pages page))
   pub before : (earlier : ℕ) → earlier < page →
-      IsBucket s.config.page_bytes s.config.logical earlier
-      (shown s.config.page_bytes (page_at s.machine.pages earlier))
+      IsBucket its.page_bytes its.logical earlier
+      (shown its.page_bytes (page_at pages earlier))
 
 abbrev pub OpensNot : {F : Type 0} → Standing F → KeyError → Type 0
-OpensNot s (failed.Bucket page) = IsFirstBad s page
+OpensNot s (failed.Bucket page) = IsFirstBad s.config s.machine.pages page
 OpensNot s failed.Fault = Unit {0}
 OpensNot s failed.Memory = Unit {0}

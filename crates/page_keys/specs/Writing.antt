@@ -1,11 +1,13 @@
 -- Writing the pages of a put as one transaction.
-use Rattle.std.specs.Prelude.{◌≡◌, ◌⊎◌, ℕ, ◌+◌, Bool, true, false, List, [], ◌∷◌, count_by, None, Some}
+use Rattle.std.specs.Prelude.{◌≡◌, ◌⊎◌, ℕ, ◌+◌, Bool, true, false, List, [], ◌∷◌, None, Some, if◌then◌else◌}
+use Rattle.std.specs.List.{list_any}
 use Rattle.tx_types.specs.Batch.{PageWrite}
 use Rattle.flash_model.specs.Flash.{FlashState}
 use Rattle.flash_model.specs.Calls.{Carries}
 use Rattle.flash_model.specs.Moves.{FlashMoves}
 use Rattle.version_index.specs.Images.{array_in}
 use Rattle.tx_engine.specs.ArrayState.{ArrayState, Pages, put, idle}
+use Rattle.tx_engine.specs.Always.{IsSeen}
 use Rattle.tx_engine.specs.Submit.{spent_page, is_of}
 use Rattle.tx_engine.specs.Naming.{is_spent}
 use Rattle.tx_engine.specs.Standing.{Standing}
@@ -14,9 +16,10 @@ use Rattle.array_machine.specs.declared.answers.SubmitError.TheVariants as submi
 use Rattle.page_keys.specs.declared.answers.PutError.{PutError}
 use Rattle.page_keys.specs.declared.answers.PutError.TheVariants as refused
 
--- a page may be mentioned once more for each write of it
+-- a page that is written may be mentioned once more
 abbrev pub seen_more : (ℕ → ℕ) → List PageWrite → ℕ → ℕ
-seen_more seen writes page = seen page + count_by (is_of page) writes
+seen_more seen writes page =
+    if list_any (is_of page) writes then seen page + 1 else seen page
 
 -- what stays of a device, and how its flash moved
 pub record Moved {F : Type 0} (state : F → FlashState) (old new : Standing F)
@@ -31,6 +34,7 @@ pub record Writes {F : Type 0} (state : F → FlashState) (old new : Standing F)
   pub unspent : spent_page (is_spent old.noted.mentions) writes ≡ None
   pub machine : new.machine ≡ idle (put old.machine.pages writes)
   pub moved : Moved state old new false
+  pub seen : (seen : ℕ → ℕ) → IsSeen seen old → IsSeen (seen_more seen writes) new
 
 -- nothing changed but what is pinned
 pub record Refuses {F : Type 0} (old new : Standing F) : Type 0 where
@@ -38,12 +42,14 @@ pub record Refuses {F : Type 0} (old new : Standing F) : Type 0 where
   pub machine : new.machine ≡ old.machine
   pub flash : new.flash ≡ old.flash
   pub mentions : new.noted.mentions ≡ old.noted.mentions
+  pub namings : new.namings ≡ old.namings
 
 -- the image has the array, or that with all the writes
 pub record Breaks {F : Type 0} (state : F → FlashState) (old new : Standing F)
     (writes : List PageWrite) : Type 0 where
   pub unspent : spent_page (is_spent old.noted.mentions) writes ≡ None
   pub moved : Moved state old new true
+  pub seen : (seen : ℕ → ℕ) → IsSeen seen old → IsSeen (seen_more seen writes) new
   pub left : let array = array_in new.config.protocol new.config.logical (state new.flash).image in
       (array ≡ old.machine.pages) ⊎ (array ≡ put old.machine.pages writes)
 

@@ -45,11 +45,10 @@ impl Changes {
             (self.new ≡ self.old ++ record { key = key.now; value = Some value.now } ∷ []) }
         ensures err { OnErr result (self.new ≡ self.old) }
     {
-        self.all.push(Change {
+        self.push(Change {
             key: Short::new(key),
             value: Some(Short::new(value)),
-        })?;
-        Ok(())
+        })
     }
 
     /// Adds the removal of a key at the end. After `Memory` the changes are as before.
@@ -59,10 +58,18 @@ impl Changes {
             (self.new ≡ self.old ++ record { key = key.now; value = None } ∷ []) }
         ensures err { OnErr result (self.new ≡ self.old) }
     {
-        self.all.push(Change {
+        self.push(Change {
             key: Short::new(key),
             value: None,
-        })?;
+        })
+    }
+
+    /// Adds a change at the end. After `Memory` the changes are as before.
+    pub(crate) fn push(&mut self, change: Change) -> Result<(), Memory>
+        ensures ok { OnOk result (self.new ≡ self.old ++ change ∷ []) }
+        ensures err { OnErr result (self.new ≡ self.old) }
+    {
+        self.all.push(change)?;
         Ok(())
     }
 

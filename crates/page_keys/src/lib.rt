@@ -3,18 +3,40 @@
 
 mod answers;
 mod changes;
+mod command;
 mod entries;
 mod hashing;
+mod key_calls;
+mod key_error;
+mod key_line;
+mod key_reply;
+mod key_serving;
+mod key_session;
+mod key_verb;
+mod key_words;
+mod laws;
 mod pages;
 mod putting;
 mod reading;
 mod refusals;
+mod script;
+mod script_error;
 mod short;
 mod store;
 mod writing;
 
 pub use answers::{KeyError, PutError};
 pub use changes::{Change, Changes};
+pub use command::KeyCommand;
 pub use hashing::bucket;
+pub use key_error::KeyServeError;
+pub use key_reply::{KeyReply, key_reply_text};
+pub use key_serving::key_serve;
+pub use laws::{arrays_show_maps, puts_are_whole};
+pub use script::parse_keys;
+pub use script_error::KeyTextError;
 pub use short::{MAX_SHORT, Short};
 pub use store::KeyStore;
+
+#[cfg(test)]
+mod tests;

@@ -70,8 +70,9 @@ pub(crate) fn read(
 /// The number of bytes of a key's value in a bucket, which are copied; the bytes behind them stay.
 pub(crate) fn value_in(bytes: &[u8], key: &[u8], into: &mut [u8; 15]) -> Option<usize>
     requires { (pairs : List Pair) × HoldsEntries (length bytes.now) bytes.now pairs }
-    ensures { (pairs : List Pair) → HoldsEntries (length bytes.now) bytes.now pairs →
+    ensures gives { (pairs : List Pair) → HoldsEntries (length bytes.now) bytes.now pairs →
         GivesValue (value_of key.now pairs) result into.old into.new }
+    ensures few { IfSome result (λ len. len ≤ MAX_SHORT) }
 {
     let mut rest = bytes;
     'entries: while rest.len() >= ENTRY_BYTES && rest[0] != 0 {
@@ -88,7 +89,8 @@ pub(crate) fn value_in(bytes: &[u8], key: &[u8], into: &mut [u8; 15]) -> Option<
 /// Copies a value to the front of the room, and answers the number of its bytes.
 fn copy(value: &[u8], into: &mut [u8; 15]) -> usize
     requires { length value.now ≤ MAX_SHORT }
-    ensures { GivesValue (Some value.now) (Some result) into.old into.new }
+    ensures gives { GivesValue (Some value.now) (Some result) into.old into.new }
+    ensures few { result ≤ MAX_SHORT }
 {
     into[..value.len()].copy_from_slice(value);
     value.len()

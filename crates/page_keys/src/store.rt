@@ -1,8 +1,8 @@
-ghost use Rattle.std.specs.Prelude.{◌≡◌, ◌<◌, ◌≤◌, ◌+◌, ◌^◌, ◌⊎◌, [], Ok, Err, None, Some, false, true, length, All, IfOk, IfErr, OnOk, OnErr};
+ghost use Rattle.std.specs.Prelude.{◌≡◌, ◌<◌, ◌≤◌, ◌+◌, ◌^◌, ◌⊎◌, [], Ok, Err, None, Some, false, true, length, All, IfOk, IfErr, IfSome, OnOk, OnErr};
 ghost use Rattle.std.specs.Result.{is_err};
 ghost use Rattle.std.specs.FinMap.{get};
 ghost use Rattle.flash_model.specs.Arms.{ArmsCut};
-ghost use Rattle.tx_engine.specs.Naming.{is_spent};
+ghost use Rattle.tx_engine.specs.Always.{HoldsAlways};
 ghost use Rattle.page_keys.specs.KeyMaps.{KeyMap};
 ghost use Rattle.page_keys.specs.Buckets.{ShowsMap};
 ghost use Rattle.page_keys.specs.Entries.{GivesValue};
@@ -24,13 +24,14 @@ use crate::pages::{check_all, read_page};
 use crate::putting::rewritten_all;
 use crate::reading::value_in;
 use crate::refusals::checked;
+use crate::short::MAX_SHORT;
 use crate::writing;
 use flash_model::{Arms, Flash, Outcome};
 use record_list::CommitRule;
 use std::alloc::Global;
 use std::marker::Model;
 use tx_engine::{Device, Fault, held_always};
-use tx_types::Batch;
+use tx_types::{Batch, Config};
 
 /// A store of short keys over a device: a map, of which a put changes all its keys at once, whatever breaks.
 #[derive(Drop)]
@@ -84,12 +85,22 @@ impl<F: Flash, R: CommitRule> KeyStore<F, R> {
         }
     }
 
+    /// The configuration of the device, and what holds of the store at every moment.
+    pub fn config(&self) -> Config
+        ensures config { result ≡ self.now.device.config }
+        ensures always { HoldsAlways F.state R.protocol self.now.device }
+        ensures keys { self.now.broken ≡ false → HasKeys self.now.device }
+    {
+        held_always(&self.device)
+    }
+
     /// The number of bytes of a key's value, which are copied to the front of the room; none where the key is absent.
     pub fn get(&mut self, key: &[u8], into: &mut [u8; 15]) -> Result<Option<usize>, Fault>
         requires { self.old.broken ≡ false }
         ensures gives { IfOk result (λ found. (m : KeyMap) →
             ShowsMap self.old.device.config self.old.device.machine.pages m →
             GivesValue (get m key.now) found into.old into.new) }
+        ensures few { IfOk result (λ found. IfSome found (λ len. len ≤ MAX_SHORT)) }
         ensures reads { OnlyReads F.state self.old.device self.new.device (is_err result) }
         ensures usable { self.new.broken ≡ false }
         ensures once { (F.state self.new.device.flash).reads

@@ -23,10 +23,16 @@ pub(crate) fn write<F: Flash, R: CommitRule>(
     if let Err(refusal) = device.submit(0, batch) {
         return Err(spent(refusal));
     }
+    held_always(device);
     'steps: loop {
         match device.step(0) {
-            Ok(Progress::Wrote { .. }) => {}
-            Ok(Progress::Done) => return Ok(()),
+            Ok(Progress::Wrote { .. }) => {
+                held_always(device);
+            }
+            Ok(Progress::Done) => {
+                held_always(device);
+                return Ok(());
+            }
             Err(_) => {
                 held_always(device);
                 return Err(PutError::Fault);

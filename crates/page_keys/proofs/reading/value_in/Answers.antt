@@ -4,14 +4,14 @@ use Rattle.page_keys.proofs.Spelling.{entry_equal}
 use Rattle.page_keys.proofs.EntriesLeft.{first_entry, none_left, none_short, found_first, found_later, same_bytes, other_bytes}
 use Rattle.page_keys.proofs.reading.value_in.Goals as goal
 
-pub returns-in_err-found : goal.returns-in_err-found
-returns-in_err-found c pairs holds =
+pub returns-in_err-found-clause-gives : goal.returns-in_err-found-clause-gives
+returns-in_err-found-clause-gives c pairs holds =
     let found = c.entries.invariant.finds pairs holds in
     let one = first_entry c.entries.rest.now found.0 found.1 found.2 c.if-rest-ne0.true in
     absurd (c.in_err-found.ensures.none one.one one.is (c.split_at.ensures.front ∙ one.here))
 
-pub returns-then-eq : goal.returns-then-eq
-returns-then-eq c pairs holds =
+pub returns-then-eq-clause-gives : goal.returns-then-eq-clause-gives
+returns-then-eq-clause-gives c pairs holds =
     let found = c.entries.invariant.finds pairs holds in
     let one = first_entry c.entries.rest.now found.0 found.1 found.2 c.if-rest-ne0.true in
     let read = c.in_ok-found.ensures.some in
@@ -24,8 +24,8 @@ returns-then-eq c pairs holds =
     found.3 ∙ ap (value_of c.args.key.now) one.parts
     ∙ ap (λ (x : Pair). value_of c.args.key.now (x ∷ one.others)) its
     ∙ found_first c.args.key.now e one.others key in
-    rw (value, ← c.as_slice-then-eq.ensures.bytes, ← c.entries.invariant.same, c.copy.ensures.0)
-    (refl, rw (← c.copy.ensures.0) c.copy.ensures.1)
+    rw (value, ← c.as_slice-then-eq.ensures.bytes, ← c.entries.invariant.same, c.copy.ensures.gives.0)
+    (refl, rw (← c.copy.ensures.gives.0) c.copy.ensures.gives.1)
 
 pub entries-preserved : goal.entries-preserved
 entries-preserved c = record {
@@ -50,14 +50,14 @@ entries-preserved c = record {
       );
 }
 
-pub returns-else-rest-ne0 : goal.returns-else-rest-ne0
-returns-else-rest-ne0 c pairs holds =
+pub returns-else-rest-ne0-clause-gives : goal.returns-else-rest-ne0-clause-gives
+returns-else-rest-ne0-clause-gives c pairs holds =
     let found = c.entries.invariant.finds pairs holds in
     let none = none_left c.entries.rest.now found.0 found.1 found.2 c.if-rest-ne0.false in
     rw (found.3, none) c.entries.invariant.same
 
-pub returns-after-entries : goal.returns-after-entries
-returns-after-entries c pairs holds =
+pub returns-after-entries-clause-gives : goal.returns-after-entries-clause-gives
+returns-after-entries-clause-gives c pairs holds =
     let found = c.entries.invariant.finds pairs holds in
     let none = none_short c.entries.rest.now found.0 found.1 found.2 c.entries-test.false in
     rw (found.3, none) c.entries.invariant.same

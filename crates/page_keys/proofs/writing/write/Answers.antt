@@ -7,8 +7,11 @@ use Rattle.array_machine.specs.declared.answers.Progress.TheVariants as progress
 use Rattle.tx_engine.specs.Exits.{is_there}
 use Rattle.tx_engine.specs.ArrayState.{ArrayState}
 use Rattle.tx_engine.specs.Step.{StepsAs}
+use Rattle.tx_engine.proofs.Seen.{exits_seen}
+use Rattle.page_keys.specs.Writing.{seen_more}
+use Rattle.page_keys.proofs.Mentions.{submitted_seen}
 use Rattle.page_keys.proofs.Steps.{wrote, done_writing}
-use Rattle.page_keys.proofs.WriteSteps.{moved_then, breaks_off, named_spent}
+use Rattle.page_keys.proofs.WriteSteps.{accepted, moved_nothing, moved_then, breaks_off, named_spent, some_write}
 use Rattle.page_keys.proofs.writing.write.Goals as goal
 
 pub steps-preserved : goal.steps-preserved
@@ -29,6 +32,10 @@ steps-preserved g c =
         unspent = i.unspent;
         moved = moved_then g.F.Flash.state c.args.device.now c.steps.device c.step.new.self false
             i.moved exits;
+        seen = λ seen h. exits_seen g.F.Flash.state g.R.CommitRule.protocol c.steps.device
+            c.step.new.self (seen_more seen c.args.batch.now.entries) i.always
+            c.held_always-in-Ok-Wrote.ensures.always exits.tables (i.seen seen h);
+        always = c.held_always-in-Ok-Wrote.ensures.always;
       },
     )
 
@@ -47,15 +54,23 @@ returns-in-Ok-Done-clause-written g c =
           c.step.new.self.machine _ steps;
       moved = moved_then g.F.Flash.state c.args.device.now c.steps.device c.step.new.self false
           i.moved exits;
+      seen = λ seen h. exits_seen g.F.Flash.state g.R.CommitRule.protocol c.steps.device
+          c.step.new.self (seen_more seen c.args.batch.now.entries) i.always
+          c.held_always-in-Ok-Done.ensures.always exits.tables (i.seen seen h);
     }
 
 pub returns-in-Err-step-clause-not_written : goal.returns-in-Err-step-clause-not_written
 returns-in-Err-step-clause-not_written g c =
     let i = c.steps.invariant.1 in
+    let exits = c.in-Err-step.ensures.exits in
+    let steps = c.in-Err-step.ensures.steps in
     breaks_off g.F.Flash.state c.args.device.now c.steps.device c.step.new.self
     c.args.batch.now.entries c.steps.invariant.0 (is_there g.F.Flash.state c.steps.device)
-    c.in-Err-step.field-0 i.machine i.unspent i.moved c.in-Err-step.ensures.steps
-    c.in-Err-step.ensures.exits c.held_always.ensures.always.array
+    c.in-Err-step.field-0
+    (λ seen h. exits_seen g.F.Flash.state g.R.CommitRule.protocol c.steps.device
+    c.step.new.self (seen_more seen c.args.batch.now.entries) i.always
+    c.held_always-in-Err-step.ensures.always exits.tables (i.seen seen h)) i.machine i.unspent i.moved
+    steps exits c.held_always-in-Err-step.ensures.always.array
 
 pub spent-requires : goal.spent-requires
 spent-requires g c =
@@ -77,5 +92,27 @@ returns-in-Err-clause-not_written g c =
         machine = named.2;
         flash = keeps.flash;
         mentions = ap (λ (n : Noted). n.mentions) keeps.noted;
+        namings = c.in-Err.ensures.named;
+      },
+    )
+
+pub steps-init : goal.steps-init
+steps-init g c =
+    let ws = c.args.batch.now.entries in
+    let keeps = c.in_default.ensures.keeps in
+    let opened = accepted (limits_of c.args.device.now.config)
+    (is_spent c.args.device.now.noted.mentions) c.args.device.now.machine
+    c.submit.new.self.machine ws c.requires.closed c.requires.fits c.in_default.field-0
+    c.in_default.ensures.submits in (
+      0,
+      record {
+        machine = opened.1;
+        less = some_write (limits_of c.args.device.now.config) ws c.requires.fits;
+        unspent = opened.0;
+        moved = moved_nothing g.F.Flash.state c.args.device.now c.submit.new.self keeps.config
+            keeps.flash;
+        seen = λ seen h. submitted_seen c.args.device.now c.submit.new.self seen ws
+            c.in_default.field-0 c.in_default.ensures.named keeps h;
+        always = c.held_always.ensures.always;
       },
     )

@@ -1,8 +1,9 @@
 use Rattle.std.proofs.Common.{◌≡◌, ◌<◌, ℕ, None, false, length}
 use Rattle.array_machine.specs.Run.{pages_left}
 use Rattle.tx_engine.specs.Submit.{spent_page}
+use Rattle.tx_engine.specs.Always.{IsSeen, HoldsAlways}
 use Rattle.tx_engine.specs.Naming.{is_spent}
-use Rattle.page_keys.specs.Writing.{writing, Moved}
+use Rattle.page_keys.specs.Writing.{writing, Moved, seen_more}
 use Rattle.page_keys.proofs.writing.write.Given as goal
 
 abbrev pub decreases-steps : goal.decreases-steps
@@ -15,4 +16,7 @@ invariant-steps g l =
       less : done < length l.batch.entries;
       unspent : spent_page (is_spent l.fn.device.noted.mentions) l.batch.entries ≡ None;
       moved : Moved g.F.Flash.state l.fn.device l.device false;
+      seen : (seen : ℕ → ℕ) → IsSeen seen l.fn.device →
+          IsSeen (seen_more seen l.batch.entries) l.device;
+      always : HoldsAlways g.F.Flash.state g.R.CommitRule.protocol l.device;
     }

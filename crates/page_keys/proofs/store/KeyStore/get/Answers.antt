@@ -68,7 +68,7 @@ returns-clause-gives g c m shows =
     let pairs = keys.entries (part s.config.logical page m) in
     let hashed = subst (λ (x : Config). page ≡ bucket_of x.logical c.args.key.now) config
     c.bucket-page.ensures.bucket in
-    let given = c.value_in.ensures pairs
+    let given = c.value_in.ensures.gives pairs
     (holds_read s.config.page_bytes _ c.deref.result.now pairs
     (same ∙ c.in_ok-read_page.ensures.shown)
     (ap length same ∙ size ∙ c.self.invariant.room) (its page exists)) in

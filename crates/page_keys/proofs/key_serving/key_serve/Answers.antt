@@ -1,0 +1,44 @@
+use Rattle.std.proofs.Common.{◌∙◌}
+use Rattle.page_keys.proofs.KeyBeginLemmas.{begin_ended, on_each, same_shape}
+use Rattle.page_keys.proofs.key_serving.key_serve.Goals as goal
+
+pub returns-in-Ok-clause-serves : goal.returns-in-Ok-clause-serves
+returns-in-Ok-clause-serves g c = λ image.
+    c.serve_all.ensures.serves (g.F.Flash.state c.args.flash) (c.in-Ok.ensures.begins image)
+
+pub returns-in-Ok-clause-steady : goal.returns-in-Ok-clause-steady
+returns-in-Ok-clause-steady g c = λ steady.
+    on_each _ c.serve_all.result.1 (c.in-Ok.ensures.steady steady)
+
+pub returns-in-Ok-clause-unopened : goal.returns-in-Ok-clause-unopened
+returns-in-Ok-clause-unopened g c = λ not.
+    c.serve_all.ensures.unopened (g.F.Flash.state c.args.flash) not c.in-Ok.ensures.still
+
+pub returns-in-Ok-clause-refuses : goal.returns-in-Ok-clause-refuses
+returns-in-Ok-clause-refuses g c = λ not.
+    c.serve_all.ensures.refuses (g.F.Flash.state c.args.flash) not c.in-Ok.ensures.still
+
+pub returns-in-Ok-clause-shape : goal.returns-in-Ok-clause-shape
+returns-in-Ok-clause-shape g c =
+    same_shape c.args.config (g.F.Flash.state c.args.flash).shape
+    (g.F.Flash.state c.serve_all.result.0).shape c.requires.check c.serve_all.ensures.shape
+
+pub returns-in-Ok-clause-extras : goal.returns-in-Ok-clause-extras
+returns-in-Ok-clause-extras g c = c.serve_all.ensures.extras ∙ c.in-Ok.ensures.extras
+
+pub returns-in-Err-clause-serves : goal.returns-in-Err-clause-serves
+returns-in-Err-clause-serves g c = λ image.
+    begin_ended g.row.R.Denot g.F.Flash.state c.args.config c.args.list.now c.args.flash
+    c.in-Err.flash c.in-Err.why c.args.out.now.items c.requires.check image c.in-Err.ensures.failed
+
+pub returns-in-Err-clause-unopened : goal.returns-in-Err-clause-unopened
+returns-in-Err-clause-unopened g c = λ not. c.in-Err.ensures.failed.still.still.moment
+
+pub returns-in-Err-clause-refuses : goal.returns-in-Err-clause-refuses
+returns-in-Err-clause-refuses g c = λ not. c.in-Err.ensures.failed.cause
+
+pub returns-in-Err-clause-shape : goal.returns-in-Err-clause-shape
+returns-in-Err-clause-shape g c = c.in-Err.ensures.failed.still.still.shape
+
+pub returns-in-Err-clause-extras : goal.returns-in-Err-clause-extras
+returns-in-Err-clause-extras g c = c.in-Err.ensures.failed.still.still.extras

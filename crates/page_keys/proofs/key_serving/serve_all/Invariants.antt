@@ -1,0 +1,20 @@
+use Rattle.std.proofs.Common.{◌≡◌, take}
+use Rattle.flash_model.specs.Flash.{FlashState}
+use Rattle.flash_model.specs.Operations.{moment_of}
+use Rattle.page_keys.specs.KeyServed.{BeginsKeys}
+use Rattle.page_keys.specs.KeySessions.{flash_in, Fits, IsKeyImage}
+use Rattle.page_keys.proofs.KeyAllLemmas.{HasServed}
+use Rattle.page_keys.proofs.key_serving.serve_all.Given as goal
+
+abbrev pub invariant-loop-command : goal.invariant-loop-command
+invariant-loop-command g l = record {
+  fits : Fits {R = g.row.R.Denot} g.F.Flash.state l.config l.session;
+  served : (init : FlashState) → BeginsKeys g.F.Flash.state l.config init l.initial.session →
+      HasServed g.F.Flash.state l.config init (take l.command-index l.list) l.session
+      l.initial.out.items l.out.items;
+  other : (init : FlashState) → (IsKeyImage l.config init → ⊥) →
+      moment_of (g.F.Flash.state (flash_in l.initial.session)) ≡ moment_of init →
+      moment_of (g.F.Flash.state (flash_in l.session)) ≡ moment_of init;
+  extras : (g.F.Flash.state (flash_in l.session)).extras
+      ≡ (g.F.Flash.state (flash_in l.initial.session)).extras;
+}

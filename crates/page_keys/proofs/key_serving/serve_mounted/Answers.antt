@@ -1,0 +1,42 @@
+use Rattle.std.proofs.Common.{sym, ap, subst, ◌∙◌}
+use Rattle.page_keys.specs.KeyRuns.{is_key_fault}
+use Rattle.page_keys.specs.KeySessions.{Fits, FitsMounted, ServesOne, flash_in}
+use Rattle.page_keys.specs.declared.key_session.KeySession.TheVariants as session
+use Rattle.page_keys.proofs.KeyServeLemmas.{answered, broken_reply, closed, no_fault}
+use Rattle.page_keys.proofs.key_serving.serve_mounted.Goals as goal
+
+pub returns-in_default-reply : goal.returns-in_default-reply
+returns-in_default-reply g c =
+    let fits : FitsMounted g.F.Flash.state c.args.config c.in-Mounted.store =
+    subst (λ s. Fits {R = g.row.R.Denot} g.F.Flash.state c.args.config s) c.in-Mounted.is
+    c.requires.fits in
+    record {
+      served = subst (λ s. ServesOne {R = g.row.R.Denot} g.F.Flash.state c.args.config
+          c.args.command.now s c.in_ok-reply.reply (session.Mounted c.done.new.store))
+          (sym c.in-Mounted.is)
+          (answered g.F.Flash.state c.args.config c.in-Mounted.store fits
+          g.R.CommitRule.protocol c.requires.rule c.args.command.now c.requires.no_arm
+          c.done.new.store c.config.ensures.always c.in_ok-reply.reply c.in_ok-reply.ensures.ok
+          (no_fault c.in_ok-reply.reply c.in_default-reply.not-Fault) c.config.ensures.keys
+          g.row.R.Denot);
+      ended = tt;
+    }
+
+pub returns-clause-served : goal.returns-clause-served
+returns-clause-served g c =
+    let state = g.F.Flash.state in
+    let its = c.args.config in
+    let fits : FitsMounted state its c.in-Mounted.store =
+    subst (λ s. Fits {R = g.row.R.Denot} state its s) c.in-Mounted.is c.requires.fits in
+    let one = closed state its c.in-Mounted.store fits g.R.CommitRule.protocol c.requires.rule
+    c.args.command.now c.requires.no_arm c.done.new.store c.config.ensures.always
+    c.in_ok-reply.reply c.in_ok-reply.ensures.ok (ap is_key_fault c.in-Fault.is) c.in-Fault.is
+    g.row.R.Denot c.live.result
+    (sym (c.live.ensures ∙ ap (λ s. (state (flash_in s)).live) c.close.ensures)) in
+    subst (λ s. ServesOne {R = g.row.R.Denot} state its c.args.command.now s c.broken.result
+    c.close.new.self) (sym c.in-Mounted.is)
+    (subst (λ r. ServesOne {R = g.row.R.Denot} state its c.args.command.now
+    (session.Mounted c.in-Mounted.store) r c.close.new.self) (sym c.broken.ensures)
+    (subst (λ s. ServesOne {R = g.row.R.Denot} state its c.args.command.now
+    (session.Mounted c.in-Mounted.store) (broken_reply c.live.result) s) (sym c.close.ensures)
+    one))

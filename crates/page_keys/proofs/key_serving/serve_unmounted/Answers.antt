@@ -1,0 +1,21 @@
+use Rattle.std.proofs.Common.{sym, subst, ◌∙◌}
+use Rattle.page_keys.specs.KeySessions.{ServesOne}
+use Rattle.page_keys.proofs.KeyServeLemmas.{serves_not_opened, serves_opened}
+use Rattle.page_keys.proofs.key_serving.serve_unmounted.Goals as goal
+
+pub returns-then-is_mounted-clause-served : goal.returns-then-is_mounted-clause-served
+returns-then-is_mounted-clause-served g c =
+    serves_opened g.F.Flash.state c.args.config c.args.command.now c.requires.no_arm
+    c.args.session.now c.mount_again.new.session c.serve_mounted.new.session
+    c.serve_mounted.result c.requires.unmounted
+    (sym c.is_mounted.ensures ∙ c.if-is_mounted.true) c.in_ok-mount_again.ensures.mounted
+    c.serve_mounted.ensures.served
+
+pub returns-else-is_mounted-clause-served : goal.returns-else-is_mounted-clause-served
+returns-else-is_mounted-clause-served g c =
+    subst (λ r. ServesOne {R = g.row.R.Denot} g.F.Flash.state c.args.config c.args.command.now
+    c.args.session.now r c.mount_again.new.session) (sym c.broken.ensures)
+    (serves_not_opened g.F.Flash.state c.args.config c.args.command.now c.requires.no_arm
+    c.args.session.now c.mount_again.new.session c.live.result c.requires.unmounted
+    (sym c.is_mounted.ensures ∙ c.if-is_mounted.false) c.requires.fits
+    c.in_ok-mount_again.ensures.mounted (sym c.live.ensures))

@@ -1,0 +1,13 @@
+use Rattle.std.proofs.Common.{◌≡◌, ◌+◌, ◌≤◌, length, map, ◌++◌, Some}
+use Rattle.host_protocol.specs.Lines.{words_of}
+use Rattle.page_keys.specs.Scripts.{change_of}
+use Rattle.page_keys.proofs.key_words.changes.Given as goal
+
+abbrev pub invariant-loop-word : goal.invariant-loop-word
+invariant-loop-word l = record {
+  read : map change_of (words_of l.words) ≡ map Some l.all ++ map change_of (words_of l.rest);
+  few : length l.all + length l.rest ≤ length l.words;
+}
+
+abbrev pub decreases-loop-word : goal.decreases-loop-word
+decreases-loop-word l = length l.rest

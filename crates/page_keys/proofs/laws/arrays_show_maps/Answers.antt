@@ -1,0 +1,13 @@
+use Rattle.page_keys.proofs.Existing.{shows_some}
+use Rattle.page_keys.proofs.OneMap.{one_map}
+use Rattle.page_keys.proofs.Parts.{shown_buckets}
+use Rattle.page_keys.proofs.laws.arrays_show_maps.Goals as goal
+
+pub returns-clause-some : goal.returns-clause-some
+returns-clause-some c = shows_some
+
+pub returns-clause-only : goal.returns-clause-only
+returns-clause-only c = shown_buckets
+
+pub returns-clause-one_map : goal.returns-clause-one_map
+returns-clause-one_map c = one_map

@@ -1,0 +1,211 @@
+-- The map machine on a flash: what a list of commands does to a map that a flash keeps, and the replies that it may give.
+use Rattle.std.specs.Prelude.{◌≡◌, ◌⊎◌, ℕ, ◌+◌, ◌≤◌, Bool, true, false, not, List, [], ◌∷◌, length, take, count_by, slice_index_or, None, Some, MatchBool, if◌then◌else◌}
+use Rattle.std.specs.FinMap.{get}
+use Rattle.tx_types.specs.Config.{shape_of}
+use Rattle.tx_types.specs.declared.config.Config.{Config}
+use Rattle.flash_model.specs.Arms.{ArmsCut}
+use Rattle.flash_model.specs.Calls.{BothTell, Rose}
+use Rattle.flash_model.specs.Flash.{FlashState, Told}
+use Rattle.flash_model.specs.Moves.{Moves}
+use Rattle.flash_model.specs.Operations.{Moment, moment_of}
+use Rattle.flash_model.specs.declared.outcome.Outcome.{Outcome}
+use Rattle.record_list.specs.Records.{mention}
+use Rattle.version_index.specs.Images.{IsSoundImage, array_in, records_in}
+use Rattle.array_machine.specs.Run.{MayBeSpent}
+use Rattle.page_keys.specs.Buckets.{ShowsMap}
+use Rattle.page_keys.specs.KeyMaps.{KeyMap, after, seen_by}
+use Rattle.page_keys.specs.Puts.{put_refusal}
+use Rattle.page_keys.specs.declared.answers.PutError.{PutError}
+use Rattle.page_keys.specs.declared.answers.PutError.TheVariants as refused
+use Rattle.page_keys.specs.declared.changes.Change.{Change}
+use Rattle.page_keys.specs.declared.command.KeyCommand.{KeyCommand}
+use Rattle.page_keys.specs.declared.command.KeyCommand.TheVariants as command
+use Rattle.page_keys.specs.declared.key_reply.KeyReply.{KeyReply}
+use Rattle.page_keys.specs.declared.key_reply.KeyReply.TheVariants as reply
+
+-- where a run stands: the map, and what the flash is when the reply is told
+pub record KeyPoint : Type 0 where
+  pub keys : KeyMap
+  pub flash : FlashState
+
+-- the image is sound, and its array shows the map
+pub record IsKeyPoint (its : Config) (p : KeyPoint) : Type 0 where
+  pub sound : IsSoundImage its.protocol its.logical (shape_of its) p.flash.image
+  pub shows : ShowsMap its (array_in its.protocol its.logical p.flash.image) p.keys
+
+-- the map, the image and what was counted of programs and erases are as before
+pub record Stays (old new : KeyPoint) : Type 0 where
+  pub keys : new.keys ≡ old.keys
+  pub moment : moment_of new.flash ≡ moment_of old.flash
+
+-- from one point to another by programs and erases, of which the last may be broken
+abbrev pub MovesTo : Config → KeyPoint → Bool → KeyPoint → Type 0
+MovesTo its old broken new =
+    Moves (shape_of its) (moment_of old.flash) broken (moment_of new.flash)
+
+-- what stands for a change where there is none
+abbrev pub no_change : Change
+no_change = record { key = []; value = None }
+
+-- the key of the change at this place, from 0
+abbrev pub key_at : List Change → ℕ → List ℕ
+key_at cs i = (slice_index_or cs i no_change).key
+
+-- ---- a put
+
+abbrev pub RefusesPut : Config → (ℕ → Bool) → List Change → PutError → KeyPoint → KeyPoint → Type 0
+RefusesPut its spent cs e old new = (put_refusal its spent old.keys cs ≡ Some e) × Stays old new
+
+-- it is not refused, and all its changes are made
+pub record TakesPut (its : Config) (spent : ℕ → Bool) (cs : List Change) (old new : KeyPoint) :
+    Type 0 where
+  pub allowed : put_refusal its spent old.keys cs ≡ None
+  pub keys : new.keys ≡ after old.keys cs
+
+-- power was cut in it, or it met a fault: all its changes are made or none is
+pub record BreaksPut (its : Config) (spent : ℕ → Bool) (cs : List Change) (old new : KeyPoint) :
+    Type 0 where
+  pub whole : (new.keys ≡ old.keys) ⊎ TakesPut its spent cs old new
+  pub moves : MovesTo its old true new
+
+-- a put, where these pages are spent, by its reply
+abbrev pub DoesPut : Config → (ℕ → Bool) → List Change → KeyPoint → KeyReply → KeyPoint → Type 0
+DoesPut its spent cs old (reply.Stored changes) new =
+    TakesPut its spent cs old new × (changes ≡ length cs) × MovesTo its old false new
+DoesPut its spent cs old reply.RefusedEmpty new = RefusesPut its spent cs refused.Empty old new
+DoesPut its spent cs old (reply.RefusedRepeated key) new =
+    (i : ℕ) × RefusesPut its spent cs (refused.Repeated i) old new × (key ≡ key_at cs i)
+DoesPut its spent cs old (reply.RefusedWide pages) new =
+    RefusesPut its spent cs (refused.Wide pages) old new
+DoesPut its spent cs old (reply.RefusedBucket page) new =
+    RefusesPut its spent cs (refused.Bucket page) old new
+DoesPut its spent cs old (reply.RefusedSpent page) new =
+    RefusesPut its spent cs (refused.Spent page) old new
+DoesPut its spent cs old reply.Cut new = BreaksPut its spent cs old new
+DoesPut its spent cs old reply.Fault new = BreaksPut its spent cs old new
+DoesPut its spent cs old _ new = ⊥
+
+-- ---- a get, and an arm
+
+-- a get, by its reply: by the map, which stays
+abbrev pub DoesGet : List ℕ → KeyPoint → KeyReply → KeyPoint → Type 0
+DoesGet key old (reply.Value its_key value) new =
+    (its_key ≡ key) × (get old.keys key ≡ Some value) × Stays old new
+DoesGet key old (reply.Absent its_key) new =
+    (its_key ≡ key) × (get old.keys key ≡ None) × Stays old new
+DoesGet key old reply.Cut new = Stays old new
+DoesGet key old reply.Fault new = Stays old new
+DoesGet key old _ new = ⊥
+
+-- a cut that is to come: nothing changes but what the flash tells of it
+abbrev pub DoesArm : ℕ → Outcome → KeyPoint → KeyReply → KeyPoint → Type 0
+DoesArm count what old reply.Armed new =
+    (new.keys ≡ old.keys) × ArmsCut old.flash new.flash count what
+DoesArm count what old _ new = ⊥
+
+abbrev pub DoesKeys : Config → (ℕ → Bool) → KeyCommand → KeyPoint → KeyReply → KeyPoint → Type 0
+DoesKeys its spent (command.Put changes) old r new = DoesPut its spent changes old r new
+DoesKeys its spent (command.Get key) old r new = DoesGet key old r new
+DoesKeys its spent (command.Cut count what) old r new = DoesArm count what old r new
+
+-- ---- causes
+
+abbrev pub is_key_cut : KeyReply → Bool
+is_key_cut reply.Cut = true
+is_key_cut _ = false
+
+abbrev pub is_key_fault : KeyReply → Bool
+is_key_fault reply.Fault = true
+is_key_fault _ = false
+
+-- power was cut, or the flash met a fault
+abbrev pub is_key_break : KeyReply → Bool
+is_key_break reply.Cut = true
+is_key_break reply.Fault = true
+is_key_break _ = false
+
+abbrev pub arms_key_cut : KeyCommand → Bool
+arms_key_cut (command.Cut count what) = true
+arms_key_cut _ = false
+
+-- Before a command that is no arm power is turned on. The reply is `Cut` exactly where it is off afterwards. The count of faults
+-- rose, or stood at its end, where a break is told, and else is as it was.
+pub record IsCaused (r : KeyReply) (old new : FlashState) : Type 0 where
+  pub cut : is_key_cut r ≡ not new.live
+  pub faults : MatchBool (is_key_break r) (Rose old.faults new.faults) (new.faults ≡ old.faults)
+
+-- a reply uses up a cut or a fault that was to come, and an arm brings a cut
+pub record IsKeySpent (c : KeyCommand) (r : KeyReply) (old new : Told) : Type 0 where
+  pub cuts : (if is_key_cut r then 1 else 0) + new.cuts
+      ≤ old.cuts + (if arms_key_cut c then 1 else 0)
+  pub breaks : (if is_key_fault r then 1 else 0) + new.breaks ≤ old.breaks
+
+-- a command on a flash, its reply, and where that leaves the run
+pub record ServesKeys (its : Config) (spent : ℕ → Bool) (c : KeyCommand) (old : KeyPoint)
+    (r : KeyReply) (new : KeyPoint) : Type 0 where
+  pub does : DoesKeys its spent c old r new
+  pub causes : arms_key_cut c ≡ false → IsCaused r old.flash new.flash
+  pub spends : BothTell (IsKeySpent c r) old.flash.told new.flash.told
+
+-- ---- runs
+
+-- whether a put was not refused
+abbrev pub is_tried : KeyReply → Bool
+is_tried (reply.Stored changes) = true
+is_tried reply.Cut = true
+is_tried reply.Fault = true
+is_tried _ = false
+
+abbrev pub changes_in : KeyCommand → List Change
+changes_in (command.Put changes) = changes
+changes_in _ = []
+
+-- the pages of the keys of a put that was not refused may be mentioned once more
+abbrev pub seen_after : Config → (ℕ → ℕ) → KeyCommand → KeyReply → ℕ → ℕ
+seen_after its seen c r page =
+    if is_tried r then seen_by its.logical (changes_in c) seen page else seen page
+
+-- A run over a list of commands: one reply and one point for each. `seen` is at least the greatest mention of each page on the
+-- flash.
+abbrev pub KeyRun : Config → (ℕ → ℕ) → KeyPoint → List KeyCommand → List KeyReply → List KeyPoint →
+    Type 0
+KeyRun its seen old [] [] [] = Unit {0}
+KeyRun its seen old (c ∷ cs) (r ∷ rs) (p ∷ ps) =
+    ((spent : ℕ → Bool) × MayBeSpent seen spent × ServesKeys its spent c old r p)
+    × IsKeyPoint its p × KeyRun its (seen_after its seen c r) p cs rs ps
+KeyRun its seen old _ _ _ = ⊥
+
+-- the point where a run ends
+abbrev pub last_point : KeyPoint → List KeyPoint → KeyPoint
+last_point old [] = old
+last_point old (p ∷ ps) = last_point p ps
+
+-- the greatest mention of each page in an image
+abbrev pub mentions_in : Config → Moment → ℕ → ℕ
+mentions_in its m page = mention (records_in its.protocol m.image) page
+
+-- a run from this point on, whose image is sound and shows its map
+pub record IsKeyRun (its : Config) (first : KeyPoint) (cs : List KeyCommand) (rs : List KeyReply)
+    (ps : List KeyPoint) : Type 0 where
+  pub begins : IsKeyPoint its first
+  pub runs : KeyRun its (mentions_in its (moment_of first.flash)) first cs rs ps
+
+-- Among the replies to the first so many commands there are at most as many cuts as were to come and were armed among these,
+-- and at most as many faults as were to come.
+abbrev pub AreFewBreaks : ℕ → ℕ → List KeyCommand → List KeyReply → Type 0
+AreFewBreaks cuts breaks cs rs =
+    (j : ℕ) →
+    (count_by is_key_cut (take j rs) ≤ cuts + count_by arms_key_cut (take j cs))
+    × (count_by is_key_fault (take j rs) ≤ breaks)
+
+abbrev pub is_stored : KeyReply → Bool
+is_stored (reply.Stored changes) = true
+is_stored _ = false
+
+-- each map is the one before, or has all changes of the command, as where a put was told as stored
+abbrev pub ChangesAtOnce : KeyPoint → List KeyCommand → List KeyReply → List KeyPoint → Type 0
+ChangesAtOnce old [] [] [] = Unit {0}
+ChangesAtOnce old (c ∷ cs) (r ∷ rs) (p ∷ ps) =
+    ((p.keys ≡ old.keys) ⊎ (p.keys ≡ after old.keys (changes_in c)))
+    × (is_stored r ≡ true → p.keys ≡ after old.keys (changes_in c)) × ChangesAtOnce p cs rs ps
+ChangesAtOnce old _ _ _ = ⊥

@@ -1,0 +1,59 @@
+-- What serving a key script comes to.
+use Rattle.std.specs.Prelude.{◌≡◌, ◌⊎◌, ◌+◌, ◌≤◌, ℕ, true, List, ◌++◌, length, take, IfSome, Result, Ok, Err}
+use Rattle.tx_types.specs.declared.config.Config.{Config}
+use Rattle.flash_model.specs.Calls.{BothTell, NoMoreToCome}
+use Rattle.flash_model.specs.Flash.{FlashState, IsSteady}
+use Rattle.flash_model.specs.Operations.{moment_of}
+use Rattle.page_keys.specs.KeyMaps.{KeyMap}
+use Rattle.page_keys.specs.KeyReplies.{key_texts}
+use Rattle.page_keys.specs.KeyRuns.{KeyPoint, IsKeyRun, AreFewBreaks, last_point, mentions_in}
+use Rattle.page_keys.specs.KeySessions.{IsKeyImage, IsWhy, StandsAt, flash_in}
+use Rattle.page_keys.specs.declared.command.KeyCommand.{KeyCommand}
+use Rattle.page_keys.specs.declared.key_error.KeyServeError.{KeyServeError}
+use Rattle.page_keys.specs.declared.key_error.KeyServeError.TheVariants as failed
+use Rattle.page_keys.specs.declared.key_reply.KeyReply.{KeyReply}
+use Rattle.page_keys.specs.declared.key_session.KeySession.{KeySession}
+
+-- where a run begins: the flash is as it was handed in, but for reads. A flash that is live and tells that no break is to come
+-- has met none.
+pub record IsFirstFlash (init first : FlashState) : Type 0 where
+  pub moment : moment_of first ≡ moment_of init
+  pub told : BothTell NoMoreToCome init.told first.told
+  pub steady : IsSteady init → (first.live ≡ true) × (first.faults ≡ init.faults)
+
+-- the session that serving begins with stands for a map
+pub record BeginsKeys {F R : Type 0} (state : F → FlashState) (its : Config) (init : FlashState)
+    (s : KeySession F R) : Type 0 where
+  pub image : IsKeyImage its init
+  pub first : IsFirstFlash init (state (flash_in s))
+  pub keys : KeyMap
+  pub stands : StandsAt state its (mentions_in its (moment_of init)) keys s
+
+-- There is one run over these commands. Its last point is where the flash is that comes back. Of its replies the first so many
+-- were told.
+pub record ServesKeyRun (its : Config) (cs : List KeyCommand) (told : ℕ) (old new : FlashState)
+    (before after : List ℕ) : Type 0 where
+  pub first : KeyPoint
+  pub begins : IsFirstFlash old first.flash
+  pub replies : List KeyReply
+  pub points : List KeyPoint
+  pub run : IsKeyRun its first cs replies points
+  pub last : moment_of new ≡ moment_of (last_point first points).flash
+  pub text : after ≡ before ++ key_texts (take told replies)
+  pub few : IfSome old.told (λ t. AreFewBreaks t.cuts t.breaks cs replies)
+
+-- what serving comes to where the image handed in is sound and its pages are buckets
+abbrev pub ServesScript : Config → List KeyCommand → FlashState → FlashState → List ℕ → List ℕ →
+    Result (Unit {0}) KeyServeError → Type 0
+ServesScript its cs old new before after (Ok u) =
+    ServesKeyRun its cs (length cs) old new before after
+ServesScript its cs old new before after (Err failed.Memory) =
+    (told : ℕ) × (told ≤ length cs)
+    × (ServesKeyRun its (take told cs) told old new before after
+    ⊎ ServesKeyRun its (take (told + 1) cs) told old new before after)
+ServesScript its cs old new before after (Err _) = ⊥
+
+-- and why it ends where it is another one
+abbrev pub RefusesKeys : Config → FlashState → Result (Unit {0}) KeyServeError → Type 0
+RefusesKeys its old (Ok u) = Unit {0}
+RefusesKeys its old (Err why) = IsWhy its old why

@@ -1,0 +1,14 @@
+use crate::changes::Changes;
+use flash_model::Outcome;
+use tx_types::Bytes;
+
+/// What a line of a key script asks for.
+#[derive(Debug, Drop)]
+pub enum KeyCommand {
+    /// `put K=V ..`: these changes, all at once.
+    Put { changes: Changes },
+    /// `get K`: the value of a key.
+    Get { key: Bytes },
+    /// `cut N O`: power is cut at the N-th change of the flash from now on, counted from 1.
+    Cut { count: u32, outcome: Outcome },
+}
