@@ -1,5 +1,5 @@
 -- Filling a new file.
-use Rattle.std.proofs.Common.{◌≡◌, ◌≢◌, ◌⊎◌, inl, inr, ℕ, ◌+◌, ◌<◌, ◌≤◌, max, Bool, true, false, not, List, [], ◌∷◌, length, Option, None, Some, Result, Ok, Err, refl, sym, ap, ◌∙◌, arith}
+use Rattle.std.proofs.Common.{◌≡◌, ℕ, ◌+◌, max, Bool, true, false, List, [], ◌∷◌, length, Option, Result, Ok, Err, refl, sym, ap, ◌∙◌, arith}
 use Rattle.std.specs.Result.{is_ok, is_err, IsErr}
 use Rattle.std.proofs.lemmas.List.{ext_get_or}
 use Rattle.std.specs.declared.io.Error.{Error}
@@ -7,36 +7,37 @@ use Rattle.durable_folder.specs.declared.answers.Replaced.{Replaced}
 use Rattle.durable_folder.specs.declared.answers.Replaced.TheVariants as replaced
 use Rattle.durable_folder.specs.declared.folder.Found.{Found}
 use Rattle.durable_folder.specs.FolderState.{FolderState, byte_at, newest}
-use Rattle.durable_folder.specs.Calls.{Handle, OfFile, Overlaid, Versions, Written, Writes, Synced, SyncsFile, Stays, Finds, FindsOpen, errors_in}
-use Rattle.durable_folder.specs.Histories.{History, Turns, Runs}
-use Rattle.durable_folder.specs.InPlace.{AfterOk, FileRuns}
-use Rattle.durable_folder.specs.Saving.{Gives, Rests, WritesWhole, FillEnds, Fills}
+use Rattle.durable_folder.specs.Calls.{Handle, OfFile, Overlaid, Written, Writes, Synced, SyncsFile, Stays, Finds, FindsOpen}
+use Rattle.durable_folder.specs.Counting.{answer_to_give}
+use Rattle.durable_folder.specs.Histories.{History, Turns, Runs, Answer}
+use Rattle.durable_folder.specs.InPlace.{AfterOk}
+use Rattle.durable_folder.specs.Saving.{Gives, Rests, WritesWhole, Fills}
 use Rattle.durable_folder.proofs.Heads.{after_err, then_synced}
-use Rattle.durable_folder.proofs.Making.{Still, still_then}
-use Rattle.durable_folder.proofs.Passing.{Turned, runs_of, runs_none, runs_weaker, runs_then, runs_counted}
-use Rattle.durable_folder.proofs.Writing.{Change, of_file_stays, of_file_weaker, of_file_then, file_turn, file_weaker, file_then}
+use Rattle.durable_folder.proofs.Making.{still_then}
+use Rattle.durable_folder.proofs.Passing.{runs_of, runs_none, runs_weaker, runs_then, runs_counted}
+use Rattle.durable_folder.proofs.Writing.{of_file_stays, of_file_weaker, file_turn, file_weaker, file_then}
 
 -- nothing to give
 pub given_none : (a : Option History) → Gives true a a
 given_none a = runs_none a (λ h. (refl, λ no_leave. absurd (cc)))
 
-not_ok_counts : (r : Result (Unit {0}) Error) → is_ok r ≡ false → errors_in r ≡ 1
+not_ok_counts : (r : Result (Unit {0}) Error) → is_ok r ≡ false → (answer_to_give r).refusals ≡ 1
 not_ok_counts (Ok done) is = absurd (cc)
 not_ok_counts (Err error) is = refl
 
-err_counts : (r : Result (Unit {0}) Error) → is_err r ≡ true → errors_in r ≡ 1
+err_counts : (r : Result (Unit {0}) Error) → is_err r ≡ true → (answer_to_give r).refusals ≡ 1
 err_counts (Ok done) is = absurd (cc)
 err_counts (Err error) is = refl
 
-pub not_given : (r : Result (Unit {0}) Error) (g : Bool) (a b : Option History) → is_err r ≡ true → Turns Stays (errors_in r) a b → Gives g a b
+pub not_given : (r : Result (Unit {0}) Error) (g : Bool) (a b : Option History) → is_err r ≡ true → Turns Stays (answer_to_give r) a b → Gives g a b
 not_given r g a b is turn =
-    runs_weaker a b (runs_of Stays (errors_in r) a b turn) (λ s t x. x)
+    runs_weaker a b (runs_of Stays (answer_to_give r) a b turn) (λ s t x. x)
     (λ h k x. let one : k.refusals ≡ h.refusals + 1 = rw (err_counts r is) at x.1 in (x.0, λ no_leave. omega arith))
 
-pub given_last : (r q : Result (Unit {0}) Error) (g : Bool) (a b c : Option History) → g ≡ is_ok q → Turns Stays (errors_in r) a b →
-    Turns Stays (errors_in q) b c → Gives g a c
+pub given_last : (r q : Result (Unit {0}) Error) (g : Bool) (a b c : Option History) → g ≡ is_ok q → Turns Stays (answer_to_give r) a b →
+    Turns Stays (answer_to_give q) b c → Gives g a c
 given_last r q g a b c is first last =
-    runs_then a b c (runs_counted a b (runs_of Stays (errors_in r) a b first)) (runs_of Stays (errors_in q) b c last) (λ s t x. x)
+    runs_then a b c (runs_counted a b (runs_of Stays (answer_to_give r) a b first)) (runs_of Stays (answer_to_give q) b c last) (λ s t x. x)
     (λ h k u x y. y ∙ x.1.0)
     (λ h k l x y. (
       y.0 ∙ x.1.0,
@@ -58,13 +59,13 @@ whole_synced offset bytes old mid (Ok done) new start empty w s =
     s ∙ ap (λ vs. newest [] vs ∷ []) w.2 ∙ ap (λ b. b ∷ []) (first_bytes bytes w.0 over)
 whole_synced offset bytes old mid (Err error) new start empty w s = tt
 
-pub whole_failed : (file : Handle) (bytes : List ℕ) (n : ℕ) (wrote result : Result (Unit {0}) Error) (a b : Option History) → IsErr result →
+pub whole_failed : (file : Handle) (bytes : List ℕ) (n : Answer) (wrote result : Result (Unit {0}) Error) (a b : Option History) → IsErr result →
     Turns (Writes file bytes wrote) n a b → WritesWhole file bytes result a b
 whole_failed file bytes n wrote result a b err turn =
     file_weaker a b (file_turn (Written file.offset bytes wrote) file.file n a b turn) (λ vs ws w. tt)
     (λ vs ws w start empty. after_err result (ws ≡ bytes ∷ []) err)
 
-pub whole_done : (file mid : Handle) (bytes : List ℕ) (n m : ℕ) (wrote result : Result (Unit {0}) Error) (a b c : Option History) → wrote ≡ Ok tt →
+pub whole_done : (file mid : Handle) (bytes : List ℕ) (n m : Answer) (wrote result : Result (Unit {0}) Error) (a b c : Option History) → wrote ≡ Ok tt →
     mid.file ≡ file.file →
     Turns (Writes file bytes wrote) n a b → Turns (SyncsFile mid.file result) m b c → WritesWhole file bytes result a c
 whole_done file mid bytes n m wrote result a b c ok same turn sync =
@@ -107,7 +108,7 @@ fill_failed file bytes given wrote (Err error) a b c err gives whole =
     k.now x (λ vs ws y. tt))
 
 -- what is found is only read
-pub finds_still : (name : List ℕ) (found : Result Found Error) (n : ℕ) (a b : Option History) → Turns (Finds name found) n a b → Rests a b
+pub finds_still : (name : List ℕ) (found : Result Found Error) (n : Answer) (a b : Option History) → Turns (Finds name found) n a b → Rests a b
 finds_still name (Ok f) n a b turn = runs_weaker a b (runs_of (Finds name (Ok f)) n a b turn) (λ s t x. x.0) (λ h k x. x.0.0)
 finds_still name (Err e) n a b turn = runs_weaker a b (runs_of (Finds name (Err e)) n a b turn) (λ s t x. x.0) (λ h k x. x.0.0)
 
@@ -115,7 +116,7 @@ open_stays : (handle : Handle) (found : Result Found Error) (s t : FolderState) 
 open_stays handle (Ok f) s t x = x.0
 open_stays handle (Err e) s t x = x
 
-pub both_still : (name : List ℕ) (handle : Handle) (found other : Result Found Error) (n m : ℕ) (a b c : Option History) →
+pub both_still : (name : List ℕ) (handle : Handle) (found other : Result Found Error) (n m : Answer) (a b c : Option History) →
     Turns (Finds name found) n a b → Turns (FindsOpen handle other) m b c → Rests a c
 both_still name handle found other n m a b c turn more =
     still_then (FindsOpen handle other) m a b c (finds_still name found n a b turn) more (open_stays handle other)

@@ -1,24 +1,25 @@
 -- A replacement, part after part.
-use Rattle.std.proofs.Common.{◌≡◌, ◌≢◌, ◌⊎◌, inl, inr, ℕ, ◌+◌, ◌<◌, ◌≤◌, Bool, true, false, not, nat_eq, eq-eqb, cond, List, [], ◌∷◌, Option, None, Some, Result, Ok, Err, refl, sym, ap, ◌∙◌, arith}
+use Rattle.std.proofs.Common.{◌≡◌, ◌≢◌, inl, inr, ℕ, ◌+◌, ◌<◌, ◌≤◌, Bool, true, false, not, nat_eq, eq-eqb, cond, List, [], ◌∷◌, Option, None, Some, Result, Ok, Err, refl, sym, ap, ◌∙◌, arith}
 use Rattle.std.specs.Result.{IsErr}
 use Rattle.std.specs.IoError.{error_kind}
 use Rattle.std.specs.declared.io.Error.{Error}
 use Rattle.durable_folder.specs.declared.answers.Replaced.{Replaced}
 use Rattle.durable_folder.specs.declared.answers.Replaced.TheVariants as replaced
 use Rattle.durable_folder.specs.FolderState.{FolderState, SomeOf, file_of, newest}
-use Rattle.durable_folder.specs.Calls.{Handle, SparesNames, SparesFiles, OfFile, Drops, Removes, OpensFolder, FindsFolder, is_refusal, refusals_by}
+use Rattle.durable_folder.specs.Calls.{Handle, SparesNames, SparesFiles, OfFile, Removes, OpensFolder, FindsFolder}
+use Rattle.durable_folder.specs.Counting.{is_refusal, if_so}
 use Rattle.durable_folder.specs.Answers.{refusal_of}
-use Rattle.durable_folder.specs.Histories.{History, Turns, Runs, IsTold}
+use Rattle.durable_folder.specs.Histories.{History, Turns, Runs, IsTold, Answer}
 use Rattle.durable_folder.specs.Places.{folder_of}
 use Rattle.durable_folder.specs.declared.folder.Found.{Found}
 use Rattle.durable_folder.specs.declared.replacing.Owner.{Owner}
 use Rattle.durable_folder.specs.Saving.{KeepsOrReplaces, IsNew, IsMade, Prepares, WasRefused, Rests, FillEnds, Fills, Shifts, PutEnds, Puts, Aside, FinishSteps, FinishEnds, Ends, ReplaceEnds, ReplacesBy, Replaces, IsMounted, Mounted, ReplaceOrNotEnds, ReplacesOrNot}
-use Rattle.durable_folder.proofs.Passing.{Turned, runs_of, runs_weaker, runs_then, runs_counted, runs_ended}
+use Rattle.durable_folder.proofs.Passing.{runs_of, runs_weaker, runs_then, runs_counted, runs_ended}
 use Rattle.durable_folder.proofs.Putting.{put_err}
 use Rattle.durable_folder.proofs.Replacements.{prepares_keeps, shifts_keeps, durable_put, aside_prepares, new_filled, differs}
 
 aside_none : (beside : List ℕ) (s t : FolderState) → t ≡ s → Aside beside s t
-aside_none beside s t same = rw same (record { names = λ n away. refl; files = record { files = λ f. refl; leads = refl } })
+aside_none beside s t same = rw same (record { names = λ n away. refl; files = record { files = λ f. refl; fixed = refl } })
 
 aside_shifts : (beside name : List ℕ) (s t : FolderState) → beside ≢ name → Aside beside s t → Shifts beside name s t
 aside_shifts beside name s t apart aside = record {
@@ -46,7 +47,7 @@ steps_none beside name (Ok replaced.Done) s = λ differ. record {
   here = λ e y. inr y;
   others = λ n p q e y. y;
   files = record
-      { files = λ f. refl; leads = refl };
+      { files = λ f. refl; fixed = refl };
 }
 steps_none beside name (Ok replaced.Refused) s = aside_none beside s s refl
 steps_none beside name (Err e) s = aside_none beside s s refl
@@ -67,7 +68,7 @@ pub put_ends : (beside name : List ℕ) (result : Result Replaced Error) (a b c 
     Ends beside name (Ok replaced.Done) result a c
 put_ends beside name result a b c rests puts =
     runs_then a b c (runs_counted a b rests) puts
-    (λ s t x differ. rw x (record { here = λ e y. inr y; others = λ n p q e y. y; files = record { files = λ f. refl; leads = refl } }))
+    (λ s t x differ. rw x (record { here = λ e y. inr y; others = λ n p q e y. y; files = record { files = λ f. refl; fixed = refl } }))
     (λ h k u x y differ. let at : file_of h.now beside ≢ file_of h.now name → Shifts beside name h.now u = rw x.1 at y in at differ)
     (λ h k l x y differ. let there : file_of k.now beside ≢ file_of k.now name = rw x.1 differ in let both = y there in put_from beside name result h
     k l x.0 x.1 both.1)
@@ -76,7 +77,7 @@ removes_aside : (beside : List ℕ) (r : Result (Unit {0}) Error) (s t u : Folde
 removes_aside beside (Ok done) s t u same d = rw (sym same) (record { names = d.others; files = d.files })
 removes_aside beside (Err e) s t u same x = aside_none beside s u (x ∙ same)
 
-pub removed_ends : (beside name : List ℕ) (filled result : Result Replaced Error) (r : Result (Unit {0}) Error) (n : ℕ) (a b c : Option History) →
+pub removed_ends : (beside name : List ℕ) (filled result : Result Replaced Error) (r : Result (Unit {0}) Error) (n : Answer) (a b c : Option History) →
     beside ≢ name →
     ((h k : History) → Aside beside h.now k.now → FinishEnds beside name filled result h k) → Rests a b → Turns (Removes beside r) n b c →
     Ends beside name filled result a c
@@ -207,7 +208,7 @@ opens_stays : {X : Type 0} (place : X → List ℕ) (folder : List ℕ) (r : Res
 opens_stays place folder (Ok p) s t x = x.0
 opens_stays place folder (Err e) s t x = x
 
-pub opened_place : {X : Type 0} (place : X → List ℕ) (folder : List ℕ) (opened : X) (n : ℕ) (a b : Option History) →
+pub opened_place : {X : Type 0} (place : X → List ℕ) (folder : List ℕ) (opened : X) (n : Answer) (a b : Option History) →
     Turns (OpensFolder place folder (Ok opened)) n a b → IsTold b → place opened ≡ folder
 opened_place place folder opened n None None turn told = absurd told
 opened_place place folder opened n None (Some k) turn told = absurd turn
@@ -218,19 +219,19 @@ no_change_keeps : (name bytes : List ℕ) (s t : FolderState) → t ≡ s → Ke
 no_change_keeps name bytes s t same = prepares_keeps name bytes s t (inl same)
 
 by_refusal : (name : List ℕ) (owner : Option Owner) (bytes : List ℕ) (refuses : Bool) (e : Error) (h k : History) → k.now ≡ h.now →
-    k.refusals ≡ h.refusals + refusals_by refuses →
+    k.refusals ≡ h.refusals + if_so refuses →
     ReplaceOrNotEnds name owner bytes (cond refuses (Ok replaced.Refused) (Err e)) h k
 by_refusal name owner bytes true e h k same more = (inl same, inr (omega (arith, more)))
 by_refusal name owner bytes false e h k same more = tt
 
-pub not_opened : {X : Type 0} (place : X → List ℕ) (folder name : List ℕ) (owner : Option Owner) (bytes : List ℕ) (e : Error) (a b : Option History) →
-    Turns (OpensFolder place folder (Err e)) (refusals_by (is_refusal (error_kind e))) a b → ReplacesOrNot name owner bytes (refusal_of e) a b
-not_opened place folder name owner bytes e a b turn =
-    runs_weaker a b (runs_of (OpensFolder place folder (Err e)) (refusals_by (is_refusal (error_kind e))) a b turn) (no_change_keeps name bytes)
-    (λ h k x. by_refusal name owner bytes (is_refusal (error_kind e)) e h k x.0 x.1)
+pub not_opened : {X : Type 0} (place : X → List ℕ) (folder name : List ℕ) (owner : Option Owner) (bytes : List ℕ) (e : Error) (n : Answer) (a b : Option History) →
+    n.refusals ≡ if_so (is_refusal (error_kind e)) → Turns (OpensFolder place folder (Err e)) n a b → ReplacesOrNot name owner bytes (refusal_of e) a b
+not_opened place folder name owner bytes e n a b counts turn =
+    runs_weaker a b (runs_of (OpensFolder place folder (Err e)) n a b turn) (no_change_keeps name bytes)
+    (λ h k x. by_refusal name owner bytes (is_refusal (error_kind e)) e h k x.0 (x.1 ∙ ap (λ i. h.refusals + i) counts))
 
 -- whether it is mounted is told, and nothing changes
-pub opened_mounted : {X : Type 0} (place : X → List ℕ) (folder : List ℕ) (opened : X) (owner : Option Owner) (r : Result Bool Error) (n : ℕ)
+pub opened_mounted : {X : Type 0} (place : X → List ℕ) (folder : List ℕ) (opened : X) (owner : Option Owner) (r : Result Bool Error) (n : Answer)
     (a b c : Option History) →
     Turns (OpensFolder place folder (Ok opened)) n a b → Mounted (place opened) owner r b c → Mounted folder owner r a c
 opened_mounted place folder opened owner r n a b c turn mounted =
@@ -279,7 +280,7 @@ finds_folder_stays : (folder : List ℕ) (r : Result Found Error) (s t : FolderS
 finds_folder_stays folder (Ok f) s t x = x.0
 finds_folder_stays folder (Err e) s t x = x
 
-pub folder_not_found : (place : List ℕ) (owner : Option Owner) (r : Result Found Error) (result : Result Bool Error) (n : ℕ) (a b : Option History) →
+pub folder_not_found : (place : List ℕ) (owner : Option Owner) (r : Result Found Error) (result : Result Bool Error) (n : Answer) (a b : Option History) →
     IsErr result → Turns (FindsFolder place r) n a b →
     Mounted place owner result a b
 folder_not_found place owner r (Ok answer) n a b err turn = absurd (cc)
@@ -293,7 +294,7 @@ device_differs x y r here is same =
     let test : not (nat_eq x y) ≡ true = cc in
     let no_such : false ≡ true = rw yes at test in absurd (cc)
 
-pub folder_found : (place : List ℕ) (old : Owner) (owner : Option Owner) (found : Found) (r : Result Found Error) (n : ℕ) (a b : Option History) →
+pub folder_found : (place : List ℕ) (old : Owner) (owner : Option Owner) (found : Found) (r : Result Found Error) (n : Answer) (a b : Option History) →
     owner ≡ Some old → r ≡ Ok found →
     Turns (FindsFolder place r) n a b → Mounted place owner (Ok (not (nat_eq found.device old.device))) a b
 folder_found place old owner found r n a b is ok turn =

@@ -1,5 +1,5 @@
 -- The parts of a save in place, call after call.
-use Rattle.std.proofs.Common.{◌≡◌, ◌⊎◌, inl, inr, ℕ, ◌+◌, ◌<◌, ◌≤◌, min, List, [], ◌∷◌, length, take, drop, replicate, get_or, Option, Result, Ok, Err, refl, sym, ap, ◌∙◌, arith, length-drop}
+use Rattle.std.proofs.Common.{◌≡◌, ◌⊎◌, inl, inr, ℕ, ◌+◌, ◌<◌, ◌≤◌, List, [], ◌∷◌, length, take, drop, replicate, Option, Result, Ok, Err, refl, ap, ◌∙◌, arith, length-drop}
 use Rattle.std.proofs.Math.ListN.{get_or-eq_default}
 use Rattle.std.proofs.lemmas.List.{get_or-replicate}
 use Rattle.std.proofs.lemmas.Bool.{cases_lt}
@@ -7,7 +7,7 @@ use Rattle.std.specs.Result.{IsErr}
 use Rattle.std.specs.declared.io.Error.{Error}
 use Rattle.durable_folder.specs.FolderState.{byte_at}
 use Rattle.durable_folder.specs.Calls.{Handle, Written, Writes, Lengthened, ResizesFile, Synced, SyncsFile, Seeks}
-use Rattle.durable_folder.specs.Histories.{History, Turns}
+use Rattle.durable_folder.specs.Histories.{History, Turns, Answer}
 use Rattle.durable_folder.specs.InPlace.{AfterOk, OneSuch, MayTear, AllTorn, WholeOrTorn, IsCleared, IsHeadless, IsHead, FileRuns, ClearsHead, WritesRest, WritesHead}
 use Rattle.durable_folder.proofs.Versions.{zeros_written, zeros_synced, cleared_torn, rest_written, rest_sized, rest_synced, headless_torn, head_written, head_synced}
 use Rattle.durable_folder.proofs.Writing.{Change, file_turn, file_weaker, file_then, file_sought}
@@ -26,7 +26,7 @@ zeros_all i = elim (cases_lt i 64) [
   | inr past ↦ get_or-eq_default zeros 0 past
 ]
 
-pub clear_failed : (file : Handle) (n : ℕ) (wrote result : Result (Unit {0}) Error) (a b : Option History) → file.offset ≡ 0 → IsErr result →
+pub clear_failed : (file : Handle) (n : Answer) (wrote result : Result (Unit {0}) Error) (a b : Option History) → file.offset ≡ 0 → IsErr result →
     Turns (Writes file zeros wrote) n a b → ClearsHead file result a b
 clear_failed file n wrote result a b start err turn =
     let tears : (vs ws : List (List ℕ)) → Written file.offset zeros wrote vs ws → MayTear vs ws =
@@ -35,11 +35,11 @@ clear_failed file n wrote result a b start err turn =
     (λ vs ws w. (tears vs ws w, after_err result (OneSuch IsCleared ws) err))
 
 -- a file that is synced after a call
-pub then_synced : (file : Option ℕ) (mid : Handle) (m : ℕ) (result : Result (Unit {0}) Error) (b c : Option History) → mid.file ≡ file →
+pub then_synced : (file : Option ℕ) (mid : Handle) (m : Answer) (result : Result (Unit {0}) Error) (b c : Option History) → mid.file ≡ file →
     Turns (SyncsFile mid.file result) m b c → FileRuns file (λ old new. Synced old result new) (λ old new. Synced old result new) b c
 then_synced file mid m result b c same sync = rw same at (file_turn (λ old new. Synced old result new) mid.file m b c sync)
 
-pub clear_done : (file mid : Handle) (n m : ℕ) (wrote result : Result (Unit {0}) Error) (a b c : Option History) → file.offset ≡ 0 → wrote ≡ Ok tt →
+pub clear_done : (file mid : Handle) (n m : Answer) (wrote result : Result (Unit {0}) Error) (a b c : Option History) → file.offset ≡ 0 → wrote ≡ Ok tt →
     mid.file ≡ file.file →
     Turns (Writes file zeros wrote) n a b → Turns (SyncsFile mid.file result) m b c → ClearsHead file result a c
 clear_done file mid n m wrote result a b c start ok same turn sync =
@@ -53,7 +53,7 @@ clear_done file mid n m wrote result a b c start ok same turn sync =
 abbrev pub MayWrite : ℕ → List ℕ → Result (Unit {0}) Error → Change
 MayWrite offset bytes result old new = (new ≡ old) ⊎ Written offset bytes result old new
 
-pub seek_write : (file : Option ℕ) (mid : Handle) (offset n m : ℕ) (bytes : List ℕ) (sought wrote : Result (Unit {0}) Error) (a b c : Option History)
+pub seek_write : (file : Option ℕ) (mid : Handle) (offset : ℕ) (n m : Answer) (bytes : List ℕ) (sought wrote : Result (Unit {0}) Error) (a b c : Option History)
     →
     mid.file ≡ file → sought ≡ Ok tt → Turns (Seeks mid offset sought) n a b → Turns (Writes mid bytes wrote) m b c →
     FileRuns file (MayWrite offset bytes wrote) (Written offset bytes wrote) a c
@@ -66,7 +66,7 @@ seek_write file mid offset n m bytes sought wrote a b c same ok seek write =
     file_then a b c (file_sought file mid offset n sought a b seek) writes (λ vs ws x. inl x) (λ vs ws us x w. inr (both vs ws us x w)) both
 
 -- the rest
-pub rest_not_sought : (file mid : Handle) (head n : ℕ) (bytes : List ℕ) (sought result : Result (Unit {0}) Error) (a b : Option History) →
+pub rest_not_sought : (file mid : Handle) (head : ℕ) (n : Answer) (bytes : List ℕ) (sought result : Result (Unit {0}) Error) (a b : Option History) →
     IsErr result →
     Turns (Seeks mid head sought) n a b → WritesRest file head bytes result a b
 rest_not_sought file mid head n bytes sought result a b err seek =
@@ -84,7 +84,7 @@ may_write_torn head bytes rest wrote is_head is_rest vs ws (inl same) one = rw s
 may_write_torn head bytes rest wrote is_head is_rest vs ws (inr w) one =
     let size = rest_size head bytes rest is_head is_rest in rest_written head rest size.0 size.1 vs wrote ws one w
 
-pub rest_not_written : (file mid : Handle) (head n m : ℕ) (bytes rest : List ℕ) (sought wrote result : Result (Unit {0}) Error)
+pub rest_not_written : (file mid : Handle) (head : ℕ) (n m : Answer) (bytes rest : List ℕ) (sought wrote result : Result (Unit {0}) Error)
     (a b c : Option History) →
     IsHead head bytes → rest ≡ drop head bytes → mid.file ≡ file.file → sought ≡ Ok tt → IsErr result →
     Turns (Seeks mid head sought) n a b → Turns (Writes mid rest wrote) m b c → WritesRest file head bytes result a c
@@ -102,7 +102,7 @@ abbrev pub RestSized : ℕ → List ℕ → Result (Unit {0}) Error → Result (
 RestSized head rest wrote sized old new =
     (mid : List (List ℕ)) × Written head rest wrote old mid × Lengthened (head + length rest) sized mid new
 
-pub rest_and_length : (file mid more : Handle) (head n m p : ℕ) (bytes rest : List ℕ) (sought wrote sized : Result (Unit {0}) Error)
+pub rest_and_length : (file mid more : Handle) (head : ℕ) (n m p : Answer) (bytes rest : List ℕ) (sought wrote sized : Result (Unit {0}) Error)
     (a b c d : Option History) →
     IsHead head bytes → rest ≡ drop head bytes → mid.file ≡ file.file → more.file ≡ mid.file → sought ≡ Ok tt → wrote ≡ Ok tt →
     Turns (Seeks mid head sought) n a b → Turns (Writes mid rest wrote) m b c → Turns (ResizesFile more.file (head + length rest) sized) p c d →
@@ -127,7 +127,7 @@ rest_not_sized file head bytes rest wrote sized result a d is_head is_rest done 
       after_err result (OneSuch (IsHeadless head bytes) us) err,
     ))
 
-pub rest_done : (file more : Handle) (head q : ℕ) (bytes rest : List ℕ) (wrote sized result : Result (Unit {0}) Error) (a d e : Option History) →
+pub rest_done : (file more : Handle) (head : ℕ) (q : Answer) (bytes rest : List ℕ) (wrote sized result : Result (Unit {0}) Error) (a d e : Option History) →
     IsHead head bytes → rest ≡ drop head bytes → wrote ≡ Ok tt → sized ≡ Ok tt → more.file ≡ file.file →
     FileRuns file.file (λ old new. OneSuch IsCleared old → AllTorn new) (RestSized head rest wrote sized) a d →
     Turns (SyncsFile more.file result) q d e → WritesRest file head bytes result a e
@@ -138,7 +138,7 @@ rest_done file more head q bytes rest wrote sized result a d e is_head is_rest d
     file_then a d e runs (then_synced file.file more q result d e same sync) (λ vs ws x. x) (λ vs ws us x s one. (both vs ws us x s one).0) both
 
 -- the head
-pub head_not_sought : (file mid : Handle) (head n : ℕ) (bytes : List ℕ) (sought result : Result (Unit {0}) Error) (a b : Option History) →
+pub head_not_sought : (file mid : Handle) (head : ℕ) (n : Answer) (bytes : List ℕ) (sought result : Result (Unit {0}) Error) (a b : Option History) →
     IsHead head bytes → IsErr result →
     Turns (Seeks mid 0 sought) n a b → WritesHead file head bytes result a b
 head_not_sought file mid head n bytes sought result a b is_head err seek =
@@ -152,7 +152,7 @@ may_write_head : (bytes head : List ℕ) (wrote : Result (Unit {0}) Error) → I
 may_write_head bytes head wrote is_head is_front vs ws (inl same) one = λ c h. inr (headless_torn (length head) bytes vs is_head one c (rw same at h))
 may_write_head bytes head wrote is_head is_front vs ws (inr w) one = head_written bytes head is_head is_front vs wrote ws one w
 
-pub head_not_written : (file mid : Handle) (n m : ℕ) (bytes head : List ℕ) (sought wrote result : Result (Unit {0}) Error) (a b c : Option History) →
+pub head_not_written : (file mid : Handle) (n m : Answer) (bytes head : List ℕ) (sought wrote result : Result (Unit {0}) Error) (a b c : Option History) →
     IsHead (length head) bytes → head ≡ take (length head) bytes → mid.file ≡ file.file → sought ≡ Ok tt → IsErr result →
     Turns (Seeks mid 0 sought) n a b → Turns (Writes mid head wrote) m b c → WritesHead file (length head) bytes result a c
 head_not_written file mid n m bytes head sought wrote result a b c is_head is_front same ok err seek write =
@@ -160,7 +160,7 @@ head_not_written file mid n m bytes head sought wrote result a b c is_head is_fr
     (may_write_head bytes head wrote is_head is_front)
     (λ vs ws w one. (may_write_head bytes head wrote is_head is_front vs ws (inr w) one, after_err result (ws ≡ bytes ∷ []) err))
 
-pub head_done : (file mid more : Handle) (n m p : ℕ) (bytes head : List ℕ) (sought wrote result : Result (Unit {0}) Error) (a b c d : Option History)
+pub head_done : (file mid more : Handle) (n m p : Answer) (bytes head : List ℕ) (sought wrote result : Result (Unit {0}) Error) (a b c d : Option History)
     →
     IsHead (length head) bytes → head ≡ take (length head) bytes → mid.file ≡ file.file → more.file ≡ mid.file → sought ≡ Ok tt → wrote ≡ Ok tt →
     Turns (Seeks mid 0 sought) n a b → Turns (Writes mid head wrote) m b c → Turns (SyncsFile more.file result) p c d →

@@ -1,7 +1,9 @@
+mod Bearing
 mod Blocks
 mod Filling
 mod Finishing
 mod Heads
+mod Leading
 mod Making
 mod Over
 mod Passing

@@ -1,14 +1,14 @@
 -- A save in place, part after part.
-use Rattle.std.proofs.Common.{◌≡◌, ◌⊎◌, inl, inr, ℕ, false, List, [], ◌∷◌, length, take, drop, Option, None, Some, Result, Ok, Err, refl, sym, ap, ◌∙◌}
+use Rattle.std.proofs.Common.{◌≡◌, inl, inr, ℕ, false, List, [], ◌∷◌, Option, None, Some, Result, Ok, Err, refl, ap, ◌∙◌}
 use Rattle.std.specs.Result.{IsErr}
 use Rattle.std.specs.declared.io.Error.{Error}
 use Rattle.durable_folder.specs.declared.folder.Found.{Found}
 use Rattle.durable_folder.specs.FolderState.{FolderState}
 use Rattle.durable_folder.specs.Calls.{Handle, OfFile, FindsOpen, Written, Writes, Synced, SyncsFile}
-use Rattle.durable_folder.specs.Histories.{History, Turns, Runs}
+use Rattle.durable_folder.specs.Histories.{History, Turns, Runs, Answer}
 use Rattle.durable_folder.specs.InPlace.{AfterOk, OneSuch, MayTear, AllTorn, WholeOrTorn, Overwrites, IsCleared, IsHeadless, FileRuns, ClearsHead, WritesRest, WritesHead, WritesOver}
 use Rattle.durable_folder.proofs.Heads.{after_err}
-use Rattle.durable_folder.proofs.Passing.{Turned, runs_of, runs_weaker, runs_then}
+use Rattle.durable_folder.proofs.Passing.{runs_of, runs_weaker, runs_then}
 use Rattle.durable_folder.proofs.Writing.{Change, of_file_stays, file_stays, file_weaker, file_then}
 
 finds_stays : (handle : Handle) (result : Result Found Error) (s t : FolderState) → FindsOpen handle result s t → t ≡ s
@@ -18,7 +18,7 @@ finds_stays handle (Err error) s t x = x
 still : (bytes : List ℕ) (vs : List (List ℕ)) → Overwrites bytes vs vs
 still bytes vs c h = inl h
 
-pub not_found : (handle : Handle) (n : ℕ) (bytes : List ℕ) (found : Result Found Error) (result : Result (Unit {0}) Error) (a b : Option History) →
+pub not_found : (handle : Handle) (n : Answer) (bytes : List ℕ) (found : Result Found Error) (result : Result (Unit {0}) Error) (a b : Option History) →
     IsErr result →
     Turns (FindsOpen handle found) n a b → WritesOver handle bytes result a b
 not_found handle n bytes found result a b err turn =
@@ -35,7 +35,7 @@ found_none : (handle : Handle) (result : Result Found Error) (found : Found) (s 
 found_none handle (Ok other) found s t x ok no_file = let same : other ≡ found = cc in x.1 (ap (λ f. f.is_file) same ∙ no_file)
 found_none handle (Err error) found s t x ok no_file = absurd (cc)
 
-pub no_file_found : (handle : Handle) (n : ℕ) (result : Result Found Error) (found : Found) (a b : Option History) → result ≡ Ok found →
+pub no_file_found : (handle : Handle) (n : Answer) (result : Result Found Error) (found : Found) (a b : Option History) → result ≡ Ok found →
     found.is_file ≡ false →
     Turns (FindsOpen handle result) n a b → NoFile handle.file a b
 no_file_found handle n result found a b ok no_file turn =
@@ -50,7 +50,7 @@ of_none : (P : Change) (file : Option ℕ) (s t : FolderState) → file ≡ None
 of_none P None s t none x = x
 of_none P (Some f) s t none x = absurd (cc)
 
-no_file_then : (P : Change) (file other : Option ℕ) (n : ℕ) (a b c : Option History) → other ≡ file → NoFile file a b →
+no_file_then : (P : Change) (file other : Option ℕ) (n : Answer) (a b c : Option History) → other ≡ file → NoFile file a b →
     Turns (OfFile P other) n b c → NoFile file a c
 no_file_then P file other n a b c same run turn =
     runs_then a b c run (runs_of (OfFile P other) n b c turn) (λ s t x. x)
@@ -77,7 +77,7 @@ torn_over bytes vs ws torn c h = inr (inl (torn c h))
 whole_over : (bytes : List ℕ) (vs ws : List (List ℕ)) → WholeOrTorn bytes ws → Overwrites bytes vs ws
 whole_over bytes vs ws whole c h = elim (whole c h) [ inl is ↦ inr (inr is) | inr torn ↦ inr (inl torn) ]
 
-pub found_and_cleared : (handle : Handle) (n : ℕ) (bytes : List ℕ) (found : Result Found Error) (cleared : Result (Unit {0}) Error)
+pub found_and_cleared : (handle : Handle) (n : Answer) (bytes : List ℕ) (found : Result Found Error) (cleared : Result (Unit {0}) Error)
     (a b c : Option History) →
     Turns (FindsOpen handle found) n a b → ClearsHead handle cleared b c → FileRuns handle.file (Overwrites bytes) (Cleared bytes cleared) a c
 found_and_cleared handle n bytes found cleared a b c turn clears =
@@ -125,13 +125,13 @@ head_put handle mid head bytes rested result a d e same ok runs heads =
     (λ vs ws us x y. whole_over bytes vs us (y (after_ok rested (OneSuch (IsHeadless head bytes) ws) ok x.1)))
     (λ vs ws us x y. let last = y (after_ok rested (OneSuch (IsHeadless head bytes) ws) ok x.1) in (whole_over bytes vs us last.0, last.1))
 
-pub no_file_written : (file : Option ℕ) (handle : Handle) (bytes : List ℕ) (wrote : Result (Unit {0}) Error) (n : ℕ) (a b c : Option History) →
+pub no_file_written : (file : Option ℕ) (handle : Handle) (bytes : List ℕ) (wrote : Result (Unit {0}) Error) (n : Answer) (a b c : Option History) →
     handle.file ≡ file → NoFile file a b →
     Turns (Writes handle bytes wrote) n b c → NoFile file a c
 no_file_written file handle bytes wrote n a b c same run turn = no_file_then (Written handle.offset bytes wrote) file handle.file n a b c same run
     turn
 
-pub no_file_synced : (file : Option ℕ) (handle : Handle) (result : Result (Unit {0}) Error) (n : ℕ) (a b c : Option History) → handle.file ≡ file →
+pub no_file_synced : (file : Option ℕ) (handle : Handle) (result : Result (Unit {0}) Error) (n : Answer) (a b c : Option History) → handle.file ≡ file →
     NoFile file a b →
     Turns (SyncsFile handle.file result) n b c → NoFile file a c
 no_file_synced file handle result n a b c same run turn = no_file_then (λ old new. Synced old result new) file handle.file n a b c same run turn

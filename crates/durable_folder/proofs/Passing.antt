@@ -1,8 +1,8 @@
 -- Runs of calls follow one another.
-use Rattle.std.proofs.Common.{◌≡◌, ℕ, ◌+◌, List, [], ◌∷◌, ◌++◌, Option, None, Some, refl, sym, ap, ◌∙◌, append_assoc, arith, ◌≤◌}
+use Rattle.std.proofs.Common.{◌≡◌, ◌+◌, List, [], ◌∷◌, ◌++◌, Option, None, Some, refl, sym, ap, ◌∙◌, append_assoc, arith, ◌≤◌}
 use Rattle.std.specs.List.{AllByRecursion}
 use Rattle.durable_folder.specs.FolderState.{FolderState, newest}
-use Rattle.durable_folder.specs.Histories.{History, Turns, Passes, Runs, IsTold}
+use Rattle.durable_folder.specs.Histories.{History, Turns, Runs, IsTold, Answer}
 
 -- what holds of each of two lists holds of both
 all_of_both : {X : Type 0} (P : X → Type 0) (xs ys : List X) → AllByRecursion P xs → AllByRecursion P ys → AllByRecursion P (xs ++ ys)
@@ -14,16 +14,17 @@ all_weaker P Q [] f hs = tt
 all_weaker P Q (x ∷ xs) f hs = (f x hs.0, all_weaker P Q xs f hs.1)
 
 -- what a call says of two histories
-abbrev pub Turned : (FolderState → FolderState → Type 0) → ℕ → History → History → Type 0
-Turned step refusals h k = step h.now k.now × (k.refusals ≡ h.refusals + refusals)
+abbrev pub Turned : (FolderState → FolderState → Type 0) → Answer → History → History → Type 0
+Turned step answer h k =
+    step h.now k.now × (k.refusals ≡ h.refusals + answer.refusals) × (k.unsynced ≡ answer.unsynced ++ h.unsynced)
 
 -- one call is a run
-pub runs_of : (step : FolderState → FolderState → Type 0) (n : ℕ) (a b : Option History) → Turns step n a b → Runs step (Turned step n) a b
+pub runs_of : (step : FolderState → FolderState → Type 0) (n : Answer) (a b : Option History) → Turns step n a b → Runs step (Turned step n) a b
 runs_of step n None None t = record { run = tt }
 runs_of step n None (Some k) t = absurd t
 runs_of step n (Some h) None t = absurd t
 runs_of step n (Some h) (Some k) t =
-    record { run = (k.now ∷ [], ap (λ before. k.now ∷ before) t.1, (t.0, tt), omega (arith, t.2), (t.0, t.2)) }
+    record { run = (k.now ∷ [], ap (λ before. k.now ∷ before) t.1, (t.0, tt), omega (arith, t.2), (t.0, t.2, t.4)) }
 
 -- no call is a run
 pub runs_none : {P : FolderState → FolderState → Type 0} {E : History → History → Type 0} (a : Option History) → ((h : History) → E h h) →

@@ -1,23 +1,24 @@
 -- Putting a new file in its place.
-use Rattle.std.proofs.Common.{◌≡◌, ◌≢◌, ◌⊎◌, inl, inr, ℕ, ◌+◌, ◌<◌, ◌≤◌, Bool, true, false, cond, List, [], ◌∷◌, Option, None, Some, Result, Ok, Err, refl, sym, ap, ◌∙◌, arith}
+use Rattle.std.proofs.Common.{◌≡◌, ◌≢◌, ◌⊎◌, inl, inr, ℕ, ◌+◌, ◌≤◌, Bool, true, false, cond, List, [], ◌∷◌, Option, None, Some, Result, Ok, Err, refl, sym, ap, ◌∙◌, ◌++◌, arith}
 use Rattle.std.specs.Result.{IsErr}
 use Rattle.std.specs.IoError.{error_kind}
 use Rattle.std.specs.declared.io.Error.{Error}
 use Rattle.durable_folder.specs.declared.answers.Replaced.{Replaced}
 use Rattle.durable_folder.specs.declared.answers.Replaced.TheVariants as replaced
 use Rattle.durable_folder.specs.FolderState.{FolderState, SomeOf, file_of, newest}
-use Rattle.durable_folder.specs.Calls.{SparesFiles, Moves, Renames, Drops, Removes, SettlesNames, SyncsFolder, Unsynced, is_unable, is_refusal, refusals_by}
+use Rattle.durable_folder.specs.Calls.{SparesFiles, Moves, Renames, Drops, Removes, SyncsFolder}
+use Rattle.durable_folder.specs.Counting.{is_unable, is_refusal, if_so, never, these_if, error_answer, answer_to_sync_folder}
 use Rattle.durable_folder.specs.Answers.{refusal_of, sync_answer, unless_unable, IsLate}
 use Rattle.durable_folder.specs.Places.{folder_of}
-use Rattle.durable_folder.specs.Histories.{History, Turns, Runs, IsTold}
+use Rattle.durable_folder.specs.Histories.{History, Turns, IsTold, Answer, CannotSync}
 use Rattle.durable_folder.specs.Saving.{Shifts, PutEnds, Puts}
-use Rattle.durable_folder.proofs.Passing.{Turned, runs_of, runs_weaker, runs_then, runs_counted}
+use Rattle.durable_folder.proofs.Passing.{runs_of, runs_then, runs_counted}
 
 no_files_change : (s : FolderState) → SparesFiles s s
-no_files_change s = record { files = λ f. refl; leads = refl }
+no_files_change s = record { files = λ f. refl; fixed = refl }
 
 files_then : (s t u : FolderState) → SparesFiles s t → SparesFiles t u → SparesFiles s u
-files_then s t u x y = record { files = λ f. y.files f ∙ x.files f; leads = y.leads ∙ x.leads }
+files_then s t u x y = record { files = λ f. y.files f ∙ x.files f; fixed = y.fixed ∙ x.fixed }
 
 -- nothing shifts
 stays_shifts : (beside name : List ℕ) (s t : FolderState) → t ≡ s → Shifts beside name s t
@@ -44,18 +45,6 @@ renames_shifts beside name (Ok done) s t x differ = moves_shifts beside name s t
 renames_shifts beside name (Err error) s t x differ = stays_shifts beside name s t x
 
 -- a folder that is synced, or is not
-unsynced_names : (unable : Bool) (s t : FolderState) → Unsynced unable s t → (t.names ≡ s.names) × (t.files ≡ s.files) × (t.leads ≡ s.leads)
-unsynced_names true s t x = (ap (λ u. u.names) x, ap (λ u. u.files) x, ap (λ u. u.leads) x)
-unsynced_names false s t x = (ap (λ u. u.names) x, ap (λ u. u.files) x, ap (λ u. u.leads) x)
-
-same_shifts : (beside name : List ℕ) (s t u : FolderState) → Shifts beside name s t →
-    (u.names ≡ t.names) × (u.files ≡ t.files) × (u.leads ≡ t.leads) → Shifts beside name s u
-same_shifts beside name s t u x same = record {
-  here = λ e y. let at : SomeOf (λ f. f ≡ e) (t.names name) = rw (ap (λ names. names name) same.0) at y in x.here e at;
-  others = λ n p q e y. let at : SomeOf (λ f. f ≡ e) (t.names n) = rw (ap (λ names. names n) same.0) at y in x.others n p q e at;
-  files = files_then s t u x.files (record { files = λ f. ap (λ files. files f) same.1; leads = same.2 });
-}
-
 synced_shifts : (beside name place : List ℕ) (r : Result (Unit {0}) Error) (s t u : FolderState) → Shifts beside name s t → SyncsFolder place r t u →
     Shifts beside name s u
 synced_shifts beside name place (Ok done) s t u x y = record {
@@ -63,30 +52,34 @@ synced_shifts beside name place (Ok done) s t u x y = record {
   others = λ n p q e z. x.others n p q e (y.others n e z);
   files = files_then s t u x.files y.files;
 }
-synced_shifts beside name place (Err error) s t u x y = same_shifts beside name s t u x (unsynced_names (is_unable (error_kind error)) t u y)
+synced_shifts beside name place (Err error) s t u x y = rw (sym y) at x
 
--- the answer Ok after a folder that is synced
-after_sync : (unable : Bool) (error : Error) (s t : FolderState) → Unsynced unable s t → unless_unable unable error ≡ Ok tt → t.cannot_sync ≡ true
-after_sync true error s t x ok = ap (λ u. u.cannot_sync) x
-after_sync false error s t x ok = absurd (cc)
+-- the answer Ok after a folder that is not synced
+pub noted : (unable : Bool) (error : Error) (place name : List ℕ) (before : List (List ℕ)) (l : History) → place ≡ folder_of name →
+    l.unsynced ≡ these_if unable place ++ before → unless_unable unable error ≡ Ok tt → CannotSync name l
+noted true error place name before l is x ok = rw x (inl is)
+noted false error place name before l is x ok = absurd (cc)
 
-done_put : (beside name place : List ℕ) (r : Result (Unit {0}) Error) (s t u : FolderState) → place ≡ folder_of name → Moves beside name s t →
-    SyncsFolder place r t u →
-    sync_answer r ≡ Ok tt → (u.names name ≡ file_of s beside ∷ []) ⊎ (u.cannot_sync ≡ true)
-done_put beside name place (Ok done) s t u is m y ok = inl (y.here name (sym is) ∙ ap (λ names. newest None names ∷ []) m.arrives)
-done_put beside name place (Err error) s t u is m y ok = inr (after_sync (is_unable (error_kind error)) error t u y ok)
+done_put : (beside name place : List ℕ) (r : Result (Unit {0}) Error) (s t : FolderState) (before : List (List ℕ)) (l : History) →
+    place ≡ folder_of name → Moves beside name s t → SyncsFolder place r t l.now →
+    l.unsynced ≡ (answer_to_sync_folder place r).unsynced ++ before → sync_answer r ≡ Ok tt →
+    (l.now.names name ≡ file_of s beside ∷ []) ⊎ CannotSync name l
+done_put beside name place (Ok done) s t before l is m y x ok =
+    inl (y.here name (sym is) ∙ ap (λ names. newest None names ∷ []) m.arrives)
+done_put beside name place (Err error) s t before l is m y x ok =
+    inr (noted (is_unable (error_kind error)) error place name before l is x ok)
 
-put_synced_told : (beside name place : List ℕ) (n m : ℕ) (r : Result (Unit {0}) Error) (result : Result Replaced Error) (a b c : Option History) →
-    ((h k : History) → (sync_answer r ≡ Ok tt → (k.now.names name ≡ file_of h.now beside ∷ []) ⊎ (k.now.cannot_sync ≡ true)) →
+put_synced_told : (beside name place : List ℕ) (n : Answer) (r : Result (Unit {0}) Error) (result : Result Replaced Error) (a b c : Option History) →
+    ((h k : History) → (sync_answer r ≡ Ok tt → (k.now.names name ≡ file_of h.now beside ∷ []) ⊎ CannotSync name k) →
     PutEnds beside name result h k) →
-    place ≡ folder_of name → Turns (Renames beside name (Ok tt)) n a b → Turns (SyncsFolder place r) m b c → Puts beside name result a c
-put_synced_told beside name place n m r result a b c ends is first last =
-    runs_then a b c (runs_of (Renames beside name (Ok tt)) n a b first) (runs_of (SyncsFolder place r) m b c last)
+    place ≡ folder_of name → Turns (Renames beside name (Ok tt)) n a b → Turns (SyncsFolder place r) (answer_to_sync_folder place r) b c → Puts beside name result a c
+put_synced_told beside name place n r result a b c ends is first last =
+    runs_then a b c (runs_of (Renames beside name (Ok tt)) n a b first) (runs_of (SyncsFolder place r) (answer_to_sync_folder place r) b c last)
     (λ s t x differ. renames_shifts beside name (Ok tt) s t x differ)
     (λ h k u x y differ. synced_shifts beside name place r h.now k.now u (renames_shifts beside name (Ok tt) h.now k.now x.0 differ) y)
     (λ h k l x y differ. (
       synced_shifts beside name place r h.now k.now l.now (renames_shifts beside name (Ok tt) h.now k.now x.0 differ) y.0,
-      ends h l (done_put beside name place r h.now k.now l.now is (x.0.0 differ) y.0),
+      ends h l (done_put beside name place r h.now k.now k.unsynced l is (x.0.0 differ) y.0 y.2),
     ))
 
 removes_shifts : (beside name : List ℕ) (r : Result (Unit {0}) Error) (s t : FolderState) → beside ≢ name → Removes beside r s t →
@@ -101,15 +94,15 @@ removes_others beside (Err error) s t x n apart = ap (λ u. u.names n) x
 
 pub refusal_ends : (beside name : List ℕ) (refuses : Bool) (e : Error) (h k l : History) →
     ((n : List ℕ) → n ≢ beside → l.now.names n ≡ h.now.names n) →
-    k.refusals ≡ h.refusals + refusals_by refuses → k.refusals ≤ l.refusals → PutEnds beside name (cond refuses (Ok replaced.Refused) (Err e)) h l
+    k.refusals ≡ h.refusals + if_so refuses → k.refusals ≤ l.refusals → PutEnds beside name (cond refuses (Ok replaced.Refused) (Err e)) h l
 refusal_ends beside name true e h k l same more last = (same, omega (arith, more, last))
 refusal_ends beside name false e h k l same more last = tt
 
-pub put_refused : (beside name : List ℕ) (e : Error) (r : Result (Unit {0}) Error) (m : ℕ) (a b c : Option History) → beside ≢ name →
-    Turns (Renames beside name (Err e)) (refusals_by (is_refusal (error_kind e))) a b → Turns (Removes beside r) m b c →
+pub put_refused : (beside name : List ℕ) (e : Error) (r : Result (Unit {0}) Error) (m : Answer) (a b c : Option History) → beside ≢ name →
+    Turns (Renames beside name (Err e)) (error_answer never e) a b → Turns (Removes beside r) m b c →
     Puts beside name (refusal_of e) a c
 put_refused beside name e r m a b c apart first last =
-    runs_then a b c (runs_of (Renames beside name (Err e)) (refusals_by (is_refusal (error_kind e))) a b first)
+    runs_then a b c (runs_of (Renames beside name (Err e)) (error_answer never e) a b first)
     (runs_counted b c (runs_of (Removes beside r) m b c last))
     (λ s t x differ. stays_shifts beside name s t x)
     (λ h k u x y differ. let at : Removes beside r h.now u = rw x.0 at y in removes_shifts beside name r h.now u apart at)
@@ -123,7 +116,7 @@ put_err beside name (Ok done) h k err = absurd (cc)
 put_err beside name (Err error) h k err = tt
 
 pub put_ok : (beside name : List ℕ) (r : Result (Unit {0}) Error) (h k : History) → sync_answer r ≡ Ok tt →
-    (sync_answer r ≡ Ok tt → (k.now.names name ≡ file_of h.now beside ∷ []) ⊎ (k.now.cannot_sync ≡ true)) → PutEnds beside name (Ok replaced.Done) h k
+    (sync_answer r ≡ Ok tt → (k.now.names name ≡ file_of h.now beside ∷ []) ⊎ CannotSync name k) → PutEnds beside name (Ok replaced.Done) h k
 put_ok beside name r h k ok ends = ends ok
 
 pub late_ok : (done result : Result (Unit {0}) Error) → IsLate done result → result ≡ Ok tt → done ≡ Ok tt
@@ -131,7 +124,7 @@ late_ok (Ok done) result late ok = refl
 late_ok (Err error) (Ok done) late ok = absurd late
 late_ok (Err error) (Err other) late ok = absurd (cc)
 
-pub put_failed : (beside name : List ℕ) (e : Error) (result : Result Replaced Error) (r : Result (Unit {0}) Error) (n m : ℕ) (a b c : Option History)
+pub put_failed : (beside name : List ℕ) (e : Error) (result : Result Replaced Error) (r : Result (Unit {0}) Error) (n m : Answer) (a b c : Option History)
     → beside ≢ name → IsErr result →
     Turns (Renames beside name (Err e)) n a b → Turns (Removes beside r) m b c → Puts beside name result a c
 put_failed beside name e result r n m a b c apart err first last =
@@ -141,12 +134,12 @@ put_failed beside name e result r n m a b c apart err first last =
     (λ h k l x y differ. let at : Removes beside r h.now l.now = rw x.0 at y.0 in
     (removes_shifts beside name r h.now l.now apart at, put_err beside name result h l err))
 
-pub put_synced : (beside name place : List ℕ) (n m : ℕ) (r : Result (Unit {0}) Error) (result : Result Replaced Error) (a b c : Option History) →
-    ((h k : History) → (sync_answer r ≡ Ok tt → (k.now.names name ≡ file_of h.now beside ∷ []) ⊎ (k.now.cannot_sync ≡ true)) →
+pub put_synced : (beside name place : List ℕ) (n : Answer) (r : Result (Unit {0}) Error) (result : Result Replaced Error) (a b c : Option History) →
+    ((h k : History) → (sync_answer r ≡ Ok tt → (k.now.names name ≡ file_of h.now beside ∷ []) ⊎ CannotSync name k) →
     PutEnds beside name result h k) →
-    (IsTold a → place ≡ folder_of name) → Turns (Renames beside name (Ok tt)) n a b → Turns (SyncsFolder place r) m b c → Puts beside name result a c
-put_synced beside name place n m r result None None None ends is first last = record { run = tt }
-put_synced beside name place n m r result None None (Some l) ends is first last = absurd last
-put_synced beside name place n m r result None (Some k) c ends is first last = absurd first
-put_synced beside name place n m r result (Some h) b c ends is first last = put_synced_told beside name place n m r result (Some h) b c ends (is tt)
+    (IsTold a → place ≡ folder_of name) → Turns (Renames beside name (Ok tt)) n a b → Turns (SyncsFolder place r) (answer_to_sync_folder place r) b c → Puts beside name result a c
+put_synced beside name place n r result None None None ends is first last = record { run = tt }
+put_synced beside name place n r result None None (Some l) ends is first last = absurd last
+put_synced beside name place n r result None (Some k) c ends is first last = absurd first
+put_synced beside name place n r result (Some h) b c ends is first last = put_synced_told beside name place n r result (Some h) b c ends (is tt)
     first last

@@ -1,17 +1,17 @@
 -- What a replacement leaves.
-use Rattle.std.proofs.Common.{◌≡◌, ◌≢◌, ◌⊎◌, inl, inr, ℕ, ◌+◌, ◌<◌, ◌≤◌, true, List, [], ◌∷◌, Option, None, Some, Result, Ok, Err, refl, sym, ap, ◌∙◌, arith}
+use Rattle.std.proofs.Common.{◌≡◌, ◌≢◌, inl, inr, ℕ, List, [], ◌∷◌, Option, None, Some, refl, sym, ap, ◌∙◌}
 use Rattle.durable_folder.specs.FolderState.{FolderState, SomeOf, MayHold, LeavesOf, Leaves, IsDurable, file_of, newest}
-use Rattle.durable_folder.specs.Calls.{Spares, SparesNames, SparesFiles}
-use Rattle.durable_folder.specs.Saving.{KeepsOrReplaces, IsNew, Prepares, Shifts, Aside}
+use Rattle.durable_folder.specs.Calls.{SparesNames, SparesFiles}
+use Rattle.durable_folder.specs.Saving.{KeepsOrReplaces, IsNew, Prepares, Shifts}
 use Rattle.durable_folder.proofs.Blocks.{holds_one}
 
 -- one of them, as a value
-some_entry : {X : Type 0} (P : X → Type 0) (xs : List X) → SomeOf P xs → (x : X) × SomeOf (λ y. y ≡ x) xs × P x
+pub some_entry : {X : Type 0} (P : X → Type 0) (xs : List X) → SomeOf P xs → (x : X) × SomeOf (λ y. y ≡ x) xs × P x
 some_entry P [] none = absurd none
 some_entry P (x ∷ xs) (inl p) = (x, inl refl, p)
 some_entry P (x ∷ xs) (inr rest) = let e = some_entry P xs rest in (e.0, inr e.1, e.2)
 
-entry_some : {X : Type 0} (P : X → Type 0) (x : X) (xs : List X) → SomeOf (λ y. y ≡ x) xs → P x → SomeOf P xs
+pub entry_some : {X : Type 0} (P : X → Type 0) (x : X) (xs : List X) → SomeOf (λ y. y ≡ x) xs → P x → SomeOf P xs
 entry_some P x [] none p = absurd none
 entry_some P x (y ∷ ys) (inl same) p = inl (rw same p)
 entry_some P x (y ∷ ys) (inr rest) p = inr (entry_some P x ys rest p)
@@ -47,13 +47,13 @@ prepares_keeps name bytes s t (inr p) = record {
   others = λ n apart taken left x. leaves_spared name p.0 p.1 s t p.2 n (taken_apart name p.0 p.1 s t p.2 n taken) left x;
 }
 
-leaves_of_files : (s t : FolderState) (left : Option (List ℕ)) (e : Option ℕ) → ((f : ℕ) → t.files f ≡ s.files f) → LeavesOf t left e →
+pub leaves_of_files : (s t : FolderState) (left : Option (List ℕ)) (e : Option ℕ) → ((f : ℕ) → t.files f ≡ s.files f) → LeavesOf t left e →
     LeavesOf s left e
 leaves_of_files s t left None same x = x
 leaves_of_files s t left (Some f) same x = let at : MayHold (s.files f) x.0 = rw (same f) at x.1 in (x.0, at, x.2)
 
 -- a file that has its bytes durably
-leaves_bytes : (t : FolderState) (f : ℕ) (bytes : List ℕ) (left : Option (List ℕ)) (e : Option ℕ) → e ≡ Some f → t.files f ≡ bytes ∷ [] →
+pub leaves_bytes : (t : FolderState) (f : ℕ) (bytes : List ℕ) (left : Option (List ℕ)) (e : Option ℕ) → e ≡ Some f → t.files f ≡ bytes ∷ [] →
     LeavesOf t left e → left ≡ Some bytes
 leaves_bytes t f bytes left None is whole x = absurd (cc)
 leaves_bytes t f bytes left (Some g) is whole x =
@@ -104,8 +104,8 @@ aside_prepares name beside f s t u new names files = inr (
     spares = record {
       names = λ n away. names n away ∙ new.spares.names n away;
       files = λ g other. files.files g ∙ new.spares.files g other;
-      leads =
-          files.leads ∙ new.spares.leads;
+      fixed =
+          files.fixed ∙ new.spares.fixed;
     };
   },
 )
@@ -119,7 +119,7 @@ new_filled name beside f s t u new same = record {
   spares = record {
     names = λ n away. same.names n ∙ new.spares.names n away;
     files = λ g other. same.files g other ∙ new.spares.files g other;
-    leads
-        = same.leads ∙ new.spares.leads;
+    fixed
+        = same.fixed ∙ new.spares.fixed;
   };
 }

@@ -1,22 +1,20 @@
 -- What a save leaves at a name that has a file.
-use Rattle.std.proofs.Common.{◌≡◌, ◌≢◌, ◌⊎◌, inl, inr, ℕ, ◌+◌, ◌<◌, ◌≤◌, true, false, List, [], ◌∷◌, Option, None, Some, Result, Ok, Err, refl, sym, ap, ◌∙◌, arith}
+use Rattle.std.proofs.Common.{◌≡◌, ◌≢◌, ◌⊎◌, inl, inr, ℕ, ◌<◌, ◌≤◌, Bool, true, false, List, [], ◌∷◌, Option, None, Some, Result, Ok, Err, refl, sym, ap, ◌∙◌, arith}
 use Rattle.std.specs.Result.{IsErr}
 use Rattle.std.specs.declared.io.Error.{Error}
 use Rattle.durable_folder.specs.declared.answers.Replaced.{Replaced}
 use Rattle.durable_folder.specs.declared.answers.Replaced.TheVariants as replaced
 use Rattle.durable_folder.specs.declared.folder.Found.{Found}
 use Rattle.durable_folder.specs.declared.replacing.Owner.{Owner}
-use Rattle.durable_folder.specs.declared.saving.Way.{Way}
-use Rattle.durable_folder.specs.declared.saving.Way.TheVariants as way
-use Rattle.durable_folder.specs.FolderState.{FolderState, SomeOf, MayHold, LeavesOf, Leaves, IsDurable, file_of}
-use Rattle.durable_folder.specs.Calls.{Handle, SparesNames, OfFile, Opens}
-use Rattle.durable_folder.specs.Histories.{History, Turns, Runs}
-use Rattle.durable_folder.specs.InPlace.{IsTorn, AfterOk, Overwrites, WritesOver}
+use Rattle.durable_folder.specs.FolderState.{FolderState, SomeOf, MayHold, LeavesOf, IsDurable, IsShared, file_of, target}
+use Rattle.durable_folder.specs.Calls.{Handle, SparesNames, OfFile, Opens, IsFound, if_plain}
+use Rattle.durable_folder.specs.Histories.{History, Turns, Runs, Answer, CannotSync}
+use Rattle.durable_folder.specs.InPlace.{AfterOk, Overwrites, WritesOver}
 use Rattle.durable_folder.specs.Places.{folder_of}
-use Rattle.durable_folder.specs.Saving.{KeepsOrReplaces, IsNew, Prepares, IsMounted, ReplaceOrNotEnds, ReplacesOrNot}
-use Rattle.durable_folder.specs.Ways.{Chooses, IsTornLeft, Shares, KeepsOrTears, MustBeInPlace, SavesByNew, SavesInPlace, SavesOver}
+use Rattle.durable_folder.specs.Saving.{KeepsOrReplaces, Prepares, ReplaceOrNotEnds, ReplacesOrNot}
+use Rattle.durable_folder.specs.Ways.{IsTornLeft, KeepsOrTears, IsSpecial, MustBeInPlace, IsInPlace, SavesAt, WasFound}
 use Rattle.durable_folder.proofs.Heads.{after_err}
-use Rattle.durable_folder.proofs.Passing.{Turned, runs_of, runs_weaker, runs_then, runs_counted}
+use Rattle.durable_folder.proofs.Passing.{runs_of, runs_weaker, runs_then, runs_counted}
 use Rattle.durable_folder.proofs.Replacements.{prepares_keeps}
 use Rattle.std.proofs.lemmas.Bool.{cases_lt}
 
@@ -54,7 +52,7 @@ some_torn bytes g t u left spares over (e ∷ es) (inl x) =
 some_torn bytes g t u left spares over (e ∷ es) (inr x) =
     elim (some_torn bytes g t u left spares over es x) [ inl old ↦ inl (inr old) | inr new ↦ inr (inr new.0, new.1) ]
 
-prepared_names : (name : List ℕ) (s t : FolderState) → Prepares name s t → (n : List ℕ) → (n ≡ name) ⊎ (file_of s n ≢ None) → t.names n ≡ s.names n
+pub prepared_names : (name : List ℕ) (s t : FolderState) → Prepares name s t → (n : List ℕ) → (n ≡ name) ⊎ (file_of s n ≢ None) → t.names n ≡ s.names n
 prepared_names name s t (inl same) n is = ap (λ x. x.names n) same
 prepared_names name s t (inr p) n (inl is) = p.2.spares.names n (λ away. p.2.apart (sym away ∙ is))
 prepared_names name s t (inr p) n (inr taken) = p.2.spares.names n (λ is. taken (ap (λ m. file_of s m) is ∙ p.2.is_free))
@@ -80,18 +78,20 @@ over_some name bytes g s t u is prepares spares over =
           ];
     }
 
-no_tear : (name bytes : List ℕ) (s t : FolderState) → Prepares name s t → KeepsOrTears name bytes s t
-no_tear name bytes s t prepares =
-    let keeps = prepares_keeps name bytes s t prepares in
-    record {
-      here = λ left x. elim (keeps.here left x) [ inl y ↦ inl y | inr y ↦ inr (inl y) ];
-      others = λ n apart taken left x. inl (keeps.others n apart taken left x);
-    }
+-- what keeps or replaces does not tear
+pub tears_less : (name bytes : List ℕ) (s t : FolderState) → KeepsOrReplaces name bytes s t → KeepsOrTears name bytes s t
+tears_less name bytes s t keeps = record {
+  here = λ left x. elim (keeps.here left x) [ inl y ↦ inl y | inr y ↦ inr (inl y) ];
+  others = λ n apart taken left x. inl (keeps.others n apart taken left x);
+}
 
-over_keeps : (name bytes : List ℕ) (file : Option ℕ) (s t u : FolderState) → file_of s name ≡ file → Prepares name s t →
-    OfFile (Overwrites bytes) file t u → KeepsOrTears name bytes s u
+no_tear : (name bytes : List ℕ) (s t : FolderState) → Prepares name s t → KeepsOrTears name bytes s t
+no_tear name bytes s t prepares = tears_less name bytes s t (prepares_keeps name bytes s t prepares)
+
+over_keeps : (name bytes : List ℕ) (file : Option ℕ) (s t u : FolderState) → ((g : ℕ) → file ≡ Some g → file_of s name ≡ Some g) →
+    Prepares name s t → OfFile (Overwrites bytes) file t u → KeepsOrTears name bytes s u
 over_keeps name bytes None s t u is prepares x = rw x (no_tear name bytes s t prepares)
-over_keeps name bytes (Some g) s t u is prepares x = over_some name bytes g s t u is prepares x.0 x.1
+over_keeps name bytes (Some g) s t u is prepares x = over_some name bytes g s t u (is g refl) prepares x.0 x.1
 
 over_bytes : (bytes : List ℕ) (result : Result (Unit {0}) Error) (file : Option ℕ) (t u : FolderState) →
     OfFile (λ old new. Overwrites bytes old new × AfterOk result (new ≡ bytes ∷ [])) file t u →
@@ -101,105 +101,170 @@ over_bytes bytes (Ok done) (Some f) t u x = ((x.0, x.1.0), λ g is. let same : f
 over_bytes bytes (Err e) None t u x = (x, tt)
 over_bytes bytes (Err e) (Some f) t u x = ((x.0, x.1.0), tt)
 
-after_ok_map : (result : Result (Unit {0}) Error) (P Q : Type 0) → (P → Q) → AfterOk result P → AfterOk result Q
+pub after_ok_map : (result : Result (Unit {0}) Error) (P Q : Type 0) → (P → Q) → AfterOk result P → AfterOk result Q
 after_ok_map (Ok done) P Q f x = f x
 after_ok_map (Err e) P Q f x = tt
 
-opens_stays : {X : Type 0} (handle : X → Handle) (name : List ℕ) (r : Result X Error) (s t : FolderState) → Opens handle name r s t → t ≡ s
+pub opens_stays : {X : Type 0} (handle : X → Handle) (name : List ℕ) (r : Result X Error) (s t : FolderState) → Opens handle name r s t → t ≡ s
 opens_stays handle name (Ok f) s t x = x.0
 opens_stays handle name (Err e) s t x = x.0
 
 keeps_none : (name bytes : List ℕ) (s t : FolderState) → t ≡ s → KeepsOrReplaces name bytes s t
 keeps_none name bytes s t same = prepares_keeps name bytes s t (inl same)
 
-pub not_opened : {X : Type 0} (handle : X → Handle) (name : List ℕ) (old : Found) (bytes : List ℕ) (r : Result X Error)
-    (result : Result (Unit {0}) Error) (n : ℕ) (a b : Option History) → IsErr result →
-    Turns (Opens handle name r) n a b → SavesOver name old bytes result a b
-not_opened handle name old bytes r result n a b err turn =
+pub not_opened : {X : Type 0} (handle : X → Handle) (name : List ℕ) (Known : FolderState → Type 0) (bytes : List ℕ) (r : Result X Error)
+    (result : Result (Unit {0}) Error) (n : Answer) (a b : Option History) → IsErr result →
+    Turns (Opens handle name r) n a b → SavesAt Known name bytes result a b
+not_opened handle name Known bytes r result n a b err turn =
     inl (runs_weaker a b (runs_of (Opens handle name r) n a b turn) (λ s t x. keeps_none name bytes s t (opens_stays handle name r s t x))
-    (λ h k x. after_err result (IsDurable k.now name bytes ⊎ (k.now.cannot_sync ≡ true)) err))
+    (λ h k x. after_err result (IsDurable k.now name bytes ⊎ CannotSync name k) err))
 
 -- a replacement that comes to an end
-pub by_new : {X : Type 0} (handle : X → Handle) (name : List ℕ) (old : Found) (bytes : List ℕ) (r : Result X Error) (owner : Option Owner)
-    (replaced : Result Replaced Error) (result : Result (Unit {0}) Error)
-    (n : ℕ) (a b c : Option History) → ((h k : History) → ReplaceOrNotEnds name owner bytes replaced h k →
-    AfterOk result (IsDurable k.now name bytes ⊎ (k.now.cannot_sync ≡ true))) →
-    Turns (Opens handle name r) n a b → ReplacesOrNot name owner bytes replaced b c → SavesOver name old bytes result a c
-by_new handle name old bytes r owner replaced result n a b c ends turn replaces =
+pub by_new : {X : Type 0} (handle : X → Handle) (name : List ℕ) (Known : FolderState → Type 0) (bytes : List ℕ) (r : Result X Error)
+    (owner : Option Owner) (replaced : Result Replaced Error) (result : Result (Unit {0}) Error)
+    (n : Answer) (a b c : Option History) → ((h k : History) → ReplaceOrNotEnds name owner bytes replaced h k →
+    AfterOk result (IsDurable k.now name bytes ⊎ CannotSync name k)) →
+    Turns (Opens handle name r) n a b → ReplacesOrNot name owner bytes replaced b c → SavesAt Known name bytes result a c
+by_new handle name Known bytes r owner replaced result n a b c ends turn replaces =
     inl (runs_then a b c (runs_of (Opens handle name r) n a b turn) replaces (λ s t x. keeps_none name bytes s t (opens_stays handle name r s t x))
     (λ h k u x y. let at : KeepsOrReplaces name bytes h.now u = rw (opens_stays handle name r h.now k.now x.0) at y in at)
     (λ h k l x y. ends k l y))
 
 pub ends_done : (name : List ℕ) (owner : Option Owner) (bytes : List ℕ) (r : Result Replaced Error) (answer : Replaced) → r ≡ Ok answer →
     answer ≡ replaced.Done → (h k : History) →
-    ReplaceOrNotEnds name owner bytes r h k → IsDurable k.now name bytes ⊎ (k.now.cannot_sync ≡ true)
+    ReplaceOrNotEnds name owner bytes r h k → IsDurable k.now name bytes ⊎ CannotSync name k
 ends_done name owner bytes (Ok replaced.Done) answer is done h k x = x
 ends_done name owner bytes (Ok replaced.Refused) answer is done h k x = absurd (cc)
 ends_done name owner bytes (Err e) answer is done h k x = absurd (cc)
 
--- the file that was opened, written in place
+-- the file that was opened
+plain_is : (b : Bool) (f g : ℕ) → if_plain b f ≡ Some g → f ≡ g
+plain_is true f g is = cc
+plain_is false f g is = absurd (cc)
+
 opened_file : {X : Type 0} (handle : X → Handle) (name : List ℕ) (opened : X) (s t : FolderState) → Opens handle name (Ok opened) s t →
-    s.leads name ≡ name → file_of s name ≡ (handle opened).file
-opened_file handle name opened s t x leads = ap (λ m. file_of s m) (sym leads) ∙ sym (ap (λ h. h.file) x.1)
+    (g : ℕ) → (handle opened).file ≡ Some g → file_of s (target s name) ≡ Some g
+opened_file handle name opened s t x g is =
+    let at : if_plain (s.fixed.is_plain x.1) x.1 ≡ Some g = sym (ap (λ h. h.file) x.3) ∙ is in
+    x.2 ∙ ap Some (plain_is (s.fixed.is_plain x.1) x.1 g at)
+
+opened_plain : {X : Type 0} (handle : X → Handle) (name : List ℕ) (opened : X) (s t : FolderState) → Opens handle name (Ok opened) s t →
+    (g : ℕ) → file_of s (target s name) ≡ Some g → s.fixed.is_plain g ≡ true → (handle opened).file ≡ Some g
+opened_plain handle name opened s t x g is plain =
+    let both : Some x.1 ≡ Some g = sym x.2 ∙ is in
+    let same : x.1 ≡ g = cc in
+    ap (λ h. h.file) x.3 ∙ ap (λ f. if_plain (s.fixed.is_plain f) f) same ∙ ap (λ b. if_plain b g) plain
+
+-- it was opened, so it is in place
+pub arrived : {X : Type 0} (handle : X → Handle) (name : List ℕ) (opened : X) (bytes : List ℕ) (h k : History) →
+    Opens handle name (Ok opened) h.now h.now → ((g : ℕ) → (handle opened).file ≡ Some g → k.now.files g ≡ bytes ∷ []) →
+    IsInPlace (target h.now name) bytes h k
+arrived handle name opened bytes h k x has = record {
+  over = λ g is plain. has g (opened_plain handle name opened h.now h.now x g is plain);
+  anew = λ none. let no : None ≡ Some x.1 = sym none ∙ x.2 in absurd (cc);
+}
+
+-- what is known of a file that was opened, and of which nothing else has changed but for a new file
+pub record OpenedFor {X : Type 0} (handle : X → Handle) (name : List ℕ) (opened : X) (h k : History) : Type 0 where
+  pub more : h.refusals ≤ k.refusals
+  pub opens : Opens handle name (Ok opened) h.now h.now
+  pub prepares : Prepares (target h.now name) h.now k.now
+
+-- a file that was opened is written over
+pub over_opened : {X : Type 0} (handle : X → Handle) (name : List ℕ) (opened : X) (bytes : List ℕ) (h k : History) (u : FolderState) →
+    OpenedFor handle name opened h k → OfFile (Overwrites bytes) (handle opened).file k.now u → KeepsOrTears (target h.now name) bytes h.now u
+over_opened handle name opened bytes h k u x y =
+    over_keeps (target h.now name) bytes (handle opened).file h.now k.now u (opened_file handle name opened h.now h.now x.opens) x.prepares y
+
+pub over_arrived : {X : Type 0} (handle : X → Handle) (name : List ℕ) (opened : X) (bytes : List ℕ) (result : Result (Unit {0}) Error)
+    (h k l : History) → OpenedFor handle name opened h k →
+    OfFile (λ old new. Overwrites bytes old new × AfterOk result (new ≡ bytes ∷ [])) (handle opened).file k.now l.now →
+    AfterOk result (IsInPlace (target h.now name) bytes h l)
+over_arrived handle name opened bytes result h k l x y =
+    let both = over_bytes bytes result (handle opened).file k.now l.now y in
+    after_ok_map result ((g : ℕ) → (handle opened).file ≡ Some g → l.now.files g ≡ bytes ∷ []) (IsInPlace (target h.now name) bytes h l)
+    (λ has. arrived handle name opened bytes h l x.opens has) both.1
+
+pub opened_for : {X : Type 0} (handle : X → Handle) (name : List ℕ) (opened : X) (h k : History) → h.refusals ≤ k.refusals →
+    Opens handle name (Ok opened) h.now k.now → OpenedFor handle name opened h k
+opened_for handle name opened h k more x = record { more = more; opens = (refl, x.1, x.2, x.3); prepares = inl x.0 }
+
+-- the reason to write in place what was found
+found_special : (name : List ℕ) (old : Found) (s : FolderState) (file : ℕ) → IsFound s name file old → old.is_file ≡ false → IsSpecial s name
+found_special name old s file found is = (file, found.there, sym found.is_plain ∙ is)
+
+found_shared : (name : List ℕ) (old : Found) (s : FolderState) (file : ℕ) → IsFound s name file old → (b : Bool) → old.is_file ≡ b → 1 < old.names →
+    IsSpecial s name ⊎ IsShared s name
+found_shared name old s file found true is several = inr (found.shared is several)
+found_shared name old s file found false is several = inl (found_special name old s file found is)
+
+found_reason : (name : List ℕ) (old : Found) (h k : History) (file : ℕ) → IsFound h.now name file old →
+    (old.is_file ≡ false) ⊎ (1 < old.names) → MustBeInPlace name h k
+found_reason name old h k file found (inl is) = inl (found_special name old h.now file found is)
+found_reason name old h k file found (inr several) =
+    elim (found_shared name old h.now file found old.is_file refl several) [ inl special ↦ inl special | inr shared ↦ inr (inl shared) ]
 
 pub in_place : {X : Type 0} (handle : X → Handle) (name : List ℕ) (old : Found) (bytes : List ℕ) (opened : X) (result : Result (Unit {0}) Error)
-    (n : ℕ) (a b c : Option History) →
+    (n : Answer) (a b c : Option History) →
     (old.is_file ≡ false) ⊎ (1 < old.names) → Turns (Opens handle name (Ok opened)) n a b → WritesOver (handle opened) bytes result b c →
-    SavesOver name old bytes result a c
+    SavesAt (WasFound name (Some old)) name bytes result a c
 in_place handle name old bytes opened result n a b c why turn writes =
-    inr (runs_then a b c (runs_of (Opens handle name (Ok opened)) n a b turn) writes.run
-    (λ s t x leads. no_tear name bytes s t (inl x.0))
-    (λ h k u x y leads. over_keeps name bytes (handle opened).file h.now k.now u (opened_file handle name opened h.now k.now x.0 leads) (inl x.0.0) y)
-    (λ h k l x y. (
-      elim why [ inl special ↦ inl special | inr names ↦ inr (inl names) ],
-      λ leads. let both = over_bytes bytes result (handle opened).file k.now l.now y in
-          after_ok_map result ((g : ℕ) → (handle opened).file ≡ Some g → l.now.files g ≡ bytes ∷ [])
-          ((g : ℕ) → file_of h.now name ≡ Some g → l.now.files g ≡ bytes ∷ [])
-          (λ has g is. has g (sym (opened_file handle name opened h.now k.now x.0 leads) ∙ is)) both.1,
+    inr (runs_then a b c (runs_counted a b (runs_of (Opens handle name (Ok opened)) n a b turn)) writes.run
+    (λ s t x known. no_tear name bytes s t (inl x.0))
+    (λ h k u x y known. rw known.no_link at (over_opened handle name opened bytes h k u (opened_for handle name opened h k x.0 x.1.0) y))
+    (λ h k l x y known. (
+      found_reason name old h l known.seen.0 known.seen.1 why,
+      rw known.no_link at (over_arrived handle name opened bytes result h k l (opened_for handle name opened h k x.0 x.1.0) y),
     )))
 
 -- a replacement that was refused, and then the file in place
 refused_ends : (name : List ℕ) (owner : Owner) (bytes : List ℕ) (r : Result Replaced Error) (answer : Replaced) → r ≡ Ok answer →
     answer ≡ replaced.Refused → (h k : History) →
     ReplaceOrNotEnds name (Some owner) bytes r h k → Prepares name h.now k.now ×
-    ((owner.device ≢ h.now.device (folder_of name)) ⊎ (h.refusals < k.refusals))
+    ((owner.device ≢ h.now.fixed.folder_device (folder_of name)) ⊎ (h.refusals < k.refusals))
 refused_ends name owner bytes (Ok replaced.Done) answer is refused h k x = absurd (cc)
 refused_ends name owner bytes (Ok replaced.Refused) answer is refused h k x = x
 refused_ends name owner bytes (Err e) answer is refused h k x = absurd (cc)
 
+-- what is known once a replacement was refused
+abbrev pub WasRefusedFor : {X : Type 0} → (X → Handle) → List ℕ → X → Owner → History → History → Type 0
+WasRefusedFor handle name opened owner h k =
+    (target h.now name ≡ name → OpenedFor handle name opened h k) ×
+    ((owner.device ≢ h.now.fixed.folder_device (folder_of name)) ⊎ (h.refusals < k.refusals))
+
+was_refused : {X : Type 0} (handle : X → Handle) (name bytes : List ℕ) (opened : X) (owner : Owner) (r : Result Replaced Error) (answer : Replaced) →
+    r ≡ Ok answer → answer ≡ replaced.Refused → (h k l : History) → h.refusals ≤ k.refusals → Opens handle name (Ok opened) h.now k.now →
+    k.refusals ≤ l.refusals → ReplaceOrNotEnds name (Some owner) bytes r k l → WasRefusedFor handle name opened owner h l
+was_refused handle name bytes opened owner r answer is refused h k l more x later y =
+    let ends = refused_ends name owner bytes r answer is refused k l y in
+    let prepares : Prepares name h.now l.now = rw x.0 at ends.0 in (
+      λ no_link. record { more = omega (arith, more, later); opens = (refl, x.1, x.2, x.3); prepares = rw (← no_link) at prepares },
+      elim ends.1 [
+        | inl other ↦ inl (λ same. other (same ∙ ap (λ s. s.fixed.folder_device (folder_of name)) (sym x.0)))
+        | inr again ↦ inr (omega (arith, again, more))
+      ],
+    )
+
+mount_reason : (name : List ℕ) (old : Found) (owner : Owner) (h k l : History) (file : ℕ) → IsFound h.now name file old → owner.device ≡ old.device →
+    k.refusals ≤ l.refusals →
+    (owner.device ≢ h.now.fixed.folder_device (folder_of name)) ⊎ (h.refusals < k.refusals) → MustBeInPlace name h l
+mount_reason name old owner h k l file found device later (inl other) =
+    inr (inr (inl (file, found.there, λ same. other (device ∙ found.device ∙ same))))
+mount_reason name old owner h k l file found device later (inr more) = inr (inr (inr (omega (arith, more, later))))
+
 pub after_refusal : {X : Type 0} (handle : X → Handle) (name : List ℕ) (old : Found) (bytes : List ℕ) (opened : X) (owner : Owner)
     (r : Result Replaced Error) (answer : Replaced)
-    (result : Result (Unit {0}) Error) (n : ℕ) (a b c d : Option History) → owner.device ≡ old.device → r ≡ Ok answer → answer ≡ replaced.Refused →
+    (result : Result (Unit {0}) Error) (n : Answer) (a b c d : Option History) → owner.device ≡ old.device → r ≡ Ok answer → answer ≡ replaced.Refused →
     Turns (Opens handle name (Ok opened)) n a b →
-    ReplacesOrNot name (Some owner) bytes r b c → WritesOver (handle opened) bytes result c d → SavesOver name old bytes result a d
-after_refusal {X} handle name old bytes opened owner r answer result n a b c d device is refused turn replaces writes =
-    let first : Runs (λ s t. KeepsOrReplaces name bytes s t) (λ h k. (h.refusals ≤ k.refusals) ×
-    (h.now.leads name ≡ name → file_of h.now name ≡ (handle opened).file) × Prepares name h.now k.now ×
-    ((owner.device ≢ h.now.device (folder_of name)) ⊎ (h.refusals < k.refusals))) a c =
-    runs_then a b c (runs_of (Opens handle name (Ok opened)) n a b turn) (runs_counted b c replaces) (λ s t x. keeps_none name bytes s t x.0)
-    (λ h k u x y. let at : KeepsOrReplaces name bytes h.now u = rw x.0.0 at y in at)
-    (λ h k l x y.
-    let ends = refused_ends name owner bytes r answer is refused k l y.1 in
-    let same : h.refusals ≤ k.refusals = omega (arith, x.1) in (
-      omega (arith, y.0, same),
-      opened_file handle name opened h.now k.now x.0,
-      rw x.0.0 at ends.0,
-      elim ends.1 [
-        | inl other ↦ inl (λ is. other (is ∙ ap (λ s. s.device (folder_of name)) (sym x.0.0)))
-        | inr more ↦ inr (omega (arith, more, same))
-      ],
-    )) in
-    inr (runs_then a c d first (runs_counted c d writes.run)
-    (λ s t x leads. record {
-      here = λ left y. elim (x.here left y) [ inl z ↦ inl z | inr z ↦ inr (inl z) ];
-      others = λ m apart taken left y. inl
-          (x.others m apart taken left y);
-    })
-    (λ h k u x y leads. over_keeps name bytes (handle opened).file h.now k.now u (x.1 leads) x.2 y)
-    (λ h k l x y. (
-      inr (inr (elim x.3 [ inl other ↦ inl (λ same. other (device ∙ same)) | inr more ↦ inr (omega (arith, more, y.0)) ])),
-      λ leads. let both = over_bytes bytes result (handle opened).file k.now l.now y.1 in
-          after_ok_map result ((g : ℕ) → (handle opened).file ≡ Some g → l.now.files g ≡ bytes ∷ [])
-          ((g : ℕ) → file_of h.now name ≡ Some g → l.now.files g ≡ bytes ∷ [])
-          (λ has g known. has g (sym (x.1 leads) ∙ known)) both.1,
+    ReplacesOrNot name (Some owner) bytes r b c → WritesOver (handle opened) bytes result c d → SavesAt (WasFound name (Some old)) name bytes result a d
+after_refusal handle name old bytes opened owner r answer result n a b c d device is refused turn replaces writes =
+    let first : Runs (KeepsOrReplaces name bytes) (WasRefusedFor handle name opened owner) a c =
+    runs_then a b c (runs_counted a b (runs_of (Opens handle name (Ok opened)) n a b turn)) (runs_counted b c replaces)
+    (λ s t x. keeps_none name bytes s t x.0) (λ h k u x y. let at : KeepsOrReplaces name bytes h.now u = rw x.1.0.0 at y in at)
+    (λ h k l x y. was_refused handle name bytes opened owner r answer is refused h k l x.0 x.1.0 y.0 y.1) in
+    inr (runs_then a c d first (runs_counted c d writes.run) (λ s t x known. tears_less name bytes s t x)
+    (λ h k u x y known. rw known.no_link at (over_opened handle name opened bytes h k u (x.0 known.no_link) y))
+    (λ h k l x y known. (
+      mount_reason name old owner h k l known.seen.0 known.seen.1 device y.0 x.1,
+      rw known.no_link at (over_arrived handle name opened bytes result h k l (x.0 known.no_link) y.1),
     )))

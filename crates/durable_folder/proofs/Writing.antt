@@ -1,9 +1,9 @@
 -- Calls on one open file, one after another.
-use Rattle.std.proofs.Common.{◌≡◌, ◌≢◌, ℕ, List, Option, None, Some, Result, Ok, Err, refl, sym, ap, ◌∙◌}
+use Rattle.std.proofs.Common.{◌≡◌, ℕ, List, Option, None, Some, Result, Ok, Err, refl, ap, ◌∙◌}
 use Rattle.std.specs.declared.io.Error.{Error}
 use Rattle.durable_folder.specs.FolderState.{FolderState}
 use Rattle.durable_folder.specs.Calls.{Handle, SparesNames, OfFile, Seeks}
-use Rattle.durable_folder.specs.Histories.{History, Turns, Runs}
+use Rattle.durable_folder.specs.Histories.{History, Turns, Answer}
 use Rattle.durable_folder.specs.InPlace.{FileRuns}
 use Rattle.durable_folder.proofs.Passing.{runs_of, runs_weaker, runs_then}
 
@@ -14,7 +14,7 @@ pub spares_names_then : (f : ℕ) (s t u : FolderState) → SparesNames f s t �
 spares_names_then f s t u x y = record {
   names = λ n. y.names n ∙ x.names n;
   files = λ g other. y.files g other ∙ x.files g other;
-  leads = y.leads ∙ x.leads;
+  fixed = y.fixed ∙ x.fixed;
 }
 
 pub of_file_weaker : (P Q : Change) (file : Option ℕ) (s t : FolderState) → OfFile P file s t → ((vs ws : List (List ℕ)) → P vs ws → Q vs ws) →
@@ -32,16 +32,16 @@ of_file_then P Q R (Some file) s t u x y f =
 pub of_file_stays : (P : Change) (file : Option ℕ) (s t : FolderState) → t ≡ s → ((vs : List (List ℕ)) → P vs vs) → OfFile P file s t
 of_file_stays P None s t same p = same
 of_file_stays P (Some file) s t same p = (
-  record { names = λ n. ap (λ x. x.names n) same; files = λ g other. ap (λ x. x.files g) same; leads = ap (λ x. x.leads) same },
+  record { names = λ n. ap (λ x. x.names n) same; files = λ g other. ap (λ x. x.files g) same; fixed = ap (λ x. x.fixed) same },
   rw (ap (λ x. x.files file) same) (p (s.files file)),
 )
 
 -- one call
-pub file_turn : (P : Change) (file : Option ℕ) (n : ℕ) (a b : Option History) → Turns (OfFile P file) n a b → FileRuns file P P a b
+pub file_turn : (P : Change) (file : Option ℕ) (n : Answer) (a b : Option History) → Turns (OfFile P file) n a b → FileRuns file P P a b
 file_turn P file n a b turn = record { run = runs_weaker a b (runs_of (OfFile P file) n a b turn) (λ s t x. x) (λ h k x. x.0) }
 
 -- one call after which all is as before
-pub file_stays : (S : FolderState → FolderState → Type 0) (P E : Change) (file : Option ℕ) (n : ℕ) (a b : Option History) → Turns S n a b →
+pub file_stays : (S : FolderState → FolderState → Type 0) (P E : Change) (file : Option ℕ) (n : Answer) (a b : Option History) → Turns S n a b →
     ((s t : FolderState) → S s t → t ≡ s) → ((vs : List (List ℕ)) → P vs vs) → ((s t : FolderState) → S s t → (vs : List (List ℕ)) → E vs vs) →
     FileRuns file P E a b
 file_stays S P E file n a b turn same p e = record {
@@ -74,7 +74,7 @@ seek_offset mid offset (Ok done) s t x ok = x.1
 seek_offset mid offset (Err error) s t x ok = absurd (cc)
 
 -- a seek
-pub file_sought : (file : Option ℕ) (mid : Handle) (offset n : ℕ) (result : Result (Unit {0}) Error) (a b : Option History) →
+pub file_sought : (file : Option ℕ) (mid : Handle) (offset : ℕ) (n : Answer) (result : Result (Unit {0}) Error) (a b : Option History) →
     Turns (Seeks mid offset result) n a b →
     FileRuns file (λ vs ws. ws ≡ vs) (λ vs ws. (ws ≡ vs) × (result ≡ Ok tt → mid.offset ≡ offset)) a b
 file_sought file mid offset n result a b turn =

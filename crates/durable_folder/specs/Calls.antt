@@ -2,10 +2,9 @@
 use Rattle.std.specs.Prelude.{◌≡◌, ◌≢◌, ◌⊎◌, ℕ, ◌+◌, ◌<◌, ◌≤◌, max, Bool, true, false, List, [], ◌∷◌, length, Option, None, Some, Result, Ok, Err}
 use Rattle.std.specs.IoError.{error_kind}
 use Rattle.std.specs.declared.io.Error.{Error}
-use Rattle.std.specs.declared.io.ErrorKind.{ErrorKind}
 use Rattle.std.specs.declared.io.ErrorKind.TheVariants as kind
 use Rattle.durable_folder.specs.declared.folder.Found.{Found}
-use Rattle.durable_folder.specs.FolderState.{FolderState, SomeOf, MayHold, file_of, bytes_of, byte_at, newest}
+use Rattle.durable_folder.specs.FolderState.{FolderState, SomeOf, MayHold, IsFree, IsShared, file_of, target, byte_at, newest}
 use Rattle.durable_folder.specs.Places.{folder_of}
 
 -- A file that was opened, if it is a plain one, and where the next bytes go.
@@ -13,65 +12,53 @@ pub record Handle : Type 0 where
   pub file : Option ℕ
   pub offset : ℕ
 
--- by the kind of an error, whether the system gave no leave
-abbrev pub is_refusal : ErrorKind → Bool
-is_refusal kind.PermissionDenied = true
-is_refusal kind.ReadOnlyFilesystem = true
-is_refusal kind.InvalidFilename = true
-is_refusal kind.ResourceBusy = true
-is_refusal kind.CrossesDevices = true
-is_refusal _ = false
-
-abbrev pub refusals_by : Bool → ℕ
-refusals_by true = 1
-refusals_by false = 0
-
--- how often a call that was answered so was refused
-abbrev pub refusals_in : {T : Type 0} → Result T Error → ℕ
-refusals_in (Ok x) = 0
-refusals_in (Err error) = refusals_by (is_refusal (error_kind error))
-
--- a call that only makes a file what it is to be counts each error as a refusal
-abbrev pub errors_in : {T : Type 0} → Result T Error → ℕ
-errors_in (Ok x) = 0
-errors_in (Err error) = 1
-
 -- what stays where only this name and this file change
 pub record Spares (name : List ℕ) (file : ℕ) (s t : FolderState) : Type 0 where
   pub names : (n : List ℕ) → n ≢ name → t.names n ≡ s.names n
   pub files : (f : ℕ) → f ≢ file → t.files f ≡ s.files f
-  pub leads : t.leads ≡ s.leads
+  pub fixed : t.fixed ≡ s.fixed
 
 -- what stays where only the bytes of this file change
 pub record SparesNames (file : ℕ) (s t : FolderState) : Type 0 where
   pub names : (n : List ℕ) → t.names n ≡ s.names n
   pub files : (f : ℕ) → f ≢ file → t.files f ≡ s.files f
-  pub leads : t.leads ≡ s.leads
+  pub fixed : t.fixed ≡ s.fixed
 
 -- what stays where only names change
 pub record SparesFiles (s t : FolderState) : Type 0 where
   pub files : (f : ℕ) → t.files f ≡ s.files f
-  pub leads : t.leads ≡ s.leads
+  pub fixed : t.fixed ≡ s.fixed
 
--- What is found is told. What is no link leads to itself, and so does a name at which there is nothing.
+-- What is told of a name: what is no link leads to itself, and a plain file with several names has another one.
+pub record IsFound (s : FolderState) (name : List ℕ) (file : ℕ) (found : Found) : Type 0 where
+  pub there : file_of s name ≡ Some file
+  pub no_link : found.is_link ≡ false → target s name ≡ name
+  pub link : found.is_link ≡ true → target s name ≢ name
+  pub is_plain : found.is_file ≡ s.fixed.is_plain file
+  pub shared : found.is_file ≡ true → 1 < found.names → IsShared s name
+  pub device : found.device ≡ s.fixed.device file
+
 abbrev pub Finds : List ℕ → Result Found Error → FolderState → FolderState → Type 0
-Finds name (Ok found) s t =
-    (t ≡ s) × (found ≡ s.found name) × (found.is_link ≡ false → s.leads name ≡ name)
-Finds name (Err error) s t =
-    (t ≡ s) × (error_kind error ≡ kind.NotFound → (s.leads name ≡ name) × (file_of s name ≡ None))
+Finds name (Ok found) s t = (t ≡ s) × (file : ℕ) × IsFound s name file found
+Finds name (Err error) s t = (t ≡ s) × (error_kind error ≡ kind.NotFound → IsFree s name)
 
 -- Where a name leads is told. That is no link.
 abbrev pub Resolves : {P : Type 0} → (P → List ℕ) → List ℕ → Result P Error → FolderState → FolderState → Type 0
-Resolves text name (Ok path) s t =
-    (t ≡ s) × (text path ≡ s.leads name) × (s.leads (s.leads name) ≡ s.leads name)
+Resolves text name (Ok path) s t = (t ≡ s) × (text path ≡ target s name) × (target s (target s name) ≡ target s name)
 Resolves text name (Err error) s t = t ≡ s
 
--- the file to which the name leads is opened, at its start
+-- the file, if it is a plain one
+abbrev pub if_plain : Bool → ℕ → Option ℕ
+if_plain true file = Some file
+if_plain false file = None
+
+-- The file to which the name leads is opened, at its start.
 abbrev pub Opens : {F : Type 0} → (F → Handle) → List ℕ → Result F Error → FolderState → FolderState → Type 0
-Opens handle name (Ok file) s t =
-    (t ≡ s) × (handle file ≡ record { file = file_of s (s.leads name); offset = 0 })
+Opens handle name (Ok opened) s t =
+    (t ≡ s) × (file : ℕ) × (file_of s (target s name) ≡ Some file) ×
+    (handle opened ≡ record { file = if_plain (s.fixed.is_plain file) file; offset = 0 })
 Opens handle name (Err error) s t =
-    (t ≡ s) × (error_kind error ≡ kind.NotFound → file_of s (s.leads name) ≡ None)
+    (t ≡ s) × (error_kind error ≡ kind.NotFound → file_of s (target s name) ≡ None)
 
 -- what is told of an open file
 abbrev pub FindsOpen : Handle → Result Found Error → FolderState → FolderState → Type 0
@@ -84,13 +71,14 @@ OpensFolder place folder (Ok opened) s t = (t ≡ s) × (place opened ≡ folder
 OpensFolder place folder (Err error) s t = t ≡ s
 
 abbrev pub FindsFolder : List ℕ → Result Found Error → FolderState → FolderState → Type 0
-FindsFolder folder (Ok found) s t = (t ≡ s) × (found.device ≡ s.device folder)
+FindsFolder folder (Ok found) s t = (t ≡ s) × (found.device ≡ s.fixed.folder_device folder)
 FindsFolder folder (Err error) s t = t ≡ s
 
 -- A new file at a name that had none. No other name has it, nor had it.
 pub record Makes (file : ℕ) (name : List ℕ) (s t : FolderState) : Type 0 where
   pub is_free : file_of s name ≡ None
   pub is_fresh : (n : List ℕ) → SomeOf (λ f. f ≡ Some file) (s.names n) → ⊥
+  pub is_plain : s.fixed.is_plain file ≡ true
   pub named : t.names name ≡ Some file ∷ s.names name
   pub empty : t.files file ≡ [] ∷ []
   pub spares : Spares name file s t
@@ -103,7 +91,7 @@ Creates handle name (Err error) s t = t ≡ s
 -- the file to which the name leads is opened, or made where there is none
 abbrev pub OpensOrCreates : {F : Type 0} → (F → Handle) → List ℕ → Result F Error → FolderState → FolderState → Type 0
 OpensOrCreates handle name result s t =
-    Opens handle name result s t ⊎ Creates handle (s.leads name) result s t
+    Opens handle name result s t ⊎ Creates handle (target s name) result s t
 
 -- new is old with these bytes at an offset; what lies between the end and the offset is zeros
 pub record Overlaid (offset : ℕ) (bytes old new : List ℕ) : Type 0 where
@@ -185,19 +173,9 @@ pub record SettlesNames (place : List ℕ) (s t : FolderState) : Type 0 where
   pub others : (n : List ℕ) (f : Option ℕ) → SomeOf (λ g. g ≡ f) (t.names n) → SomeOf (λ g. g ≡ f) (s.names n)
   pub files : SparesFiles s t
 
--- by the kind of an error, whether the system cannot sync this at all
-abbrev pub is_unable : ErrorKind → Bool
-is_unable kind.InvalidInput = true
-is_unable _ = false
-
--- what a folder that is not synced leaves
-abbrev pub Unsynced : Bool → FolderState → FolderState → Type 0
-Unsynced true s t = t ≡ record s { cannot_sync = true }
-Unsynced false s t = t ≡ s
-
 abbrev pub SyncsFolder : List ℕ → Result (Unit {0}) Error → FolderState → FolderState → Type 0
 SyncsFolder place (Ok done) s t = SettlesNames place s t
-SyncsFolder place (Err error) s t = Unsynced (is_unable (error_kind error)) s t
+SyncsFolder place (Err error) s t = t ≡ s
 
 -- nothing changes
 abbrev pub Stays : FolderState → FolderState → Type 0

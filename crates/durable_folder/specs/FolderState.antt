@@ -1,20 +1,23 @@
 -- What a loss of power leaves of a folder.
 use Rattle.std.specs.Prelude.{◌≡◌, ◌≢◌, ◌⊎◌, ℕ, ◌+◌, ◌*◌, ◌<◌, ◌≤◌, Bool, List, [], ◌∷◌, length, Option, None, Some, slice_index}
-use Rattle.durable_folder.specs.declared.folder.Found.{Found}
 
--- A folder as a loss of power sees it. A plain file is a number, so that two names can have one file.
-pub record FolderState : Type 0 where
-  -- the plain files that a name had since its folder was synced, the newest first, and None where it had none
-  pub names : List ℕ → List (Option ℕ)
-  -- the bytes that a file had since it was synced, the newest first
-  pub files : ℕ → List (List ℕ)
+-- What no call of a save changes.
+pub record Fixed : Type 0 where
   -- to which name a name leads: to itself, or to where its link ends
   pub leads : List ℕ → List ℕ
-  -- what the system tells of a name, and on which device a folder is
-  pub found : List ℕ → Found
-  pub device : List ℕ → ℕ
-  -- a folder was found that the system cannot sync
-  pub cannot_sync : Bool
+  -- whether a file is a plain one, and no folder, link, device or pipe
+  pub is_plain : ℕ → Bool
+  -- on which device a file is, and a folder
+  pub device : ℕ → ℕ
+  pub folder_device : List ℕ → ℕ
+
+-- A folder as a loss of power sees it. What stands at a name is a file, and a file is a number: two names can have one.
+pub record FolderState : Type 0 where
+  -- the files that a name had since its folder was synced, the newest first, and None where it had none
+  pub names : List ℕ → List (Option ℕ)
+  -- the bytes that a plain file had since it was synced, the newest first
+  pub files : ℕ → List (List ℕ)
+  pub fixed : Fixed
 
 -- the first, or this where there is none
 abbrev pub newest : {A : Type 0} → A → List A → A
@@ -32,6 +35,23 @@ file_of s name = newest None (s.names name)
 
 abbrev pub bytes_of : FolderState → ℕ → List ℕ
 bytes_of s file = newest [] (s.files file)
+
+-- to which name a name leads
+abbrev pub target : FolderState → List ℕ → List ℕ
+target s name = s.fixed.leads name
+
+-- a name that is no link, at which there is nothing
+pub record IsFree (s : FolderState) (name : List ℕ) : Type 0 where
+  pub no_link : target s name ≡ name
+  pub nothing : file_of s name ≡ None
+
+-- another name has the file of this one
+pub record IsShared (s : FolderState) (name : List ℕ) : Type 0 where
+  pub file : ℕ
+  pub other : List ℕ
+  pub apart : other ≢ name
+  pub here : file_of s name ≡ Some file
+  pub there : file_of s other ≡ Some file
 
 -- the byte at a place, and 0 behind the end
 abbrev pub byte_at : List ℕ → ℕ → ℕ

@@ -1,20 +1,37 @@
 -- The states through which a folder goes.
 use Rattle.std.specs.Prelude.{◌≡◌, ℕ, ◌+◌, ◌≤◌, List, ◌∷◌, ◌++◌, Option, None, Some}
 use Rattle.std.specs.List.{AllByRecursion}
-use Rattle.durable_folder.specs.FolderState.{FolderState}
+use Rattle.durable_folder.specs.FolderState.{FolderState, SomeOf}
+use Rattle.durable_folder.specs.Places.{folder_of}
 
--- The state of a folder, those before it, the newest first, and how often the system gave no leave for a call.
+-- The state of a folder, those before it, the newest first, and what the system has answered so far.
 pub record History : Type 0 where
   pub now : FolderState
   pub before : List FolderState
+  -- how often it gave no leave for a call
   pub refusals : ℕ
+  -- how often it met a fault, or gave no leave
+  pub failures : ℕ
+  -- which folders it said that it cannot sync, or gave no leave to open
+  pub unsynced : List (List ℕ)
 
--- A call of the system went from one state to the next, in which it stands in this relation to the one before. It was refused so often.
-abbrev pub Turns : (FolderState → FolderState → Type 0) → ℕ → Option History → Option History → Type 0
-Turns step refusals (Some h) (Some k) =
-    step h.now k.now × (k.before ≡ h.now ∷ h.before) × (k.refusals ≡ h.refusals + refusals)
-Turns step refusals None None = Unit {0}
-Turns step refusals _ _ = ⊥
+-- What one answer adds to these.
+pub record Answer : Type 0 where
+  pub refusals : ℕ
+  pub failures : ℕ
+  pub unsynced : List (List ℕ)
+
+-- A call of the system went from one state to the next, which stands in this relation to the one before, and was answered so.
+abbrev pub Turns : (FolderState → FolderState → Type 0) → Answer → Option History → Option History → Type 0
+Turns step answer (Some h) (Some k) =
+    step h.now k.now × (k.before ≡ h.now ∷ h.before) × (k.refusals ≡ h.refusals + answer.refusals) ×
+    (k.failures ≡ h.failures + answer.failures) × (k.unsynced ≡ answer.unsynced ++ h.unsynced)
+Turns step answer None None = Unit {0}
+Turns step answer _ _ = ⊥
+
+-- the system said that it cannot sync the folder of this name, or gave no leave to open it
+abbrev pub CannotSync : List ℕ → History → Type 0
+CannotSync name h = SomeOf (λ place. place ≡ folder_of name) h.unsynced
 
 -- Since the first history, every state stands in this relation to the first one, and the last history in that relation
 -- to it. Refusals were not forgotten.

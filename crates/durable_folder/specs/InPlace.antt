@@ -1,7 +1,7 @@
 -- What is left of a file that is written in place.
-use Rattle.std.specs.Prelude.{◌≡◌, ◌⊎◌, ℕ, ◌+◌, ◌<◌, ◌≤◌, min, List, [], ◌∷◌, length, take, drop, Option, None, Some, Result, Ok, Err}
+use Rattle.std.specs.Prelude.{◌≡◌, ◌⊎◌, ℕ, ◌<◌, ◌≤◌, min, List, [], ◌∷◌, length, Option, Result, Ok, Err}
 use Rattle.std.specs.declared.io.Error.{Error}
-use Rattle.durable_folder.specs.FolderState.{FolderState, MayHold, byte_at, block_bytes}
+use Rattle.durable_folder.specs.FolderState.{MayHold, byte_at, block_bytes}
 use Rattle.durable_folder.specs.Calls.{Handle, OfFile}
 use Rattle.durable_folder.specs.Histories.{History, Runs}
 

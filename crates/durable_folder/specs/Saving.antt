@@ -1,12 +1,13 @@
 -- What a save leaves of a name, whichever call fails and wherever power is lost.
-use Rattle.std.specs.Prelude.{◌≡◌, ◌≢◌, ◌⊎◌, ℕ, ◌<◌, ◌≤◌, Bool, true, false, List, [], ◌∷◌, length, Option, None, Some, Result, Ok, Err}
+use Rattle.std.specs.Prelude.{◌≡◌, ◌≢◌, ◌⊎◌, ℕ, ◌<◌, Bool, true, false, List, [], ◌∷◌, Option, None, Some, Result, Ok, Err}
 use Rattle.std.specs.IoError.{error_kind}
 use Rattle.std.specs.declared.io.Error.{Error}
 use Rattle.durable_folder.specs.declared.answers.Replaced.{Replaced}
 use Rattle.durable_folder.specs.declared.answers.Replaced.TheVariants as replaced
 use Rattle.durable_folder.specs.FolderState.{FolderState, SomeOf, Leaves, IsDurable, file_of}
-use Rattle.durable_folder.specs.Calls.{Handle, Spares, SparesFiles, OfFile, Drops, is_refusal}
-use Rattle.durable_folder.specs.Histories.{History, Runs}
+use Rattle.durable_folder.specs.Calls.{Handle, Spares, SparesFiles, OfFile}
+use Rattle.durable_folder.specs.Counting.{is_refusal}
+use Rattle.durable_folder.specs.Histories.{History, Runs, CannotSync}
 use Rattle.durable_folder.specs.Places.{folder_of}
 use Rattle.durable_folder.specs.declared.replacing.Owner.{Owner}
 use Rattle.durable_folder.specs.InPlace.{AfterOk, FileRuns}
@@ -77,7 +78,7 @@ pub record Shifts (beside name : List ℕ) (s t : FolderState) : Type 0 where
 -- what putting the new file in its place comes to
 abbrev pub PutEnds : List ℕ → List ℕ → Result Replaced Error → History → History → Type 0
 PutEnds beside name (Ok replaced.Done) h k =
-    (k.now.names name ≡ file_of h.now beside ∷ []) ⊎ (k.now.cannot_sync ≡ true)
+    (k.now.names name ≡ file_of h.now beside ∷ []) ⊎ CannotSync name k
 PutEnds beside name (Ok replaced.Refused) h k =
     ((n : List ℕ) → n ≢ beside → k.now.names n ≡ h.now.names n) × (h.refusals < k.refusals)
 PutEnds beside name (Err error) h k = Unit {0}
@@ -110,7 +111,7 @@ Ends beside name filled result = Runs (FinishSteps beside name filled) (FinishEn
 
 -- what a replacement comes to, from the state before the new file was made
 abbrev pub ReplaceEnds : List ℕ → List ℕ → Result Replaced Error → FolderState → History → History → Type 0
-ReplaceEnds name bytes (Ok replaced.Done) s h k = IsDurable k.now name bytes ⊎ (k.now.cannot_sync ≡ true)
+ReplaceEnds name bytes (Ok replaced.Done) s h k = IsDurable k.now name bytes ⊎ CannotSync name k
 ReplaceEnds name bytes (Ok replaced.Refused) s h k = Prepares name s k.now × (h.refusals < k.refusals)
 ReplaceEnds name bytes (Err error) s h k = Unit {0}
 
@@ -126,14 +127,14 @@ Replaces name bytes result = Runs (KeepsOrReplaces name bytes) (λ h k. ReplaceE
 -- whether it is a mount point, by its device and that of its folder
 abbrev pub IsMounted : List ℕ → Option Owner → FolderState → Type 0
 IsMounted place None s = ⊥
-IsMounted place (Some owner) s = owner.device ≢ s.device place
+IsMounted place (Some owner) s = owner.device ≢ s.fixed.folder_device place
 
 abbrev pub Mounted : List ℕ → Option Owner → Result Bool Error → Option History → Option History → Type 0
 Mounted place owner result = Runs (λ s t. t ≡ s) (λ h k. (k.now ≡ h.now) × (result ≡ Ok true → IsMounted place owner h.now))
 
 -- A replacement is refused where the system gives no leave, and where the file is a mount point.
 abbrev pub ReplaceOrNotEnds : List ℕ → Option Owner → List ℕ → Result Replaced Error → History → History → Type 0
-ReplaceOrNotEnds name owner bytes (Ok replaced.Done) h k = IsDurable k.now name bytes ⊎ (k.now.cannot_sync ≡ true)
+ReplaceOrNotEnds name owner bytes (Ok replaced.Done) h k = IsDurable k.now name bytes ⊎ CannotSync name k
 ReplaceOrNotEnds name owner bytes (Ok replaced.Refused) h k =
     Prepares name h.now k.now × (IsMounted (folder_of name) owner h.now ⊎ (h.refusals < k.refusals))
 ReplaceOrNotEnds name owner bytes (Err error) h k = Unit {0}

@@ -30,7 +30,8 @@ pub struct Found {
 /// power leaves after each is `Leaves` of the states that the folder tells.
 pub trait Folder {
     ghost use Rattle.durable_folder.specs.Histories.{History, Turns};
-    ghost use Rattle.durable_folder.specs.Calls.{Handle, Finds, FindsOpen, FindsFolder, Resolves, Opens, OpensFolder, OpensOrCreates, Creates, Writes, ResizesFile, SyncsFile, Seeks, Renames, Removes, SyncsFolder, Stays, refusals_in, errors_in};
+    ghost use Rattle.durable_folder.specs.Calls.{Handle, Finds, FindsOpen, FindsFolder, Resolves, Opens, OpensFolder, OpensOrCreates, Creates, Writes, ResizesFile, SyncsFile, Seeks, Renames, Removes, SyncsFolder, Stays};
+    ghost use Rattle.durable_folder.specs.Counting.{answer_to, answer_to_find, answer_to_create, answer_to_give, answer_to_open_folder, answer_to_sync_folder};
 
     /// A file that was opened for writing.
     type File: Drop;
@@ -49,73 +50,73 @@ pub trait Folder {
 
     /// What stands at a name. A link is not followed.
     fn find(&mut self, name: &str) -> io::Result<Found>
-        ensures { Turns (Finds name.now result) (refusals_in result) (told self.old) (told self.new) };
+        ensures { Turns (Finds name.now result) (answer_to_find result) (told self.old) (told self.new) };
 
     /// What is known of an open file.
     fn find_open(&mut self, file: &Self::File) -> io::Result<Found>
-        ensures { Turns (FindsOpen (handle file.now) result) (refusals_in result) (told self.old) (told self.new) };
+        ensures { Turns (FindsOpen (handle file.now) result) (answer_to result) (told self.old) (told self.new) };
 
     /// What is known of an open folder.
     fn find_folder(&mut self, folder: &Self::Place) -> io::Result<Found>
-        ensures { Turns (FindsFolder (place folder.now) result) (refusals_in result) (told self.old) (told self.new) };
+        ensures { Turns (FindsFolder (place folder.now) result) (answer_to result) (told self.old) (told self.new) };
 
     /// Where a link leads in the end.
     fn resolve(&mut self, name: &str) -> io::Result<PathBuf>
-        ensures { Turns (Resolves path_buf_bytes name.now result) (errors_in result) (told self.old) (told self.new) };
+        ensures { Turns (Resolves path_buf_bytes name.now result) (answer_to_give result) (told self.old) (told self.new) };
 
     /// Opens a file for writing that is there. It is not truncated, and links are followed.
     fn open(&mut self, name: &str) -> io::Result<Self::File>
         ensures start { IfOk result (λ file. (handle file).offset ≡ 0) }
-        ensures opens { Turns (Opens handle name.now result) (refusals_in result) (told self.old) (told self.new) };
+        ensures opens { Turns (Opens handle name.now result) (answer_to result) (told self.old) (told self.new) };
 
     /// Opens a file for writing, or makes it. It is not truncated, and links are followed.
     fn open_or_create(&mut self, name: &str) -> io::Result<Self::File>
         ensures start { IfOk result (λ file. (handle file).offset ≡ 0) }
-        ensures opens { Turns (OpensOrCreates handle name.now result) (refusals_in result) (told self.old) (told self.new) };
+        ensures opens { Turns (OpensOrCreates handle name.now result) (answer_to result) (told self.old) (told self.new) };
 
     /// Makes a file of this mode for writing, where there is nothing of its name.
     fn create_new(&mut self, name: &str, mode: u32) -> io::Result<Self::File>
-        ensures { Turns (Creates handle name.now result) (refusals_in result) (told self.old) (told self.new) };
+        ensures { Turns (Creates handle name.now result) (answer_to_create result) (told self.old) (told self.new) };
 
     /// Opens a folder.
     fn open_folder(&mut self, folder: &str) -> io::Result<Self::Place>
-        ensures { Turns (OpensFolder place folder.now result) (refusals_in result) (told self.old) (told self.new) };
+        ensures { Turns (OpensFolder place folder.now result) (answer_to_open_folder folder.now result) (told self.old) (told self.new) };
 
     /// Gives the file of this name to a user and a group.
     fn set_owner(&mut self, name: &str, user: u32, group: u32) -> io::Result<()>
-        ensures { Turns Stays (errors_in result) (told self.old) (told self.new) };
+        ensures { Turns Stays (answer_to_give result) (told self.old) (told self.new) };
 
     /// Says who may do what with a file.
     fn set_permissions(&mut self, file: &Self::File, permissions: Permissions) -> io::Result<()>
-        ensures { Turns Stays (errors_in result) (told self.old) (told self.new) };
+        ensures { Turns Stays (answer_to_give result) (told self.old) (told self.new) };
 
     /// Writes bytes where the next ones go.
     fn write(&mut self, file: &mut Self::File, bytes: &[u8]) -> io::Result<()>
         ensures same { (handle file.new).file ≡ (handle file.old).file }
-        ensures writes { Turns (Writes (handle file.old) bytes.now result) (refusals_in result) (told self.old) (told self.new) };
+        ensures writes { Turns (Writes (handle file.old) bytes.now result) (answer_to result) (told self.old) (told self.new) };
 
     /// Has the next bytes go to an offset from the start.
     fn seek(&mut self, file: &mut Self::File, offset: u64) -> io::Result<()>
         ensures same { (handle file.new).file ≡ (handle file.old).file }
-        ensures seeks { Turns (Seeks (handle file.new) offset result) (refusals_in result) (told self.old) (told self.new) };
+        ensures seeks { Turns (Seeks (handle file.new) offset result) (answer_to result) (told self.old) (told self.new) };
 
     /// Gives a file a length in bytes.
     fn set_length(&mut self, file: &Self::File, length: u64) -> io::Result<()>
-        ensures { Turns (ResizesFile (handle file.now).file length result) (refusals_in result) (told self.old) (told self.new) };
+        ensures { Turns (ResizesFile (handle file.now).file length result) (answer_to result) (told self.old) (told self.new) };
 
     /// Waits until the bytes of a file are in the system's store.
     fn sync(&mut self, file: &Self::File) -> io::Result<()>
-        ensures { Turns (SyncsFile (handle file.now).file result) (refusals_in result) (told self.old) (told self.new) };
+        ensures { Turns (SyncsFile (handle file.now).file result) (answer_to result) (told self.old) (told self.new) };
 
     /// Puts a file at another name, in the place of what is there.
     fn rename(&mut self, from: &str, to: &str) -> io::Result<()>
-        ensures { Turns (Renames from.now to.now result) (refusals_in result) (told self.old) (told self.new) };
+        ensures { Turns (Renames from.now to.now result) (answer_to result) (told self.old) (told self.new) };
 
     /// Waits until the names of a folder are in the system's store.
     fn sync_folder(&mut self, folder: &Self::Place) -> io::Result<()>
-        ensures { Turns (SyncsFolder (place folder.now) result) (refusals_in result) (told self.old) (told self.new) };
+        ensures { Turns (SyncsFolder (place folder.now) result) (answer_to_sync_folder (place folder.now) result) (told self.old) (told self.new) };
 
     /// Removes a name.
     fn remove(&mut self, name: &str) -> io::Result<()>
-        ensures { Turns (Removes name.now result) (refusals_in result) (told self.old) (told self.new) };
+        ensures { Turns (Removes name.now result) (answer_to result) (told self.old) (told self.new) };
 }

@@ -38,6 +38,7 @@ fn give<F: Folder>(folder: &mut F, file: &F::File, beside: &str, owner: Option<O
 }
 
 /// Writes the bytes of a new file, up to the system's store.
+#[tactic(auto, using(crate::proofs::Filling::whole_failed, crate::proofs::Filling::whole_done))]
 fn write_whole<F: Folder>(folder: &mut F, file: &mut F::File, bytes: &[u8]) -> io::Result<()>
     ensures { WritesWhole (F.handle file.old) bytes.now result (F.told folder.old) (F.told folder.new) }
 {

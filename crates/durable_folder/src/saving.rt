@@ -1,5 +1,7 @@
 //! How the bytes of a save come to a name.
-ghost use Rattle.durable_folder.specs.Ways.{Chooses, SavesOver};
+ghost use Rattle.std.specs.Prelude.{◌≡◌, Some};
+ghost use Rattle.durable_folder.specs.FolderState.{IsFree};
+ghost use Rattle.durable_folder.specs.Ways.{Chooses, SavesAt, Looks, WasFound, WritesNew, SyncsFolderOf, MakesThrough, Saves, is_link};
 
 use crate::answers::{Replaced, late, synced};
 use crate::beside::folder_of;
@@ -35,11 +37,34 @@ fn way_of(found: Found) -> Way
     }
 }
 
+/// What stands at a name, if anything does.
+fn look<F: Folder>(folder: &mut F, name: &str) -> io::Result<Option<Found>>
+    ensures { Looks name.now result (F.told folder.old) (F.told folder.new) }
+{
+    match folder.find(name) {
+        Ok(found) => Ok(Some(found)),
+        Err(error) if error.kind() == ErrorKind::NotFound => Ok(None),
+        Err(error) => Err(error),
+    }
+}
+
+/// Whether it is a link.
+fn is_link(found: &Option<Found>) -> bool
+    ensures { result ≡ is_link found.now }
+{
+    match found {
+        Some(found) => found.is_link,
+        None => false,
+    }
+}
+
 /// Makes these the bytes of the file of this name, or of the one that a link of this name leads to.
 /// After Ok they are in the system's store, as far as it tells.
-pub fn save<F: Folder>(folder: &mut F, alloc: Global, name: &str, bytes: &[u8]) -> io::Result<()> {
-    let found = folder.find(name);
-    if !matches!(&found, Ok(old) if old.is_link) {
+pub fn save<F: Folder>(folder: &mut F, alloc: Global, name: &str, bytes: &[u8]) -> io::Result<()>
+    ensures { Saves name.now bytes.now result (F.told folder.old) (F.told folder.new) }
+{
+    let found = look(folder, name)?;
+    if !is_link(&found) {
         return save_at(folder, alloc, name, found, bytes);
     }
     // Who may not write through a link may not replace what it leads to.
@@ -52,7 +77,7 @@ pub fn save<F: Folder>(folder: &mut F, alloc: Global, name: &str, bytes: &[u8]) 
     };
     match folder.resolve(name) {
         Ok(target) => {
-            let found = folder.find(target.as_str());
+            let found = look(folder, target.as_str())?;
             save_at(folder, alloc, target.as_str(), found, bytes)
         }
         Err(error) if error.kind() == ErrorKind::OutOfMemory => Err(error),
@@ -60,10 +85,20 @@ pub fn save<F: Folder>(folder: &mut F, alloc: Global, name: &str, bytes: &[u8]) 
     }
 }
 
-/// Makes the file that a link leads to.
-fn make_through<F: Folder>(folder: &mut F, name: &str, bytes: &[u8]) -> io::Result<()> {
+/// Writes to the file of this name, or to the one that a link of this name leads to. Where there is none
+/// it is made.
+fn write_new<F: Folder>(folder: &mut F, name: &str, bytes: &[u8]) -> io::Result<()>
+    ensures { WritesNew name.now bytes.now result (F.told folder.old) (F.told folder.new) }
+{
     let file = folder.open_or_create(name)?;
-    write_through(folder, file, bytes)?;
+    write_through(folder, file, bytes)
+}
+
+/// Makes the file that a link leads to.
+fn make_through<F: Folder>(folder: &mut F, name: &str, bytes: &[u8]) -> io::Result<()>
+    ensures { MakesThrough name.now bytes.now result (F.told folder.old) (F.told folder.new) }
+{
+    write_new(folder, name, bytes)?;
     match folder.resolve(name) {
         Ok(target) => sync_folder_of(folder, target.as_str()),
         Err(error) => late(Err(error)),
@@ -72,7 +107,9 @@ fn make_through<F: Folder>(folder: &mut F, name: &str, bytes: &[u8]) -> io::Resu
 
 /// Waits until the name of a file that was made is in the system's store. A folder that may not be
 /// read can't be synced.
-fn sync_folder_of<F: Folder>(folder: &mut F, name: &str) -> io::Result<()> {
+fn sync_folder_of<F: Folder>(folder: &mut F, name: &str) -> io::Result<()>
+    ensures { SyncsFolderOf name.now result (F.told folder.old) (F.told folder.new) }
+{
     match folder.open_folder(folder_of(name)) {
         Ok(place) => late(synced(folder.sync_folder(&place))),
         Err(error) if error.kind() == ErrorKind::PermissionDenied => Ok(()),
@@ -85,17 +122,15 @@ fn save_at<F: Folder>(
     folder: &mut F,
     alloc: Global,
     name: &str,
-    found: io::Result<Found>,
+    found: Option<Found>,
     bytes: &[u8],
-) -> io::Result<()> {
-    let old = match found {
-        Ok(old) => old,
-        Err(error) if error.kind() == ErrorKind::NotFound => {
-            return make(folder, alloc, name, bytes);
-        }
-        Err(error) => return Err(error),
-    };
-    save_over(folder, alloc, name, old, bytes)
+) -> io::Result<()>
+    ensures { SavesAt (WasFound name.now found) name.now bytes.now result (F.told folder.old) (F.told folder.new) }
+{
+    match found {
+        Some(old) => save_over(folder, alloc, name, old, bytes),
+        None => make(folder, alloc, name, bytes),
+    }
 }
 
 /// Saves at a name that is no link, where this was found.
@@ -106,7 +141,7 @@ fn save_over<F: Folder>(
     old: Found,
     bytes: &[u8],
 ) -> io::Result<()>
-    ensures { SavesOver name.now old bytes.now result (F.told folder.old) (F.told folder.new) }
+    ensures { SavesAt (WasFound name.now (Some old)) name.now bytes.now result (F.told folder.old) (F.told folder.new) }
 {
     // Who may not write a file may not replace it.
     let file = folder.open(name)?;
@@ -120,12 +155,13 @@ fn save_over<F: Folder>(
 }
 
 /// Makes a file where there is none.
-fn make<F: Folder>(folder: &mut F, alloc: Global, name: &str, bytes: &[u8]) -> io::Result<()> {
+fn make<F: Folder>(folder: &mut F, alloc: Global, name: &str, bytes: &[u8]) -> io::Result<()>
+    ensures { SavesAt (λ s. IsFree s name.now) name.now bytes.now result (F.told folder.old) (F.told folder.new) }
+{
     match replace(folder, alloc, name, None, bytes)? {
         Replaced::Done => Ok(()),
         Replaced::Refused => {
-            let file = folder.open_or_create(name)?;
-            write_through(folder, file, bytes)?;
+            write_new(folder, name, bytes)?;
             sync_folder_of(folder, name)
         }
     }

@@ -23,35 +23,68 @@ pub struct Name {
     files: Vec<Option<usize>>,
 }
 
+/// What is special of a folder and of the file `f` in it.
+#[derive(Clone, Copy, Debug, PartialEq, Eq)]
+pub enum Setting {
+    Plain,
+    /// The file has a second name elsewhere.
+    TwoNames,
+    /// The file stands on another device than its folder.
+    MountPoint,
+    /// The folder may not be opened.
+    ClosedFolder,
+    /// A new file may not be given to the owner of the old one.
+    OwnerRefused,
+    /// The system cannot sync folders.
+    NoFolderSync,
+    /// Where a link leads can't be told.
+    Unresolved,
+}
+
 /// A folder in memory that loses power. It keeps what each name and each file had since they were
-/// synced.
+/// synced. The name `link` is a link to `f`.
 #[derive(Drop)]
 pub struct LosingFolder {
     alloc: Global,
     names: Vec<Name>,
     /// The contents of each file, the newest last.
     files: Vec<Vec<Vec<u8>>>,
+    setting: Setting,
     /// How many calls were made.
     pub calls: u32,
     /// The number of the call that fails.
-    pub fails: u32,
+    fails: u32,
+    /// How it fails.
+    kind: ErrorKind,
     /// Whether all later calls fail too, as power is lost.
-    pub is_cut: bool,
-    /// Whether files have a second name elsewhere.
-    pub has_two_names: bool,
+    is_cut: bool,
+    /// Whether `f` itself was made or written.
+    pub is_in_place: bool,
+    /// Whether it was said that a folder can't be synced, or may not be opened.
+    pub is_unsynced: bool,
 }
 
 impl LosingFolder {
-    /// An empty folder, in which no call fails.
-    pub fn new(alloc: Global) -> LosingFolder {
+    /// An empty folder, in which the call of this number fails in this way, and all later ones where power
+    /// is lost.
+    pub fn new(
+        alloc: Global,
+        setting: Setting,
+        fails: u32,
+        kind: ErrorKind,
+        is_cut: bool,
+    ) -> LosingFolder {
         LosingFolder {
             alloc,
             names: Vec::new(alloc),
             files: Vec::new(alloc),
+            setting,
             calls: 0,
-            fails: 0,
-            is_cut: false,
-            has_two_names: false,
+            fails,
+            kind,
+            is_cut,
+            is_in_place: false,
+            is_unsynced: false,
         }
     }
 
@@ -78,7 +111,7 @@ impl LosingFolder {
     fn call(&mut self) -> io::Result<()> {
         self.calls = self.calls.saturating_add(1);
         if self.calls == self.fails || (self.is_cut && self.calls > self.fails) {
-            return Err(Error::from(ErrorKind::Other));
+            return Err(Error::from(self.kind));
         }
         Ok(())
     }
@@ -107,6 +140,7 @@ impl LosingFolder {
         Ok(())
     }
 
+    /// What is read of a file.
     fn seen(&self, file: usize) -> &[u8] {
         match self.files.get(file) {
             Some(versions) => match versions.last() {
@@ -117,11 +151,34 @@ impl LosingFolder {
         }
     }
 
-    fn change(&mut self, file: usize, bytes: Vec<u8>) -> io::Result<()> {
+    /// Gives a file new contents, which are read from then on where the call did not fail.
+    fn change(&mut self, file: usize, bytes: Vec<u8>, is_read: bool) -> io::Result<()> {
         if let Some(versions) = self.files.get_mut(file) {
             versions.push(bytes)?;
+            let last = versions.len().saturating_sub(1);
+            if !is_read && last > 0 {
+                versions.swap(0, last);
+            }
         }
         Ok(())
+    }
+
+    /// What is told of a file of this number.
+    fn told(&self, file: usize) -> Found {
+        Found {
+            is_file: true,
+            is_link: false,
+            names: if self.setting == Setting::TwoNames {
+                2
+            } else {
+                1
+            },
+            device: 1,
+            inode: file as u64,
+            user: 0,
+            group: 0,
+            permissions: Permissions::from_mode(0o644),
+        }
     }
 
     /// All that a loss of power may leave at a name, where files have two blocks at most.
@@ -145,35 +202,35 @@ impl LosingFolder {
     }
 }
 
-/// Each mix of the first block of one version, the second of another, and the length of a third.
+/// Each mix of the first block of one version and the second of another, with the length of a third or one
+/// between it and that of a fourth.
 fn mixes(alloc: Global, versions: &[Vec<u8>], all: &mut Vec<Option<Vec<u8>>>) -> io::Result<()> {
     for first in versions {
         for second in versions {
-            for length in versions {
-                let mut mix = Vec::new(alloc);
-                for i in 0..length.len() {
-                    let from = if i < BLOCK { first } else { second };
-                    mix.push(from.get(i).copied().unwrap_or(0))?;
+            for one in versions {
+                for other in versions {
+                    let length = one.len().midpoint(other.len());
+                    all.push(Some(mixed(alloc, first, second, length)?))?;
                 }
-                all.push(Some(mix))?;
             }
         }
     }
     Ok(())
 }
 
-/// What is told of a file of this number.
-fn told(file: usize, has_two_names: bool) -> Found {
-    Found {
-        is_file: true,
-        is_link: false,
-        names: if has_two_names { 2 } else { 1 },
-        device: 1,
-        inode: file as u64,
-        user: 0,
-        group: 0,
-        permissions: Permissions::from_mode(0o644),
+/// The first block of one version and the rest of another, with zeros behind their ends.
+fn mixed(alloc: Global, first: &[u8], second: &[u8], length: usize) -> io::Result<Vec<u8>> {
+    let mut mix = Vec::new(alloc);
+    for i in 0..length {
+        let from = if i < BLOCK { first } else { second };
+        mix.push(from.get(i).copied().unwrap_or(0))?;
     }
+    Ok(mix)
+}
+
+/// Where a name leads.
+fn led(name: &str) -> &str {
+    if name == "link" { "f" } else { name }
 }
 
 impl Folder for LosingFolder {
@@ -191,38 +248,62 @@ impl Folder for LosingFolder {
 
     fn find(&mut self, name: &str) -> io::Result<Found> {
         self.call()?;
-        match self.file(name) {
-            Some(file) => Ok(told(file, self.has_two_names)),
-            None => Err(Error::from(ErrorKind::NotFound)),
-        }
+        let Some(file) = self.file(led(name)) else {
+            if name == "link" {
+                return Ok(Found {
+                    is_file: false,
+                    is_link: true,
+                    ..self.told(0)
+                });
+            }
+            return Err(Error::from(ErrorKind::NotFound));
+        };
+        let is_link = name == "link";
+        Ok(Found {
+            is_file: !is_link,
+            is_link,
+            ..self.told(file)
+        })
     }
 
     fn find_open(&mut self, file: &Opened) -> io::Result<Found> {
         self.call()?;
-        Ok(told(file.file, self.has_two_names))
+        Ok(self.told(file.file))
     }
 
     fn find_folder(&mut self, _folder: &bool) -> io::Result<Found> {
         self.call()?;
-        Ok(told(0, false))
+        let device = if self.setting == Setting::MountPoint {
+            2
+        } else {
+            1
+        };
+        Ok(Found {
+            device,
+            ..self.told(0)
+        })
     }
 
-    fn resolve(&mut self, _name: &str) -> io::Result<PathBuf> {
-        Err(Error::from(ErrorKind::Unsupported))
+    fn resolve(&mut self, name: &str) -> io::Result<PathBuf> {
+        self.call()?;
+        if self.setting == Setting::Unresolved {
+            return Err(Error::from(ErrorKind::PermissionDenied));
+        }
+        Ok(PathBuf::from_str(self.alloc, led(name))?)
     }
 
     fn open(&mut self, name: &str) -> io::Result<Opened> {
         self.call()?;
-        match self.file(name) {
+        match self.file(led(name)) {
             Some(file) => Ok(Opened { file, offset: 0 }),
             None => Err(Error::from(ErrorKind::NotFound)),
         }
     }
 
     fn open_or_create(&mut self, name: &str) -> io::Result<Opened> {
-        match self.file(name) {
+        match self.file(led(name)) {
             Some(_) => self.open(name),
-            None => self.create_new(name, 0o644),
+            None => self.create_new(led(name), 0o644),
         }
     }
 
@@ -233,39 +314,44 @@ impl Folder for LosingFolder {
         }
         let file = self.add_file(&[])?;
         self.set(name, Some(file))?;
+        self.is_in_place = self.is_in_place || name == "f";
         Ok(Opened { file, offset: 0 })
     }
 
     fn open_folder(&mut self, _folder: &str) -> io::Result<bool> {
-        self.call()?;
+        let mut answer = self.call();
+        if answer.is_ok() && self.setting == Setting::ClosedFolder {
+            answer = Err(Error::from(ErrorKind::PermissionDenied));
+        }
+        self.is_unsynced = self.is_unsynced || answer.is_err();
+        answer?;
         Ok(true)
     }
 
     fn set_owner(&mut self, _name: &str, _user: u32, _group: u32) -> io::Result<()> {
-        self.call()
+        self.call()?;
+        if self.setting == Setting::OwnerRefused {
+            return Err(Error::from(ErrorKind::PermissionDenied));
+        }
+        Ok(())
     }
 
     fn set_permissions(&mut self, _file: &Opened, _permissions: Permissions) -> io::Result<()> {
         self.call()
     }
 
-    /// A write that fails is made all the same, and so is one in which power is lost.
+    /// A write that fails is made all the same, and so is one in which power is lost. But it is not read.
     fn write(&mut self, file: &mut Opened, bytes: &[u8]) -> io::Result<()> {
-        let mut written = self.seen(file.file).to_vec(self.alloc)?;
-        for (i, byte) in bytes.iter().enumerate() {
-            let place = file.offset.saturating_add(i);
-            if place < written.len() {
-                if let Some(old) = written.get_mut(place) {
-                    *old = *byte;
-                }
-            } else {
-                written.push(*byte)?;
-            }
-        }
+        let seen = self.seen(file.file);
+        let before = mixed(self.alloc, seen, seen, file.offset)?;
+        let mut written = before;
+        written.extend_from_slice(bytes)?;
+        written.extend_from_slice(seen.get(written.len()..).unwrap_or(&[]))?;
         let answer = self.call();
         if answer.is_ok() || self.calls == self.fails {
-            self.change(file.file, written)?;
+            self.change(file.file, written, answer.is_ok())?;
         }
+        self.is_in_place = self.is_in_place || self.file("f") == Some(file.file);
         file.offset = file.offset.saturating_add(bytes.len());
         answer
     }
@@ -277,20 +363,29 @@ impl Folder for LosingFolder {
     }
 
     fn set_length(&mut self, file: &Opened, length: u64) -> io::Result<()> {
-        let mut resized = self.seen(file.file).to_vec(self.alloc)?;
-        self.call()?;
-        resized.truncate(usize::try_from(length).unwrap_or(0));
-        self.change(file.file, resized)
+        let seen = self.seen(file.file);
+        let resized = mixed(self.alloc, seen, seen, usize::try_from(length).unwrap_or(0))?;
+        let answer = self.call();
+        if answer.is_ok() || self.calls == self.fails {
+            self.change(file.file, resized, answer.is_ok())?;
+        }
+        answer
     }
 
+    /// A sync that fails makes nothing durable, and what is read then is an older one.
     fn sync(&mut self, file: &Opened) -> io::Result<()> {
-        self.call()?;
+        let answer = self.call();
         let seen = self.seen(file.file).to_vec(self.alloc)?;
         if let Some(versions) = self.files.get_mut(file.file) {
-            versions.clear();
-            versions.push(seen)?;
+            if answer.is_ok() {
+                versions.clear();
+                versions.push(seen)?;
+            } else if versions.len() > 1 {
+                let last = versions.len() - 1;
+                versions.swap(0, last);
+            }
         }
-        Ok(())
+        answer
     }
 
     fn rename(&mut self, from: &str, to: &str) -> io::Result<()> {
@@ -302,6 +397,10 @@ impl Folder for LosingFolder {
 
     fn sync_folder(&mut self, _folder: &bool) -> io::Result<()> {
         self.call()?;
+        if self.setting == Setting::NoFolderSync {
+            self.is_unsynced = true;
+            return Err(Error::from(ErrorKind::InvalidInput));
+        }
         for it in self.names.iter_mut() {
             if let Some(Some(last)) = it.files.last().copied().map(Some) {
                 it.files.clear();

@@ -1,4 +1,3 @@
-use Rattle.std.proofs.Common.{◌≡◌}
 use Rattle.durable_folder.proofs.Heads.{clear_failed, clear_done}
 use Rattle.durable_folder.proofs.in_place.clear_head.Goals as goal
 

@@ -1,6 +1,5 @@
-use Rattle.std.proofs.Common.{◌≡◌, ◌∙◌, min, ap, sym, length, refl}
-use Rattle.durable_folder.specs.InPlace.{Overwrites, WritesOver, FileRuns, IsHead}
-use Rattle.durable_folder.proofs.Over.{Cleared, Headless, NoFile, not_found, no_file_found, no_file_written, no_file_synced, no_file_over, found_and_cleared, not_cleared, rest_put, rest_not_put, head_put}
+use Rattle.std.proofs.Common.{◌∙◌, length, refl}
+use Rattle.durable_folder.proofs.Over.{not_found, no_file_found, no_file_written, no_file_synced, no_file_over, found_and_cleared, not_cleared, rest_put, rest_not_put, head_put}
 use Rattle.durable_folder.proofs.in_place.write_over.Goals as goal
 
 pub returns-in_err-find_open : goal.returns-in_err-find_open

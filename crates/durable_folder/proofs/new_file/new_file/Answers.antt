@@ -1,6 +1,7 @@
-use Rattle.std.proofs.Common.{◌≡◌, ◌∙◌, ap, sym, refl, false, Err}
+use Rattle.std.proofs.Common.{◌∙◌, ap, sym, refl, Err}
 use Rattle.std.specs.Str.{bytes_eq}
-use Rattle.durable_folder.specs.Calls.{Creates, refusals_by, is_refusal}
+use Rattle.durable_folder.specs.Calls.{Creates}
+use Rattle.durable_folder.specs.Counting.{quiet}
 use Rattle.durable_folder.proofs.Making.{made_new, refused_by, not_refused, still_then, differ}
 use Rattle.durable_folder.proofs.new_file.new_file.Goals as goal
 
@@ -18,7 +19,7 @@ returns-in-Err-2-clause-makes g c =
 
 pub returns-in-Ok-create_new-clause-makes : goal.returns-in-Ok-create_new-clause-makes
 returns-in-Ok-create_new-clause-makes g c =
-    rw c.as_str-in-loop-number.ensures at (made_new g.F.Folder.handle c.in-Ok-create_new.file c.args.name.now c.as_str-in-loop-number.result.now 0
+    rw c.as_str-in-loop-number.ensures at (made_new g.F.Folder.handle c.in-Ok-create_new.file c.args.name.now c.as_str-in-loop-number.result.now quiet
     (g.F.Folder.told c.args.folder.now)
     (g.F.Folder.told c.loop-number.folder) (g.F.Folder.told c.create_new.new.self)
     (differ c.as_str-in-loop-number.result.now c.args.name.now

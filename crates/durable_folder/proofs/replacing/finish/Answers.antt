@@ -1,4 +1,4 @@
-use Rattle.std.proofs.Common.{◌≡◌, Ok}
+use Rattle.std.proofs.Common.{Ok}
 use Rattle.durable_folder.proofs.Passing.{told_before}
 use Rattle.durable_folder.proofs.Finishing.{rests_ends, put_ends_at, removed_ends, ends_err, is_error, same_refused_at}
 use Rattle.durable_folder.specs.declared.answers.Replaced.TheVariants.{Refused}

@@ -1,4 +1,3 @@
-use Rattle.std.proofs.Common.{◌≡◌, ◌≢◌}
 use Rattle.durable_folder.specs.NewFiles.{beside_of, handle_of}
 use Rattle.durable_folder.specs.Saving.{Ends}
 use Rattle.durable_folder.proofs.Passing.{told_before}

@@ -1,0 +1,203 @@
+-- A save from the name to where it leads.
+use Rattle.std.proofs.Common.{◌≡◌, ◌≢◌, ◌⊎◌, inl, inr, ℕ, ◌<◌, ◌≤◌, true, false, List, Option, None, Some, Result, Ok, Err, refl, sym, ap, ◌∙◌, arith}
+use Rattle.std.specs.Result.{IsErr}
+use Rattle.std.specs.IoError.{error_kind}
+use Rattle.std.specs.declared.io.Error.{Error}
+use Rattle.std.specs.declared.io.ErrorKind.TheVariants as kind
+use Rattle.durable_folder.specs.declared.folder.Found.{Found}
+use Rattle.durable_folder.specs.FolderState.{FolderState, IsDurable, file_of, target}
+use Rattle.durable_folder.specs.Calls.{Handle, Finds, Opens, Resolves}
+use Rattle.durable_folder.specs.Histories.{History, Answer, Turns, Runs, CannotSync}
+use Rattle.durable_folder.specs.InPlace.{WritesOver}
+use Rattle.durable_folder.specs.Saving.{KeepsOrReplaces}
+use Rattle.durable_folder.specs.Ways.{MustBeInPlace, IsInPlace, SavesAt, IsSeen, Looks, WasFound, is_link, MakesThrough, LeadsNowhere, Saves}
+use Rattle.durable_folder.proofs.Heads.{after_err}
+use Rattle.durable_folder.proofs.Passing.{runs_of, runs_none, runs_weaker, runs_then, runs_counted}
+use Rattle.durable_folder.proofs.Replacements.{prepares_keeps}
+use Rattle.durable_folder.proofs.Bearing.{resolves_stays}
+use Rattle.durable_folder.proofs.Tearing.{OpenedFor, opens_stays, tears_less, after_ok_map, over_opened, over_arrived}
+
+-- at a name that is no link
+pub saves_less : (K L : FolderState → Type 0) (name bytes : List ℕ) (result : Result (Unit {0}) Error) (a b : Option History) →
+    ((s : FolderState) → L s → K s) → SavesAt K name bytes result a b → SavesAt L name bytes result a b
+saves_less K L name bytes result a b f (inl x) = inl x
+saves_less K L name bytes result a b f (inr x) = inr (runs_weaker a b x (λ s t y known. y (f s known)) (λ h k y known. y (f h.now known)))
+
+pub saves_nothing : (K : FolderState → Type 0) (name bytes : List ℕ) (result : Result (Unit {0}) Error) (a : Option History) → IsErr result →
+    SavesAt K name bytes result a a
+saves_nothing K name bytes result a err = inl (runs_none a (λ h. after_err result _ err))
+
+-- nothing has changed, and this holds of the first state
+abbrev pub Learns : (FolderState → Type 0) → Option History → Option History → Type 0
+Learns P = Runs (λ s t. t ≡ s) (λ h k. (k.now ≡ h.now) × P h.now)
+
+pub learns : (S : FolderState → FolderState → Type 0) (P : FolderState → Type 0) (n : Answer) (a b : Option History) → Turns S n a b →
+    ((s t : FolderState) → S s t → (t ≡ s) × P s) → Learns P a b
+learns S P n a b turn f =
+    runs_weaker a b (runs_of S n a b turn) (λ s t x. (f s t x).0) (λ h k x. f h.now k.now x.0)
+
+pub learns_then : (P Q R : FolderState → Type 0) (a b c : Option History) → Learns P a b → Learns Q b c → ((s : FolderState) → P s → Q s → R s) →
+    Learns R a c
+learns_then P Q R a b c x y f =
+    runs_then a b c x y (λ s t z. z) (λ h k u z w. w ∙ z.0) (λ h k l z w. (w.0 ∙ z.0, f h.now z.1 (rw z.0 at w.1)))
+
+-- looking at a name
+pub looks_found : (name : List ℕ) (found : Found) (n : Answer) (a b : Option History) → Turns (Finds name (Ok found)) n a b →
+    Looks name (Ok (Some found)) a b
+looks_found name found n a b turn = runs_weaker a b (runs_of (Finds name (Ok found)) n a b turn) (λ s t x. x.0) (λ h k x. (x.0.0, (x.0.1, x.0.2)))
+
+pub looks_free : (name : List ℕ) (e : Error) (n : Answer) (a b : Option History) → error_kind e ≡ kind.NotFound → Turns (Finds name (Err e)) n a b →
+    Looks name (Ok None) a b
+looks_free name e n a b absent turn =
+    runs_weaker a b (runs_of (Finds name (Err e)) n a b turn) (λ s t x. x.0) (λ h k x. (x.0.0, x.0.1 absent))
+
+pub looks_failed : (name : List ℕ) (e : Error) (n : Answer) (a b : Option History) → Turns (Finds name (Err e)) n a b → Looks name (Err e) a b
+looks_failed name e n a b turn = runs_weaker a b (runs_of (Finds name (Err e)) n a b turn) (λ s t x. x.0) (λ h k x. (x.0.0, tt))
+
+pub seen_no_link : (name : List ℕ) (found : Option Found) (s : FolderState) → is_link found ≡ false → IsSeen name (Ok found) s → target s name ≡ name
+seen_no_link name None s is seen = seen.no_link
+seen_no_link name (Some found) s is seen = seen.1.no_link is
+
+pub seen_link : (name : List ℕ) (found : Option Found) (s : FolderState) → is_link found ≡ true → IsSeen name (Ok found) s → target s name ≢ name
+seen_link name None s is seen = absurd (cc)
+seen_link name (Some found) s is seen = seen.1.link is
+
+keeps_none : (name bytes : List ℕ) (s t : FolderState) → t ≡ s → KeepsOrReplaces name bytes s t
+keeps_none name bytes s t same = prepares_keeps name bytes s t (inl same)
+
+pub nothing_saved : (P : FolderState → Type 0) (name bytes : List ℕ) (result : Result (Unit {0}) Error) (a b : Option History) → IsErr result →
+    Learns P a b → Saves name bytes result a b
+nothing_saved P name bytes result a b err known =
+    inl (runs_weaker a b known (λ s t x. keeps_none (target s name) bytes s t x) (λ h k x. after_err result _ err))
+
+must_from : (name : List ℕ) (h k l : History) → h.refusals ≤ k.refusals → k.now ≡ h.now → MustBeInPlace name k l → MustBeInPlace name h l
+must_from name h k l more same (inl special) = inl (rw same at special)
+must_from name h k l more same (inr (inl shared)) = inr (inl (rw same at shared))
+must_from name h k l more same (inr (inr (inl mounted))) = inr (inr (inl (rw same at mounted)))
+must_from name h k l more same (inr (inr (inr refused))) = inr (inr (inr (omega (arith, more, refused))))
+
+in_place_from : (name bytes : List ℕ) (h k l : History) → k.now ≡ h.now → IsInPlace name bytes k l → IsInPlace name bytes h l
+in_place_from name bytes h k l same x = record {
+  over = λ g is plain. x.over g (ap (λ s. file_of s name) same ∙ is) (ap (λ s. s.fixed.is_plain g) same ∙ plain);
+  anew = λ none. x.anew (ap (λ s. file_of s name) same ∙ none);
+}
+
+-- what was found, and then the save there
+pub saved_there : (P K : FolderState → Type 0) (name at bytes : List ℕ) (result : Result (Unit {0}) Error) (a b c : Option History) → Learns P a b →
+    ((s : FolderState) → P s → (at ≡ target s name) × K s) → SavesAt K at bytes result b c → Saves name bytes result a c
+saved_there P K name at bytes result a b c known f (inl x) =
+    inl (runs_then a b c known x (λ s t y. keeps_none (target s name) bytes s t y)
+    (λ h k u y z. rw (y.0, (f h.now y.1).0) at z)
+    (λ h k l y z. rw (f h.now y.1).0 at z))
+saved_there P K name at bytes result a b c known f (inr x) =
+    inr (runs_then a b c (runs_counted a b known) x (λ s t y. tears_less (target s name) bytes s t (keeps_none (target s name) bytes s t y))
+    (λ h k u y z. let there = f h.now y.1.1 in rw (y.1.0, there.0) at (z (rw (sym y.1.0) at there.1)))
+    (λ h k l y z.
+    let there = f h.now y.1.1 in
+    let w = z (rw (sym y.1.0) at there.1) in (
+      inl (rw there.0 at (must_from at h k l y.0 y.1.0 w.0)),
+      rw there.0 at (after_ok_map result (IsInPlace at bytes k l) (IsInPlace at bytes h l) (in_place_from at bytes h k l y.1.0) w.1),
+    )))
+
+-- a save at a name that is no link
+pub saved_here : (name bytes : List ℕ) (found : Option Found) (looked : Result (Option Found) Error) (result : Result (Unit {0}) Error)
+    (a b c : Option History) → looked ≡ Ok found → is_link found ≡ false → Looks name looked a b →
+    SavesAt (WasFound name found) name bytes result b c → Saves name bytes result a c
+saved_here name bytes found looked result a b c ok no_link looks saves =
+    let at : Learns (IsSeen name (Ok found)) a b = rw ok at looks in
+    saved_there (IsSeen name (Ok found)) (WasFound name found) name name bytes result a b c at
+    (λ s seen. let leads = seen_no_link name found s no_link seen in (sym leads, record { no_link = leads; seen = seen })) saves
+
+-- a link that is opened
+pub is_a_link : (name : List ℕ) (found : Option Found) (looked : Result (Option Found) Error) (a b : Option History) → looked ≡ Ok found →
+    is_link found ≡ true → Looks name looked a b → Learns (λ s. target s name ≢ name) a b
+is_a_link name found looked a b ok link looks =
+    let at : Looks name (Ok found) a b = rw ok at looks in
+    runs_weaker a b at (λ s t x. x) (λ h k x. (x.0, seen_link name found h.now link x.1))
+
+pub leads_nowhere : {X : Type 0} (handle : X → Handle) (name : List ℕ) (e : Error) (n : Answer) (a b c : Option History) →
+    error_kind e ≡ kind.NotFound → Learns (λ s. target s name ≢ name) a b → Turns (Opens handle name (Err e)) n b c →
+    Learns (λ s. LeadsNowhere s name) a c
+leads_nowhere handle name e n a b c absent link turn =
+    learns_then (λ s. target s name ≢ name) (λ s. file_of s (target s name) ≡ None) (λ s. LeadsNowhere s name) a b c link
+    (learns (Opens handle name (Err e)) (λ s. file_of s (target s name) ≡ None) n b c turn (λ s t x. (x.0, x.1 absent)))
+    (λ s x y. record { link = x; nothing = y })
+
+pub saved_nowhere : (name bytes : List ℕ) (result : Result (Unit {0}) Error) (a b c : Option History) → Learns (λ s. LeadsNowhere s name) a b →
+    MakesThrough name bytes result b c → Saves name bytes result a c
+saved_nowhere name bytes result a b c known makes =
+    inr (runs_then a b c known makes (λ s t y. tears_less (target s name) bytes s t (keeps_none (target s name) bytes s t y))
+    (λ h k u y z. let nowhere : LeadsNowhere k.now name = rw (sym y.0) at y.1 in rw y.0 at (z nowhere.nothing))
+    (λ h k l y z.
+    let nowhere : LeadsNowhere k.now name = rw (sym y.0) at y.1 in (
+      inr y.1,
+      after_ok_map result (IsDurable l.now (target k.now name) bytes ⊎ CannotSync (target k.now name) l) (IsInPlace (target h.now name) bytes h l)
+          (λ there. record {
+            over = λ g is plain. let both : None ≡ Some g = sym y.1.nothing ∙ is in absurd (cc);
+            anew = λ nothing. rw y.0 at there;
+          }) (z nowhere.nothing),
+    )))
+
+pub not_opened : {X : Type 0} (handle : X → Handle) (name bytes : List ℕ) (r : Result X Error) (result : Result (Unit {0}) Error) (n : Answer)
+    (a b c : Option History) → IsErr result → Learns (λ s. target s name ≢ name) a b → Turns (Opens handle name r) n b c →
+    Saves name bytes result a c
+not_opened handle name bytes r result n a b c err link turn =
+    nothing_saved (λ s. target s name ≢ name) name bytes result a c err
+    (learns_then (λ s. target s name ≢ name) (λ s. Unit {0}) (λ s. target s name ≢ name) a b c link
+    (learns (Opens handle name r) (λ s. Unit {0}) n b c turn (λ s t x. (opens_stays handle name r s t x, tt))) (λ s x y. x))
+
+-- the file to which it leads is open
+pub opened : {X : Type 0} (handle : X → Handle) (name : List ℕ) (file : X) (n : Answer) (a b c : Option History) →
+    Learns (λ s. target s name ≢ name) a b → Turns (Opens handle name (Ok file)) n b c → Learns (λ s. Opens handle name (Ok file) s s) a c
+opened handle name file n a b c link turn =
+    learns_then (λ s. target s name ≢ name) (λ s. Opens handle name (Ok file) s s) (λ s. Opens handle name (Ok file) s s) a b c link
+    (learns (Opens handle name (Ok file)) (λ s. Opens handle name (Ok file) s s) n b c turn (λ s t x. (x.0, (refl, x.1, x.2, x.3)))) (λ s x y. y)
+
+-- where the link leads
+abbrev pub LeadsTo : List ℕ → List ℕ → FolderState → Type 0
+LeadsTo name at s = (at ≡ target s name) × (target s (target s name) ≡ target s name)
+
+pub resolved : {P : Type 0} (text : P → List ℕ) (Known : FolderState → Type 0) (name : List ℕ) (path : P) (n : Answer) (a b c : Option History) →
+    Learns Known a b → Turns (Resolves text name (Ok path)) n b c → Learns (LeadsTo name (text path)) a c
+resolved text Known name path n a b c known turn =
+    learns_then Known (LeadsTo name (text path)) (LeadsTo name (text path)) a b c known
+    (learns (Resolves text name (Ok path)) (LeadsTo name (text path)) n b c turn (λ s t x. (x.0, (x.1, x.2)))) (λ s x y. y)
+
+pub not_resolved : {P : Type 0} (text : P → List ℕ) (Known : FolderState → Type 0) (name bytes : List ℕ) (r : Result P Error)
+    (result : Result (Unit {0}) Error) (n : Answer) (a b c : Option History) → IsErr result →
+    Learns Known a b → Turns (Resolves text name r) n b c → Saves name bytes result a c
+not_resolved text Known name bytes r result n a b c err known turn =
+    nothing_saved Known name bytes result a c err (learns_then Known (λ s. Unit {0}) Known a b c known
+    (learns (Resolves text name r) (λ s. Unit {0}) n b c turn (λ s t x. (resolves_stays text name r s t x, tt))) (λ s x y. x))
+
+pub not_looked : (name at bytes : List ℕ) (looked : Result (Option Found) Error) (result : Result (Unit {0}) Error) (a b c : Option History) →
+    IsErr result → Learns (LeadsTo name at) a b → Looks at looked b c → Saves name bytes result a c
+not_looked name at bytes looked result a b c err known looks =
+    nothing_saved (LeadsTo name at) name bytes result a c err
+    (learns_then (LeadsTo name at) (IsSeen at looked) (LeadsTo name at) a b c known looks (λ s x y. x))
+
+pub saved_target : (name at bytes : List ℕ) (found : Option Found) (looked : Result (Option Found) Error) (result : Result (Unit {0}) Error)
+    (a b c d : Option History) → looked ≡ Ok found → Learns (LeadsTo name at) a b → Looks at looked b c →
+    SavesAt (WasFound at found) at bytes result c d → Saves name bytes result a d
+saved_target name at bytes found looked result a b c d ok known looks saves =
+    let seen : Learns (IsSeen at (Ok found)) b c = rw ok at looks in
+    saved_there (λ s. (at ≡ target s name) × WasFound at found s) (WasFound at found) name at bytes result a c d
+    (learns_then (LeadsTo name at) (IsSeen at (Ok found)) (λ s. (at ≡ target s name) × WasFound at found s) a b c known seen
+    (λ s x y. (x.0, record { no_link = ap (λ m. target s m) x.0 ∙ x.1 ∙ sym x.0; seen = y }))) (λ s x. x) saves
+
+-- a link whose end cannot be told
+pub saved_unresolved : {X P : Type 0} (handle : X → Handle) (text : P → List ℕ) (name bytes : List ℕ) (file : X) (e : Error)
+    (result : Result (Unit {0}) Error) (n : Answer) (a b c d : Option History) → n.refusals ≡ 1 →
+    Learns (λ s. Opens handle name (Ok file) s s) a b → Turns (Resolves text name (Err e)) n b c → WritesOver (handle file) bytes result c d →
+    Saves name bytes result a d
+saved_unresolved handle text name bytes file e result n a b c d counts known turn writes =
+    let first : Runs (λ s t. t ≡ s) (λ h k. (h.refusals < k.refusals) × OpenedFor handle name file h k) a c =
+    runs_then a b c (runs_counted a b known) (runs_of (Resolves text name (Err e)) n b c turn) (λ s t x. x) (λ h k u x y. y ∙ x.1.0)
+    (λ h k l x y. let more : h.refusals < l.refusals = omega (arith, x.0, y.1, counts) in (
+      more,
+      record { more = omega (arith, more); opens = x.1.1; prepares = inl (y.0 ∙ x.1.0) },
+    )) in
+    inr (runs_then a c d first (runs_counted c d writes.run)
+    (λ s t y. tears_less (target s name) bytes s t (keeps_none (target s name) bytes s t y))
+    (λ h k u x y. over_opened handle name file bytes h k u x.1 y)
+    (λ h k l x y. (inl (inr (inr (inr (omega (arith, x.0, y.0))))), over_arrived handle name file bytes result h k l x.1 y.1)))

@@ -1,0 +1,97 @@
+use Rattle.std.proofs.Common.{◌∙◌, sym, refl, rules, Ok, Err}
+use Rattle.std.specs.Global.{Global}
+use Rattle.std.specs.Path.{path_buf_bytes}
+use Rattle.durable_folder.specs.Calls.{Opens}
+use Rattle.durable_folder.specs.Counting.{quiet, not_given, error_answer, never}
+use Rattle.durable_folder.specs.Ways.{IsSeen}
+use Rattle.durable_folder.proofs.Leading.{nothing_saved, saved_here, is_a_link, leads_nowhere, saved_nowhere, not_opened, opened, resolved, not_resolved, not_looked, saved_target, saved_unresolved}
+use Rattle.durable_folder.proofs.saving.save.Goals as goal
+
+pub returns-in_err-found : goal.returns-in_err-found
+returns-in_err-found g c =
+    nothing_saved (IsSeen c.args.name.now c.look.result) c.args.name.now c.args.bytes.now c.from_residual.result
+    (g.F.Folder.told c.args.folder.now) (g.F.Folder.told c.look.new.folder) c.from_residual.ensures.0 c.look.ensures
+
+pub returns-then-not-is_link : goal.returns-then-not-is_link
+returns-then-not-is_link g c =
+    saved_here c.args.name.now c.args.bytes.now c.in_ok-found.found c.look.result c.save_at.result
+    (g.F.Folder.told c.args.folder.now) (g.F.Folder.told c.look.new.folder) (g.F.Folder.told c.save_at.new.folder)
+    c.in_ok-found.was (sym c.is_link.ensures ∙ c.if-not-is_link.true) c.look.ensures c.save_at.ensures
+
+pub returns-in-Err : goal.returns-in-Err
+returns-in-Err g c =
+    let before = g.F.Folder.told c.args.folder.now in
+    let found = g.F.Folder.told c.look.new.folder in
+    saved_nowhere c.args.name.now c.args.bytes.now c.make_through.result before (g.F.Folder.told c.open.new.self)
+    (g.F.Folder.told c.make_through.new.folder)
+    (leads_nowhere g.F.Folder.handle c.args.name.now c.in-Err.error (error_answer never c.in-Err.error) before found
+    (g.F.Folder.told c.open.new.self) (search rules)
+    (is_a_link c.args.name.now c.in_ok-found.found c.look.result before found c.in_ok-found.was
+    (sym c.is_link.ensures ∙ c.if-not-is_link.false) c.look.ensures)
+    c.in-Err.ensures.opens)
+    c.make_through.ensures
+
+pub returns-in-Err-2 : goal.returns-in-Err-2
+returns-in-Err-2 g c =
+    let before = g.F.Folder.told c.args.folder.now in
+    let found = g.F.Folder.told c.look.new.folder in
+    not_opened g.F.Folder.handle c.args.name.now c.args.bytes.now c.open.result (Err c.in-Err.error) _ before found (g.F.Folder.told c.open.new.self) refl
+    (is_a_link c.args.name.now c.in_ok-found.found c.look.result before found c.in_ok-found.was
+    (sym c.is_link.ensures ∙ c.if-not-is_link.false) c.look.ensures)
+    c.open.ensures.opens
+
+pub returns-in_err-found-in-Ok-resolve : goal.returns-in_err-found-in-Ok-resolve
+returns-in_err-found-in-Ok-resolve g c =
+    let before = g.F.Folder.told c.args.folder.now in
+    let found = g.F.Folder.told c.look.new.folder in
+    let opening = g.F.Folder.told c.open.new.self in
+    let led = g.F.Folder.told c.resolve.new.self in
+    not_looked c.args.name.now (path_buf_bytes c.in-Ok-resolve.target) c.args.bytes.now c.look-in-Ok-resolve.result
+    c.from_residual-in_err-found-in-Ok-resolve.result before led (g.F.Folder.told c.look-in-Ok-resolve.new.folder)
+    c.from_residual-in_err-found-in-Ok-resolve.ensures.0
+    (resolved path_buf_bytes (λ s. Opens g.F.Folder.handle c.args.name.now (Ok c.in-Ok.file) s s) c.args.name.now c.in-Ok-resolve.target quiet
+    before opening led
+    (opened g.F.Folder.handle c.args.name.now c.in-Ok.file quiet before found opening
+    (is_a_link c.args.name.now c.in_ok-found.found c.look.result before found c.in_ok-found.was
+    (sym c.is_link.ensures ∙ c.if-not-is_link.false) c.look.ensures) c.in-Ok.ensures.opens) c.in-Ok-resolve.ensures)
+    (rw c.as_str.ensures at c.look-in-Ok-resolve.ensures)
+
+pub returns-in_ok-found-in-Ok-resolve : goal.returns-in_ok-found-in-Ok-resolve
+returns-in_ok-found-in-Ok-resolve g c =
+    let before = g.F.Folder.told c.args.folder.now in
+    let found = g.F.Folder.told c.look.new.folder in
+    let opening = g.F.Folder.told c.open.new.self in
+    let led = g.F.Folder.told c.resolve.new.self in
+    saved_target c.args.name.now (path_buf_bytes c.in-Ok-resolve.target) c.args.bytes.now c.in_ok-found-in-Ok-resolve.found
+    c.look-in-Ok-resolve.result c.save_at-in-Ok-resolve.result before led (g.F.Folder.told c.look-in-Ok-resolve.new.folder)
+    (g.F.Folder.told c.save_at-in-Ok-resolve.new.folder) c.in_ok-found-in-Ok-resolve.was
+    (resolved path_buf_bytes (λ s. Opens g.F.Folder.handle c.args.name.now (Ok c.in-Ok.file) s s) c.args.name.now c.in-Ok-resolve.target quiet
+    before opening led
+    (opened g.F.Folder.handle c.args.name.now c.in-Ok.file quiet before found opening
+    (is_a_link c.args.name.now c.in_ok-found.found c.look.result before found c.in_ok-found.was
+    (sym c.is_link.ensures ∙ c.if-not-is_link.false) c.look.ensures) c.in-Ok.ensures.opens) c.in-Ok-resolve.ensures)
+    (rw c.as_str.ensures at c.look-in-Ok-resolve.ensures)
+    (rw c.as_str-in-Ok-resolve.ensures at c.save_at-in-Ok-resolve.ensures)
+
+pub returns-in-Err-resolve : goal.returns-in-Err-resolve
+returns-in-Err-resolve g c =
+    let before = g.F.Folder.told c.args.folder.now in
+    let found = g.F.Folder.told c.look.new.folder in
+    let opening = g.F.Folder.told c.open.new.self in
+    not_resolved (path_buf_bytes {A = Global}) (λ s. Opens g.F.Folder.handle c.args.name.now (Ok c.in-Ok.file) s s) c.args.name.now
+    c.args.bytes.now c.resolve.result (Err c.in-Err-resolve.error) _ before opening (g.F.Folder.told c.resolve.new.self) refl
+    (opened g.F.Folder.handle c.args.name.now c.in-Ok.file quiet before found opening
+    (is_a_link c.args.name.now c.in_ok-found.found c.look.result before found c.in_ok-found.was
+    (sym c.is_link.ensures ∙ c.if-not-is_link.false) c.look.ensures) c.in-Ok.ensures.opens) c.resolve.ensures
+
+pub returns-in-Err-2-resolve : goal.returns-in-Err-2-resolve
+returns-in-Err-2-resolve g c =
+    let before = g.F.Folder.told c.args.folder.now in
+    let found = g.F.Folder.told c.look.new.folder in
+    let opening = g.F.Folder.told c.open.new.self in
+    saved_unresolved g.F.Folder.handle (path_buf_bytes {A = Global}) c.args.name.now c.args.bytes.now c.in-Ok.file c.in-Err-resolve.error
+    c.write_through.result not_given before opening (g.F.Folder.told c.resolve.new.self) (g.F.Folder.told c.write_through.new.folder) refl
+    (opened g.F.Folder.handle c.args.name.now c.in-Ok.file quiet before found opening
+    (is_a_link c.args.name.now c.in_ok-found.found c.look.result before found c.in_ok-found.was
+    (sym c.is_link.ensures ∙ c.if-not-is_link.false) c.look.ensures) c.in-Ok.ensures.opens) c.in-Err-resolve.ensures
+    (c.write_through.ensures c.in-Ok.ensures.start)

@@ -1,0 +1,95 @@
+-- What the answers of the system count as.
+use Rattle.std.specs.Prelude.{ℕ, Bool, true, false, List, [], ◌∷◌, Result, Ok, Err}
+use Rattle.std.specs.IoError.{error_kind}
+use Rattle.std.specs.declared.io.Error.{Error}
+use Rattle.std.specs.declared.io.ErrorKind.{ErrorKind}
+use Rattle.std.specs.declared.io.ErrorKind.TheVariants as kind
+use Rattle.durable_folder.specs.Histories.{Answer}
+
+-- by the kind of an error, whether the system gave no leave
+abbrev pub is_refusal : ErrorKind → Bool
+is_refusal kind.PermissionDenied = true
+is_refusal kind.ReadOnlyFilesystem = true
+is_refusal kind.InvalidFilename = true
+is_refusal kind.ResourceBusy = true
+is_refusal kind.CrossesDevices = true
+is_refusal _ = false
+
+-- whether it cannot sync this at all, or gave no leave to open it
+abbrev pub is_unable : ErrorKind → Bool
+is_unable kind.InvalidInput = true
+is_unable _ = false
+
+abbrev pub is_denied : ErrorKind → Bool
+is_denied kind.PermissionDenied = true
+is_denied _ = false
+
+-- whether it says that there is nothing of a name, or that there is something
+abbrev pub is_absence : ErrorKind → Bool
+is_absence kind.NotFound = true
+is_absence _ = false
+
+abbrev pub is_presence : ErrorKind → Bool
+is_presence kind.AlreadyExists = true
+is_presence _ = false
+
+abbrev pub if_so : Bool → ℕ
+if_so true = 1
+if_so false = 0
+
+abbrev pub unless_so : Bool → ℕ
+unless_so true = 0
+unless_so false = 1
+
+abbrev pub these_if : Bool → List ℕ → List (List ℕ)
+these_if true place = place ∷ []
+these_if false place = []
+
+-- an answer that is no error
+abbrev pub quiet : Answer
+quiet = record { refusals = 0; failures = 0; unsynced = [] }
+
+-- an error, of which this says whether it is none but tells what is there
+abbrev pub error_answer : (ErrorKind → Bool) → Error → Answer
+error_answer tells error =
+    record {
+      refusals = if_so (is_refusal (error_kind error));
+      failures = unless_so (tells (error_kind error));
+      unsynced = [];
+    }
+
+abbrev pub never : ErrorKind → Bool
+never k = false
+
+-- what an answer counts as
+abbrev pub answer_to : {T : Type 0} → Result T Error → Answer
+answer_to (Ok x) = quiet
+answer_to (Err error) = error_answer never error
+
+-- that there is nothing of a name, or that there is something, is no failure of a call that asks
+abbrev pub answer_to_find : {T : Type 0} → Result T Error → Answer
+answer_to_find (Ok x) = quiet
+answer_to_find (Err error) = error_answer is_absence error
+
+abbrev pub answer_to_create : {T : Type 0} → Result T Error → Answer
+answer_to_create (Ok x) = quiet
+answer_to_create (Err error) = error_answer is_presence error
+
+-- an error of a call that only makes a file what it is to be, or tells where a link leads: it counts as a refusal
+abbrev pub not_given : Answer
+not_given = record { refusals = 1; failures = 1; unsynced = [] }
+
+abbrev pub answer_to_give : {T : Type 0} → Result T Error → Answer
+answer_to_give (Ok x) = quiet
+answer_to_give (Err error) = not_given
+
+-- a folder that may not be opened, or that cannot be synced, is noted
+abbrev pub answer_to_open_folder : {T : Type 0} → List ℕ → Result T Error → Answer
+answer_to_open_folder folder (Ok x) = quiet
+answer_to_open_folder folder (Err error) =
+    record { refusals = if_so (is_refusal (error_kind error)); failures = 1; unsynced = these_if (is_denied (error_kind error)) folder }
+
+abbrev pub answer_to_sync_folder : {T : Type 0} → List ℕ → Result T Error → Answer
+answer_to_sync_folder folder (Ok x) = quiet
+answer_to_sync_folder folder (Err error) =
+    record { refusals = if_so (is_refusal (error_kind error)); failures = 1; unsynced = these_if (is_unable (error_kind error)) folder }
