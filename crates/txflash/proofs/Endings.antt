@@ -176,9 +176,9 @@ leaves_call task old new (inr (inr (it, fails))) =
 leaves_out : (task : Option Asked) (old new : DeskState) → RunsOutOfMemory task old new → Leaves (file_of task) (files_in old) (files_in new)
 leaves_out task old new (inl (inl (inl (n, less, came, after)))) =
     leaves_same (file_of task) (files_in old) (files_in new) (ap files_in after ∙ files_asked (after_loads n old) ∙ files_loads n old)
-leaves_out task old new (inl (inl (inr (came, after)))) =
-    leaves_same (file_of task) (files_in old) (files_in new) (ap files_in after ∙ files_loads (length (files_of task)) old)
-leaves_out task old new (inl (inr (it, refused, after))) =
+leaves_out task old new (inl (inl (inr (n, worked, came, after)))) =
+    leaves_same (file_of task) (files_in old) (files_in new) (ap files_in after ∙ files_loads n old)
+leaves_out task old new (inl (inr (it, unsaid, after))) =
     leaves_same (file_of task) (files_in old) (files_in new) (ap files_in after ∙ files_loads it.loads old)
 leaves_out task old new (inr (inl (it, starves))) =
     leaves_same (file_of task) (files_in old) (files_in new) (unsaved_file it.given.saved starves ∙ files_loads it.loads old)
@@ -230,6 +230,11 @@ refusal_gives (refusal.BadImage rule) text e = record { saves_nothing = refl; sa
 refusal_gives (refusal.BadLine n) text e = record { saves_nothing = refl; said = e }
 refusal_gives (refusal.Unsound law slot) text e = record { saves_nothing = refl; said = e }
 refusal_gives (refusal.BadConfiguration rule) text e = record { saves_nothing = refl; said = e }
+refusal_gives (refusal.WrongLine k) text e = record { saves_nothing = refl; said = e }
+refusal_gives (refusal.BadBucket page) text e = record { saves_nothing = refl; said = e }
+refusal_gives refusal.DifferShape text e = record { saves_nothing = refl; said = e }
+refusal_gives (refusal.DifferBlank page) text e = record { saves_nothing = refl; said = e }
+refusal_gives (refusal.DifferAt page at) text e = record { saves_nothing = refl; said = e }
 
 -- the end after a refusal whose line is tried
 pub ends_refused : (task : Option Asked) (old mid new : DeskState) (r : Refusal) (text : List ℕ) (wanted answer : ℕ) →
@@ -258,6 +263,11 @@ ends_unsaid task old mid new r answer (loads, is, at) told =
     never_done (refusal.Missing name) e = absurd (omega arith)
     never_done (refusal.TooLong name) e = absurd (omega arith)
     never_done (refusal.BadImage rule) e = absurd (omega arith)
+    never_done (refusal.WrongLine k) e = absurd (omega arith)
+    never_done (refusal.BadBucket page) e = absurd (omega arith)
+    never_done refusal.DifferShape e = absurd (omega arith)
+    never_done (refusal.DifferBlank page) e = absurd (omega arith)
+    never_done (refusal.DifferAt page at) e = absurd (omega arith)
     never_done (refusal.BadLine n) e = absurd (omega arith)
     never_done (refusal.Unsound law slot) e = absurd (omega arith)
     never_done (refusal.BadConfiguration rule) e = absurd (omega arith)

@@ -2,8 +2,11 @@ pub mod RunLemmas
 pub mod Sound
 pub mod Works
 pub mod Parts
+pub mod OneFinding
+pub mod Findings
 pub mod OneFate
 pub mod Saving
 pub mod Endings
 pub mod Copies
 pub mod ArrayRuns
+pub mod KeyFates

@@ -11,9 +11,12 @@ use Rattle.image_file.specs.declared.error.ImageError.{ImageError}
 use Rattle.desk_io.specs.Desk as found
 use Rattle.desk_io.specs.Desk.{DeskContents, DeskState, FileFound, file_at, file_found}
 use Rattle.txflash.specs.Fate.{Fate}
-use Rattle.txflash.specs.Steps.{AfterLoad, AfterOpening, AfterParsing, AfterReading, Explaining, IsFate, Loading, OpensAndServes, Opens, Parses, Parsing, Reading, Running, Trying, WithoutLoad}
+use Rattle.txflash.specs.Steps.{AfterLoad, AfterOpening, AfterParsing, AfterReading, AfterOpened, Opening, ReadingOn, Judging, Comparing, Keying, Explaining, IsFate, Loading, OpensAndServes, Opens, Parses, Parsing, Reading, Running, Trying, WithoutLoad}
 use Rattle.txflash.specs.Top.{TellsFate}
-use Rattle.txflash.specs.Words.{Asked, Try, Format, Run, Explain, Drive}
+use Rattle.txflash.specs.Words.{Asked, Try, Format, Run, Explain, Drive, Check, Compare, Keys}
+use Rattle.txflash.specs.Checking.{check_fate, comparison_fate}
+use Rattle.txflash.proofs.KeyFates.{one_parsing_script, one_store}
+use Rattle.txflash.proofs.OneFinding.{one_check, one_comparison}
 use Rattle.version_index.proofs.OneBreach.{breach_one, sound_unbroken}
 
 -- ---- each step comes to one thing
@@ -77,6 +80,25 @@ one_opening its image done a b h k =
     after (Ok sound) h k = h ∙ sym k
     after (Err breach) h k = h ∙ sym k
 
+one_reading_on : (bytes : List ℕ) (next : Config → List Contents → Fate → ℕ → Type 0) →
+    ((its : Config) (image : List Contents) (a b : Fate) (m n : ℕ) → next its image a m → next its image b n → a ≡ b) →
+    (a b : Fate) (m n : ℕ) → ReadingOn bytes next a m → ReadingOn bytes next b n → a ≡ b
+one_reading_on bytes next one a b m n h k =
+    after k.0 (subst (λ read. AfterReading next read a m) (sym h.1.0 ∙ k.1.0) h.2) k.2
+  where
+    after : (read : Result (Config × List Contents × Extras) ImageError) → AfterReading next read a m → AfterReading next read b n → a ≡ b
+    after (Ok read) h k = one read.0 read.1 a b m n h k
+    after (Err rule) h k = h.0 ∙ sym k.0
+
+one_opened_on : (its : Config) (image : List Contents) (next : Fate → Type 0) → ((a b : Fate) → next a → next b → a ≡ b) →
+    (a b : Fate) → Opening its image next a → Opening its image next b → a ≡ b
+one_opened_on its image next one a b h k =
+    after k.0 (subst (λ opened. AfterOpened next opened a) (one_opened its image h.0 k.0 h.1 k.1) h.2) k.2
+  where
+    after : (opened : Result (Unit {0}) Breach) → AfterOpened next opened a → AfterOpened next opened b → a ≡ b
+    after (Ok sound) h k = one a b h k
+    after (Err breach) h k = h ∙ sym k
+
 -- ---- and so does each task
 
 one_try : (lines : List ℕ) (a b : Fate) → Trying lines a → Trying lines b → a ≡ b
@@ -88,6 +110,20 @@ one_run name bytes lines a b h k =
 
 one_explanation : (bytes : List ℕ) (a b : Fate) → Explaining bytes a → Explaining bytes b → a ≡ b
 one_explanation bytes a b h k = one_reading bytes _ (λ its image. one_opening its image _) a b h k
+
+one_judging : (its : Config) (image : List Contents) (text : List ℕ) (a b : Fate) → Judging its image text a → Judging its image text b → a ≡ b
+one_judging its image text =
+    one_opened_on its image _ (λ a b h k. h.2 ∙ ap check_fate (one_check its image text h.0 k.0 h.1 k.1) ∙ sym k.2)
+
+one_comparing : (a : Config) (image : List Contents) (b : Config) (other : List Contents) (x y : Fate) → Comparing a image b other x → Comparing a image b other y → x ≡ y
+one_comparing a image b other =
+    one_opened_on a image _ (one_opened_on b other _
+    (λ x y h k. h.2 ∙ ap (comparison_fate a) (one_comparison a image b other h.0 k.0 h.1 k.1) ∙ sym k.2))
+
+one_keys : (name bytes lines : List ℕ) (a b : Fate) → Keying name bytes lines a → Keying name bytes lines b → a ≡ b
+one_keys name bytes lines =
+    one_reading bytes _
+    (λ its image. one_parsing_script lines _ (λ cs. one_opened_on its image _ (one_store its image _)))
 
 -- where the desk tells what it hangs on, the fate of a task is the only one
 pub one_fate : (task : Option Asked) (desk : DeskState) (a b : Fate) (m n : ℕ) → TellsFate task desk →
@@ -105,3 +141,18 @@ one_fate (Some (Run image commands)) desk a b m n (inl none) h k = absurd (cc)
 one_fate (Some (Run image commands)) desk a b m n (inr tells) h k =
     one_loading desk image _ tells
     (λ bytes. one_loading desk commands _ tells (λ lines a b m n h k. one_run image bytes lines a b h.0 k.0)) a b m n h k
+one_fate (Some (Check image report)) desk a b m n (inl none) h k = absurd (cc)
+one_fate (Some (Check image report)) desk a b m n (inr tells) h k =
+    one_loading desk image _ tells
+    (λ bytes. one_loading desk report _ tells
+    (λ text a b m n h k. one_reading bytes _ (λ its image. one_judging its image text) a b h.0 k.0)) a b m n h k
+one_fate (Some (Compare first second)) desk a b m n (inl none) h k = absurd (cc)
+one_fate (Some (Compare first second)) desk a b m n (inr tells) h k =
+    one_loading desk first _ tells
+    (λ bytes. one_reading_on bytes _
+    (λ its image. one_loading desk second _ tells
+    (λ others a b m n h k. one_reading others _ (λ b other. one_comparing its image b other) a b h.0 k.0))) a b m n h k
+one_fate (Some (Keys image script)) desk a b m n (inl none) h k = absurd (cc)
+one_fate (Some (Keys image script)) desk a b m n (inr tells) h k =
+    one_loading desk image _ tells
+    (λ bytes. one_loading desk script _ tells (λ lines a b m n h k. one_keys image bytes lines a b h.0 k.0)) a b m n h k

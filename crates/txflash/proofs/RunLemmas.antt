@@ -25,7 +25,7 @@ is_steady its flash e = record {
   none = let none = ap (λ (s : MemoryState). s.armed) e in subst (λ armed. ((told_of armed).cuts ≡ 0) × ((told_of armed).breaks ≡ 0)) (sym none) (refl, refl);
 }
 
-starts : (its : Config) (flash : MemoryState) → flash ≡ loaded (shape_of its) flash.image flash.extras → moment_of (state_of flash) ≡ first_moment flash.image
+pub starts : (its : Config) (flash : MemoryState) → flash ≡ loaded (shape_of its) flash.image flash.extras → moment_of (state_of flash) ≡ first_moment flash.image
 starts its flash e =
     ap₂ (λ (a : ℕ) (b : ℕ). let m : Moment = record { image = flash.image; programs = a; erases = b } in m)
     (ap (λ (s : MemoryState). s.programs) e) (ap (λ (s : MemoryState). s.erases) e)

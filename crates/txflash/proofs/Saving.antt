@@ -11,44 +11,63 @@ use Rattle.host_protocol.specs.declared.command.Command.{Command}
 use Rattle.image_file.specs.declared.error.ImageError.{ImageError}
 use Rattle.desk_io.specs.Desk as found
 use Rattle.desk_io.specs.Desk.{DeskState, FileFound}
-use Rattle.txflash.specs.Fate.{Fate, Tried, Formatted, Ran, Explained, Driven, BadWords, Missing, TooLong, BadImage, BadLine, Unsound, BadConfiguration, status}
+use Rattle.txflash.specs.Fate.{Fate, Tried, Formatted, Ran, Explained, Driven, Keyed, Good, WrongLine, Same, DifferShape, DifferBlank, DifferAt, BadWords, Missing, TooLong, BadImage, BadLine, Unsound, BadBucket, BadConfiguration, status}
 use Rattle.txflash.specs.Gives.{Given, Gives}
-use Rattle.txflash.specs.Steps.{AfterLoad, AfterOpening, AfterParsing, AfterReading, Explaining, IsFate, Loading, OpensAndServes, Parsing, Reading, Running, Trying, formatting, WithoutLoad}
-use Rattle.txflash.specs.Words.{Asked, Try, Format, Run, Explain, Drive, file_of}
+use Rattle.txflash.specs.Steps.{AfterLoad, AfterOpening, AfterParsing, AfterReading, AfterOpened, Opening, ReadingOn, Checking, Comparing, Keying, Explaining, IsFate, Loading, OpensAndServes, Parsing, Reading, Running, Trying, formatting, WithoutLoad}
+use Rattle.txflash.specs.Words.{Asked, Try, Format, Run, Explain, Drive, Check, Compare, Keys, file_of}
+use Rattle.txflash.proofs.KeyFates.{script_all, store_all}
+use Rattle.txflash.specs.Checking.{check_fate, Comparison, OneArray, Shapes, BlankAt, ByteAt, comparison_fate}
 
 -- the file that a fate saves
 abbrev pub saver : Fate → Option (List ℕ)
 saver (Formatted name its) = Some name
 saver (Ran name its image commands) = Some name
+saver (Keyed name its image commands) = Some name
 saver _ = None
 
 pub gives_saves : (fate : Fate) (p : Given) → Gives fate p → option_map (λ file. file.name) p.saved ≡ saver fate
 gives_saves (Tried commands) p h = ap (option_map (λ file. file.name)) h.saves_nothing
 gives_saves (Formatted name its) p h = ap (option_map (λ file. file.name)) h.saves
 gives_saves (Ran name its image commands) p h = ap (option_map (λ file. file.name)) h.saves
+gives_saves (Keyed name its image commands) p h = ap (option_map (λ file. file.name)) h.saves
 gives_saves (Explained its image) p h = ap (option_map (λ file. file.name)) h.saves_nothing
 gives_saves (Driven start count protocol) p h = ap (option_map (λ file. file.name)) h.saves_nothing
+gives_saves (Good pages) p h = ap (option_map (λ file. file.name)) h.saves_nothing
+gives_saves (WrongLine k) p h = ap (option_map (λ file. file.name)) h.saves_nothing
+gives_saves (Same logical) p h = ap (option_map (λ file. file.name)) h.saves_nothing
+gives_saves DifferShape p h = ap (option_map (λ file. file.name)) h.saves_nothing
+gives_saves (DifferBlank page) p h = ap (option_map (λ file. file.name)) h.saves_nothing
+gives_saves (DifferAt page at) p h = ap (option_map (λ file. file.name)) h.saves_nothing
 gives_saves BadWords p h = ap (option_map (λ file. file.name)) h.saves_nothing
 gives_saves (Missing name) p h = ap (option_map (λ file. file.name)) h.saves_nothing
 gives_saves (TooLong name) p h = ap (option_map (λ file. file.name)) h.saves_nothing
 gives_saves (BadImage rule) p h = ap (option_map (λ file. file.name)) h.saves_nothing
 gives_saves (BadLine n) p h = ap (option_map (λ file. file.name)) h.saves_nothing
 gives_saves (Unsound breach) p h = ap (option_map (λ file. file.name)) h.saves_nothing
+gives_saves (BadBucket page) p h = ap (option_map (λ file. file.name)) h.saves_nothing
 gives_saves (BadConfiguration rule) p h = ap (option_map (λ file. file.name)) h.saves_nothing
 
 -- a refusal saves none
 pub refusal_saves : (fate : Fate) → (status fate ≡ 0 → ⊥) → saver fate ≡ None
 refusal_saves (Formatted name its) refused = absurd (refused refl)
 refusal_saves (Ran name its image commands) refused = absurd (refused refl)
+refusal_saves (Keyed name its image commands) refused = absurd (refused refl)
 refusal_saves (Tried commands) refused = refl
 refusal_saves (Explained its image) refused = refl
 refusal_saves (Driven start count protocol) refused = refl
+refusal_saves (Good pages) refused = refl
+refusal_saves (WrongLine k) refused = refl
+refusal_saves (Same logical) refused = refl
+refusal_saves DifferShape refused = refl
+refusal_saves (DifferBlank page) refused = refl
+refusal_saves (DifferAt page at) refused = refl
 refusal_saves BadWords refused = refl
 refusal_saves (Missing name) refused = refl
 refusal_saves (TooLong name) refused = refl
 refusal_saves (BadImage rule) refused = refl
 refusal_saves (BadLine n) refused = refl
 refusal_saves (Unsound breach) refused = refl
+refusal_saves (BadBucket page) refused = refl
 refusal_saves (BadConfiguration rule) refused = refl
 
 -- no fate has status 5
@@ -56,14 +75,22 @@ pub never_five : (fate : Fate) → 5 ≡ status fate → ⊥
 never_five (Tried commands) e = absurd (omega arith)
 never_five (Formatted name its) e = absurd (omega arith)
 never_five (Ran name its image commands) e = absurd (omega arith)
+never_five (Keyed name its image commands) e = absurd (omega arith)
 never_five (Explained its image) e = absurd (omega arith)
 never_five (Driven start count protocol) e = absurd (omega arith)
+never_five (Good pages) e = absurd (omega arith)
+never_five (WrongLine k) e = absurd (omega arith)
+never_five (Same logical) e = absurd (omega arith)
+never_five DifferShape e = absurd (omega arith)
+never_five (DifferBlank page) e = absurd (omega arith)
+never_five (DifferAt page at) e = absurd (omega arith)
 never_five BadWords e = absurd (omega arith)
 never_five (Missing name) e = absurd (omega arith)
 never_five (TooLong name) e = absurd (omega arith)
 never_five (BadImage rule) e = absurd (omega arith)
 never_five (BadLine n) e = absurd (omega arith)
 never_five (Unsound breach) e = absurd (omega arith)
+never_five (BadBucket page) e = absurd (omega arith)
 never_five (BadConfiguration rule) e = absurd (omega arith)
 
 -- ---- what holds of each fate to which a step may lead
@@ -86,6 +113,24 @@ reading_all P bytes next bad leads fate (read, reads, h) = after read h
     after : (read : Result (Config × List Contents × Extras) ImageError) → AfterReading (λ its image. WithoutLoad (next its image)) read fate 0 → P fate
     after (Ok read) h = leads read.0 read.1 fate h.0
     after (Err rule) h = rw h.0 (bad rule)
+
+reading_on_all : (P : Fate → Type 0) (bytes : List ℕ) (next : Config → List Contents → Fate → ℕ → Type 0) →
+    ((rule : ImageError) → P (BadImage rule)) →
+    ((its : Config) (image : List Contents) (fate : Fate) (more : ℕ) → next its image fate more → P fate) →
+    (fate : Fate) (loads : ℕ) → ReadingOn bytes next fate loads → P fate
+reading_on_all P bytes next bad leads fate loads (read, reads, h) = after read h
+  where
+    after : (read : Result (Config × List Contents × Extras) ImageError) → AfterReading next read fate loads → P fate
+    after (Ok read) h = leads read.0 read.1 fate loads h
+    after (Err rule) h = rw h.0 (bad rule)
+
+opened_all : (P : Fate → Type 0) (its : Config) (image : List Contents) (next : Fate → Type 0) → ((b : Breach) → P (Unsound b)) →
+    ((fate : Fate) → next fate → P fate) → (fate : Fate) → Opening its image next fate → P fate
+opened_all P its image next bad leads fate (opened, opens, h) = after opened h
+  where
+    after : (opened : Result (Unit {0}) Breach) → AfterOpened next opened fate → P fate
+    after (Ok sound) h = leads fate h
+    after (Err b) h = rw h (bad b)
 
 parsing_all : (P : Fate → Type 0) (page_bytes : ℕ) (bytes : List ℕ) (next : List Command → Fate → Type 0) →
     ((n : ℕ) → P (BadLine n)) → ((cs : List Command) (fate : Fate) → next cs fate → P fate) →
@@ -124,6 +169,33 @@ explanation_saves bytes =
     reading_all (SavesAtMost None) bytes _ (λ rule. inl refl)
     (λ its image. opening_all (SavesAtMost None) its image _ (inl refl) (λ b. inl refl))
 
+checked_saves : (check : Result ℕ ℕ) → SavesAtMost None (check_fate check)
+checked_saves (Ok n) = inl refl
+checked_saves (Err k) = inl refl
+
+check_saves : (bytes text : List ℕ) (fate : Fate) → Checking bytes text fate → SavesAtMost None fate
+check_saves bytes text =
+    reading_all (SavesAtMost None) bytes _ (λ rule. inl refl)
+    (λ its image. opened_all (SavesAtMost None) its image _ (λ b. inl refl) (λ fate h. rw h.2 (checked_saves h.0)))
+
+compared_saves : (a : Config) (comes : Comparison) → SavesAtMost None (comparison_fate a comes)
+compared_saves a OneArray = inl refl
+compared_saves a Shapes = inl refl
+compared_saves a (BlankAt page) = inl refl
+compared_saves a (ByteAt page at) = inl refl
+
+comparison_saves : (a : Config) (image : List Contents) (b : Config) (other : List Contents) (fate : Fate) → Comparing a image b other fate → SavesAtMost None fate
+comparison_saves a image b other =
+    opened_all (SavesAtMost None) a image _ (λ b. inl refl)
+    (opened_all (SavesAtMost None) b other _ (λ b. inl refl) (λ fate h. rw h.2 (compared_saves a h.0)))
+
+keys_saves : (name bytes lines : List ℕ) (fate : Fate) → Keying name bytes lines fate → SavesAtMost (Some name) fate
+keys_saves name bytes lines =
+    reading_all (SavesAtMost (Some name)) bytes _ (λ rule. inl refl)
+    (λ its image. script_all (SavesAtMost (Some name)) lines _ (λ n. inl refl)
+    (λ cs. opened_all (SavesAtMost (Some name)) its image _ (λ b. inl refl)
+    (store_all (SavesAtMost (Some name)) its image _ (inr refl) (λ page. inl refl))))
+
 format_saves : (name : List ℕ) (its : Config) (check : Result Shape ConfigError) → SavesAtMost (Some name) (formatting name its check)
 format_saves name its (Ok shape) = inr refl
 format_saves name its (Err rule) = inl refl
@@ -137,7 +209,21 @@ fate_saves (Some (Try commands)) desk fate loads h =
     loading_all (SavesAtMost None) desk commands _ (inl refl) (inl refl) (λ lines fate more h. try_saves lines fate h.0) fate loads h
 fate_saves (Some (Explain image)) desk fate loads h =
     loading_all (SavesAtMost None) desk image _ (inl refl) (inl refl) (λ bytes fate more h. explanation_saves bytes fate h.0) fate loads h
+fate_saves (Some (Keys image script)) desk fate loads h =
+    loading_all (SavesAtMost (Some image)) desk image _ (inl refl) (inl refl)
+    (λ bytes. loading_all (SavesAtMost (Some image)) desk script _ (inl refl) (inl refl)
+    (λ lines fate more h. keys_saves image bytes lines fate h.0)) fate loads h
 fate_saves (Some (Run image commands)) desk fate loads h =
     loading_all (SavesAtMost (Some image)) desk image _ (inl refl) (inl refl)
     (λ bytes. loading_all (SavesAtMost (Some image)) desk commands _ (inl refl) (inl refl)
     (λ lines fate more h. run_saves image bytes lines fate h.0)) fate loads h
+fate_saves (Some (Check image report)) desk fate loads h =
+    loading_all (SavesAtMost None) desk image _ (inl refl) (inl refl)
+    (λ bytes. loading_all (SavesAtMost None) desk report _ (inl refl) (inl refl)
+    (λ text fate more h. check_saves bytes text fate h.0)) fate loads h
+fate_saves (Some (Compare first second)) desk fate loads h =
+    loading_all (SavesAtMost None) desk first _ (inl refl) (inl refl)
+    (λ bytes. reading_on_all (SavesAtMost None) bytes _ (λ rule. inl refl)
+    (λ a image. loading_all (SavesAtMost None) desk second _ (inl refl) (inl refl)
+    (λ others fate more h. reading_all (SavesAtMost None) others _ (λ rule. inl refl) (λ b other. comparison_saves a image b other) fate h.0)))
+    fate loads h

@@ -6,6 +6,7 @@ use Rattle.tx_types.specs.declared.config.Protocol.{Protocol}
 use Rattle.tx_types.specs.Config.{shape_of}
 use Rattle.flash_model.specs.Flash.{blank}
 use Rattle.record_list.specs.SoundList.{Law, Keeps}
+use Rattle.record_list.specs.Counts.{KeepsCount}
 use Rattle.record_list.specs.Written.{BytesAgree, IsSoundWritten}
 use Rattle.version_index.specs.Images.{IsSoundImage, SlotReads, written_in}
 use Rattle.txflash.specs.Runs.{blank_image, default_config}
@@ -21,6 +22,7 @@ written_none : (protocol : Protocol) → IsSoundWritten protocol [] 20 (shape_of
 written_none protocol = record {
   records = λ law. sound_none protocol 20 law;
   bytes = All-nil (BytesAgree []);
+  counts = All-nil (KeepsCount []);
   removable = record { block = 0; exists = omega arith; removable = λ k d within. absurd (omega arith) };
 }
 

@@ -10,7 +10,7 @@ use Rattle.txflash.specs.Fate.{Fate, Missing, TooLong}
 use Rattle.txflash.specs.Steps.{IsFate}
 use Rattle.txflash.specs.Stops.{Fetches, StopsBy, Works, WorksTo, refused}
 use Rattle.txflash.specs.Top.{CameThrough, FindsBytes, after_loads}
-use Rattle.txflash.specs.Words.{Asked, files_of}
+use Rattle.txflash.specs.Words.{Asked, IsWorkedAfter, files_of}
 use Rattle.txflash.specs.declared.product.Product.{Product}
 use Rattle.txflash.specs.declared.product.Stop.{Stop}
 use Rattle.txflash.specs.declared.product.Stop.TheVariants as stop
@@ -29,13 +29,13 @@ stopped P Q (Err x) e same leads h = stops_by P Q leads x (rw same h)
 
 -- after its loads, the work of a task comes to what its last part comes to
 pub works : (task : Option Asked) (old new : DeskState) (n : ℕ) (comes : Fate → Type 0) (result : Result Product Stop) →
-    new ≡ after_loads n old → n ≡ length (files_of task) → CameThrough task old n →
+    new ≡ after_loads n old → IsWorkedAfter task n → CameThrough task old n →
     ((fate : Fate) → comes fate → IsFate task old fate n) → WorksTo comes result → Works task old new result
 works task old new n comes (Ok product) loaded all came leads h = (h.0, (n, leads h.0 h.1, loaded), h.2, h.3)
 works task old new n comes (Err (stop.Refused refusal)) loaded all came leads h = (n, leads (refused refusal) h, loaded)
 works task old new n comes (Err stop.Fault) loaded all came leads h = absurd h
 works task old new n comes (Err stop.Memory) loaded all came leads h =
-    inr (rw all at came, rw all at loaded)
+    inr (n, all, came, loaded)
 
 -- the work of a task ends where a load gives no bytes
 unfetched_by : (task : Option Asked) (old mid new : DeskState) (n : ℕ) (name : List ℕ) (stopped : Stop) →

@@ -9,6 +9,7 @@ use Rattle.tx_types.specs.declared.config.Protocol.{Protocol}
 use Rattle.flash_model.specs.Flash.{Contents}
 use Rattle.record_list.specs.declared.found.Breach.{Breach}
 use Rattle.host_protocol.specs.declared.command.Command.{Command}
+use Rattle.page_keys.specs.declared.command.KeyCommand.{KeyCommand}
 use Rattle.image_file.specs.declared.error.ImageError.{ImageError}
 use Rattle.image_file.specs.declared.error.ImageError.TheVariants as image
 
@@ -20,12 +21,21 @@ pub data Fate : Type 0 where
       Fate
   Explained : (config : Config) → (image : List Contents) → Fate
   Driven : (start count : ℕ) → (protocol : Protocol) → Fate
+  Keyed : (name : List ℕ) → (config : Config) → (image : List Contents) →
+      (commands : List KeyCommand) → Fate
+  Good : (pages : ℕ) → Fate
+  WrongLine : (k : ℕ) → Fate
+  Same : (logical : ℕ) → Fate
+  DifferShape : Fate
+  DifferBlank : (page : ℕ) → Fate
+  DifferAt : (page at : ℕ) → Fate
   BadWords : Fate
   Missing : (name : List ℕ) → Fate
   TooLong : (name : List ℕ) → Fate
   BadImage : (rule : ImageError) → Fate
   BadLine : (n : ℕ) → Fate
   Unsound : (breach : Breach) → Fate
+  BadBucket : (page : ℕ) → Fate
   BadConfiguration : (rule : ConfigError) → Fate
 
 abbrev pub status : Fate → ℕ
@@ -34,11 +44,19 @@ status (Formatted name config) = 0
 status (Ran name config image commands) = 0
 status (Explained config image) = 0
 status (Driven start count protocol) = 0
+status (Keyed name config image commands) = 0
+status (Good pages) = 0
+status (WrongLine k) = 12
+status (Same logical) = 0
+status DifferShape = 13
+status (DifferBlank page) = 13
+status (DifferAt page at) = 13
 status BadWords = 1
 status (Missing name) = 2
 status (BadImage rule) = 3
 status (BadLine n) = 4
 status (Unsound breach) = 7
+status (BadBucket page) = 11
 status (BadConfiguration rule) = 8
 status (TooLong name) = 9
 
@@ -69,7 +87,7 @@ config_word config.Logical = codes "logical"
 config_word config.Pending = codes "pending"
 config_word config.Space = codes "space"
 
--- the line of a refusal, and nothing where the work is done
+-- the line that says what was found, or of a refusal, and nothing where more is said
 abbrev pub refusal_line : Fate → List ℕ
 refusal_line BadWords = line (codes "bad words")
 refusal_line (Missing name) = line (codes "no file " ++ name)
@@ -78,5 +96,12 @@ refusal_line (BadImage rule) = line (codes "bad image: " ++ image_words rule)
 refusal_line (BadLine n) = line (codes "bad line " ++ decimal n)
 refusal_line (Unsound breach) =
     line (codes "unsound law " ++ decimal breach.law ++ codes " slot " ++ decimal breach.slot.0)
+refusal_line (BadBucket page) = line (codes "bad bucket " ++ decimal page)
 refusal_line (BadConfiguration rule) = line (codes "bad configuration: " ++ config_word rule)
+refusal_line (Good pages) = line (codes "good " ++ decimal pages)
+refusal_line (WrongLine k) = line (codes "wrong line " ++ decimal k)
+refusal_line (Same logical) = line (codes "same " ++ decimal logical)
+refusal_line DifferShape = line (codes "differ shape")
+refusal_line (DifferBlank page) = line (codes "differ page " ++ decimal page ++ codes " blank")
+refusal_line (DifferAt page at) = line (codes "differ page " ++ decimal page ++ codes " at " ++ decimal at)
 refusal_line _ = []

@@ -12,7 +12,9 @@ use Rattle.host_protocol.specs.declared.command.Command.{Command}
 use Rattle.image_file.specs.Spelling.{Spells}
 use Rattle.drive_gen.specs.Work.{generated}
 use Rattle.drive_gen.specs.Summary.{summary_line}
-use Rattle.txflash.specs.Fate.{Fate, Tried, Formatted, Ran, Explained, Driven, line, refusal_line}
+use Rattle.page_keys.specs.declared.command.KeyCommand.{KeyCommand}
+use Rattle.txflash.specs.Fate.{Fate, Tried, Formatted, Ran, Explained, Driven, Keyed, line, refusal_line}
+use Rattle.txflash.specs.KeyWork.{IsKeysRun}
 use Rattle.txflash.specs.Runs.{IsRun, default_config, blank_image}
 
 -- a file's name and its bytes
@@ -67,7 +69,17 @@ pub record IsDriven (start count : ℕ) (protocol : Protocol) (p : Given) : Type
       ≡ summary_line start count protocol
       (length (generated start count (default_config protocol))) replies
 
--- a line, and no file
+-- the replies of a run of the map machine from this image on, whose pages are buckets, and the file of the image with which
+-- the run ends, under the same configuration
+pub record IsKeyed (name : List ℕ) (its : Config) (image : List Contents)
+    (commands : List KeyCommand) (p : Given) : Type 0 where
+  pub bytes : List ℕ
+  pub saves : p.saved ≡ Some (record { name = name; bytes = bytes })
+  pub left : List Contents
+  pub run : IsKeysRun its image commands left p.text
+  pub spelled : Spells bytes its left
+
+-- a line, and no file: what was found, or a refusal
 pub record IsRefused (text : List ℕ) (p : Given) : Type 0 where
   pub saves_nothing : p.saved ≡ None
   pub said : p.text ≡ text
@@ -79,4 +91,5 @@ Gives (Formatted name its) p = IsFormatted name its p
 Gives (Ran name its image commands) p = IsRan name its image commands p
 Gives (Explained its image) p = IsExplained its image p
 Gives (Driven start count protocol) p = IsDriven start count protocol p
+Gives (Keyed name its image commands) p = IsKeyed name its image commands p
 Gives refused p = IsRefused (refusal_line refused) p

@@ -2,7 +2,10 @@ pub mod Numbers
 pub mod Words
 pub mod Fate
 pub mod Runs
+pub mod KeyWork
 pub mod Gives
+pub mod Checking
+pub mod Differences
 pub mod Steps
 pub mod Top
 pub mod Stops

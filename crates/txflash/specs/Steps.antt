@@ -16,9 +16,11 @@ use Rattle.image_file.specs.declared.error.ImageError.{ImageError}
 use Rattle.desk_io.specs.Desk as found
 use Rattle.desk_io.specs.Desk.{DeskState, FileFound, Finds}
 use Rattle.tx_types.specs.declared.config.Protocol.TheVariants.{Scc}
-use Rattle.txflash.specs.Fate.{Fate, Tried, Formatted, Ran, Explained, Driven, BadWords, Missing, TooLong, BadImage, BadLine, Unsound, BadConfiguration}
+use Rattle.txflash.specs.Fate.{Fate, Tried, Formatted, Ran, Explained, Driven, Keyed, BadWords, Missing, TooLong, BadImage, BadLine, Unsound, BadConfiguration}
 use Rattle.txflash.specs.Runs.{default_config}
-use Rattle.txflash.specs.Words.{Asked, Try, Format, Run, Explain, Drive}
+use Rattle.txflash.specs.Words.{Asked, Try, Format, Run, Explain, Drive, Check, Compare, Keys}
+use Rattle.txflash.specs.KeyWork.{ParsingScript, OpensStore}
+use Rattle.txflash.specs.Checking.{Checks, check_fate, Comparison, Compares, comparison_fate}
 
 -- ---- loading
 
@@ -94,6 +96,15 @@ abbrev pub OpensAndServes : Config → List Contents → Fate → Fate → Type 
 OpensAndServes its image done fate =
     (opened : Result (Unit {0}) Breach) × Opens its image opened × AfterOpening done opened fate
 
+abbrev pub AfterOpened : (Fate → Type 0) → Result (Unit {0}) Breach → Fate → Type 0
+AfterOpened next (Ok sound) fate = next fate
+AfterOpened next (Err breach) fate = fate ≡ Unsound breach
+
+-- the device of an image is opened, and then comes what it gives
+abbrev pub Opening : Config → List Contents → (Fate → Type 0) → Fate → Type 0
+Opening its image next fate =
+    (opened : Result (Unit {0}) Breach) × Opens its image opened × AfterOpened next opened fate
+
 -- ---- the tasks, from the bytes of their files on
 
 abbrev pub Trying : List ℕ → Fate → Type 0
@@ -108,6 +119,28 @@ Running name bytes lines =
 
 abbrev pub Explaining : List ℕ → Fate → Type 0
 Explaining bytes = Reading bytes (λ its image. OpensAndServes its image (Explained its image))
+
+-- from the device on
+abbrev pub Judging : Config → List Contents → List ℕ → Fate → Type 0
+Judging its image text =
+    Opening its image
+    (λ fate. (check : Result ℕ ℕ) × Checks its image text check × (fate ≡ check_fate check))
+
+abbrev pub Checking : List ℕ → List ℕ → Fate → Type 0
+Checking bytes text = Reading bytes (λ its image. Judging its image text)
+
+-- from both devices on
+abbrev pub Comparing : Config → List Contents → Config → List Contents → Fate → Type 0
+Comparing a image b other =
+    Opening a image
+    (Opening b other
+    (λ fate. (comes : Comparison) × Compares a image b other comes × (fate ≡ comparison_fate a comes)))
+
+abbrev pub Keying : List ℕ → List ℕ → List ℕ → Fate → Type 0
+Keying name bytes lines =
+    Reading bytes
+    (λ its image. ParsingScript lines
+    (λ commands. Opening its image (OpensStore its image (Keyed name its image commands))))
 
 -- a configuration is checked
 abbrev pub formatting : List ℕ → Config → Result Shape ConfigError → Fate
@@ -126,3 +159,12 @@ IsFate (Some (Run image commands)) desk =
 IsFate (Some (Explain image)) desk = Loading desk image (λ bytes. WithoutLoad (Explaining bytes))
 IsFate (Some (Drive start count protocol)) desk =
     WithoutLoad (λ fate. fate ≡ Driven start count protocol)
+IsFate (Some (Check image report)) desk =
+    Loading desk image (λ bytes. Loading desk report (λ text. WithoutLoad (Checking bytes text)))
+IsFate (Some (Compare first second)) desk =
+    Loading desk first
+    (λ bytes. ReadingOn bytes (λ a image. Loading desk second
+    (λ others. WithoutLoad (Reading others (λ b other. Comparing a image b other)))))
+IsFate (Some (Keys image script)) desk =
+    Loading desk image
+    (λ bytes. Loading desk script (λ lines. WithoutLoad (Keying image bytes lines)))

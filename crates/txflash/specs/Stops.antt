@@ -9,8 +9,9 @@ use Rattle.image_file.specs.declared.error.ImageError.{ImageError}
 use Rattle.desk_io.specs.Desk as found
 use Rattle.desk_io.specs.Desk.{DeskState, Finds, after_answer, after_fault, after_memory, as_before}
 use Rattle.desk_io.specs.declared.desk.SinkError.TheVariants as sink
-use Rattle.txflash.specs.Fate.{Fate, BadWords, Missing, TooLong, BadImage, BadLine, Unsound, BadConfiguration, line, status}
+use Rattle.txflash.specs.Fate.{Fate, BadWords, Missing, TooLong, BadImage, BadLine, Unsound, BadBucket, BadConfiguration, WrongLine, DifferShape, DifferBlank, DifferAt, line, status}
 use Rattle.txflash.specs.Gives.{Given, SavedFile, Gives}
+use Rattle.txflash.specs.KeyWork.{HoldsKeys, ParsesScript}
 use Rattle.txflash.specs.Steps.{IsFate, ReadsImage, Parses, Opens}
 use Rattle.txflash.specs.Top.{LoadFails, WorkRunsOut, FileStops, TextStops, Attempts, after_loads, after_save, after_text}
 use Rattle.txflash.specs.Words.{Asked}
@@ -31,7 +32,12 @@ refused (refusal.TooLong name) = TooLong name.now
 refused (refusal.BadImage rule) = BadImage rule
 refused (refusal.BadLine n) = BadLine n
 refused (refusal.Unsound law slot) = Unsound (record { law = law; slot = slot })
+refused (refusal.BadBucket page) = BadBucket page
 refused (refusal.BadConfiguration rule) = BadConfiguration rule
+refused (refusal.WrongLine k) = WrongLine k
+refused refusal.DifferShape = DifferShape
+refused (refusal.DifferBlank page) = DifferBlank page
+refused (refusal.DifferAt page at) = DifferAt page at
 
 -- the bytes of a text
 abbrev pub bytes_of : Text → List ℕ
@@ -57,6 +63,17 @@ RefusesLine page_bytes bytes fate = (n : ℕ) × Parses page_bytes bytes (Err n)
 abbrev pub RefusesDevice : Config → List Contents → Fate → Type 0
 RefusesDevice its image fate =
     (breach : Breach) × Opens its image (Err breach) × (fate ≡ Unsound breach)
+
+-- this line of a key script is the first bad one
+abbrev pub RefusesScript : List ℕ → Fate → Type 0
+RefusesScript bytes fate = (n : ℕ) × ParsesScript bytes (Err n) × (fate ≡ BadLine n)
+
+-- the image of a device breaks this law first, or it is sound and this is its least page that is no bucket
+abbrev pub RefusesStore : Config → List Contents → Fate → Type 0
+RefusesStore its image fate =
+    RefusesDevice its image fate
+    ⊎ (Opens its image (Ok tt)
+    × ((page : ℕ) × HoldsKeys its image (Err page) × (fate ≡ BadBucket page)))
 
 -- a step that asks nothing of the desk is refused so, or memory runs out
 abbrev pub StopsBy : (Fate → Type 0) → Stop → Type 0

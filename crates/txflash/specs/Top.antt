@@ -7,7 +7,7 @@ use Rattle.desk_io.specs.declared.desk.SinkError.TheVariants as sink
 use Rattle.txflash.specs.Fate.{Fate, status, line}
 use Rattle.txflash.specs.Gives.{Given, SavedFile, Gives}
 use Rattle.txflash.specs.Steps.{IsFate}
-use Rattle.txflash.specs.Words.{Asked, files_of, file_of}
+use Rattle.txflash.specs.Words.{Asked, IsWorkedAfter, files_of, file_of}
 
 -- ---- the desk after the calls that were made of it
 
@@ -69,12 +69,11 @@ LoadStarves task old new =
     (n : ℕ) × (n < length (files_of task)) × CameThrough task old n
     × (new ≡ after_memory (after_loads n old))
 
--- memory ran out in a load, or after all loads, which found bytes
+-- memory ran out in a load, or in the work after loads, which found bytes
 abbrev pub WorkRunsOut : Option Asked → DeskState → DeskState → Type 0
 WorkRunsOut task old new =
     LoadStarves task old new
-    ⊎ (CameThrough task old (length (files_of task))
-    × (new ≡ after_loads (length (files_of task)) old))
+    ⊎ ((n : ℕ) × IsWorkedAfter task n × CameThrough task old n × (new ≡ after_loads n old))
 
 -- ---- how a call fails
 

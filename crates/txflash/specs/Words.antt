@@ -1,5 +1,5 @@
 -- What the words of a call of the program ask for.
-use Rattle.std.specs.Prelude.{ℕ, nat_lt, if◌then◌else◌, List, [], ◌∷◌, length, map, codes, string_bytes, String, Option, None, Some}
+use Rattle.std.specs.Prelude.{◌≡◌, ◌⊎◌, ℕ, nat_lt, if◌then◌else◌, List, [], ◌∷◌, length, map, codes, string_bytes, String, Option, None, Some}
 use Rattle.std.specs.Global.{Global}
 use Rattle.std.specs.Option.{option_map, option_and_then}
 use Rattle.std.specs.Str.{bytes_eq}
@@ -13,13 +13,16 @@ use Rattle.txflash.specs.declared.words.Task.TheVariants as task
 
 -- A task of the program, with the names of its files: to try commands on a fresh device, to write a
 -- blank image, to run commands on an image, to report on an image, to drive a fresh device by
--- commands that are drawn.
+-- commands that are drawn, to check a report on an image, to compare the arrays of two images.
 pub data Asked : Type 0 where
   Try : (commands : List ℕ) → Asked
   Format : (image : List ℕ) → (config : Config) → Asked
   Run : (image commands : List ℕ) → Asked
   Explain : (image : List ℕ) → Asked
   Drive : (start count : ℕ) → (protocol : Protocol) → Asked
+  Check : (image report : List ℕ) → Asked
+  Compare : (first second : List ℕ) → Asked
+  Keys : (image script : List ℕ) → Asked
 
 -- a file's name has at least one byte
 abbrev pub file_name : List ℕ → Option (List ℕ)
@@ -78,6 +81,21 @@ drive_of (start ∷ count ∷ protocol ∷ []) =
     (wide_number_of start)
 drive_of _ = None
 
+abbrev pub check_of : List (List ℕ) → Option Asked
+check_of (image ∷ report ∷ []) =
+    option_and_then (λ image. option_map (Check image) (file_name report)) (file_name image)
+check_of _ = None
+
+abbrev pub compare_of : List (List ℕ) → Option Asked
+compare_of (first ∷ second ∷ []) =
+    option_and_then (λ first. option_map (Compare first) (file_name second)) (file_name first)
+compare_of _ = None
+
+abbrev pub keys_of : List (List ℕ) → Option Asked
+keys_of (image ∷ script ∷ []) =
+    option_and_then (λ image. option_map (Keys image) (file_name script)) (file_name image)
+keys_of _ = None
+
 -- the task that the words behind this verb ask for
 abbrev pub behind : List ℕ → List (List ℕ) → Option Asked
 behind verb words =
@@ -86,6 +104,9 @@ behind verb words =
     else if bytes_eq verb (codes "run") then run_of words
     else if bytes_eq verb (codes "explain") then explain_of words
     else if bytes_eq verb (codes "drive") then drive_of words
+    else if bytes_eq verb (codes "check") then check_of words
+    else if bytes_eq verb (codes "compare") then compare_of words
+    else if bytes_eq verb (codes "keys") then keys_of words
     else None
 
 -- the table of words: no other words are in it
@@ -104,11 +125,21 @@ files_of (Some (Format image config)) = []
 files_of (Some (Run image commands)) = image ∷ commands ∷ []
 files_of (Some (Explain image)) = image ∷ []
 files_of (Some (Drive start count protocol)) = []
+files_of (Some (Check image report)) = image ∷ report ∷ []
+files_of (Some (Compare first second)) = first ∷ second ∷ []
+files_of (Some (Keys image script)) = image ∷ script ∷ []
+
+-- so many loads come before a step of the work that asks nothing of the desk: all of a task's, and the first of
+-- a comparison, which reads each image when it is loaded
+abbrev pub IsWorkedAfter : Option Asked → ℕ → Type 0
+IsWorkedAfter (Some (Compare first second)) loads = (loads ≡ 1) ⊎ (loads ≡ 2)
+IsWorkedAfter task loads = loads ≡ length (files_of task)
 
 -- the file that a task saves
 abbrev pub file_of : Option Asked → Option (List ℕ)
 file_of (Some (Format image config)) = Some image
 file_of (Some (Run image commands)) = Some image
+file_of (Some (Keys image script)) = Some image
 file_of _ = None
 
 -- the task that a value of the program stands for
@@ -118,3 +149,6 @@ asked_of (task.Format image config) = Format image.now config
 asked_of (task.Run image commands) = Run image.now commands.now
 asked_of (task.Explain image) = Explain image.now
 asked_of (task.Drive start count protocol) = Drive start count protocol
+asked_of (task.Check image report) = Check image.now report.now
+asked_of (task.Compare first second) = Compare first.now second.now
+asked_of (task.Keys image script) = Keys image.now script.now

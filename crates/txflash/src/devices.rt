@@ -1,5 +1,7 @@
 ghost use Rattle.std.specs.Prelude.{◌≡◌, ◌≤◌, All, Ok, IfOk, IfErr, OnOk, length};
 ghost use Rattle.tx_types.specs.Config.{checked, shape_of};
+ghost use Rattle.flash_model.specs.Flash.{IsSteady};
+ghost use Rattle.version_index.specs.Notes.{found_in};
 ghost use Rattle.mem_flash.specs.Memory.{fresh, loaded, state_of};
 ghost use Rattle.tx_engine.specs.Opens.{Mounts};
 ghost use Rattle.host_protocol.specs.Commands.{Suits};
@@ -16,6 +18,7 @@ use crate::product::Stop;
 use crate::refusal::Refusal;
 use bpcc_commit::Bpcc;
 use cut_replay::{Lines, ServeError, serve};
+use flash_model::steady_stays;
 use host_protocol::{Command, TextError, parse};
 use image_file::{ImageError, take_image};
 use mem_flash::MemFlash;
@@ -182,6 +185,30 @@ fn records_of<R: CommitRule>(device: Device<MemFlash, R>) -> Result<Vec<Found>, 
     ensures { IfOk result (λ found. found.items ≡ found_in device.noted.notes) }
 {
     device.found()
+}
+
+/// A device that is opened from its flash, which breaks no call, and whose image is sound.
+pub fn sound_device<R: CommitRule>(
+    alloc: Global,
+    flash: MemFlash,
+    config: Config,
+) -> Result<Device<MemFlash, R>, Stop<'static>>
+    requires check { checked config ≡ Ok (shape_of config) }
+    requires rule { config.protocol ≡ R.protocol }
+    requires ready { flash ≡ loaded (shape_of config) flash.image flash.extras }
+    ensures ok { IfOk result (Mounts state_of flash config) }
+    ensures sound { OnOk result (
+        IsSoundImage config.protocol config.logical (shape_of config) flash.image) }
+    ensures list { IfOk result (λ d.
+        found_in d.noted.notes ≡ records_in config.protocol flash.image) }
+    ensures steady { IfOk result (λ d. IsSteady (state_of d.flash)) }
+    ensures err { IfErr result (StopsBy (RefusesDevice config flash.image)) }
+{
+    let device = opened::<R>(alloc, flash, config)?;
+    devices_stand::<MemFlash, R>();
+    steady_stays();
+    let _ = device.config();
+    Ok(device)
 }
 
 /// A device that is opened from its flash.

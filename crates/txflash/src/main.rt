@@ -4,8 +4,12 @@
 
 ghost use Rattle.std.specs.Prelude.{◌≡◌, ◌⊎◌, ◌↔◌};
 
+mod checking;
+mod comparing;
 mod devices;
+mod difference;
 mod kept;
+mod keying;
 mod laws;
 mod numbers;
 mod product;

@@ -8,7 +8,7 @@ use image_file::ImageError;
 use std::alloc::{AllocError, Global};
 use tx_types::{ConfigError, Slot};
 
-/// Why the program did nothing: it says one line, and answers a status.
+/// Why the program saves nothing and is not content: it says one line, and answers a status.
 #[derive(Clone, Copy, Debug)]
 pub enum Refusal<'a> {
     /// The words are not those of the program.
@@ -23,8 +23,18 @@ pub enum Refusal<'a> {
     BadLine(u32),
     /// The image is not sound: the first law that it breaks, and the slot that the law names.
     Unsound { law: u8, slot: Slot },
+    /// The bytes of this page, the least such, are no bucket of keys.
+    BadBucket(u32),
     /// The numbers are not those of a device: the first rule that they break.
     BadConfiguration(ConfigError),
+    /// The text is not the report on the image: the first line, from 1, in which the two differ.
+    WrongLine(u32),
+    /// Two devices have not as many pages of as many bytes.
+    DifferShape,
+    /// This is the first page in which two arrays differ, and it is blank in one of them.
+    DifferBlank(u32),
+    /// This is the first page in which two arrays differ, and the first byte in it.
+    DifferAt { page: u32, at: usize },
 }
 
 impl Refusal<'_> {
@@ -40,6 +50,9 @@ impl Refusal<'_> {
             Refusal::Unsound { .. } => 7,
             Refusal::BadConfiguration(_) => 8,
             Refusal::TooLong(_) => 9,
+            Refusal::BadBucket(_) => 11,
+            Refusal::WrongLine(_) => 12,
+            Refusal::DifferShape | Refusal::DifferBlank(_) | Refusal::DifferAt { .. } => 13,
         }
     }
 
@@ -57,10 +70,15 @@ impl Refusal<'_> {
             }
             Refusal::BadLine(n) => format!(in alloc; "bad line {n}\n"),
             Refusal::Unsound { law, slot } => unsound_line(alloc, *law, slot.0),
+            Refusal::BadBucket(page) => format!(in alloc; "bad bucket {page}\n"),
             Refusal::BadConfiguration(rule) => {
                 let word = config_word(*rule);
                 format!(in alloc; "bad configuration: {word}\n")
             }
+            Refusal::WrongLine(k) => format!(in alloc; "wrong line {k}\n"),
+            Refusal::DifferShape => String::from_str(alloc, "differ shape\n"),
+            Refusal::DifferBlank(page) => blank_line(alloc, *page),
+            Refusal::DifferAt { page, at } => byte_line(alloc, *page, *at),
         }
     }
 }
@@ -71,6 +89,22 @@ fn unsound_line(alloc: Global, law: u8, slot: u32) -> Result<String, AllocError>
         line (codes "unsound law " ++ decimal law ++ codes " slot " ++ decimal slot)) }
 {
     format!(in alloc; "unsound law {law} slot {slot}\n")
+}
+
+/// The line for two arrays of which one alone is blank at this page, the first that differs.
+fn blank_line(alloc: Global, page: u32) -> Result<String, AllocError>
+    ensures { IfOk result (λ words. string_bytes words ≡
+        line (codes "differ page " ++ decimal page ++ codes " blank")) }
+{
+    format!(in alloc; "differ page {page} blank\n")
+}
+
+/// The line for two arrays that differ first at this byte of this page.
+fn byte_line(alloc: Global, page: u32, at: usize) -> Result<String, AllocError>
+    ensures { IfOk result (λ words. string_bytes words ≡
+        line (codes "differ page " ++ decimal page ++ codes " at " ++ decimal at)) }
+{
+    format!(in alloc; "differ page {page} at {at}\n")
 }
 
 /// The words for a rule of an image file.

@@ -57,7 +57,7 @@ pub fn to_explain<'a, D: Desk>(
 }
 
 /// The bytes of a file.
-fn fetch<'a, D: Desk>(name: &'a str, desk: &mut D) -> Result<Vec<u8>, Stop<'a>>
+pub fn fetch<'a, D: Desk>(name: &'a str, desk: &mut D) -> Result<Vec<u8>, Stop<'a>>
     ensures { Fetches (D.state desk.old) (D.state desk.new) name.now result }
 {
     desk.load(name).map_err(|error| match error {

@@ -5,6 +5,9 @@ ghost use Rattle.txflash.specs.Stops.{Delivers, FaultTold, MemoryTold, Speaks, W
 ghost use Rattle.txflash.specs.Top.{EndsCall, IsExact, LeavesFiles};
 ghost use Rattle.txflash.specs.Words.{asked_by};
 
+use crate::checking::to_check;
+use crate::comparing::to_compare;
+use crate::keying::to_keys;
 use crate::product::{Product, Stop};
 use crate::refusal::Refusal;
 use crate::tasks::{driven, formatted, to_explain, to_run, to_try};
@@ -22,7 +25,8 @@ const _: () = prove!(crate::numbers::MAX_DRAWS == 100000);
 /// Does what the words ask for, and answers the status: 0 where it is done, 1 for words that are not
 /// in the table, 2 for a file that is missing, 3 for bytes that are no image file, 4 for a line that
 /// is no command, 5 for a fault of the desk, 6 for want of memory, 7 for an image that is not sound,
-/// 8 for numbers of no device, and 9 for a file that is too long.
+/// 8 for numbers of no device, 9 for a file that is too long, 11 for an image of which a page is no bucket
+/// of keys, 12 for a text that is not the report on an image, and 13 for images of different arrays.
 pub fn top<D: Desk>(alloc: Global, words: &[String], desk: &mut D) -> u8
     ensures ends { EndsCall (asked_by words.now) (D.state desk.old) (D.state desk.new) result }
     ensures exact { IsExact (asked_by words.now) (D.state desk.old) (D.state desk.new) result }
@@ -67,6 +71,9 @@ fn work<'a, D: Desk>(
                 protocol,
             },
         ) => driven(alloc, start, count, protocol),
+        Some(Task::Check { image, report }) => to_check(alloc, image, report, desk),
+        Some(Task::Compare { first, second }) => to_compare(alloc, first, second, desk),
+        Some(Task::Keys { image, script }) => to_keys(alloc, image, script, desk),
         None => Err(Stop::Refused(Refusal::BadWords)),
     }
 }

@@ -1,6 +1,7 @@
 ghost use Rattle.std.specs.Prelude.{◌≡◌, map, string_bytes};
 ghost use Rattle.std.specs.Option.{option_map};
 ghost use Rattle.txflash.specs.Words.{asked_by, asked_of, config_of, file_name, protocol_of_word};
+ghost use Rattle.txflash.specs.Words.{check_of, compare_of, keys_of};
 ghost use Rattle.txflash.specs.Words.{drive_of, explain_of, format_of, run_of, try_of};
 
 use crate::numbers::{draws, wide_number};
@@ -34,6 +35,21 @@ pub enum Task<'a> {
         count: u32,
         protocol: Protocol,
     },
+    /// To check whether the file of this name is the report on an image file.
+    Check {
+        image: &'a str,
+        report: &'a str,
+    },
+    /// To compare the arrays of two image files.
+    Compare {
+        first: &'a str,
+        second: &'a str,
+    },
+    /// To serve a key script on the store of an image file, and to save that.
+    Keys {
+        image: &'a str,
+        script: &'a str,
+    },
 }
 
 /// The task that the words ask for, if they are in the table.
@@ -47,6 +63,9 @@ pub fn asked(words: &[String]) -> Option<Task<'_>>
         "run" => asked_to_run(rest),
         "explain" => asked_to_explain(rest),
         "drive" => asked_to_drive(rest),
+        "check" => asked_to_check(rest),
+        "compare" => asked_to_compare(rest),
+        "keys" => asked_for_keys(rest),
         _ => None,
     }
 }
@@ -106,6 +125,42 @@ fn asked_to_drive(words: &[String]) -> Option<Task<'_>>
         start: wide_number(start.as_bytes())?,
         count: draws(count.as_bytes())?,
         protocol: protocol_named(protocol)?,
+    })
+}
+
+fn asked_to_check(words: &[String]) -> Option<Task<'_>>
+    ensures { option_map asked_of result ≡ check_of (map string_bytes words.now) }
+{
+    let [image, report] = words else {
+        return None;
+    };
+    Some(Task::Check {
+        image: name(image)?,
+        report: name(report)?,
+    })
+}
+
+fn asked_to_compare(words: &[String]) -> Option<Task<'_>>
+    ensures { option_map asked_of result ≡ compare_of (map string_bytes words.now) }
+{
+    let [first, second] = words else {
+        return None;
+    };
+    Some(Task::Compare {
+        first: name(first)?,
+        second: name(second)?,
+    })
+}
+
+fn asked_for_keys(words: &[String]) -> Option<Task<'_>>
+    ensures { option_map asked_of result ≡ keys_of (map string_bytes words.now) }
+{
+    let [image, script] = words else {
+        return None;
+    };
+    Some(Task::Keys {
+        image: name(image)?,
+        script: name(script)?,
     })
 }
 

@@ -11,7 +11,8 @@ use Rattle.record_list.specs.Verdict.{newest_name, walk, why, is_committed}
 use Rattle.record_list.proofs.Names.{newest_present}
 use Rattle.record_list.specs.Current.{cur, fallback}
 use Rattle.record_chart.specs.declared.orbit.Orbit.TheVariants as orbit
-use Rattle.record_chart.specs.Charts.{ending}
+use Rattle.record_chart.specs.Charts.{ending, link_graph}
+use Rattle.record_chart.proofs.Steps.{steps_stay}
 use Rattle.record_chart.proofs.WalkOrbits.{why_is, link_at, to_none, end_within}
 use Rattle.verdict_report.specs.Walks.{stays_at, walk_links, links_of}
 use Rattle.verdict_report.proofs.WalkLengths as lengths
@@ -19,9 +20,10 @@ use Rattle.verdict_check.specs.declared.course.Course.{Course}
 use Rattle.verdict_check.specs.declared.course.Course.TheVariants.{Ends, Round, Long}
 use Rattle.verdict_check.specs.declared.expected.Expected.{Expected}
 use Rattle.verdict_check.specs.Expected.{IsExpected}
-use Rattle.verdict_check.specs.Places.{newest_place}
+use Rattle.verdict_check.specs.Places.{newest_place, IsNewestAt}
 use Rattle.verdict_check.specs.Courses.{IsCourse, EndsWithin, IsCounted, shown_by, links_by}
-use Rattle.verdict_check.proofs.PlaceLemmas.{placed}
+use Rattle.verdict_check.proofs.CourseLemmas.{next_is_newest}
+use Rattle.verdict_check.proofs.PlaceLemmas.{placed, newest_stands}
 
 module _ (protocol : Protocol) (list : List Found) (logical page place : ℕ) (there : newest_place list page ≡ Some place) where
   found : (place < length list) × (has_name (newest_name list page) (record_at list place) ≡ true)
@@ -61,7 +63,9 @@ module _ (protocol : Protocol) (list : List Found) (logical page place : ℕ) (t
       ∙ lengths.to_none list (newest_name list page) place there (suc logical) place found.0 long.on (λ k some low. long.never k some (omega arith)))
 
   pub ends_within : (course : Course) → IsCourse list logical place course → EndsWithin list course
-  ends_within (Ends after at) (end, near) = end_within list place after at found.0 end
+  ends_within (Ends after at) (end, near) =
+      steps_stay (link_graph list) (λ n. (n < length list) × IsNewestAt list n) (λ i j here next. next_is_newest list i j here.0 here.1 next)
+      after place at (found.0, newest_stands list page place (sym there)) end.leads
   ends_within (Round links) is = tt
   ends_within Long is = tt
 

@@ -1,6 +1,8 @@
 pub mod TextLemmas
 pub mod PlaceLemmas
 pub mod OlderLemmas
+pub mod ChainLemmas
+pub mod StraddlerLemmas
 pub mod CourseLemmas
 pub mod LineLemmas
 pub mod JudgeLemmas

@@ -1,10 +1,10 @@
 -- The line of a page tells what it says.
-use Rattle.std.proofs.Common.{◌≡◌, ◌≢◌, ℕ, zero, suc, ◌+◌, ◌-◌, ◌^◌, ◌<◌, ◌≤◌, ◌==◌, Bool, true, false, not, cond, List, [], ◌∷◌, ◌++◌, length, get_or, drop, map, All, Contains, refl, sym, ap, ◌∙◌, subst, inl, inr, arith, append-nil, codes, decimal, if◌then◌else◌}
-use Rattle.std.specs.List.{list_all, join_with_byte, concat, slice_split, AllByRecursion}
-use Rattle.std.proofs.lemmas.Bool.{cases_Bool, cond-true, cond-false, and_parts}
+use Rattle.std.proofs.Common.{◌≡◌, ℕ, zero, suc, ◌-◌, ◌^◌, ◌<◌, ◌≤◌, ◌==◌, Bool, true, false, List, [], ◌∷◌, ◌++◌, length, get_or, drop, map, All, Contains, refl, sym, ap, ◌∙◌, subst, inl, inr, arith, append-nil, codes, decimal, if◌then◌else◌}
+use Rattle.std.specs.List.{list_all, join_with_byte, concat, slice_split}
+use Rattle.std.proofs.lemmas.Bool.{cases_Bool, and_parts}
 use Rattle.std.proofs.lemmas.Fmt.{decimal_injective}
-use Rattle.std.proofs.lemmas.List.{append_cancel_right, get_or_default}
-use Rattle.std.proofs.lemmas.List.Elements.{Contains-append_cases, Contains-append_left, Contains-get_or, All-contains}
+use Rattle.std.proofs.lemmas.List.{append_cancel_right}
+use Rattle.std.proofs.lemmas.List.Elements.{Contains-append_cases, Contains-append_left, All-contains}
 use Rattle.std.proofs.lemmas.List.Splits.{slice_split_none, slice_split_at}
 use Rattle.list_facts.proofs.Membership.{Contains-one, in_map, map_in}
 use Rattle.tx_types.specs.declared.record.Link.{Link}
@@ -25,8 +25,8 @@ use Rattle.verdict_report.specs.Lines.{IsReason}
 use Rattle.verdict_report.proofs.PageLemmas.{pages_each}
 use Rattle.verdict_check.specs.Texts.{text_lines}
 use Rattle.verdict_check.specs.Meaning.{HaveVersions, AreNumbers, IsMeant}
-use Rattle.verdict_check.proofs.DifferenceLemmas.{IsLine, first_lines}
-use Rattle.verdict_check.proofs.PlainLemmas.{is_plain, ArePlain, page_words, plain_page, plain_walk, plain_decimal, last_is_line}
+use Rattle.verdict_check.proofs.DifferenceLemmas.{first_lines}
+use Rattle.verdict_check.proofs.PlainLemmas.{is_plain, ArePlain, plain_page, plain_walk, last_is_line}
 use Rattle.verdict_check.proofs.ReportLemmas.{lines_of, lines_and_last}
 
 -- ---- a line tells its words

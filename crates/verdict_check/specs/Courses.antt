@@ -9,7 +9,7 @@ use Rattle.record_chart.specs.Charts.{link_graph, ending}
 use Rattle.record_chart.specs.Orbits.{steps, IsEnd, IsRound}
 use Rattle.verdict_check.specs.declared.course.Course.{Course}
 use Rattle.verdict_check.specs.declared.course.Course.TheVariants.{Ends, Round, Long}
-use Rattle.verdict_check.specs.Places.{newest_place}
+use Rattle.verdict_check.specs.Places.{newest_place, IsNewestAt}
 
 -- from a node of a graph one does not come to an end in so many steps, nor back
 pub record GoesOn (graph : List (Option ℕ)) (i many : ℕ) : Type 0 where
@@ -27,9 +27,9 @@ abbrev pub IsCourseOf : List Found → ℕ → ℕ → Course → Type 0
 IsCourseOf list logical page course =
     (place : ℕ) × (newest_place list page ≡ Some place) × IsCourse list logical place course
 
--- the end of a course is a record of the list
+-- the end of a course is a newest record of the list
 abbrev pub EndsWithin : List Found → Course → Type 0
-EndsWithin list (Ends after at) = at < length list
+EndsWithin list (Ends after at) = (at < length list) × IsNewestAt list at
 EndsWithin list (Round links) = Unit {0}
 EndsWithin list Long = Unit {0}
 

@@ -1,10 +1,12 @@
 ghost use Rattle.std.specs.Prelude.{◌≡◌, ◌<◌, ◌≤◌, Some, All, if◌then◌else◌, length};
-ghost use Rattle.record_list.specs.Records.{greatest, record_at, IsScanned};
-ghost use Rattle.record_list.specs.Verdict.{passed, straddling, is_committed};
+ghost use Rattle.tx_types.specs.declared.config.Protocol.TheVariants.{Bpcc};
+ghost use Rattle.record_list.specs.Records.{record_at, IsScanned};
+ghost use Rattle.record_list.specs.Verdict.{is_committed};
 ghost use Rattle.record_list.specs.Current.{fallback};
 ghost use Rattle.record_chart.specs.Charts.{ending};
 ghost use Rattle.verdict_check.specs.Places.{newest_place, IsNewestAt};
-ghost use Rattle.verdict_check.specs.Older.{AreOlder};
+ghost use Rattle.verdict_check.specs.Older.{version_at, AreOlder};
+ghost use Rattle.verdict_check.specs.Straddlers.{AreStraddlers, behind_shows};
 ghost use Rattle.verdict_check.specs.Courses.{AreCourses, EndsWithin, IsCounted, shown_by, links_by};
 ghost use Rattle.verdict_check.specs.Expected.{IsExpected};
 
@@ -12,8 +14,8 @@ use crate::course::Course;
 use crate::courses::course;
 use crate::expected::Expected;
 use crate::records::Records;
-use record_list::{Found, Why};
-use tx_types::{Link, Protocol, Rec};
+use record_list::Why;
+use tx_types::{Protocol, Rec};
 
 /// What the verdict on a page is judged by.
 #[derive(Clone, Copy)]
@@ -21,6 +23,9 @@ pub struct Judge<'a> {
     pub records: Records<'a>,
     /// The greatest version of each page below its newest one.
     pub older: &'a [u64],
+    /// The greatest version that straddles the link of the newest record of each page, under Back Pointer Cyclic
+    /// Commit.
+    pub straddlers: &'a [u64],
     pub protocol: Protocol,
     pub logical: u32,
 }
@@ -33,6 +38,7 @@ impl<'a> Judge<'a> {
         requires pages { All (λ f. f.rec.page < length courses.old) self.now.records.list.now }
         requires scanned { IsScanned self.now.records.list.now }
         requires older { AreOlder self.now.records.list.now (length self.now.records.list.now) self.now.older.now }
+        requires straddlers { self.now.protocol ≡ Bpcc → AreStraddlers self.now.records.list.now self.now.straddlers.now }
         requires known { AreCourses self.now.records.list.now self.now.logical courses.old }
         ensures is { IsExpected self.now.protocol self.now.records.list.now self.now.logical result }
         ensures page { result.page ≡ page }
@@ -52,11 +58,12 @@ impl<'a> Judge<'a> {
 
     /// What a course shows.
     fn why(&self, course: Course) -> Why
-        requires { EndsWithin self.now.records.list.now course }
+        requires ends { EndsWithin self.now.records.list.now course }
+        requires straddlers { self.now.protocol ≡ Bpcc → AreStraddlers self.now.records.list.now self.now.straddlers.now }
         ensures { result ≡ shown_by self.now.protocol self.now.records.list.now course }
     {
         match course {
-            Course::Ends { at, .. } => self.ending(self.records.list[at as usize].rec.next),
+            Course::Ends { at, .. } => self.ending(at),
             Course::Round { .. } => Why::Cycle,
             Course::Long => Why::Absent,
         }
@@ -75,24 +82,28 @@ impl<'a> Judge<'a> {
         }
     }
 
-    /// What a link shows that leads to no newest record.
-    fn ending(&self, link: Link) -> Why
-        ensures { result ≡ ending self.now.protocol self.now.records.list.now link }
+    /// What the link of the newest record at a place shows, where it leads to no newest record.
+    fn ending(&self, at: u32) -> Why
+        requires within { at < length self.now.records.list.now }
+        requires newest { IsNewestAt self.now.records.list.now at }
+        requires straddlers { self.now.protocol ≡ Bpcc → AreStraddlers self.now.records.list.now self.now.straddlers.now }
+        ensures { result ≡ ending self.now.protocol self.now.records.list.now (record_at self.now.records.list.now at).next }
     {
-        if link.version < self.records.newest(link.page) {
-            self.passed(link)
+        let Rec { page, next, .. } = self.records.list[at as usize].rec;
+        if next.version < self.records.newest(next.page) {
+            self.passed(page)
         } else {
             Why::Absent
         }
     }
 
-    /// What a link shows below the newest version of its page.
-    fn passed(&self, link: Link) -> Why
-        ensures { result ≡ passed self.now.protocol self.now.records.list.now link }
+    /// What the link of the newest record of a page shows, below the newest version of the page to which it leads.
+    fn passed(&self, page: u32) -> Why
+        ensures { result ≡ behind_shows self.now.protocol (version_at self.now.straddlers.now page) }
     {
         match self.protocol {
             Protocol::Scc => Why::Passed,
-            Protocol::Bpcc => match straddling(self.records.list, link) {
+            Protocol::Bpcc => match self.straddlers.get(page as usize).copied().unwrap_or(0) {
                 0 => Why::Passed,
                 version => Why::Straddled(version),
             },
@@ -117,19 +128,4 @@ impl<'a> Judge<'a> {
             },
         }
     }
-}
-
-/// The greatest version that straddles a name, 0 for none.
-#[tactic(auto, using(record_list::proofs::Greatest::greatest_step))]
-fn straddling(list: &[Found], name: Link) -> u64
-    ensures { result ≡ straddling list.now name }
-{
-    let mut best = 0;
-    for found in list {
-        let rec = found.rec;
-        if rec.page == name.page && rec.back < name.version && name.version < rec.version {
-            best = rec.version.max(best);
-        }
-    }
-    best
 }

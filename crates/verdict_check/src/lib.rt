@@ -12,6 +12,7 @@ mod older;
 mod places;
 mod reading;
 mod records;
+mod straddlers;
 #[cfg(test)]
 mod tests;
 mod theorems;

@@ -8,6 +8,9 @@ ghost use Rattle.verdict_check.specs.Places.{newest_place, ArePlaces};
 use record_list::Found;
 use tx_types::Link;
 
+/// The most pages that a report is checked of: the tables of pages have room for so many.
+pub const MOST_PAGES: usize = 65536;
+
 /// A list of records, and the place of the newest one of each page.
 #[derive(Clone, Copy)]
 pub struct Records<'a> {

@@ -75,6 +75,14 @@ verdict 1 newest 3 committed cycle current 3 walk 1:3
 explained 2
 ";
 
+/// Three links into one page, of which two are straddled, each by another record.
+const CHAINED: &[u8] = b"verdict 0 newest 1 uncommitted straddled 2 current 0 walk 1:1
+verdict 1 newest 5 committed cycle current 5 walk 1:5
+verdict 2 newest 1 uncommitted straddled 4 current 0 walk 1:3
+verdict 3 newest 1 committed passed current 1 walk 1:2
+explained 4
+";
+
 #[test]
 fn a_text_is_checked_against_a_list(rt: HostRuntime) -> Result<(), Fail> {
     let cut = [found(0, (0, 1), (1, 1), 0), found(16, (1, 1), (2, 1), 0)];
@@ -88,6 +96,14 @@ fn a_text_is_checked_against_a_list(rt: HostRuntime) -> Result<(), Fail> {
         found(0, (0, 1), (1, 1), 0),
         found(1, (1, 2), (1, 2), 0),
         found(2, (1, 3), (1, 3), 2),
+    ];
+    let chained = [
+        found(0, (0, 1), (1, 1), 0),
+        found(1, (1, 2), (1, 2), 0),
+        found(2, (2, 1), (1, 3), 0),
+        found(3, (3, 1), (1, 2), 0),
+        found(4, (1, 4), (1, 4), 2),
+        found(5, (1, 5), (1, 5), 4),
     ];
     let committed = b"verdict 0 newest 1 committed absent current 0 walk 1:1 2:1\n";
     for (list, protocol, text, want) in [
@@ -105,6 +121,7 @@ fn a_text_is_checked_against_a_list(rt: HostRuntime) -> Result<(), Fail> {
         (&passed[..], Protocol::Scc, CUT, Err(1)),
         (&straddled[..], Protocol::Bpcc, STRADDLED, Ok(2)),
         (&straddled[..], Protocol::Scc, STRADDLED, Err(1)),
+        (&chained[..], Protocol::Bpcc, CHAINED, Ok(4)),
     ] {
         expect_check(&rt, list, protocol, text, want);
     }

@@ -38,6 +38,12 @@ const CALLS: &str = "\
     1;bad words;drive 18446744073709551616 0 scc\n\
     1;bad words;drive 000000000000000000001 0 scc\n\
     1;bad words;drive -1 0 scc\n\
+    1;bad words;check d.img\n\
+    1;bad words;check d.img ''\n\
+    1;bad words;check d.img c.txt c.txt\n\
+    1;bad words;compare d.img\n\
+    1;bad words;compare '' d.img\n\
+    1;bad words;compare d.img d.img d.img\n\
     2;no file no.img;run no.img no.txt\n\
     2;no file no.txt;run short.img no.txt\n\
     3;bad image: length;run short.img bad.txt\n\
@@ -46,11 +52,15 @@ const CALLS: &str = "\
     4;bad line 1;run d.img d.img\n\
     2;no file no.txt;try no.txt\n\
     4;bad line 4;try bad.txt\n\
-    9;file too long long.txt;try long.txt\n\
-    9;file too long long.txt;run long.txt no.txt\n\
     2;no file no.img;explain no.img\n\
     3;bad image: length;explain short.img\n\
-    9;file too long long.txt;explain long.txt\n\
+    2;no file no.img;check no.img no.txt\n\
+    2;no file no.txt;check short.img no.txt\n\
+    3;bad image: length;check short.img c.txt\n\
+    2;no file no.img;compare no.img short.img\n\
+    3;bad image: length;compare short.img no.img\n\
+    2;no file no.img;compare d.img no.img\n\
+    3;bad image: length;compare d.img short.img\n\
     8;bad configuration: space;format n.img scc 16 4 4 2 21 7\n\
     8;bad configuration: slots;format n.img scc 2048 256 256 1 60000 256\n\
     8;bad configuration: page;format n.img scc 24 4 4 2 20 7\n\
@@ -60,37 +70,61 @@ const CALLS: &str = "\
     8;bad configuration: logical;format n.img bpcc 16 4 4 2 0 7\n\
     8;bad configuration: pending;format n.img bpcc 16 4 4 2 20 4294967295";
 
-#[test]
-fn words_and_files_decide(rt: HostRuntime) -> Result<(), Fail> {
-    let alloc = rt.alloc();
+/// The same with `long.txt`, a file of one byte more than may be loaded.
+const LONG: &str = "\
+    9;file too long long.txt;try long.txt\n\
+    9;file too long long.txt;run long.txt no.txt\n\
+    9;file too long long.txt;explain long.txt\n\
+    9;file too long long.txt;check long.txt no.txt\n\
+    9;file too long long.txt;check short.img long.txt\n\
+    9;file too long long.txt;compare long.txt no.img\n\
+    9;file too long long.txt;compare d.img long.txt";
+
+/// A desk with these files but for the long one.
+fn desk_of_files(alloc: Global) -> Result<MemDesk, Fail> {
     let image = default_image(alloc, 1)?;
-    let short = image.get(..2655).unwrap_or(&image).to_vec(alloc)?;
-    let long = vec![in alloc; b'#'; 134217729]?;
-    let bad = lines(alloc, "read 1; # none; finish 1; raed 1; read 2")?;
     let mut desk = desk(alloc);
     desk.put_file("d.img", &image)?;
-    desk.put_file("short.img", &short)?;
+    desk.put_file("short.img", image.get(..2655).unwrap_or(&image))?;
     desk.put_file("c.txt", b"read 1\n")?;
-    desk.put_file("bad.txt", &bad)?;
-    desk.put_file("long.txt", &long)?;
+    desk.put_file(
+        "bad.txt",
+        &lines(alloc, "read 1; # none; finish 1; raed 1; read 2")?,
+    )?;
+    Ok(desk)
+}
+
+/// Whether the words of a line are answered as it says, and no file changes.
+fn is_answered(alloc: Global, line: &str, desk: &mut MemDesk) -> Result<bool, Fail> {
+    let mut parts = line.split(';');
+    let status = parts.next().unwrap_or("");
+    let said = lines(alloc, parts.next().unwrap_or(""))?;
+    let words = words(alloc, parts.next().unwrap_or(""))?;
+    let before = desk.said().len();
+    let got = call(alloc, &words, desk)?;
+    Ok(
+        format!(in alloc; "{got}")?.as_str() == status
+            && desk.said().get(before..) == Some(said.as_slice())
+            && desk.file("d.img") == Some(default_image(alloc, 1)?.as_slice())
+            && desk.file("n.img").is_none(),
+    )
+}
+
+#[test]
+fn words_and_files_decide(rt: HostRuntime) -> Result<(), Fail> {
+    let mut desk = desk_of_files(rt.alloc())?;
     for line in CALLS.split('\n') {
-        let mut parts = line.split(';');
-        let status = parts.next().unwrap_or("");
-        let said = parts.next().unwrap_or("");
-        let words = words(alloc, parts.next().unwrap_or(""))?;
-        let before = desk.said().len();
-        let got = call(alloc, &words, &mut desk)?;
-        assert_eq!(rt;
-            format!(in alloc; "{got}")?.as_str(),
-            status,
-            "after {line}"
-        );
-        assert_eq!(rt;
-            desk.said().get(before..),
-            Some(lines(alloc, said)?.as_slice())
-        );
-        assert_eq!(rt; desk.file("d.img"), Some(image.as_slice()));
-        assert_eq!(rt; desk.file("n.img"), None);
+        assert!(rt; is_answered(rt.alloc(), line, &mut desk)?, "{line}");
+    }
+    Ok(())
+}
+
+#[test]
+fn long_files_are_refused(rt: HostRuntime) -> Result<(), Fail> {
+    let mut desk = desk_of_files(rt.alloc())?;
+    desk.put_file("long.txt", &vec![in rt.alloc(); b'#'; 134217729]?)?;
+    for line in LONG.split('\n') {
+        assert!(rt; is_answered(rt.alloc(), line, &mut desk)?, "{line}");
     }
     Ok(())
 }

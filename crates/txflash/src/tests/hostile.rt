@@ -1,6 +1,9 @@
 //! Images that are not sound, images that are cut off, and commands on images that nearly are not
 //! sound.
-use super::images::{Record, cell, default_image, image_with, put, put_complete};
+use super::images::{
+    CountedRecord, Record, cell, counted_image, default_image, earlier_image, image_with, put,
+    put_complete,
+};
 use super::{RUN, call, desk, lines};
 use desk_io::MemDesk;
 use std::alloc::Global;
@@ -165,7 +168,7 @@ fn images_that_are_not_sound_are_refused(rt: HostRuntime) -> Result<(), Fail> {
 /// The records of an image whose pages have this byte, commands, and the replies to them.
 type Served = (u8, &'static [Record], &'static str, &'static str);
 
-const SERVED: [Served; 2] = [
+const SERVED: [Served; 3] = [
     // Each block but one has a current record.
     (
         0,
@@ -189,7 +192,51 @@ const SERVED: [Served; 2] = [
         "read 0; write 1 0=01; write 1 1=01",
         "page 0 55555555555555555555555555555555; refused spent 0; open 1 1",
     ),
+    // A record that counts nothing, and a discard after it.
+    (
+        0x55,
+        &[(0, 0, 1, (0, 1), 0)],
+        "read 0; write 1 0=~; finish 1; read 0",
+        "page 0 55555555555555555555555555555555; open 1 1; done 1; blank 0",
+    ),
 ];
+
+/// The records of an image that count the pages of their transactions, its commands, and the replies
+/// to them, or the law that is broken with its slot.
+type Counted = (&'static [CountedRecord], &'static str, &'static str);
+
+const COUNTED: [Counted; 4] = [
+    (
+        &[(0, 0, (1, 1), 2), (1, 1, (0, 1), 3)],
+        "",
+        "unsound law 9 slot 0",
+    ),
+    (&[(0, 0, (0, 1), 2)], "", "unsound law 9 slot 0"),
+    (
+        &[(0, 0, (1, 1), 2), (1, 1, (0, 1), 2)],
+        "read 0; read 1",
+        "page 0 00..; page 1 00..",
+    ),
+    // Of two laws that are broken the lower one is named.
+    (
+        &[(0, 0, (0, 1), 2), (3, 20, (1, 1), 1)],
+        "",
+        "unsound law 1 slot 3",
+    ),
+];
+
+#[test]
+fn images_whose_records_count_are_served_or_refused(rt: HostRuntime) -> Result<(), Fail> {
+    let alloc = rt.alloc();
+    for (records, commands, said) in COUNTED {
+        let image = counted_image(alloc, records)?;
+        let mut desk = desk_with(alloc, &image, commands)?;
+        let status = if commands.is_empty() { 7 } else { 0 };
+        assert_eq!(rt; call(alloc, &RUN, &mut desk)?, status, "after {said}");
+        assert_eq!(rt; desk.said(), lines(alloc, said)?.as_slice());
+    }
+    Ok(())
+}
 
 #[test]
 fn images_at_the_edge_are_served(rt: HostRuntime) -> Result<(), Fail> {
@@ -199,6 +246,43 @@ fn images_at_the_edge_are_served(rt: HostRuntime) -> Result<(), Fail> {
         let mut desk = desk_with(alloc, &image, commands)?;
         assert_eq!(rt; call(alloc, &RUN, &mut desk)?, 0);
         assert_eq!(rt; desk.said(), lines(alloc, replies)?.as_slice());
+    }
+    Ok(())
+}
+
+/// Commands for the image of an earlier build, and then for the image that is saved, with the replies.
+const EARLIER: [(&str, &str); 2] = [
+    (
+        "read 0; read 1; explain; write 1 0=~; finish 1; explain; write 2 1=44; finish 2; read 0; read 1",
+        "page 0 41..; page 1 42..; \
+         verdict 0 newest 1 committed cycle current 1 walk 1:1 0:1; \
+         verdict 1 newest 1 committed cycle current 1 walk 0:1 1:1; explained 2; \
+         open 1 1; done 1; \
+         verdict 0 newest 2 committed cycle current 2 walk 0:2; \
+         verdict 1 newest 1 committed passed current 1 walk 0:1; explained 2; \
+         open 2 1; done 2; blank 0; page 1 44..",
+    ),
+    (
+        "read 0; read 1; write 1 0=45; finish 1; read 0; stats",
+        "blank 0; page 1 44..; open 1 1; done 1; page 0 45..; \
+         stats written 2 open 0 pending 0 programs 1 erases 0 garbage 3",
+    ),
+];
+
+#[test]
+fn an_image_of_an_earlier_build_is_served(rt: HostRuntime) -> Result<(), Fail> {
+    let alloc = rt.alloc();
+    let mut desk = desk(alloc);
+    desk.put_file("d.img", &earlier_image(alloc)?)?;
+    let mut said = 0;
+    for (commands, replies) in EARLIER {
+        desk.put_file("c.txt", &lines(alloc, commands)?)?;
+        assert_eq!(rt; call(alloc, &RUN, &mut desk)?, 0);
+        assert_eq!(rt;
+            desk.said().get(said..),
+            Some(lines(alloc, replies)?.as_slice())
+        );
+        said = desk.said().len();
     }
     Ok(())
 }

@@ -4,7 +4,7 @@ use super::{call, desk, words};
 use std::test::Fail;
 
 /// The files of commands.
-const FILES: [(&str, &str); 9] = [
+const FILES: [(&str, &str); 12] = [
     (
         "examples/first.txt",
         "\
@@ -139,10 +139,41 @@ read 1
 stats
 ",
     ),
+    (
+        "examples/names-1.txt",
+        "\
+# Two names and their numbers, in hexadecimal digits: anna has 4711, ben has 4712.
+put 616e6e61=34373131 62656e=34373132
+get 616e6e61
+get 62656e
+",
+    ),
+    (
+        "examples/names-2.txt",
+        "\
+# They change numbers. Power fails before the second of two pages is written.
+cut 2 none
+put 616e6e61=34373132 62656e=34373131
+get 616e6e61
+get 62656e
+",
+    ),
+    (
+        "examples/names-3.txt",
+        "\
+# Again. Power fails when the second page was written. Then ben goes.
+cut 2 all
+put 616e6e61=34373132 62656e=34373131
+get 616e6e61
+get 62656e
+put 62656e=~
+get 62656e
+",
+    ),
 ];
 
 /// The calls, one after the other, and what is said.
-const CALLS: [(&str, &str); 13] = [
+const CALLS: [(&str, &str); 17] = [
     (
         "try examples/first.txt",
         "\
@@ -297,6 +328,40 @@ verdict 1 newest 4 committed cycle current 4 walk 0:3 1:4
 explained 2
 ",
     ),
+    (
+        "format names.img bpcc 64 4 4 2 20 7",
+        "\
+formatted names.img 32
+",
+    ),
+    (
+        "keys names.img examples/names-1.txt",
+        "\
+stored 2
+value 616e6e61 34373131
+value 62656e 34373132
+",
+    ),
+    (
+        "keys names.img examples/names-2.txt",
+        "\
+armed
+cut
+value 616e6e61 34373131
+value 62656e 34373132
+",
+    ),
+    (
+        "keys names.img examples/names-3.txt",
+        "\
+armed
+cut
+value 616e6e61 34373132
+value 62656e 34373131
+stored 1
+absent 62656e
+",
+    ),
 ];
 
 #[test]
@@ -315,6 +380,49 @@ fn the_manual_says_what_is_done(rt: HostRuntime) -> Result<(), Fail> {
             Some(said.as_bytes()),
             "after {line}"
         );
+    }
+    Ok(())
+}
+
+/// What is said after a backup was taken and the report kept, and then the last transfer made: words, the status
+/// and the line.
+const FOUND: [(&str, u8, &str); 3] = [
+    ("check backup.img report.txt", 0, "good 2\n"),
+    ("check disk.img report.txt", 12, "wrong line 1\n"),
+    ("compare backup.img disk.img", 13, "differ page 0 at 0\n"),
+];
+
+/// The report that was kept.
+const REPORT: &[u8] = b"\
+verdict 0 newest 2 uncommitted straddled 3 current 1 walk 1:2
+verdict 1 newest 3 committed cycle current 3 walk 1:3
+explained 2
+";
+
+#[test]
+fn the_manual_checks_and_compares(rt: HostRuntime) -> Result<(), Fail> {
+    let alloc = rt.alloc();
+    let mut desk = desk(alloc);
+    for (name, text) in FILES {
+        desk.put_file(name, text.as_bytes())?;
+    }
+    for line in [
+        "format disk.img bpcc 16 4 4 2 20 7",
+        "run disk.img examples/session-1.txt",
+        "run disk.img examples/session-2.txt",
+        "run disk.img examples/session-3.txt",
+    ] {
+        assert_eq!(rt; call(alloc, &words(alloc, line)?, &mut desk)?, 0);
+    }
+    let backup = desk.file("disk.img").unwrap_or(b"").to_vec(alloc)?;
+    desk.put_file("backup.img", &backup)?;
+    desk.put_file("report.txt", REPORT)?;
+    let last = words(alloc, "run disk.img examples/session-4.txt")?;
+    assert_eq!(rt; call(alloc, &last, &mut desk)?, 0);
+    for (line, status, said) in FOUND {
+        let before = desk.said().len();
+        assert_eq!(rt; call(alloc, &words(alloc, line)?, &mut desk)?, status);
+        assert_eq!(rt; desk.said().get(before..), Some(said.as_bytes()));
     }
     Ok(())
 }

@@ -12,7 +12,7 @@ use std::test::Fail;
 use tx_types::{Protocol, Slot};
 
 /// Commands for a fresh default device, and the replies to them.
-const TRIED: [(&str, &str); 32] = [
+const TRIED: [(&str, &str); 36] = [
     ("", ""),
     ("read 19; read 20", "blank 19; refused range 20"),
     ("write 1 20=41; finish 1", "refused range 20; unknown 1"),
@@ -28,6 +28,30 @@ const TRIED: [(&str, &str); 32] = [
     (
         "write 1 0=01 1=02; write 2 2=03 3=04; step 2; step 1; step 2; read 0; read 2; step 1; read 0",
         "open 1 2; open 2 2; wrote 2 1 2; wrote 1 1 2; done 2; blank 0; page 2 03..; done 1; page 0 01..",
+    ),
+    // A page is discarded with the transaction that does so, whatever was read before, and is written
+    // again.
+    (
+        "write 1 0=41 1=42; finish 1; write 2 0=~ 1=43; read 0; finish 2; read 0; read 1; stats",
+        "open 1 2; done 1; open 2 2; page 0 41..; done 2; blank 0; page 1 43..; \
+         stats written 1 open 0 pending 0 programs 4 erases 0 garbage 2",
+    ),
+    (
+        "write 1 0=41; finish 1; write 2 0=~ 1=43; cut 2 bad; finish 2; read 0; read 1",
+        "open 1 1; done 1; open 2 2; armed; cut; page 0 41..; blank 1",
+    ),
+    (
+        "write 1 0=~; finish 1; read 0; stats; write 2 0=44; finish 2; read 0; stats",
+        "open 1 1; done 1; blank 0; \
+         stats written 0 open 0 pending 0 programs 1 erases 0 garbage 0; \
+         open 2 1; done 2; page 0 44..; \
+         stats written 1 open 0 pending 0 programs 2 erases 0 garbage 1",
+    ),
+    (
+        "write 1 0=41; finish 1; write 2 0=~; fault 1 all; finish 2; read 0; badread 1; finish 2; \
+         finish 2; read 0; explain",
+        "open 1 1; done 1; open 2 1; armed; fault; page 0 41..; armed; fault; done 2; blank 0; \
+         verdict 0 newest 2 committed cycle current 2 walk 0:2; explained 1",
     ),
     // Refusals.
     (
@@ -298,9 +322,8 @@ fn complete_slots(alloc: Global, kept: &Kept, i: usize) -> Result<Vec<u32>, Fail
 
 /// What the slot of a record shows: page 0 with byte 1, version 1, and a link to page 1, version 1.
 const CELL: &str =
-    "01000000000000000000000000000000 54584652 01 01 0000 00000000 01000000 0100000000000000 \
-                    0100000000000000 0000000000000000 \
-                    000000000000000000000000000000000000000000000000";
+    "01000000000000000000000000000000 54584652 02 01 0000 00000000 01000000 0100000000000000 \
+                    0100000000000000 0000000000000000 02000000 0000000000000000000000000000000000000000";
 
 /// The hexadecimal digits of bytes.
 fn digits_of(alloc: Global, bytes: &[u8]) -> Result<Vec<u8>, Fail> {

@@ -6,8 +6,8 @@ use Rattle.verdict_check.proofs.judge.Judge.line.Goals as goal
 pub course-course-requires-clause-newest : goal.course-course-requires-clause-newest
 course-course-requires-clause-newest c = newest_stands c.args.self.now.records.list.now c.args.page c.args.place c.requires.place
 
-pub why-why-requires : goal.why-why-requires
-why-why-requires c = ends_within c.args.self.now.protocol c.args.self.now.records.list.now c.args.self.now.logical c.args.page c.args.place
+pub why-why-requires-clause-ends : goal.why-why-requires-clause-ends
+why-why-requires-clause-ends c = ends_within c.args.self.now.protocol c.args.self.now.records.list.now c.args.self.now.logical c.args.page c.args.place
     (sym c.requires.place) c.course-course.result c.course-course.ensures.course
 
 pub current-requires-clause-newest : goal.current-requires-clause-newest

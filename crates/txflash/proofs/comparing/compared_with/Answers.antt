@@ -1,0 +1,24 @@
+use Rattle.std.proofs.Common.{refl, Ok}
+use Rattle.txflash.specs.Fate.{Same}
+use Rattle.txflash.specs.Steps.{Comparing, Reading}
+use Rattle.txflash.proofs.Works.{stopped}
+use Rattle.txflash.proofs.comparing.compared_with.Goals as goal
+
+pub returns-in_err-logical : goal.returns-in_err-logical
+returns-in_err-logical c =
+    let a = c.args.config in
+    let image = c.args.flash.image in
+    let b = c.in_ok-second.second in
+    let other = c.in_ok-second.other in
+    stopped (Comparing a image b other.image) (Reading c.args.others.items (λ b other. Comparing a image b other))
+    c.from_residual-in_err-logical.result c.in_err-logical.field-0.0 c.from_residual-in_err-logical.ensures.1
+    (λ fate h. (Ok (b, other.image, other.extras), c.in_ok-second.ensures.read, (h, refl))) c.in_err-logical.ensures.err
+
+pub returns : goal.returns
+returns c =
+    let other = c.in_ok-second.other in (
+      Same c.in_ok-logical.logical,
+      (Ok (c.in_ok-second.second, other.image, other.extras), c.in_ok-second.ensures.read, (c.in_ok-logical.ensures.ok, refl)),
+      refl,
+      record { saves_nothing = refl; said = c.in_ok-line.ensures },
+    )
