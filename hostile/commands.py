@@ -36,6 +36,8 @@ class Script:
         return self.draw.choice(known) if known and self.draw.random() > self.errors else self.draw.randint(0, 5)
 
     def contents(self) -> str:
+        if self.draw.random() < 0.15:
+            return "~"
         size = self.draw.choice((0, 1, 1, 1, 2, self.config.page_bytes))
         return bytes(self.draw.randrange(256) for _ in range(size)).hex() or "-"
 
@@ -154,6 +156,7 @@ SPOILS = (
     lambda draw, word: word.replace("=", "=0"),
     lambda draw, word: word.replace("=", " = "),
     lambda draw, word: word.replace("=", "=--"),
+    lambda draw, word: word.replace("=", "=~"),
     lambda draw, word: word + "g",
     lambda draw, word: word + "\0",
     lambda draw, word: word + "\x0b",

@@ -77,6 +77,14 @@ NAMED = (
     Named(["format", "folder", *LONG.words()], 5, "desk fault\n"),
     Named(["format", "absent/x", *LONG.words()], 5, "desk fault\n"),
     Named(["explain", "n" * 300], 5, "desk fault\n"),
+    Named(["check", IMAGE, "absent"], 2, "no file absent\n"),
+    Named(["check", IMAGE, "folder"], 5, "desk fault\n"),
+    Named(["check", IMAGE, "/dev/null"], 12, "wrong line 1\n"),
+    Named(["check", IMAGE, IMAGE], 12, "wrong line 1\n"),
+    Named(["compare", IMAGE, IMAGE], 0, f"same {LONG.logical}\n"),
+    Named(["compare", IMAGE, "folder"], 5, "desk fault\n"),
+    Named(["compare", "folder", "absent"], 5, "desk fault\n"),
+    Named(["compare", "/dev/null", "absent"], 3, "bad image: short\n"),
 )
 
 

@@ -8,7 +8,9 @@ OUTCOMES = ("none", "all", "bad")
 TAGGED = ("step", "finish", "abort")
 BARE = ("collect", "stats", "explain")
 
-Entries = Tuple[Tuple[int, bytes], ...]
+# A page and its contents, none where it is discarded.
+Entry = Tuple[int, Optional[bytes]]
+Entries = Tuple[Entry, ...]
 
 
 class Command(NamedTuple):
@@ -51,11 +53,14 @@ def read_contents(word: bytes, page_bytes: int) -> Optional[bytes]:
     return bytes.fromhex(word.decode("ascii")).ljust(page_bytes, b"\0")
 
 
-def read_entry(word: bytes, page_bytes: int) -> Optional[Tuple[int, bytes]]:
+def read_entry(word: bytes, page_bytes: int) -> Optional[Entry]:
     parts = word.split(b"=")
     if len(parts) != 2:
         return None
-    page, contents = read_number(parts[0]), read_contents(parts[1], page_bytes)
+    page = read_number(parts[0])
+    if parts[1] == b"~":
+        return None if page is None else (page, None)
+    contents = read_contents(parts[1], page_bytes)
     return None if page is None or contents is None else (page, contents)
 
 

@@ -10,7 +10,8 @@ MAX_FILE = 134217728
 MAX_SLOTS = 65536
 SPARE = 64
 HEADER = struct.Struct("<8s7I28s")
-RECORD = struct.Struct("<4sBBHIIQQQ24s")
+RECORD = struct.Struct("<4sBBHIIQQQI20s")
+MOST_PAGES = 256
 
 
 class Config(NamedTuple):
@@ -43,6 +44,8 @@ class Record(NamedTuple):
     link_page: int
     link_version: int
     back: int
+    count: int = 0
+    discard: bool = False
 
     @property
     def name(self) -> Tuple[int, int]:
@@ -137,27 +140,29 @@ def blank_image(config: Config) -> Image:
 
 def read_spare(spare: bytes, protocol: int) -> Union[Record, str]:
     """The record of a spare area, or the first error of the table."""
-    mark, form, of, flags, page, link_page, version, link_version, back, rest = RECORD.unpack(spare)
+    mark, form, of, flags, page, link_page, version, link_version, back, count, rest = RECORD.unpack(spare)
     if mark != b"TXFR":
         return "Mark"
-    if form != 1:
+    if form not in (1, 2):
         return "Format"
     if of != protocol:
         return "Protocol"
-    if flags != 0:
+    if flags > form - 1:
         return "Flags"
     if not (1 <= version <= LAST_VERSION and 1 <= link_version <= LAST_VERSION):
         return "Version"
     if (back != 0) if protocol == SCC else (back >= version):
         return "Back"
-    if any(rest):
+    if form == 2 and not 1 <= count <= MOST_PAGES:
+        return "Count"
+    if any(rest) or (form == 1 and count != 0):
         return "Rest"
-    return Record(page, version, link_page, link_version, back)
+    return Record(page, version, link_page, link_version, back, count, flags == 1)
 
 
 def spell_spare(record: Record, protocol: int) -> bytes:
-    return RECORD.pack(b"TXFR", 1, protocol, 0, record.page, record.link_page,
-                       record.version, record.link_version, record.back, bytes(24))
+    return RECORD.pack(b"TXFR", 2 if record.count else 1, protocol, int(record.discard), record.page, record.link_page,
+                       record.version, record.link_version, record.back, record.count, bytes(20))
 
 
 def complete(config: Config, contents: bytes, record: Record) -> Slot:

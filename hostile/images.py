@@ -52,11 +52,13 @@ class History:
         step = draw.choice((1, 1, 1, 2, 3))
         versions = [seen.mention(page) + step for page in pages]
         written = count if draw.random() < self.done else draw.randint(0, count - 1)
+        counted = count if draw.random() < 0.7 else 0
         for i in range(written):
             after = (i + 1) % count
             self.clear(pages[i], versions[i])
             back = self.records().current(pages[i]) if config.protocol == BPCC else 0
-            record = Record(pages[i], versions[i], pages[after], versions[after], back)
+            discard = counted > 0 and draw.random() < 0.2
+            record = Record(pages[i], versions[i], pages[after], versions[after], back, counted, discard)
             self.placed.append(Placed(len(self.placed), record, contents(draw, config)))
 
     def clear(self, page: int, version: int) -> None:
@@ -107,9 +109,13 @@ def history_image(draw: Draw) -> Image:
 
 
 def changed_record(draw: Draw, config: Config, it: Record) -> Record:
-    field = draw.choice(("page", "version", "link_page", "link_version", "link_version", "back"))
+    field = draw.choice(("page", "version", "link_page", "link_version", "link_version", "back", "count", "discard"))
     if field in ("page", "link_page"):
         value = draw.choice((draw.randrange(config.logical), config.logical - 1, config.logical, 2 ** 32 - 1))
+    elif field == "count":
+        value = draw.choice((it.count + 1, max(1, it.count - 1), 2 * it.count, 1, 256, 257))
+    elif field == "discard":
+        value = not it.discard
     elif field == "back":
         value = max(0, draw.choice((it.back - 1, it.back + 1, it.version - 1, it.version, 0)))
     else:
@@ -177,7 +183,8 @@ def wild_image(draw: Draw) -> Image:
     for _ in range(draw.randint(1, 5)):
         version = draw.randint(1, versions)
         back = draw.randrange(version) if config.protocol == BPCC else 0
-        record = Record(draw.randrange(pages), version, draw.randrange(pages), draw.randint(1, versions), back)
+        record = Record(draw.randrange(pages), version, draw.randrange(pages), draw.randint(1, versions), back,
+                        draw.choice((0, 0, 1, 1, 2, 2, 3)))
         placed.append(Placed(0, record, bytes([draw.choice((0, 0, 0, 1))]).ljust(config.page_bytes, b"\0")))
     if draw.random() < 0.7:
         placed = list({it.record.name: it for it in placed}.values())

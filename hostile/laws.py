@@ -130,16 +130,26 @@ class Records:
             record = self.record(*record.link)
         return True
 
+    def returns_after(self, record: Record) -> int:
+        """After how many links over present records a record's name comes back first, 0 for never."""
+        start, links, met = record.name, 1, set()
+        while record.link != start:
+            if record.link in met or not self.present(*record.link):
+                return 0
+            met.add(record.link)
+            record, links = self.record(*record.link), links + 1
+        return links
+
     def wanted(self) -> List[Record]:
         """The current and the held records."""
         held = set(self.held())
         return [it.record for it in self.placed if self.is_current(it.record) or it.record in held]
 
     def array(self) -> Pages:
-        found: Dict[int, bytes] = {}
+        found: Dict[int, Optional[bytes]] = {}
         for it in self.placed:
             if self.is_current(it.record):
-                found.setdefault(it.record.page, it.contents)
+                found.setdefault(it.record.page, None if it.record.discard else it.contents)
         return tuple(found.get(page) for page in range(self.logical))
 
 
@@ -182,6 +192,13 @@ def keeps_law_7(it: Placed, earlier: List[Placed], records: Records) -> bool:
     return records.protocol != BPCC or not records.is_loose(it.record) or records.comes_to_absent(it.record)
 
 
+def keeps_law_9(it: Placed, records: Records) -> bool:
+    record = it.record
+    if any(other.record.name == record.link and other.record.count != record.count for other in records.placed):
+        return False
+    return record.count == 0 or records.returns_after(record) in (0, record.count)
+
+
 LAWS = {2: keeps_law_2, 3: keeps_law_3, 4: keeps_law_4, 5: keeps_law_5, 6: keeps_law_6, 7: keeps_law_7}
 
 
@@ -216,7 +233,8 @@ def read_records(image: Image) -> Union[Records, Broken]:
     blocks = range(config.blocks_per_die * config.dies)
     if not any(is_removable(records, wanted, block, config.pages_per_block) for block in blocks):
         return Broken(8, 0)
-    return records
+    miscounted = first_slot(it.slot for it in records.placed if not keeps_law_9(it, records))
+    return records if miscounted is None else Broken(9, miscounted)
 
 
 def verdict_line(records: Records, page: int) -> str:

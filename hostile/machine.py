@@ -234,7 +234,7 @@ def is_decimal(word: str) -> bool:
 
 
 def explain_answer(state: State, reply: str) -> Iterator[Answer]:
-    """A page has bytes exactly where its line names a current version."""
+    """A page that has bytes has a line that names a current version. One that was discarded may have one too."""
     *lines, last = reply.split("\n")
     currents: Dict[int, str] = {}
     for line in lines:
@@ -245,7 +245,7 @@ def explain_answer(state: State, reply: str) -> Iterator[Answer]:
     pages = list(currents)
     shown = {page for page, version in currents.items() if version != "0"}
     if last == f"explained {len(lines)}" and pages == sorted(pages) and len(pages) == len(lines):
-        if shown == {page for page, it in enumerate(state.array) if it is not None}:
+        if shown >= {page for page, it in enumerate(state.array) if it is not None}:
             yield reply, state
 
 

@@ -34,6 +34,9 @@ PLANTS = (
     Plant("laws.py", "not records.is_loose(it.record) or records.comes_to_absent(it.record)", "True"),
     Plant("laws.py", "[it.record for it in self.placed if self.is_current(it.record) or it.record in held]",
           "[it.record for it in self.placed if self.is_current(it.record)]"),
+    Plant("laws.py", "records.returns_after(record) in (0, record.count)", "True"),
+    Plant("laws.py", "other.record.name == record.link and other.record.count != record.count", "False"),
+    Plant("laws.py", "None if it.record.discard else it.contents", "it.contents"),
     Plant("laws.py", "links[:16]", "links[:17]"),
     Plant("grammar.py", "MAX_COMMANDS:", "MAX_COMMANDS + 1:"),
     Plant("grammar.py", "return [it[:-1] if it.endswith(b\"\\r\") else it for it in lines]", "return lines"),
@@ -49,6 +52,10 @@ PLANTS = (
     Plant("judge.py", "len(erased) <= erases + broken", "len(erased) <= broken"),
     Plant("judge.py", "it.state != DAMAGED for it in image.slots", "it.state == DAMAGED for it in image.slots"),
     Plant("counts.py", "self.calls + command.number", "self.calls + command.number + 1"),
+    Plant("findings.py", "[^\\n]*\\n|[^\\n]+$", "[^\\n]+"),
+    Plant("findings.py", "enumerate(pairs, 1)", "enumerate(pairs)"),
+    Plant("findings.py", "it.status in (2, 3, 9)", "it.status in (2, 3, 7, 9)"),
+    Plant("findings.py", "enumerate(zip(here, there)) if", "enumerate(zip(here, there), 1) if"),
 )
 
 
@@ -63,7 +70,8 @@ def is_noticed(program: str, plant: Plant, seed: int, number: int) -> bool:
             raise SystemExit(f"plants: stands {text.count(plant.old)} times in {plant.file}: {plant.old}")
         with open(name, "w") as file:
             file.write(text.replace(plant.old, plant.new))
-        words = ["--images", str(number), "--commands", str(number), "--seed", str(seed), "--stop"]
+        words = ["--images", str(number), "--commands", str(number), "--findings", str(number), "--seed", str(seed),
+                 "--stop"]
         sweep = [sys.executable, os.path.join(copy, "sweep.py"), program, "--processes", "1",
                  "--keep", os.path.join(folder, "differ")]
         ended = subprocess.run([*sweep, *words], stdout=subprocess.PIPE, stderr=subprocess.STDOUT, text=True)

@@ -1,17 +1,18 @@
 #!/usr/bin/env python3
 """Sweeps the built program with hostile images and commands, and compares each run with what the documents say.
 
-    sweep.py EXE [--images N] [--commands N] [--words N] [--seed S] [--processes N] [--keep FOLDER] [--room FOLDER]
-                 [--edges] [--kills N] [--disk] [--allocations]
+    sweep.py EXE [--images N] [--commands N] [--findings N] [--keys N] [--words N] [--seed S] [--processes N] [--keep FOLDER]
+                 [--room FOLDER] [--edges] [--kills N] [--disk] [--allocations]
 
-N images are given to `explain` and `run`, N command files to `try` and `run`, and N lists of words to the program. Each
-run that differs has a line, its files are kept, and the status is 1. The README beside this says what is compared, and
+N images are given to `explain` and `run`, N command files to `try` and `run`, N images with a report or with another
+image to `check` and `compare`, N images and key scripts to `keys`, and N lists of words to the program. Each run that differs has a line, its files are kept, and the status is 1. The README beside this says what is compared, and
 what the last four do."""
 import argparse
 import collections
 import multiprocessing
 import os
 import random
+import re
 import shutil
 import sys
 import tempfile
@@ -22,7 +23,9 @@ import allocations
 import commands as drawn_commands
 import disk
 import edges
+import findings as drawn_findings
 import images as drawn_images
+import keys as drawn_keys
 import kills
 import words as drawn_words
 from image import DEFAULT, PROTOCOLS, blank_image, spell_image
@@ -30,7 +33,7 @@ from judge import Wrong, check_end, check_explain, check_run, check_said, check_
 from laws import Reading, read
 from program import Ended, Program
 
-IMAGE, COMMANDS = "d.img", "c.txt"
+IMAGE, COMMANDS, REPORT, OTHER = "d.img", "c.txt", "r.txt", "e.img"
 WANTED, TOLD = 100, 20
 
 
@@ -41,6 +44,8 @@ class Job(NamedTuple):
     step: int
     images: int
     commands: int
+    findings: int
+    keys: int
     words: int
     stops: bool
     room: str
@@ -155,6 +160,58 @@ class Sweeper:
         except Wrong as wrong:
             self.told("commands", number, str(wrong), ["old/" + IMAGE, COMMANDS])
 
+    def finding(self, number: int) -> None:
+        """An image with a report, or with another image; each of the two files stays as it is."""
+        draw = random.Random(f"{self.job.seed} finding {number}")
+        any_kind = draw.random() < 0.3
+        data = drawn_images.draw_image(self.job.seed, number).data if any_kind else drawn_images.sound_image(draw)
+        reading = read(data, IMAGE)
+        if draw.random() < 0.5:
+            name, second = REPORT, drawn_findings.draw_report(draw, reading)
+            words, wanted = ["check", IMAGE, name], drawn_findings.wanted_check(reading, second, name)
+        else:
+            name = OTHER
+            second, kind = drawn_findings.draw_pair(draw, data, reading)
+            words = draw.choice((["compare", IMAGE, name], ["compare", name, IMAGE]))
+            readings = {IMAGE: reading, name: drawn_findings.reading_of(second, name)}
+            wanted = drawn_findings.wanted_compare(*(readings[it] for it in words[1:]))
+            self.counts[f"pair {kind}"] += 1
+        files = {IMAGE: data, **({name: second} if second is not None else {})}
+        remove(COMMANDS)
+        for it, held in files.items():
+            write_file(it, held)
+        try:
+            ended = self.run(words)
+            check_end(ended)
+            self.counts[f"{words[0]}: {re.sub('[0-9]+', 'N', wanted.said.strip())}"] += 1
+            check_said(ended, wanted.status, wanted.said)
+            need(all(read_file(it) == held for it, held in files.items()), "a file has changed")
+            need(sorted(os.listdir(".")) == sorted([*files, "old"]), "other files are there")
+        except Wrong as wrong:
+            self.told("finding", number, f"{words}: {wrong}", list(files))
+        for it in (IMAGE, REPORT, OTHER):
+            remove(it)
+
+    def key_script(self, number: int) -> None:
+        """A key script on an image with pages of keys, or nearly so."""
+        draw = random.Random(f"{self.job.seed} keys {number}")
+        keys = drawn_keys.draw_keys(draw)
+        data, script = drawn_keys.draw_image(draw, keys), drawn_keys.draw_script(draw, keys)
+        write_file("old/" + IMAGE, data)
+        write_file(IMAGE, data)
+        write_file(COMMANDS, script)
+        try:
+            ended = self.run(["keys", IMAGE, COMMANDS])
+            check_end(ended)
+            said = ended.said.decode("latin-1")
+            kind = drawn_keys.check_keys(data, script, ended.status, said, read_file(IMAGE) or b"")
+            self.counts[f"keys {kind}"] += 1
+            if ended.status == 0:
+                for it in said.split("\n")[:-1]:
+                    self.counts[f"keys {re.sub(' [0-9a-f]+| -', '', it)}"] += 1
+            need_files(True)
+        except Wrong as wrong:
+            self.told("keys", number, str(wrong), ["old/" + IMAGE, COMMANDS])
 
     def word_list(self, number: int) -> None:
         draw = random.Random(f"{self.job.seed} words {number}")
@@ -237,6 +294,7 @@ def work(job: Job) -> Found:
     sweeper = Sweeper(job)
     try:
         for work_of, most in ((sweeper.image, job.images), (sweeper.command_file, job.commands),
+                              (sweeper.finding, job.findings), (sweeper.key_script, job.keys),
                               (sweeper.word_list, job.words)):
             for number in range(job.first, most, job.step):
                 if not (job.stops and sweeper.differ):
@@ -259,8 +317,8 @@ def rare(counts: Counter[str]) -> List[str]:
 def sweep(args: argparse.Namespace) -> int:
     begun = time.monotonic()
     program = os.path.abspath(args.program)
-    jobs = [Job(program, args.seed, it, args.processes, args.images, args.commands, args.words, args.stop,
-                args.room, os.path.abspath(args.keep)) for it in range(args.processes)]
+    jobs = [Job(program, args.seed, it, args.processes, args.images, args.commands, args.findings, args.keys, args.words,
+                args.stop, args.room, os.path.abspath(args.keep)) for it in range(args.processes)]
     with multiprocessing.Pool(args.processes) as pool:
         found = pool.map(work, jobs, 1)
     counts: Counter[str] = sum((it.counts for it in found), collections.Counter())
@@ -271,8 +329,8 @@ def sweep(args: argparse.Namespace) -> int:
     if seldom:
         print(f"sweep: met fewer than {WANTED} times: {', '.join(seldom)}")
     seconds = time.monotonic() - begun
-    print(f"sweep: seed {args.seed}: {args.images} images, {args.commands} command files, {args.words} lists of words, "
-          f"{counts['runs']} runs in {seconds:.0f} s, the slowest {slowest:.2f} s: {differ} differ", flush=True)
+    print(f"sweep: seed {args.seed}: {args.images} images, {args.commands} command files, {args.findings} "
+          f"findings, {args.keys} key scripts, {args.words} lists of words, {counts['runs']} runs in {seconds:.0f} s, the slowest {slowest:.2f} s: {differ} differ", flush=True)
     faults = 0
     if args.edges:
         faults += edges.try_edges(Program(program), args.room)
@@ -290,6 +348,8 @@ def main() -> int:
     parser.add_argument("program")
     parser.add_argument("--images", type=int, default=1000)
     parser.add_argument("--commands", type=int, default=1000)
+    parser.add_argument("--findings", type=int, default=0)
+    parser.add_argument("--keys", type=int, default=0)
     parser.add_argument("--words", type=int, default=0)
     parser.add_argument("--seed", type=int, default=1)
     parser.add_argument("--processes", type=int, default=2)

@@ -143,7 +143,8 @@ OTHERS = (
     [], [""], ["help"], ["--help"], ["--version"], ["Try", "c.txt"], ["try"], ["try", ""], ["try", "c.txt", ""],
     ["run"], ["run", "d.img"], ["run", "", "c.txt"], ["run", "d.img", ""], ["run", "d.img", "c.txt", "x"], ["explain"],
     ["explain", ""], ["explain", "d.img", "d.img"], ["format"], ["drive"], [" try", "c.txt"], ["run", "c.txt"],
-    ["save"],
+    ["save"], ["check"], ["check", "d.img"], ["check", "", "d.img"], ["check", "d.img", "d.img", "d.img"], ["compare"],
+    ["compare", "d.img"], ["compare", "d.img", ""], ["compare", "d.img", "d.img", "d.img"], ["Compare", "d.img", "d.img"],
 )
 
 
