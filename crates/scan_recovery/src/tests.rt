@@ -319,17 +319,25 @@ const COUNTED: [(&[Counted], Option<(u8, u32)>); 8] = [
     ),
 ];
 
+/// A flash on which these records were programmed under Simple Cyclic Commit.
+fn counted(rt: &impl Abort, alloc: Global, items: &[Counted]) -> Result<MemFlash, Fail>
+    ensures { IfOk result (λ flash. flash.shape ≡ SHAPE) }
+{
+    let mut flash = MemFlash::new(alloc, SHAPE)?;
+    for (slot, name, next, count, discard) in items {
+        let mut record = rec(*name, *next, 0);
+        record.count = *count;
+        record.discard = *discard;
+        let spare_area = spare_area_of(rt, S, record);
+        assert!(rt; program(rt, &mut flash, *slot, 0, &spare_area));
+    }
+    Ok(flash)
+}
+
 #[test]
 fn records_count_the_pages_of_their_transaction(rt: HostRuntime) -> Result<(), Fail> {
     for (items, breach) in COUNTED {
-        let mut flash = written(&rt, rt.alloc(), S, &[])?;
-        for (slot, name, next, count, discard) in items {
-            let mut record = rec(*name, *next, 0);
-            record.count = *count;
-            record.discard = *discard;
-            let spare_area = spare_area_of(&rt, S, record);
-            assert!(rt; program(&rt, &mut flash, *slot, 0, &spare_area));
-        }
+        let mut flash = counted(&rt, rt.alloc(), items)?;
         let refusal = breach.map(|(law, slot)| RecoverError::Unsound {
             law,
             slot: Slot(slot),
