@@ -8,12 +8,11 @@ use Rattle.tx_types.specs.declared.record.Rec.{Rec}
 use Rattle.tx_types.specs.Config.{IsShape, slots_of, blocks_of}
 use Rattle.slot_tables.specs.declared.slots.SlotUse.{SlotUse}
 use Rattle.slot_tables.specs.declared.slots.SlotUse.TheVariants.{Blank}
-use Rattle.slot_tables.specs.declared.tables.Tables.TheInside.{Inside}
-use Rattle.slot_tables.specs.Kept.{IsKept, AreVersions, blank_tables, number_in, is_blank}
+use Rattle.slot_tables.specs.declared.filling.Filling.TheInside.{Inside}
+use Rattle.slot_tables.specs.Kept.{IsKept, AreVersions, blank_tables, is_blank}
 use Rattle.slot_tables.specs.Given.{kept_of}
-use Rattle.slot_tables.specs.Tables.{AreTables}
+use Rattle.slot_tables.specs.Filling.{IsFilling}
 use Rattle.slot_tables.proofs.Held.{none_held}
-use Rattle.slot_tables.proofs.Needing.{needed_none}
 
 -- a list of one item alone has it everywhere, or its default
 all_same : {X : Type 0} (n k : ℕ) (x : X) → get_or (replicate n x) k x ≡ x
@@ -48,11 +47,10 @@ module _ (s : Shape) (logical : ℕ) (shape : IsShape s) (few : logical ≤ slot
   whole : blocks_of s * s.pages_per_block ≡ slots_of s
   whole = omega arith
 
-  pub first_tables : (t : Inside) → kept_of t.given ≡ blank_tables s logical → t.given.waits.pages ≡ logical
-      → t.blanks ≡ record { marks = replicate (blocks_of s * s.pages_per_block) true; size = s.pages_per_block }
-      → t.needs ≡ record { needed = replicate (blocks_of s * s.pages_per_block) false; size = s.pages_per_block; blocks = blocks_of s; spare = None }
-      → AreTables t
-  first_tables t kept waits blanks needs = record {
+  pub first_filling : (t : Inside) → kept_of t.given ≡ blank_tables s logical → t.given.waits.pages ≡ logical
+      → t.blanks ≡ record { marks = replicate (blocks_of s * s.pages_per_block) true; size = s.pages_per_block } → t.given.spare ≡ None
+      → IsFilling t
+  first_filling t kept waits blanks spare = record {
     sized = record {
       kept = rw kept blank_kept;
       waits_pages = waits ∙ sym (ap (λ k. length k.pages) kept ∙ length-replicate {A = List ℕ} logical []);
@@ -70,13 +68,5 @@ module _ (s : Shape) (logical : ℕ) (shape : IsShape s) (few : logical ≤ slot
           ∙ ap is_blank (get_or-replicate {A = SlotUse} (slots_of s) at Blank Blank lies_too)));
       size = refl;
     });
-    needs = rw (kept, needs) (record {
-      slots = length-replicate {A = Bool} (blocks_of s * s.pages_per_block) false ∙ whole;
-      size = refl;
-      blocks = refl;
-      spare = refl;
-      needed = λ at.
-          all_same {X = Bool} (blocks_of s * s.pages_per_block) at false
-          ∙ sym (needed_none (blank_tables s logical) at (ap number_in (all_same {X = SlotUse} (slots_of s) at Blank)));
-    });
+    spare = spare;
   }

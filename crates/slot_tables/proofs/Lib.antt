@@ -19,3 +19,5 @@ pub mod SpareSetting
 pub mod SpareFrame
 pub mod Ranges
 pub mod GatheredSlots
+pub mod SettledAll
+pub mod InBlocks

@@ -4,7 +4,7 @@ use Rattle.std.specs.List.{Contains, slice_get, find}
 use Rattle.std.specs.Option.{IfSome, option_map_or, option_and_then}
 use Rattle.std.proofs.lemmas.Bool.{cases_eq, false≢true}
 use Rattle.std.proofs.lemmas.Bool.Decides.{nat_tests}
-use Rattle.std.proofs.lemmas.List.{get_or-set_same, get_or-set_other, set-set}
+use Rattle.std.proofs.lemmas.List.{get_or-set_same, get_or-set_other}
 use Rattle.std.proofs.lemmas.List.Sums.{sum_by-set}
 use Rattle.list_facts.proofs.Counts.{one_of}
 use Rattle.list_facts.proofs.Membership.{got_within}
@@ -17,6 +17,7 @@ use Rattle.slot_tables.specs.Counts.{is_marked}
 use Rattle.slot_tables.specs.Given.{settled, is_same_slot, moved_settled}
 use Rattle.slot_tables.proofs.Answering.{any_counted}
 use Rattle.slot_tables.proofs.Copying.{copies_have}
+use Rattle.slot_tables.proofs.Held.{holds_number}
 
 -- by the number that the slot holds
 pub needed_some : (k : Kept) (at number : ℕ) → number_in (use_at k.slots at) ≡ Some number
@@ -43,6 +44,13 @@ home_copy k number at is =
       | inl found ↦ (find_stands (is_outside_spare k.shape k.spare) (copies_of k.slots number) at found).0
       | inr first ↦ got_within (copies_of k.slots number) 0 at first.1
     ]
+
+-- the home of a record is needed where the record is wanted
+pub home_wanted : (k : Kept) (number at : ℕ) → home k number ≡ Some at → is_needed k at ≡ is_wanted k number
+home_wanted k number at is =
+    let held = ap number_in (holds_number number (use_at k.slots at) ((copies_have k.slots number at).0 (home_copy k number at is)).1) in
+    let own : eqb at at ≡ true = grind (arith, nat_tests) in
+    needed_some k at number held ∙ ap (λ o. is_slot at o && is_wanted k number) is ∙ ap (λ b. b && is_wanted k number) own
 
 pub home_lies : (k : Kept) (number : Option ℕ) → IfSome (option_and_then (home k) number) (λ at. at < length k.slots)
 home_lies k None = tt
@@ -82,16 +90,26 @@ pub settled_long : (k : Kept) (needed : List Bool) (o : Option ℕ) → length (
 settled_long k needed None = refl
 settled_long k needed (Some s) = length-set needed s (is_needed k s)
 
--- settled twice is settled
-pub settled_twice : (k : Kept) (needed : List Bool) (o : Option ℕ) → settled k (settled k needed o) o ≡ settled k needed o
-settled_twice k needed None = refl
-settled_twice k needed (Some s) = set-set needed s (is_needed k s) (is_needed k s)
-
 pub same_slot : (a b : Option ℕ) → is_same_slot a b ≡ true → a ≡ b
 same_slot None None e = refl
 same_slot None (Some b) e = absurd (false≢true e)
 same_slot (Some a) None e = absurd (false≢true e)
 same_slot (Some a) (Some b) e = ap Some (eqb-true a b e)
+
+pub other_slot : (a b : Option ℕ) → is_same_slot a b ≡ false → a ≢ b
+other_slot None None e = absurd (false≢true (sym e))
+other_slot None (Some b) e = λ same. cc
+other_slot (Some a) None e = λ same. cc
+other_slot (Some a) (Some b) e = λ same. (let its : a ≡ b = cc in let yes : eqb a b ≡ true = grind (arith, nat_tests) in false≢true (sym e ∙ yes))
+
+-- a mark that is said anew is right, and the others stay
+settled_or : (k : Kept) (needed : List Bool) (o : Option ℕ) (s : ℕ) → IfSome o (λ at. at < length needed)
+    → (is_marked (settled k needed o) s ≡ is_marked needed s) ⊎ (is_marked (settled k needed o) s ≡ is_needed k s)
+settled_or k needed None s low = inl refl
+settled_or k needed (Some at) s low = elim (cases_eq s at) [
+  | inl here ↦ inr (rw here (get_or-set_same needed at (is_needed k at) false low))
+  | inr other ↦ inl (get_or-set_other needed at s (is_needed k at) false other)
+]
 
 -- of two slots that are settled where they are not the same
 module _ (k : Kept) (needed : List Bool) (before after : Option ℕ) where
@@ -113,6 +131,20 @@ module _ (k : Kept) (needed : List Bool) (before after : Option ℕ) where
       by true e = same (same_slot before after e)
       by false e = settled_at k (settled k needed before) after at (rw (settled_long k needed before) low') (λ apart.
           settled_at k needed before at low (λ away. off away apart))
+
+  -- a mark stays or is right
+  pub moved_or : (at : ℕ) → IfSome before (λ s. s < length needed) → IfSome after (λ s. s < length needed)
+      → (is_marked (moved_settled k needed before after) at ≡ is_marked needed at)
+      ⊎ (is_marked (moved_settled k needed before after) at ≡ is_needed k at)
+  moved_or at low low' = by (is_same_slot before after)
+    where
+      by : (b : Bool) → (is_marked (cond b needed (settled k (settled k needed before) after)) at ≡ is_marked needed at)
+          ⊎ (is_marked (cond b needed (settled k (settled k needed before) after)) at ≡ is_needed k at)
+      by true = inl refl
+      by false = elim (settled_or k (settled k needed before) after at (rw (settled_long k needed before) low')) [
+        | inr right ↦ inr right
+        | inl same ↦ elim (settled_or k needed before at low) [ inl still ↦ inl (same ∙ still) | inr right ↦ inr (same ∙ right) ]
+      ]
 
 -- whether a record is wanted, by its own
 pub wanted_by : (k k' : Kept) (number : ℕ) → k'.records ≡ k.records

@@ -1,12 +1,12 @@
 -- Numbers that the tables tell are in range.
-use Rattle.std.proofs.Common.{◌≡◌, ℕ, ◌<◌, List, length, IfSome, Contains, Option, Some, None, sym, ◌∙◌, inl, inr, arith}
+use Rattle.std.proofs.Common.{◌≡◌, ℕ, ◌<◌, length, IfSome, Option, Some, None, sym, ◌∙◌, inl, inr, arith}
 use Rattle.std.specs.List.{slice_get}
 use Rattle.std.proofs.lemmas.Bool.{cases_lt}
 use Rattle.std.proofs.lemmas.List.{get_or_past}
 use Rattle.std.proofs.lemmas.Option.{none-some}
 use Rattle.list_facts.proofs.Membership.{got_within}
 use Rattle.tx_types.specs.Config.{slots_of}
-use Rattle.slot_tables.specs.Kept.{Kept, IsKept, record_at, number_at, numbers_at}
+use Rattle.slot_tables.specs.Kept.{Kept, IsKept, number_at, numbers_at}
 
 module _ (k : Kept) (h : IsKept k) where
   pub newest_below : (page : ℕ) (o : Option ℕ) → o ≡ slice_get (numbers_at k.pages page) 0 → IfSome o (λ x. x < slots_of k.shape)

@@ -1,5 +1,5 @@
 -- The tables after another spare is chosen.
-use Rattle.std.proofs.Common.{◌≡◌, ℕ, ◌+◌, ◌*◌, ◌/◌, ◌<◌, ◌≤◌, ◌⊎◌, Bool, true, false, not, ◌&&◌, eqb, inl, inr, Option, Some, None, List, [], ◌∷◌, length, refl, sym, ◌∙◌, ap, ap₂, subst, cond, arith}
+use Rattle.std.proofs.Common.{◌≡◌, ◌≢◌, ℕ, ◌+◌, ◌*◌, ◌/◌, ◌<◌, ◌≤◌, ◌⊎◌, Bool, true, false, not, ◌&&◌, eqb, inl, inr, Option, Some, None, List, [], ◌∷◌, length, refl, sym, ◌∙◌, ap, ap₂, subst, cond, arith}
 use Rattle.std.specs.List.{Contains, find, slice_get}
 use Rattle.std.specs.Option.{option_or}
 use Rattle.std.proofs.Math.Nat.{div-mul-le_self, lt-div-mul-add}
@@ -17,11 +17,11 @@ use Rattle.slot_tables.specs.declared.tables.Tables.TheInside.{Inside}
 use Rattle.slot_tables.specs.declared.given.Given.{Given}
 use Rattle.slot_tables.specs.Kept.{Kept, use_at, number_in, home, copies_of, slots_in, is_wanted, is_needed}
 use Rattle.slot_tables.specs.Counts.{Needed, is_marked}
-use Rattle.slot_tables.specs.Given.{kept_of, IsSized, IsHomeFrom, IsSettledFrom}
+use Rattle.slot_tables.specs.Given.{kept_of, is_same_slot, IsSized, IsHomeFrom, IsSettledFrom}
 use Rattle.slot_tables.specs.Tables.{AreTables}
 use Rattle.slot_tables.proofs.Copying.{copies_have}
 use Rattle.slot_tables.proofs.Held.{holds_number}
-use Rattle.slot_tables.proofs.Needing.{needed_some, needed_none, not_slot}
+use Rattle.slot_tables.proofs.Needing.{needed_some, needed_none, not_slot, same_slot, other_slot}
 
 -- tests that agree on a list find the same
 find_same : {X : Type 0} (p q : X → Bool) (xs : List X) → ((x : X) → Contains xs x → p x ≡ q x) → find p xs ≡ find q xs
@@ -118,12 +118,13 @@ module _ (t : Inside) (h : AreTables t) (block : Block) (low : block.0 < blocks_
     some = (let least = h.sized.kept.shape.pages_least in omega arith)
 
     home_from : (z b slot s : ℕ) → Contains (copies_of k.slots z) slot → is_outside k.shape b slot ≡ false
-        → (home k' z ≡ Some s) ⊎ (home k z ≡ Some s) → IsHomeFrom k' k.spare b s
-    home_from z b slot s has off is = record {
+        → home k z ≢ home k' z → (home k' z ≡ Some s) ⊎ (home k z ≡ Some s) → IsHomeFrom k' k.spare b s
+    home_from z b slot s has off moved is = record {
       slot = slot;
       number = z;
       within = block_slot k.shape b slot some off;
       holds = holds_number z (use_at k.slots slot) ((copies_have k.slots z slot).0 has).1;
+      moved = moved;
       home = is;
     }
 
@@ -149,33 +150,41 @@ module _ (t : Inside) (h : AreTables t) (block : Block) (low : block.0 < blocks_
     decide None s = inr (λ e. cc)
     decide (Some y) s = elim (cases_eq y s) [ inl e ↦ inl (ap Some e) | inr other ↦ inr (λ e. other (let same : y ≡ s = cc in same)) ]
 
-    its_home : (s z : ℕ) → number_in (use_at k.slots s) ≡ Some z → (home k' z ≡ Some s) ⊎ (home k z ≡ Some s) → is_marked n2.needed s ≡ is_needed k' s
-    its_home s z held is = elim (near k block.0 z) [
-      | inl copy ↦ then.homes s (home_from z block.0 copy.0 s copy.1 copy.2 is)
+    -- where the home of the slot's record is as before
+    still_home : (s z : ℕ) → number_in (use_at k.slots s) ≡ Some z → home k' z ≡ home k z → is_marked n2.needed s ≡ is_needed k' s
+    still_home s z held same =
+        still s (needed_some k' s z held ∙ ap (λ o. is_slot s o && is_wanted k z) same ∙ sym (needed_some k s z held))
+
+    its_home : (s z : ℕ) → number_in (use_at k.slots s) ≡ Some z → home k z ≢ home k' z → (home k' z ≡ Some s) ⊎ (home k z ≡ Some s)
+        → is_marked n2.needed s ≡ is_needed k' s
+    its_home s z held moved is = elim (near k block.0 z) [
+      | inl copy ↦ then.homes s (home_from z block.0 copy.0 s copy.1 copy.2 moved is)
       | inr new ↦ by k.spare refl new
     ]
       where
         by : (o : Option ℕ) → k.spare ≡ o → ((slot : ℕ) → Contains (copies_of k.slots z) slot → is_outside k.shape block.0 slot ≡ true)
             → is_marked n2.needed s ≡ is_needed k' s
-        by None e new = still s (
-            needed_some k' s z held
-            ∙ ap (λ o. is_slot s o && is_wanted k z) (far z new (λ slot has. ap (λ o. is_outside_spare k.shape o slot) e))
-            ∙ sym (needed_some k s z held))
+        by None e new = still_home s z held (far z new (λ slot has. ap (λ o. is_outside_spare k.shape o slot) e))
         by (Some b) e new = elim (near k b z) [
-          | inl copy ↦ first_right s (first.homes b s e (home_from z b copy.0 s copy.1 copy.2 is))
-          | inr old ↦ still s (
-              needed_some k' s z held
-              ∙ ap (λ o. is_slot s o && is_wanted k z) (far z new (λ slot has. ap (λ o. is_outside_spare k.shape o slot) e ∙ old slot has))
-              ∙ sym (needed_some k s z held))
+          | inl copy ↦ first_right s (first.homes b s e (home_from z b copy.0 s copy.1 copy.2 moved is))
+          | inr old ↦ still_home s z held (far z new (λ slot has. ap (λ o. is_outside_spare k.shape o slot) e ∙ old slot has))
         ]
+
+    -- where a slot is a home, or was
+    at_home : (s z : ℕ) → number_in (use_at k.slots s) ≡ Some z → (home k' z ≡ Some s) ⊎ (home k z ≡ Some s) → is_marked n2.needed s ≡ is_needed k' s
+    at_home s z held is = by (is_same_slot (home k z) (home k' z)) refl
+      where
+        by : (b : Bool) → is_same_slot (home k z) (home k' z) ≡ b → is_marked n2.needed s ≡ is_needed k' s
+        by true e = still_home s z held (sym (same_slot (home k z) (home k' z) e))
+        by false e = its_home s z held (other_slot (home k z) (home k' z) e) is
 
     spare_right : (s : ℕ) → is_marked n2.needed s ≡ is_needed k' s
     spare_right s = elim (cases_Option (number_in (use_at k.slots s))) [
       | inl none ↦ still s (needed_none k' s none ∙ sym (needed_none k s none))
       | inr held ↦ elim (decide (home k' held.0) s) [
-        | inl is ↦ its_home s held.0 held.1 (inl is)
+        | inl is ↦ at_home s held.0 held.1 (inl is)
         | inr off ↦ elim (decide (home k held.0) s) [
-          | inl was ↦ its_home s held.0 held.1 (inr was)
+          | inl was ↦ at_home s held.0 held.1 (inr was)
           | inr never ↦ still s (
               needed_some k' s held.0 held.1 ∙ ap (λ b. b && is_wanted k held.0) (not_slot s (home k' held.0) off
               ∙ sym (not_slot s (home k held.0) never))

@@ -1,5 +1,5 @@
 -- What the tables are given.
-use Rattle.std.specs.Prelude.{◌≡◌, ℕ, ◌==◌, ◌⊎◌, Bool, true, false, Option, Some, None, List, length, slice_set, if◌then◌else◌}
+use Rattle.std.specs.Prelude.{◌≡◌, ◌≢◌, ◌<◌, ℕ, ◌==◌, ◌⊎◌, Bool, true, false, Option, Some, None, List, length, slice_set, if◌then◌else◌}
 use Rattle.std.specs.Option.{option_map, option_and_then}
 use Rattle.slot_tables.specs.declared.given.Given.{Given}
 use Rattle.slot_tables.specs.declared.slots.SlotUse.TheVariants.{Holds}
@@ -30,6 +30,12 @@ abbrev pub settled : Kept → List Bool → Option ℕ → List Bool
 settled k needed None = needed
 settled k needed (Some at) = slice_set needed at (is_needed k at)
 
+-- the marks of the slots up to this one are said anew, and nothing else is
+pub record AreSettled (k : Kept) (upto : ℕ) (old new : Needed) : Type 0 where
+  pub rest : new ≡ record old { needed = new.needed }
+  pub slots : length new.needed ≡ length old.needed
+  pub right : (at : ℕ) → at < upto → is_marked new.needed at ≡ is_needed k at
+
 abbrev pub is_same_slot : Option ℕ → Option ℕ → Bool
 is_same_slot None None = true
 is_same_slot None (Some other) = false
@@ -41,22 +47,23 @@ abbrev pub moved_settled : Kept → List Bool → Option ℕ → Option ℕ → 
 moved_settled k needed before after =
     if is_same_slot before after then needed else settled k (settled k needed before) after
 
--- with that of the home of the record of a number, and of its home by an older spare
+-- with those of its homes by an older spare and now, if they are not the same
 abbrev pub held_settled : Kept → Option ℕ → List Bool → Option ℕ → List Bool
 held_settled k older needed number =
-    settled k (settled k needed (option_and_then (home_in k.shape older k.slots) number))
+    moved_settled k needed (option_and_then (home_in k.shape older k.slots) number)
     (option_and_then (home k) number)
 
--- a slot is, or was by an older spare, the home of a record with a slot in this block
+-- a slot is, or was by an older spare, the home of a record with a slot in this block, whose home moved
 pub record IsHomeFrom (k : Kept) (older : Option ℕ) (block at : ℕ) : Type 0 where
   pub slot : ℕ
   pub number : ℕ
   pub within : Contains (slots_in k.shape block) slot
   pub holds : use_at k.slots slot ≡ Holds number
+  pub moved : home_in k.shape older k.slots number ≢ home k number
   pub home : (home k number ≡ Some at) ⊎ (home_in k.shape older k.slots number ≡ Some at)
 
--- each slot that is or was the home of a record with a slot in this block is marked as it is needed, and the
--- mark of each other one stays or is so too
+-- each slot that is or was the home of a record with a slot in this block, whose home moved, is marked as it is
+-- needed, and the mark of each other one stays or is so too
 pub record IsSettledFrom (k : Kept) (older : Option ℕ) (block : ℕ) (old new : Needed) : Type 0 where
   pub size : new ≡ record old { needed = new.needed }
   pub slots : length new.needed ≡ length old.needed

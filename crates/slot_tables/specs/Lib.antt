@@ -13,3 +13,4 @@ pub mod KeptWaits
 pub mod KeptCurrent
 pub mod Tables
 pub mod Gathered
+pub mod Filling

@@ -84,16 +84,15 @@ impl Tables {
         self.given.waits.set(number, to);
     }
 
-    /// Pins a page at a version, in place of an older one. Version 0 pins none. This goes through the
-    /// records of the page that are above the lower one of the two versions.
+    /// Pins a page at a version, in place of an older one. Version 0 pins none, and no record of the page
+    /// has it. This goes through the records of the page that are above the lower one of the two versions.
     pub fn pin(&mut self, page: u32, version: u64)
-        requires { page < length self.old.pages }
+        requires page { page < length self.old.pages }
+        requires above { (number : ℕ) (r : Rec) → record_at self.old.records number ≡ Some r →
+            r.page ≡ page → 0 < r.version }
         ensures { self.new ≡ record self.old { pins = slice_set self.old.pins page version } }
     {
-        let before = self
-            .given
-            .records
-            .number_of(page, self.given.pins[page as usize]);
+        let before = self.given.pinned_number(page);
         let now = self.given.records.number_of(page, version);
         self.given.pins[page as usize] = version;
         self.given.settle_home(&mut self.needs, before);
@@ -107,10 +106,7 @@ impl Tables {
             r.page ≡ page → 0 < r.version }
         ensures { self.new ≡ record self.old { pins = slice_set self.old.pins page 0 } }
     {
-        let before = self
-            .given
-            .records
-            .number_of(page, self.given.pins[page as usize]);
+        let before = self.given.pinned_number(page);
         self.given.pins[page as usize] = 0;
         self.given.settle_home(&mut self.needs, before);
     }

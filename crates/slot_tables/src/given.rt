@@ -1,9 +1,11 @@
-ghost use Rattle.std.specs.Prelude.{◌≡◌, ℕ, ◌<◌, length, IfSome};
+ghost use Rattle.std.specs.Prelude.{◌≡◌, ℕ, ◌<◌, ◌↔◌, length, slice_index, Some, IfSome, IsSomeAnd};
 ghost use Rattle.std.specs.Option.{option_map, option_and_then};
 ghost use Rattle.tx_types.specs.Config.{blocks_of};
+ghost use Rattle.tx_types.specs.declared.record.Rec.{Rec};
 ghost use Rattle.record_list.specs.Written.{is_slot};
 ghost use Rattle.slot_tables.specs.Kept.{home, home_in, is_wanted, is_needed, first_below, links_below, record_at};
-ghost use Rattle.slot_tables.specs.Given.{kept_of, settled, held_settled, is_same_slot, moved_settled, IsSized, IsSettledFrom};
+ghost use Rattle.slot_tables.specs.Versions.{Names};
+ghost use Rattle.slot_tables.specs.Given.{kept_of, settled, is_same_slot, moved_settled, IsSized, AreSettled, IsSettledFrom};
 
 use crate::answers::Answers;
 use crate::current::Current;
@@ -46,6 +48,25 @@ impl Given {
         match number {
             None => None,
             Some(number) => self.slots.home(self.shape, spare, number),
+        }
+    }
+
+    /// The number of the record at which a page is pinned, if there is one. None of its records has
+    /// version 0, which pins none.
+    pub fn pinned_number(&self, page: u32) -> Option<u32>
+        requires sized { IsSized self.now }
+        requires page { page < length self.now.records.pages }
+        requires above { (number : ℕ) (r : Rec) → record_at self.now.records.records number ≡ Some r →
+            r.page ≡ page → 0 < r.version }
+        ensures found { IfSome result (λ number.
+            IsSomeAnd (record_at self.now.records.records number)
+            (Names page (slice_index self.now.pins.items page))) }
+        ensures names { (number : ℕ) (r : Rec) → record_at self.now.records.records number ≡ Some r →
+            Names page (slice_index self.now.pins.items page) r ↔ (result ≡ Some number) }
+    {
+        match self.pins[page as usize] {
+            0 => None,
+            version => self.records.number_of(page, version),
         }
     }
 
@@ -111,7 +132,25 @@ impl Given {
         ensures { let at = option_and_then (home (kept_of self.now)) number in
             needs.new ≡ record needs.old { needed = settled (kept_of self.now) needs.old.needed at } }
     {
-        self.settle(needs, self.home_of(number));
+        if let Some(number) = number {
+            self.settle_wanted(needs, number, self.home_of(Some(number)));
+        }
+    }
+
+    /// Says anew of the home of the record of a number, if it has one, whether it is needed: where the record is
+    /// wanted.
+    fn settle_wanted(&self, needs: &mut Needs, number: u32, at: Option<u32>)
+        requires sized { IsSized self.now }
+        requires number { number < length self.now.slots }
+        requires home { at ≡ home (kept_of self.now) number }
+        requires needs { length needs.old.needed ≡ length self.now.slots }
+        ensures { needs.new ≡ record needs.old {
+          needed = settled (kept_of self.now) needs.old.needed at;
+        } }
+    {
+        if let Some(at) = at {
+            needs.set(at, self.is_wanted(number));
+        }
     }
 
     /// Where the home of the record of a number is another slot than before, says anew whether each of the two is
@@ -129,7 +168,9 @@ impl Given {
         let home = self.home_of(number);
         if !is_same(before, home) {
             self.settle(needs, before);
-            self.settle(needs, home);
+            if let Some(number) = number {
+                self.settle_wanted(needs, number, home);
+            }
         }
     }
 
@@ -147,8 +188,19 @@ impl Given {
         }
     }
 
-    /// Says anew whether each slot is needed that is or was, by an older spare, the home of a record with a
-    /// slot in this block.
+    /// Says anew of each slot whether it is needed.
+    pub fn settle_all(&self, needs: &mut Needs)
+        requires sized { IsSized self.now }
+        requires needs { length needs.old.needed ≡ length self.now.slots }
+        ensures { AreSettled (kept_of self.now) (length self.now.slots) needs.old needs.new }
+    {
+        for at in 0..self.shape.slots() {
+            self.settle(needs, Some(at));
+        }
+    }
+
+    /// Where another slot than by an older spare is the home of a record with a slot in this block, says anew
+    /// whether each of the two is needed.
     pub fn settle_block(&self, needs: &mut Needs, older: Option<Block>, block: Block)
         requires sized { IsSized self.now }
         requires block { block.0 < blocks_of self.now.shape }
@@ -158,25 +210,8 @@ impl Given {
     {
         let first = block.0 * self.shape.pages_per_block;
         for at in first..first + self.shape.pages_per_block {
-            self.settle_held(needs, older, number_in(self.slots.get(at)));
-        }
-    }
-
-    /// Says anew whether the home of the record of a number is needed, and its home by an older spare.
-    fn settle_held(&self, needs: &mut Needs, older: Option<Block>, number: Option<u32>)
-        requires sized { IsSized self.now }
-        requires number { IfSome number (λ number. number < length self.now.slots) }
-        requires needs { length needs.old.needed ≡ length self.now.slots }
-        ensures { needs.new ≡ record needs.old {
-          needed =
-              held_settled (kept_of self.now) (option_map (λ b. b.0) older) needs.old.needed number;
-        } }
-    {
-        let before = self.home_by(older, number);
-        self.settle(needs, before);
-        let home = self.home_of(number);
-        if !is_same(before, home) {
-            self.settle(needs, home);
+            let number = number_in(self.slots.get(at));
+            self.settle_moved(needs, self.home_by(older, number), number);
         }
     }
 }

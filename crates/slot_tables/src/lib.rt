@@ -6,6 +6,7 @@
 mod answers;
 mod changing;
 mod current;
+mod filling;
 mod gathering;
 mod given;
 mod needs;
@@ -18,5 +19,6 @@ mod tally;
 mod tests;
 mod waits;
 
+pub use filling::Filling;
 pub use slots::SlotUse;
 pub use tables::Tables;

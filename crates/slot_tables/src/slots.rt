@@ -1,4 +1,4 @@
-ghost use Rattle.std.specs.Prelude.{◌≡◌, ℕ, ◌+◌, ◌*◌, ◌<◌, ◌≤◌, ◌++◌, length, map, replicate, slice_set, find, vec_len, vec_capacity, Some, IfOk};
+ghost use Rattle.std.specs.Prelude.{◌≡◌, ℕ, ◌+◌, ◌*◌, ◌/◌, ◌<◌, ◌≤◌, ◌++◌, nat_eq, length, map, replicate, slice_set, find, vec_len, vec_capacity, Some, IfOk};
 ghost use Rattle.std.specs.List.{insert, remove, position_or_len, slice_get};
 ghost use Rattle.std.specs.Option.{option_map};
 ghost use Rattle.record_list.specs.Written.{is_outside_spare};
@@ -147,14 +147,27 @@ impl Slots {
 }
 
 /// Whether a slot lies outside a block, if there is one.
+#[inline(always)]
 fn is_outside(shape: Shape, block: Option<Block>, at: u32) -> bool
     requires { IsShape shape }
     ensures { result ≡ is_outside_spare shape (option_map (λ b. b.0) block) at }
 {
     match block {
         None => true,
-        Some(block) => at / shape.pages_per_block != block.0,
+        Some(block) => !is_in_block(shape.pages_per_block, block, at),
     }
+}
+
+/// Whether a slot lies in a block, where a block has so many slots.
+#[inline(always)]
+fn is_in_block(size: u32, block: Block, at: u32) -> bool
+    requires { 0 < size }
+    ensures { result ≡ nat_eq (at / size) block.0 }
+{
+    let size = u64::from(size);
+    let first = u64::from(block.0) * size;
+    let at = u64::from(at);
+    first <= at && at - first < size
 }
 
 /// Puts a place into the rising list of a key, where it is not.

@@ -1,16 +1,11 @@
-ghost use Rattle.std.specs.Prelude.{◌≡◌, ◌≤◌, replicate, None, [], IfOk};
+ghost use Rattle.std.specs.Prelude.{◌≡◌, ◌≤◌, IfOk};
 ghost use Rattle.tx_types.specs.Config.{IsShape, slots_of};
-ghost use Rattle.slot_tables.specs.declared.slots.SlotUse.TheVariants as slot;
-ghost use Rattle.slot_tables.specs.Kept.{blank_tables, IsKept};
+ghost use Rattle.slot_tables.specs.Kept.{blank_tables};
 
-use crate::answers::Answers;
-use crate::current::Current;
+use crate::filling::Filling;
 use crate::given::Given;
 use crate::needs::Needs;
-use crate::records::Records;
-use crate::slots::Slots;
 use crate::tally::Tally;
-use crate::waits::Waits;
 use std::alloc::{AllocError, Global};
 use std::marker::Model;
 use tx_types::Shape;
@@ -44,20 +39,6 @@ impl Tables {
         requires pages { logical ≤ slots_of shape }
         ensures { IfOk result (λ t. t ≡ blank_tables shape logical) }
     {
-        let slots = shape.slots();
-        Ok(Tables {
-            given: Given {
-                shape,
-                slots: Slots::new(alloc, slots)?,
-                records: Records::new(alloc, logical, slots)?,
-                current: Current::new(alloc, logical)?,
-                answers: Answers::new(alloc, slots)?,
-                waits: Waits::new(alloc, logical, slots)?,
-                pins: vec![in alloc; 0; logical as usize]?,
-                spare: None,
-            },
-            blanks: Tally::new(alloc, shape.blocks(), shape.pages_per_block, true)?,
-            needs: Needs::new(alloc, shape.blocks(), shape.pages_per_block)?,
-        })
+        Filling::new(alloc, shape, logical)?.finish(alloc)
     }
 }

@@ -1,6 +1,6 @@
 //! After random changes the tables tell what plain loops over what they are given tell.
 
-ghost use Rattle.std.specs.Prelude.{◌≡◌, ◌<◌, [], length, IsTrue, IfSome, Some};
+ghost use Rattle.std.specs.Prelude.{ℕ, ◌≡◌, ◌<◌, [], length, IsTrue, IfSome, Some};
 ghost use Rattle.tx_types.specs.Config.{slots_of, blocks_of};
 ghost use Rattle.slot_tables.specs.Kept.{record_at, copies_of, IsNewest};
 ghost use Rattle.slot_tables.specs.Versions.{HasFree};
@@ -79,6 +79,28 @@ fn is_older(other: Option<Rec>, rec: Rec) -> bool
     match other {
         None => true,
         Some(other) => other.page != rec.page || other.version < rec.version,
+    }
+}
+
+/// Whether each record has a version above 0.
+fn are_above(tables: &Tables) -> bool
+    ensures { IsTrue result → (number : ℕ) → IfSome (record_at tables.now.records number) (λ r. 0 < r.version) }
+{
+    for number in 0..tables.shape().slots() {
+        if !is_above(tables.record(number)) {
+            return false;
+        }
+    }
+    true
+}
+
+/// Whether a record, if there is one, has a version above 0.
+fn is_above(rec: Option<Rec>) -> bool
+    ensures { IsTrue result → IfSome rec (λ r. 0 < r.version) }
+{
+    match rec {
+        None => true,
+        Some(rec) => rec.version > 0,
     }
 }
 
@@ -231,7 +253,10 @@ fn change(rt: &impl Abort, tables: &mut Tables, kind: u32, at: u32, number: u32,
         5 => tables.set_current(page, None),
         6 => tables.set_answerer(at, Some(number)),
         7 => tables.set_answerer(at, None),
-        8 => tables.pin(page, u64::from(number)),
+        8 => {
+            assert!(rt; are_above(tables));
+            tables.pin(page, u64::from(number));
+        }
         9 => tables.set_waits(number, Some(page)),
         10 => {
             let block = at % BLOCKS;

@@ -1,7 +1,8 @@
 -- What tables of slots and records have noted, slot by slot and record by record.
-use Rattle.std.proofs.Common.{◌≡◌, ℕ, length, Contains, List, Any, Option, Some, refl, sym, ap, ◌∙◌, inl, inr}
+use Rattle.std.proofs.Common.{◌≡◌, ℕ, ◌<◌, ◌≤◌, arith, length, Contains, List, Any, Option, Some, refl, sym, ap, ◌∙◌, inl, inr}
 use Rattle.std.proofs.Math.ListN.{get_or-map}
 use Rattle.std.proofs.lemmas.List.{length-map}
+use Rattle.std.proofs.lemmas.List.Elements.{All-contains}
 use Rattle.std.specs.Option.{option_map_or}
 use Rattle.list_facts.proofs.Membership.{any_in}
 use Rattle.list_facts.proofs.Options.{cases_Option}
@@ -9,6 +10,7 @@ use Rattle.tx_types.specs.declared.config.Config.{Config}
 use Rattle.tx_types.specs.declared.config.Protocol.{Protocol}
 use Rattle.tx_types.specs.declared.record.Rec.{Rec}
 use Rattle.record_list.specs.declared.found.Found.{Found}
+use Rattle.record_list.specs.Records.{IsScanned}
 use Rattle.slot_tables.specs.declared.slots.SlotUse.{SlotUse}
 use Rattle.slot_tables.specs.declared.slots.SlotUse.TheVariants as slot
 use Rattle.slot_tables.specs.Kept.{Kept, use_at}
@@ -71,6 +73,13 @@ module _ (k : Kept) (h : AreHeld k) where
       let used = h.used x r is in
       let here = note_held k used.0 x r used.1 is in
       (used.0, used.1, noted_in (notes_in k) used.0 r (holds_within (notes_in k) used.0 r here) here)
+
+  -- where the noted records are scanned ones, its version is above 0
+  pub kept_above : IsScanned (found_in (notes_in k)) → (x : ℕ) (r : Rec) → rec_at k.records x ≡ Some r → 0 < r.version
+  kept_above scanned x r is =
+      let f = kept_found x r is in
+      let low = All-contains (λ f. (1 ≤ f.rec.version) × (1 ≤ f.rec.next.version)) (found_in (notes_in k)) (found f.0 r) scanned.versions f.2 in
+      omega (arith, low.0)
 
   -- and a noted record has a number, which its slot holds
   pub found_number : (f : Found) → Contains (found_in (notes_in k)) f → HoldsNumber k f.slot.0 f.rec

@@ -5,11 +5,11 @@ ghost use Rattle.version_index.specs.Judged.{name_at, answerer, is_waiting};
 ghost use Rattle.version_index.specs.Numbered.{awaited};
 
 use record_chart::Standing;
-use slot_tables::Tables;
+use slot_tables::Filling;
 use tx_types::{Link, Protocol, Rec};
 
 /// Says of each page which record is current.
-pub fn decide_current(tables: &mut Tables, logical: u32, standing: &Standing, numbers: &[u32])
+pub fn decide_current(tables: &mut Filling, logical: u32, standing: &Standing, numbers: &[u32])
     requires logical { standing.now.logical ≡ logical }
     requires numbered { AreNumbered standing.now.list numbers.now tables.old }
     requires whole { length numbers.now ≡ length standing.now.list }
@@ -25,7 +25,7 @@ pub fn decide_current(tables: &mut Tables, logical: u32, standing: &Standing, nu
 }
 
 /// Says of each record which one answers for it, and whether it waits.
-pub fn decide_records(tables: &mut Tables, logical: u32, standing: &Standing, numbers: &[u32])
+pub fn decide_records(tables: &mut Filling, logical: u32, standing: &Standing, numbers: &[u32])
     requires logical { standing.now.logical ≡ logical }
     requires numbered { AreNumbered standing.now.list numbers.now tables.old }
     requires whole { length numbers.now ≡ length standing.now.list }

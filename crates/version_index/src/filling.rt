@@ -12,7 +12,7 @@ use crate::holding::hold_notes;
 use crate::numbering::number_records;
 use record_chart::{Chart, Standing};
 use record_list::Found;
-use slot_tables::Tables;
+use slot_tables::Filling;
 use std::alloc::{AllocError, Global};
 use tx_types::{Memory, Protocol};
 
@@ -20,7 +20,7 @@ use tx_types::{Memory, Protocol};
 /// their pages stand.
 pub fn fill(
     alloc: Global,
-    tables: &mut Tables,
+    tables: &mut Filling,
     logical: u32,
     notes: &[Note],
     standing: &Standing,

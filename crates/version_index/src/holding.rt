@@ -7,12 +7,12 @@ ghost use Rattle.version_index.specs.Tables.{notes_in};
 
 use crate::Note;
 use record_chart::Chart;
-use slot_tables::{SlotUse, Tables};
+use slot_tables::{Filling, SlotUse};
 use tx_types::{Link, Slot};
 
 /// Each slot is used as it was noted, by the numbers of the records. The last slots come first, as each
 /// record then goes in front of its copies.
-pub fn hold_notes(tables: &mut Tables, chart: &Chart, numbers: &[u32], notes: &[Note])
+pub fn hold_notes(tables: &mut Filling, chart: &Chart, numbers: &[u32], notes: &[Note])
     requires notes { length notes.now ≡ slots_of tables.old.shape }
     requires numbered { AreNumbered chart.now numbers.now tables.old }
     requires whole { length numbers.now ≡ length chart.now }

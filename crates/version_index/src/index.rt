@@ -12,7 +12,7 @@ use crate::noting::noted_slots;
 use flash_model::Seen;
 use record_chart::Standing;
 use record_list::{CommitRule, Found};
-use slot_tables::Tables;
+use slot_tables::{Filling, Tables};
 use std::alloc::Global;
 use std::marker::{Model, PhantomData};
 use tx_types::{Config, Memory};
@@ -85,8 +85,9 @@ impl<R: CommitRule> Index<R> {
             unreachable!();
         };
         let notes = noted_slots(alloc, seen, list)?;
-        let mut tables = Tables::new(alloc, shape, config.logical)?;
-        fill(alloc, &mut tables, config.logical, &notes, standing)?;
+        let mut filling = Filling::new(alloc, shape, config.logical)?;
+        fill(alloc, &mut filling, config.logical, &notes, standing)?;
+        let tables = filling.finish(alloc)?;
         Ok(Index {
             config,
             tables,

@@ -7,14 +7,14 @@ ghost use Rattle.slot_tables.specs.Versions.{HasFree};
 ghost use Rattle.version_index.specs.Filling.{NamesAgree, IsNotOlder, IsKnown, HasNumber, AreNumbered, AreBlankBut};
 
 use record_list::Found;
-use slot_tables::Tables;
+use slot_tables::Filling;
 use std::alloc::Global;
 use tx_types::{Memory, Rec};
 
 /// Gives each record a number, and tells them. The records stand in the order of their names.
 pub fn number_records(
     alloc: Global,
-    tables: &mut Tables,
+    tables: &mut Filling,
     records: &[Found],
 ) -> Result<Vec<u32>, Memory>
     requires blank { tables.old ≡ blank_tables tables.old.shape (length tables.old.pages) }
@@ -35,7 +35,7 @@ pub fn number_records(
 }
 
 /// The number of a record that is not older than those of its page.
-fn number_of(tables: &mut Tables, rec: Rec) -> u32
+fn number_of(tables: &mut Filling, rec: Rec) -> u32
     requires page { rec.page < length tables.old.pages }
     requires free { HasFree tables.old.records }
     requires order { IsNotOlder tables.old rec }
@@ -50,7 +50,7 @@ fn number_of(tables: &mut Tables, rec: Rec) -> u32
 }
 
 /// The number that has a record of this name, which is the newest of its page.
-fn known_number(tables: &Tables, rec: Rec) -> Option<u32>
+fn known_number(tables: &Filling, rec: Rec) -> Option<u32>
     requires page { rec.page < length tables.now.pages }
     requires order { IsNotOlder tables.now rec }
     ensures within { IfSome result (λ x. x < slots_of tables.now.shape) }

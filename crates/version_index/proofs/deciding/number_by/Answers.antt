@@ -1,4 +1,4 @@
-use Rattle.std.proofs.Common.{◌≡◌, List, None, slice_index, sym, ap, ◌∙◌}
+use Rattle.std.proofs.Common.{List, slice_index, sym, ap, ◌∙◌}
 use Rattle.std.specs.List.{position}
 use Rattle.std.specs.Option.{option_map}
 use Rattle.record_list.specs.declared.found.Found.{Found}

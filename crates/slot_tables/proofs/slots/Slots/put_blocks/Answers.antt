@@ -1,5 +1,5 @@
 -- The loop goes through the copies, and puts the block of each.
-use Rattle.std.proofs.Common.{◌≡◌, ◌<◌, ◌+◌, ◌++◌, ◌∷◌, [], List, ℕ, length, map, vec_len, vec_capacity, refl, sym, ap, ◌∙◌, append_assoc, arith}
+use Rattle.std.proofs.Common.{◌<◌, ◌+◌, ◌++◌, ◌∷◌, [], List, ℕ, length, map, vec_len, refl, sym, ap, ◌∙◌, append_assoc, arith}
 use Rattle.std.proofs.lemmas.List.{append-nil}
 use Rattle.plain_tables.specs.ChainLists.{list_of, rest_from}
 use Rattle.slot_tables.specs.Kept.{copies_of}

@@ -1,13 +1,15 @@
 -- The home of the record that the old pin names is settled, and the new pin names none.
 use Rattle.std.proofs.Common.{◌<◌, None, length, sym, ◌∙◌, arith}
-use Rattle.std.proofs.lemmas.List.{get_or_read}
 use Rattle.slot_tables.proofs.Settling.{pin_set, found_lies}
 use Rattle.slot_tables.proofs.tables.Tables.unpin.Goals as goal
+
+pub pinned_number-before-requires-clause-above : goal.pinned_number-before-requires-clause-above
+pinned_number-before-requires-clause-above c = rw (← c.self.view_is) at c.requires.above
 
 pub settle_home-requires-clause-number : goal.settle_home-requires-clause-number
 settle_home-requires-clause-number c =
     let kept = c.self.invariant.sized.kept in
-    found_lies _ _ _ c.number_of-before.result (kept.slots ∙ sym kept.records) c.number_of-before.ensures.found
+    found_lies _ _ _ c.pinned_number-before.result (kept.slots ∙ sym kept.records) c.pinned_number-before.ensures.found
 
 pub invariant_of-self : goal.invariant_of-self
 invariant_of-self c =
@@ -15,8 +17,7 @@ invariant_of-self c =
     let kept = c.self.invariant.sized.kept in
     let low : c.args.page < length t.given.pins.items = rw kept.pins (rw (← c.self.view_is) at c.requires.page) in
     let above = rw (← c.self.view_is) at c.requires.above in
-    let read = get_or_read t.given.pins.items c.args.page c.index.result.now low c.index.ensures 0 in
     rw c.settle_home.ensures
-    (pin_set t c.self.invariant c.args.page 0 c.number_of-before.result None low
-    (λ number r e names. (c.number_of-before.ensures.names number r e).0 (rw read names))
+    (pin_set t c.self.invariant c.args.page 0 c.pinned_number-before.result None low
+    (λ number r e names. (c.pinned_number-before.ensures.names number r e).0 names)
     (λ number r e names. absurd (omega (arith, above number r e names.0, names.1))))

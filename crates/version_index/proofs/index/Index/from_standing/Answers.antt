@@ -23,7 +23,7 @@ pub fill-requires-clause-few : goal.fill-requires-clause-few
 fill-requires-clause-few g c =
     let same : c.in-Ok.shape ≡ shape_of c.args.config =
     ap (λ r. result_unwrap_or r (shape_of c.args.config)) (sym c.in-Ok.is ∙ c.check.ensures.exact ∙ c.requires.check) in
-    let slots = ap (λ (t : Kept). slots_of t.shape) c.in_ok-tables.ensures ∙ ap slots_of same in
+    let slots = ap (λ (t : Kept). slots_of t.shape) c.in_ok-filling.ensures ∙ ap slots_of same in
     let long = length_permutation c.args.list.now c.args.standing.now.list c.requires.sorts.records in
     let notes = sym (length-map c.in_ok-notes.notes.items seen_as) ∙ ap length c.in_ok-notes.ensures.seen in
     let found = ap length c.in_ok-notes.ensures.found in
@@ -31,14 +31,14 @@ fill-requires-clause-few g c =
     let seen = c.requires.seen in
     omega arith
 
-pub invariant_of-result-2 : goal.invariant_of-result-2
-invariant_of-result-2 g c =
+pub invariant_of-result : goal.invariant_of-result
+invariant_of-result g c =
     let t : Kept = c.fill.new.tables in
     let its = c.args.config in
     let m = c.in_ok-first_mentions.field-0.items in
     let same : c.in-Ok.shape ≡ shape_of its =
     ap (λ r. result_unwrap_or r (shape_of its)) (sym c.in-Ok.is ∙ c.check.ensures.exact ∙ c.requires.check) in
-    let shape = ap (λ (u : Kept). u.shape) c.in_ok-tables.ensures ∙ same in
+    let shape = ap (λ (u : Kept). u.shape) c.in_ok-filling.ensures ∙ same in
     let notes = c.in_ok-fill.ensures.notes ∙ c.deref.ensures.value in
     let found = ap found_in notes ∙ c.in_ok-notes.ensures.found in
     let filled = subst (λ p. AreFilled p c.args.standing.now.list (shape_of its) its.logical t) c.requires.protocol
@@ -52,7 +52,7 @@ invariant_of-result-2 g c =
       spare = filled.spare;
       mentions = c.in_ok-first_mentions.ensures;
     }) in
-    subst (λ (k : Kept). AreIndexed g.R.CommitRule.protocol its m k) (sym c.tables.view_is)
+    subst (λ (k : Kept). AreIndexed g.R.CommitRule.protocol its m k) (sym c.in_ok-tables.ensures)
     (filled_indexed _ its m t c.args.standing.now.list noted (subst (λ l. Sorts l c.args.standing.now.list) (sym found) c.requires.sorts) filled)
 
 pub returns : goal.returns
@@ -62,7 +62,7 @@ returns g c =
     let m = c.in_ok-first_mentions.field-0.items in
     let notes = c.in_ok-fill.ensures.notes ∙ c.deref.ensures.value in
     let filled = c.in_ok-fill.ensures.filled in
-    subst (λ (k : Kept). IsNotedFrom its c.args.seen.now c.args.list.now (noted_by its m k)) (sym c.tables.view_is) (record {
+    subst (λ (k : Kept). IsNotedFrom its c.args.seen.now c.args.list.now (noted_by its m k)) (sym c.in_ok-tables.ensures) (record {
       config = refl;
       reads = ap (map seen_as) notes ∙ c.in_ok-notes.ensures.seen;
       found = ap found_in notes ∙ c.in_ok-notes.ensures.found;
@@ -95,7 +95,7 @@ pub fill-requires-clause-notes : goal.fill-requires-clause-notes
 fill-requires-clause-notes g c =
     let same : c.in-Ok.shape ≡ shape_of c.args.config =
     ap (λ r. result_unwrap_or r (shape_of c.args.config)) (sym c.in-Ok.is ∙ c.check.ensures.exact ∙ c.requires.check) in
-    let slots = ap (λ (t : Kept). slots_of t.shape) c.in_ok-tables.ensures ∙ ap slots_of same in
+    let slots = ap (λ (t : Kept). slots_of t.shape) c.in_ok-filling.ensures ∙ ap slots_of same in
     let long = ap length c.deref.ensures.value in
     let notes = sym (length-map c.in_ok-notes.notes.items seen_as) ∙ ap length c.in_ok-notes.ensures.seen in
     let seen = c.requires.seen in
@@ -103,7 +103,7 @@ fill-requires-clause-notes g c =
 
 pub fill-requires-clause-blank : goal.fill-requires-clause-blank
 fill-requires-clause-blank g c =
-    let is = c.in_ok-tables.ensures in
+    let is = c.in_ok-filling.ensures in
     is ∙ ap (λ s. blank_tables s c.args.config.logical) (sym (ap (λ (t : Kept). t.shape) is))
 
 pub new-requires-clause-shape : goal.new-requires-clause-shape

@@ -1,4 +1,4 @@
-use Rattle.std.proofs.Common.{◌≡◌, Bool, false, true, None, refl, ap, subst, sym, inr, ◌∙◌, ◌<◌}
+use Rattle.std.proofs.Common.{◌≡◌, false, true, None, refl, ap, subst, sym, inr, ◌∙◌, ◌<◌}
 use Rattle.std.proofs.lemmas.Bool.{cond-true, cond-false}
 use Rattle.version_index.specs.Noted.{IsNoted, current_name_of, discarded_of, home_of}
 use Rattle.version_index.proofs.KeptReadings.{read_home}

@@ -1,7 +1,12 @@
 use Rattle.std.proofs.Common.{subst, sym}
 use Rattle.version_index.specs.Tables.{AreIndexed}
 use Rattle.version_index.proofs.KeptChanges.{pinned_indexed}
+use Rattle.version_index.proofs.KeptNotes.{kept_above}
 use Rattle.version_index.proofs.index.Index.pin.Goals as goal
+
+pub pin-requires-clause-above : goal.pin-requires-clause-above
+pin-requires-clause-above g c number r e page =
+    kept_above c.self.inside.tables c.self.invariant.held c.self.invariant.noted.scanned number r e
 
 pub invariant_of-self : goal.invariant_of-self
 invariant_of-self g c =

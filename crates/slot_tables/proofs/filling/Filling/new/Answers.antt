@@ -1,11 +1,11 @@
 -- At first all slots are blank.
 use Rattle.std.proofs.Common.{rules, arith}
-use Rattle.slot_tables.proofs.FirstTables.{first_tables}
-use Rattle.slot_tables.proofs.tables.Tables.new.Goals as goal
+use Rattle.slot_tables.proofs.FirstTables.{first_filling}
+use Rattle.slot_tables.proofs.filling.Filling.new.Goals as goal
 
 pub new-requires-6-clause-small : goal.new-requires-6-clause-small
 new-requires-6-clause-small c = rw c.blocks-2.ensures (omega (arith, c.requires.shape.slots_most))
 
 pub invariant_of-result : goal.invariant_of-result
 invariant_of-result c =
-    first_tables c.args.shape c.args.logical c.requires.shape c.requires.pages _ (search rules) (search rules) (search rules) (search rules)
+    first_filling c.args.shape c.args.logical c.requires.shape c.requires.pages _ (search rules) (search rules) (search rules) (search rules)

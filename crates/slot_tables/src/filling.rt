@@ -1,0 +1,151 @@
+ghost use Rattle.std.specs.Prelude.{◌≡◌, ◌<◌, ◌≤◌, length, slice_set, Some, None, IfOk, IfSome};
+ghost use Rattle.std.specs.List.{slice_get};
+ghost use Rattle.tx_types.specs.Config.{IsShape, slots_of};
+ghost use Rattle.slot_tables.specs.Kept.{record_at, numbers_at, added, blank_tables, IsKept, IsNewest};
+ghost use Rattle.slot_tables.specs.Versions.{HasFree};
+ghost use Rattle.slot_tables.specs.Copies.{NumbersBelow};
+
+use crate::Tables;
+use crate::answers::Answers;
+use crate::current::Current;
+use crate::given::Given;
+use crate::needs::Needs;
+use crate::records::Records;
+use crate::slots::{SlotUse, Slots, is_blank};
+use crate::tally::Tally;
+use crate::waits::Waits;
+use std::alloc::{AllocError, Global};
+use std::marker::Model;
+use tx_types::{Rec, Shape, Slot};
+
+/// Tables that are being filled. Which slots are needed is not kept step by step, but found at the end.
+#[derive(Debug, Drop)]
+pub struct Filling {
+    given: Given,
+    blanks: Tally,
+}
+
+impl Model for Filling {
+    ghost use Rattle.slot_tables.specs.Kept.{Kept};
+
+    ghost Value = { Kept };
+
+    ghost use Rattle.slot_tables.specs.Filling.{filling_of, IsFilling};
+
+    ghost view = { filling_of };
+
+    ghost invariant = { IsFilling };
+}
+
+impl Filling {
+    /// The tables of a flash with nothing but blank slots, for so many logical pages.
+    pub fn new(alloc: Global, shape: Shape, logical: u32) -> Result<Filling, AllocError>
+        requires shape { IsShape shape }
+        requires pages { logical ≤ slots_of shape }
+        ensures { IfOk result (λ t. t ≡ blank_tables shape logical) }
+    {
+        let slots = shape.slots();
+        Ok(Filling {
+            given: Given {
+                shape,
+                slots: Slots::new(alloc, slots)?,
+                records: Records::new(alloc, logical, slots)?,
+                current: Current::new(alloc, logical)?,
+                answers: Answers::new(alloc, slots)?,
+                waits: Waits::new(alloc, logical, slots)?,
+                pins: vec![in alloc; 0; logical as usize]?,
+                spare: None,
+            },
+            blanks: Tally::new(alloc, shape.blocks(), shape.pages_per_block, true)?,
+        })
+    }
+
+    /// The shape of the flash.
+    pub fn shape(&self) -> Shape
+        ensures shape { result ≡ self.now.shape }
+        ensures kept { IsKept self.now }
+    {
+        self.given.shape
+    }
+
+    /// The record of a number.
+    pub fn record(&self, number: u32) -> Option<Rec>
+        requires { number < slots_of self.now.shape }
+        ensures { result ≡ record_at self.now.records number }
+    {
+        self.given.records.get(number)
+    }
+
+    /// The number of the newest record of a page.
+    pub fn newest(&self, page: u32) -> Option<u32>
+        requires { page < length self.now.pages }
+        ensures newest { result ≡ slice_get (numbers_at self.now.pages page) 0 }
+        ensures within { IfSome result (λ number. number < slots_of self.now.shape) }
+    {
+        self.given.records.newest(page)
+    }
+
+    /// Gives a record, newer than those of its page, a number that has none.
+    pub fn add(&mut self, rec: Rec) -> u32
+        requires page { rec.page < length self.old.pages }
+        requires free { HasFree self.old.records }
+        requires newest { IsNewest self.old.records rec }
+        ensures free { record_at self.old.records result ≡ None }
+        ensures within { result < slots_of self.old.shape }
+        ensures added { self.new ≡ added self.old result rec }
+    {
+        self.given.records.add(rec)
+    }
+
+    /// Says what a slot holds. Where it is a record this goes through its copies below the slot.
+    pub fn set_slot(&mut self, at: Slot, to: SlotUse)
+        requires slot { at.0 < slots_of self.old.shape }
+        requires number { NumbersBelow (slots_of self.old.shape) to }
+        ensures { self.new ≡ record self.old { slots = slice_set self.old.slots at.0 to } }
+    {
+        self.given.slots.set(at.0, to);
+        self.blanks.set(at.0, is_blank(to));
+    }
+
+    /// Says which record of a page is current.
+    pub fn set_current(&mut self, page: u32, to: Option<u32>)
+        requires page { page < length self.old.pages }
+        requires number { IfSome to (λ number. number < slots_of self.old.shape) }
+        ensures { self.new ≡ record self.old { current = slice_set self.old.current page to } }
+    {
+        self.given.current.set(page, to);
+    }
+
+    /// Says which record answers for a record.
+    pub fn set_answerer(&mut self, number: u32, to: Option<u32>)
+        requires number { number < slots_of self.old.shape }
+        requires answerer { IfSome to (λ other. other < slots_of self.old.shape) }
+        ensures { self.new
+            ≡ record self.old { answerers = slice_set self.old.answerers number to } }
+    {
+        self.given.answers.set(number, to);
+    }
+
+    /// Says for which page a record waits.
+    pub fn set_waits(&mut self, number: u32, to: Option<u32>)
+        requires number { number < slots_of self.old.shape }
+        requires page { IfSome to (λ page. page < length self.old.pages) }
+        ensures { self.new ≡ record self.old { waits = slice_set self.old.waits number to } }
+    {
+        self.given.waits.set(number, to);
+    }
+
+    /// The tables, once they are filled.
+    pub fn finish(self, alloc: Global) -> Result<Tables, AllocError>
+        ensures { IfOk result (λ t. t ≡ self) }
+    {
+        let shape = self.given.shape;
+        let mut needs = Needs::new(alloc, shape.blocks(), shape.pages_per_block)?;
+        self.given.settle_all(&mut needs);
+        Ok(Tables {
+            given: self.given,
+            blanks: self.blanks,
+            needs,
+        })
+    }
+}
