@@ -13,7 +13,7 @@ use Rattle.record_list.specs.Verdict.{straddling_version}
 use Rattle.record_list.specs.Current.{straddling_upto}
 use Rattle.record_list.proofs.Names.{greatest_bound, greatest_attained}
 use Rattle.record_chart.specs.Charts.{is_below}
-use Rattle.record_chart.proofs.Order.{below_true}
+use Rattle.record_chart.proofs.Order.{below_cases, below_true, true_below}
 use Rattle.record_chart.proofs.Readings.{greatest_is}
 
 -- what straddles a name is of its page
@@ -72,3 +72,17 @@ module _ (l : List Found) (page from to : ℕ)
             sym (get_or-between l from to c.0 nothing (omega arith)) ∙ get_or_default (slice_range l from to) c.0 nothing top.0 low ∙ c.2 in
             inr (from + c.0, omega arith, ap (λ f. of f.rec) e ∙ top.2))
       ]
+
+-- names of earlier pages are below one, and those of later pages are not
+module _ (l : List Found) (name : Link) (from to : ℕ)
+    (before : IsPartitionPoint (λ f. is_below (name_of f.rec) record { page = name.page; version = 0 } ≡ true)
+    (λ f. is_below (name_of f.rec) record { page = name.page; version = 0 } ≡ false) l from)
+    (upto : IsPartitionPoint (λ f. f.rec.page ≤ name.page) (λ f. name.page < f.rec.page) l to) (within : from ≤ length l) (inside : to ≤ length l) where
+  pub earlier_below : (k : ℕ) → k < from → is_below (name_of (record_at l k)) name ≡ true
+  earlier_below k low = true_below (name_of (record_at l k)) name (inl (page_before l name.page from to before upto within inside k low))
+
+  pub later_not_below : (k : ℕ) → to ≤ k → k < length l → is_below (name_of (record_at l k)) name ≡ false
+  later_not_below k high low = elim (below_cases (name_of (record_at l k)) name) [
+    | inr x ↦ x.1
+    | inl x ↦ absurd (let above = upto.1 k nothing high low in elim x.0 [ inl p ↦ omega arith | inr p ↦ omega arith ])
+  ]

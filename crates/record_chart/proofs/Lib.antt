@@ -14,5 +14,6 @@ mod Rings
 mod Sorting
 pub mod Steps
 mod StraddlerGroups
+mod Starts
 mod Straddlers
 pub mod WalkOrbits

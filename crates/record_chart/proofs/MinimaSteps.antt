@@ -1,10 +1,10 @@
 -- Least back versions, from the last record to the first.
-use Rattle.std.proofs.Common.{◌≡◌, ℕ, zero, suc, ◌+◌, ◌<◌, ◌≤◌, min, Bool, true, false, ◌==◌, ◌&&◌, nat_lt, leb, Option, Some, None, List, length, get_or, slice_get, refl, sym, ap, ◌∙◌, subst, inl, inr, arith, eqb-true, eq-eqb, ltb-true, lt-ltb, le-leb, leb-true}
+use Rattle.std.proofs.Common.{◌≡◌, ℕ, ◌+◌, ◌<◌, ◌≤◌, min, Bool, true, false, ◌==◌, ◌&&◌, nat_lt, Option, Some, None, List, length, get_or, slice_get, refl, sym, ap, ◌∙◌, subst, inl, inr, arith, eqb-true, eq-eqb, ltb-true, lt-ltb, le-leb, leb-true}
 use Rattle.std.specs.List.{slice_set}
 use Rattle.std.proofs.lemmas.Bool.{cases_Bool, cases_lt, cases_order, cond-true, cond-false, and_parts, and_from}
 use Rattle.std.proofs.lemmas.List.{length-set, get_or-set_same, get_or-set_other}
 use Rattle.record_list.specs.declared.found.Found.{Found}
-use Rattle.record_list.specs.Records.{record_at, name_of, nothing}
+use Rattle.record_list.specs.Records.{record_at, nothing}
 use Rattle.record_chart.specs.Charts.{IsInOrder}
 use Rattle.record_chart.specs.Minima.{is_up_to, counts, AreMinimaFrom, least_from}
 use Rattle.record_chart.proofs.Order.{later_from, page_rises}

@@ -1,8 +1,8 @@
 -- A search in a part of the records in order.
-use Rattle.std.proofs.Common.{◌≡◌, ℕ, ◌+◌, ◌-◌, ◌<◌, ◌≤◌, Bool, true, false, List, length, get_or, refl, sym, ap, ◌∙◌, subst, subst₂, inl, inr, arith}
+use Rattle.std.proofs.Common.{◌≡◌, ℕ, ◌+◌, ◌-◌, ◌<◌, ◌≤◌, Bool, true, false, List, length, get_or, sym, ap, ◌∙◌, subst, subst₂, inl, inr, arith}
 use Rattle.std.specs.List.{slice_range}
 use Rattle.std.specs.List.Sorted.{IsPartitionPoint}
-use Rattle.std.proofs.lemmas.Bool.{cases_Bool, cases_lt}
+use Rattle.std.proofs.lemmas.Bool.{cases_lt}
 use Rattle.std.proofs.lemmas.List.{get_or_default}
 use Rattle.std.proofs.lemmas.List.Edits.{length-between, get_or-between}
 use Rattle.tx_types.specs.declared.record.Link.{Link}
@@ -50,19 +50,12 @@ point_is l name from to count up inside before behind few parts = (first, second
           subst (λ (f : Found). is_below (name_of f.rec) name ≡ false) (at k d (omega arith) p) (parts.1 (k - from) d (omega arith) (omega arith)))
     ]
 
--- names before one that is below are below, and names after one that is not are not
+-- names before one that is below are below
 pub before_below : (l : List Found) (name : Link) (at : ℕ) → IsInOrder l → at < length l → is_below (name_of (record_at l at)) name ≡ true →
     (k : ℕ) → k ≤ at → is_below (name_of (record_at l k)) name ≡ true
 before_below l name at order within here k low =
     true_below (name_of (record_at l k)) name
     (below_first (name_of (record_at l k)) (name_of (record_at l at)) name (later_from l order k at nothing low within) (below_true (name_of (record_at l at)) name here))
-
-pub after_not_below : (l : List Found) (name : Link) (at : ℕ) → IsInOrder l → is_below (name_of (record_at l at)) name ≡ false →
-    (k : ℕ) → at ≤ k → k < length l → is_below (name_of (record_at l k)) name ≡ false
-after_not_below l name at order here k high low = elim (cases_Bool (is_below (name_of (record_at l k)) name)) [
-  | inr f ↦ f
-  | inl t ↦ absurd (let e = before_below l name k order low t at high in cc)
-]
 
 -- pages up to one have names below that of the next page
 pub page_point : (l : List Found) (page end : ℕ) →

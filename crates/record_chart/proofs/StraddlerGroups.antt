@@ -1,8 +1,8 @@
 -- Straddlers among the records of a page.
-use Rattle.std.proofs.Common.{◌≡◌, ◌≢◌, ℕ, ◌+◌, ◌<◌, ◌≤◌, true, false, leb, ◌⊎◌, Option, Some, None, List, [], length, get_or, slice_get, refl, sym, ap, ◌∙◌, subst, inl, inr, arith, le-leb, leb-true}
+use Rattle.std.proofs.Common.{◌≡◌, ℕ, ◌+◌, ◌<◌, ◌≤◌, true, false, leb, ◌⊎◌, Some, List, [], length, get_or, slice_get, sym, ap, ◌∙◌, inl, inr, arith, le-leb, leb-true}
 use Rattle.std.specs.List.{slice_range}
 use Rattle.std.specs.List.Sorted.{IsPartitionPoint}
-use Rattle.std.proofs.lemmas.Bool.{cases_lt, cases_eq}
+use Rattle.std.proofs.lemmas.Bool.{cases_lt}
 use Rattle.std.proofs.lemmas.List.Edits.{length-between, get_or-between}
 use Rattle.std.proofs.lemmas.Option.{slice_get_past}
 use Rattle.tx_types.specs.declared.record.Link.{Link}
@@ -11,7 +11,7 @@ use Rattle.record_list.specs.declared.found.Found.{Found}
 use Rattle.record_list.specs.Records.{greatest, name_of, record_at, nothing}
 use Rattle.record_list.specs.Verdict.{straddling_version, straddling}
 use Rattle.record_list.specs.Current.{straddling_upto}
-use Rattle.straddle_sets.proofs.Straddle.{Straddles, straddling_is, straddling_none, upto_is, upto_none}
+use Rattle.straddle_sets.proofs.Straddle.{straddling_is, straddling_none, upto_is, upto_none}
 use Rattle.record_chart.specs.Charts.{is_below, IsInOrder}
 use Rattle.record_chart.specs.Minima.{is_up_to, counts, AreMinima, last_above}
 use Rattle.record_chart.proofs.Order.{below_true, below_false, later_from}

@@ -1,8 +1,8 @@
 -- Walks along the links of newest records are orbits of the graph of their places.
-use Rattle.std.proofs.Common.{◌≡◌, ◌≢◌, ℕ, zero, suc, ◌+◌, ◌<◌, ◌≤◌, Bool, true, false, ◌==◌, ◌||◌, nat_lt, leb, not, Option, Some, None, IfSome, List, [], ◌∷◌, length, get_or, position, refl, sym, ap, ◌∙◌, inl, inr, arith, eqb-true, eq-eqb, ne_eqb, lt-ltb, le-ltb, if◌then◌else◌}
+use Rattle.std.proofs.Common.{◌≡◌, ◌≢◌, ℕ, zero, suc, ◌+◌, ◌<◌, ◌≤◌, Bool, true, false, ◌==◌, ◌||◌, nat_lt, leb, not, Option, Some, None, IfSome, List, [], ◌∷◌, length, get_or, position, map, refl, sym, ap, ap₂, ◌∙◌, inl, inr, arith, eqb-true, eq-eqb, ne_eqb, lt-ltb, le-ltb, if◌then◌else◌}
 use Rattle.std.specs.Prelude.{is_some}
 use Rattle.std.specs.List.{position_or_len, list_any}
-use Rattle.std.proofs.lemmas.Bool.{cases_Bool, cases_lt, cases_eq, cases_order, cond-true, cond-false, ltb-false, le-leb, lt-leb}
+use Rattle.std.proofs.lemmas.Bool.{false≢true, cases_Bool, cases_lt, cases_eq, cases_order, cond-true, cond-false, ltb-false, le-leb, lt-leb}
 use Rattle.std.proofs.lemmas.List.{get_or-map, length-map}
 use Rattle.std.proofs.lemmas.List.Quantifiers.{position-Some}
 use Rattle.std.proofs.lemmas.List.Elements.{All-map, Contains-get_or}
@@ -13,11 +13,12 @@ use Rattle.record_list.specs.declared.found.Found.{Found}
 use Rattle.record_list.specs.declared.found.Why.TheVariants.{Cycle, Absent}
 use Rattle.record_list.specs.Records.{newest, name_of, has_name, is_present, is_same, record_at, nothing}
 use Rattle.record_list.specs.Verdict.{newest_name, link_of, back_of, walk, why}
-use Rattle.record_list.proofs.Names.{absent_link, absent_back, has_name_true}
+use Rattle.record_list.proofs.Names.{absent_link, absent_back, has_name_true, has_own_name}
 use Rattle.record_chart.specs.declared.orbit.Orbit.{Orbit}
 use Rattle.record_chart.specs.declared.orbit.Orbit.TheVariants.{Ends, Round, Aside}
 use Rattle.record_chart.specs.Orbits.{IsGraph, next_of, steps, IsEnd, IsOrbit, AreOrbits}
-use Rattle.record_chart.specs.Charts.{place_of, link_graph, ending, shown, EndsBelow, IsOrbitOfNewest}
+use Rattle.record_chart.specs.Charts.{newest_target, place_of, link_graph, ending, shown, EndsBelow, IsOrbitOfNewest}
+use Rattle.record_chart.specs.NameGraph.{name_graph}
 use Rattle.record_chart.proofs.Steps.{some_or_none, steps_none, steps_stop, steps_more, steps_add, steps_before, steps_stay, end_stops, round_goes_on}
 
 -- the link and the back version of the first record that has a name
@@ -52,6 +53,13 @@ absent_at l name none = elim (cases_Bool (nat_lt (position_or_len (λ f. has_nam
   | inr t ↦ none_pass (λ f. has_name name f.rec) l (ltb-false (position_or_len (λ f. has_name name f.rec) l) (length l) t)
 ]
 
+-- the name of a record is at hand
+pub own_place : (l : List Found) (at : ℕ) → at < length l → position (λ f. has_name (name_of (record_at l at)) f.rec) l ≡ None → ⊥
+own_place l at within none =
+    let name = name_of (record_at l at) in
+    false≢true (sym (absent_at l name none)
+    ∙ any_from (λ f. has_name name f.rec) l (get_or l at nothing) (Contains-get_or l at nothing within) (has_own_name name (record_at l at) refl))
+
 -- whether some record has a name, by whether one was found
 pub present_found : (l : List Found) (name : Link) (o : Option ℕ) → o ≡ position (λ f. has_name name f.rec) l → is_some o ≡ is_present l name
 present_found l name None at = sym (absent_at l name (sym at))
@@ -66,6 +74,25 @@ place_within l link j at = elim (cases_Bool (newest l link.page == link.version)
       (sym (cond-true (newest l link.page == link.version) (position (λ f. has_name link f.rec) l) None t) ∙ at)).0
   | inr t ↦ absurd (let e = cond-false (newest l link.page == link.version) (position (λ f. has_name link f.rec) l) None t in cc)
 ]
+
+-- the place that a link names, where this is the newest, is that to which it leads
+kept_place : (l : List Found) (link : Link) (o : Option ℕ) → position (λ f. has_name link f.rec) l ≡ o → newest_target l o ≡ place_of l link
+kept_place l link None at = elim (cases_Bool (newest l link.page == link.version)) [
+  | inl t ↦ sym (cond-true (newest l link.page == link.version) (position (λ f. has_name link f.rec) l) None t ∙ at)
+  | inr t ↦ sym (cond-false (newest l link.page == link.version) (position (λ f. has_name link f.rec) l) None t)
+]
+kept_place l link (Some i) at =
+    let found = position-Some (λ f. has_name link f.rec) l i nothing at in
+    let named : name_of (record_at l i) ≡ link = has_name_true link (record_at l i) found.1 in
+    rw (at, lt-ltb i (length l) found.0) (ap (λ (n : Link). if newest l n.page == n.version then Some i else None) named)
+
+map_alike : {X Y Z : Type 0} (h : Y → Z) (f : X → Y) (g : X → Z) (xs : List X) → ((x : X) → h (f x) ≡ g x) → map h (map f xs) ≡ map g xs
+map_alike h f g [] same = refl
+map_alike h f g (x ∷ xs) same = ap₂ (λ y ys. y ∷ ys) (same x) (map_alike h f g xs same)
+
+pub kept_links : (l : List Found) → map (newest_target l) (name_graph l) ≡ link_graph l
+kept_links l = map_alike (newest_target l) (λ f. position (λ g. has_name f.rec.next g.rec) l) (λ f. place_of l f.rec.next) l
+    (λ f. kept_place l f.rec.next (position (λ g. has_name f.rec.next g.rec) l) refl)
 
 -- what a record says that was found
 pub found_within : (l : List Found) (name : Link) (i : ℕ) → Some i ≡ position (λ f. has_name name f.rec) l → i < length l

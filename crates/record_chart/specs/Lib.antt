@@ -6,3 +6,4 @@ pub mod NameGraph
 pub mod Orbits
 pub mod Seen
 pub mod Standings
+pub mod Starts

@@ -1,16 +1,18 @@
-ghost use Rattle.std.specs.Prelude.{◌≡◌, ◌<◌, ◌^◌, position, filter, IfOk, length, slice_index_or};
+ghost use Rattle.std.specs.Prelude.{◌≡◌, ◌<◌, ◌^◌, Some, position, filter, IfOk, length, slice_index_or};
 ghost use Rattle.tx_types.specs.declared.config.Protocol.TheVariants.{Bpcc};
-ghost use Rattle.record_list.specs.Records.{greatest, has_name, is_present, newest, next_older};
+ghost use Rattle.record_list.specs.Records.{greatest, name_of, record_at, has_name, is_present, newest, next_older};
 ghost use Rattle.record_list.specs.Verdict.{link_of, back_of, straddling, why};
 ghost use Rattle.record_list.specs.Current.{cur, responsible, straddling_upto};
 ghost use Rattle.record_chart.specs.Charts.{IsInOrder, Sorts, IsOrbitOfNewest};
 ghost use Rattle.record_chart.specs.Minima.{AreMinima};
+ghost use Rattle.record_chart.specs.NameGraph.{name_graph};
+ghost use Rattle.record_chart.specs.Orbits.{IsGraph};
 
 use crate::group::{straddling, straddling_up_to, straddling_up_to_bound};
-use crate::in_order::{back_of, find, link_of, named, newest, next_older, sort};
+use crate::in_order::{back_of, find, first_namesake, link_of, named, newest, next_older, sort};
 use crate::minima::minima;
 use crate::search::page_starts;
-use crate::walks::{links, shown};
+use crate::walks::{links, shown, targets};
 use crate::{Orbit, Orbits};
 use record_list::{Found, Verdict, Why};
 use std::alloc::{AllocError, Global};
@@ -23,6 +25,7 @@ pub struct Chart {
     records: Vec<Found>,
     starts: Vec<u32>,
     least: Vec<u64>,
+    targets: Vec<Option<u32>>,
     orbits: Orbits,
 }
 
@@ -51,17 +54,20 @@ impl Chart {
         sort(&mut records)?;
         let starts = page_starts(alloc, &records)?;
         let least = minima(alloc, &records, &[])?;
-        let links = links(alloc, &records, &starts)?;
+        let targets = targets(alloc, &records, &starts)?;
+        let links = links(alloc, &records, &starts, &targets)?;
         let orbits = Orbits::new(alloc, &links)?;
         Ok(Chart {
             records,
             starts,
             least,
+            targets,
             orbits,
         })
     }
 
     /// The records, in order.
+    #[inline]
     pub fn records(&self) -> &[Found]
         ensures records { result.now ≡ self.now }
         ensures order { IsInOrder result.now }
@@ -70,11 +76,32 @@ impl Chart {
         self.records.as_slice()
     }
 
+    /// For each record the place of the first record that its link names.
+    #[inline]
+    pub fn targets(&self) -> &[Option<u32>]
+        ensures targets { result.now ≡ name_graph self.now }
+        ensures graph { IsGraph result.now }
+        ensures few { length result.now < 2 ^ 32 }
+    {
+        self.targets.as_slice()
+    }
+
     /// The place of the first record with this name.
+    #[inline]
     pub fn find(&self, name: Link) -> Option<u32>
         ensures { result ≡ position (λ f. has_name name f.rec) self.now }
     {
         find(&self.records, &self.starts, name)
+    }
+
+    /// The place of the first record that has the name of the one at this place.
+    #[inline]
+    pub fn first_namesake(&self, at: u32) -> u32
+        requires { at < length self.now }
+        ensures { position (λ f. has_name (name_of (record_at self.now at)) f.rec) self.now
+            ≡ Some result }
+    {
+        first_namesake(&self.records, &self.starts, at)
     }
 
     /// The records with this name.
@@ -85,6 +112,7 @@ impl Chart {
     }
 
     /// Whether some record has this name.
+    #[inline]
     pub fn is_present(&self, name: Link) -> bool
         ensures { result ≡ is_present self.now name }
     {
@@ -92,6 +120,7 @@ impl Chart {
     }
 
     /// The greatest version of a page, 0 for none.
+    #[inline]
     pub fn newest(&self, page: u32) -> u64
         ensures { result ≡ newest self.now page }
     {
@@ -130,7 +159,15 @@ impl Chart {
     pub fn orbit(&self, page: u32) -> Option<Orbit>
         ensures { IsOrbitOfNewest self.now page result }
     {
-        let version = self.newest(page);
+        self.orbit_of_newest(page, self.newest(page))
+    }
+
+    /// Where the links of newest records lead from that of a page, of which this is the newest version.
+    #[inline]
+    fn orbit_of_newest(&self, page: u32, version: u64) -> Option<Orbit>
+        requires { version ≡ newest self.now page }
+        ensures { IsOrbitOfNewest self.now page result }
+    {
         let place = self.find(Link { page, version })?;
         Some(self.orbits.orbit(place))
     }
@@ -139,7 +176,16 @@ impl Chart {
     pub fn why(&self, protocol: Protocol, logical: u32, page: u32) -> Why
         ensures { result ≡ why protocol self.now logical page }
     {
-        match self.orbit(page) {
+        self.why_of_newest(protocol, logical, page, self.newest(page))
+    }
+
+    /// What decides the verdict on the newest record of a page, of which this is the version.
+    #[inline]
+    fn why_of_newest(&self, protocol: Protocol, logical: u32, page: u32, version: u64) -> Why
+        requires { version ≡ newest self.now page }
+        ensures { result ≡ why protocol self.now logical page }
+    {
+        match self.orbit_of_newest(page, version) {
             Some(orbit) => shown(
                 protocol,
                 &self.records,
@@ -157,7 +203,10 @@ impl Chart {
         ensures { result ≡ cur protocol self.now logical page }
     {
         let version = self.newest(page);
-        match self.why(protocol, logical, page).verdict() {
+        match self
+            .why_of_newest(protocol, logical, page, version)
+            .verdict()
+        {
             Verdict::Committed => version,
             Verdict::Uncommitted => match protocol {
                 Protocol::Scc => self.next_older(page, version),

@@ -1,7 +1,7 @@
 //! Law 9, by the orbits of the links.
-ghost use Rattle.std.specs.Prelude.{◌≡◌, ℕ, ◌<◌, ◌^◌, ◌↔◌, false, IsTrue, All, IfOk, length};
+ghost use Rattle.std.specs.Prelude.{◌≡◌, ℕ, ◌<◌, ◌^◌, ◌↔◌, true, false, IsTrue, All, IfOk, length, position, slice_index_or};
 ghost use Rattle.std.specs.List.{list_any};
-ghost use Rattle.record_list.specs.Records.{name_of, IsScanned};
+ghost use Rattle.record_list.specs.Records.{name_of, has_name, nothing, IsScanned};
 ghost use Rattle.record_list.specs.SoundList.{CopiesAgree};
 ghost use Rattle.record_list.specs.Search.{FindsFirst};
 ghost use Rattle.record_list.specs.Counts.{IsFirstReturn, KeepsCount, IsFirstMiscount};
@@ -9,13 +9,15 @@ ghost use Rattle.record_chart.specs.Charts.{Sorts};
 ghost use Rattle.record_chart.specs.Orbits.{AreOrbits};
 ghost use Rattle.record_chart.specs.NameGraph.{name_graph, NamesakesAgree};
 
+use crate::in_order::name_of;
 use crate::{Chart, Orbit, Orbits};
 use record_list::{Breach, Found, breach_at};
 use std::alloc::{AllocError, Global};
 use tx_types::{Link, Rec};
 
 /// The slot that law 9 names, where it is broken, of a list that keeps law 2: by its records in order of
-/// their names. Links are followed where a record has a count, each once.
+/// their names. Links are followed where a record has a count, each once. The list itself is gone
+/// through only where a record breaks the law.
 pub fn counts(alloc: Global, chart: &Chart, list: &[Found]) -> Result<Option<Breach>, AllocError>
     requires scanned { IsScanned list.now }
     requires sorts { Sorts list.now chart.now }
@@ -26,6 +28,9 @@ pub fn counts(alloc: Global, chart: &Chart, list: &[Found]) -> Result<Option<Bre
         return Ok(None);
     }
     let orbits = name_orbits(alloc, chart)?;
+    if all_keep_count(chart, &orbits) {
+        return Ok(None);
+    }
     match first_miscount(chart, &orbits, list) {
         None => Ok(None),
         Some(at) => Ok(Some(breach_at(list, 9, at))),
@@ -43,20 +48,35 @@ fn has_count(list: &[Found]) -> bool
 pub fn name_orbits(alloc: Global, chart: &Chart) -> Result<Orbits, AllocError>
     ensures { IfOk result (AreOrbits (name_graph chart.now)) }
 {
-    let graph = named_places(alloc, chart)?;
-    Orbits::new(alloc, &graph)
+    Orbits::new(alloc, chart.targets())
 }
 
-/// For each record the place of the first record that its link names.
-fn named_places(alloc: Global, chart: &Chart) -> Result<Vec<Option<u32>>, AllocError>
-    ensures graph { IfOk result (λ graph. graph.items ≡ name_graph chart.now) }
-    ensures few { IfOk result (λ graph. length graph.items < 2 ^ 32) }
+/// Whether each charted record keeps law 9, tried in their order.
+fn all_keep_count(chart: &Chart, orbits: &Orbits) -> bool
+    requires namesakes { NamesakesAgree chart.now }
+    requires orbits { AreOrbits (name_graph chart.now) orbits.now }
+    ensures { result ≡ true → All (KeepsCount chart.now) chart.now }
 {
-    chart
-        .records()
-        .iter()
-        .map(|found| chart.find(found.rec.next))
-        .collect(alloc)
+    for at in 0..chart.records().len() {
+        if !keeps_count_at(chart, orbits, at as u32) {
+            return false;
+        }
+    }
+    true
+}
+
+/// Whether the record at this place keeps law 9.
+#[inline]
+fn keeps_count_at(chart: &Chart, orbits: &Orbits, at: u32) -> bool
+    requires namesakes { NamesakesAgree chart.now }
+    requires orbits { AreOrbits (name_graph chart.now) orbits.now }
+    requires within { at < length chart.now }
+    ensures { result ≡ true → KeepsCount chart.now (slice_index_or chart.now at nothing) }
+{
+    let found = &chart.records()[at as usize];
+    let target = chart.targets()[at as usize];
+    let own = chart.first_namesake(at);
+    keeps_count(chart, orbits, found, target, Some(own))
 }
 
 /// The index of the first record that breaks law 9, as the charted records have it.
@@ -66,42 +86,63 @@ fn first_miscount(chart: &Chart, orbits: &Orbits, list: &[Found]) -> Option<usiz
     ensures { FindsFirst (KeepsCount chart.now) list.now result }
 {
     list.iter()
-        .position(|found| !keeps_count(chart, orbits, found))
+        .position(|found| !keeps_count_of(chart, orbits, found))
 }
 
-#[tactic(auto, unfolding(record_list::specs::Counts::KeepsCount))]
-fn keeps_count(chart: &Chart, orbits: &Orbits, found: &Found) -> bool
+/// Whether a record keeps law 9.
+fn keeps_count_of(chart: &Chart, orbits: &Orbits, found: &Found) -> bool
     requires namesakes { NamesakesAgree chart.now }
     requires orbits { AreOrbits (name_graph chart.now) orbits.now }
     ensures { IsTrue result ↔ KeepsCount chart.now found.now }
 {
-    let rec = &found.rec;
-    let name = Link {
-        page: rec.page,
-        version: rec.version,
-    };
-    passes_count(chart, rec) && (rec.count == 0 || returns_after(chart, orbits, name, rec.count))
+    let own = chart.find(name_of(&found.rec));
+    keeps_count(chart, orbits, found, chart.find(found.rec.next), own)
 }
 
-/// Whether each record that this one's link names has its count.
-fn passes_count(chart: &Chart, rec: &Rec) -> bool
-    requires { NamesakesAgree chart.now }
+/// Whether a record keeps law 9, by the place that its link names and by that of its own name.
+#[inline(always)]
+#[tactic(auto, unfolding(record_list::specs::Counts::KeepsCount))]
+fn keeps_count(
+    chart: &Chart,
+    orbits: &Orbits,
+    found: &Found,
+    target: Option<u32>,
+    own: Option<u32>,
+) -> bool
+    requires namesakes { NamesakesAgree chart.now }
+    requires orbits { AreOrbits (name_graph chart.now) orbits.now }
+    requires target { target ≡ position (λ f. has_name found.now.rec.next f.rec) chart.now }
+    requires own { own ≡ position (λ f. has_name (name_of found.now.rec) f.rec) chart.now }
+    ensures { IsTrue result ↔ KeepsCount chart.now found.now }
+{
+    let rec = &found.rec;
+    passes_count(chart, rec, target)
+        && (rec.count == 0 || returns_after(chart, orbits, name_of(rec), own, rec.count))
+}
+
+/// Whether each record that this one's link names, the first at this place, has its count.
+#[inline(always)]
+fn passes_count(chart: &Chart, rec: &Rec, target: Option<u32>) -> bool
+    requires namesakes { NamesakesAgree chart.now }
+    requires target { target ≡ position (λ f. has_name rec.now.next f.rec) chart.now }
     ensures { IsTrue result
         ↔ All (λ g. name_of g.rec ≡ rec.now.next → g.rec.count ≡ rec.now.count) chart.now }
 {
-    match chart.find(rec.next) {
+    match target {
         None => true,
         Some(place) => chart.records()[place as usize].rec.count == rec.count,
     }
 }
 
-/// Whether links that lead back to this name do so after this many, if they do at all. A name that no
-/// record has is its own link.
-fn returns_after(chart: &Chart, orbits: &Orbits, name: Link, count: u32) -> bool
-    requires { AreOrbits (name_graph chart.now) orbits.now }
+/// Whether links that lead back to this name, which is first had at this place, do so after this many, if
+/// they do at all. A name that no record has is its own link.
+#[inline(always)]
+fn returns_after(chart: &Chart, orbits: &Orbits, name: Link, place: Option<u32>, count: u32) -> bool
+    requires orbits { AreOrbits (name_graph chart.now) orbits.now }
+    requires place { place ≡ position (λ f. has_name name f.rec) chart.now }
     ensures { IsTrue result ↔ ((n : ℕ) → IsFirstReturn chart.now name n → n ≡ count) }
 {
-    match chart.find(name) {
+    match place {
         None => count == 1,
         Some(place) => match orbits.orbit(place) {
             Orbit::Round { length } => length == count,

@@ -6,10 +6,11 @@ ghost use Rattle.record_list.specs.Verdict.{straddling};
 ghost use Rattle.record_list.specs.Current.{straddling_upto};
 ghost use Rattle.record_chart.specs.Charts.{IsInOrder};
 ghost use Rattle.record_chart.specs.Minima.{AreMinima};
+ghost use Rattle.record_chart.specs.Starts.{AreStarts};
 
-use crate::in_order::{names_up_to, pages_up_to};
+use crate::in_order::names_up_to;
 use crate::minima::{count_below, last_above};
-use crate::search::names_below;
+use crate::search::{pages_below, pages_up_to};
 use record_list::Found;
 use straddle_sets::straddles;
 use tx_types::Link;
@@ -18,10 +19,11 @@ use tx_types::Link;
 /// the records.
 pub fn straddling(records: &[Found], starts: &[u32], least: &[u64], name: Link) -> u64
     requires order { IsInOrder records.now }
+    requires starts { AreStarts records.now starts.now }
     requires minima { AreMinima records.now [] least.now }
     ensures { result ≡ straddling records.now name }
 {
-    let from = names_below(records, starts, Link { version: 0, ..name });
+    let from = pages_below(records, starts, name.page);
     let end = pages_up_to(records, starts, name.page);
     let count = count_below(&least[from..end], name.version);
     last_above(records, from, count, name.version)
@@ -37,13 +39,14 @@ pub fn straddling_up_to_bound(
     name: Link,
 ) -> u64
     requires order { IsInOrder records.now }
+    requires starts { AreStarts records.now starts.now }
     requires minima { AreMinima records.now tops.now least.now }
     requires bound { name.page < length tops.now }
     ensures { result
         ≡ greatest (straddling_upto (slice_index_or tops.now name.page 0) name) records.now }
 {
     let top = tops[name.page as usize];
-    let from = names_below(records, starts, Link { version: 0, ..name });
+    let from = pages_below(records, starts, name.page);
     let end = names_up_to(
         records,
         starts,
@@ -58,7 +61,8 @@ pub fn straddling_up_to_bound(
 
 /// The greatest version, up to `top`, of a record that straddles this name, 0 for none.
 pub fn straddling_up_to(records: &[Found], starts: &[u32], name: Link, top: u64) -> u64
-    requires { IsInOrder records.now }
+    requires order { IsInOrder records.now }
+    requires starts { AreStarts records.now starts.now }
     ensures { result ≡ greatest (straddling_upto top name) records.now }
 {
     greatest_up_to(group(records, starts, name.page), name, top)
@@ -81,11 +85,12 @@ fn greatest_up_to(group: &[Found], name: Link, top: u64) -> u64
 
 /// The records of a page: what is 0 for those of other pages has the same greatest value among them.
 fn group<'a>(records: &'a [Found], starts: &[u32], page: u32) -> &'a [Found]
-    requires { IsInOrder records.now }
+    requires order { IsInOrder records.now }
+    requires starts { AreStarts records.now starts.now }
     ensures { (of : Rec → ℕ) → ((r : Rec) → r.page ≢ page → of r ≡ 0) →
         greatest of result.now ≡ greatest of records.now }
 {
-    let from = names_below(records, starts, Link { page, version: 0 });
+    let from = pages_below(records, starts, page);
     let to = pages_up_to(records, starts, page);
     &records[from..to]
 }

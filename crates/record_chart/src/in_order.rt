@@ -1,11 +1,12 @@
 //! What records say that are in order of their names.
-ghost use Rattle.std.specs.Prelude.{◌≡◌, ◌<◌, ◌≤◌, ◌^◌, true, false, position, filter, OnOk, length};
+ghost use Rattle.std.specs.Prelude.{◌≡◌, ◌<◌, ◌≤◌, ◌^◌, true, false, Some, position, filter, OnOk, length};
 ghost use Rattle.std.specs.List.Sorted.{IsPartitionPoint};
-ghost use Rattle.record_list.specs.Records.{name_of, has_name, newest, next_older};
+ghost use Rattle.record_list.specs.Records.{name_of, has_name, record_at, newest, next_older};
 ghost use Rattle.record_list.specs.Verdict.{link_of, back_of};
 ghost use Rattle.record_chart.specs.Charts.{is_below, IsInOrder, Sorts, SortsByLink, last_version};
+ghost use Rattle.record_chart.specs.Starts.{AreStarts};
 
-use crate::search::names_below;
+use crate::search::{is_below_before, names_below, pages_below, pages_up_to};
 use record_list::Found;
 use std::alloc::AllocError;
 use tx_types::{Link, Rec};
@@ -27,8 +28,32 @@ pub fn sort_by_link(records: &mut Vec<Found>) -> Result<(), AllocError>
 }
 
 /// The place of the first record with this name.
+#[inline]
 pub fn find(records: &[Found], starts: &[u32], name: Link) -> Option<u32>
     requires order { IsInOrder records.now }
+    requires starts { AreStarts records.now starts.now }
+    requires few { length records.now < 2 ^ 32 }
+    ensures { result ≡ position (λ f. has_name name f.rec) records.now }
+{
+    let at = pages_below(records, starts, name.page);
+    if at == records.len() {
+        return None;
+    }
+    let rec = &records[at].rec;
+    if rec.page != name.page {
+        None
+    } else if rec.version == name.version {
+        Some(at as u32)
+    } else {
+        find_by_search(records, starts, name)
+    }
+}
+
+/// The same by a search among the records of the page.
+#[inline(never)]
+fn find_by_search(records: &[Found], starts: &[u32], name: Link) -> Option<u32>
+    requires order { IsInOrder records.now }
+    requires starts { AreStarts records.now starts.now }
     requires few { length records.now < 2 ^ 32 }
     ensures { result ≡ position (λ f. has_name name f.rec) records.now }
 {
@@ -40,9 +65,41 @@ pub fn find(records: &[Found], starts: &[u32], name: Link) -> Option<u32>
     }
 }
 
+/// The place of the first record that has the name of the one at this place.
+#[inline]
+pub fn first_namesake(records: &[Found], starts: &[u32], at: u32) -> u32
+    requires order { IsInOrder records.now }
+    requires starts { AreStarts records.now starts.now }
+    requires few { length records.now < 2 ^ 32 }
+    requires within { at < length records.now }
+    ensures { position (λ f. has_name (name_of (record_at records.now at)) f.rec) records.now
+        ≡ Some result }
+{
+    let name = name_of(&records[at as usize].rec);
+    if is_below_before(records, name, at as usize) {
+        return at;
+    }
+    match find(records, starts, name) {
+        Some(place) => place,
+        None => unreachable!(),
+    }
+}
+
+/// A record's own name.
+#[inline(always)]
+pub fn name_of(rec: &Rec) -> Link
+    ensures { result ≡ name_of rec.now }
+{
+    Link {
+        page: rec.page,
+        version: rec.version,
+    }
+}
+
 /// The records with this name.
 pub fn named<'a>(records: &'a [Found], starts: &[u32], name: Link) -> &'a [Found]
-    requires { IsInOrder records.now }
+    requires order { IsInOrder records.now }
+    requires starts { AreStarts records.now starts.now }
     ensures { result.now ≡ filter (λ f. has_name name f.rec) records.now }
 {
     let from = names_below(records, starts, name);
@@ -54,6 +111,7 @@ pub fn named<'a>(records: &'a [Found], starts: &[u32], name: Link) -> &'a [Found
 #[tactic(auto, using(crate::proofs::WalkOrbits::link_found, crate::proofs::WalkOrbits::link_nowhere))]
 pub fn link_of(records: &[Found], starts: &[u32], name: Link) -> Link
     requires order { IsInOrder records.now }
+    requires starts { AreStarts records.now starts.now }
     requires few { length records.now < 2 ^ 32 }
     ensures { result ≡ link_of records.now name }
 {
@@ -67,6 +125,7 @@ pub fn link_of(records: &[Found], starts: &[u32], name: Link) -> Link
 #[tactic(auto, using(crate::proofs::WalkOrbits::back_found, crate::proofs::WalkOrbits::back_nowhere))]
 pub fn back_of(records: &[Found], starts: &[u32], name: Link) -> u64
     requires order { IsInOrder records.now }
+    requires starts { AreStarts records.now starts.now }
     requires few { length records.now < 2 ^ 32 }
     ensures { result ≡ back_of records.now name }
 {
@@ -77,8 +136,10 @@ pub fn back_of(records: &[Found], starts: &[u32], name: Link) -> u64
 }
 
 /// The greatest version of a page, 0 for none.
+#[inline]
 pub fn newest(records: &[Found], starts: &[u32], page: u32) -> u64
-    requires { IsInOrder records.now }
+    requires order { IsInOrder records.now }
+    requires starts { AreStarts records.now starts.now }
     ensures { result ≡ newest records.now page }
 {
     last_version(records, pages_up_to(records, starts, page), page)
@@ -86,7 +147,8 @@ pub fn newest(records: &[Found], starts: &[u32], page: u32) -> u64
 
 /// The greatest version of a page below a version, 0 for none.
 pub fn next_older(records: &[Found], starts: &[u32], page: u32, below: u64) -> u64
-    requires { IsInOrder records.now }
+    requires order { IsInOrder records.now }
+    requires starts { AreStarts records.now starts.now }
     ensures { result ≡ next_older records.now page below }
 {
     let name = Link {
@@ -97,6 +159,7 @@ pub fn next_older(records: &[Found], starts: &[u32], page: u32, below: u64) -> u
 }
 
 /// Whether a record has this name.
+#[inline(always)]
 fn has_name(rec: &Rec, name: Link) -> bool
     ensures { result ≡ has_name name rec.now }
 {
@@ -105,7 +168,8 @@ fn has_name(rec: &Rec, name: Link) -> bool
 
 /// How many of the records have names up to this one: they are the first.
 pub fn names_up_to(records: &[Found], starts: &[u32], name: Link) -> usize
-    requires { IsInOrder records.now }
+    requires order { IsInOrder records.now }
+    requires starts { AreStarts records.now starts.now }
     ensures within { result ≤ length records.now }
     ensures first { IsPartitionPoint (λ f. is_below name (name_of f.rec) ≡ false)
         (λ f. is_below name (name_of f.rec) ≡ true) records.now result }
@@ -119,20 +183,8 @@ pub fn names_up_to(records: &[Found], starts: &[u32], name: Link) -> usize
     }
 }
 
-/// How many of the records are of pages up to this one: they are the first.
-pub fn pages_up_to(records: &[Found], starts: &[u32], page: u32) -> usize
-    requires { IsInOrder records.now }
-    ensures within { result ≤ length records.now }
-    ensures first { IsPartitionPoint (λ f. f.rec.page ≤ page) (λ f. page < f.rec.page)
-        records.now result }
-{
-    match page.checked_add(1) {
-        Some(page) => names_below(records, starts, Link { page, version: 0 }),
-        None => records.partition_point(|found| found.rec.page <= page),
-    }
-}
-
 /// The version of the record before this place, where it is of this page, else 0.
+#[inline(always)]
 fn last_version(records: &[Found], end: usize, page: u32) -> u64
     requires { end ≤ length records.now }
     ensures { result ≡ last_version records.now end page }

@@ -51,6 +51,7 @@ fn set(numbers: &mut Vec<u64>, at: usize, to: u64)
 }
 
 /// Whether a record's version is up to the bound of its page, if this has one.
+#[inline]
 fn counts(tops: &[u64], rec: Rec) -> bool
     ensures { result ≡ counts tops.now rec }
 {
@@ -72,6 +73,7 @@ pub fn count_below(least: &[u64], version: u64) -> usize
 
 /// The version of the last of these records whose least back version is below a version, where it is
 /// above this, else 0.
+#[inline]
 pub fn last_above(records: &[Found], from: usize, count: usize, version: u64) -> u64
     requires { from + count ≤ length records.now }
     ensures { result ≡ last_above records.now from count version }

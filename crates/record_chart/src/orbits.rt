@@ -42,6 +42,7 @@ impl Orbits {
     }
 
     /// The orbit of a node.
+    #[inline]
     pub fn orbit(&self, node: u32) -> Orbit
         requires { node < length self.now }
         ensures { result ≡ slice_index_or self.now node Aside }

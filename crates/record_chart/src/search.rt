@@ -1,18 +1,21 @@
-//! A search among records in order of their names, which begins where the records of a page are likely to
-//! begin. A wrong guess makes it slower, and no other.
-ghost use Rattle.std.specs.Prelude.{◌≡◌, ℕ, ◌<◌, ◌≤◌, ◌^◌, true, false, length};
+//! Where the records of a page begin and end among records in order of their names, and a search among
+//! those of a page.
+ghost use Rattle.std.specs.Prelude.{◌≡◌, ℕ, ◌<◌, ◌≤◌, ◌^◌, ◌-◌, ◌++◌, true, false, length, replicate, IfOk, OnOk};
 ghost use Rattle.std.specs.List.Sorted.{IsPartitionPoint};
 ghost use Rattle.record_list.specs.Records.{name_of, record_at};
 ghost use Rattle.record_chart.specs.Charts.{is_below, IsInOrder};
+ghost use Rattle.record_chart.specs.Starts.{AreStarts};
 
 use record_list::Found;
 use std::alloc::{AllocError, Global};
 use tx_types::Link;
 
 /// For each page up to the last one how many records stand before its own. Where that would be more
-/// than four numbers for a record, the rest is left out.
+/// than four numbers for a record, the rest is left out: there a search finds them.
 pub fn page_starts(alloc: Global, records: &[Found]) -> Result<Vec<u32>, AllocError>
-    requires { length records.now < 2 ^ 32 }
+    requires order { IsInOrder records.now }
+    requires few { length records.now < 2 ^ 32 }
+    ensures { IfOk result (λ starts. AreStarts records.now starts.items) }
 {
     let pages = match records.last() {
         None => 0,
@@ -23,96 +26,93 @@ pub fn page_starts(alloc: Global, records: &[Found]) -> Result<Vec<u32>, AllocEr
     for at in 0..records.len() {
         let end = size.min(records[at].rec.page as usize + 1);
         if starts.len() < end {
-            starts.resize(end, at as u32)?;
+            fill(&mut starts, end, at as u32)?;
         }
     }
     Ok(starts)
 }
 
+/// Adds a number as often as it takes to have so many.
+fn fill(numbers: &mut Vec<u32>, size: usize, number: u32) -> Result<(), AllocError>
+    requires { length numbers.old.items ≤ size }
+    ensures { OnOk result (numbers.new.items
+        ≡ numbers.old.items ++ replicate (size - length numbers.old.items) number) }
+{
+    numbers.resize(size, number)
+}
+
+/// How many of the records are of pages below this one: they are the first.
+#[inline(always)]
+pub fn pages_below(records: &[Found], starts: &[u32], page: u32) -> usize
+    requires order { IsInOrder records.now }
+    requires starts { AreStarts records.now starts.now }
+    ensures within { result ≤ length records.now }
+    ensures first { IsPartitionPoint
+        (λ f. is_below (name_of f.rec) record { page = page; version = 0 } ≡ true)
+        (λ f. is_below (name_of f.rec) record { page = page; version = 0 } ≡ false)
+        records.now result }
+{
+    match starts.get(page as usize) {
+        Some(start) => *start as usize,
+        None => pages_below_beyond(records, page),
+    }
+}
+
+/// The same by a search among all.
+#[cold]
+#[inline(never)]
+fn pages_below_beyond(records: &[Found], page: u32) -> usize
+    requires { IsInOrder records.now }
+    ensures within { result ≤ length records.now }
+    ensures first { IsPartitionPoint
+        (λ f. is_below (name_of f.rec) record { page = page; version = 0 } ≡ true)
+        (λ f. is_below (name_of f.rec) record { page = page; version = 0 } ≡ false)
+        records.now result }
+{
+    count_below(records, Link { page, version: 0 })
+}
+
+/// How many of the records are of pages up to this one: they are the first.
+#[inline]
+pub fn pages_up_to(records: &[Found], starts: &[u32], page: u32) -> usize
+    requires order { IsInOrder records.now }
+    requires starts { AreStarts records.now starts.now }
+    ensures within { result ≤ length records.now }
+    ensures first { IsPartitionPoint (λ f. f.rec.page ≤ page) (λ f. page < f.rec.page)
+        records.now result }
+{
+    match page.checked_add(1) {
+        Some(page) => pages_below(records, starts, page),
+        None => records.partition_point(|found| found.rec.page <= page),
+    }
+}
+
 /// How many of the records have names below this one: they are the first.
 pub fn names_below(records: &[Found], starts: &[u32], name: Link) -> usize
-    requires { IsInOrder records.now }
+    requires order { IsInOrder records.now }
+    requires starts { AreStarts records.now starts.now }
     ensures within { result ≤ length records.now }
     ensures first { IsPartitionPoint (λ f. is_below (name_of f.rec) name ≡ true)
         (λ f. is_below (name_of f.rec) name ≡ false) records.now result }
 {
-    let near = likely_place(records, starts, name.page);
-    let from = start(records, name, near);
-    let to = end(records, name, likely_end(records, starts, name, near));
+    let from = pages_below(records, starts, name.page);
+    let to = pages_up_to(records, starts, name.page);
     from + count_below(&records[from..to], name)
 }
 
-/// From a place on where a page is likely to begin, where no name is likely to be below this one: this place
-/// itself, or the next page's.
-fn likely_end(records: &[Found], starts: &[u32], name: Link, near: usize) -> usize
-    requires { near ≤ length records.now }
-    ensures high { near ≤ result }
-    ensures within { result ≤ length records.now }
-{
-    if near < records.len() && is_below(&records[near], name) {
-        near.max(likely_place(records, starts, name.page.saturating_add(1)))
-    } else {
-        near
-    }
-}
-
-/// Where the records of a page begin, or the end where that is not known.
-fn likely_place(records: &[Found], starts: &[u32], page: u32) -> usize
-    ensures { result ≤ length records.now }
-{
-    let len = records.len();
-    match starts.get(page as usize) {
-        None => len,
-        Some(start) => len.min(*start as usize),
-    }
-}
-
-/// A place up to the likely one before which all names are below this one, found by longer and longer
-/// steps.
-fn start(records: &[Found], name: Link, near: usize) -> usize
+/// Whether the name of the record before this place, if there is one, is below this one.
+#[inline(always)]
+pub fn is_below_before(records: &[Found], name: Link, at: usize) -> bool
     requires order { IsInOrder records.now }
-    requires within { near ≤ length records.now }
-    ensures low { result ≤ near }
-    ensures below { (k : ℕ) → k < result →
+    requires within { at ≤ length records.now }
+    ensures { result ≡ true → (k : ℕ) → k < at →
         is_below (name_of (record_at records.now k)) name ≡ true }
 {
-    let mut from = near;
-    let mut step = 1;
-    while from > 0 && !is_below(&records[from - 1], name) {
-        from = from.saturating_sub(step);
-        step = longer(step);
-    }
-    from
-}
-
-/// A place from the likely one on after which no name is below this one, found by longer and longer
-/// steps.
-fn end(records: &[Found], name: Link, near: usize) -> usize
-    requires order { IsInOrder records.now }
-    requires within { near ≤ length records.now }
-    ensures high { near ≤ result }
-    ensures within { result ≤ length records.now }
-    ensures behind { (k : ℕ) → result ≤ k → k < length records.now →
-        is_below (name_of (record_at records.now k)) name ≡ false }
-{
-    let mut to = near;
-    let mut step = 1;
-    while to < records.len() && is_below(&records[to], name) {
-        to = records.len().min(to.saturating_add(step));
-        step = longer(step);
-    }
-    to
-}
-
-/// A step that is twice as long.
-fn longer(step: usize) -> usize
-    requires { 0 < step }
-    ensures { 0 < result }
-{
-    step.saturating_mul(2)
+    at == 0 || is_below(&records[at - 1], name)
 }
 
 /// Whether a record's name is below this one.
+#[inline(always)]
 fn is_below(found: &Found, name: Link) -> bool
     ensures { result ≡ is_below (name_of found.now.rec) name }
 {

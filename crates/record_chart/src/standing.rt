@@ -55,6 +55,7 @@ impl Standing {
     }
 
     /// The chart.
+    #[inline]
     pub fn chart(&self) -> &Chart
         ensures { result.now ≡ self.now.list }
     {
@@ -62,6 +63,7 @@ impl Standing {
     }
 
     /// The protocol.
+    #[inline]
     pub fn protocol(&self) -> Protocol
         ensures { result ≡ self.now.protocol }
     {
@@ -69,17 +71,28 @@ impl Standing {
     }
 
     /// The current version of a page, 0 for none.
+    #[inline(always)]
     pub fn current(&self, page: u32) -> u64
         ensures { result ≡ cur self.now.protocol self.now.list self.now.logical page }
     {
         if page < self.logical {
             self.current[page as usize]
         } else {
-            self.chart.current(self.protocol, self.logical, page)
+            self.current_beyond(page)
         }
     }
 
+    /// The current version of a page, 0 for none, by the chart alone.
+    #[cold]
+    #[inline(never)]
+    fn current_beyond(&self, page: u32) -> u64
+        ensures { result ≡ cur self.now.protocol self.now.list self.now.logical page }
+    {
+        self.chart.current(self.protocol, self.logical, page)
+    }
+
     /// Whether a record's version is above the current one of its page.
+    #[inline(always)]
     pub fn is_loose(&self, rec: Rec) -> bool
         ensures { result ≡ is_loose self.now.protocol self.now.list self.now.logical rec }
     {
@@ -95,9 +108,19 @@ impl Standing {
             self.chart
                 .straddling_up_to_bound(&self.current, &self.settled, name)
         } else {
-            let top = self.current(name.page);
-            self.chart.straddling_up_to(name, top)
+            self.responsible_beyond(name)
         }
+    }
+
+    /// The version of the record that is responsible for the loose records which link to this name, 0
+    /// for none, by the chart alone.
+    #[cold]
+    #[inline(never)]
+    fn responsible_beyond(&self, name: Link) -> u64
+        ensures { result ≡ responsible self.now.protocol self.now.list self.now.logical name }
+    {
+        let top = self.current_beyond(name.page);
+        self.chart.straddling_up_to(name, top)
     }
 }
 

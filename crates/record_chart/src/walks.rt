@@ -1,8 +1,10 @@
 //! Where the walks along the links of newest records lead, in records that are in order of their names.
-ghost use Rattle.std.specs.Prelude.{◌≡◌, ◌<◌, ◌^◌, [], IfOk, length};
+ghost use Rattle.std.specs.Prelude.{◌≡◌, ◌<◌, ◌^◌, [], IfOk, length, map};
 ghost use Rattle.record_list.specs.Verdict.{passed};
 ghost use Rattle.record_chart.specs.Minima.{AreMinima};
-ghost use Rattle.record_chart.specs.Charts.{IsInOrder, EndsBelow, place_of, link_graph, ending, shown};
+ghost use Rattle.record_chart.specs.Charts.{IsInOrder, EndsBelow, newest_target, ending, shown};
+ghost use Rattle.record_chart.specs.NameGraph.{name_graph};
+ghost use Rattle.record_chart.specs.Starts.{AreStarts};
 
 use crate::Orbit;
 use crate::group::straddling;
@@ -11,31 +13,51 @@ use record_list::{Found, Why};
 use std::alloc::{AllocError, Global};
 use tx_types::{Link, Protocol};
 
-/// For each record the place to which its link leads: that of the first record of this name, where this
-/// is the newest of its page.
-pub fn links(
+/// For each record the place of the first record that its link names.
+pub fn targets(
     alloc: Global,
     records: &[Found],
     starts: &[u32],
 ) -> Result<Vec<Option<u32>>, AllocError>
     requires order { IsInOrder records.now }
+    requires starts { AreStarts records.now starts.now }
     requires few { length records.now < 2 ^ 32 }
-    ensures { IfOk result (λ links. links.items ≡ link_graph records.now) }
+    ensures { IfOk result (λ targets. targets.items ≡ name_graph records.now) }
 {
     records
         .iter()
-        .map(|found| place(records, starts, found.rec.next))
+        .map(|found| find(records, starts, found.rec.next))
         .collect(alloc)
 }
 
-/// The place to which a link leads.
-fn place(records: &[Found], starts: &[u32], link: Link) -> Option<u32>
+/// For each record the place to which its link leads, by the place that it names: this, where it is that of
+/// a record of the newest version of its page.
+pub fn links(
+    alloc: Global,
+    records: &[Found],
+    starts: &[u32],
+    targets: &[Option<u32>],
+) -> Result<Vec<Option<u32>>, AllocError>
     requires order { IsInOrder records.now }
-    requires few { length records.now < 2 ^ 32 }
-    ensures { result ≡ place_of records.now link }
+    requires starts { AreStarts records.now starts.now }
+    ensures { IfOk result (λ links. links.items ≡ map (newest_target records.now) targets.now) }
 {
-    if newest(records, starts, link.page) == link.version {
-        find(records, starts, link)
+    targets
+        .iter()
+        .map(|target| newest_target(records, starts, *target))
+        .collect(alloc)
+}
+
+/// A place, where it is that of a record of the newest version of its page.
+#[inline(always)]
+fn newest_target(records: &[Found], starts: &[u32], target: Option<u32>) -> Option<u32>
+    requires order { IsInOrder records.now }
+    requires starts { AreStarts records.now starts.now }
+    ensures { result ≡ newest_target records.now target }
+{
+    let found = records.get(target? as usize)?;
+    if newest(records, starts, found.rec.page) == found.rec.version {
+        target
     } else {
         None
     }
@@ -51,6 +73,7 @@ pub fn shown(
     orbit: Orbit,
 ) -> Why
     requires order { IsInOrder records.now }
+    requires starts { AreStarts records.now starts.now }
     requires minima { AreMinima records.now [] least.now }
     requires within { EndsBelow (length records.now) orbit }
     ensures { result ≡ shown protocol records.now logical orbit }
@@ -73,6 +96,7 @@ pub fn shown(
 /// What a link shows at which a walk ends, if it is not that to its start.
 fn ending(protocol: Protocol, records: &[Found], starts: &[u32], least: &[u64], link: Link) -> Why
     requires order { IsInOrder records.now }
+    requires starts { AreStarts records.now starts.now }
     requires minima { AreMinima records.now [] least.now }
     ensures { result ≡ ending protocol records.now link }
 {
@@ -86,6 +110,7 @@ fn ending(protocol: Protocol, records: &[Found], starts: &[u32], least: &[u64], 
 /// What a link shows that leads below the newest version of its page.
 fn passed(protocol: Protocol, records: &[Found], starts: &[u32], least: &[u64], link: Link) -> Why
     requires order { IsInOrder records.now }
+    requires starts { AreStarts records.now starts.now }
     requires minima { AreMinima records.now [] least.now }
     ensures { result ≡ passed protocol records.now link }
 {

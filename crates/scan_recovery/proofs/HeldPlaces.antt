@@ -1,8 +1,7 @@
 -- A record is responsible for a loose one where the first record of its name is marked.
-use Rattle.std.proofs.Common.{◌≡◌, ◌≢◌, ℕ, ◌+◌, ◌<◌, Bool, true, false, ◌==◌, ◌&&◌, ◌||◌, cond, Option, Some, None, List, [], ◌∷◌, length, get_or, take, position, Contains, All, refl, sym, ap, ◌∙◌, subst, inl, inr, arith, eqb-true, eq-eqb, ltb-true, lt-ltb, nat_lt}
-use Rattle.std.specs.List.{list_any, slice_set}
+use Rattle.std.proofs.Common.{◌≡◌, ◌≢◌, ℕ, ◌<◌, Bool, true, false, ◌==◌, ◌&&◌, Option, Some, None, List, [], ◌∷◌, length, get_or, position, Contains, All, refl, sym, ap, ◌∙◌, inl, inr, arith, eqb-true, eq-eqb, ltb-true, lt-ltb, nat_lt}
+use Rattle.std.specs.List.{list_any}
 use Rattle.std.proofs.lemmas.Bool.{false≢true, cases_Bool, cond-true, cond-false, and_parts, and_from}
-use Rattle.std.proofs.lemmas.List.{take_all}
 use Rattle.std.proofs.lemmas.List.Elements.{All-contains, Contains-get_or}
 use Rattle.std.proofs.lemmas.List.Quantifiers.{position-Some}
 use Rattle.list_facts.proofs.Tests.{any_same_in}
@@ -19,7 +18,7 @@ use Rattle.record_list.proofs.Held.{answer_of, answers}
 use Rattle.straddle_sets.proofs.Responsibles.{has_responsible}
 use Rattle.record_chart.proofs.WalkOrbits.{absent_at}
 use Rattle.record_chart.specs.Standings.{Judged}
-use Rattle.scan_recovery.specs.Removable.{AreCopies, answerer_by, is_place, answers_at, AreMarked, AreHeld}
+use Rattle.scan_recovery.specs.Removable.{AreCopies, answerer_by, is_place, AreHeld}
 
 none_at : (l : List Found) → list_any (λ f. false) l ≡ false
 none_at [] = refl

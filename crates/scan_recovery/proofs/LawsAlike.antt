@@ -1,7 +1,9 @@
 -- A list and its records in order of their names keep the same laws.
-use Rattle.std.proofs.Common.{◌≡◌, ◌≢◌, ◌↔◌, ℕ, zero, suc, ◌<◌, ◌≤◌, ◌⊎◌, Bool, true, false, nat_lt, Option, Some, None, List, length, get_or, All, refl, sym, ap, ap₂, ◌∙◌, subst, inl, inr, lt-ltb, arith}
+use Rattle.std.proofs.Common.{◌≡◌, ◌≢◌, ◌↔◌, ℕ, zero, suc, ◌<◌, ◌≤◌, ◌⊎◌, Bool, true, false, Option, Some, None, List, get_or, All, refl, sym, ap, ap₂, ◌∙◌, subst, lt-ltb, arith}
 use Rattle.std.specs.List.{list_any}
-use Rattle.std.proofs.lemmas.Bool.{false≢true, ltb-false}
+use Rattle.std.proofs.lemmas.Bool.{false≢true}
+use Rattle.std.proofs.lemmas.List.Elements.{All-contains}
+use Rattle.std.proofs.lemmas.List.Sorted.{Contains-permutation}
 use Rattle.list_facts.proofs.Membership.{all_from}
 use Rattle.list_facts.proofs.Tests.{any_none}
 use Rattle.tx_types.specs.declared.record.Link.{Link}
@@ -35,6 +37,15 @@ pub finds_alike : (P Q : Found → Type 0) (list : List Found) (first : Option �
 finds_alike P Q list None same all = λ k d within. (same (get_or list k d)).0 (all k d within)
 finds_alike P Q list (Some i) same (within, breaks, before) =
     (within, λ d keeps. breaks d ((same (get_or list i d)).1 keeps), λ k d less. (same (get_or list k d)).0 (before k d less))
+
+-- what holds of each record in order holds of each of the list
+pub all_back : (list sorted : List Found) → Sorts list sorted → (P : Found → Type 0) → All P sorted → All P list
+all_back list sorted is P all = all_from P list (λ f c. All-contains P sorted f all (Contains-permutation list sorted f is.records c))
+
+-- so where a search among them finds nothing, there is nothing to find in the list
+pub none_first : (list sorted records : List Found) → Sorts list sorted → (P : Found → Type 0) → records ≡ sorted → (first : Option ℕ) → first ≡ None →
+    All P records → FindsFirst P list first
+none_first list sorted records is P same first none all = subst (FindsFirst P list) (sym none) (all_back list sorted is P (subst (All P) same all))
 
 -- what is one fact holds alike
 both_ways : (P Q : Type 0) → P ≡ Q → P ↔ Q

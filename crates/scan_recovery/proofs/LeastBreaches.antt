@@ -1,10 +1,10 @@
 -- The least breach of a list that keeps laws 1 and 2, from searches by its records in order of their names.
-use Rattle.std.proofs.Common.{◌≡◌, ℕ, ◌<◌, Some, None, List, All, refl}
+use Rattle.std.proofs.Common.{ℕ, Some, None, List, All, refl}
 use Rattle.tx_types.specs.declared.config.Protocol.{Protocol}
 use Rattle.tx_types.specs.declared.config.Slot.{Slot}
 use Rattle.record_list.specs.declared.found.Found.{Found}
 use Rattle.record_list.specs.Records.{IsScanned}
-use Rattle.record_list.specs.SoundList.{Law, Pages, Copies, Links, Present, Counted, Loose, Ending, number, Keeps, PagesExist, CopiesAgree, LinksDiffer, CurrentIsPresent, LinkHasCounted, LooseIsShown, LooseEnds, IsSoundList, IsLeastBreach}
+use Rattle.record_list.specs.SoundList.{Pages, Copies, Links, Present, Counted, Loose, Ending, Keeps, PagesExist, CopiesAgree, LinksDiffer, CurrentIsPresent, LinkHasCounted, LooseIsShown, LooseEnds, IsSoundList, IsLeastBreach}
 use Rattle.record_list.specs.Search.{FindsFirst}
 use Rattle.record_list.proofs.Breaches.{breach, before_links, breach_of_current, breach_of_counted}
 use Rattle.bpcc_commit.proofs.LooseBreaches.{breach_of_loose, breach_of_ending}

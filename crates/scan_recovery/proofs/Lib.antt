@@ -3,6 +3,8 @@ pub mod RemovableBlocks
 pub mod Marks
 pub mod HeldPlaces
 pub mod TwinsAlike
+pub mod LoneNames
+pub mod OwnCurrent
 pub mod LeastBreaches
 pub mod NameOrbits
 pub mod LawsAlike

@@ -1,19 +1,17 @@
 -- Links lead to an absent name where the orbit of their places ends.
-use Rattle.std.proofs.Common.{◌≡◌, ◌≢◌, ℕ, zero, suc, ◌<◌, Bool, true, false, Option, Some, None, IfSome, List, length, get_or, position, refl, sym, ap, ◌∙◌, inl, inr, arith}
+use Rattle.std.proofs.Common.{◌≡◌, ◌≢◌, ℕ, suc, Option, Some, None, List, get_or, position, sym, ap, ◌∙◌, inl, inr, arith}
 use Rattle.std.proofs.lemmas.Bool.{false≢true}
-use Rattle.std.proofs.lemmas.List.{get_or-map, length-map}
-use Rattle.std.proofs.lemmas.List.Elements.{All-map}
-use Rattle.std.proofs.lemmas.List.Quantifiers.{position-Some}
+use Rattle.std.proofs.lemmas.List.{length-map}
 use Rattle.tx_types.specs.declared.record.Link.{Link}
 use Rattle.record_list.specs.declared.found.Found.{Found}
-use Rattle.record_list.specs.Records.{has_name, is_present, record_at, nothing}
+use Rattle.record_list.specs.Records.{has_name, is_present, record_at}
 use Rattle.record_list.specs.Verdict.{link_of}
 use Rattle.record_list.specs.SoundList.{follow}
 use Rattle.record_list.proofs.Follow.{follow_last}
 use Rattle.record_chart.specs.declared.orbit.Orbit.{Orbit}
 use Rattle.record_chart.specs.declared.orbit.Orbit.TheVariants.{Ends, Round, Aside}
-use Rattle.record_chart.specs.Orbits.{IsGraph, next_of, steps, IsOrbit, AreOrbits}
-use Rattle.record_chart.proofs.Steps.{some_or_none, steps_none, steps_stop, steps_more, steps_stay, round_goes_on}
+use Rattle.record_chart.specs.Orbits.{steps, IsOrbit, AreOrbits}
+use Rattle.record_chart.proofs.Steps.{some_or_none, round_goes_on}
 use Rattle.record_chart.proofs.WalkOrbits.{link_found, absent_at, present_found}
 use Rattle.record_chart.specs.NameGraph.{name_graph}
 use Rattle.record_chart.proofs.NameReturns.{next_place, place_within, steps_follow}

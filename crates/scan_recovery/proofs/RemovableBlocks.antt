@@ -1,13 +1,12 @@
 -- A block is removable where no record is current or held and stands in it alone.
-use Rattle.std.proofs.Common.{◌≡◌, ◌≢◌, ℕ, ◌+◌, ◌*◌, ◌/◌, ◌<◌, Bool, true, false, ◌==◌, ◌&&◌, ◌||◌, not, ◌⊎◌, ◌↔◌, List, [], ◌∷◌, filter, length, get_or, Contains, All, Option, None, Some, refl, sym, ap, ◌∙◌, subst, inl, inr, arith, eqb-true, eq-eqb, ne_eqb, mul_comm}
+use Rattle.std.proofs.Common.{◌≡◌, ◌≢◌, ℕ, ◌/◌, ◌<◌, Bool, true, false, ◌==◌, ◌&&◌, ◌||◌, not, ◌⊎◌, List, [], ◌∷◌, filter, get_or, Contains, Option, None, Some, refl, sym, ap, ◌∙◌, subst, inl, inr, arith, eqb-true, eq-eqb, ne_eqb, mul_comm}
 use Rattle.std.specs.List.{list_any}
 use Rattle.std.proofs.Math.Nat.{div-lt_iff_lt-mul}
 use Rattle.std.proofs.Math.Bool.{and-true}
 use Rattle.std.proofs.lemmas.List.{get_or_default}
-use Rattle.std.proofs.lemmas.Bool.{false≢true, cases_Bool, cases_eq, cond-true, cond-false, and_parts, and_from, and_left, and_right, or_left, or_right, or_cases, not_from_true, not_from_false, not-true, true_from_ne_false, false_from_ne_true}
-use Rattle.std.proofs.lemmas.List.Elements.{Contains-get_or, All-contains}
+use Rattle.std.proofs.lemmas.Bool.{false≢true, cases_Bool, cases_eq, cond-true, cond-false, and_parts, and_from, and_right, or_left, or_right, or_cases, not_from_true, not_from_false, not-true, true_from_ne_false, false_from_ne_true}
+use Rattle.std.proofs.lemmas.List.Elements.{Contains-get_or}
 use Rattle.list_facts.proofs.Tests.{any_of, any_from, any_none}
-use Rattle.tx_types.specs.declared.config.Protocol.{Protocol}
 use Rattle.tx_types.specs.declared.config.Shape.{Shape}
 use Rattle.tx_types.specs.declared.config.Block.{Block}
 use Rattle.tx_types.specs.declared.record.Rec.{Rec}
@@ -19,7 +18,7 @@ use Rattle.record_list.specs.Changes.{left}
 use Rattle.record_list.specs.Written.{is_outside, IsRemovable}
 use Rattle.record_list.proofs.Names.{has_own_name}
 use Rattle.record_chart.specs.Standings.{Judged}
-use Rattle.scan_recovery.specs.Opening.{IsHighest, FindsHighest}
+use Rattle.scan_recovery.specs.Opening.{FindsHighest}
 use Rattle.scan_recovery.specs.Removable.{is_counted, stands_outside, is_fixed, AreFixed}
 use Rattle.scan_recovery.proofs.Outside.{present_left, removable_all, removable_not}
 

@@ -1,6 +1,6 @@
 -- The lowest slot that breaks law 3 is that of a record beside one with its link and another name.
-use Rattle.std.proofs.Common.{◌≡◌, ℕ, zero, suc, ◌+◌, ◌-◌, ◌<◌, ◌≤◌, Bool, true, false, ◌&&◌, not, cond, nat_lt, Option, Some, None, List, [], ◌∷◌, filter, length, get_or, All, AllPairs, Contains, refl, sym, ap, ◌∙◌, subst, inl, inr, arith, eq-eqb, lt-ltb, le-ltb}
-use Rattle.std.proofs.lemmas.Bool.{cases_Bool, cases_lt, cases_order, cond-true, cond-false, ltb-true, ltb-false, false≢true, and_parts}
+use Rattle.std.proofs.Common.{◌≡◌, ℕ, zero, suc, ◌+◌, ◌-◌, ◌<◌, ◌≤◌, Bool, true, false, not, nat_lt, Option, Some, None, List, [], ◌∷◌, filter, length, get_or, AllPairs, Contains, refl, sym, ap, ◌∙◌, subst, inl, inr, arith, eq-eqb, lt-ltb, le-ltb}
+use Rattle.std.proofs.lemmas.Bool.{cases_Bool, cases_lt, cases_order, cond-true, cond-false, false≢true, and_parts}
 use Rattle.std.proofs.lemmas.List.{get_or_default}
 use Rattle.std.proofs.lemmas.List.Elements.{Contains-get_or}
 use Rattle.std.proofs.lemmas.List.Kept.{AllPairs-filter}
@@ -11,11 +11,11 @@ use Rattle.tx_types.specs.declared.config.Slot.{Slot}
 use Rattle.tx_types.specs.declared.record.Link.{Link}
 use Rattle.tx_types.specs.declared.record.Rec.{Rec}
 use Rattle.record_list.specs.declared.found.Found.{Found}
-use Rattle.record_list.specs.Records.{IsScanned, name_of, has_name, is_same, record_at, nothing}
+use Rattle.record_list.specs.Records.{IsScanned, name_of, has_name, is_same, nothing}
 use Rattle.record_list.specs.SoundList.{LinksDiffer}
 use Rattle.record_list.proofs.Names.{same_name, has_name_true, has_own_name}
 use Rattle.record_chart.specs.Charts.{SortsByLink}
-use Rattle.record_chart.proofs.Order.{IsFrom, below_false}
+use Rattle.record_chart.proofs.Order.{below_false}
 use Rattle.scan_recovery.specs.Searches.{FindsLowest, lower, share_link, IsLowestBelow, NextShares, next_slot, IsLowestSharer}
 
 -- a search for the lowest slot, one number more

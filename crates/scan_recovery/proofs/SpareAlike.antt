@@ -1,6 +1,5 @@
 -- A list and its records in order of their names have the same removable blocks.
-use Rattle.std.proofs.Common.{◌≡◌, ℕ, ◌<◌, ◌⊎◌, ◌↔◌, Bool, true, false, ◌==◌, ◌&&◌, nat_lt, List, length, All, AllPairs, Contains, map, Option, None, Some, refl, sym, ap, ap₂, ◌∙◌, subst, inl, inr}
-use Rattle.std.specs.List.{list_any}
+use Rattle.std.proofs.Common.{◌≡◌, ℕ, ◌<◌, ◌⊎◌, Bool, true, ◌==◌, ◌&&◌, nat_lt, List, length, All, Contains, map, Option, None, Some, refl, sym, ap, ap₂, ◌∙◌, subst}
 use Rattle.std.proofs.lemmas.List.Elements.{All-contains}
 use Rattle.std.proofs.lemmas.List.Sorted.{IsPermutation-sym, Contains-permutation, list_any-IsPermutation}
 use Rattle.list_facts.proofs.Membership.{all_from}
@@ -17,14 +16,14 @@ use Rattle.flash_model.specs.declared.flash.Seen.{Seen}
 use Rattle.record_list.specs.declared.found.Found.{Found}
 use Rattle.record_list.specs.Records.{IsScanned, name_of, has_name, is_present}
 use Rattle.record_list.specs.Verdict.{straddles}
-use Rattle.record_list.specs.Current.{cur, IsCurrent, is_loose, responsible, answers_for, is_held}
+use Rattle.record_list.specs.Current.{IsCurrent, answers_for, is_held}
 use Rattle.record_list.specs.SoundList.{CopiesAgree}
 use Rattle.record_list.specs.Changes.{left}
 use Rattle.record_list.specs.Written.{is_outside, IsRemovable}
 use Rattle.record_chart.specs.Charts.{Sorts}
 use Rattle.record_chart.proofs.Alike.{cur_alike, responsible_alike}
 use Rattle.version_index.specs.Notes.{complete_slots}
-use Rattle.scan_recovery.specs.Opening.{IsHighest, FindsHighest}
+use Rattle.scan_recovery.specs.Opening.{FindsHighest}
 use Rattle.scan_recovery.specs.Removable.{AreCopies}
 use Rattle.scan_recovery.proofs.BlankBlocks.{slot_within}
 use Rattle.scan_recovery.proofs.Outside.{present_left}

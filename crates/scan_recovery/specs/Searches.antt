@@ -1,5 +1,5 @@
 -- What searches among the records of a scan find.
-use Rattle.std.specs.Prelude.{◌≡◌, ℕ, suc, ◌<◌, ◌≤◌, ◌-◌, Bool, true, false, ◌&&◌, not, nat_lt, if◌then◌else◌, Option, None, Some, List, map, slice_index_or, position, All, Any}
+use Rattle.std.specs.Prelude.{◌≡◌, ℕ, suc, ◌<◌, ◌≤◌, ◌-◌, Bool, true, false, ◌&&◌, not, nat_lt, if◌then◌else◌, Option, None, Some, List, slice_index_or, All, Any}
 use Rattle.tx_types.specs.declared.config.Slot.{Slot}
 use Rattle.tx_types.specs.declared.record.Link.{Link}
 use Rattle.tx_types.specs.declared.record.Rec.{Rec}
@@ -38,6 +38,10 @@ next_slot list k = (slice_index_or list (suc k) nothing).slot
 -- the lowest slot, up to this place, of a record that has the link of the one before it, and another name
 abbrev pub IsLowestSharer : List Found → ℕ → Option Slot → Type 0
 IsLowestSharer list end lowest = IsLowestBelow (end - 1) (NextShares list) (next_slot list) lowest
+
+-- the record after this place has another name
+abbrev pub NextDiffers : List Found → ℕ → Type 0
+NextDiffers list k = has_name (name_of (record_at list (suc k))) (record_at list k) ≡ false
 
 -- the links from a name lead to an absent one
 abbrev pub LeadsOut : List Found → Link → Type 0

@@ -4,6 +4,7 @@ ghost use Rattle.std.specs.List.{list_any};
 ghost use Rattle.record_list.specs.Current.{is_loose};
 ghost use Rattle.record_list.specs.SoundList.{LooseEnds};
 ghost use Rattle.record_list.specs.Search.{FindsFirst};
+ghost use Rattle.record_chart.specs.Charts.{Sorts};
 ghost use Rattle.record_chart.specs.Orbits.{AreOrbits};
 ghost use Rattle.record_chart.specs.NameGraph.{name_graph};
 ghost use Rattle.scan_recovery.specs.Searches.{LeadsOut};
@@ -20,27 +21,47 @@ pub fn first_endless(
     standing: &Standing,
     list: &[Found],
 ) -> Result<Option<usize>, AllocError>
+    requires { Sorts list.now standing.now.list }
     ensures { let s = standing.now in
         IfOk result (FindsFirst (LooseEnds s.protocol s.list s.logical) list.now) }
 {
-    if !has_loose(standing, list) {
+    if !has_loose(standing) {
         return Ok(None);
     }
     let orbits = name_orbits(alloc, standing.chart())?;
-    Ok(
-        list.iter()
-            .position(|found| !is_ending(standing, &orbits, found)),
-    )
+    Ok(first_by_orbits(standing, &orbits, list))
+}
+
+/// The index of the first record that breaks law 7, by the orbits of the links.
+fn first_by_orbits(standing: &Standing, orbits: &Orbits, list: &[Found]) -> Option<usize>
+    requires sorts { Sorts list.now standing.now.list }
+    requires orbits { AreOrbits (name_graph standing.now.list) orbits.now }
+    ensures { let s = standing.now in
+        FindsFirst (LooseEnds s.protocol s.list s.logical) list.now result }
+{
+    endless(standing, orbits, standing.chart().records())?;
+    endless(standing, orbits, list)
+}
+
+/// The index of the first of these records that breaks law 7.
+fn endless(standing: &Standing, orbits: &Orbits, records: &[Found]) -> Option<usize>
+    requires { AreOrbits (name_graph standing.now.list) orbits.now }
+    ensures { let s = standing.now in
+        FindsFirst (LooseEnds s.protocol s.list s.logical) records.now result }
+{
+    records
+        .iter()
+        .position(|found| !is_ending(standing, orbits, found))
 }
 
 /// Whether the protocol says something of loose records, and a record is loose.
-fn has_loose(standing: &Standing, list: &[Found]) -> bool
+fn has_loose(standing: &Standing) -> bool
     ensures { let s = standing.now in
-        result ≡ false → All (LooseEnds s.protocol s.list s.logical) list.now }
+        result ≡ false → All (LooseEnds s.protocol s.list s.logical) s.list }
 {
     match standing.protocol() {
         Protocol::Scc => false,
-        Protocol::Bpcc => any_loose(standing, list),
+        Protocol::Bpcc => any_loose(standing, standing.chart().records()),
     }
 }
 

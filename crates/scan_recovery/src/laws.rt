@@ -1,4 +1,6 @@
-//! Laws 3 to 7 of a list that keeps laws 1 and 2, by its records in order of their names.
+//! Laws 3 to 7 of a list that keeps laws 1 and 2, by its records in order of their names. Each of laws 4 to 7
+//! is tried of the records in that order, in which what is looked up for one lies near that for the next, and
+//! only where it is broken of them in the order of their slots.
 ghost use Rattle.std.specs.Prelude.{◌≡◌, ◌↔◌, IsTrue, All, IfOk, length};
 ghost use Rattle.tx_types.specs.declared.config.Protocol.TheVariants.{Bpcc};
 ghost use Rattle.record_list.specs.Records.{IsScanned};
@@ -47,31 +49,63 @@ pub fn first_breach(
 /// The index of the first record that breaks law 4: where it is the newest of its page, the current
 /// version of its page is 0 or present.
 fn first_without_current(standing: &Standing, list: &[Found]) -> Option<usize>
+    requires { Sorts list.now standing.now.list }
     ensures { let s = standing.now in
         FindsFirst (CurrentIsPresent s.protocol s.list s.logical) list.now result }
 {
-    list.iter().position(|found| !has_current(standing, found))
+    without_current(standing, standing.chart().records())?;
+    without_current(standing, list)
+}
+
+/// The index of the first of these records that breaks law 4.
+fn without_current(standing: &Standing, records: &[Found]) -> Option<usize>
+    ensures { let s = standing.now in
+        FindsFirst (CurrentIsPresent s.protocol s.list s.logical) records.now result }
+{
+    records
+        .iter()
+        .position(|found| !has_current(standing, found))
 }
 
 fn has_current(standing: &Standing, found: &Found) -> bool
     ensures { let s = standing.now in
         IsTrue result ↔ CurrentIsPresent s.protocol s.list s.logical found.now }
 {
+    found.rec.version == standing.current(found.rec.page) || has_other_current(standing, found)
+}
+
+/// Whether the current version of its page is 0 or present, where a record is the newest of that.
+fn has_other_current(standing: &Standing, found: &Found) -> bool
+    ensures { let s = standing.now in
+        IsTrue result ↔ CurrentIsPresent s.protocol s.list s.logical found.now }
+{
     let page = found.rec.page;
     let version = standing.current(page);
     let chart = standing.chart();
-    found.rec.version != chart.newest(page)
-        || version == 0
+    version == 0
+        || found.rec.version != chart.newest(page)
         || chart.is_present(Link { page, version })
 }
 
 /// The index of the first record that breaks law 5: the link of a current record is not above the
 /// current version there, and under Back Pointer Cyclic Commit is not straddled.
 fn first_early_link(standing: &Standing, list: &[Found]) -> Option<usize>
+    requires { Sorts list.now standing.now.list }
     ensures { let s = standing.now in
         FindsFirst (LinkHasCounted s.protocol s.list s.logical) list.now result }
 {
-    list.iter().position(|found| !has_counted(standing, found))
+    early_link(standing, standing.chart().records())?;
+    early_link(standing, list)
+}
+
+/// The index of the first of these records that breaks law 5.
+fn early_link(standing: &Standing, records: &[Found]) -> Option<usize>
+    ensures { let s = standing.now in
+        FindsFirst (LinkHasCounted s.protocol s.list s.logical) records.now result }
+{
+    records
+        .iter()
+        .position(|found| !has_counted(standing, found))
 }
 
 #[tactic(auto, unfolding(record_list::specs::SoundList::LinkHasCounted))]
@@ -94,10 +128,20 @@ fn has_counted(standing: &Standing, found: &Found) -> bool
 /// where it is loose, its back version is the current one of its page, its link is not to a current
 /// record, and where its link is below the current version there, a record is responsible for it.
 fn first_unshown(standing: &Standing, list: &[Found]) -> Option<usize>
+    requires { Sorts list.now standing.now.list }
     ensures { let s = standing.now in
         FindsFirst (LooseIsShown s.protocol s.list s.logical) list.now result }
 {
-    list.iter().position(|found| !is_shown(standing, found))
+    unshown(standing, standing.chart().records())?;
+    unshown(standing, list)
+}
+
+/// The index of the first of these records that breaks law 6.
+fn unshown(standing: &Standing, records: &[Found]) -> Option<usize>
+    ensures { let s = standing.now in
+        FindsFirst (LooseIsShown s.protocol s.list s.logical) records.now result }
+{
+    records.iter().position(|found| !is_shown(standing, found))
 }
 
 #[tactic(auto, unfolding(record_list::specs::SoundList::LooseIsShown))]

@@ -1,12 +1,14 @@
-ghost use Rattle.std.specs.Prelude.{◌≡◌, ◌*◌, ◌<◌, ◌↔◌, true, IsTrue, All, length, IfOk, MatchResult, if◌then◌else◌};
+ghost use Rattle.std.specs.Prelude.{◌≡◌, ℕ, suc, ◌*◌, ◌<◌, ◌↔◌, true, IsTrue, All, length, IfOk, MatchResult, if◌then◌else◌};
 ghost use Rattle.tx_types.specs.Config.{slots_of};
 ghost use Rattle.flash_model.specs.Flash.{slot_at};
 ghost use Rattle.flash_model.specs.Calls.{page_of};
 ghost use Rattle.record_list.specs.Search.{FindsFirst};
 ghost use Rattle.record_chart.specs.Charts.{Sorts};
 ghost use Rattle.scan_recovery.specs.Reading.{ReadsAll, ReadsSome};
+ghost use Rattle.scan_recovery.specs.Searches.{NextDiffers};
 ghost use Rattle.scan_recovery.specs.Twins.{lowest_of, is_compared, compared, AgreesWithLowest, compared_to};
 
+use crate::removable::has_name_of;
 use flash_model::{Broken, Flash};
 use record_chart::Chart;
 use record_list::Found;
@@ -34,12 +36,28 @@ pub fn first_contradiction<F: Flash>(
         ReadsAll (F.state flash.old) (F.state flash.new) (2 * compared_to list.now found))
         (λ _. ReadsSome (F.state flash.old) (F.state flash.new) true (2 * compared list.now)) }
 {
+    if names_differ(chart.records()) {
+        return Ok(None);
+    }
     for at in 0..list.len() {
         if !agrees(flash, chart, list[at], one, two)? {
             return Ok(Some(at));
         }
     }
     Ok(None)
+}
+
+/// Whether no record has the name of the one before it. Of records in order of their names no two have
+/// one then.
+fn names_differ(records: &[Found]) -> bool
+    ensures { IsTrue result ↔ ((k : ℕ) → suc k < length records.now → NextDiffers records.now k) }
+{
+    for at in 1..records.len() {
+        if has_name_of(&records[at - 1].rec, &records[at].rec) {
+            return false;
+        }
+    }
+    true
 }
 
 /// Whether a record is equal to the lowest one of its name, and so are the bytes of the two slots.

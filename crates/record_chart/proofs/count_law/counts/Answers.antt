@@ -1,4 +1,5 @@
 use Rattle.std.proofs.Common.{None, Some, subst}
+use Rattle.std.proofs.lemmas.List.Sorted.{All-permutation, IsPermutation-sym}
 use Rattle.record_list.specs.Search.{FindsFirst}
 use Rattle.record_list.specs.Counts.{KeepsCount}
 use Rattle.record_list.proofs.Breaches.{miscount_at}
@@ -22,3 +23,13 @@ returns c =
     rw c.breach_at.ensures (miscount_at c.args.list.now c.in-Some.at c.requires.scanned
     (miscounts_alike c.args.list.now c.args.chart.now c.requires.sorts c.requires.copies c.requires.scanned (Some c.in-Some.at)
     (subst (FindsFirst (KeepsCount c.args.chart.now) c.args.list.now) c.in-Some.is c.first_miscount.ensures)))
+
+pub returns-then-all_keep_count : goal.returns-then-all_keep_count
+returns-then-all_keep_count c =
+    let list = c.args.list.now in
+    let chart = c.args.chart.now in
+    miscounts_alike list chart c.requires.sorts c.requires.copies c.requires.scanned None
+    (All-permutation (KeepsCount chart) chart list (IsPermutation-sym list chart c.requires.sorts.records) (c.all_keep_count.ensures c.if-all_keep_count.true))
+
+pub all_keep_count-requires-clause-namesakes : goal.all_keep_count-requires-clause-namesakes
+all_keep_count-requires-clause-namesakes c = namesakes c.args.list.now c.args.chart.now c.requires.sorts c.requires.copies c.requires.scanned

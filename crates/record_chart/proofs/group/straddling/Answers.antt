@@ -1,25 +1,25 @@
-use Rattle.std.proofs.Common.{◌≤◌, ◌∙◌, [], rules, arith}
+use Rattle.std.proofs.Common.{◌≤◌, ◌∙◌, [], rules}
 use Rattle.record_chart.proofs.Groups.{group_goes_up}
 use Rattle.record_chart.proofs.StraddlerGroups.{stretch_rises, whole, straddling_is_last}
 use Rattle.record_chart.proofs.group.straddling.Goals as goal
 
 pub slice_bounds-count_below-count : goal.slice_bounds-count_below-count
 slice_bounds-count_below-count c =
-    group_goes_up c.args.records.now c.args.name.page c.names_below-from.result c.pages_up_to-end.result c.names_below-from.ensures.first
-    c.pages_up_to-end.ensures.first c.names_below-from.ensures.within c.pages_up_to-end.ensures.within
+    group_goes_up c.args.records.now c.args.name.page c.pages_below-from.result c.pages_up_to-end.result c.pages_below-from.ensures.first
+    c.pages_up_to-end.ensures.first c.pages_below-from.ensures.within c.pages_up_to-end.ensures.within
 
 pub slice_bounds-count_below-start : goal.slice_bounds-count_below-start
 slice_bounds-count_below-start c =
-    let up : c.names_below-from.result ≤ c.pages_up_to-end.result =
-    group_goes_up c.args.records.now c.args.name.page c.names_below-from.result c.pages_up_to-end.result c.names_below-from.ensures.first
-    c.pages_up_to-end.ensures.first c.names_below-from.ensures.within c.pages_up_to-end.ensures.within in
+    let up : c.pages_below-from.result ≤ c.pages_up_to-end.result =
+    group_goes_up c.args.records.now c.args.name.page c.pages_below-from.result c.pages_up_to-end.result c.pages_below-from.ensures.first
+    c.pages_up_to-end.ensures.first c.pages_below-from.ensures.within c.pages_up_to-end.ensures.within in
     let size = c.requires.minima.size in
     search rules
 
 pub count_below-count-requires : goal.count_below-count-requires
 count_below-count-requires c =
     let l = c.args.records.now in
-    let from = c.names_below-from in
+    let from = c.pages_below-from in
     let end = c.pages_up_to-end in
     let up = group_goes_up l c.args.name.page from.result end.result from.ensures.first end.ensures.first from.ensures.within end.ensures.within in
     stretch_rises l [] c.args.least.now c.args.name from.result end.result c.requires.order c.requires.minima
@@ -29,7 +29,7 @@ count_below-count-requires c =
 pub returns : goal.returns
 returns c =
     let l = c.args.records.now in
-    let from = c.names_below-from in
+    let from = c.pages_below-from in
     let end = c.pages_up_to-end in
     let up = group_goes_up l c.args.name.page from.result end.result from.ensures.first end.ensures.first from.ensures.within end.ensures.within in
     c.last_above.ensures

@@ -1,4 +1,4 @@
-use Rattle.std.proofs.Common.{◌≤◌, ◌≡◌, Some, slice_get, get_or, ◌∙◌, rules, arith}
+use Rattle.std.proofs.Common.{◌≤◌, get_or, ◌∙◌, rules}
 use Rattle.std.proofs.lemmas.Option.{slice_get-get_or}
 use Rattle.record_chart.proofs.StraddlerGroups.{stretch_rises, settled, bound_up, upto_is_last}
 use Rattle.record_chart.proofs.group.straddling_up_to_bound.Goals as goal
@@ -7,7 +7,7 @@ pub slice_bounds-count_below-count : goal.slice_bounds-count_below-count
 slice_bounds-count_below-count c =
     let tops = c.args.tops.now in
     let name = c.args.name in
-    let from = c.names_below-from in
+    let from = c.pages_below-from in
     let end = c.names_up_to-end in
     bound_up c.args.records.now tops c.args.least.now name (get_or tops name.page 0) from.result end.result c.requires.order c.requires.minima
     (slice_get-get_or tops name.page 0 c.requires.bound) from.ensures.first end.ensures.first from.ensures.within end.ensures.within
@@ -16,9 +16,9 @@ pub slice_bounds-count_below-start : goal.slice_bounds-count_below-start
 slice_bounds-count_below-start c =
     let tops = c.args.tops.now in
     let name = c.args.name in
-    let from = c.names_below-from in
+    let from = c.pages_below-from in
     let end = c.names_up_to-end in
-    let up : c.names_below-from.result ≤ c.names_up_to-end.result =
+    let up : c.pages_below-from.result ≤ c.names_up_to-end.result =
     bound_up c.args.records.now tops c.args.least.now name (get_or tops name.page 0) from.result end.result c.requires.order c.requires.minima
     (slice_get-get_or tops name.page 0 c.requires.bound) from.ensures.first end.ensures.first from.ensures.within end.ensures.within in
     let size = c.requires.minima.size in
@@ -29,7 +29,7 @@ count_below-count-requires c =
     let l = c.args.records.now in
     let tops = c.args.tops.now in
     let name = c.args.name in
-    let from = c.names_below-from in
+    let from = c.pages_below-from in
     let end = c.names_up_to-end in
     stretch_rises l tops c.args.least.now name from.result end.result c.requires.order c.requires.minima
     (settled l tops c.args.least.now name (get_or tops name.page 0) from.result end.result c.requires.order c.requires.minima
@@ -40,7 +40,7 @@ returns c =
     let l = c.args.records.now in
     let tops = c.args.tops.now in
     let name = c.args.name in
-    let from = c.names_below-from in
+    let from = c.pages_below-from in
     let end = c.names_up_to-end in
     c.last_above.ensures
     ∙ upto_is_last l tops c.args.least.now name (get_or tops name.page 0) from.result end.result c.requires.order c.requires.minima

@@ -1,18 +1,19 @@
--- The first record that is not below the name has it, or none has.
-use Rattle.std.proofs.Common.{sym, ◌∙◌, arith}
-use Rattle.record_chart.proofs.Order.{find_here, find_nowhere}
+-- The first record of the name's page has the name, or the page has no record.
+use Rattle.std.proofs.Common.{sym, arith}
+use Rattle.record_chart.proofs.Order.{page_here, page_nowhere}
 use Rattle.record_chart.proofs.in_order.find.Goals as goal
-use Rattle.record_chart.proofs.in_order.find.Goals.{else-at-records-via-then-at-records+else-has_name, else-at-records-via-else-at-records}
 
-pub returns-then-has_name : goal.returns-then-has_name
-returns-then-has_name c =
-    sym (find_here c.args.records.now c.args.name c.names_below-at.result c.requires.order c.names_below-at.ensures.first
-    c.if-at-records.true (sym c.has_name.ensures ∙ c.if-has_name.true))
+pub returns-then-at-records : goal.returns-then-at-records
+returns-then-at-records c =
+    sym (page_nowhere c.args.records.now c.args.name c.pages_below-at.result c.requires.order c.pages_below-at.ensures.first
+    (λ within e. let end = c.if-at-records.true in omega arith))
 
-pub returns-else-at-records : goal.returns-else-at-records
-returns-else-at-records c = elim c.else-at-records.branch [
-  | else-at-records-via-then-at-records+else-has_name w ↦ sym (find_nowhere c.args.records.now c.args.name c.names_below-at.result c.requires.order
-      c.names_below-at.ensures.first (λ within. sym w.has_name.ensures ∙ w.if-has_name.false))
-  | else-at-records-via-else-at-records w ↦ sym (find_nowhere c.args.records.now c.args.name c.names_below-at.result c.requires.order
-      c.names_below-at.ensures.first (λ within. absurd (let far = w.if-at-records.false in omega arith)))
-]
+pub returns-then-rec-name : goal.returns-then-rec-name
+returns-then-rec-name c =
+    sym (page_nowhere c.args.records.now c.args.name c.pages_below-at.result c.requires.order c.pages_below-at.ensures.first
+    (λ within e. c.if-rec-name.true e))
+
+pub returns-then-rec-name-2 : goal.returns-then-rec-name-2
+returns-then-rec-name-2 c =
+    sym (page_here c.args.records.now c.args.name c.pages_below-at.result c.requires.order c.pages_below-at.ensures.first
+    (let end = c.if-at-records.false in let within = c.pages_below-at.ensures.within in omega arith) c.if-rec-name.false c.if-rec-name-2.true)

@@ -10,7 +10,7 @@ pub returns-in-None-clause-first : goal.returns-in-None-clause-first
 returns-in-None-clause-first c =
     up_to_first c.args.records.now c.args.name c.partition_point.result
     (IsPartitionPoint-from_clause (λ f. not (is_below c.args.name (name_of f.rec))) c.args.records.now c.partition_point.result
-    c.partition_point.ensures.partitioned (parted_up_to c.args.records.now c.args.name c.requires) (λ a r q k. search rules))
+    c.partition_point.ensures.partitioned (parted_up_to c.args.records.now c.args.name c.requires.order) (λ a r q k. search rules))
 
 pub returns-in-Some-clause-first : goal.returns-in-Some-clause-first
 returns-in-Some-clause-first c =

@@ -1,5 +1,5 @@
-use Rattle.std.proofs.Common.{◌≡◌, ◌+◌, ◌-◌, length, subst, sym, ap, ◌∙◌, arith}
-use Rattle.record_chart.specs.Minima.{least_from, AreMinimaFrom}
+use Rattle.std.proofs.Common.{◌≡◌, ◌+◌, ◌-◌, length, subst, arith}
+use Rattle.record_chart.specs.Minima.{AreMinimaFrom}
 use Rattle.record_chart.proofs.MinimaSteps.{minima_none, minima_more}
 use Rattle.record_chart.proofs.minima.minima.Goals as goal
 

@@ -1,6 +1,6 @@
 use Rattle.std.proofs.Common.{◌≡◌, ◌<◌, ◌/◌, List, get_or, length, sym, ap, ◌∙◌, subst, arith}
 use Rattle.std.proofs.lemmas.List.Elements.{Contains-get_or}
-use Rattle.tx_types.specs.Config.{blocks_of, slots_of}
+use Rattle.tx_types.specs.Config.{blocks_of}
 use Rattle.record_list.specs.declared.found.Found.{Found}
 use Rattle.record_list.specs.Records.{nothing}
 use Rattle.scan_recovery.specs.Removable.{is_fixed}

@@ -1,5 +1,4 @@
-use Rattle.std.proofs.Common.{subst, rules}
-use Rattle.record_chart.specs.Charts.{SortsByLink}
+use Rattle.std.proofs.Common.{rules}
 use Rattle.scan_recovery.proofs.SharedLinks.{finds_lowest}
 use Rattle.scan_recovery.proofs.shared_links.lowest_shared_link.Goals as goal
 

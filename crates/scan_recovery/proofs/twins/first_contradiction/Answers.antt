@@ -1,4 +1,4 @@
-use Rattle.std.proofs.Common.{◌<◌, ◌*◌, ◌∙◌, All, true, false, get_or, cond, sym, ap, subst, arith}
+use Rattle.std.proofs.Common.{ℕ, suc, length, ◌<◌, ◌*◌, ◌∙◌, All, true, get_or, cond, sym, subst, arith}
 use Rattle.std.proofs.lemmas.Bool.{false≢true}
 use Rattle.std.proofs.lemmas.List.{get_or_default}
 use Rattle.std.proofs.lemmas.Result.{err_from_is_err_and}
@@ -6,10 +6,25 @@ use Rattle.tx_types.specs.Config.{slots_of}
 use Rattle.record_list.specs.declared.found.Found.{Found}
 use Rattle.record_list.specs.Records.{nothing}
 use Rattle.scan_recovery.specs.Reading.{ReadsAll, ReadsSome}
+use Rattle.scan_recovery.specs.Searches.{NextDiffers}
 use Rattle.scan_recovery.specs.Twins.{AgreesWithLowest}
+use Rattle.scan_recovery.proofs.LoneNames.{all_agree, none_read}
 use Rattle.scan_recovery.proofs.ComparedSteps.{first_compared, as_before, agree_more, compared_next, compared_fault, compared_whole}
 use Rattle.scan_recovery.proofs.TwinsAlike.{compared_alike, agrees_alike, all_alike}
 use Rattle.scan_recovery.proofs.twins.first_contradiction.Goals as goal
+
+pub returns-then-names_differ-clause-first : goal.returns-then-names_differ-clause-first
+returns-then-names_differ-clause-first g c =
+    let old = g.F.Flash.state c.args.flash.now in
+    all_agree c.args.list.now c.args.chart.now c.requires.sorts
+    (subst (λ l. (k : ℕ) → suc k < length l → NextDiffers l k) c.records.ensures.records (c.names_differ.ensures.0 c.if-names_differ.true))
+    old.shape.page_bytes old.image
+
+pub returns-then-names_differ-clause-reads : goal.returns-then-names_differ-clause-reads
+returns-then-names_differ-clause-reads g c =
+    none_read c.args.list.now c.args.chart.now c.requires.sorts
+    (subst (λ l. (k : ℕ) → suc k < length l → NextDiffers l k) c.records.ensures.records (c.names_differ.ensures.0 c.if-names_differ.true))
+    (g.F.Flash.state c.args.flash.now)
 
 pub agrees-requires-clause-exists : goal.agrees-requires-clause-exists
 agrees-requires-clause-exists g c =

@@ -1,44 +1,55 @@
 -- The links of the records are a graph of their places.
-use Rattle.std.proofs.Common.{arith}
+use Rattle.std.proofs.Common.{◌≡◌, ◌∙◌, arith}
 use Rattle.std.proofs.lemmas.List.{length-map}
 use Rattle.std.proofs.lemmas.List.Sorted.{length_permutation}
-use Rattle.record_chart.specs.Charts.{place_of}
-use Rattle.record_chart.proofs.WalkOrbits.{link_graph_is}
+use Rattle.record_chart.specs.Charts.{place_of, link_graph}
+use Rattle.record_chart.proofs.WalkOrbits.{link_graph_is, kept_links}
 use Rattle.record_chart.proofs.chart.Chart.new.Goals as goal
 
-pub page_starts-requires : goal.page_starts-requires
-page_starts-requires c =
+pub page_starts-requires-clause-few : goal.page_starts-requires-clause-few
+page_starts-requires-clause-few c =
     let l = length_permutation c.args.records.items c.sort.new.records.items c.in_ok-sort.ensures.records in
     let few = c.if-len.false in
     let size = c.len.ensures in
     rw c.deref.ensures.value (omega arith)
 
-pub links-requires-clause-few : goal.links-requires-clause-few
-links-requires-clause-few c =
+pub targets-requires-clause-few : goal.targets-requires-clause-few
+targets-requires-clause-few c =
     let l = length_permutation c.args.records.items c.sort.new.records.items c.in_ok-sort.ensures.records in
     let few = c.if-len.false in
     let size = c.len.ensures in
     rw c.deref-3.ensures.value (omega arith)
 
 pub new-requires-clause-graph : goal.new-requires-clause-graph
-new-requires-clause-graph c = rw (c.deref-5.ensures.value, c.in_ok-links.ensures) (link_graph_is c.deref-3.result.now)
+new-requires-clause-graph c =
+    let l = c.sort.new.records.items in
+    let graph : c.in_ok-links.links.items ≡ link_graph l =
+    (rw (c.deref-5.ensures.value, c.deref-7.ensures.value, c.in_ok-targets.ensures, c.deref-3.ensures.value) at c.in_ok-links.ensures) ∙ kept_links l in
+    rw (c.deref-8.ensures.value, graph) (link_graph_is l)
 
 pub new-requires-clause-size : goal.new-requires-clause-size
 new-requires-clause-size c =
-    let l = length_permutation c.args.records.items c.sort.new.records.items c.in_ok-sort.ensures.records in
+    let l = c.sort.new.records.items in
+    let graph : c.in_ok-links.links.items ≡ link_graph l =
+    (rw (c.deref-5.ensures.value, c.deref-7.ensures.value, c.in_ok-targets.ensures, c.deref-3.ensures.value) at c.in_ok-links.ensures) ∙ kept_links l in
+    let as_many = length_permutation c.args.records.items l c.in_ok-sort.ensures.records in
     let few = c.if-len.false in
     let size = c.len.ensures in
-    rw (c.deref-5.ensures.value, c.in_ok-links.ensures, length-map c.deref-3.result.now (λ f. place_of c.deref-3.result.now f.rec.next), c.deref-3.ensures.value)
-    (omega arith)
+    rw (c.deref-8.ensures.value, graph, length-map l (λ f. place_of l f.rec.next)) (omega arith)
 
 pub invariant_of-result : goal.invariant_of-result
 invariant_of-result c =
-    let l = length_permutation c.args.records.items c.sort.new.records.items c.in_ok-sort.ensures.records in
+    let l = c.sort.new.records.items in
+    let graph : c.in_ok-links.links.items ≡ link_graph l =
+    (rw (c.deref-5.ensures.value, c.deref-7.ensures.value, c.in_ok-targets.ensures, c.deref-3.ensures.value) at c.in_ok-links.ensures) ∙ kept_links l in
+    let as_many = length_permutation c.args.records.items l c.in_ok-sort.ensures.records in
     let few = c.if-len.false in
     let size = c.len.ensures in
     record {
       order = c.in_ok-sort.ensures.order;
       few = omega arith;
+      starts = rw c.deref.ensures.value at c.in_ok-starts.ensures;
       minima = rw c.deref-2.ensures.value at c.in_ok-least.ensures;
-      orbits = rw (c.deref-5.ensures.value, c.in_ok-links.ensures, c.deref-3.ensures.value) at c.in_ok-orbits.ensures;
+      targets = rw c.deref-3.ensures.value at c.in_ok-targets.ensures;
+      orbits = rw (c.deref-8.ensures.value, graph) at c.in_ok-orbits.ensures;
     }

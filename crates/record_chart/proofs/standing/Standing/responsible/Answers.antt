@@ -1,5 +1,5 @@
 -- The bound of a page is its current version.
-use Rattle.std.proofs.Common.{length, get_or, sym, ap, ◌∙◌, arith}
+use Rattle.std.proofs.Common.{length, get_or, ap, ◌∙◌, arith}
 use Rattle.std.proofs.lemmas.List.FromFn.{get_or-map-range_with_len, length-map-range_with_len}
 use Rattle.record_list.specs.Records.{greatest}
 use Rattle.record_list.specs.Current.{cur, straddling_upto, responsible}

@@ -1,0 +1,5 @@
+use Rattle.record_chart.proofs.Starts.{HaveStarts}
+use Rattle.record_chart.proofs.search.page_starts.Given as goal
+
+abbrev pub invariant-loop-at : goal.invariant-loop-at
+invariant-loop-at l = HaveStarts l.records l.size l.at l.starts.items
