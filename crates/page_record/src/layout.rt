@@ -16,6 +16,7 @@ pub const COUNTED: u8 = 2;
 pub const MAX_COUNT: u32 = 256;
 
 /// The byte that stands for a protocol.
+#[inline(always)]
 pub fn code(protocol: Protocol) -> u8
     ensures { result ≡ code_of protocol }
 {

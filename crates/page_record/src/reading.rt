@@ -1,6 +1,7 @@
-ghost use Rattle.std.specs.Prelude.{◌≡◌, ◌&&◌, ◌+◌, ◌≤◌, IfOk, Ok};
+ghost use Rattle.std.specs.Prelude.{◌≡◌, ◌&&◌, ◌+◌, ◌≤◌, IfOk, Ok, slice_range};
 ghost use Rattle.std.specs.Result.{result_ok, result_err};
 ghost use Rattle.std.specs.Int.{w32, w64};
+ghost use Rattle.tx_types.specs.Limits.{spare_bytes};
 ghost use Rattle.tx_types.specs.declared.record.Rec.{Rec};
 ghost use Rattle.page_record.specs.Spelling.{spelling, CanBeSpelled};
 ghost use Rattle.page_record.specs.Rules.{number_at, fields_of, are_zeros, is_counted, has_flags, is_count, rest_of, is_version, is_back, first_broken, record_of};
@@ -10,6 +11,7 @@ use crate::layout::{COUNTED, MARK, MAX_COUNT, PLAIN, code};
 use tx_types::{Link, MAX_VERSION, Protocol, Rec};
 
 /// The record that a spare area spells under this protocol, or the first rule that its bytes break.
+#[inline]
 pub fn read_spare(spare_area: &[u8; 64], protocol: Protocol) -> Result<Rec, SpareError>
     // What is read is spelled so.
     ensures spelled { IfOk result (λ rec.
@@ -29,6 +31,7 @@ pub fn read_spare(spare_area: &[u8; 64], protocol: Protocol) -> Result<Rec, Spar
 }
 
 /// The first rule that the bytes break.
+#[inline]
 #[tactic(auto, unfolding(crate::specs::Rules::first_broken))]
 fn broken_rule(spare_area: &[u8; 64], protocol: Protocol) -> Option<SpareError>
     ensures { result ≡ first_broken protocol spare_area.now }
@@ -48,7 +51,7 @@ fn broken_rule(spare_area: &[u8; 64], protocol: Protocol) -> Option<SpareError>
         Some(SpareError::Back)
     } else if is_counted(spare_area) && !is_count(rec.count) {
         Some(SpareError::Count)
-    } else if !are_zeros(rest(spare_area)) {
+    } else if !has_zero_rest(spare_area) {
         Some(SpareError::Rest)
     } else {
         None
@@ -56,6 +59,7 @@ fn broken_rule(spare_area: &[u8; 64], protocol: Protocol) -> Option<SpareError>
 }
 
 /// The record whose numbers stand in the bytes.
+#[inline(always)]
 fn fields(spare_area: &[u8; 64]) -> Rec
     ensures { result ≡ fields_of spare_area.now }
 {
@@ -73,6 +77,7 @@ fn fields(spare_area: &[u8; 64]) -> Rec
 }
 
 /// The number in the four bytes at an offset.
+#[inline(always)]
 #[tactic(auto, unfolding(crate::specs::Rules::number_at))]
 fn u32_at(spare_area: &[u8; 64], offset: usize) -> u32
     requires { offset + 4 ≤ 64 }
@@ -83,6 +88,7 @@ fn u32_at(spare_area: &[u8; 64], offset: usize) -> u32
 }
 
 /// The number in the eight bytes at an offset.
+#[inline(always)]
 #[tactic(auto, unfolding(crate::specs::Rules::number_at))]
 fn u64_at(spare_area: &[u8; 64], offset: usize) -> u64
     requires { offset + 8 ≤ 64 }
@@ -95,6 +101,7 @@ fn u64_at(spare_area: &[u8; 64], offset: usize) -> u64
 }
 
 /// Whether the format is the one with a count.
+#[inline(always)]
 fn is_counted(spare_area: &[u8; 64]) -> bool
     ensures { result ≡ is_counted spare_area.now }
 {
@@ -102,6 +109,7 @@ fn is_counted(spare_area: &[u8; 64]) -> bool
 }
 
 /// Whether the flags are 0, or 1 where the format has a count.
+#[inline(always)]
 fn has_flags(spare_area: &[u8; 64]) -> bool
     ensures { result ≡ has_flags spare_area.now }
 {
@@ -110,31 +118,48 @@ fn has_flags(spare_area: &[u8; 64]) -> bool
 }
 
 /// Whether a number may be a count.
+#[inline(always)]
 fn is_count(number: u32) -> bool
     ensures { result ≡ is_count number }
 {
     1 <= number && number <= MAX_COUNT
 }
 
-/// The bytes behind the last field, which is the back version where the format has no count.
-fn rest(spare_area: &[u8; 64]) -> &[u8]
-    ensures { result.now ≡ rest_of spare_area.now }
+/// Whether the bytes behind the last field are 0, which is the back version where the format has no
+/// count.
+#[inline(always)]
+fn has_zero_rest(spare_area: &[u8; 64]) -> bool
+    ensures { result ≡ are_zeros (rest_of spare_area.now) }
 {
     if is_counted(spare_area) {
-        &spare_area[44..]
+        has_zero_tail(spare_area)
     } else {
-        &spare_area[40..]
+        has_zero_tail_and_count(spare_area)
     }
 }
 
-/// Whether each byte is 0.
-fn are_zeros(bytes: &[u8]) -> bool
-    ensures { result ≡ are_zeros bytes.now }
+/// Whether the bytes of the count and those behind them are 0.
+#[inline(always)]
+fn has_zero_tail_and_count(spare_area: &[u8; 64]) -> bool
+    ensures { result ≡ are_zeros (slice_range spare_area.now 40 spare_bytes) }
 {
-    bytes.iter().all(|b| *b == 0)
+    let count = u32_at(spare_area, 40);
+    count == 0 && has_zero_tail(spare_area)
+}
+
+/// Whether the bytes behind the count are 0.
+#[inline(always)]
+fn has_zero_tail(spare_area: &[u8; 64]) -> bool
+    ensures { result ≡ are_zeros (slice_range spare_area.now 44 spare_bytes) }
+{
+    let first = u32_at(spare_area, 44);
+    let second = u64_at(spare_area, 48);
+    let third = u64_at(spare_area, 56);
+    first == 0 && second == 0 && third == 0
 }
 
 /// Whether the version and the link version are in range.
+#[inline(always)]
 fn has_versions(rec: Rec) -> bool
     ensures { result ≡ (is_version rec.version && is_version rec.next.version) }
 {
@@ -142,6 +167,7 @@ fn has_versions(rec: Rec) -> bool
 }
 
 /// Whether a number is in the range of versions.
+#[inline(always)]
 fn is_version(number: u64) -> bool
     ensures { result ≡ is_version number }
 {
@@ -149,6 +175,7 @@ fn is_version(number: u64) -> bool
 }
 
 /// Whether a record of this version may have this back version.
+#[inline(always)]
 fn is_back(protocol: Protocol, version: u64, back: u64) -> bool
     ensures { result ≡ is_back protocol version back }
 {
