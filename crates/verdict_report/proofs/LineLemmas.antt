@@ -42,28 +42,27 @@ line_parts page version why current links more =
     (join_after_spaces first (a ++ (b ++ (c ++ (d ++ (links ++ more)))))
     ∙ ap (λ text. first ++ text) (parts_after_spaces a b c d links more))
 
--- texts that grow part by part
-grown : (old first a b c d e f s t u v w x y : List ℕ) →
-    s ≡ old ++ (first ++ a) → t ≡ s ++ b → u ≡ t ++ c → v ≡ u ++ d → w ≡ v ++ e → x ≡ w ++ f → y ≡ x ++ 10 ∷ [] →
-    y ≡ old ++ ((first ++ (a ++ (b ++ (c ++ (d ++ (e ++ f)))))) ++ 10 ∷ [])
-grown old first a b c d e f s t u v w x y es et eu ev ew ex ey = rw (ey, ex, ew, ev, eu, et, es) (simp append_assoc)
-
--- a line that is written part by part
-pub line_written : (page version : ℕ) (why : Why) (current : ℕ) (links more : List (List ℕ)) (old s t u v w x y : List ℕ) →
-    s ≡ old ++ (codes "verdict" ++ after_spaces (decimal page ∷ codes "newest" ∷ decimal version ∷ [])) →
-    t ≡ s ++ after_spaces (verdict_word (verdict_of why) ∷ []) →
-    u ≡ t ++ after_spaces (reason_words why) →
-    v ≡ u ++ after_spaces (codes "current" ∷ decimal current ∷ codes "walk" ∷ []) →
-    w ≡ v ++ after_spaces links → x ≡ w ++ after_spaces more → y ≡ x ++ 10 ∷ [] →
-    y ≡ old ++ page_line page version why current (links ++ more)
-line_written page version why current links more old s t u v w x y es et eu ev ew ex ey =
+-- a line that is put together from its end
+pub line_put : (page version : ℕ) (why : Why) (current : ℕ) (links more : List (List ℕ)) (t u v w x y z : List ℕ) →
+    t ≡ 10 ∷ [] → u ≡ after_spaces more ++ t → v ≡ after_spaces links ++ u →
+    w ≡ after_spaces (codes "current" ∷ decimal current ∷ codes "walk" ∷ []) ++ v →
+    x ≡ after_spaces (reason_words why) ++ w →
+    y ≡ after_spaces (verdict_word (verdict_of why) ∷ []) ++ x →
+    z ≡ (codes "verdict" ++ after_spaces (decimal page ∷ codes "newest" ∷ decimal version ∷ [])) ++ y →
+    z ≡ page_line page version why current (links ++ more)
+line_put page version why current links more t u v w x y z et eu ev ew ex ey ez =
     let first = codes "verdict" in
-    let a = decimal page ∷ codes "newest" ∷ decimal version ∷ [] in
-    let b = verdict_word (verdict_of why) ∷ [] in
-    let c = reason_words why in
-    let d = codes "current" ∷ decimal current ∷ codes "walk" ∷ [] in
-    grown old first (after_spaces a) (after_spaces b) (after_spaces c) (after_spaces d) (after_spaces links) (after_spaces more) s t u v w x y es et eu ev ew ex ey
-    ∙ ap (λ text. old ++ text) (sym (line_parts page version why current links more))
+    let a = after_spaces (decimal page ∷ codes "newest" ∷ decimal version ∷ []) in
+    let b = after_spaces (verdict_word (verdict_of why) ∷ []) in
+    let c = after_spaces (reason_words why) in
+    let d = after_spaces (codes "current" ∷ decimal current ∷ codes "walk" ∷ []) in
+    put first a b c d (after_spaces links) (after_spaces more) t u v w x y z et eu ev ew ex ey ez
+    ∙ sym (line_parts page version why current links more)
+  where
+    put : (first a b c d e f t u v w x y z : List ℕ) →
+        t ≡ 10 ∷ [] → u ≡ f ++ t → v ≡ e ++ u → w ≡ d ++ v → x ≡ c ++ w → y ≡ b ++ x → z ≡ (first ++ a) ++ y →
+        z ≡ (first ++ (a ++ (b ++ (c ++ (d ++ (e ++ f)))))) ++ 10 ∷ []
+    put first a b c d e f t u v w x y z et eu ev ew ex ey ez = rw (ez, ey, ex, ew, ev, eu, et) (simp append_assoc)
 
 -- a line whose parts are those of a page
 pub line_explained : (protocol : Protocol) (list : List Found) (logical page version : ℕ) (reason : Why) (current : ℕ) (walk : Walk) →

@@ -1,6 +1,7 @@
 //! The report that explains the verdict on each page of a list of records.
 #![tactic(auto)]
 
+mod backwards;
 mod line;
 mod number;
 mod records;

@@ -1,13 +1,16 @@
-ghost use Rattle.std.specs.Prelude.{◌≡◌, ◌∷◌, ◌++◌, [], OnOk, map, codes};
+ghost use Rattle.std.specs.Prelude.{◌≡◌, ◌∷◌, ◌++◌, ◌+◌, ◌*◌, ◌≤◌, [], OnOk, map, codes, length, drop};
 ghost use Rattle.std.specs.Fmt.{decimal};
-ghost use Rattle.verdict_report.specs.Report.{verdict_word, reason_words, link_word, more_words};
+ghost use Rattle.verdict_report.specs.Report.{verdict_word, reason_words, link_word, more_words, most_links};
 ghost use Rattle.verdict_report.specs.Lines.{after_spaces, line_text};
 
-use crate::number::add_number;
+use crate::backwards::{put_bytes, put_number};
 use crate::walk::{SHOWN_LINKS, Walk};
 use record_list::{Verdict, Why};
 use std::alloc::AllocError;
 use tx_types::Link;
+
+/// Room for a line, in bytes.
+pub const LINE_ROOM: usize = 1024;
 
 /// What a report says of a page that has a record.
 #[derive(Drop)]
@@ -24,106 +27,127 @@ pub struct Line {
 }
 
 impl Line {
-    /// Appends the line with its line feed.
-    pub fn write(&self, text: &mut Vec<u8>) -> Result<(), AllocError>
+    /// Appends the line with its line feed. It is put together in the room, from its end.
+    pub fn write(&self, room: &mut [u8; LINE_ROOM], text: &mut Vec<u8>) -> Result<(), AllocError>
+        requires { length self.now.walk.shown.items ≤ most_links }
         ensures { OnOk result (text.new.items
             ≡ text.old.items ++ line_text self.now) }
     {
-        write_page(self.page, self.newest, text)?;
-        write_verdict(self.why.verdict(), text)?;
-        write_reason(self.why, text)?;
-        write_current(self.current, text)?;
-        write_links(&self.walk.shown, text)?;
-        write_more(self.walk.count, text)?;
-        write_end(text)
+        let start = self.put(room);
+        text.extend_from_slice(&room[start..])
+    }
+
+    /// Puts the line at the end of the room, and answers where it begins.
+    fn put(&self, room: &mut [u8; LINE_ROOM]) -> usize
+        requires { length self.now.walk.shown.items ≤ most_links }
+        ensures within { result ≤ 1024 }
+        ensures put { drop result room.new ≡ line_text self.now }
+    {
+        let end = put_bytes(b"\n", room, LINE_ROOM);
+        let end = put_more(self.walk.count, room, end);
+        let end = put_links(&self.walk.shown, room, end);
+        let end = put_current(self.current, room, end);
+        let end = put_reason(self.why, room, end);
+        let end = put_verdict(self.why.verdict(), room, end);
+        put_page(self.page, self.newest, room, end)
     }
 }
 
-/// Appends the page and its newest version.
-fn write_page(page: u32, newest: u64, text: &mut Vec<u8>) -> Result<(), AllocError>
-    ensures { OnOk result (text.new.items ≡ text.old.items ++ (codes "verdict"
-        ++ after_spaces (decimal page ∷ codes "newest" ∷ decimal newest ∷ []))) }
+/// Puts the page and its newest version.
+fn put_page(page: u32, newest: u64, room: &mut [u8], end: usize) -> usize
+    requires { (60 ≤ end) × (end ≤ length room.old) }
+    ensures within { (result ≤ end) × (end ≤ result + 60) }
+    ensures put { drop result room.new ≡ (codes "verdict"
+        ++ after_spaces (decimal page ∷ codes "newest" ∷ decimal newest ∷ [])) ++ drop end room.old }
 {
-    text.extend_from_slice(b"verdict ")?;
-    add_number(u64::from(page), text)?;
-    text.extend_from_slice(b" newest ")?;
-    add_number(newest, text)
+    let end = put_number(newest, room, end);
+    let end = put_bytes(b" newest ", room, end);
+    let end = put_number(u64::from(page), room, end);
+    put_bytes(b"verdict ", room, end)
 }
 
-/// Appends the verdict.
-fn write_verdict(verdict: Verdict, text: &mut Vec<u8>) -> Result<(), AllocError>
-    ensures { OnOk result (text.new.items
-        ≡ text.old.items ++ after_spaces (verdict_word verdict ∷ [])) }
+/// Puts the verdict.
+fn put_verdict(verdict: Verdict, room: &mut [u8], end: usize) -> usize
+    requires { (12 ≤ end) × (end ≤ length room.old) }
+    ensures within { (result ≤ end) × (end ≤ result + 12) }
+    ensures put { drop result room.new
+        ≡ after_spaces (verdict_word verdict ∷ []) ++ drop end room.old }
 {
     match verdict {
-        Verdict::Committed => text.extend_from_slice(b" committed"),
-        Verdict::Uncommitted => text.extend_from_slice(b" uncommitted"),
+        Verdict::Committed => put_bytes(b" committed", room, end),
+        Verdict::Uncommitted => put_bytes(b" uncommitted", room, end),
     }
 }
 
-/// Appends what decides a verdict.
-fn write_reason(why: Why, text: &mut Vec<u8>) -> Result<(), AllocError>
-    ensures { OnOk result (text.new.items
-        ≡ text.old.items ++ after_spaces (reason_words why)) }
+/// Puts what decides a verdict.
+fn put_reason(why: Why, room: &mut [u8], end: usize) -> usize
+    requires { (40 ≤ end) × (end ≤ length room.old) }
+    ensures within { (result ≤ end) × (end ≤ result + 40) }
+    ensures put { drop result room.new ≡ after_spaces (reason_words why) ++ drop end room.old }
 {
     match why {
-        Why::Cycle => text.extend_from_slice(b" cycle"),
-        Why::Passed => text.extend_from_slice(b" passed"),
-        Why::Absent => text.extend_from_slice(b" absent"),
+        Why::Cycle => put_bytes(b" cycle", room, end),
+        Why::Passed => put_bytes(b" passed", room, end),
+        Why::Absent => put_bytes(b" absent", room, end),
         Why::Straddled(version) => {
-            text.extend_from_slice(b" straddled ")?;
-            add_number(version, text)
+            let end = put_number(version, room, end);
+            put_bytes(b" straddled ", room, end)
         }
     }
 }
 
-/// Appends the current version, and what comes before the links.
-fn write_current(current: u64, text: &mut Vec<u8>) -> Result<(), AllocError>
-    ensures { OnOk result (text.new.items ≡ text.old.items
-        ++ after_spaces (codes "current" ∷ decimal current ∷ codes "walk" ∷ [])) }
+/// Puts the current version, and what comes before the links.
+fn put_current(current: u64, room: &mut [u8], end: usize) -> usize
+    requires { (40 ≤ end) × (end ≤ length room.old) }
+    ensures within { (result ≤ end) × (end ≤ result + 40) }
+    ensures put { drop result room.new
+        ≡ after_spaces (codes "current" ∷ decimal current ∷ codes "walk" ∷ []) ++ drop end room.old }
 {
-    text.extend_from_slice(b" current ")?;
-    add_number(current, text)?;
-    text.extend_from_slice(b" walk")
+    let end = put_bytes(b" walk", room, end);
+    let end = put_number(current, room, end);
+    put_bytes(b" current ", room, end)
 }
 
-/// Appends links.
-fn write_links(links: &[Link], text: &mut Vec<u8>) -> Result<(), AllocError>
-    ensures { OnOk result (text.new.items
-        ≡ text.old.items ++ after_spaces (map link_word links.now)) }
+/// Puts links, of which there are at most `SHOWN_LINKS`.
+fn put_links(links: &[Link], room: &mut [u8], end: usize) -> usize
+    requires few { length links.now ≤ most_links }
+    requires room { (42 * most_links ≤ end) × (end ≤ length room.old) }
+    ensures within { (result ≤ end) × (end ≤ result + 42 * most_links) }
+    ensures put { drop result room.new ≡ after_spaces (map link_word links.now) ++ drop end room.old }
 {
-    for link in links {
-        write_link(*link, text)?;
+    let mut start = end;
+    let mut left = links.len();
+    while left > 0 {
+        left -= 1;
+        start = put_link(links[left], room, start);
     }
-    Ok(())
+    start
 }
 
-/// Appends a link.
-fn write_link(link: Link, text: &mut Vec<u8>) -> Result<(), AllocError>
-    ensures { OnOk result (text.new.items ≡ text.old.items ++ after_spaces (link_word link ∷ [])) }
+/// Puts a link.
+#[inline(always)]
+fn put_link(link: Link, room: &mut [u8], end: usize) -> usize
+    requires { (42 ≤ end) × (end ≤ length room.old) }
+    ensures within { (result ≤ end) × (end ≤ result + 42) }
+    ensures put { drop result room.new ≡ after_spaces (link_word link ∷ []) ++ drop end room.old }
 {
-    text.extend_from_slice(b" ")?;
-    add_number(u64::from(link.page), text)?;
-    text.extend_from_slice(b":")?;
-    add_number(link.version, text)
+    let end = put_number(link.version, room, end);
+    let end = put_bytes(b":", room, end);
+    let end = put_number(u64::from(link.page), room, end);
+    put_bytes(b" ", room, end)
 }
 
-/// Appends how many of so many links are not shown, where there are such.
-fn write_more(count: u64, text: &mut Vec<u8>) -> Result<(), AllocError>
-    ensures { OnOk result (text.new.items
-        ≡ text.old.items ++ after_spaces (more_words count)) }
+/// Puts how many of so many links are not shown, where there are such.
+fn put_more(count: u64, room: &mut [u8], end: usize) -> usize
+    requires { (30 ≤ end) × (end ≤ length room.old) }
+    ensures within { (result ≤ end) × (end ≤ result + 30) }
+    ensures put { drop result room.new ≡ after_spaces (more_words count) ++ drop end room.old }
 {
     let shown = u64::from(SHOWN_LINKS);
     if count > shown {
-        text.extend_from_slice(b" more ")?;
-        add_number(count - shown, text)?;
+        let end = put_number(count - shown, room, end);
+        put_bytes(b" more ", room, end)
+    } else {
+        end
     }
-    Ok(())
-}
-
-/// Appends the line feed.
-fn write_end(text: &mut Vec<u8>) -> Result<(), AllocError>
-    ensures { OnOk result (text.new.items ≡ text.old.items ++ 10 ∷ []) }
-{
-    text.extend_from_slice(b"\n")
 }

@@ -1,15 +1,19 @@
-ghost use Rattle.std.specs.Prelude.{◌≡◌, ◌++◌, Some, IfOk, OnOk, OnErr, length};
-ghost use Rattle.verdict_report.specs.Report.{pages, verdict_line, last_line, report};
+ghost use Rattle.std.specs.Prelude.{◌≡◌, ◌++◌, Some, IfOk, OnOk, OnErr, length, ◌≤◌};
+ghost use Rattle.verdict_report.specs.Report.{pages, verdict_line, last_line, report, most_links};
 ghost use Rattle.verdict_report.specs.Newest.{IsNewestRecord};
 ghost use Rattle.verdict_report.specs.Lines.{line_text};
 
-use crate::line::Line;
+use crate::line::{LINE_ROOM, Line};
 use crate::number::add_number;
 use crate::records::Records;
 use crate::walk::Walk;
 use record_list::{CommitRule, Found};
 use std::alloc::{AllocError, Global};
 use tx_types::{Memory, Protocol, Rec};
+
+/// The room that is taken for a report at first, for each record in bytes: what most lines take. What is not
+/// used costs no memory, and a text that does not grow is not copied.
+const COMMON_LINE: usize = 256;
 
 /// Appends the report on a list of records, and answers the number of pages that it explains. After
 /// `Memory` the bytes are as before.
@@ -32,7 +36,7 @@ pub fn explain<R: CommitRule>(
     ensures text { OnOk result (out.new.items ≡ out.old.items ++ report R.protocol list.now logical) }
     ensures err { OnErr result (out.new.items ≡ out.old.items) }
 {
-    let mut text = Vec::new(alloc);
+    let mut text = Vec::with_capacity(alloc, list.len().saturating_mul(COMMON_LINE))?;
     let count = write_report(alloc, R::protocol(), list, logical, &mut text)?;
     if out.is_empty() {
         *out = text;
@@ -55,11 +59,12 @@ fn write_report(
         ≡ text.old.items ++ report protocol list.now logical) }
 {
     let records = Records::new(alloc, list)?;
+    let mut room = [0; LINE_ROOM];
     let mut count = 0;
     for page in 0..logical {
         if let Some(rec) = records.newest_record(page) {
             let line = explained(alloc, protocol, &records, logical, page, &rec)?;
-            line.write(text)?;
+            line.write(&mut room, text)?;
             count += 1;
         }
     }
@@ -86,7 +91,8 @@ fn explained(
     rec: &Rec,
 ) -> Result<Line, Memory>
     requires { IsNewestRecord records.now.chart page (Some rec.now) }
-    ensures { IfOk result (λ l. line_text l ≡ verdict_line protocol records.now.chart logical page) }
+    ensures text { IfOk result (λ l. line_text l ≡ verdict_line protocol records.now.chart logical page) }
+    ensures few { IfOk result (λ l. length l.walk.shown.items ≤ most_links) }
 {
     let why = records.why(protocol, logical, page);
     Ok(Line {

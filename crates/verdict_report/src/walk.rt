@@ -29,10 +29,21 @@ impl Walk {
     ) -> Result<Walk, Memory>
         ensures { IfOk result (λ w. IsWalk w (links_of records.now.chart logical page)) }
     {
-        Ok(Walk {
-            shown: first_links(alloc, records, logical, page)?,
-            count: records.walk_length(logical, page),
-        })
+        let shown = first_links(alloc, records, logical, page)?;
+        let count = count_links(records, logical, page, shown.len());
+        Ok(Walk { shown, count })
+    }
+}
+
+/// How many links the walk from the newest record of a page has, of which a report shows so many.
+fn count_links(records: &Records, logical: u32, page: u32, shown: usize) -> u64
+    requires { shown ≡ length (take most_links (links_of records.now.chart logical page)) }
+    ensures { result ≡ length (links_of records.now.chart logical page) }
+{
+    if shown < SHOWN_LINKS as usize {
+        shown as u64
+    } else {
+        records.walk_length(logical, page)
     }
 }
 

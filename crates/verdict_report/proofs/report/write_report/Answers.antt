@@ -12,7 +12,7 @@ pub loop-page-preserved : goal.loop-page-preserved
 loop-page-preserved c =
     elim c.match-newest_record.branch [
       | in-Some+in_ok-line+in_ok-write w ↦ lines_with _ c.in_ok-records.records.chart c.loop-page.page _ _ _ _ _ _ w.in-Some.ensures c.loop-page.invariant
-          (ap (λ t. t.items) w.text-is ∙ w.in_ok-write.ensures ∙ ap (λ line. c.loop-page.text.items ++ line) w.in_ok-line.ensures)
+          (ap (λ t. t.items) w.text-is ∙ w.in_ok-write.ensures ∙ ap (λ line. c.loop-page.text.items ++ line) w.in_ok-line.ensures.text)
           w.count-is
       | in_default w ↦ lines_without _ c.in_ok-records.records.chart c.loop-page.page _ _ _ _ _ w.in_default.ensures c.loop-page.invariant
           (ap (λ t. t.items) w.text-is) w.count-is
