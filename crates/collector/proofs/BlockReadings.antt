@@ -1,69 +1,78 @@
 -- Reading the slots of a block, one after another.
-use Rattle.std.proofs.Common.{◌≡◌, ◌⊎◌, ℕ, ◌+◌, ◌-◌, ◌<◌, ◌≤◌, Bool, true, false, ◌&&◌, List, Ok, Err, Result, refl, sym, ap, ap₂, ◌∙◌, subst, inl, inr, arith}
+use Rattle.std.proofs.Common.{◌≡◌, ℕ, ◌+◌, ◌-◌, ◌*◌, ◌<◌, ◌≤◌, Bool, true, false, ◌&&◌, if◌then◌else◌, List, Ok, Err, Result, refl, sym, ap, ap₂, ◌∙◌, subst, arith}
 use Rattle.std.specs.List.{range_with_len, list_all}
 use Rattle.list_facts.proofs.Ranges.{range_push}
-use Rattle.flash_model.specs.Flash.{FlashState, Contents, blank, damaged, complete, slot_at, counted_by}
+use Rattle.flash_model.specs.Flash.{FlashState, Contents, blank, damaged, complete, slot_at, counted}
 use Rattle.flash_model.specs.Calls.{Reads, seen_of}
 use Rattle.flash_model.specs.declared.flash.Seen.{Seen}
 use Rattle.flash_model.specs.declared.flash.Seen.TheVariants as seen
 use Rattle.flash_model.specs.declared.flash.Broken.{Broken}
-use Rattle.flash_model.specs.Operations.{Moment}
-use Rattle.flash_model.proofs.CallLemmas.{Carries-then, counted_by-twice}
+use Rattle.flash_model.specs.Operations.{Moment, moment_of}
+use Rattle.flash_model.proofs.CallLemmas.{Carries-nothing, Carries-then}
+use Rattle.flash_model.proofs.ImageLemmas.{block_within}
+use Rattle.flash_model.proofs.MoveLemmas.{same_moments}
+use Rattle.tx_types.specs.Config.{shape_of, slots_of, blocks_of}
 use Rattle.version_index.specs.declared.note.Note.{Note}
 use Rattle.version_index.specs.declared.note.Note.TheVariants.{Blank, Damaged, Holds}
 use Rattle.version_index.specs.Notes.{seen_as, note_at}
 use Rattle.version_index.specs.Noted.{Noted}
-use Rattle.collector.specs.Looking.{Looks}
-use Rattle.collector.proofs.OwnCalls.{looks_once, looks_broken}
-use Rattle.collector.specs.Settling.{reads_as, reads_alike, holds_record}
+use Rattle.collector.specs.Looking.{Looks, ReadsAtMost, reads_after}
+use Rattle.collector.proofs.Looked.{reads_then}
+use Rattle.collector.specs.Settling.{ReadsBlock, reads_as, reads_alike, holds_record}
 use Rattle.collector.specs.Collecting.{is_blank_slot, reads_blank}
 
+-- none was read
+looks_none : (s : FlashState) → Looks s s 0 false
+looks_none s = record { moment = refl; carries = Carries-nothing s; all = refl; some = tt }
+
+-- one read that was done
+pub looks_once : (s s1 : FlashState) (at : ℕ) (bytes spare : List ℕ) (r : Result Seen Broken) (how : Seen) → Reads s s1 at bytes spare r → r ≡ Ok how → Looks s s1 1 false
+looks_once s s1 at bytes spare r how e ok =
+    let done : Reads s s1 at bytes spare (Ok how) = subst (Reads s s1 at bytes spare) ok e in
+    record {
+      moment = same_moments (moment_of s1) (moment_of s) done.image done.programs done.erases;
+      carries = done.carries;
+      all = done.reads ∙ ap (λ b. if b then counted s.reads else s.reads) done.powered;
+      some = tt;
+    }
+
+one_or_none : (b : Bool) (n m : ℕ) → m ≡ (if b then counted n else n) → ReadsAtMost 1 n m
+one_or_none true n m e = (1, omega arith, e)
+one_or_none false n m e = (0, omega arith, e)
+
+-- and one that was broken
+pub looks_broken : (s s1 : FlashState) (at : ℕ) (bytes spare : List ℕ) (r : Result Seen Broken) (x : Broken) → Reads s s1 at bytes spare r → r ≡ Err x → Looks s s1 1 true
+looks_broken s s1 at bytes spare r x e err =
+    let done : Reads s s1 at bytes spare (Err x) = subst (Reads s s1 at bytes spare) err e in
+    record {
+      moment = same_moments (moment_of s1) (moment_of s) done.image done.programs done.erases;
+      carries = done.carries;
+      all = tt;
+      some = one_or_none s.live s.reads s1.reads done.reads;
+    }
+
 -- reads one after another
-pub looks_then : (a b c : FlashState) (k : ℕ) (broken : Bool) → Looks a b k false → Looks b c 1 broken → Looks a c (k + 1) broken
+looks_then : (a b c : FlashState) (k : ℕ) (broken : Bool) → Looks a b k false → Looks b c 1 broken → Looks a c (k + 1) broken
 looks_then a b c k true ab bc = record {
   moment = bc.moment ∙ ab.moment;
   carries = Carries-then a b c true ab.carries bc.carries;
   all = tt;
-  some = elim bc.some [
-    | inl same ↦ inr (k, omega arith, same ∙ ab.all)
-    | inr more ↦ inr (k + more.0, omega (arith, more.1), more.2 ∙ ap (counted_by more.0) ab.all ∙ counted_by-twice k more.0 a.reads)
-  ];
+  some = (k + bc.some.0, omega (arith, bc.some.1), bc.some.2 ∙ ap (reads_after bc.some.0) ab.all ∙ reads_then k bc.some.0 a.reads);
 }
 looks_then a b c k false ab bc = record {
   moment = bc.moment ∙ ab.moment;
   carries = Carries-then a b c false ab.carries bc.carries;
-  all = bc.all ∙ ap (counted_by 1) ab.all ∙ counted_by-twice k 1 a.reads;
+  all = bc.all ∙ ap (reads_after 1) ab.all ∙ reads_then k 1 a.reads;
   some = tt;
 }
 
--- so many reads, each of them done, or none at all
-abbrev pub SoFar : FlashState → FlashState → ℕ → Type 0
-SoFar old now count = ((count ≡ 0) × (now ≡ old)) ⊎ Looks old now count false
-
-pub so_far_then : (a b c : FlashState) (k : ℕ) (broken : Bool) → SoFar a b k → Looks b c 1 broken → Looks a c (k + 1) broken
-so_far_then a b c k broken (inl none) bc =
-    subst (λ n. Looks a c n broken) (let e = none.0 in let one : 1 ≡ k + 1 = omega arith in one) (subst (λ (s : FlashState). Looks s c 1 broken) none.1 bc)
-so_far_then a b c k broken (inr ab) bc = looks_then a b c k broken ab bc
-
-pub so_far_shape : (a b : FlashState) (k : ℕ) → SoFar a b k → b.shape ≡ a.shape
-so_far_shape a b k (inl none) = ap (λ (s : FlashState). s.shape) none.1
-so_far_shape a b k (inr h) = h.carries.shape
-
-so_far_image : (a b : FlashState) (k : ℕ) → SoFar a b k → b.image ≡ a.image
-so_far_image a b k (inl none) = ap (λ (s : FlashState). s.image) none.1
-so_far_image a b k (inr h) = ap (λ (m : Moment). m.image) h.moment
-
-so_far_some : (a b : FlashState) (k : ℕ) → 0 < k → SoFar a b k → Looks a b k false
-so_far_some a b k some (inl none) = let e = none.0 in absurd (omega arith)
-so_far_some a b k some (inr h) = h
-
 -- fewer reads than were asked for, of which one was broken
-pub looks_fewer : (a c : FlashState) (k most : ℕ) → k ≤ most → Looks a c k true → Looks a c most true
+looks_fewer : (a c : FlashState) (k most : ℕ) → k ≤ most → Looks a c k true → Looks a c most true
 looks_fewer a c k most le h = record {
   moment = h.moment;
   carries = h.carries;
   all = tt;
-  some = elim h.some [ inl same ↦ inl same | inr some ↦ inr (some.0, omega (arith, some.1, le), some.2) ];
+  some = (h.some.0, omega (arith, h.some.1, le), h.some.2);
 }
 
 -- how a slot reads that holds these contents
@@ -91,7 +100,7 @@ test_blank image slot = is_blank_slot (slot_at image slot)
 
 -- what is known once the slots of a block before this one were read
 pub record ReadSoFar (n : Noted) (old now : FlashState) (first at : ℕ) (as_noted blank : Bool) : Type 0 where
-  pub looks : SoFar old now (at - first)
+  pub looks : Looks old now (at - first) false
   pub noted : as_noted ≡ list_all (test_noted n old.image) (range_with_len first (at - first))
   pub blanks : blank ≡ list_all (test_blank old.image) (range_with_len first (at - first))
 
@@ -99,7 +108,7 @@ pub read_none : (n : Noted) (s : FlashState) (first : ℕ) → ReadSoFar n s s f
 read_none n s first =
     let none : first - first ≡ 0 = omega arith in
     record {
-      looks = inl (none, refl);
+      looks = subst (λ k. Looks s s k false) (sym none) (looks_none s);
       noted = ap (λ k. list_all (test_noted n s.image) (range_with_len first k)) (sym none);
       blanks = ap (λ k. list_all (test_blank s.image) (range_with_len first k)) (sym none);
     }
@@ -109,34 +118,50 @@ module _ (n : Noted) (old now : FlashState) (first at : ℕ) (x y : Bool) (h : R
   -- a read that is broken ends it
   pub read_broken : (most : ℕ) (e : Broken) → r ≡ Err e → first ≤ at → at < first + most → Looks old c most true
   read_broken most e is low high =
-      looks_fewer old c (at - first + 1) most (omega arith) (so_far_then old now c (at - first) true h.looks (looks_broken now c at bytes spare r e reads is))
+      looks_fewer old c (at - first + 1) most (omega arith) (looks_then old now c (at - first) true h.looks (looks_broken now c at bytes spare r e reads is))
 
   -- and one that is done goes on
   pub read_more : (how : Seen) → r ≡ Ok how → first ≤ at → (e b : Bool) → e ≡ reads_alike how (seen_as (note_at n.notes at)) → b ≡ reads_blank how →
       ReadSoFar n old c first (at + 1) (x && e) (y && b)
   read_more how is low e b same none =
       let done : Reads now c at bytes spare (Ok how) = subst (Reads now c at bytes spare) is reads in
-      let shows : how ≡ seen_of (slot_at old.image at) = done.done.how_it_reads ∙ ap (λ i. seen_of (slot_at i at)) (so_far_image old now (at - first) h.looks) in
+      let shows : how ≡ seen_of (slot_at old.image at) = done.done.how_it_reads ∙ ap (λ i. seen_of (slot_at i at)) (ap (λ (m : Moment). m.image) h.looks.moment) in
       let here : first + (at - first) ≡ at = omega arith in
       let next : at - first + 1 ≡ at + 1 - first = omega arith in
       let e_is : e ≡ test_noted n old.image (first + (at - first)) =
       same ∙ ap (λ q. reads_alike q (seen_as (note_at n.notes at))) shows ∙ alike (note_at n.notes at) (slot_at old.image at) ∙ ap (test_noted n old.image) (sym here) in
       let b_is : b ≡ test_blank old.image (first + (at - first)) = none ∙ ap reads_blank shows ∙ blank_reads (slot_at old.image at) ∙ ap (test_blank old.image) (sym here) in
       record {
-        looks = inr (subst (λ k. Looks old c k false) next (so_far_then old now c (at - first) false h.looks (looks_once now c at bytes spare r how reads is)));
+        looks = subst (λ k. Looks old c k false) next (looks_then old now c (at - first) false h.looks (looks_once now c at bytes spare r how reads is));
         noted = ap₂ (λ p q. p && q) h.noted e_is ∙ sym (range_push (test_noted n old.image) first (at - first)) ∙ ap (λ k. list_all (test_noted n old.image) (range_with_len first k)) next;
         blanks = ap₂ (λ p q. p && q) h.blanks b_is ∙ sym (range_push (test_blank old.image) first (at - first)) ∙ ap (λ k. list_all (test_blank old.image) (range_with_len first k)) next;
       }
 
 -- all were read
-pub read_all : (n : Noted) (old now : FlashState) (first at : ℕ) (x y : Bool) (pages : ℕ) → at ≡ first + pages → 0 < pages → ReadSoFar n old now first at x y →
-    (x ≡ list_all (test_noted n old.image) (range_with_len first pages)) × (y ≡ list_all (test_blank old.image) (range_with_len first pages)) × Looks old now pages false
-read_all n old now first at x y pages end some h =
-    let count : at - first ≡ pages = omega arith in (
-      h.noted ∙ ap (λ k. list_all (test_noted n old.image) (range_with_len first k)) count,
-      h.blanks ∙ ap (λ k. list_all (test_blank old.image) (range_with_len first k)) count,
-      subst (λ k. Looks old now k false) count (so_far_some old now (at - first) (omega arith) h.looks),
-    )
+pub record AllRead (n : Noted) (old now : FlashState) (block : ℕ) (x y : Bool) : Type 0 where
+  pub read : ReadsBlock n old.image block (record { as_noted = x; blank = y })
+  pub looks : Looks old now n.config.pages_per_block false
+
+pub read_all : (n : Noted) (old now : FlashState) (block at : ℕ) (x y : Bool) (pages : ℕ) → pages ≡ n.config.pages_per_block → at ≡ block * pages + pages →
+    ReadSoFar n old now (block * pages) at x y → AllRead n old now block x y
+read_all n old now block at x y pages same =
+    subst (λ k. at ≡ block * k + k → ReadSoFar n old now (block * k) at x y → AllRead n old now block x y) (sym same) (λ end h.
+    let per = n.config.pages_per_block in
+    let count : at - block * per ≡ per = omega arith in
+    record {
+      read = record {
+        as_noted = h.noted ∙ ap (λ k. list_all (test_noted n old.image) (range_with_len (block * per) k)) count;
+        blank = h.blanks ∙ ap (λ k. list_all (test_blank old.image) (range_with_len (block * per) k)) count;
+      };
+      looks = subst (λ k. Looks old now k false) count h.looks;
+    })
+
+-- a slot of the block is a slot of the flash
+pub in_block : (n : Noted) (block at pages : ℕ) → block < blocks_of (shape_of n.config) → pages ≡ n.config.pages_per_block → at < block * pages + pages → at < slots_of (shape_of n.config)
+in_block n block at pages below same high =
+    let within = block_within (shape_of n.config) block below in
+    let low : at < block * n.config.pages_per_block + n.config.pages_per_block = subst (λ k. at < block * k + k) same high in
+    omega (arith, within, low)
 
 -- a slot that is noted as complete holds a record
 pub complete_holds : (note : Note) → reads_alike (seen_as note) seen.Complete ≡ holds_record note

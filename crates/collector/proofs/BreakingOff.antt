@@ -19,19 +19,26 @@ use Rattle.version_index.specs.Noted.{Noted, needed_of, erased}
 use Rattle.die_alloc.specs.BlockTable.{BlockTable}
 use Rattle.collector.specs.declared.unsure.Unsure.{Unsure}
 use Rattle.collector.specs.declared.unsure.Unsure.TheVariants as unsure
-use Rattle.collector.specs.BreakingOff.{CopiedFirst, CopyBreaks, CopyBreaksOff, CopiesBreakOff, BreaksOff, EraseBreaks, ReadFails}
-use Rattle.collector.specs.Collecting.{cleaning, noted_cleaned, copies, copied_from, copy_program, needed_slots, CopiesDone}
+use Rattle.collector.specs.BreakingOff.{CopiedFirst, CopyBreaks, CopyBreaksOff, CopiesBreakOff, BreaksOff}
+use Rattle.collector.specs.Collecting.{cleaning, copies, copied_from, copy_program, needed_slots, CopiesDone}
 use Rattle.collector.specs.Looking.{reads_after}
 use Rattle.collector.specs.Matches.{Matches}
+use Rattle.collector.specs.Store.{Store}
 use Rattle.collector.proofs.Collections.{same_slots, copies_follow, all_copied}
 use Rattle.collector.proofs.CopyingBlocks.{CopiedSoFar, needed_before, its_program, to_at, needed0}
-use Rattle.collector.proofs.Looked.{reads_more}
+use Rattle.collector.proofs.Looked.{reads_then}
 
 -- the next copy broke off
-module _ (p : Protocol) (n0 n : Noted) (s0 s : FlashState) (t : BlockTable) (u : Unsure) (first start at used block : ℕ)
-    (h : CopiedSoFar p n0 n s0 s t u first start at used) (low : first ≤ at)
-    (block_is : first ≡ block * n0.config.pages_per_block) (spare_is : start ≡ t.spare * n0.config.pages_per_block)
-    (high : at < first + n0.config.pages_per_block) (apart : block ≢ t.spare) (below : block < blocks_of (shape_of n0.config)) (needed : needed_of n at ≡ true) where
+module _ (p : Protocol) (a : Store) (n : Noted) (s : FlashState) (t : BlockTable) (u : Unsure) (first start at used block : ℕ)
+    (h : CopiedSoFar p a n s t u first start at used) (low : first ≤ at)
+    (block_is : first ≡ block * a.noted.config.pages_per_block) (spare_is : start ≡ t.spare * a.noted.config.pages_per_block)
+    (high : at < first + a.noted.config.pages_per_block) (apart : block ≢ t.spare) (below : block < blocks_of (shape_of a.noted.config)) (needed : needed_of n at ≡ true) where
+  abbrev n0 : Noted
+  n0 = a.noted
+
+  abbrev s0 : FlashState
+  s0 = a.flash
+
   abbrev per : ℕ
   per = n0.config.pages_per_block
 
@@ -45,7 +52,7 @@ module _ (p : Protocol) (n0 n : Noted) (s0 s : FlashState) (t : BlockTable) (u :
   copied_before now is n' stays = record {
     order = ap (λ k. filter (needed_of n0) (range_with_len k per)) (sym block_is)
         ∙ filter_parts (needed_of n0) first (at - first) (first + per - at - 1) per at (omega (arith, low)) (omega (arith, low, high))
-        (needed0 p n0 n s0 s t u first start at used block h low block_is spare_is high apart below needed);
+        (needed0 p a n s t u first start at used block h low block_is spare_is high apart below needed);
     done = subst (λ k. Does s0.shape (moment_of s0) (copies n0.config.page_bytes s0.image k before) now) spare_is
         (subst (Does s0.shape (moment_of s0) (copies n0.config.page_bytes s0.image start before)) is h.does);
     noted = stays ∙ h.noted ∙ ap (λ k. copied_from n0 k before) spare_is;
@@ -59,10 +66,10 @@ module _ (p : Protocol) (n0 n : Noted) (s0 s : FlashState) (t : BlockTable) (u :
         from = at;
         later = later;
         copied = copied_before (moment_of s') (sym read.1) n' stays;
-        reads = λ live. read.2 (h.carries.lives ∙ live) ∙ ap counted h.reads ∙ reads_more used s0.reads ∙ ap (λ k. reads_after (k + 1) s0.reads) h.count;
+        reads = λ live. read.2 (h.keeps.carries.lives ∙ live) ∙ ap counted h.reads ∙ reads_then used 1 s0.reads ∙ ap (λ k. reads_after (k + 1) s0.reads) h.count;
       })
   copying_broke s' n' u' from to from_is to_is stays (inr torn) =
-      let place = to_at p n0 n s0 s t u first start at used block h low block_is spare_is high apart below in
+      let place = to_at p a n s t u first start at used block h low block_is spare_is high apart below in
       subst (CopiesBreakOff n0 s0 s' [] t.spare block n') (sym torn.0) (record {
         first = before;
         later = later;
@@ -71,10 +78,10 @@ module _ (p : Protocol) (n0 n : Noted) (s0 s : FlashState) (t : BlockTable) (u :
         place = to_is ∙ place ∙ ap (λ k. k + length before) spare_is;
         torn = subst (λ o. Torn s0.shape (moment_of s) o (moment_of s'))
             (ap (λ k. copy_program n.config.page_bytes s.image k from.0) to_is ∙ ap (copy_program n.config.page_bytes s.image (start + used)) from_is
-            ∙ its_program p n0 n s0 s t u first start at used block h low block_is spare_is high apart below
+            ∙ its_program p a n s t u first start at used block h low block_is spare_is high apart below
             ∙ ap (λ k. copy_program n0.config.page_bytes s0.image k at) (sym (to_is ∙ place)) ∙ ap (copy_program n0.config.page_bytes s0.image to.0) (sym from_is))
-            (subst (λ sh. Torn sh (moment_of s) (copy_program n.config.page_bytes s.image to.0 from.0) (moment_of s')) h.carries.shape torn.1);
-        reads = torn.2 ∙ ap counted h.reads ∙ reads_more used s0.reads ∙ ap (λ k. reads_after (k + 1) s0.reads) h.count;
+            (subst (λ sh. Torn sh (moment_of s) (copy_program n.config.page_bytes s.image to.0 from.0) (moment_of s')) h.keeps.carries.shape torn.1);
+        reads = torn.2 ∙ ap counted h.reads ∙ reads_then used 1 s0.reads ∙ ap (λ k. reads_after (k + 1) s0.reads) h.count;
       })
 
 -- a collection of which the spare was made blank
@@ -121,34 +128,6 @@ module _ (p : Protocol) (loss : LossLaw p) (s0 : FlashState) (n0 : Noted) (t : B
   copies_broke lives s2 n2 (unsure.Own at rec) b = absurd b
   copies_broke lives s2 n2 unsure.SpareErase b = absurd b
   copies_broke lives s2 n2 (unsure.VictimErase at) b = absurd b
-
-  -- a collection of which the spare is blank broke off
-  module _ (lives : s1.live ≡ s0.live) (still : noted_cleaned n1 t1.spare ≡ n1) (none : cleaning n1 s1.image t1.spare ≡ []) where
-    pub breaks_again : (s2 : FlashState) (n2 : Noted) (u2 : Unsure) → BreaksOff n1 s1 s2 t1.spare block n2 u2 → BreaksOff n0 s0 s2 t.spare block n2 u2
-    breaks_again s2 n2 unsure.Nothing b =
-        copies_broke lives s2 n2 unsure.Nothing
-        (subst (λ l. ReadFails n1 s1 s2 l t1.spare block n2) none (subst (λ k. ReadFails k s1 s2 (cleaning n1 s1.image t1.spare) t1.spare block n2) still b))
-    breaks_again s2 n2 (unsure.Copy from to) b =
-        copies_broke lives s2 n2 (unsure.Copy from to)
-        (subst (λ l. CopyBreaks n1 s1 s2 l t1.spare block from.0 to.0 n2) none
-        (subst (λ k. CopyBreaks k s1 s2 (cleaning n1 s1.image t1.spare) t1.spare block from.0 to.0 n2) still b))
-    breaks_again s2 n2 (unsure.Own at rec) b = absurd b
-    breaks_again s2 n2 unsure.SpareErase b = absurd (never (erase t1.spare) (sym none ∙ b.0.first))
-      where
-        never : (o : Operation) → [] ≡ o ∷ [] → ⊥
-        never o e = cc
-    breaks_again s2 n2 (unsure.VictimErase at) b =
-        let e : EraseBreaks n1 s1 s2 [] t1.spare block n2 =
-        subst (λ l. EraseBreaks n1 s1 s2 l t1.spare block n2) none (subst (λ k. EraseBreaks k s1 s2 (cleaning n1 s1.image t1.spare) t1.spare block n2) still b.1) in (
-          b.0,
-          record {
-            between = e.between;
-            copied = subst (λ l. CopiedFirst (erased n0 t.spare) s0 (cleaning n0 s0.image t.spare) t.spare block l [] e.between n2)
-                (ap (λ (k : Noted). needed_slots k block) noted) (follows (needed_slots n1 block) [] e.between n2 e.copied);
-            torn = subst (λ sh. Torn sh e.between (erase block) (moment_of s2)) shape1 e.torn;
-            reads = e.reads ∙ ap (reads_after (length (needed_slots n1 block))) unread ∙ ap (λ (k : Noted). reads_after (length (needed_slots k block)) s0.reads) noted;
-          },
-        )
 
   -- the erase of the block broke off
   module _ (s2 s3 : FlashState) (n2 : Noted) (used : ℕ) (exists : block < blocks_of (shape_of n0.config)) (shape2 : s2.shape ≡ s0.shape)

@@ -1,31 +1,44 @@
 -- Making the spare blank: where it is blank already, and by an erase.
-use Rattle.std.proofs.Common.{◌≡◌, ℕ, ◌+◌, ◌*◌, ◌<◌, ◌≤◌, true, false, [], ◌∷◌, length, Option, Some, None, OnOk, OnErr, Ok, Err, Result, refl, sym, ap, ◌∙◌, subst, inl, inr, arith}
-use Rattle.std.specs.Result.{is_err}
+use Rattle.std.proofs.Common.{◌≡◌, ℕ, ◌+◌, ◌*◌, ◌<◌, ◌≤◌, true, false, [], ◌∷◌, length, Option, Some, None, Ok, Err, Result, refl, sym, ap, ◌∙◌, subst, inl, inr, arith}
+use Rattle.std.specs.Prelude.{is_err}
 use Rattle.std.specs.Option.{option_map_or}
 use Rattle.std.proofs.lemmas.Bool.{cases_lt, cond-true, cond-false}
 use Rattle.std.proofs.lemmas.List.{ext_get_or}
 use Rattle.list_facts.proofs.Ranges.{all_range, range_same}
 use Rattle.tx_types.specs.Config.{shape_of, slots_of, blocks_of}
+use Rattle.tx_types.specs.declared.config.Block.{Block}
 use Rattle.tx_types.specs.declared.config.Protocol.{Protocol}
 use Rattle.tx_types.specs.declared.record.Rec.{Rec}
 use Rattle.flash_model.specs.declared.flash.Broken.{Broken}
 use Rattle.flash_model.specs.Flash.{FlashState, Contents, blank, damaged, complete, slot_at}
 use Rattle.flash_model.specs.Calls.{Erases}
 use Rattle.flash_model.specs.Operations.{moment_of, erase, after, CanDo}
-use Rattle.flash_model.specs.Moves.{Does, FlashMoves}
+use Rattle.flash_model.specs.Moves.{Does}
 use Rattle.flash_model.proofs.MoveLemmas.{same_moments, FlashMoves-operates}
 use Rattle.flash_model.proofs.ImageLemmas.{block_within}
 use Rattle.page_record.specs.Rules.{record_of}
+use Rattle.record_list.specs.Changes.{LossLaw}
+use Rattle.record_list.specs.WrittenChanges.{WrittenLossLaw}
 use Rattle.version_index.specs.declared.note.Note.TheVariants.{Blank, Damaged, Holds}
 use Rattle.version_index.specs.Notes.{note_at, note_of, with_block_noted}
 use Rattle.version_index.specs.Noted.{Noted, erased, is_blank}
+use Rattle.version_index.proofs.NotedChanges.{block_noted}
 use Rattle.die_alloc.specs.BlockTable.{BlockTable}
 use Rattle.collector.specs.declared.unsure.Unsure.{Unsure}
 use Rattle.collector.specs.declared.unsure.Unsure.TheVariants as unsure
+use Rattle.collector.specs.Calls.{Cleans}
 use Rattle.collector.specs.Matches.{Matches}
-use Rattle.collector.specs.BreakingOff.{CleaningBreaks}
 use Rattle.collector.specs.Collecting.{is_blank_slot, is_blank_block, is_noted_blank, cleaning}
+use Rattle.collector.specs.Preserves.{KeepsArray}
+use Rattle.collector.specs.Store.{Store, store_of, IsSure}
 use Rattle.collector.proofs.Calm.{noted_as_read}
+use Rattle.collector.proofs.Chains.{HasNoNewRecord-nothing}
+use Rattle.collector.proofs.CollectedNotes.{erased_no_new}
+use Rattle.collector.proofs.EraseExits.{spare_erased, spare_torn, array_erased, left_torn}
+use Rattle.collector.proofs.Emptying.{erases_empties}
+use Rattle.collector.proofs.Keeping.{preserves_same}
+use Rattle.collector.proofs.KeepsLemmas.{keeps_same}
+use Rattle.collector.proofs.Losing.{preserves, can_be_lost}
 use Rattle.collector.proofs.NotesLeft.{note_at-in, note_at-out, length-noted}
 use Rattle.collector.proofs.BlankNotes.{noted_blank}
 
@@ -78,32 +91,97 @@ module _ (s : FlashState) (n : Noted) (t : BlockTable) (u : Unsure) (nothing : u
       ] in
       ap (λ notes. record n { notes = notes }) (ext_get_or Blank n.notes notes' (sym (length-noted sh some n.notes m.noted.slots t.spare below Blank)) each)
 
-  -- else one erase is done
-  module _ (s' : FlashState) (b : ℕ) (is : b ≡ t.spare) (r : Result (Unit {0}) Broken) (erases : Erases s s' b r) where
-    can : CanDo s.shape s.image (erase b)
-    can = omega (arith, is, below, ap blocks_of m.shape)
+-- the call
+module _ (p : Protocol) (loss : LossLaw p) (written_loss : WrittenLossLaw p) (a : Store) (k : IsSure p a) where
+  matches : Matches a.flash a.noted a.table unsure.Nothing
+  matches = subst (Matches a.flash a.noted a.table) k.nothing k.matches
 
-    pub erase_moves : FlashMoves s s' (is_err r)
-    erase_moves = FlashMoves-operates s s' (erase b) r can erases
+  spare_below : a.table.spare < blocks_of (shape_of a.noted.config)
+  spare_below = omega (arith, matches.table.spare_within, ap blocks_of matches.blocks, ap blocks_of matches.shape)
 
-    does : (q : Result (Unit {0}) Broken) → Erases s s' t.spare q → is_noted_blank n t.spare ≡ false →
-        OnOk q (Does s.shape (moment_of s) (cleaning n s.image t.spare) (moment_of s'))
-    does (Err x) e fail = tt
-    does (Ok x) e fail =
-        subst (λ l. Does s.shape (moment_of s) l (moment_of s'))
-        (sym (cond-false (is_blank_block n s.image t.spare) [] (erase t.spare ∷ []) (blank_as_read ∙ fail)))
-        (omega (arith, below, ap blocks_of m.shape), same_moments (moment_of s') (after s.shape (moment_of s) (erase t.spare)) e.done.image e.done.programs e.done.erases)
+  law : LossLaw a.noted.config.protocol
+  law = subst LossLaw (sym k.rule) loss
 
-    pub erase_does : is_noted_blank n t.spare ≡ false → OnOk r (Does s.shape (moment_of s) (cleaning n s.image t.spare) (moment_of s'))
-    erase_does fail = does r (subst (λ k. Erases s s' k r) is erases) fail
+  written_law : WrittenLossLaw a.noted.config.protocol
+  written_law = subst WrittenLossLaw (sym k.rule) written_loss
 
-    breaks : (q : Result (Unit {0}) Broken) → Erases s s' t.spare q → is_noted_blank n t.spare ≡ false → OnErr q (CleaningBreaks n s s' t.spare)
-    breaks (Ok x) e fail = tt
-    breaks (Err x) e fail = record {
-      first = cond-false (is_blank_block n s.image t.spare) [] (erase t.spare ∷ []) (blank_as_read ∙ fail);
-      torn = e.torn;
-      reads = e.reads;
-    }
+  at_rule : (s' : FlashState) → KeepsArray a.noted.config.protocol a.noted.config.logical a.flash.image s'.image → KeepsArray p a.noted.config.logical a.flash.image s'.image
+  at_rule s' = subst (λ q. KeepsArray q a.noted.config.logical a.flash.image s'.image) k.rule
 
-    pub erase_breaks : is_noted_blank n t.spare ≡ false → OnErr r (CleaningBreaks n s s' t.spare)
-    erase_breaks fail = breaks r (subst (λ k. Erases s s' k r) is erases) fail
+  -- where the spare is noted blank nothing is done
+  pub cleans_blank : is_noted_blank a.noted a.table.spare ≡ true → Cleans p a a (Ok tt)
+  cleans_blank blanks = record {
+    keeps = keeps_same p a k;
+    done = cleaned_already a.flash a.noted a.table a.unsure k.nothing k.matches blanks;
+    noted = blank_is_erased a.flash a.noted a.table a.unsure k.nothing k.matches blanks;
+    broken = tt;
+    torn = tt;
+    blocks = refl;
+    reads = refl;
+    programs = refl;
+    erases = omega arith;
+  }
+
+  -- else it is erased
+  module _ (fail : is_noted_blank a.noted a.table.spare ≡ false) (s' : FlashState) where
+    its_cleaning : cleaning a.noted a.flash.image a.table.spare ≡ erase a.table.spare ∷ []
+    its_cleaning =
+        cond-false (is_blank_block a.noted a.flash.image a.table.spare) [] (erase a.table.spare ∷ [])
+        (blank_as_read a.flash a.noted a.table a.unsure k.nothing k.matches ∙ fail)
+
+    can : CanDo a.flash.shape a.flash.image (erase a.table.spare)
+    can = omega (arith, spare_below, ap blocks_of matches.shape)
+
+    some : 0 < a.noted.config.pages_per_block
+    some = (let b = matches.noted.bounds.shape.pages_least in omega arith)
+
+    pub cleans_erased : (x : Unit {0}) → Erases a.flash s' a.table.spare (Ok x) → Cleans p a (store_of s' (erased a.noted a.table.spare) a.table a.unsure) (Ok tt)
+    cleans_erased x e =
+        let done = erases_empties a.flash s' a.table.spare (Ok tt) e in
+        record {
+          keeps = record {
+            matches = subst (Matches s' (erased a.noted a.table.spare) a.table) (sym k.nothing)
+                (spare_erased a.flash s' a.noted a.table matches law written_law done
+                (block_noted a.noted.config.protocol a.noted matches.noted law a.table.spare Blank refl spare_below (can_be_lost a.noted a.table.spare matches.spared)));
+            preserves = preserves a.noted matches.noted law a.table.spare spare_below matches.spared Blank refl;
+            array = at_rule s' (array_erased a.flash s' a.noted a.table matches law written_law a.table.spare spare_below matches.spared done.shape done.done);
+            sure = k.nothing;
+            others = λ at rec own. (let e = sym k.nothing ∙ own in cc);
+            records = erased_no_new a.noted some matches.noted.slots a.table.spare spare_below;
+            moves = FlashMoves-operates a.flash s' (erase a.table.spare) (Ok x) can e;
+            carries = e.carries;
+          };
+          done = subst (λ l. Does a.flash.shape (moment_of a.flash) l (moment_of s')) (sym its_cleaning)
+              (can, same_moments (moment_of s') (after a.flash.shape (moment_of a.flash) (erase a.table.spare)) e.done.image e.done.programs e.done.erases);
+          noted = refl;
+          broken = tt;
+          torn = tt;
+          blocks = refl;
+          reads = e.reads;
+          programs = e.done.programs;
+          erases = omega (arith, e.done.erases);
+        }
+
+    pub cleans_torn : (x : Broken) → Erases a.flash s' a.table.spare (Err x) → Cleans p a (store_of s' a.noted a.table unsure.SpareErase) (Err x)
+    cleans_torn x e =
+        let broken = erases_empties a.flash s' a.table.spare (Err x) e in
+        record {
+          keeps = record {
+            matches = spare_torn a.flash s' a.noted a.table matches law written_law x broken;
+            preserves = preserves_same a.noted;
+            array = at_rule s' (left_torn a.flash s' a.noted a.table matches law written_law a.table.spare spare_below matches.spared broken.shape broken.torn.0 broken.torn.1).array;
+            sure = tt;
+            others = λ at rec own. (let e = own in cc);
+            records = HasNoNewRecord-nothing a.noted;
+            moves = FlashMoves-operates a.flash s' (erase a.table.spare) (Err x) can e;
+            carries = e.carries;
+          };
+          done = tt;
+          noted = tt;
+          broken = record { first = its_cleaning; torn = e.torn; reads = e.reads };
+          torn = (refl, refl);
+          blocks = refl;
+          reads = e.reads;
+          programs = e.torn.programs;
+          erases = omega (arith, e.torn.erases);
+        }

@@ -1,7 +1,6 @@
 -- A copy as two calls: the read of its source, and its program.
-use Rattle.std.proofs.Common.{◌≡◌, ◌≢◌, ℕ, ◌+◌, ◌*◌, ◌/◌, ◌<◌, true, false, if◌then◌else◌, set, List, [], ◌∷◌, Ok, Err, Result, refl, sym, ap, ◌∙◌, subst, arith}
-use Rattle.std.specs.Prelude.{IsSome}
-use Rattle.std.specs.Result.{is_err}
+use Rattle.std.proofs.Common.{◌≡◌, ◌≢◌, ℕ, ◌+◌, ◌*◌, ◌/◌, ◌<◌, true, false, if◌then◌else◌, set, List, [], ◌∷◌, Ok, Err, Result, refl, sym, ap, ◌∙◌, subst, inl, inr, arith}
+use Rattle.std.specs.Prelude.{IsSome, is_err}
 use Rattle.tx_types.specs.Config.{shape_of, slots_of, blocks_of}
 use Rattle.tx_types.specs.declared.config.Protocol.{Protocol}
 use Rattle.tx_types.specs.declared.config.Shape.{Shape}
@@ -11,8 +10,9 @@ use Rattle.flash_model.specs.declared.flash.Broken.{Broken}
 use Rattle.flash_model.specs.declared.flash.Seen.{Seen}
 use Rattle.flash_model.specs.Flash.{FlashState, Contents, blank, damaged, complete, slot_at, IsWhole, counted}
 use Rattle.flash_model.specs.Calls.{Reads, Shows, Programs, page_of, spare_area_of}
-use Rattle.flash_model.specs.Operations.{program, moment_of, after, CanDo, CanProgram}
+use Rattle.flash_model.specs.Operations.{Torn, program, moment_of, after, CanDo, CanProgram}
 use Rattle.flash_model.specs.Moves.{Does, FlashMoves}
+use Rattle.flash_model.proofs.CallLemmas.{Carries-then}
 use Rattle.flash_model.proofs.MoveLemmas.{same_moments, FlashMoves-operates, FlashMoves-reads, FlashMoves-then}
 use Rattle.flash_model.proofs.ImageLemmas.{block_within}
 use Rattle.record_list.specs.Changes.{CopyLaw}
@@ -24,14 +24,18 @@ use Rattle.version_index.specs.Noted.{Noted, IsNoted, copied}
 use Rattle.version_index.proofs.Blocks.{inside_block}
 use Rattle.version_index.proofs.NotedChanges.{copied_noted}
 use Rattle.die_alloc.specs.BlockTable.{BlockTable}
-use Rattle.collector.specs.declared.unsure.Unsure.{Unsure}
 use Rattle.collector.specs.declared.unsure.Unsure.TheVariants as unsure
+use Rattle.collector.specs.Calls.{CanCopy, CopiesRecord}
 use Rattle.collector.specs.Matches.{Matches, IsNextOfSpare}
 use Rattle.collector.specs.Preserves.{Preserves, KeepsArray}
-use Rattle.collector.specs.Collecting.{copy_program, CopyDone}
+use Rattle.collector.specs.Collecting.{copy_program}
+use Rattle.collector.specs.Store.{Store, store_of, IsSure}
 use Rattle.collector.proofs.Calm.{noted_as_read}
+use Rattle.collector.proofs.Chains.{HasNoNewRecord-nothing}
+use Rattle.collector.proofs.CollectedNotes.{copied_no_new}
 use Rattle.collector.proofs.CopyNotes.{copy_preserves}
 use Rattle.collector.proofs.CopyExits.{blank_noted, copy_done, copy_torn, left_done, left_torn}
+use Rattle.collector.proofs.Keeping.{preserves_same, keeps_array_same}
 use Rattle.collector.proofs.SettledExits.{matches_still}
 
 -- a slot that is noted with a record is complete
@@ -63,15 +67,28 @@ shown size contents how bytes spare c s =
     ∙ ap (λ b. complete b c.spare) (sym (s.its_page ∙ ap (page_of size) c.is))
     ∙ ap (λ x. complete bytes x) (sym (s.its_spare_area ∙ ap spare_area_of c.is))
 
-module _ (p : Protocol) (copy : CopyLaw p) (written_copy : WrittenCopyLaw p) (s s1 : FlashState) (n : Noted) (t : BlockTable) (u : Unsure)
-    (rule : n.config.protocol ≡ p) (nothing : u ≡ unsure.Nothing) (matches : Matches s n t u) (from to : Slot)
-    (some : IsSome (rec_of (note_at n.notes from.0))) (exists : from.0 < slots_of (shape_of n.config)) (next : IsNextOfSpare n t.spare to.0)
-    (bytes spare : List ℕ) (how : Seen) (read : Result Seen Broken) (reads : Reads s s1 from.0 bytes spare read) (ok : read ≡ Ok how) where
-  m : Matches s n t unsure.Nothing
-  m = subst (Matches s n t) nothing matches
+module _ (p : Protocol) (copy : CopyLaw p) (written_copy : WrittenCopyLaw p) (a : Store) (k : IsSure p a) (from to : Slot) (asked : CanCopy a.noted a.table from.0 to.0)
+    (s1 : FlashState) (bytes spare : List ℕ) (how : Seen) (done : Reads a.flash s1 from.0 bytes spare (Ok how)) where
+  abbrev s : FlashState
+  s = a.flash
 
-  done : Reads s s1 from.0 bytes spare (Ok how)
-  done = subst (Reads s s1 from.0 bytes spare) ok reads
+  abbrev n : Noted
+  n = a.noted
+
+  abbrev t : BlockTable
+  t = a.table
+
+  abbrev some : IsSome (rec_of (note_at n.notes from.0))
+  some = asked.source
+
+  abbrev exists : from.0 < slots_of (shape_of n.config)
+  exists = asked.exists
+
+  abbrev next : IsNextOfSpare n t.spare to.0
+  next = asked.next
+
+  m : Matches s n t unsure.Nothing
+  m = subst (Matches s n t) k.nothing k.matches
 
   shape_same : s1.shape ≡ s.shape
   shape_same = done.carries.shape
@@ -80,10 +97,10 @@ module _ (p : Protocol) (copy : CopyLaw p) (written_copy : WrittenCopyLaw p) (s 
   m1 = matches_still s s1 n t unsure.Nothing shape_same done.image m
 
   law : CopyLaw n.config.protocol
-  law = subst CopyLaw (sym rule) copy
+  law = subst CopyLaw (sym k.rule) copy
 
   written_law : WrittenCopyLaw n.config.protocol
-  written_law = subst WrittenCopyLaw (sym rule) written_copy
+  written_law = subst WrittenCopyLaw (sym k.rule) written_copy
 
   noted : HasNoted (note_at n.notes from.0)
   noted = has_noted (note_at n.notes from.0) some
@@ -129,68 +146,97 @@ module _ (p : Protocol) (copy : CopyLaw p) (written_copy : WrittenCopyLaw p) (s 
   to_apart : from.0 ≢ to.0
   to_apart e = (let k : Holds noted.rec ≡ Blank = sym noted.is ∙ ap (note_at n.notes) e ∙ was in cc)
 
-  module _ (s2 : FlashState) (r : Result (Unit {0}) Broken) (e : Programs s1 s2 to.0 bytes spare r) where
-    same : s2.shape ≡ s1.shape
-    same = e.carries.shape
+  at_rule : (s2 : FlashState) → KeepsArray n.config.protocol n.config.logical s1.image s2.image → KeepsArray p n.config.logical s.image s2.image
+  at_rule s2 h = subst (λ q. KeepsArray q n.config.logical s.image s2.image) k.rule (subst (λ i. KeepsArray n.config.protocol n.config.logical i s2.image) done.image h)
 
-    pub copy_moves : FlashMoves s s2 (is_err r)
-    copy_moves = FlashMoves-then s s1 s2 (is_err r) shape_same (FlashMoves-reads s s1 from.0 bytes spare (Ok how) false done)
-        (FlashMoves-operates s1 s2 (program to.0 bytes spare) r can e)
+  moves : (s2 : FlashState) (r : Result (Unit {0}) Broken) → Programs s1 s2 to.0 bytes spare r → FlashMoves s s2 (is_err r)
+  moves s2 r e = FlashMoves-then s s1 s2 (is_err r) shape_same (FlashMoves-reads s s1 from.0 bytes spare (Ok how) false done)
+      (FlashMoves-operates s1 s2 (program to.0 bytes spare) r can e)
 
-    module _ (x : Unit {0}) (fine : r ≡ Ok x) (n' : Noted) (changed : n' ≡ copied n from.0 to.0) where
-      e' : Programs s1 s2 to.0 bytes spare (Ok tt)
-      e' = subst (Programs s1 s2 to.0 bytes spare) fine e
+  asks : copy_program n.config.page_bytes s.image to.0 from.0 ≡ program to.0 bytes spare
+  asks = ap (λ c. program to.0 (page_of n.config.page_bytes c) (spare_area_of c)) source
 
-      noted' : IsNoted n.config.protocol (copied n from.0 to.0)
-      noted' = copied_noted n.config.protocol n m.noted law from.0 to.0 some next.within was
+  reads_once : (s2 : FlashState) → s2.reads ≡ s1.reads → s2.reads ≡ counted s.reads
+  reads_once s2 same = same ∙ done.reads ∙ ap (λ b. if b then counted s.reads else s.reads) done.powered
 
-      pub copy_matches : Matches s2 n' t u
-      copy_matches =
-          subst (Matches s2 n' t) (sym nothing)
-          (subst (λ k. Matches s2 k t unsure.Nothing) (sym changed)
-          (copy_done s1 s2 n t m1 written_law from to noted.rec bytes spare exists next.within next.in_spare noted.is was source1 can same e' law noted'))
+  noted' : IsNoted n.config.protocol (copied n from.0 to.0)
+  noted' = copied_noted n.config.protocol n m.noted law from.0 to.0 some next.within was
 
-      pub copy_preserved : Preserves n n'
-      copy_preserved =
-          subst (Preserves n) (sym changed)
-          (copy_preserves n m.noted law from.0 to.0 noted.rec noted.is (omega (arith, exists, m.noted.slots)) (omega (arith, next.within, m.noted.slots)) was noted')
+  pub copy_is_done : (s2 : FlashState) (x : Unit {0}) → Programs s1 s2 to.0 bytes spare (Ok x) → CopiesRecord p a (store_of s2 (copied n from.0 to.0) t a.unsure) from to (Ok tt)
+  copy_is_done s2 x e =
+      let o = program to.0 bytes spare in
+      let can0 : CanDo s.shape s.image o = subst (λ i. CanDo s.shape i o) done.image (subst (λ sh. CanDo sh s1.image o) shape_same can) in
+      let now : moment_of s2 ≡ after s.shape (moment_of s) o =
+      same_moments (moment_of s2) (after s.shape (moment_of s) o)
+      (e.done.image ∙ ap (λ i. set i to.0 (complete bytes spare)) done.image)
+      (e.done.programs ∙ ap counted done.programs) (e.done.erases ∙ done.erases) in
+      record {
+        keeps = record {
+          matches = subst (Matches s2 (copied n from.0 to.0) t) (sym k.nothing)
+              (copy_done s1 s2 n t m1 written_law from to noted.rec bytes spare exists next.within next.in_spare noted.is was source1 can e.carries.shape e law noted');
+          preserves = copy_preserves n m.noted law from.0 to.0 noted.rec noted.is (omega (arith, exists, m.noted.slots)) (omega (arith, next.within, m.noted.slots)) was noted';
+          array = at_rule s2 (left_done s1 s2 n t m1 written_law from to noted.rec bytes spare exists next.within next.in_spare noted.is was source1 can e.carries.shape e.done.image).array;
+          sure = k.nothing;
+          others = λ at rec own. (let q = sym k.nothing ∙ own in cc);
+          records = copied_no_new n to.0 (from.0 ∷ []);
+          moves = moves s2 (Ok x) e;
+          carries = Carries-then s s1 s2 false done.carries e.carries;
+        };
+        done = record {
+          programmed = subst (λ q. Does s.shape (moment_of s) (q ∷ []) (moment_of s2)) (sym asks) (can0, now);
+          reads = reads_once s2 e.reads;
+        };
+        noted = refl;
+        stays = tt;
+        broken = tt;
+        counts = tt;
+      }
 
-      pub copy_array : KeepsArray p n.config.logical s.image s2.image
-      copy_array =
-          subst (λ q. KeepsArray q n.config.logical s.image s2.image) rule
-          (subst (λ i. KeepsArray n.config.protocol n.config.logical i s2.image) done.image
-          (left_done s1 s2 n t m1 written_law from to noted.rec bytes spare exists next.within next.in_spare noted.is was source1 can same e'.done.image).array)
+  pub copy_breaks : (s2 : FlashState) (x : Broken) → Programs s1 s2 to.0 bytes spare (Err x) → CopiesRecord p a (store_of s2 n t (unsure.Copy from to)) from to (Err x)
+  copy_breaks s2 x e = record {
+    keeps = record {
+      matches = copy_torn s1 s2 n t m1 written_law from to noted.rec bytes spare exists next.within next.in_spare noted.is was source1 can e.carries.shape x e to_apart;
+      preserves = preserves_same n;
+      array = at_rule s2
+          (left_torn s1 s2 n t m1 written_law from to noted.rec bytes spare exists next.within next.in_spare noted.is was source1 can e.carries.shape e.torn.left.0 e.torn.left.1).array;
+      sure = tt;
+      others = λ at rec own. (let q = own in cc);
+      records = HasNoNewRecord-nothing n;
+      moves = moves s2 (Err x) e;
+      carries = Carries-then s s1 s2 true done.carries e.carries;
+    };
+    done = tt;
+    noted = tt;
+    stays = refl;
+    broken = inr (
+      refl,
+      subst (λ o. Torn s.shape (moment_of s) o (moment_of s2)) (sym asks)
+          (subst (λ sh. Torn sh (moment_of s) (program to.0 bytes spare) (moment_of s2)) shape_same
+          (subst (λ q. Torn s1.shape q (program to.0 bytes spare) (moment_of s2)) (same_moments (moment_of s1) (moment_of s) done.image done.programs done.erases) e.torn)),
+      reads_once s2 e.reads,
+    );
+    counts = (e.torn.programs ∙ done.programs, e.torn.erases ∙ done.erases);
+  }
 
-      pub copy_is_done : CopyDone n s s2 from.0 to.0
-      copy_is_done =
-          let o = program to.0 bytes spare in
-          let asked : copy_program n.config.page_bytes s.image to.0 from.0 ≡ o = ap (λ c. program to.0 (page_of n.config.page_bytes c) (spare_area_of c)) source in
-          let can0 : CanDo s.shape s.image o = subst (λ i. CanDo s.shape i o) done.image (subst (λ sh. CanDo sh s1.image o) shape_same can) in
-          let now : moment_of s2 ≡ after s.shape (moment_of s) o =
-          same_moments (moment_of s2) (after s.shape (moment_of s) o)
-          (e'.done.image ∙ ap (λ i. set i to.0 (complete bytes spare)) done.image)
-          (e'.done.programs ∙ ap counted done.programs) (e'.done.erases ∙ done.erases) in
-          record {
-            programmed = subst (λ q. Does s.shape (moment_of s) (q ∷ []) (moment_of s2)) (sym asked) (can0, now);
-            reads = e'.reads ∙ done.reads ∙ ap (λ b. if b then counted s.reads else s.reads) done.powered;
-          }
-
-      pub copy_moves_done : FlashMoves s s2 false
-      copy_moves_done = subst (λ q. FlashMoves s s2 (is_err q)) fine copy_moves
-
-    module _ (x : Broken) (err : r ≡ Err x) where
-      torn : Programs s1 s2 to.0 bytes spare (Err x)
-      torn = subst (Programs s1 s2 to.0 bytes spare) err e
-
-      pub copy_matches_torn : Matches s2 n t (unsure.Copy from to)
-      copy_matches_torn =
-          copy_torn s1 s2 n t m1 written_law from to noted.rec bytes spare exists next.within next.in_spare noted.is was source1 can same x torn to_apart
-
-      pub copy_array_torn : KeepsArray p n.config.logical s.image s2.image
-      copy_array_torn =
-          subst (λ q. KeepsArray q n.config.logical s.image s2.image) rule
-          (subst (λ i. KeepsArray n.config.protocol n.config.logical i s2.image) done.image
-          (left_torn s1 s2 n t m1 written_law from to noted.rec bytes spare exists next.within next.in_spare noted.is was source1 can same torn.torn.left.0 torn.torn.left.1).array)
-
-      pub copy_moves_torn : FlashMoves s s2 true
-      copy_moves_torn = subst (λ q. FlashMoves s s2 (is_err q)) err copy_moves
+-- the read of the source failed
+pub copy_unread : (p : Protocol) (a : Store) → IsSure p a → (from to : Slot) (s1 : FlashState) (bytes spare : List ℕ) (x y : Broken) →
+    Reads a.flash s1 from.0 bytes spare (Err x) → CopiesRecord p a (store_of s1 a.noted a.table a.unsure) from to (Err y)
+copy_unread p a k from to s1 bytes spare x y e =
+    let still = same_moments (moment_of s1) (moment_of a.flash) e.image e.programs e.erases in
+    record {
+      keeps = record {
+        matches = matches_still a.flash s1 a.noted a.table a.unsure e.carries.shape e.image k.matches;
+        preserves = preserves_same a.noted;
+        array = keeps_array_same p a.noted.config.logical a.flash.image s1.image e.image;
+        sure = tt;
+        others = λ at rec own. (let q = sym k.nothing ∙ own in cc);
+        records = HasNoNewRecord-nothing a.noted;
+        moves = FlashMoves-reads a.flash s1 from.0 bytes spare (Err x) true e;
+        carries = e.carries;
+      };
+      done = tt;
+      noted = tt;
+      stays = refl;
+      broken = inl (k.nothing, still, λ live. e.reads ∙ ap (λ b. if b then counted a.flash.reads else a.flash.reads) live);
+      counts = (e.programs, e.erases);
+    }

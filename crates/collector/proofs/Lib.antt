@@ -13,17 +13,16 @@ pub mod SettledExits
 pub mod SettledBlocks
 pub mod OwnExits
 pub mod Programming
-pub mod SpareCalls
 pub mod BlankNotes
 pub mod Victims
 pub mod Shapes
 pub mod Cleanings
 pub mod VictimCalls
 pub mod CopyCalls
-pub mod OwnCalls
-pub mod FoundCopies
+pub mod DamagedNotes
 pub mod Looked
 pub mod Keeping
+pub mod KeepsLemmas
 pub mod Homes
 pub mod CopyLists
 mod Sparing
@@ -31,10 +30,9 @@ mod CopyingBlocks
 mod Collections
 mod BlockReadings
 mod ErasedBlocks
-mod SpareFound
-mod VictimFound
 pub mod TableChanges
 pub mod SettledImages
+mod SettleCalls
 pub mod KnownArrays
 pub mod WantedImages
 pub mod KeptArrays
@@ -55,5 +53,7 @@ pub mod ClearRounds
 pub mod FoundSlots
 pub mod OpenedTables
 mod BreakingOff
+mod NeededCopies
+mod CollectCalls
 mod BrokenCollections
 pub mod SureCounts

@@ -16,10 +16,15 @@ use Rattle.record_list.proofs.Wanted.{counted_wanted, pinned_wanted, dispensable
 use Rattle.record_list.proofs.WrittenLists.{left_twice}
 use Rattle.version_index.specs.declared.note.Note.{Note}
 use Rattle.version_index.specs.Notes.{rec_of, found_in, with_block_noted}
-use Rattle.version_index.specs.Noted.{Noted, IsNoted, current_of, current_name_of, held_of, pinned_names}
+use Rattle.version_index.specs.Noted.{Noted, IsNoted, CanLose, current_of, current_name_of, held_of, pinned_names}
 use Rattle.collector.specs.Matches.{CanSpare}
 use Rattle.collector.specs.Preserves.{IsThere, Preserves}
 use Rattle.collector.proofs.NotesLeft.{noted_left}
+
+-- a block that can be spared can be lost
+pub can_be_lost : (n : Noted) (block : ℕ) → CanSpare n block → CanLose n block
+can_be_lost n block spared =
+    dispensable_removable n.config.protocol (found_in n.notes) n.config.logical (pinned_names n.pins) (shape_of n.config) block spared
 
 -- what is noted with one note for each slot of a block
 abbrev pub blocked : Noted → ℕ → Note → Noted

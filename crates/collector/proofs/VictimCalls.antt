@@ -1,25 +1,31 @@
 -- The erase of a collected block as a call: what it leaves where it is done, and where it is broken.
-use Rattle.std.proofs.Common.{◌≡◌, ◌≢◌, ℕ, ◌<◌, Ok, Err, Result, refl, sym, ap, ◌∙◌, subst}
+use Rattle.std.proofs.Common.{◌≡◌, ◌≢◌, ℕ, ◌<◌, Ok, Err, Result, refl, sym, ap, ◌∙◌, subst, arith}
 use Rattle.tx_types.specs.Config.{shape_of, blocks_of}
 use Rattle.tx_types.specs.declared.config.Block.{Block}
 use Rattle.tx_types.specs.declared.config.Protocol.{Protocol}
 use Rattle.flash_model.specs.declared.flash.Broken.{Broken}
 use Rattle.flash_model.specs.Flash.{FlashState}
+use Rattle.flash_model.specs.Calls.{Erases}
+use Rattle.flash_model.specs.Operations.{erase, CanDo}
+use Rattle.flash_model.proofs.MoveLemmas.{FlashMoves-operates}
 use Rattle.record_list.specs.Changes.{LossLaw}
 use Rattle.record_list.specs.WrittenChanges.{WrittenLossLaw}
 use Rattle.version_index.specs.declared.note.Note.TheVariants.{Blank}
-use Rattle.version_index.specs.Noted.{Noted, IsNoted, CanLose, current_of, held_of, erased, with_spare}
+use Rattle.version_index.specs.Noted.{Noted, IsNoted, current_of, held_of, erased, with_spare}
 use Rattle.version_index.proofs.NotedChanges.{block_noted}
 use Rattle.die_alloc.specs.BlockTable.{BlockTable, IsBlockTable, table_with_spare}
-use Rattle.collector.specs.declared.unsure.Unsure.{Unsure}
 use Rattle.collector.specs.declared.unsure.Unsure.TheVariants as unsure
-use Rattle.collector.specs.Matches.{Matches, CanSpare, IsFilledBy}
+use Rattle.collector.specs.Calls.{CanErase, ErasesVictim}
 use Rattle.collector.specs.Collecting.{exchanged}
+use Rattle.collector.specs.Matches.{Matches}
 use Rattle.collector.specs.Preserves.{Preserves, KeepsArray}
-use Rattle.collector.proofs.Emptying.{Empties}
-use Rattle.collector.proofs.Calm.{can_lose}
-use Rattle.collector.proofs.Losing.{preserves}
+use Rattle.collector.specs.Store.{Store, store_of, IsSure}
+use Rattle.collector.proofs.Chains.{HasNoNewRecord-nothing}
+use Rattle.collector.proofs.CollectedNotes.{erased_no_new}
 use Rattle.collector.proofs.EraseExits.{victim_erased, victim_torn, array_erased, left_torn}
+use Rattle.collector.proofs.Emptying.{erases_empties}
+use Rattle.collector.proofs.Keeping.{preserves_same}
+use Rattle.collector.proofs.Losing.{preserves, can_be_lost}
 
 -- a block that becomes the spare is noted so
 pub spare_noted : (p : Protocol) (n : Noted) (block : ℕ) → block < blocks_of (shape_of n.config) → IsNoted p n → IsNoted p (with_spare n block)
@@ -51,56 +57,70 @@ with_spare_preserves n m block h = record {
   in_progress = h.in_progress;
 }
 
-module _ (p : Protocol) (loss : LossLaw p) (written_loss : WrittenLossLaw p) (s s' : FlashState) (n : Noted) (t : BlockTable) (u : Unsure)
-    (rule : n.config.protocol ≡ p) (nothing : u ≡ unsure.Nothing) (matches : Matches s n t u) (b : Block) (below : b.0 < blocks_of (shape_of n.config))
-    (other : b.0 ≢ t.spare) (spared : CanSpare n b.0) (used : ℕ) (filled : IsFilledBy n t.spare used)
-    (r : Result (Unit {0}) Broken) (e : Empties s s' b.0 r) where
-  m : Matches s n t unsure.Nothing
-  m = subst (Matches s n t) nothing matches
+module _ (p : Protocol) (loss : LossLaw p) (written_loss : WrittenLossLaw p) (a : Store) (k : IsSure p a) (b : Block) (used : ℕ) (can : CanErase a.noted a.table b.0 used)
+    (s' : FlashState) where
+  m : Matches a.flash a.noted a.table unsure.Nothing
+  m = subst (Matches a.flash a.noted a.table) k.nothing k.matches
 
-  law : LossLaw n.config.protocol
-  law = subst LossLaw (sym rule) loss
+  law : LossLaw a.noted.config.protocol
+  law = subst LossLaw (sym k.rule) loss
 
-  written_law : WrittenLossLaw n.config.protocol
-  written_law = subst WrittenLossLaw (sym rule) written_loss
+  written_law : WrittenLossLaw a.noted.config.protocol
+  written_law = subst WrittenLossLaw (sym k.rule) written_loss
 
-  pub loses : CanLose n b.0
-  loses = can_lose s n t m b.0 spared
+  at_rule : KeepsArray a.noted.config.protocol a.noted.config.logical a.flash.image s'.image → KeepsArray p a.noted.config.logical a.flash.image s'.image
+  at_rule = subst (λ q. KeepsArray q a.noted.config.logical a.flash.image s'.image) k.rule
 
-  module _ (x : Unit {0}) (ok : r ≡ Ok x) (mid n' : Noted) (noted : mid ≡ erased n b.0) (changed : n' ≡ with_spare mid b.0)
-      (t' : BlockTable) (table : t' ≡ exchanged t b.0 used) (between : IsBlockTable (table_with_spare t b.0)) (good : IsBlockTable t') where
-    done : Empties s s' b.0 (Ok tt)
-    done = subst (λ q. Empties s s' b.0 q) ok e
+  can_do : CanDo a.flash.shape a.flash.image (erase b.0)
+  can_do = omega (arith, can.exists, ap blocks_of m.shape)
 
-    pub as_victim : n' ≡ with_spare (erased n b.0) b.0
-    as_victim = changed ∙ ap (λ k. with_spare k b.0) noted
+  some : 0 < a.noted.config.pages_per_block
+  some = (let x = m.noted.bounds.shape.pages_least in omega arith)
 
-    pub victim_matches : Matches s' n' t' u
-    victim_matches =
-        subst (Matches s' n' t') (sym nothing)
-        (subst (λ k. Matches s' n' k unsure.Nothing) (sym table)
-        (subst (λ k. Matches s' k (exchanged t b.0 used) unsure.Nothing) (sym as_victim)
-        (victim_erased s s' n t m law written_law b.0 below other spared (used, filled) done
-        (spare_noted n.config.protocol (erased n b.0) b.0 below (block_noted n.config.protocol n m.noted law b.0 Blank refl below loses))
-        between (subst IsBlockTable table good))))
+  abbrev now : Noted
+  now = with_spare (erased a.noted b.0) b.0
 
-    pub victim_preserves : Preserves n n'
-    victim_preserves =
-        subst (Preserves n) (sym as_victim) (with_spare_preserves n (erased n b.0) b.0 (preserves n m.noted law b.0 below spared Blank refl))
+  pub victim_done : (x : Unit {0}) → Erases a.flash s' b.0 (Ok x) → IsBlockTable (table_with_spare a.table b.0) → IsBlockTable (exchanged a.table b.0 used) →
+      ErasesVictim p a (store_of s' now (exchanged a.table b.0 used) a.unsure) b used (Ok tt)
+  victim_done x e between good =
+      let done = erases_empties a.flash s' b.0 (Ok tt) e in
+      record {
+        keeps = record {
+          matches = subst (Matches s' now (exchanged a.table b.0 used)) (sym k.nothing)
+              (victim_erased a.flash s' a.noted a.table m law written_law b.0 can.exists can.not_spare can.spared (used, can.filled) done
+              (spare_noted a.noted.config.protocol (erased a.noted b.0) b.0 can.exists
+              (block_noted a.noted.config.protocol a.noted m.noted law b.0 Blank refl can.exists (can_be_lost a.noted b.0 can.spared)))
+              between good);
+          preserves = with_spare_preserves a.noted (erased a.noted b.0) b.0 (preserves a.noted m.noted law b.0 can.exists can.spared Blank refl);
+          array = at_rule (array_erased a.flash s' a.noted a.table m law written_law b.0 can.exists can.spared done.shape done.done);
+          sure = k.nothing;
+          others = λ at rec own. (let q = sym k.nothing ∙ own in cc);
+          records = erased_no_new a.noted some m.noted.slots b.0 can.exists;
+          moves = FlashMoves-operates a.flash s' (erase b.0) (Ok x) can_do e;
+          carries = e.carries;
+        };
+        erases = e;
+        noted = refl;
+        blocks = refl;
+        torn = tt;
+      }
 
-    pub victim_array : KeepsArray p n.config.logical s.image s'.image
-    victim_array =
-        subst (λ q. KeepsArray q n.config.logical s.image s'.image) rule
-        (array_erased s s' n t m law written_law b.0 below spared done.shape done.done)
-
-  module _ (x : Broken) (err : r ≡ Err x) where
-    broken : Empties s s' b.0 (Err x)
-    broken = subst (λ q. Empties s s' b.0 q) err e
-
-    pub victim_matches_torn : Matches s' n t (unsure.VictimErase b)
-    victim_matches_torn = victim_torn s s' n t m law written_law b below other spared (used, filled) x broken
-
-    pub victim_array_torn : KeepsArray p n.config.logical s.image s'.image
-    victim_array_torn =
-        subst (λ q. KeepsArray q n.config.logical s.image s'.image) rule
-        (left_torn s s' n t m law written_law b.0 below spared broken.shape broken.torn.0 broken.torn.1).array
+  pub victim_breaks : (x : Broken) → Erases a.flash s' b.0 (Err x) → ErasesVictim p a (store_of s' a.noted a.table (unsure.VictimErase b)) b used (Err x)
+  victim_breaks x e =
+      let broken = erases_empties a.flash s' b.0 (Err x) e in
+      record {
+        keeps = record {
+          matches = victim_torn a.flash s' a.noted a.table m law written_law b can.exists can.not_spare can.spared (used, can.filled) x broken;
+          preserves = preserves_same a.noted;
+          array = at_rule (left_torn a.flash s' a.noted a.table m law written_law b.0 can.exists can.spared broken.shape broken.torn.0 broken.torn.1).array;
+          sure = tt;
+          others = λ at rec own. (let q = own in cc);
+          records = HasNoNewRecord-nothing a.noted;
+          moves = FlashMoves-operates a.flash s' (erase b.0) (Err x) can_do e;
+          carries = e.carries;
+        };
+        erases = e;
+        noted = tt;
+        blocks = tt;
+        torn = (refl, refl, refl);
+      }

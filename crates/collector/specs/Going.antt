@@ -11,7 +11,6 @@ use Rattle.version_index.specs.Notes.{found_in}
 pub use Rattle.version_index.specs.Noted.{is_going}
 use Rattle.version_index.specs.Noted.{Noted, current_of, pinned_names, erased, block_to_go}
 use Rattle.die_alloc.specs.BlockTable.{BlockTable}
-use Rattle.collector.specs.Victim.{IsVictim}
 use Rattle.collector.specs.Collecting.{collected, exchanged, needed_slots, noted_cleaned}
 
 -- how many blocks hold a record that must go before this version of a page is programmed
@@ -84,10 +83,3 @@ pub record CostsCopying (pages_per_block : ℕ) (old new : FlashState) : Type 0 
 pub record CostsBroken (pages_per_block : ℕ) (old new : FlashState) : Type 0 where
   pub programs : new.programs ≤ old.programs + (pages_per_block - 1)
   pub erases : new.erases ≤ old.erases + 1
-
--- The spare was made blank, and a block was collected: of the blocks with the most garbage then, the lowest.
-pub record MakesRoom (n : Noted) (t : BlockTable) (n' : Noted) (t' : BlockTable) : Type 0 where
-  pub victim : ℕ
-  pub is_victim : IsVictim (noted_cleaned n t.spare) t victim
-  pub noted : n' ≡ collected n t.spare victim
-  pub table : t' ≡ exchanged t victim (length (needed_slots (noted_cleaned n t.spare) victim))

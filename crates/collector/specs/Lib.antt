@@ -1,5 +1,6 @@
 pub mod Known
 pub mod Matches
+pub mod Store
 pub mod Preserves
 pub mod Victim
 pub mod Collecting
@@ -9,3 +10,5 @@ pub mod Going
 pub mod Tidy
 pub mod Best
 pub mod BreakingOff
+pub mod Calls
+pub mod Laws

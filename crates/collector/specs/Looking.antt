@@ -1,5 +1,5 @@
 -- Reading slots to find out what they hold: nothing changes but the counts of reads and of faults.
-use Rattle.std.specs.Prelude.{◌≡◌, ◌≤◌, ◌⊎◌, ◌==◌, ℕ, Bool, if◌then◌else◌}
+use Rattle.std.specs.Prelude.{◌≡◌, ◌≤◌, ◌==◌, ℕ, Bool, if◌then◌else◌}
 use Rattle.std.specs.Bool.{OnTrue, OnFalse}
 use Rattle.flash_model.specs.Flash.{FlashState, counted_by}
 use Rattle.flash_model.specs.Calls.{Carries}
@@ -9,14 +9,13 @@ use Rattle.flash_model.specs.Operations.{moment_of}
 abbrev pub reads_after : ℕ → ℕ → ℕ
 reads_after count reads = if count == 0 then reads else counted_by count reads
 
--- a count of reads once no slot was read, or so many slots, or fewer
+-- a count of reads once so many slots were read, or fewer
 abbrev pub ReadsAtMost : ℕ → ℕ → ℕ → Type 0
-ReadsAtMost count old new =
-    (new ≡ old) ⊎ ((fewer : ℕ) × (fewer ≤ count) × (new ≡ counted_by fewer old))
+ReadsAtMost count old new = (fewer : ℕ) × (fewer ≤ count) × (new ≡ reads_after fewer old)
 
 -- so many slots are read, or fewer where one of them can't be read
 pub record Looks (old new : FlashState) (count : ℕ) (broken : Bool) : Type 0 where
   pub moment : moment_of new ≡ moment_of old
   pub carries : Carries old new broken
-  pub all : OnFalse broken (new.reads ≡ counted_by count old.reads)
+  pub all : OnFalse broken (new.reads ≡ reads_after count old.reads)
   pub some : OnTrue broken (ReadsAtMost count old.reads new.reads)

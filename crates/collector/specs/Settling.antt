@@ -1,19 +1,29 @@
 -- Finding out what a broken operation left: what is noted then, how the blocks stand, and the answer.
-use Rattle.std.specs.Prelude.{ℕ, Bool, true, false, List, count_by, if◌then◌else◌}
+use Rattle.std.specs.Prelude.{◌≡◌, ℕ, ◌<◌, Bool, true, false, List, length, count_by, if◌then◌else◌, Result, IfOk, OnOk, OnErr}
 use Rattle.std.specs.List.{list_all}
+use Rattle.std.specs.Result.{is_err}
+use Rattle.tx_types.specs.Config.{shape_of, blocks_of}
+use Rattle.tx_types.specs.declared.config.Protocol.{Protocol}
+use Rattle.flash_model.specs.declared.flash.Broken.{Broken}
 use Rattle.flash_model.specs.declared.flash.Seen.{Seen}
 use Rattle.flash_model.specs.declared.flash.Seen.TheVariants as seen
-use Rattle.flash_model.specs.Flash.{Contents, blank, damaged, complete, slot_at}
+use Rattle.flash_model.specs.Calls.{Carries}
+use Rattle.flash_model.specs.Flash.{FlashState, IsFlash, Contents, blank, damaged, complete, slot_at}
+use Rattle.flash_model.specs.Operations.{moment_of}
 use Rattle.version_index.specs.declared.note.Note.{Note}
 use Rattle.version_index.specs.declared.note.Note.TheVariants.{Blank, Damaged, Holds}
 use Rattle.version_index.specs.Notes.{note_at}
-use Rattle.version_index.specs.Noted.{Noted, programmed, damaged_at, copied, erased, lost, with_spare}
+use Rattle.version_index.specs.Noted.{Noted, IsNoted, programmed, damaged_at, copied, erased, lost, with_spare}
 use Rattle.die_alloc.specs.BlockTable.{BlockTable, with_slot}
+use Rattle.collector.specs.declared.reading.BlockReading.{BlockReading}
 use Rattle.collector.specs.declared.unsure.Settled.{Settled}
 use Rattle.collector.specs.declared.unsure.Settled.TheVariants.{Other, Present, Missing}
 use Rattle.collector.specs.declared.unsure.Unsure.{Unsure}
 use Rattle.collector.specs.declared.unsure.Unsure.TheVariants as unsure
 use Rattle.collector.specs.Collecting.{slots_in, is_blank_block, exchanged}
+use Rattle.collector.specs.Looking.{Looks, ReadsAtMost, reads_after}
+use Rattle.collector.specs.Matches.{Matches, CanTake}
+use Rattle.collector.specs.Store.{Store, IsKept}
 
 -- what is known once the place was read
 pub record Settlement : Type 0 where
@@ -38,6 +48,21 @@ reads_alike _ _ = false
 abbrev pub block_reads_as_noted : Noted → List Contents → ℕ → Bool
 block_reads_as_noted n image block =
     list_all (λ slot. reads_as (note_at n.notes slot) (slot_at image slot)) (slots_in n block)
+
+-- what reading a block asks for
+pub record CanReadBlock (p : Protocol) (s : FlashState) (n : Noted) (block : ℕ)
+    (page : List ℕ) : Type 0 where
+  pub shape : s.shape ≡ shape_of n.config
+  pub flash : IsFlash s
+  pub noted : IsNoted p n
+  pub exists : block < blocks_of (shape_of n.config)
+  pub room : length page ≡ n.config.page_bytes
+
+-- each slot of a block was read
+pub record ReadsBlock (n : Noted) (image : List Contents) (block : ℕ)
+    (reading : BlockReading) : Type 0 where
+  pub as_noted : reading.as_noted ≡ block_reads_as_noted n image block
+  pub blank : reading.blank ≡ is_blank_block n image block
 
 abbrev pub holds_record : Note → Bool
 holds_record Blank = false
@@ -97,3 +122,38 @@ slots_read n (unsure.Own at rec) = 1
 slots_read n (unsure.Copy from to) = 1
 slots_read n unsure.SpareErase = n.config.pages_per_block
 slots_read n (unsure.VictimErase block) = n.config.pages_per_block
+
+-- what settling asks for
+pub record CanSettle (p : Protocol) (a : Store) (page : List ℕ) : Type 0 where
+  pub kept : IsKept p a
+  pub own : CanTake a.noted a.table a.unsure
+  pub room : length page ≡ a.noted.config.page_bytes
+
+-- the tables and the answer are those that are known once the place was read
+pub record IsFound (found : Settlement) (n : Noted) (t : BlockTable) (told : Settled) : Type 0 where
+  pub noted : n ≡ found.noted
+  pub table : t ≡ found.table
+  pub answer : told ≡ found.answer
+
+-- The place was read, slot by slot, and the tables say what was found. After a failed read they are as before.
+pub record Finds (a : Store) (s : FlashState) (n : Noted) (t : BlockTable)
+    (result : Result Settled Broken) : Type 0 where
+  pub found : IfOk result
+      (IsFound (settlement a.noted a.table a.flash.image a.unsure) n t)
+  pub failed : OnErr result ((n ≡ a.noted) × (t ≡ a.table))
+  pub looks : Looks a.flash s (slots_read a.noted a.unsure) (is_err result)
+
+-- Finding out what a broken operation left. The image stays, and the tables match. After a failed read all is as before but the
+-- count of reads.
+pub record Settles (a b : Store) (result : Result Settled Broken) : Type 0 where
+  pub matches : Matches b.flash b.noted b.table b.unsure
+  pub found : IfOk result
+      (IsFound (settlement a.noted a.table a.flash.image a.unsure) b.noted b.table)
+  pub sure : OnOk result (b.unsure ≡ unsure.Nothing)
+  pub failed : OnErr result
+      ((b.noted ≡ a.noted) × (b.table ≡ a.table) × (b.unsure ≡ a.unsure))
+  pub moment : moment_of b.flash ≡ moment_of a.flash
+  pub carries : Carries a.flash b.flash (is_err result)
+  pub reads : OnOk result (b.flash.reads ≡ reads_after (slots_read a.noted a.unsure) a.flash.reads)
+  pub first_failed : OnErr result
+      (ReadsAtMost (slots_read a.noted a.unsure) a.flash.reads b.flash.reads)

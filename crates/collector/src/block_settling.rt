@@ -1,14 +1,13 @@
-ghost use Rattle.std.specs.Prelude.{◌≡◌, ◌<◌, OnOk, OnErr, length};
+ghost use Rattle.std.specs.Prelude.{◌≡◌, ◌<◌, if◌then◌else◌};
 ghost use Rattle.tx_types.specs.Config.{shape_of, blocks_of};
-ghost use Rattle.std.specs.Result.{is_err};
-ghost use Rattle.collector.specs.Looking.{Looks};
-ghost use Rattle.collector.specs.Matches.{Matches};
-ghost use Rattle.collector.specs.Preserves.{Preserves};
-ghost use Rattle.collector.specs.Settling.{settlement, records_held};
+ghost use Rattle.version_index.specs.Noted.{erased, lost};
+ghost use Rattle.collector.specs.Matches.{CanSpare};
+ghost use Rattle.collector.specs.Settling.{CanSettle, Finds, records_held};
+ghost use Rattle.collector.specs.Store.{store_of};
 
-use crate::Unsure;
 use crate::exchanging::exchange;
 use crate::reading::{read_block, reads_alike};
+use crate::{Settled, Unsure};
 use die_alloc::Blocks;
 use flash_model::{Broken, Flash, Seen};
 use record_list::CommitRule;
@@ -22,30 +21,18 @@ pub(crate) fn settle_spare<F: Flash, R: CommitRule>(
     index: &mut Index<R>,
     blocks: &Blocks,
     room: &mut [u8],
-) -> Result<(), Broken>
-    requires matches { Matches (F.state flash.old) index.old blocks.now Unsure.SpareErase }
-    requires rule { index.old.config.protocol ≡ R.protocol }
-    requires room { length room.old ≡ index.old.config.page_bytes }
-    ensures matches { OnOk result
-        (Matches (F.state flash.new) index.new blocks.now Unsure.Nothing) }
-    ensures settled { OnOk result (index.new ≡ (settlement index.old blocks.now
-        (F.state flash.old).image Unsure.SpareErase).noted) }
-    ensures preserves { Preserves index.old index.new }
-    ensures failed { OnErr result (index.new ≡ index.old) }
-    ensures looks { Looks (F.state flash.old) (F.state flash.new)
-        index.old.config.pages_per_block (is_err result) }
+) -> Result<Settled, Broken>
+    requires { CanSettle R.protocol (store_of (F.state flash.old) index.old blocks.now
+        Unsure.SpareErase) room.old }
+    ensures { Finds (store_of (F.state flash.old) index.old blocks.now Unsure.SpareErase)
+        (F.state flash.new) index.new blocks.now result }
 {
     let spare = blocks.spare();
     let reading = read_block(flash, index, room, spare)?;
-    if reading.as_noted {
-        return Ok(());
+    if !reading.as_noted {
+        note_change(index, spare, reading.blank);
     }
-    if reading.blank {
-        index.note_erased(spare);
-    } else {
-        index.note_lost(spare);
-    }
-    Ok(())
+    Ok(Settled::Other)
 }
 
 /// Finds out whether a collected block was erased: it is as before, or all its slots are blank, or
@@ -57,33 +44,32 @@ pub(crate) fn settle_victim<F: Flash, R: CommitRule>(
     blocks: &mut Blocks,
     room: &mut [u8],
     block: Block,
-) -> Result<(), Broken>
-    requires matches { Matches (F.state flash.old) index.old blocks.old (Unsure.VictimErase block) }
-    requires rule { index.old.config.protocol ≡ R.protocol }
-    requires room { length room.old ≡ index.old.config.page_bytes }
-    ensures matches { OnOk result
-        (Matches (F.state flash.new) index.new blocks.new Unsure.Nothing) }
-    ensures settled { OnOk result (
-        let found = settlement index.old blocks.old (F.state flash.old).image
-        (Unsure.VictimErase block) in
-        (index.new ≡ found.noted) × (blocks.new ≡ found.table)) }
-    ensures preserves { Preserves index.old index.new }
-    ensures failed { OnErr result ((index.new ≡ index.old) × (blocks.new ≡ blocks.old)) }
-    ensures looks { Looks (F.state flash.old) (F.state flash.new)
-        index.old.config.pages_per_block (is_err result) }
+) -> Result<Settled, Broken>
+    requires { CanSettle R.protocol (store_of (F.state flash.old) index.old blocks.old
+        (Unsure.VictimErase block)) room.old }
+    ensures { Finds (store_of (F.state flash.old) index.old blocks.old (Unsure.VictimErase block))
+        (F.state flash.new) index.new blocks.new result }
 {
     let reading = read_block(flash, index, room, block)?;
-    if reading.as_noted {
-        return Ok(());
+    if !reading.as_noted {
+        let used = records_held(index, blocks.spare());
+        note_change(index, block, reading.blank);
+        exchange(index, blocks, block, used);
     }
-    let used = records_held(index, blocks.spare());
-    if reading.blank {
+    Ok(Settled::Other)
+}
+
+/// Notes of a block whose erase changed it that it is blank, or else lost.
+fn note_change<R: CommitRule>(index: &mut Index<R>, block: Block, blank: bool)
+    requires exists { block.0 < blocks_of (shape_of index.old.config) }
+    requires spared { CanSpare index.old block.0 }
+    ensures { index.new ≡ (if blank then erased index.old block.0 else lost index.old block.0) }
+{
+    if blank {
         index.note_erased(block);
     } else {
         index.note_lost(block);
     }
-    exchange(index, blocks, block, used);
-    Ok(())
 }
 
 /// How many slots of a block hold records.

@@ -1,18 +1,6 @@
-ghost use Rattle.std.specs.Prelude.{◌≡◌, ◌≢◌, ◌<◌, ◌/◌, OnOk, OnErr, length, IsSome};
-ghost use Rattle.std.specs.Result.{is_err};
-ghost use Rattle.tx_types.specs.Config.{shape_of, slots_of};
-ghost use Rattle.tx_types.specs.declared.config.Slot.{Slot};
-ghost use Rattle.tx_types.specs.declared.record.Rec.{Rec};
-ghost use Rattle.flash_model.specs.Flash.{counted};
-ghost use Rattle.flash_model.specs.Calls.{Carries};
-ghost use Rattle.flash_model.specs.Moves.{Does, FlashMoves};
-ghost use Rattle.flash_model.specs.Operations.{moment_of, CanProgram};
-ghost use Rattle.version_index.specs.Notes.{note_at, rec_of};
-ghost use Rattle.version_index.specs.Noted.{copied};
-ghost use Rattle.collector.specs.Matches.{Matches, IsNextOfSpare};
-ghost use Rattle.collector.specs.Preserves.{Preserves, KeepsArray};
-ghost use Rattle.collector.specs.BreakingOff.{CopyBreaksOff};
-ghost use Rattle.collector.specs.Collecting.{CopyDone};
+ghost use Rattle.std.specs.Prelude.{◌≡◌, length};
+ghost use Rattle.collector.specs.Calls.{CanCopy, CopiesRecord};
+ghost use Rattle.collector.specs.Store.{IsSure, store_of};
 
 use crate::Unsure;
 use die_alloc::Blocks;
@@ -33,29 +21,11 @@ pub(crate) fn copy_record<F: Flash, R: CommitRule>(
     from: Slot,
     to: Slot,
 ) -> Result<(), Broken>
-    requires nothing { unsure.old ≡ Unsure.Nothing }
-    requires matches { Matches (F.state flash.old) index.old blocks.now unsure.old }
-    requires rule { index.old.config.protocol ≡ R.protocol }
+    requires sure { IsSure R.protocol (store_of (F.state flash.old) index.old blocks.now unsure.old) }
+    requires can { CanCopy index.old blocks.now from.0 to.0 }
     requires room { length room.old ≡ index.old.config.page_bytes }
-    requires source { IsSome (rec_of (note_at index.old.notes from.0)) }
-    requires exists { from.0 < slots_of (shape_of index.old.config) }
-    requires next { IsNextOfSpare index.old blocks.now.spare to.0 }
-    ensures matches { Matches (F.state flash.new) index.new blocks.now unsure.new }
-    ensures preserves { Preserves index.old index.new }
-    ensures array { KeepsArray R.protocol index.old.config.logical
-        (F.state flash.old).image (F.state flash.new).image }
-    ensures done { OnOk result (CopyDone index.old
-        (F.state flash.old) (F.state flash.new) from.0 to.0) }
-    ensures sure { OnOk result (unsure.new ≡ Unsure.Nothing) }
-    ensures others { (at : Slot) (rec : Rec) → unsure.new ≡ Unsure.Own at rec → ⊥ }
-    ensures noted { OnOk result (index.new ≡ copied index.old from.0 to.0) }
-    ensures stays { OnErr result (index.new ≡ index.old) }
-    ensures broken { OnErr result (CopyBreaksOff index.old
-        (F.state flash.old) (F.state flash.new) from to unsure.new) }
-    ensures counts { OnErr result (((F.state flash.new).programs ≡ (F.state flash.old).programs)
-        × ((F.state flash.new).erases ≡ (F.state flash.old).erases)) }
-    ensures moves { FlashMoves (F.state flash.old) (F.state flash.new) (is_err result) }
-    ensures carries { Carries (F.state flash.old) (F.state flash.new) (is_err result) }
+    ensures { CopiesRecord R.protocol (store_of (F.state flash.old) index.old blocks.now unsure.old)
+        (store_of (F.state flash.new) index.new blocks.now unsure.new) from to result }
 {
     let mut spare_area = [0; 64];
     flash.read(from, room, &mut spare_area)?;

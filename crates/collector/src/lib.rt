@@ -24,5 +24,5 @@ pub use broken_operation::settle;
 pub use choosing::victim;
 pub use cleaning::clean_spare;
 pub use collecting::collect;
-pub use making_room::{clear, free_slot};
+pub use making_room::{clear, collect_most, free_slot};
 pub use unsure::{Settled, Unsure};

@@ -1,11 +1,7 @@
-ghost use Rattle.std.specs.Prelude.{◌≡◌, ◌<◌, IfOk, length};
+ghost use Rattle.std.specs.Prelude.{◌≡◌, IfOk};
 ghost use Rattle.std.specs.Result.{is_err};
-ghost use Rattle.tx_types.specs.Config.{shape_of, blocks_of};
-ghost use Rattle.flash_model.specs.Flash.{IsFlash};
-ghost use Rattle.version_index.specs.Noted.{IsNoted};
-ghost use Rattle.collector.specs.Collecting.{is_blank_block};
 ghost use Rattle.collector.specs.Looking.{Looks};
-ghost use Rattle.collector.specs.Settling.{block_reads_as_noted, reads_alike};
+ghost use Rattle.collector.specs.Settling.{CanReadBlock, ReadsBlock, reads_alike};
 
 use crate::cleaning::is_blank;
 use flash_model::{Broken, Flash, Seen};
@@ -29,15 +25,8 @@ pub(crate) fn read_block<F: Flash, R: CommitRule>(
     room: &mut [u8],
     block: Block,
 ) -> Result<BlockReading, Broken>
-    requires shape { (F.state flash.old).shape ≡ shape_of index.now.config }
-    requires flash { IsFlash (F.state flash.old) }
-    requires noted { IsNoted R.protocol index.now }
-    requires exists { block.0 < blocks_of (shape_of index.now.config) }
-    requires room { length room.old ≡ index.now.config.page_bytes }
-    ensures as_noted { IfOk result (λ reading.
-        reading.as_noted ≡ block_reads_as_noted index.now (F.state flash.old).image block.0) }
-    ensures blank { IfOk result (λ reading.
-        reading.blank ≡ is_blank_block index.now (F.state flash.old).image block.0) }
+    requires { CanReadBlock R.protocol (F.state flash.old) index.now block.0 room.old }
+    ensures read { IfOk result (ReadsBlock index.now (F.state flash.old).image block.0) }
     ensures looks { Looks (F.state flash.old) (F.state flash.new)
         index.now.config.pages_per_block (is_err result) }
 {

@@ -1,9 +1,5 @@
-ghost use Rattle.std.specs.Prelude.{◌≡◌, OnOk, OnErr, IfOk, length};
-ghost use Rattle.std.specs.Result.{is_err};
-ghost use Rattle.collector.specs.Matches.{Matches, CanTakeOwn};
-ghost use Rattle.collector.specs.Looking.{Looks};
-ghost use Rattle.collector.specs.Preserves.{Preserves};
-ghost use Rattle.collector.specs.Settling.{settlement};
+ghost use Rattle.collector.specs.Settling.{CanSettle, Finds};
+ghost use Rattle.collector.specs.Store.{store_of};
 
 use crate::{Settled, Unsure};
 use die_alloc::Blocks;
@@ -21,19 +17,10 @@ pub(crate) fn settle_own<F: Flash, R: CommitRule>(
     at: Slot,
     rec: Rec,
 ) -> Result<Settled, Broken>
-    requires matches { Matches (F.state flash.old) index.old blocks.old (Unsure.Own at rec) }
-    requires rule { index.old.config.protocol ≡ R.protocol }
-    requires own { CanTakeOwn index.old blocks.old rec }
-    requires room { length room.old ≡ index.old.config.page_bytes }
-    ensures matches { OnOk result
-        (Matches (F.state flash.new) index.new blocks.new Unsure.Nothing) }
-    ensures settled { IfOk result (λ answer.
-        let found = settlement index.old blocks.old (F.state flash.old).image (Unsure.Own at rec) in
-        (index.new ≡ found.noted) × (blocks.new ≡ found.table) × (answer ≡ found.answer)) }
-    ensures preserves { IfOk result (λ answer.
-        answer ≡ Settled.Missing → Preserves index.old index.new) }
-    ensures failed { OnErr result ((index.new ≡ index.old) × (blocks.new ≡ blocks.old)) }
-    ensures looks { Looks (F.state flash.old) (F.state flash.new) 1 (is_err result) }
+    requires { CanSettle R.protocol (store_of (F.state flash.old) index.old blocks.old
+        (Unsure.Own at rec)) room.old }
+    ensures { Finds (store_of (F.state flash.old) index.old blocks.old (Unsure.Own at rec))
+        (F.state flash.new) index.new blocks.new result }
 {
     let mut spare_area = [0; 64];
     match flash.read(at, room, &mut spare_area)? {
@@ -59,17 +46,11 @@ pub(crate) fn settle_copy<F: Flash, R: CommitRule>(
     room: &mut [u8],
     from: Slot,
     to: Slot,
-) -> Result<(), Broken>
-    requires matches { Matches (F.state flash.old) index.old blocks.now (Unsure.Copy from to) }
-    requires rule { index.old.config.protocol ≡ R.protocol }
-    requires room { length room.old ≡ index.old.config.page_bytes }
-    ensures matches { OnOk result
-        (Matches (F.state flash.new) index.new blocks.now Unsure.Nothing) }
-    ensures settled { OnOk result (index.new ≡ (settlement index.old blocks.now
-        (F.state flash.old).image (Unsure.Copy from to)).noted) }
-    ensures preserves { Preserves index.old index.new }
-    ensures failed { OnErr result (index.new ≡ index.old) }
-    ensures looks { Looks (F.state flash.old) (F.state flash.new) 1 (is_err result) }
+) -> Result<Settled, Broken>
+    requires { CanSettle R.protocol (store_of (F.state flash.old) index.old blocks.now
+        (Unsure.Copy from to)) room.old }
+    ensures { Finds (store_of (F.state flash.old) index.old blocks.now (Unsure.Copy from to))
+        (F.state flash.new) index.new blocks.now result }
 {
     let mut spare_area = [0; 64];
     match flash.read(to, room, &mut spare_area)? {
@@ -77,5 +58,5 @@ pub(crate) fn settle_copy<F: Flash, R: CommitRule>(
         Seen::Damaged => index.note_damaged(to),
         Seen::Complete => index.note_copy(from, to),
     }
-    Ok(())
+    Ok(Settled::Other)
 }

@@ -22,7 +22,7 @@ use Rattle.tx_engine.specs.OpenTable.{OpenTable}
 use Rattle.tx_engine.specs.Standing.{Standing}
 use Rattle.tx_engine.specs.Stored.{Stored}
 use Rattle.tx_engine.specs.Tables.{standing_in}
-use Rattle.tx_engine.specs.Writing.{FindsSlot}
+use Rattle.tx_engine.specs.Writing.{TakesSlot}
 
 treats_from : (name : Link) (n m n' : Noted) (t r t' : BlockTable) → m ≡ n → r ≡ t →
     TreatsAll name.page name.version m r n' t' → TreatsAll name.page name.version n t n' t'
@@ -88,15 +88,15 @@ module _ {F : Type 0} (state : F → FlashState) (S S1 S2 : Stored F) (O O' : Op
 
   -- the program was broken
   pub record_breaks : (S3 : Stored F) (at : Slot) (rec : Rec) → TreatsAll name.page name.version S.noted S.table S1.noted S1.table →
-      FindsSlot S1.noted S1.table S2.noted S2.table at → name_of rec ≡ name → S3.noted ≡ S2.noted → S3.table ≡ S2.table → S3.unsure ≡ unsure.Own at rec →
+      TakesSlot S1.noted S1.table S2.noted S2.table at → name_of rec ≡ name → S3.noted ≡ S2.noted → S3.table ≡ S2.table → S3.unsure ≡ unsure.Own at rec →
       WritingBreaks state (standing_in state S O) (standing_in state S3 O') name
   record_breaks S3 at rec turns slot named noted table place = inr (inr (record {
     cleared = S1.noted;
     cleared_table = S1.table;
     turns = turns;
     at = at;
-    slot = subst (λ (n : Noted). FindsSlot S1.noted S1.table n S3.table at) (sym noted)
-        (subst (λ (t : BlockTable). FindsSlot S1.noted S1.table S2.noted t at) (sym table) slot);
+    slot = subst (λ (n : Noted). TakesSlot S1.noted S1.table n S3.table at) (sym noted)
+        (subst (λ (t : BlockTable). TakesSlot S1.noted S1.table S2.noted t at) (sym table) slot);
     rec = rec;
     named = named;
     place = place;

@@ -12,7 +12,9 @@ use Rattle.version_index.specs.Noted.{Noted, current_of}
 use Rattle.die_alloc.specs.BlockTable.{BlockTable}
 use Rattle.collector.specs.Collecting.{cleaning, collecting}
 use Rattle.tx_engine.specs.ArrayState.{is_doubted}
-use Rattle.tx_engine.specs.Collections.{CollectsTables}
+use Rattle.collector.specs.Calls.{CollectsIfAny}
+use Rattle.collector.specs.Store.{Store}
+use Rattle.tx_engine.specs.Collections.{CollectsTables, answer_of}
 use Rattle.array_machine.specs.declared.answers.Collected.{Collected}
 use Rattle.array_machine.specs.declared.answers.Collected.TheVariants.{One, Nothing}
 use Rattle.std.specs.Result.{is_err}
@@ -87,3 +89,9 @@ collects_from a b c n m n' t v t' answer moment shape noted table h =
 pub collect_rises_err : {F : Type 0} (there : Bool) (old new : Standing F) (r : Result Collected Fault) → is_err r ≡ true → SettlesOrNot there old new → CollectRises there old new r
 collect_rises_err there old new (Ok x) is h = cc
 collect_rises_err there old new (Err x) is h = h
+
+-- what was collected, as the answer says it
+pub collects_tables : (a b : Store) (any : Bool) (answer : Collected) → answer ≡ answer_of any → CollectsIfAny a b any →
+    CollectsTables a.flash b.flash a.noted b.noted a.table b.table answer
+collects_tables a b true answer is h = subst (CollectsTables a.flash b.flash a.noted b.noted a.table b.table) (sym is) h
+collects_tables a b false answer is h = subst (CollectsTables a.flash b.flash a.noted b.noted a.table b.table) (sym is) h

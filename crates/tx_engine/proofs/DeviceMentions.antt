@@ -25,7 +25,7 @@ use Rattle.tx_engine.specs.Exits.{MentionsAtMost, IsNamedAt}
 use Rattle.tx_engine.specs.Standing.{Standing, Naming, Stands, DoubtsAs, IsOwn}
 use Rattle.tx_engine.proofs.OpenOnes.{can_take}
 use Rattle.tx_engine.proofs.DevicesStand.{no_record, spare_other}
-use Rattle.tx_engine.proofs.Tools.{Settles}
+use Rattle.collector.specs.Laws.{ImagesStand}
 use Rattle.tx_engine.proofs.Noting.{next_named}
 
 module _ (image : List Contents) (n : Noted) (entries : List Entry) (namings : List Naming) (at : Slot) (rec : Rec) (own : IsOwn image n entries namings at rec) where
@@ -60,7 +60,7 @@ module _ (image : List Contents) (n : Noted) (entries : List Entry) (namings : L
         ]
       ]
 
-module _ (p : Protocol) (laws : Settles p) (s : FlashState) (n : Noted) (t : BlockTable) (rule : n.config.protocol ≡ p)
+module _ (p : Protocol) (laws : ImagesStand p) (s : FlashState) (n : Noted) (t : BlockTable) (rule : n.config.protocol ≡ p)
     (entries : List Entry) (namings : List Naming) where
   at_most : (u : Unsure) → Matches s n t u → CanTake n t u → (settlement n t s.image u).noted.config ≡ n.config → (page : ℕ) → page < n.config.logical →
       mention (records_in n.config.protocol s.image) page ≤ mention_of (settlement n t s.image u).noted page
@@ -95,7 +95,7 @@ module _ (p : Protocol) (laws : Settles p) (s : FlashState) (n : Noted) (t : Blo
   mentions_at_most unsure.SpareErase m take doubt = left_alone unsure.SpareErase m take (spare_other _ n t _ refl)
   mentions_at_most (unsure.VictimErase block) m take doubt = left_alone (unsure.VictimErase block) m take (spare_other _ n t _ refl)
 
-pub device_mentions : {F : Type 0} (state : F → FlashState) (p : Protocol) (laws : Settles p) (s : Standing F) → Stands state s → s.config.protocol ≡ p →
+pub device_mentions : {F : Type 0} (state : F → FlashState) (p : Protocol) (laws : ImagesStand p) (s : Standing F) → Stands state s → s.config.protocol ≡ p →
     MentionsAtMost s.noted s.namings (state s.flash).image
 device_mentions state p laws s h rule =
     mentions_at_most p laws (state s.flash) s.noted s.table (ap (λ (c : _). c.protocol) (sym h.config) ∙ rule) s.machine.entries s.namings s.unsure h.matches (can_take state s h) h.doubt

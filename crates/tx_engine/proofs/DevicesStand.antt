@@ -32,7 +32,7 @@ use Rattle.tx_engine.specs.Exits.{StandsFor}
 use Rattle.tx_engine.specs.Standing.{Standing, Naming, Stands, DoubtsAs, IsOwn, IsOpenAs, IsUnderWay, write_at, text_with}
 use Rattle.tx_engine.proofs.OpenOnes.{under_way, can_take}
 use Rattle.tx_engine.proofs.InDoubt.{slot_text, partly_array, wholly_array}
-use Rattle.tx_engine.proofs.Tools.{Settles, NotesWrites}
+use Rattle.collector.specs.Laws.{ImagesStand, NotedWrites}
 
 -- a mark is the one of doubt where it counts as doubted
 pub doubt_is : (m : Mark) → is_doubted m ≡ true → m ≡ Doubt
@@ -41,7 +41,7 @@ doubt_is Doubt h = refl
 doubt_is Whole h = cc
 
 -- The settlement of the program of an open transaction's record that is there is that the record is noted.
-module _ (p : Protocol) (laws : Settles p) (notes : NotesWrites p) (s : FlashState) (n : Noted) (t : BlockTable) (at : Slot) (rec : Rec)
+module _ (p : Protocol) (laws : ImagesStand p) (notes : NotedWrites p) (s : FlashState) (n : Noted) (t : BlockTable) (at : Slot) (rec : Rec)
     (m : Matches s n t (unsure.Own at rec)) (rule : n.config.protocol ≡ p) (take : CanTakeOwn n t rec) (bytes spare : List ℕ)
     (is : slot_at s.image at.0 ≡ complete bytes spare) where
   noted_there : IsNoted p n
@@ -103,7 +103,7 @@ pub spare_other : (b : Bool) (n : Noted) (t : BlockTable) (u : Settlement) → u
 spare_other true n t u h e = cc
 spare_other false n t u h e = let both = sym h ∙ e in cc
 
-module _ (p : Protocol) (laws : Settles p) (notes : NotesWrites p) (s : FlashState) (n : Noted) (t : BlockTable) (rule : n.config.protocol ≡ p)
+module _ (p : Protocol) (laws : ImagesStand p) (notes : NotedWrites p) (s : FlashState) (n : Noted) (t : BlockTable) (rule : n.config.protocol ≡ p)
     (entries : List Entry) (namings : List Naming) (each : AllZip (IsOpenAs s.image n) entries namings)
     (pages : Pages) (known : pages ≡ array_known n s.image) where
   left_alone : (u : Unsure) → Matches s n t u → CanTake n t u → (settlement n t s.image u).answer ≢ settled.Present →
@@ -125,7 +125,7 @@ module _ (p : Protocol) (laws : Settles p) (notes : NotesWrites p) (s : FlashSta
   stands_for (unsure.VictimErase block) m take doubt = left_alone (unsure.VictimErase block) m take (spare_other _ n t _ refl)
 
 -- the array of the image is the device's, or that with the pages of the transaction in doubt
-pub device_array : {F : Type 0} (state : F → FlashState) (p : Protocol) (laws : Settles p) (notes : NotesWrites p) (s : Standing F) → Stands state s → s.config.protocol ≡ p →
+pub device_array : {F : Type 0} (state : F → FlashState) (p : Protocol) (laws : ImagesStand p) (notes : NotedWrites p) (s : Standing F) → Stands state s → s.config.protocol ≡ p →
     StandsFor s.machine (array_in p s.config.logical (state s.flash).image)
 device_array state p laws notes s h rule =
     let rule_noted : s.noted.config.protocol ≡ p = ap (λ (c : _). c.protocol) (sym h.config) ∙ rule in

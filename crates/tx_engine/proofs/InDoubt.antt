@@ -31,7 +31,7 @@ use Rattle.collector.proofs.KnownArrays.{same_known}
 use Rattle.tx_engine.specs.ArrayState.{Entry, put}
 use Rattle.tx_engine.specs.Standing.{Naming, IsNamed, IsUnderWay, name_at, write_at, text_in, text_with, no_name}
 use Rattle.tx_engine.proofs.Arrays.{put_by_names, as_many_names}
-use Rattle.tx_engine.proofs.Tools.{NotesWrites}
+use Rattle.collector.specs.Laws.{NotedWrites}
 
 -- the text that a complete slot has is that of its record
 pub slot_text : (s : FlashState) (n : Noted) (t : BlockTable) (u : Unsure) → Matches s n t u → (at : ℕ) (bytes : List ℕ) (rec : Rec) → at < slots_of (shape_of n.config) →
@@ -59,7 +59,7 @@ pub known_array : (n n' : Noted) (image : List Contents) → n'.config ≡ n.con
     ((page : ℕ) → page < n.config.logical → current_of n' page ≡ current_of n page) → array_known n' image ≡ array_known n image
 known_array n n' image config same = same_known n n' image image config (λ page within. known_page n n' image page config (same page within))
 
-module _ (p : Protocol) (notes : NotesWrites p) (n : Noted) (is_noted : IsNoted p n) (rule : n.config.protocol ≡ p) (at : ℕ) (rec : Rec)
+module _ (p : Protocol) (notes : NotedWrites p) (n : Noted) (is_noted : IsNoted p n) (rule : n.config.protocol ≡ p) (at : ℕ) (rec : Rec)
     (next : IsNextRecord n rec) (within : at < slots_of (shape_of n.config)) (was : note_at n.notes at ≡ Blank)
     (image : List Contents) (e : Entry) (x : Naming) (named : IsNamed n.config.page_bytes n.config.logical e x) (under : IsUnderWay image n e x)
     (its : next.names ≡ x.names) (there : x.noted_count ≡ e.done) (name : name_of rec ≡ name_at x e.done) where

@@ -34,7 +34,7 @@ use Rattle.tx_engine.specs.Standing.{Naming, Stands, IsNamed, IsUnderWay, IsAsMa
 use Rattle.tx_engine.specs.OpenTable.{OpenTable, Opening, no_opening, opening_at, entries_of, namings_of, with_opening}
 use Rattle.tx_engine.specs.Stored.{Stored}
 use Rattle.tx_engine.specs.Tables.{standing_in}
-use Rattle.tx_engine.proofs.TableLaws.{IsStayLaw}
+use Rattle.collector.specs.Laws.{ArraysStay}
 use Rattle.tx_engine.proofs.OpenList.{each_from, each_to}
 
 abbrev pub IsOpening : List Contents → Noted → Opening → Type 0
@@ -110,7 +110,7 @@ nothing_no_own at rec e = cc
 pub name_in : (P : Link → Type 0) (x : Naming) (k : ℕ) → All P x.names → k < length x.names → P (name_at x k)
 name_in P x k all h = all k no_name h
 
-module _ (s s' : FlashState) (n n' : Noted) (t t' : BlockTable) (u u' : Unsure) (law : IsStayLaw n.config.protocol)
+module _ (s s' : FlashState) (n n' : Noted) (t t' : BlockTable) (u u' : Unsure) (law : ArraysStay n.config.protocol)
     (m : Matches s n t u) (m' : Matches s' n' t' u') (keep : Preserves n n') (same : KeepsArray n.config.protocol n.config.logical s.image s'.image) where
   -- a transaction under way stays so
   under_way_stays : (e : Entry) (x : Naming) → All (Contains (pinned_names n.pins)) x.names → IsUnderWay s.image n e x → IsUnderWay s'.image n' e x
@@ -154,14 +154,14 @@ own_pinned s n t u o k i within j d inside =
     (k.pinned name).1 (i, opening_at o i, within, get_or_default o.all i (opening_at o i) no_opening within, Contains-get_or (opening_at o i).naming.names j d inside)
 
 -- the openings stay
-pub each_stays : (s s' : FlashState) (n n' : Noted) (t t' : BlockTable) (u u' : Unsure) (o : OpenTable) → IsStayLaw n.config.protocol →
+pub each_stays : (s s' : FlashState) (n n' : Noted) (t t' : BlockTable) (u u' : Unsure) (o : OpenTable) → ArraysStay n.config.protocol →
     IsKept s n t u o → Matches s' n' t' u' → Preserves n n' → KeepsArray n.config.protocol n.config.logical s.image s'.image → All (IsOpening s'.image n') o.all
 each_stays s s' n n' t t' u u' o law k m' keep same =
     All-from_get_or (IsOpening s'.image n') o.all no_opening (λ i within.
     opening_stays s s' n n' t t' u u' law k.matches m' keep same (opening_at o i) (own_pinned s n t u o k i within) (k.each i no_opening within))
 
 -- all stays where blocks are collected
-pub kept_still : (s s' : FlashState) (n n' : Noted) (t t' : BlockTable) (u u' : Unsure) (o : OpenTable) → IsStayLaw n.config.protocol →
+pub kept_still : (s s' : FlashState) (n n' : Noted) (t t' : BlockTable) (u u' : Unsure) (o : OpenTable) → ArraysStay n.config.protocol →
     IsKept s n t u o → IsNoOwn u → IsNoOwn u' → Matches s' n' t' u' → Preserves n n' →
     KeepsArray n.config.protocol n.config.logical s.image s'.image → IsKept s' n' t' u' o
 kept_still s s' n n' t t' u u' o law k not_own not_own' m' keep same = record {

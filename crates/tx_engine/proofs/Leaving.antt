@@ -3,31 +3,39 @@ use Rattle.std.proofs.Common.{◌≡◌, ℕ, ◌<◌, Bool, false, List, Option
 use Rattle.std.specs.Prelude.{slice_index}
 use Rattle.tx_types.specs.declared.config.Protocol.{Protocol}
 use Rattle.flash_model.specs.Flash.{FlashState}
+use Rattle.collector.specs.Calls.{Keeps}
+use Rattle.collector.specs.Preserves.{KeepsArray}
 use Rattle.collector.specs.declared.unsure.Unsure.TheVariants as unsure
 use Rattle.collector.specs.Known.{array_known}
 use Rattle.tx_engine.specs.ArrayState.{page_at}
 use Rattle.tx_engine.specs.Standing.{Standing, Stands}
 use Rattle.tx_engine.specs.OpenTable.{OpenTable, entries_of, namings_of}
 use Rattle.tx_engine.specs.Settling.{IsLeft}
-use Rattle.tx_engine.specs.Stored.{Stored, IsStored, KeepsStored}
+use Rattle.tx_engine.specs.Stored.{Stored, store_in}
 use Rattle.tx_engine.specs.Tables.{standing_in}
 use Rattle.tx_engine.proofs.Kept.{IsKept, IsNoOwn, from_stands, to_stands, kept_still, nothing_no_own}
 use Rattle.tx_engine.proofs.ExitsThen.{before_itself, exits_then}
 use Rattle.tx_engine.proofs.KeptTwice.{Preserves-then}
-use Rattle.tx_engine.proofs.TableLaws.{IsStayLaw}
+use Rattle.collector.specs.Laws.{ArraysStay}
 
-module _ {F : Type 0} (state : F → FlashState) (S S' : Stored F) (O : OpenTable) (broken : Bool) (law : IsStayLaw S.noted.config.protocol) (h : Stands state (standing_in state S O))
-    (p : Protocol) (stored : IsStored state p S') (keep : KeepsStored state S S' broken) (sure : S.unsure ≡ unsure.Nothing) (others : IsNoOwn S'.unsure) where
+module _ {F : Type 0} (state : F → FlashState) (S S' : Stored F) (O : OpenTable) (broken : Bool) (p : Protocol) (law : ArraysStay p) (rule : S.noted.config.protocol ≡ p)
+    (h : Stands state (standing_in state S O)) (keep : Keeps p (store_in state S) (store_in state S') broken) (sure : S.unsure ≡ unsure.Nothing) where
   kept : IsKept (state S.flash) S.noted S.table S.unsure O
   kept = from_stands state S O h
 
-  same_known : array_known S'.noted (state S'.flash).image ≡ array_known S.noted (state S.flash).image
-  same_known = law.array (state S.flash) (state S'.flash) S.noted S'.noted S.table S'.table S.unsure S'.unsure kept.matches stored.matches refl keep.preserves keep.array
+  its : ArraysStay S.noted.config.protocol
+  its = subst ArraysStay (sym rule) law
 
-  pub left_of : IsLeft state (standing_in state S O) (standing_in state S' O) broken
-  left_of = record {
-    stands = to_stands state S' O (kept_still (state S.flash) (state S'.flash) S.noted S'.noted S.table S'.table S.unsure S'.unsure O law kept
-        (subst IsNoOwn (sym sure) nothing_no_own) others stored.matches keep.preserves keep.array);
+  array : KeepsArray S.noted.config.protocol S.noted.config.logical (state S.flash).image (state S'.flash).image
+  array = subst (λ q. KeepsArray q S.noted.config.logical (state S.flash).image (state S'.flash).image) (sym rule) keep.array
+
+  same_known : array_known S'.noted (state S'.flash).image ≡ array_known S.noted (state S.flash).image
+  same_known = its.array (state S.flash) (state S'.flash) S.noted S'.noted S.table S'.table S.unsure S'.unsure kept.matches keep.matches refl keep.preserves array
+
+  pub left_by : IsLeft state (standing_in state S O) (standing_in state S' O) broken
+  left_by = record {
+    stands = to_stands state S' O (kept_still (state S.flash) (state S'.flash) S.noted S'.noted S.table S'.table S.unsure S'.unsure O its kept
+        (subst IsNoOwn (sym sure) nothing_no_own) keep.others keep.matches keep.preserves array);
     machine = ap (λ pages. record { pages = pages; entries = entries_of O }) same_known;
     exits = record {
       tables = record {

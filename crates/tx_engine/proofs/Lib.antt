@@ -10,7 +10,6 @@ pub mod OpenOnes
 pub mod OtherFlash
 pub mod Submitted
 pub mod Submitting
-pub mod Tools
 pub mod WrittenPages
 pub mod Pinning
 pub mod StoreCalls
@@ -20,7 +19,6 @@ pub mod Locating
 pub mod Programs
 pub mod ProgramCalls
 pub mod KeptTwice
-pub mod CollectCalls
 pub mod TableLaws
 pub mod OpenList
 pub mod OpenNames
@@ -48,10 +46,12 @@ pub mod OpenChanges
 pub mod RefusalSteps
 pub mod CostFacts
 pub mod WriteAfter
+pub mod PageWrites
 pub mod CountExits
 pub mod RecordWrites
 pub mod AdvanceExits
 pub mod NextThere
 pub mod StepExits
+pub mod Advancing
 pub mod Breaking
 pub mod StepWrites

@@ -17,7 +17,7 @@ use Rattle.tx_engine.specs.Opens.{StoresOpened, Mounts}
 use Rattle.tx_engine.specs.Standing.{DoubtsAs}
 use Rattle.tx_engine.specs.Stored.{Stored, IsStored}
 use Rattle.tx_engine.specs.Tables.{IsStanding, standing_in}
-use Rattle.tx_engine.proofs.Tools.{Settles}
+use Rattle.collector.specs.Laws.{ImagesStand}
 
 none_pinned : (k n : ℕ) → filter_map (λ (page, version). pinned_at page version) (enumerate_from n (replicate k 0)) ≡ []
 none_pinned zero n = refl
@@ -64,7 +64,7 @@ module _ {F : Type 0} (state : F → FlashState) (p : Protocol) (flash : F) (its
       no_item : (name : Link) → Contains [] name → ⊥
       no_item name c = let none = c.1 in omega arith
 
-  pub opened_mounts : Settles p → Mounts state flash its (standing_in state s (empty_table s.noted.config))
+  pub opened_mounts : ImagesStand p → Mounts state flash its (standing_in state s (empty_table s.noted.config))
   opened_mounts laws = record {
     config = its_config;
     machine = ap idle (

@@ -38,7 +38,7 @@ use Rattle.tx_engine.proofs.Noting.{HasName, raised_mention, other_opening, next
 use Rattle.tx_engine.proofs.Kept.{IsKept, IsOpening, IsCalm, HasSameParts, kept_with}
 use Rattle.tx_engine.proofs.SettledLists.{CalmBeside, calm_all}
 use Rattle.tx_engine.proofs.ExitsThen.{NamedBefore}
-use Rattle.tx_engine.proofs.Tools.{NotesWrites}
+use Rattle.collector.specs.Laws.{NotedWrites}
 use Rattle.tx_engine.proofs.OtherFlash.{known_at}
 
 -- a record is the next one of an open transaction, and the flash has its text
@@ -92,7 +92,7 @@ names_before all all' same k d inside =
       names ∙ ap (λ (x : Naming). x.names) (sym (get_or-map (λ (o : Opening). o.naming) all' k no_opening d within')),
     )
 
-module _ (p : Protocol) (notes : NotesWrites p) (n : Noted) (at : ℕ) (rec : Rec) (image image' : List Contents) (o : Opening) (h : IsNextOf p n at rec image' o) where
+module _ (p : Protocol) (notes : NotedWrites p) (n : Noted) (at : ℕ) (rec : Rec) (image image' : List Contents) (o : Opening) (h : IsNextOf p n at rec image' o) where
   abbrev pub after : Noted
   after = programmed n at rec
 
@@ -177,7 +177,7 @@ module _ (p : Protocol) (notes : NotesWrites p) (n : Noted) (at : ℕ) (rec : Re
   ]
 
 -- All stands
-pub next_kept : (p : Protocol) (notes : NotesWrites p) (s s' : FlashState) (n : Noted) (t t' : BlockTable) (u : Unsure) (o : OpenTable) (i at : ℕ) (rec : Rec) →
+pub next_kept : (p : Protocol) (notes : NotedWrites p) (s s' : FlashState) (n : Noted) (t t' : BlockTable) (u : Unsure) (o : OpenTable) (i at : ℕ) (rec : Rec) →
     IsKept s n t u o → i < length o.all → All (IsOpening s'.image n) o.all → CalmBeside o.all i → IsNextOf p n at rec s'.image (opening_at o i) →
     Matches s' (programmed n at rec) t' unsure.Nothing →
     IsKept s' (programmed n at rec) t' unsure.Nothing (with_opening o i (with_next (opening_at o i)))

@@ -1,6 +1,6 @@
 -- Where no slot is garbage each record is current, or held, or the newest of a page of an open transaction.
-use Rattle.std.proofs.Common.{◌≡◌, ◌⊎◌, ℕ, ◌*◌, ◌/◌, ◌<◌, ◌≤◌, eqb, List, length, get_or, All, Contains, Result, Ok, refl, sym, ap, ◌∙◌, subst, inl, inr, arith, eqb-true, eq-eqb}
-use Rattle.std.specs.Prelude.{Any, IfOk, OnOk}
+use Rattle.std.proofs.Common.{◌≡◌, ◌⊎◌, ℕ, ◌*◌, ◌/◌, ◌<◌, ◌≤◌, eqb, Bool, true, false, List, length, get_or, All, Contains, Ok, Result, refl, sym, ap, ◌∙◌, subst, inl, inr, arith, eqb-true, eq-eqb}
+use Rattle.std.specs.Prelude.{Any}
 use Rattle.std.proofs.lemmas.Bool.{cases_eq, cond_both, cond-true}
 use Rattle.std.proofs.lemmas.List.{length-map, get_or_default, get_or-map}
 use Rattle.std.proofs.lemmas.List.Elements.{All-contains, Contains-get_or}
@@ -33,7 +33,9 @@ use Rattle.tx_engine.specs.ArrayState.{Entry}
 use Rattle.flash_model.specs.declared.flash.Broken.{Broken}
 use Rattle.array_machine.specs.declared.answers.Collected.{Collected}
 use Rattle.array_machine.specs.declared.answers.Collected.TheVariants.{Nothing}
-use Rattle.tx_engine.specs.Collections.{CollectsTables, CollectsNothing, HasNothingToCollect}
+use Rattle.collector.specs.Calls.{CollectsIfAny}
+use Rattle.collector.specs.Store.{Store}
+use Rattle.tx_engine.specs.Collections.{CollectsNothing, HasNothingToCollect, answer_of}
 use Rattle.array_machine.specs.declared.mark.Mark.{Mark}
 use Rattle.array_machine.specs.declared.mark.Mark.TheVariants.{Plain, Doubt, Whole}
 use Rattle.tx_engine.specs.Standing.{Stands, Naming, IsAsMarked, no_name}
@@ -43,7 +45,7 @@ use Rattle.tx_engine.specs.Tables.{standing_in}
 use Rattle.tx_engine.proofs.Arrays.{page_of_name, as_many_names}
 use Rattle.tx_engine.proofs.Kept.{IsKept, from_stands}
 use Rattle.tx_engine.proofs.NextNoted.{apart_pages}
-use Rattle.tx_engine.proofs.Tools.{Settles}
+use Rattle.collector.specs.Laws.{ImagesStand}
 
 -- what the law of tidy images says
 abbrev pub TidyLaw : Type 0
@@ -137,7 +139,7 @@ pinned_wanted s n t u o k f i pin =
       )
     ]
 
-pub nothing_left : {F : Type 0} (state : F → FlashState) (S S' : Stored F) (O : OpenTable) → TidyLaw → Settles S'.noted.config.protocol →
+pub nothing_left : {F : Type 0} (state : F → FlashState) (S S' : Stored F) (O : OpenTable) → TidyLaw → ImagesStand S'.noted.config.protocol →
     (t : BlockTable) (u : Unsure) (s : FlashState) → Matches s S.noted t u → t ≡ S.table → Stands state (standing_in state S' O) → S'.unsure ≡ unsure.Nothing →
     CollectsNothing (state S.flash) (state S'.flash) S.noted S'.noted S.table S'.table →
     HasNothingToCollect S'.noted.config.protocol S'.noted.config.logical (state S'.flash).image (entries_of O)
@@ -171,8 +173,7 @@ nothing_left state S S' O tidy settles t u s m table h sure nothing =
     }
 
 -- what a collection ensures where there was nothing to collect
-pub nothing_of : {F : Type 0} (state : F → FlashState) (S S' : Stored F) (r : Result Collected Broken) → r ≡ Ok Nothing →
-    IfOk r (CollectsTables (state S.flash) (state S'.flash) S.noted S'.noted S.table S'.table) → OnOk r (S'.unsure ≡ unsure.Nothing) →
-    CollectsNothing (state S.flash) (state S'.flash) S.noted S'.noted S.table S'.table × (S'.unsure ≡ unsure.Nothing)
-nothing_of state S S' r is tables sure =
-    (subst (λ q. IfOk q (CollectsTables (state S.flash) (state S'.flash) S.noted S'.noted S.table S'.table)) is tables, subst (λ q. OnOk q (S'.unsure ≡ unsure.Nothing)) is sure)
+pub nothing_of : (a b : Store) (any : Bool) (answer : Collected) (r : Result Collected Broken) → answer ≡ answer_of any → r ≡ Ok answer → r ≡ Ok Nothing → CollectsIfAny a b any →
+    CollectsNothing a.flash b.flash a.noted b.noted a.table b.table
+nothing_of a b true answer r its is nothing h = absurd (let e = its in let k = is in let l = nothing in cc)
+nothing_of a b false answer r its is nothing h = h

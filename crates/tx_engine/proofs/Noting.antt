@@ -27,7 +27,7 @@ use Rattle.tx_engine.specs.OpenTable.{Opening, with_noted_count, with_mark}
 use Rattle.tx_engine.specs.Settling.{with_next}
 use Rattle.tx_engine.proofs.InDoubt.{long, there_then, partly, wholly, partly_stays, wholly_current, wholly_elsewhere}
 use Rattle.tx_engine.proofs.Kept.{IsOpening}
-use Rattle.tx_engine.proofs.Tools.{NotesWrites}
+use Rattle.collector.specs.Laws.{NotedWrites}
 
 -- an item has the pages and versions of a name
 abbrev pub HasName : List Link → ℕ → ℕ → Type 0
@@ -73,7 +73,7 @@ raised_mention p n at rec next noted page within =
       ]
     ]
 
-module _ (p : Protocol) (notes : NotesWrites p) (n : Noted) (is_noted : IsNoted p n) (rule : n.config.protocol ≡ p) (at : ℕ) (rec : Rec)
+module _ (p : Protocol) (notes : NotedWrites p) (n : Noted) (is_noted : IsNoted p n) (rule : n.config.protocol ≡ p) (at : ℕ) (rec : Rec)
     (next : IsNextRecord n rec) (within : at < slots_of (shape_of n.config)) (was : note_at n.notes at ≡ Blank)
     (image : List Contents) (e : Entry) (x : Naming) (named : IsNamed n.config.page_bytes n.config.logical e x) (under : IsUnderWay image n e x)
     (its : next.names ≡ x.names) (there : x.noted_count ≡ e.done) (name : name_of rec ≡ name_at x e.done) where
@@ -162,7 +162,7 @@ module _ (p : Protocol) (notes : NotesWrites p) (n : Noted) (is_noted : IsNoted 
       }
 
 -- and the opening that it makes
-pub next_opening : (p : Protocol) (notes : NotesWrites p) (n : Noted) (is_noted : IsNoted p n) (rule : n.config.protocol ≡ p) (at : ℕ) (rec : Rec)
+pub next_opening : (p : Protocol) (notes : NotedWrites p) (n : Noted) (is_noted : IsNoted p n) (rule : n.config.protocol ≡ p) (at : ℕ) (rec : Rec)
     (next : IsNextRecord n rec) (within : at < slots_of (shape_of n.config)) (was : note_at n.notes at ≡ Blank)
     (image : List Contents) (o : Opening) (named : IsNamed n.config.page_bytes n.config.logical o.entry o.naming) (under : IsUnderWay image n o.entry o.naming)
     (its : next.names ≡ o.naming.names) (there : o.naming.noted_count ≡ o.entry.done) (name : name_of rec ≡ name_at o.naming o.entry.done) →

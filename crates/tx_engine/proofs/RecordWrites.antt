@@ -27,16 +27,16 @@ use Rattle.collector.specs.Preserves.{IsThere, Preserves}
 use Rattle.tx_engine.specs.OpenTable.{OpenTable}
 use Rattle.tx_engine.specs.Settling.{AddsOnly}
 use Rattle.tx_engine.specs.Standing.{Standing}
-use Rattle.tx_engine.specs.Stored.{Stored, WritesStored}
+use Rattle.tx_engine.specs.Stored.{Stored, WritesStored, store_in}
 use Rattle.tx_engine.specs.Tables.{standing_in}
-use Rattle.tx_engine.specs.Writing.{DueRecord, FindsSlot, WritesRecord}
+use Rattle.tx_engine.specs.Writing.{DueRecord, TakesSlot, WritesRecord}
 use Rattle.tx_engine.proofs.CostFacts.{none_to_go}
-use Rattle.tx_engine.proofs.Tools.{NotesWrites}
+use Rattle.collector.specs.Laws.{NotedWrites}
 
 -- the slot that is found, by what a store says of it
 pub finds_slot : {F : Type 0} (old new : Stored F) (r : Result Slot Broken) →
     ((IsFull old.table → ⊥) → IfOk r (λ at. Some at ≡ next_slot old.table) × (is_err r ≡ false) × (new ≡ record old { table = after_next_slot old.table })) →
-    (IsFull old.table → IfOk r (λ at. CollectsForRoom old.noted old.table new.noted new.table at)) → IfOk r (FindsSlot old.noted old.table new.noted new.table)
+    (IsFull old.table → IfOk r (λ at. CollectsForRoom old.noted old.table new.noted new.table at)) → IfOk r (TakesSlot old.noted old.table new.noted new.table)
 finds_slot old new (Ok at) direct collects = record {
   direct = λ room. let d = direct room in (sym d.0, ap (λ (s : Stored _). s.noted) d.2, ap (λ (s : Stored _). s.table) d.2);
   collects = collects;
@@ -50,10 +50,10 @@ free_within s n t u m at free = omega (arith, free.free.within, ap slots_of m.bl
 module _ {F : Type 0} (state : F → FlashState) (S S1 S2 S3 : Stored F) (O O' : OpenTable) (asked : DueRecord) (at : Slot) (rec : Rec) where
   pub writes_record : IsNoted S.noted.config.protocol S.noted → Preserves S.noted S1.noted → (block_to_go S.noted asked.name.page asked.name.version ≡ None → S1 ≡ S) →
       (broken : Bool) → ((IsFull S1.table → ⊥) → (broken ≡ false) × (S2.flash ≡ S1.flash)) → (state S2.flash).shape ≡ (state S.flash).shape →
-      block_to_go S1.noted asked.name.page asked.name.version ≡ None → FindsSlot S1.noted S1.table S2.noted S2.table at → name_of rec ≡ asked.name → rec.next ≡ asked.link → rec.count ≡ asked.count →
+      block_to_go S1.noted asked.name.page asked.name.version ≡ None → TakesSlot S1.noted S1.table S2.noted S2.table at → name_of rec ≡ asked.name → rec.next ≡ asked.link → rec.count ≡ asked.count →
       rec.discard ≡ asked.text.discard →
       rec.back ≡ back_version S2.noted.config.protocol (found_in S2.noted.notes) S2.noted.config.logical rec.page →
-      at.0 < length (state S2.flash).image → WritesStored state S2 S3 at.0 rec asked.text.bytes →
+      at.0 < length (state S2.flash).image → WritesStored (store_in state S2) (store_in state S3) at.0 rec asked.text.bytes →
       TreatsAll asked.name.page asked.name.version S.noted S.table S1.noted S1.table → FlashMoves (state S.flash) (state S2.flash) false →
       WritesRecord state (standing_in state S O) (standing_in state S3 O') asked
   writes_record noted kept idle broken direct shape clear slot named linked counted flag back within w turns moves = record {
@@ -89,8 +89,8 @@ module _ {F : Type 0} (state : F → FlashState) (S S1 S2 S3 : Stored F) (O O' :
   }
 
   -- of the names only its own is new
-  pub adds_own : NotesWrites S2.noted.config.protocol → IsNoted S2.noted.config.protocol S2.noted → (u : Unsure) → Matches (state S2.flash) S2.noted S2.table u → IsFirstFree S2.table at.0 →
-      Preserves S.noted S1.noted → Preserves S1.noted S2.noted → name_of rec ≡ asked.name → WritesStored state S2 S3 at.0 rec asked.text.bytes → AddsOnly asked.name S.noted S3.noted
+  pub adds_own : NotedWrites S2.noted.config.protocol → IsNoted S2.noted.config.protocol S2.noted → (u : Unsure) → Matches (state S2.flash) S2.noted S2.table u → IsFirstFree S2.table at.0 →
+      Preserves S.noted S1.noted → Preserves S1.noted S2.noted → name_of rec ≡ asked.name → WritesStored (store_in state S2) (store_in state S3) at.0 rec asked.text.bytes → AddsOnly asked.name S.noted S3.noted
   adds_own notes noted u m free first second named w own here =
       elim ((notes.names S2.noted at.0 rec own noted (omega (arith, free.free.within, ap slots_of m.blocks, ap slots_of m.shape)) (m.free at.0 free.free)).0
       (subst (λ (m : Noted). IsThere m own) w.noted here)) [

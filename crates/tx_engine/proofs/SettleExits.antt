@@ -1,5 +1,5 @@
 -- A device that settled, by what settling leaves of its tables.
-use Rattle.std.proofs.Common.{◌≡◌, ◌≢◌, ◌⊎◌, ℕ, ◌<◌, Bool, false, length, All, Option, Some, None, refl, sym, ap, ap₂, ◌∙◌, subst, inl, inr}
+use Rattle.std.proofs.Common.{◌≡◌, ◌≢◌, ◌⊎◌, ℕ, ◌<◌, Bool, true, false, length, map, All, Option, Some, None, refl, sym, ap, ap₂, ◌∙◌, subst, inl, inr, Err, Ok}
 use Rattle.std.specs.Prelude.{position}
 use Rattle.std.proofs.lemmas.List.Quantifiers.{position-Some}
 use Rattle.tx_types.specs.declared.config.Slot.{Slot}
@@ -17,16 +17,16 @@ use Rattle.collector.specs.declared.unsure.Settled.{Settled}
 use Rattle.collector.specs.declared.unsure.Settled.TheVariants as found
 use Rattle.collector.specs.Known.{array_known}
 use Rattle.collector.specs.Matches.{Matches, CanTake}
-use Rattle.collector.specs.Settling.{settlement}
+use Rattle.collector.specs.Settling.{IsFound, settlement, Settles}
 use Rattle.collector.proofs.SettledExits.{matches_still}
 use Rattle.collector.specs.Preserves.{Preserves}
 use Rattle.tx_engine.specs.ArrayState.{is_doubted, page_at}
 use Rattle.array_machine.specs.declared.mark.Mark.TheVariants.{Plain}
 use Rattle.tx_engine.specs.Exits.{Exits, is_there}
 use Rattle.tx_engine.specs.Standing.{Stands, DoubtsAs}
-use Rattle.tx_engine.specs.OpenTable.{OpenTable, Opening, no_opening, opening_at, entries_of, namings_of, with_opening, with_mark}
+use Rattle.tx_engine.specs.OpenTable.{OpenTable, Opening, no_opening, opening_at, entries_of, namings_of, with_opening, with_mark, HasLimitsOf}
 use Rattle.tx_engine.specs.Settling.{with_next, is_writing, IsSettled}
-use Rattle.tx_engine.specs.Stored.{Stored}
+use Rattle.tx_engine.specs.Stored.{Stored, store_in}
 use Rattle.tx_engine.specs.Tables.{standing_in}
 use Rattle.tx_engine.proofs.Kept.{IsKept, IsOpening, from_stands, to_stands}
 use Rattle.tx_engine.proofs.OpenOnes.{can_take}
@@ -35,8 +35,11 @@ use Rattle.std.proofs.lemmas.Bool.{both_ways}
 use Rattle.list_facts.proofs.Positions.{position-all}
 use Rattle.tx_engine.proofs.SettledLists.{calm_at}
 use Rattle.tx_engine.proofs.Settlements.{IsSettledAs, IsFoundOwn, present_found, found_settled, doubt_settled, calm_settled, doubted_beside}
-use Rattle.tx_engine.proofs.TableLaws.{IsStayLaw, CurrentLaw}
-use Rattle.tx_engine.proofs.Tools.{Settles, NotesWrites}
+use Rattle.collector.specs.Laws.{ArraysStay}
+use Rattle.flash_model.specs.declared.flash.Broken.{Broken}
+use Rattle.tx_types.specs.declared.config.Protocol.{Protocol}
+use Rattle.tx_engine.specs.Calls.{SettlesDevice}
+use Rattle.collector.specs.Laws.{ImagesStand, NotedWrites}
 
 -- the same flash, read
 pub kept_flash : (s s' : FlashState) (n : Noted) (t : BlockTable) (u : Unsure) (o : OpenTable) → s'.shape ≡ s.shape → s'.image ≡ s.image → IsKept s n t u o → IsKept s' n t u o
@@ -73,6 +76,23 @@ module _ {F : Type 0} (state : F → FlashState) (S S' : Stored F) (O O' : OpenT
       (failed_stays same opens moment)
       (FlashMoves-nothing (state S.flash) (state S'.flash) broken moment) carries
 
+  -- the whole of it
+  pub settle_failed : (x y : Broken) → Stands state (standing_in state S O) → Settles (store_in state S) (store_in state S') (Err x) → S' ≡ record S { flash = S'.flash } →
+      (S.unsure ≡ unsure.Nothing → ⊥) → O' ≡ O → SettlesDevice state S S' O O' (Err y)
+  settle_failed x y h its same sure opens = record {
+    stands = failed_stands h same opens its.moment true its.carries;
+    settles = tt;
+    tables = tt;
+    failed = (same, opens);
+    idle = λ none. absurd (sure none);
+    limits = subst (HasLimitsOf O) (sym opens) (record { page_bytes = refl; logical = refl; pending = refl });
+    exits = failed_exits same opens its.moment true its.carries;
+    moment = its.moment;
+    reads = tt;
+    first_failed = its.first_failed;
+    names = ap (λ (o : OpenTable). map (λ x. x.naming.names) o.all) opens;
+  }
+
   module _ (r : IsSettledAs (state S.flash) S.noted S'.noted S'.table O O') (sure : S'.unsure ≡ unsure.Nothing) (moment : moment_of (state S'.flash) ≡ moment_of (state S.flash))
       (carries : Carries (state S.flash) (state S'.flash) false) where
     same_image : (state S'.flash).image ≡ (state S.flash).image
@@ -104,12 +124,30 @@ module _ {F : Type 0} (state : F → FlashState) (S S' : Stored F) (O O' : OpenT
       carries = carries;
     }
 
+    -- the whole of it
+    pub settle_done : (answer : Settled) → Settles (store_in state S) (store_in state S') (Ok answer) → HasLimitsOf O O' →
+        map (λ o. o.naming.names) O'.all ≡ map (λ o. o.naming.names) O.all → (S.unsure ≡ unsure.Nothing → (S' ≡ S) × (O' ≡ O)) → SettlesDevice state S S' O O' (Ok tt)
+    settle_done answer its limits names still = record {
+      stands = settled_stands;
+      settles = settled_done;
+      tables = (its.found.noted, its.found.table);
+      failed = tt;
+      idle = λ none. (refl, (still none).0, (still none).1);
+      limits = limits;
+      exits = settled_exits;
+      moment = moment;
+      reads = its.reads;
+      first_failed = tt;
+      names = names;
+    }
+
 -- By what was found
 module _ {F : Type 0} (state : F → FlashState) (S : Stored F) (O : OpenTable) (h : Stands state (standing_in state S O))
-    (settles : Settles S.noted.config.protocol) (currents : CurrentLaw S.noted.config.protocol)
-    (n' : Noted) (t' : BlockTable) (answer : Settled)
-    (is_noted : n' ≡ (settlement S.noted S.table (state S.flash).image S.unsure).noted) (is_table : t' ≡ (settlement S.noted S.table (state S.flash).image S.unsure).table)
-    (is_answer : answer ≡ (settlement S.noted S.table (state S.flash).image S.unsure).answer) where
+    (p : Protocol) (rule : S.noted.config.protocol ≡ p) (images : ImagesStand p) (n' : Noted) (t' : BlockTable) (answer : Settled)
+    (its : IsFound (settlement S.noted S.table (state S.flash).image S.unsure) n' t' answer) where
+  settles : ImagesStand S.noted.config.protocol
+  settles = subst ImagesStand (sym rule) images
+
   kept : IsKept (state S.flash) S.noted S.table S.unsure O
   kept = from_stands state S O h
 
@@ -118,19 +156,22 @@ module _ {F : Type 0} (state : F → FlashState) (S : Stored F) (O : OpenTable) 
 
   matched : Matches (state S.flash) n' t' unsure.Nothing
   matched =
-      subst (λ m. Matches (state S.flash) m t' unsure.Nothing) (sym is_noted)
-      (subst (λ b. Matches (state S.flash) (settlement S.noted S.table (state S.flash).image S.unsure).noted b unsure.Nothing) (sym is_table)
+      subst (λ m. Matches (state S.flash) m t' unsure.Nothing) (sym its.noted)
+      (subst (λ b. Matches (state S.flash) (settlement S.noted S.table (state S.flash).image S.unsure).noted b unsure.Nothing) (sym its.table)
       (settles.matches (state S.flash) S.noted S.table S.unsure kept.matches take refl))
 
   current_now : (page : ℕ) → current_in S.noted.config.protocol S.noted.config.logical (state S.flash).image page ≡ current_of n' page
-  current_now page = currents (state S.flash) S.noted S.table S.unsure page kept.matches take refl ∙ ap (λ m. current_of m page) (sym is_noted)
+  current_now page = settles.current (state S.flash) S.noted S.table S.unsure page kept.matches take refl ∙ ap (λ m. current_of m page) (sym its.noted)
 
   -- the record of an open transaction is there
-  module _ (notes : NotesWrites S.noted.config.protocol) (w : Option ℕ) (writer : (at : Slot) (rec : Rec) → S.unsure ≡ unsure.Own at rec → w ≡ position (is_writing rec.page) O.all)
+  module _ (law : NotedWrites p) (w : Option ℕ) (writer : (at : Slot) (rec : Rec) → S.unsure ≡ unsure.Own at rec → w ≡ position (is_writing rec.page) O.all)
       (present : answer ≡ found.Present) where
+    notes : NotedWrites S.noted.config.protocol
+    notes = subst NotedWrites (sym rule) law
+
     pub the_own : IsFoundOwn S.noted (state S.flash).image O w n'
-    the_own = subst (IsFoundOwn S.noted (state S.flash).image O w) (sym is_noted)
-        (present_found (state S.flash) S.noted S.table O settles notes S.unsure w kept writer (sym is_answer ∙ present))
+    the_own = subst (IsFoundOwn S.noted (state S.flash).image O w) (sym its.noted)
+        (present_found (state S.flash) S.noted S.table O settles notes S.unsure w kept writer (sym its.answer ∙ present))
 
     pub own_settled : (i : ℕ) → w ≡ Some i → (O' : OpenTable) → O' ≡ with_opening O i (with_next (opening_at O i)) → IsSettledAs (state S.flash) S.noted n' t' O O'
     own_settled i is O' next =
@@ -159,22 +200,25 @@ module _ {F : Type 0} (state : F → FlashState) (S : Stored F) (O : OpenTable) 
     own_none is = let both = sym (the_own).is_place ∙ is in cc
 
   -- it is not, or there was none
-  module _ (law : IsStayLaw S.noted.config.protocol) (other : answer ≢ found.Present) where
+  module _ (arrays : ArraysStay p) (other : answer ≢ found.Present) where
+    law : ArraysStay S.noted.config.protocol
+    law = subst ArraysStay (sym rule) arrays
+
     pub doubt_gone : (i : ℕ) → position (λ o. is_doubted o.entry.mark) O.all ≡ Some i → (O' : OpenTable) → O' ≡ with_opening O i (with_mark (opening_at O i) Plain) →
         IsSettledAs (state S.flash) S.noted n' t' O O'
     doubt_gone i is O' next =
         let at = position-Some (λ (o : Opening). is_doubted o.entry.mark) O.all i no_opening is in
-        let keep = settles.preserves (state S.flash) S.noted S.table S.unsure kept.matches take refl (λ e. other (is_answer ∙ e)) in
+        let keep = settles.preserves (state S.flash) S.noted S.table S.unsure kept.matches take refl (λ e. other (its.answer ∙ e)) in
         subst (λ o. IsSettledAs (state S.flash) S.noted n' t' O o) (sym next)
         (doubt_settled (state S.flash) S.noted n' S.table t' S.unsure O law kept matched
-        (subst (Preserves S.noted) (sym is_noted) keep.0) current_now i at.0
+        (subst (Preserves S.noted) (sym its.noted) keep.0) current_now i at.0
         (doubted_beside (state S.flash).image S.noted O S.unsure kept.doubt i at.0 at.1) at.1)
 
     pub none_gone : position (λ o. is_doubted o.entry.mark) O.all ≡ None → IsSettledAs (state S.flash) S.noted n' t' O O
     none_gone is =
-        let keep = settles.preserves (state S.flash) S.noted S.table S.unsure kept.matches take refl (λ e. other (is_answer ∙ e)) in
+        let keep = settles.preserves (state S.flash) S.noted S.table S.unsure kept.matches take refl (λ e. other (its.answer ∙ e)) in
         calm_settled (state S.flash) S.noted n' S.table t' S.unsure O law kept matched
-        (subst (Preserves S.noted) (sym is_noted) keep.0) current_now
+        (subst (Preserves S.noted) (sym its.noted) keep.0) current_now
         (position-all (λ (o : Opening). is_doubted o.entry.mark) O.all no_opening is)
 
 pub not_present : (a : Settled) → (a ≡ found.Missing) ⊎ (a ≡ found.Other) → a ≢ found.Present

@@ -42,8 +42,8 @@ use Rattle.tx_engine.proofs.SettledLists.{CalmBeside, calm_all, calm_at, calm_en
 use Rattle.tx_engine.proofs.ExitsThen.{NamedBefore}
 use Rattle.tx_engine.proofs.NextNoted.{IsNextOf, next_kept, next_parts, names_before, next_stays, next_array, last_current, last_rises, last_array, next_versions, writes_rise, writes_stay, next_mentions}
 use Rattle.tx_engine.proofs.ImageMoves.{KeepsNoted}
-use Rattle.tx_engine.proofs.TableLaws.{IsStayLaw}
-use Rattle.tx_engine.proofs.Tools.{Settles, NotesWrites}
+use Rattle.collector.specs.Laws.{ArraysStay}
+use Rattle.collector.specs.Laws.{ImagesStand, NotedWrites}
 
 -- the state of the array machine of tables and open transactions
 abbrev pub machine_in : Noted → List Contents → List Opening → ArrayState
@@ -122,7 +122,7 @@ is_only_writing o place rec apart done within name =
     (same ∙ ap (λ (a : Link). a.page) name)))
     (eq-eqb (name_at (opening_at o place).naming (opening_at o place).entry.done).page rec.page (ap (λ (a : Link). a.page) (sym name)))
 
-module _ (s : FlashState) (n : Noted) (t : BlockTable) (o : OpenTable) (settles : Settles n.config.protocol) (notes : NotesWrites n.config.protocol) where
+module _ (s : FlashState) (n : Noted) (t : BlockTable) (o : OpenTable) (settles : ImagesStand n.config.protocol) (notes : NotedWrites n.config.protocol) where
   own_found : (at : Slot) (rec : Rec) (w : Option ℕ) (bytes spare : List ℕ) → IsKept s n t (unsure.Own at rec) o → w ≡ position (is_writing rec.page) o.all →
       slot_at s.image at.0 ≡ complete bytes spare → IsFoundOwn n s.image o w (settlement n t s.image (unsure.Own at rec)).noted
   own_found at rec w bytes spare k writer is =
@@ -188,7 +188,7 @@ module _ (s : FlashState) (n : Noted) (t : BlockTable) (o : OpenTable) (settles 
   present_found (unsure.VictimErase block) w k writer present = absurd (spare_other _ n t _ refl present)
 
 -- a version that is known once the record is noted, where the image has it
-module _ (s : FlashState) (n : Noted) (t t' : BlockTable) (u : Unsure) (o : OpenTable) (notes : NotesWrites n.config.protocol) (i at : ℕ) (rec : Rec) (k : IsKept s n t u o) (within : i < length o.all)
+module _ (s : FlashState) (n : Noted) (t t' : BlockTable) (u : Unsure) (o : OpenTable) (notes : NotedWrites n.config.protocol) (i at : ℕ) (rec : Rec) (k : IsKept s n t u o) (within : i < length o.all)
     (h : IsNextOf n.config.protocol n at rec s.image (opening_at o i)) (calm : CalmBeside o.all i)
     (doubt : is_doubted (opening_at o i).entry.mark ≡ ((opening_at o i).entry.done + 1 == length (opening_at o i).entry.writes))
     (m' : Matches s (programmed n at rec) t' unsure.Nothing)
@@ -270,7 +270,7 @@ module _ (s : FlashState) (n : Noted) (t t' : BlockTable) (u : Unsure) (o : Open
   }
 
 -- Nothing that is known of pages changed
-module _ (s : FlashState) (n m : Noted) (t t' : BlockTable) (u : Unsure) (o : OpenTable) (law : IsStayLaw n.config.protocol) (k : IsKept s n t u o)
+module _ (s : FlashState) (n m : Noted) (t t' : BlockTable) (u : Unsure) (o : OpenTable) (law : ArraysStay n.config.protocol) (k : IsKept s n t u o)
     (m' : Matches s m t' unsure.Nothing) (keep : Preserves n m)
     (current : (page : ℕ) → current_in n.config.protocol n.config.logical s.image page ≡ current_of m page) where
   same_image : KeepsArray n.config.protocol n.config.logical s.image s.image

@@ -1,5 +1,5 @@
 -- What a call of the collector leaves of a store's configuration.
-use Rattle.std.proofs.Common.{◌≡◌, ℕ, Bool, true, false, if◌then◌else◌, List, Vec, length, Result, Ok, Err, IfOk, OnErr, refl, sym, ap, ◌∙◌}
+use Rattle.std.proofs.Common.{◌≡◌, ℕ, Bool, true, false, if◌then◌else◌, List, Vec, length, Result, Ok, Err, refl, sym, ap, ◌∙◌}
 use Rattle.std.specs.Vec.{with_items}
 use Rattle.std.specs.List.{length_refill}
 use Rattle.flash_model.specs.declared.flash.Broken.{Broken}
@@ -11,7 +11,8 @@ use Rattle.collector.specs.declared.unsure.Unsure.{Unsure}
 use Rattle.collector.specs.declared.unsure.Unsure.TheVariants as unsure
 use Rattle.collector.specs.declared.unsure.Settled.TheVariants as settled
 use Rattle.collector.specs.Collecting.{is_blank_block}
-use Rattle.collector.specs.Settling.{Settlement, settlement, own_settled, copy_settled, block_settled, block_reads_as_noted, victim_settled, unchanged}
+use Rattle.collector.specs.Store.{Store}
+use Rattle.collector.specs.Settling.{Settlement, Settles, settlement, own_settled, copy_settled, block_settled, block_reads_as_noted, victim_settled, unchanged}
 
 block_config : (n : Noted) (block : ℕ) (b : Bool) → (if b then erased n block else lost n block).config ≡ n.config
 block_config n block true = refl
@@ -44,11 +45,9 @@ settled_config n t image (unsure.VictimErase block) =
     (block_config n block.0 (is_blank_block n image block.0))
 
 -- the configuration stays, whether the place was settled or not
-pub same_config : (n n' : Noted) (t t' : BlockTable) (image : List Contents) (u u' : Unsure) (r : Result Settled Broken) →
-    IfOk r (λ answer. let found = settlement n t image u in (n' ≡ found.noted) × (t' ≡ found.table) × (answer ≡ found.answer)) →
-    OnErr r ((n' ≡ n) × (t' ≡ t) × (u' ≡ u)) → n'.config ≡ n.config
-same_config n n' t t' image u u' (Ok answer) settled failed = ap (λ (m : Noted). m.config) settled.0 ∙ settled_config n t image u
-same_config n n' t t' image u u' (Err broken) settled failed = ap (λ (m : Noted). m.config) failed.0
+pub same_config : (a b : Store) (r : Result Settled Broken) → Settles a b r → b.noted.config ≡ a.noted.config
+same_config a b (Ok answer) h = ap (λ (m : Noted). m.config) h.found.noted ∙ settled_config a.noted a.table a.flash.image a.unsure
+same_config a b (Err broken) h = ap (λ (m : Noted). m.config) h.failed.0
 
 -- a vector has as many items, whatever is written over them
 pub as_long : {X Z : Type 0} (v : Vec X Z) (ws : List X) (n : ℕ) → length v.items ≡ n → length (with_items v ws).items ≡ n

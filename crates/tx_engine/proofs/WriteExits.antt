@@ -28,9 +28,10 @@ use Rattle.tx_engine.specs.ArrayState.{Entry, Pages, is_doubted, page_at, put}
 use Rattle.array_machine.specs.declared.mark.Mark.TheVariants.{Plain, Doubt, Whole}
 use Rattle.tx_engine.specs.Exits.{Exits, VersionsRise}
 use Rattle.tx_engine.specs.Standing.{Standing, Stands, name_at, text_in, text_with, write_at}
-use Rattle.tx_engine.specs.OpenTable.{OpenTable, Opening, no_opening, opening_at, namings_of, with_opening, with_mark}
+use Rattle.tx_engine.specs.OpenTable.{IsDueAt, OpenTable, Opening, no_opening, opening_at, namings_of, with_opening, with_mark}
 use Rattle.tx_engine.specs.Settling.{with_next, is_at_last, next_writes, WritesNext, WriteFails}
-use Rattle.tx_engine.specs.Stored.{Stored, IsStored, WritesStored, WriteBreaks}
+use Rattle.tx_engine.specs.Calls.{IsReady}
+use Rattle.tx_engine.specs.Stored.{Stored, WritesStored, WriteBreaks, store_in}
 use Rattle.tx_engine.specs.Tables.{standing_in}
 use Rattle.tx_engine.proofs.ExitsThen.{NamedBefore, before_itself}
 use Rattle.tx_engine.proofs.ImageMoves.{KeepsNoted, image_array, image_under, image_opening}
@@ -38,20 +39,40 @@ use Rattle.tx_engine.proofs.Kept.{IsKept, IsOpening, HasSameParts, from_stands, 
 use Rattle.tx_engine.proofs.NextNoted.{IsNextOf, next_kept, next_parts, names_before, next_array, last_array, next_stays, next_versions, writes_rise, writes_stay, next_mentions}
 use Rattle.tx_engine.proofs.NextRecord.{due_named, due_under}
 use Rattle.tx_engine.proofs.SettledLists.{CalmBeside, calm_at}
-use Rattle.tx_engine.proofs.Tools.{Settles, NotesWrites}
+use Rattle.collector.specs.Laws.{ImagesStand, NotedWrites}
 
 -- a record with the flag of what is written next says of the page what is written
 pub due_text : (size : ℕ) (e : Entry) (rec : Rec) → rec.discard ≡ is_none (write_at e e.done).value →
     text_with rec (bytes_in size (write_at e e.done)) ≡ text_in size (write_at e e.done)
 due_text size e rec flag = ap (λ d. record { discard = d; bytes = bytes_in size (write_at e e.done) }) flag
 
-module _ {F : Type 0} (state : F → FlashState) (S S' : Stored F) (O : OpenTable) (i : ℕ) (at : Slot) (rec : Rec) (bytes : List ℕ)
-    (h : Stands state (standing_in state S O)) (sure : S.unsure ≡ unsure.Nothing) (within : i < length O.all)
-    (plain : (opening_at O i).entry.mark ≡ Plain) (due : (opening_at O i).naming.noted_count ≡ (opening_at O i).entry.done)
-    (settles : Settles S.noted.config.protocol) (notes : NotesWrites S.noted.config.protocol)
-    (next : IsNextRecord S.noted rec) (its : next.names ≡ (opening_at O i).naming.names)
-    (own : name_of rec ≡ name_at (opening_at O i).naming (opening_at O i).entry.done) (free : IsFirstFree S.table at.0)
-    (is_text : text_with rec bytes ≡ text_in S.noted.config.page_bytes (write_at (opening_at O i).entry (opening_at O i).entry.done)) (p : Protocol) (stored : IsStored state p S') where
+-- the record of the next page of a transaction, for the first free slot of a block
+pub record IsAsked {F : Type 0} (state : F → FlashState) (p : Protocol) (S : Stored F) (O : OpenTable) (i : ℕ) (at : Slot) (rec : Rec) (bytes : List ℕ) : Type 0 where
+  pub ready : IsReady state p S O
+  pub due : IsDueAt O i
+  pub next : IsNextRecord S.noted rec
+  pub its : next.names ≡ (opening_at O i).naming.names
+  pub own : name_of rec ≡ name_at (opening_at O i).naming (opening_at O i).entry.done
+  pub free : IsFirstFree S.table at.0
+  pub text : text_with rec bytes ≡ text_in S.noted.config.page_bytes (write_at (opening_at O i).entry (opening_at O i).entry.done)
+
+module _ {F : Type 0} (state : F → FlashState) (p : Protocol) (S S' : Stored F) (O : OpenTable) (i : ℕ) (at : Slot) (rec : Rec) (bytes : List ℕ)
+    (asked : IsAsked state p S O i at rec bytes) (images : ImagesStand p) (law : NotedWrites p) (matches : Matches (state S'.flash) S'.noted S'.table S'.unsure) where
+  abbrev within : i < length O.all
+  within = asked.due.exists
+
+  abbrev plain : (opening_at O i).entry.mark ≡ Plain
+  plain = asked.due.plain
+
+  abbrev due : (opening_at O i).naming.noted_count ≡ (opening_at O i).entry.done
+  due = asked.due.unnoted
+
+  settles : ImagesStand S.noted.config.protocol
+  settles = subst ImagesStand (sym asked.ready.rule) images
+
+  notes : NotedWrites S.noted.config.protocol
+  notes = subst NotedWrites (sym asked.ready.rule) law
+
   abbrev old : FlashState
   old = state S.flash
 
@@ -65,7 +86,7 @@ module _ {F : Type 0} (state : F → FlashState) (S S' : Stored F) (O : OpenTabl
   o = opening_at O i
 
   kept : IsKept old n S.table unsure.Nothing O
-  kept = subst (λ u. IsKept old n S.table u O) sure (from_stands state S O h)
+  kept = subst (λ u. IsKept old n S.table u O) asked.ready.sure (from_stands state S O asked.ready.stands)
 
   calm : CalmBeside O.all i
   calm j inside other = calm_at O.all kept.doubt j inside
@@ -76,7 +97,7 @@ module _ {F : Type 0} (state : F → FlashState) (S S' : Stored F) (O : OpenTabl
       stay name (subst (λ l. is_present l name ≡ true) (sym (settles.records old n S.table unsure.Nothing kept.matches tt refl)) there)
 
   -- Done
-  module _ (w : WritesStored state S S' at.0 rec bytes) where
+  module _ (w : WritesStored (store_in state S) (store_in state S') at.0 rec bytes) where
     stay : KeepsNoted n old.image new.image
     stay = keeps w.stay
 
@@ -84,20 +105,20 @@ module _ {F : Type 0} (state : F → FlashState) (S S' : Stored F) (O : OpenTabl
     is_next = record {
       noted = kept.matches.noted;
       rule = refl;
-      next = next;
-      within = omega (arith, free.free.within, ap slots_of kept.matches.blocks, ap slots_of kept.matches.shape);
-      was = kept.matches.free at.0 free.free;
+      next = asked.next;
+      within = omega (arith, asked.free.free.within, ap slots_of kept.matches.blocks, ap slots_of kept.matches.shape);
+      was = kept.matches.free at.0 asked.free.free;
       named = due_named old n S.table O i kept within plain due;
       under = image_under n old.image new.image stay o.entry o.naming (due_under old n S.table O i kept within plain due);
-      its = its;
+      its = asked.its;
       due = due;
-      name = own;
-      come = w.come ∙ ap Some is_text;
+      name = asked.own;
+      come = w.come ∙ ap Some asked.text;
       plain = λ more. plain;
     }
 
     matched : Matches new (programmed n at.0 rec) S'.table unsure.Nothing
-    matched = subst (λ m. Matches new m S'.table unsure.Nothing) w.noted (subst (λ u. Matches new S'.noted S'.table u) w.unsure stored.matches)
+    matched = subst (λ m. Matches new m S'.table unsure.Nothing) w.noted (subst (λ u. Matches new S'.noted S'.table u) w.unsure matches)
 
     then_kept : IsKept new (programmed n at.0 rec) S'.table unsure.Nothing (with_opening O i (with_next o))
     then_kept =
@@ -162,7 +183,7 @@ module _ {F : Type 0} (state : F → FlashState) (S S' : Stored F) (O : OpenTabl
       })
 
   -- Broken
-  module _ (w : WriteBreaks state S S' at rec bytes) where
+  module _ (w : WriteBreaks (store_in state S) (store_in state S') at rec bytes) where
     still : KeepsNoted n old.image new.image
     still = keeps w.stay
 
@@ -170,7 +191,7 @@ module _ {F : Type 0} (state : F → FlashState) (S S' : Stored F) (O : OpenTabl
     opening_still j inside = image_opening n old.image new.image still (opening_at O j) (kept.each j no_opening inside)
 
     broken_matches : Matches new n S'.table (unsure.Own at rec)
-    broken_matches = subst (λ m. Matches new m S'.table (unsure.Own at rec)) w.noted (subst (λ u. Matches new S'.noted S'.table u) w.unsure stored.matches)
+    broken_matches = subst (λ m. Matches new m S'.table (unsure.Own at rec)) w.noted (subst (λ u. Matches new S'.noted S'.table u) w.unsure matches)
 
     abbrev stored_broken : Stored F
     stored_broken = record { flash = S'.flash; noted = n; table = S'.table; unsure = unsure.Own at rec }
@@ -179,7 +200,7 @@ module _ {F : Type 0} (state : F → FlashState) (S S' : Stored F) (O : OpenTabl
     broken_is = ap₂ (λ (m : Noted) (u : Unsure). record S' { noted = m; unsure = u }) w.noted w.unsure
 
     own_text : (b spare : List ℕ) → slot_at new.image at.0 ≡ complete b spare → text_with rec b ≡ text_in n.config.page_bytes (write_at o.entry o.entry.done)
-    own_text b spare is = ap (text_with rec) (w.slot b spare is) ∙ is_text
+    own_text b spare is = ap (text_with rec) (w.slot b spare is) ∙ asked.text
 
     more_kept : o.entry.done + 1 ≢ length o.entry.writes → IsKept new n S'.table (unsure.Own at rec) O
     more_kept more = record {
@@ -193,9 +214,9 @@ module _ {F : Type 0} (state : F → FlashState) (S S' : Stored F) (O : OpenTabl
         is_naming = slice_get_at (λ (x : Opening). x.naming) O.all i no_opening within;
         not_whole = λ is. let both : Plain ≡ Whole = sym plain ∙ is in cc;
         written = due;
-        next = next;
-        its = its;
-        named = own;
+        next = asked.next;
+        its = asked.its;
+        named = asked.own;
         text = own_text;
         doubt = ap is_doubted plain ∙ sym (ne_eqb (o.entry.done + 1) (length o.entry.writes) more);
         others = λ j e other is.
@@ -234,9 +255,9 @@ module _ {F : Type 0} (state : F → FlashState) (S S' : Stored F) (O : OpenTabl
           is_naming = slice_get_at (λ (x : Opening). x.naming) (slice_set O.all i doubted) i no_opening own_within ∙ ap (λ (x : Opening). Some x.naming) there;
           not_whole = λ is. let both : Doubt ≡ Whole = is in cc;
           written = due;
-          next = next;
-          its = its;
-          named = own;
+          next = asked.next;
+          its = asked.its;
+          named = asked.own;
           text = own_text;
           doubt = sym (eq-eqb (o.entry.done + 1) (length o.entry.writes) last);
           others = λ j e other is.

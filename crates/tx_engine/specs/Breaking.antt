@@ -17,7 +17,7 @@ use Rattle.collector.specs.declared.unsure.Unsure.{Unsure}
 use Rattle.collector.specs.declared.unsure.Unsure.TheVariants as unsure
 use Rattle.tx_engine.specs.Settling.{StaysUnread, settlement_of, with_settlement}
 use Rattle.tx_engine.specs.Standing.{Standing}
-use Rattle.tx_engine.specs.Writing.{FindsSlot, next_of}
+use Rattle.tx_engine.specs.Writing.{TakesSlot, next_of}
 
 -- The records had gone that had to, and room was being made: the blocks are those of that moment.
 pub record SeekingBreaks (old new : FlashState) (known_noted new_noted : Noted)
@@ -36,7 +36,7 @@ pub record RecordBreaks (known_noted new_noted : Noted) (known_table new_table :
   pub cleared_table : BlockTable
   pub turns : TreatsAll name.page name.version known_noted known_table cleared cleared_table
   pub at : Slot
-  pub slot : FindsSlot cleared cleared_table new_noted new_table at
+  pub slot : TakesSlot cleared cleared_table new_noted new_table at
   pub rec : Rec
   pub named : name_of rec ≡ name
   pub place : u ≡ unsure.Own at rec

@@ -1,5 +1,5 @@
 -- What a collection did to a flash and its tables, once the place was settled whose contents were not known.
-use Rattle.std.specs.Prelude.{◌≡◌, ◌≢◌, ◌⊎◌, ℕ, true, List, length, All, Any, AllPairs}
+use Rattle.std.specs.Prelude.{◌≡◌, ◌≢◌, ◌⊎◌, ℕ, Bool, true, false, List, All, Any, AllPairs}
 use Rattle.tx_types.specs.declared.config.Protocol.{Protocol}
 use Rattle.tx_types.specs.declared.record.Rec.{Rec}
 use Rattle.record_list.specs.Records.{name_of, newest}
@@ -7,34 +7,21 @@ use Rattle.record_list.specs.Current.{IsCurrent, is_held}
 use Rattle.version_index.specs.Images.{records_in}
 use Rattle.tx_engine.specs.ArrayState.{Entry}
 use Rattle.flash_model.specs.Flash.{FlashState, Contents, damaged}
-use Rattle.flash_model.specs.Moves.{Does}
-use Rattle.flash_model.specs.Operations.{moment_of}
 use Rattle.version_index.specs.Noted.{Noted}
 use Rattle.die_alloc.specs.BlockTable.{BlockTable}
-use Rattle.collector.specs.Collecting.{cleaning, collecting, collected, needed_slots, noted_cleaned, exchanged}
-use Rattle.collector.specs.Victim.{IsVictim, HasNoGarbage}
+pub use Rattle.collector.specs.Calls.{CollectsOne, CollectsNothing}
 use Rattle.array_machine.specs.declared.answers.Collected.{Collected}
 use Rattle.array_machine.specs.declared.answers.Collected.TheVariants.{One, Nothing}
-
--- The block with the most garbage was collected, once the spare was blank.
-pub record CollectsOne (old new : FlashState) (n n' : Noted) (t t' : BlockTable) : Type 0 where
-  pub victim : ℕ
-  pub is_victim : IsVictim (noted_cleaned n t.spare) t victim
-  pub does : Does old.shape (moment_of old) (collecting n old.image t.spare victim) (moment_of new)
-  pub noted : n' ≡ collected n t.spare victim
-  pub table : t' ≡ exchanged t victim (length (needed_slots (noted_cleaned n t.spare) victim))
-
--- The spare was made blank, and there is no garbage.
-pub record CollectsNothing (old new : FlashState) (n n' : Noted) (t t' : BlockTable) : Type 0 where
-  pub none : HasNoGarbage (noted_cleaned n t.spare) t
-  pub does : Does old.shape (moment_of old) (cleaning n old.image t.spare) (moment_of new)
-  pub noted : n' ≡ noted_cleaned n t.spare
-  pub table : t' ≡ t
 
 abbrev pub CollectsTables : FlashState → FlashState → Noted → Noted → BlockTable → BlockTable →
     Collected → Type 0
 CollectsTables old new n n' t t' One = CollectsOne old new n n' t t'
 CollectsTables old new n n' t t' Nothing = CollectsNothing old new n n' t t'
+
+-- what a collection answers
+abbrev pub answer_of : Bool → Collected
+answer_of true = One
+answer_of false = Nothing
 
 -- a record is the newest of a page that an open transaction writes
 abbrev pub IsNewestOfOpen : Protocol → List Contents → List Entry → Rec → Type 0

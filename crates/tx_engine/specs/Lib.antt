@@ -5,6 +5,7 @@ pub use Rattle.array_machine.specs.Collect
 pub use Rattle.array_machine.specs.UnbrokenCalls as Unbroken
 pub mod Always
 pub mod Breaking
+pub mod Calls
 pub mod Collections
 pub mod Costs
 pub mod Exits

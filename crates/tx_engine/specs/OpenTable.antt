@@ -1,11 +1,12 @@
 -- What is kept of the open transactions, in the order of their opening.
-use Rattle.std.specs.Prelude.{◌≡◌, ℕ, ◌+◌, ◌≤◌, List, [], length, map, slice_index_or, slice_set, All}
+use Rattle.std.specs.Prelude.{◌≡◌, ℕ, ◌+◌, ◌<◌, ◌≤◌, List, [], length, map, slice_index_or, slice_set, All}
 use Rattle.tx_types.specs.Batch.{PageWrite, bytes_in}
 use Rattle.tx_types.specs.declared.record.Link.{Link}
 use Rattle.version_index.specs.Noted.{Noted, mention_of}
 use Rattle.tx_engine.specs.ArrayState.{Entry, opening, pending_pages}
 use Rattle.array_machine.specs.declared.mark.Mark.{Mark}
-use Rattle.tx_engine.specs.Standing.{Naming}
+use Rattle.array_machine.specs.declared.mark.Mark.TheVariants.{Plain}
+use Rattle.tx_engine.specs.Standing.{Naming, name_at, write_at}
 
 -- an open transaction, with the names that it writes
 pub record Opening : Type 0 where
@@ -70,3 +71,22 @@ with_mark o its = record o { entry = record o.entry { mark = its } }
 
 abbrev pub with_noted_count : Opening → ℕ → Opening
 with_noted_count o count = record o { naming = record o.naming { noted_count = count } }
+
+-- a transaction is open at an index, and has a page at this place of its own
+pub record HasPlace (t : OpenTable) (at place : ℕ) : Type 0 where
+  pub exists : at < length t.all
+  pub within : place < length (opening_at t at).entry.writes
+
+-- A transaction is open at an index, and plain, and its next record is not noted.
+pub record IsDueAt (t : OpenTable) (at : ℕ) : Type 0 where
+  pub exists : at < length t.all
+  pub plain : (opening_at t at).entry.mark ≡ Plain
+  pub unnoted : (opening_at t at).naming.noted_count ≡ (opening_at t at).entry.done
+
+-- the name of the page that it writes next
+abbrev pub name_due : OpenTable → ℕ → Link
+name_due t at = name_at (opening_at t at).naming (opening_at t at).entry.done
+
+-- the bytes of that page
+abbrev pub bytes_due : OpenTable → ℕ → List ℕ
+bytes_due t at = bytes_in t.page_bytes (write_at (opening_at t at).entry (opening_at t at).entry.done)

@@ -43,7 +43,7 @@ pub record WritesNothing {F : Type 0} (state : F → FlashState) (old new : Stan
       ≡ reads_after (slots_read old.noted old.unsure) (state old.flash).reads
 
 -- A slot is found for a record: where a block has room it is the next one, and else the next one after a collection.
-pub record FindsSlot (n : Noted) (t : BlockTable) (n' : Noted) (t' : BlockTable)
+pub record TakesSlot (n : Noted) (t : BlockTable) (n' : Noted) (t' : BlockTable)
     (at : Slot) : Type 0 where
   pub direct : (IsFull t → ⊥) → (next_slot t ≡ Some at) × (n' ≡ n) × (t' ≡ after_next_slot t)
   pub collects : IsFull t → CollectsForRoom n t n' t' at
@@ -80,7 +80,7 @@ pub record WritesRecord {F : Type 0} (state : F → FlashState) (known new : Sta
   pub open_noted : Noted
   pub open_table : BlockTable
   pub at : Slot
-  pub slot : FindsSlot cleared cleared_table open_noted open_table at
+  pub slot : TakesSlot cleared cleared_table open_noted open_table at
   pub rec : Rec
   pub named : name_of rec ≡ asked.name
   pub linked : rec.next ≡ asked.link

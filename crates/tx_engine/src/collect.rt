@@ -1,15 +1,12 @@
 ghost use Rattle.std.specs.Prelude.{◌≡◌, OnOk, OnErr, IfOk, Ok};
 ghost use Rattle.std.specs.Result.{is_err};
 ghost use Rattle.collector.specs.declared.unsure.Unsure.TheVariants as unsure;
-ghost use Rattle.collector.specs.BreakingOff.{RoomBreaksOff};
 ghost use Rattle.tx_engine.specs.Breaking.{CollectBreaks};
 ghost use Rattle.tx_engine.specs.Collect.{CollectsAs};
-ghost use Rattle.tx_engine.specs.Collections.{CollectsTables, HasNothingToCollect};
+ghost use Rattle.tx_engine.specs.Collections.{CollectsTables, HasNothingToCollect, answer_of};
 ghost use Rattle.tx_engine.specs.Exits.{Exits, CollectRises, is_there};
-ghost use Rattle.tx_engine.specs.OpenTable.{entries_of};
-ghost use Rattle.tx_engine.specs.Settling.{IsLeft, CollectFails, settlement_of};
-ghost use Rattle.tx_engine.specs.Standing.{Stands};
-ghost use Rattle.tx_engine.specs.Tables.{standing_in};
+ghost use Rattle.tx_engine.specs.Settling.{CollectFails, settlement_of};
+ghost use Rattle.tx_engine.specs.Calls.{CollectsSettled, IsReady};
 
 use crate::Device;
 use crate::openings::Openings;
@@ -56,26 +53,23 @@ fn collect_settled<F: Flash, R: CommitRule>(
     store: &mut Store<F, R>,
     openings: &Openings,
 ) -> Result<Collected, Broken>
-    requires stands { Stands F.state (standing_in F.state store.old openings.now) }
-    requires rule { store.old.noted.config.protocol ≡ R.protocol }
-    requires sure { store.old.unsure ≡ unsure.Nothing }
-    ensures left { IsLeft F.state (standing_in F.state store.old openings.now)
-        (standing_in F.state store.new openings.now) (is_err result) }
-    ensures tables { IfOk result (CollectsTables (F.state store.old.flash) (F.state store.new.flash)
-        store.old.noted store.new.noted store.old.table store.new.table) }
-    ensures stays { OnErr result (store.new.table ≡ store.old.table) }
-    ensures broken { OnErr result (RoomBreaksOff store.old.noted store.old.table
-        (F.state store.old.flash) (F.state store.new.flash) store.new.noted store.new.unsure) }
-    ensures sure { OnOk result (store.new.unsure ≡ unsure.Nothing) }
-    ensures nothing { result ≡ Ok Collected.Nothing →
-        HasNothingToCollect store.new.noted.config.protocol store.new.noted.config.logical
-        (F.state store.new.flash).image (entries_of openings.now) }
+    requires ready { IsReady F.state R.protocol store.old openings.now }
+    ensures { CollectsSettled F.state store.old store.new openings.now result }
 {
     laws::arrays_stay::<R>();
     laws::images_stand::<R>();
     laws::tidy_images();
-    let collected = store.collect();
-    // What holds of the store.
-    let _kept = store.config();
-    collected
+    let any = store.collect()?;
+    Ok(answer_of(any))
+}
+
+/// What a collection answers.
+fn answer_of(any: bool) -> Collected
+    ensures { result ≡ answer_of any }
+{
+    if any {
+        Collected::One
+    } else {
+        Collected::Nothing
+    }
 }

@@ -12,6 +12,7 @@ pub mod laws;
 mod mount;
 mod openings;
 mod pending;
+mod programming;
 mod read;
 mod refusals;
 mod settling;

@@ -5,7 +5,7 @@ ghost use Rattle.tx_types.specs.Limits.{max_version};
 ghost use Rattle.record_list.specs.Transaction.{ShareNoPage};
 ghost use Rattle.version_index.specs.Noted.{mention_of};
 ghost use Rattle.tx_engine.specs.ArrayState.{pending_pages, has_tag, is_doubted};
-ghost use Rattle.tx_engine.specs.OpenTable.{IsOpenTable, opening_at, entries_of, namings_of, begun, with_opening, with_done, with_mark, with_noted_count};
+ghost use Rattle.tx_engine.specs.OpenTable.{HasPlace, IsOpenTable, opening_at, entries_of, namings_of, begun, with_opening, with_done, with_mark, with_noted_count};
 ghost use Rattle.tx_engine.specs.Standing.{name_at, write_at};
 ghost use Rattle.tx_engine.specs.Submit.{first_refusals};
 
@@ -180,8 +180,7 @@ impl Openings {
 
     /// The name that it writes at this place, from 0.
     pub fn name(&self, at: usize, place: u32) -> Link
-        requires at { at < length self.now.all }
-        requires place { place < length (opening_at self.now at).entry.writes }
+        requires { HasPlace self.now at place }
         ensures { result ≡ name_at (opening_at self.now at).naming place }
     {
         self.all[at].pages[place as usize].name
@@ -189,8 +188,7 @@ impl Openings {
 
     /// Whether it discards the page there.
     pub fn discards(&self, at: usize, place: u32) -> bool
-        requires at { at < length self.now.all }
-        requires place { place < length (opening_at self.now at).entry.writes }
+        requires { HasPlace self.now at place }
         ensures { result ≡ is_none (write_at (opening_at self.now at).entry place).value }
     {
         self.all[at].pages[place as usize].discard
@@ -198,11 +196,9 @@ impl Openings {
 
     /// The bytes that it writes there: zeros where it discards the page.
     pub fn bytes(&self, at: usize, place: u32) -> &[u8]
-        requires at { at < length self.now.all }
-        requires place { place < length (opening_at self.now at).entry.writes }
-        ensures bytes { result.now
+        requires { HasPlace self.now at place }
+        ensures { result.now
             ≡ bytes_in self.now.page_bytes (write_at (opening_at self.now at).entry place) }
-        ensures whole { length result.now ≡ self.now.page_bytes }
     {
         &self.all[at].pages[place as usize].bytes
     }

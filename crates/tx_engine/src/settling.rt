@@ -1,14 +1,9 @@
-ghost use Rattle.std.specs.Prelude.{◌≡◌, false, ◌<◌, ◌+◌, ℕ, All, OnOk, OnErr, length, map, position};
-ghost use Rattle.std.specs.Result.{is_err};
-ghost use Rattle.flash_model.specs.Operations.{moment_of};
-ghost use Rattle.collector.specs.Looking.{ReadsAtMost, reads_after};
-ghost use Rattle.collector.specs.Settling.{settlement, slots_read};
-ghost use Rattle.collector.specs.declared.unsure.Unsure.TheVariants as unsure;
-ghost use Rattle.tx_engine.specs.OpenTable.{HasLimitsOf, opening_at, with_opening};
-ghost use Rattle.tx_engine.specs.Settling.{with_next, is_writing, IsSettled};
-ghost use Rattle.tx_engine.specs.Exits.{Exits, is_there};
+ghost use Rattle.std.specs.Prelude.{◌≡◌, ◌<◌, ◌+◌, All, length, position};
+ghost use Rattle.tx_engine.specs.OpenTable.{opening_at, with_opening};
+ghost use Rattle.tx_engine.specs.Settling.{with_next, is_writing};
 ghost use Rattle.tx_engine.specs.Standing.{Stands};
 ghost use Rattle.tx_engine.specs.Tables.{standing_in};
+ghost use Rattle.tx_engine.specs.Calls.{SettlesDevice};
 
 use crate::Mark;
 use crate::openings::Openings;
@@ -25,28 +20,7 @@ pub(crate) fn settle<F: Flash, R: CommitRule>(
 ) -> Result<(), Broken>
     requires stands { Stands F.state (standing_in F.state store.old openings.old) }
     requires rule { store.old.noted.config.protocol ≡ R.protocol }
-    ensures stands { Stands F.state (standing_in F.state store.new openings.new) }
-    ensures settles { OnOk result (
-        let old = standing_in F.state store.old openings.old in
-        IsSettled (is_there F.state old) old (standing_in F.state store.new openings.new)) }
-    ensures tables { OnOk result (
-        let image = (F.state store.old.flash).image in
-        let found = settlement store.old.noted store.old.table image store.old.unsure in
-        (store.new.noted ≡ found.noted) × (store.new.table ≡ found.table)) }
-    ensures failed { OnErr result ((store.new ≡ record store.old { flash = store.new.flash })
-        × (openings.new ≡ openings.old)) }
-    ensures idle { store.old.unsure ≡ unsure.Nothing →
-        (is_err result ≡ false) × (store.new ≡ store.old) × (openings.new ≡ openings.old) }
-    ensures limits { HasLimitsOf openings.old openings.new }
-    ensures exits { Exits F.state (standing_in F.state store.old openings.old)
-        (standing_in F.state store.new openings.new) (is_err result) }
-    ensures moment { moment_of (F.state store.new.flash) ≡ moment_of (F.state store.old.flash) }
-    ensures reads { OnOk result ((F.state store.new.flash).reads ≡ reads_after
-        (slots_read store.old.noted store.old.unsure) (F.state store.old.flash).reads) }
-    ensures first_failed { OnErr result (ReadsAtMost (slots_read store.old.noted store.old.unsure)
-        (F.state store.old.flash).reads (F.state store.new.flash).reads) }
-    ensures names { map (λ o. o.naming.names) openings.new.all
-        ≡ map (λ o. o.naming.names) openings.old.all }
+    ensures { SettlesDevice F.state store.old store.new openings.old openings.new result }
 {
     laws::images_stand::<R>();
     laws::noted_writes::<R>();

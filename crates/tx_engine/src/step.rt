@@ -1,20 +1,16 @@
-ghost use Rattle.std.specs.Prelude.{◌≡◌, ◌<◌, ℕ, OnOk, OnErr, IfSome, Err, length, false};
-ghost use Rattle.std.specs.Result.{is_err};
+ghost use Rattle.std.specs.Prelude.{◌≡◌, ◌<◌, OnOk, IfSome, Err, length, false};
 ghost use Rattle.flash_model.specs.Operations.{moment_of};
-ghost use Rattle.version_index.specs.Noted.{current_of};
-ghost use Rattle.collector.specs.Preserves.{IsThere, Preserves};
-ghost use Rattle.tx_engine.specs.ArrayState.{entry_of};
+ghost use Rattle.collector.specs.Preserves.{IsThere};
 ghost use Rattle.tx_engine.specs.Step.{StepsAs};
 ghost use Rattle.tx_engine.specs.Exits.{Exits, StepRises, is_there, is_step_fault};
-ghost use Rattle.tx_engine.specs.Costs.{CostsStep, StepCosts};
-ghost use Rattle.tx_engine.specs.OpenTable.{HasLimitsOf, opening_at};
-ghost use Rattle.tx_engine.specs.Settling.{Advances, AdvanceRises, Counts, CountsOn, is_due};
-ghost use Rattle.tx_engine.specs.Settling.{AddsOnly, settlement_of};
-ghost use Rattle.tx_engine.specs.Standing.{Stands, name_at};
-ghost use Rattle.tx_engine.specs.Tables.{standing_in};
-ghost use Rattle.tx_engine.specs.Writing.{BringsPage, StepNotes, WritesRecord, due_record, next_of, open_of};
-ghost use Rattle.tx_engine.specs.Breaking.{StepBreaks, WritingBreaks};
+ghost use Rattle.tx_engine.specs.Costs.{CostsStep};
+ghost use Rattle.tx_engine.specs.OpenTable.{opening_at};
+ghost use Rattle.tx_engine.specs.Settling.{CountsOn, is_due};
+ghost use Rattle.tx_engine.specs.Settling.{settlement_of};
+ghost use Rattle.tx_engine.specs.Writing.{BringsPage, StepNotes, next_of, open_of};
+ghost use Rattle.tx_engine.specs.Breaking.{StepBreaks};
 ghost use Rattle.collector.specs.declared.unsure.Unsure.TheVariants as unsure;
+ghost use Rattle.tx_engine.specs.Calls.{AdvancesTo, CountsNext, IsReady};
 
 use crate::Device;
 use crate::closing::close;
@@ -73,38 +69,10 @@ fn advance<F: Flash, R: CommitRule>(
     openings: &mut Openings,
     at: usize,
 ) -> Result<Progress, Broken>
-    requires stands { Stands F.state (standing_in F.state store.old openings.old) }
-    requires rule { store.old.noted.config.protocol ≡ R.protocol }
-    requires sure { store.old.unsure ≡ unsure.Nothing }
+    requires ready { IsReady F.state R.protocol store.old openings.old }
     requires at { at < length openings.old.all }
     requires size { openings.old.page_bytes ≡ store.old.noted.config.page_bytes }
-    ensures stands { Stands F.state (standing_in F.state store.new openings.new) }
-    ensures advances { let entry = (opening_at openings.old at).entry in
-        Advances (standing_in F.state store.old openings.old).machine entry.tag entry result
-        (standing_in F.state store.new openings.new).machine }
-    ensures exits { Exits F.state (standing_in F.state store.old openings.old)
-        (standing_in F.state store.new openings.new) (is_err result) }
-    ensures rises { AdvanceRises (standing_in F.state store.old openings.old)
-        (standing_in F.state store.new openings.new) (opening_at openings.old at).entry result }
-    ensures sure { OnOk result (store.new.unsure ≡ unsure.Nothing) }
-    ensures limits { HasLimitsOf openings.old openings.new }
-    ensures costs { StepCosts F.state (standing_in F.state store.old openings.old)
-        (standing_in F.state store.new openings.new)
-        (name_at (opening_at openings.old at).naming (opening_at openings.old at).entry.done) }
-    ensures found { let its = opening_at openings.old at in
-        IsThere store.old.noted (name_at its.naming its.entry.done) → store.new
-        ≡ record store.old { noted = record store.old.noted { pins = store.new.noted.pins } } }
-    ensures writes { let its = opening_at openings.old at in OnOk result (
-        (IsThere store.old.noted (name_at its.naming its.entry.done) → ⊥) →
-        WritesRecord F.state (standing_in F.state store.old openings.old)
-        (standing_in F.state store.new openings.new)
-        (due_record store.old.noted.config.page_bytes its.entry its.naming)) }
-    ensures fresh { let its = opening_at openings.old at in OnOk result (
-        AddsOnly (name_at its.naming its.entry.done) store.old.noted store.new.noted) }
-    ensures kept { OnErr result (Preserves store.old.noted store.new.noted) }
-    ensures breaks { let its = opening_at openings.old at in OnErr result (
-        WritingBreaks F.state (standing_in F.state store.old openings.old)
-        (standing_in F.state store.new openings.new) (name_at its.naming its.entry.done)) }
+    ensures { AdvancesTo F.state store.old store.new openings.old openings.new at result }
 {
     if !is_due(openings, at) {
         return Ok(count_next(store, openings, at));
@@ -130,22 +98,10 @@ fn count_next<F: Flash, R: CommitRule>(
     openings: &mut Openings,
     at: usize,
 ) -> Progress
-    requires stands { Stands F.state (standing_in F.state store.old openings.old) }
-    requires sure { store.old.unsure ≡ unsure.Nothing }
+    requires ready { IsReady F.state R.protocol store.old openings.old }
     requires at { at < length openings.old.all }
-    requires ready { CountsOn (opening_at openings.old at) }
-    ensures stands { Stands F.state (standing_in F.state store.new openings.new) }
-    ensures counts { let entry = (opening_at openings.old at).entry in
-        Counts (standing_in F.state store.old openings.old).machine entry.tag entry result
-        (standing_in F.state store.new openings.new).machine }
-    ensures exits { Exits F.state (standing_in F.state store.old openings.old)
-        (standing_in F.state store.new openings.new) false }
-    ensures versions { (page : ℕ) →
-        current_of store.new.noted page ≡ current_of store.old.noted page }
-    ensures stays { store.new
-        ≡ record store.old { noted = record store.old.noted { pins = store.new.noted.pins } } }
-    ensures sure { store.new.unsure ≡ unsure.Nothing }
-    ensures limits { HasLimitsOf openings.old openings.new }
+    requires counts { CountsOn (opening_at openings.old at) }
+    ensures { CountsNext F.state store.old store.new openings.old openings.new at result }
 {
     match openings.mark(at) {
         Mark::Whole => {

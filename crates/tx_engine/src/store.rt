@@ -4,36 +4,29 @@ ghost use Rattle.std.specs.List.{range_with_len};
 ghost use Rattle.std.specs.Option.{option_map};
 ghost use Rattle.tx_types.specs.Config.{checked, shape_of, blocks_of};
 ghost use Rattle.tx_types.specs.declared.record.Link.{Link};
-ghost use Rattle.flash_model.specs.Calls.{Carries};
-ghost use Rattle.flash_model.specs.Moves.{FlashMoves};
-ghost use Rattle.flash_model.specs.Operations.{moment_of};
-ghost use Rattle.page_record.specs.Spelling.{CanBeSpelled};
 ghost use Rattle.record_list.specs.Records.{is_present};
 ghost use Rattle.version_index.specs.Notes.{found_in};
 ghost use Rattle.version_index.specs.Noted.{block_to_go, current_of, pinned, unpinned};
-ghost use Rattle.die_alloc.specs.BlockTable.{IsFull, IsFirstFree};
+ghost use Rattle.die_alloc.specs.BlockTable.{IsFull};
 ghost use Rattle.die_alloc.specs.NextSlot.{next_slot, after_next_slot};
 ghost use Rattle.collector.specs.declared.unsure.Unsure.{Unsure};
 ghost use Rattle.collector.specs.declared.unsure.Unsure.TheVariants as unsure;
 ghost use Rattle.collector.specs.declared.unsure.Settled.TheVariants as settled;
-ghost use Rattle.collector.specs.BreakingOff.{ClearingBreaks, RoomBreaksOff};
-ghost use Rattle.collector.specs.Collecting.{CollectsForRoom};
-ghost use Rattle.collector.specs.Looking.{ReadsAtMost, reads_after};
-ghost use Rattle.collector.specs.Matches.{CanTake, CanTakeOwn};
-ghost use Rattle.collector.specs.Settling.{settlement, slots_read};
-ghost use Rattle.collector.specs.Going.{IsNextName, CostsAtMost, TreatsAll, blocks_to_go};
+ghost use Rattle.collector.specs.Calls.{Clears, CollectsMost, FindsSlot};
+ghost use Rattle.collector.specs.Matches.{CanTake};
+ghost use Rattle.collector.specs.Settling.{Settles};
+ghost use Rattle.collector.specs.Going.{IsNextName};
 ghost use Rattle.collector.specs.Known.{page_known};
 ghost use Rattle.collector.specs.Victim.{garbage_in};
-ghost use Rattle.tx_engine.specs.Collections.{CollectsTables};
 ghost use Rattle.tx_engine.specs.Opens.{StoresOpened, FailsToMount, ReadsUnmounted};
 ghost use Rattle.tx_engine.specs.Read.{ReadsKnown, ShowsKnown, read_place};
-ghost use Rattle.tx_engine.specs.Stored.{IsStored, KeepsStored, WritesStored, WriteBreaks};
+ghost use Rattle.tx_engine.specs.Stored.{CanWrite, IsStored, WritesOwn, store_in};
 
-use crate::{Collected, MountError};
-use collector::{BlockRoom, Settled, Unsure, clean_spare, laws, victim};
+use crate::MountError;
+use crate::programming::write_record;
+use collector::{BlockRoom, Settled, Unsure, collect_most, laws};
 use die_alloc::Blocks;
 use flash_model::{Broken, Flash};
-use page_record::write_spare;
 use record_list::{CommitRule, Found};
 use scan_recovery::{RecoverError, recover};
 use std::alloc::Global;
@@ -219,19 +212,8 @@ impl<F: Flash, R: CommitRule> Store<F, R> {
     /// read all is as before.
     pub fn settle(&mut self) -> Result<Settled, Broken>
         requires own { CanTake self.old.noted self.old.table self.old.unsure }
-        ensures settled { IfOk result (λ answer.
-            let image = (F.state self.old.flash).image in
-            let found = settlement self.old.noted self.old.table image self.old.unsure in
-            (self.new.noted ≡ found.noted) × (self.new.table ≡ found.table)
-            × (answer ≡ found.answer) × (self.new.unsure ≡ unsure.Nothing)) }
+        ensures settles { Settles (store_in F.state self.old) (store_in F.state self.new) result }
         ensures failed { OnErr result (self.new ≡ record self.old { flash = self.new.flash }) }
-        ensures moment { moment_of (F.state self.new.flash) ≡ moment_of (F.state self.old.flash) }
-        ensures carries { Carries (F.state self.old.flash) (F.state self.new.flash)
-            (is_err result) }
-        ensures reads { OnOk result ((F.state self.new.flash).reads ≡ reads_after
-            (slots_read self.old.noted self.old.unsure) (F.state self.old.flash).reads) }
-        ensures first_failed { OnErr result (ReadsAtMost (slots_read self.old.noted self.old.unsure)
-            (F.state self.old.flash).reads (F.state self.new.flash).reads) }
         ensures idle { self.old.unsure ≡ unsure.Nothing →
             (result ≡ Ok Settled.Other) × (self.new ≡ self.old) }
     {
@@ -247,37 +229,19 @@ impl<F: Flash, R: CommitRule> Store<F, R> {
         )
     }
 
-    /// Makes the spare blank and collects the block with the most garbage, if there is any.
-    pub fn collect(&mut self) -> Result<Collected, Broken>
+    /// Makes the spare blank and collects the block with the most garbage: whether there is any.
+    pub fn collect(&mut self) -> Result<bool, Broken>
         requires { self.old.unsure ≡ unsure.Nothing }
-        ensures keeps { KeepsStored F.state self.old self.new (is_err result) }
-        ensures collects { IfOk result (CollectsTables
-            (F.state self.old.flash) (F.state self.new.flash)
-            self.old.noted self.new.noted self.old.table self.new.table) }
-        ensures stays { OnErr result (self.new.table ≡ self.old.table) }
-        ensures broken { OnErr result (RoomBreaksOff self.old.noted self.old.table
-            (F.state self.old.flash) (F.state self.new.flash) self.new.noted self.new.unsure) }
-        ensures sure { OnOk result (self.new.unsure ≡ unsure.Nothing) }
-        ensures others { (at : Slot) (rec : Rec) → self.new.unsure ≡ unsure.Own at rec → ⊥ }
+        ensures { CollectsMost R.protocol (store_in F.state self.old) (store_in F.state self.new)
+            result }
     {
-        clean_spare(
-            &mut self.flash,
-            &mut self.index,
-            &mut self.blocks,
-            &mut self.unsure,
-        )?;
-        let Some(block) = victim(&self.index, &self.blocks) else {
-            return Ok(Collected::Nothing);
-        };
-        collector::collect(
+        collect_most(
             &mut self.flash,
             &mut self.index,
             &mut self.blocks,
             &mut self.unsure,
             &mut self.room,
-            block,
-        )?;
-        Ok(Collected::One)
+        )
     }
 
     /// Treats each block that holds a record which must go before the version `below` of a page is
@@ -286,20 +250,10 @@ impl<F: Flash, R: CommitRule> Store<F, R> {
         requires nothing { self.old.unsure ≡ unsure.Nothing }
         requires next { (names : List Link)
             × IsNextName self.old.noted names (record { page = page; version = below }) }
-        ensures keeps { KeepsStored F.state self.old self.new (is_err result) }
-        ensures cleared { OnOk result (block_to_go self.new.noted page below ≡ None) }
-        ensures turns { OnOk result (TreatsAll page below
-            self.old.noted self.old.table self.new.noted self.new.table) }
-        ensures broken { OnErr result (ClearingBreaks page below
-            (F.state self.old.flash) (F.state self.new.flash)
-            self.old.noted self.old.table self.new.noted self.new.table self.new.unsure) }
-        ensures sure { OnOk result (self.new.unsure ≡ unsure.Nothing) }
-        ensures others { (at : Slot) (rec : Rec) → self.new.unsure ≡ unsure.Own at rec → ⊥ }
+        ensures clears { Clears R.protocol (store_in F.state self.old) (store_in F.state self.new)
+            page below result }
         ensures idle { block_to_go self.old.noted page below ≡ None →
             (result ≡ Ok tt) × (self.new ≡ self.old) }
-        ensures costs { let blocks = blocks_to_go self.old.noted page below in
-            CostsAtMost self.old.noted.config.pages_per_block blocks
-            (F.state self.old.flash) (F.state self.new.flash) }
     {
         collector::clear(
             &mut self.flash,
@@ -318,22 +272,11 @@ impl<F: Flash, R: CommitRule> Store<F, R> {
         requires nothing { self.old.unsure ≡ unsure.Nothing }
         requires next { (names : List Link) × (name : Link)
             × IsNextName self.old.noted names name }
-        ensures keeps { KeepsStored F.state self.old self.new (is_err result) }
-        ensures free { IfOk result (λ at. IsFirstFree self.new.table at.0) }
-        ensures sure { OnOk result (self.new.unsure ≡ unsure.Nothing) }
-        ensures others { (at : Slot) (rec : Rec) → self.new.unsure ≡ unsure.Own at rec → ⊥ }
+        ensures finds { FindsSlot R.protocol (store_in F.state self.old) (store_in F.state self.new)
+            result }
         ensures direct { (IsFull self.old.table → ⊥) →
             IfOk result (λ at. Some at ≡ next_slot self.old.table) × (is_err result ≡ false)
             × (self.new ≡ record self.old { table = after_next_slot self.old.table }) }
-        ensures collects { IsFull self.old.table → IfOk result (λ at. CollectsForRoom
-            self.old.noted self.old.table self.new.noted self.new.table at) }
-        ensures stays { OnErr result (self.new.table ≡ self.old.table) }
-        ensures broken { OnErr result (RoomBreaksOff self.old.noted self.old.table
-            (F.state self.old.flash) (F.state self.new.flash) self.new.noted self.new.unsure) }
-        ensures costs { CostsAtMost self.old.noted.config.pages_per_block 1
-            (F.state self.old.flash) (F.state self.new.flash) }
-        ensures still_clear { (page below : ℕ) → block_to_go self.old.noted page below ≡ None →
-            block_to_go self.new.noted page below ≡ None }
     {
         collector::free_slot(
             &mut self.flash,
@@ -348,28 +291,19 @@ impl<F: Flash, R: CommitRule> Store<F, R> {
     /// After a broken program it is not known what the slot holds.
     pub fn write(&mut self, at: Slot, rec: Rec, bytes: &[u8]) -> Result<(), Broken>
         requires nothing { self.old.unsure ≡ unsure.Nothing }
-        requires free { IsFirstFree self.old.table at.0 }
-        requires own { CanTakeOwn self.old.noted self.old.table rec }
-        requires spelled { CanBeSpelled self.old.noted.config.protocol rec }
-        requires page { length bytes.now ≡ self.old.noted.config.page_bytes }
-        ensures written { OnOk result (WritesStored F.state self.old self.new at.0 rec bytes.now) }
-        ensures broken { OnErr result (WriteBreaks F.state self.old self.new at rec bytes.now) }
-        ensures moves { FlashMoves (F.state self.old.flash) (F.state self.new.flash)
-            (is_err result) }
-        ensures carries { Carries (F.state self.old.flash) (F.state self.new.flash)
-            (is_err result) }
-        ensures costs { ((F.state self.new.flash).programs ≤ (F.state self.old.flash).programs + 1)
-            × ((F.state self.new.flash).erases ≡ (F.state self.old.flash).erases) }
+        requires can { CanWrite (store_in F.state self.old) at rec bytes.now }
+        ensures { WritesOwn (store_in F.state self.old) (store_in F.state self.new)
+            at rec bytes.now result }
     {
-        let mut spare_area = [0; 64];
-        write_spare(rec, self.index.config().protocol, &mut spare_area);
-        if let Err(broken) = self.flash.program(at, bytes, &spare_area) {
-            self.unsure = Unsure::Own { at, rec };
-            return Err(broken);
-        }
-        self.index.note_program(at, rec);
-        self.blocks.note_used(at);
-        Ok(())
+        write_record(
+            &mut self.flash,
+            &mut self.index,
+            &mut self.blocks,
+            &mut self.unsure,
+            at,
+            rec,
+            bytes,
+        )
     }
 
     /// Pins a page, which no open transaction has, at a version that is absent.

@@ -1,28 +1,12 @@
-ghost use Rattle.std.specs.Prelude.{◌≡◌, ◌<◌, ◌≤◌, ◌+◌, List, None, OnOk, OnErr, IfOk, is_none, length, false, if◌then◌else◌};
-ghost use Rattle.std.specs.Result.{is_err};
-ghost use Rattle.tx_types.specs.Batch.{bytes_in};
-ghost use Rattle.tx_types.specs.declared.record.Link.{Link};
-ghost use Rattle.flash_model.specs.Calls.{Carries};
-ghost use Rattle.flash_model.specs.Moves.{FlashMoves};
-ghost use Rattle.page_record.specs.Spelling.{CanBeSpelled};
-ghost use Rattle.record_list.specs.Records.{name_of};
+ghost use Rattle.std.specs.Prelude.{◌≡◌, ◌<◌, None, if◌then◌else◌};
 ghost use Rattle.record_list.specs.Transaction.{back_version};
 ghost use Rattle.version_index.specs.Notes.{found_in};
 ghost use Rattle.version_index.specs.Noted.{block_to_go};
-ghost use Rattle.die_alloc.specs.BlockTable.{IsFull, IsFirstFree};
-ghost use Rattle.collector.specs.Going.{IsNextName, CostsAtMost, TreatsAll, blocks_to_go};
-ghost use Rattle.collector.specs.BreakingOff.{ClearingBreaks, RoomBreaksOff};
-ghost use Rattle.collector.specs.Matches.{CanTakeOwn};
-ghost use Rattle.collector.specs.declared.unsure.Unsure.TheVariants as unsure;
-ghost use Rattle.tx_engine.specs.Costs.{StepCosts};
-ghost use Rattle.tx_engine.specs.Exits.{Exits};
-ghost use Rattle.tx_engine.specs.OpenTable.{opening_at, with_opening, with_mark};
-ghost use Rattle.tx_engine.specs.Settling.{AddsOnly, IsLeft, WritesNext, WriteFails, is_at_last, link_place, with_next};
-ghost use Rattle.tx_engine.specs.Standing.{Stands, name_at, write_at};
-ghost use Rattle.tx_engine.specs.Stored.{IsStored, WritesStored, WriteBreaks};
-ghost use Rattle.tx_engine.specs.Tables.{standing_in};
-ghost use Rattle.tx_engine.specs.Writing.{FindsSlot, WritesRecord, due_record};
-ghost use Rattle.tx_engine.specs.Breaking.{WritingBreaks};
+ghost use Rattle.tx_engine.specs.OpenTable.{HasPlace, IsDueAt, bytes_due, name_due, opening_at, with_opening, with_mark};
+ghost use Rattle.tx_engine.specs.Settling.{is_at_last};
+ghost use Rattle.tx_engine.specs.Stored.{CanWrite, WritesOwn, store_in};
+ghost use Rattle.tx_engine.specs.Calls.{ClearsFor, FindsFor, IsReady, IsRecordDue, WritesPage};
+ghost use Rattle.collector.specs.Store.{IsSure};
 
 use crate::Mark;
 use crate::openings::Openings;
@@ -42,42 +26,15 @@ pub(crate) fn write_next<F: Flash, R: CommitRule>(
     openings: &mut Openings,
     at: usize,
 ) -> Result<(), Broken>
-    requires stands { Stands F.state (standing_in F.state store.old openings.old) }
-    requires rule { store.old.noted.config.protocol ≡ R.protocol }
-    requires sure { store.old.unsure ≡ unsure.Nothing }
-    requires at { at < length openings.old.all }
-    requires plain { (opening_at openings.old at).entry.mark ≡ Mark.Plain }
-    requires due { (opening_at openings.old at).naming.noted_count
-        ≡ (opening_at openings.old at).entry.done }
+    requires ready { IsReady F.state R.protocol store.old openings.old }
+    requires due { IsDueAt openings.old at }
     requires size { openings.old.page_bytes ≡ store.old.noted.config.page_bytes }
-    ensures stands { Stands F.state (standing_in F.state store.new openings.new) }
-    ensures written { OnOk result (WritesNext (standing_in F.state store.old openings.old)
-        (standing_in F.state store.new openings.new) (opening_at openings.old at).entry) }
-    ensures next { OnOk result (openings.new
-        ≡ with_opening openings.old at (with_next (opening_at openings.old at))) }
-    ensures sure { OnOk result (store.new.unsure ≡ unsure.Nothing) }
-    ensures failed { OnErr result (WriteFails (standing_in F.state store.old openings.old)
-        (standing_in F.state store.new openings.new) openings.old openings.new at) }
-    ensures exits { Exits F.state (standing_in F.state store.old openings.old)
-        (standing_in F.state store.new openings.new) (is_err result) }
-    ensures costs { StepCosts F.state (standing_in F.state store.old openings.old)
-        (standing_in F.state store.new openings.new)
-        (name_at (opening_at openings.old at).naming (opening_at openings.old at).entry.done) }
-    ensures writes { let its = opening_at openings.old at in OnOk result (
-        WritesRecord F.state (standing_in F.state store.old openings.old)
-        (standing_in F.state store.new openings.new)
-        (due_record store.old.noted.config.page_bytes its.entry its.naming)) }
-    ensures fresh { let its = opening_at openings.old at in OnOk result (
-        AddsOnly (name_at its.naming its.entry.done) store.old.noted store.new.noted) }
-    ensures breaks { let its = opening_at openings.old at in OnErr result (
-        WritingBreaks F.state (standing_in F.state store.old openings.old)
-        (standing_in F.state store.new openings.new) (name_at its.naming its.entry.done)) }
+    ensures { WritesPage F.state store.old store.new openings.old openings.new at result }
 {
     laws::images_stand::<R>();
     laws::noted_writes::<R>();
-    let name = openings.name(at, openings.done(at));
-    clear(store, openings, name)?;
-    let slot = find_slot(store, openings, name)?;
+    clear(store, openings, at)?;
+    let slot = find_slot(store, openings, at)?;
     let rec = next_record(store, openings, at);
     if let Err(broken) = program(store, openings, at, slot, rec) {
         doubt_last(openings, at);
@@ -87,87 +44,45 @@ pub(crate) fn write_next<F: Flash, R: CommitRule>(
     Ok(())
 }
 
-/// Treats each block that holds a record which must go before this name is programmed.
+/// Treats each block that holds a record which must go before the next page of the transaction at an
+/// index is written.
 fn clear<F: Flash, R: CommitRule>(
     store: &mut Store<F, R>,
     openings: &Openings,
-    name: Link,
+    at: usize,
 ) -> Result<(), Broken>
-    requires stands { Stands F.state (standing_in F.state store.old openings.now) }
-    requires rule { store.old.noted.config.protocol ≡ R.protocol }
-    requires sure { store.old.unsure ≡ unsure.Nothing }
-    requires next { (names : List Link) × IsNextName store.old.noted names name }
-    ensures left { IsLeft F.state (standing_in F.state store.old openings.now)
-        (standing_in F.state store.new openings.now) (is_err result) }
-    ensures sure { OnOk result (store.new.unsure ≡ unsure.Nothing) }
-    ensures cleared { OnOk result (block_to_go store.new.noted name.page name.version ≡ None) }
-    ensures turns { OnOk result (TreatsAll name.page name.version
-        store.old.noted store.old.table store.new.noted store.new.table) }
-    ensures broken { OnErr result (ClearingBreaks name.page name.version
-        (F.state store.old.flash) (F.state store.new.flash)
-        store.old.noted store.old.table store.new.noted store.new.table store.new.unsure) }
-    ensures idle { block_to_go store.old.noted name.page name.version ≡ None →
-        (is_err result ≡ false) × (store.new ≡ store.old) }
-    ensures costs { CostsAtMost store.old.noted.config.pages_per_block
-        (blocks_to_go store.old.noted name.page name.version)
-        (F.state store.old.flash) (F.state store.new.flash) }
+    requires ready { IsReady F.state R.protocol store.old openings.now }
+    requires due { IsDueAt openings.now at }
+    ensures { ClearsFor F.state R.protocol store.old store.new openings.now
+        (name_due openings.now at) result }
 {
     laws::arrays_stay::<R>();
-    let cleared = store.clear(name.page, name.version);
-    // What holds of the store.
-    let _kept = store.config();
-    cleared
+    let name = openings.name(at, openings.done(at));
+    store.clear(name.page, name.version)
 }
 
-/// The slot in which this name is programmed. Where no block has room one is collected first.
+/// The slot in which its record is programmed. Where no block has room one is collected first.
 fn find_slot<F: Flash, R: CommitRule>(
     store: &mut Store<F, R>,
     openings: &Openings,
-    name: Link,
+    at: usize,
 ) -> Result<Slot, Broken>
-    requires stands { Stands F.state (standing_in F.state store.old openings.now) }
-    requires rule { store.old.noted.config.protocol ≡ R.protocol }
-    requires sure { store.old.unsure ≡ unsure.Nothing }
-    requires next { (names : List Link) × IsNextName store.old.noted names name }
-    requires clear { block_to_go store.old.noted name.page name.version ≡ None }
-    ensures left { IsLeft F.state (standing_in F.state store.old openings.now)
-        (standing_in F.state store.new openings.now) (is_err result) }
-    ensures sure { OnOk result (store.new.unsure ≡ unsure.Nothing) }
-    ensures free { IfOk result (λ slot. IsFirstFree store.new.table slot.0) }
-    ensures clear { block_to_go store.new.noted name.page name.version ≡ None }
-    ensures direct { (IsFull store.old.table → ⊥) →
-        (is_err result ≡ false) × (store.new.flash ≡ store.old.flash) }
-    ensures slot { IfOk result (
-        FindsSlot store.old.noted store.old.table store.new.noted store.new.table) }
-    ensures stays { OnErr result (store.new.table ≡ store.old.table) }
-    ensures broken { OnErr result (RoomBreaksOff store.old.noted store.old.table
-        (F.state store.old.flash) (F.state store.new.flash) store.new.noted store.new.unsure) }
-    ensures costs { CostsAtMost store.old.noted.config.pages_per_block 1
-        (F.state store.old.flash) (F.state store.new.flash) }
+    requires ready { IsReady F.state R.protocol store.old openings.now }
+    requires due { IsDueAt openings.now at }
+    requires clear { let name = name_due openings.now at in
+        block_to_go store.old.noted name.page name.version ≡ None }
+    ensures { FindsFor F.state R.protocol store.old store.new openings.now
+        (name_due openings.now at) result }
 {
     laws::arrays_stay::<R>();
-    let slot = store.free_slot();
-    // What holds of the store.
-    let _kept = store.config();
-    slot
+    store.free_slot()
 }
 
 /// The record that the transaction at an index writes next.
 fn next_record<F: Flash, R: CommitRule>(store: &Store<F, R>, openings: &Openings, at: usize) -> Rec
-    requires at { at < length openings.now.all }
-    requires within { (opening_at openings.now at).entry.done
-        < length (opening_at openings.now at).entry.writes }
-    requires page { let its = opening_at openings.now at in
-        (name_at its.naming its.entry.done).page < store.now.noted.config.logical }
-    ensures named { let its = opening_at openings.now at in
-        name_of result ≡ name_at its.naming its.entry.done }
-    ensures next { let its = opening_at openings.now at in
-        result.next ≡ name_at its.naming (link_place its.entry) }
-    ensures back { result.back ≡ back_version store.now.noted.config.protocol
-        (found_in store.now.noted.notes) store.now.noted.config.logical result.page }
-    ensures counts { result.count ≡ length (opening_at openings.now at).entry.writes }
-    ensures discard { let its = opening_at openings.now at in
-        result.discard ≡ is_none (write_at its.entry its.entry.done).value }
+    requires next { HasPlace openings.now at (opening_at openings.now at).entry.done }
+    requires page { (name_due openings.now at).page < store.now.noted.config.logical }
+    ensures { IsRecordDue store.now.noted openings.now at result }
 {
     let pages = openings.pages(at);
     let done = openings.done(at);
@@ -203,41 +118,18 @@ fn program<F: Flash, R: CommitRule>(
     slot: Slot,
     rec: Rec,
 ) -> Result<(), Broken>
-    requires at { at < length openings.now.all }
-    requires within { (opening_at openings.now at).entry.done
-        < length (opening_at openings.now at).entry.writes }
-    requires size { openings.now.page_bytes ≡ store.old.noted.config.page_bytes }
-    requires sure { store.old.unsure ≡ unsure.Nothing }
-    requires free { IsFirstFree store.old.table slot.0 }
-    requires own { CanTakeOwn store.old.noted store.old.table rec }
-    requires spelled { CanBeSpelled store.old.noted.config.protocol rec }
-    ensures stored { IsStored F.state R.protocol store.new }
-    ensures written { OnOk result (
-        let entry = (opening_at openings.now at).entry in
-        let size = store.old.noted.config.page_bytes in
-        WritesStored F.state store.old store.new slot.0 rec
-        (bytes_in size (write_at entry entry.done))) }
-    ensures broken { OnErr result (
-        let entry = (opening_at openings.now at).entry in
-        let size = store.old.noted.config.page_bytes in
-        WriteBreaks F.state store.old store.new slot rec
-        (bytes_in size (write_at entry entry.done))) }
-    ensures moves { FlashMoves (F.state store.old.flash) (F.state store.new.flash) (is_err result) }
-    ensures carries { Carries (F.state store.old.flash) (F.state store.new.flash) (is_err result) }
-    ensures costs { ((F.state store.new.flash).programs ≤ (F.state store.old.flash).programs + 1)
-        × ((F.state store.new.flash).erases ≡ (F.state store.old.flash).erases) }
+    requires next { HasPlace openings.now at (opening_at openings.now at).entry.done }
+    requires sure { IsSure R.protocol (store_in F.state store.old) }
+    requires can { CanWrite (store_in F.state store.old) slot rec (bytes_due openings.now at) }
+    ensures { WritesOwn (store_in F.state store.old) (store_in F.state store.new) slot rec
+        (bytes_due openings.now at) result }
 {
-    let programmed = store.write(slot, rec, openings.bytes(at, openings.done(at)));
-    // What holds of the store.
-    let _kept = store.config();
-    programmed
+    store.write(slot, rec, openings.bytes(at, openings.done(at)))
 }
 
 /// The transaction at an index is in doubt where it was writing its last page.
 fn doubt_last(openings: &mut Openings, at: usize)
-    requires at { at < length openings.old.all }
-    requires within { (opening_at openings.old at).entry.done
-        < length (opening_at openings.old at).entry.writes }
+    requires { HasPlace openings.old at (opening_at openings.old at).entry.done }
     ensures { openings.new ≡ (if is_at_last (opening_at openings.old at).entry
         then with_opening openings.old at (with_mark (opening_at openings.old at) Mark.Doubt)
         else openings.old) }

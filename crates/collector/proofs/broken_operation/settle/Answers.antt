@@ -1,27 +1,16 @@
-use Rattle.std.proofs.Common.{refl}
-use Rattle.collector.proofs.Looked.{failed_matches}
+use Rattle.collector.specs.Store.{store_of}
+use Rattle.collector.proofs.SettleCalls.{settles_failed, settles_done}
+use Rattle.collector.proofs.SettledImages.{settled_stands}
 use Rattle.collector.proofs.broken_operation.settle.Goals as goal
 
-pub returns-in_err-answer-in-Own-clause-matches : goal.returns-in_err-answer-in-Own-clause-matches
-returns-in_err-answer-in-Own-clause-matches g c =
-    let e = c.in_err-answer-in-Own.ensures in
-    failed_matches (g.F.Flash.state c.args.flash.now) (g.F.Flash.state c.settle_own.new.flash) 1
-    c.args.index.now c.settle_own.new.index c.args.blocks.now c.settle_own.new.blocks c.args.unsure.now e.looks e.failed.0 e.failed.1 c.requires.matches
+pub returns-in_err-found : goal.returns-in_err-found
+returns-in_err-found g c =
+    settles_failed g.R.CommitRule.protocol (store_of (g.F.Flash.state c.args.flash.now) c.args.index.now c.args.blocks.now c.args.unsure.now) _ c.requires _ _ _
+    _ c.from_residual.result c.from_residual.ensures.0 c.in_err-found.ensures
 
-pub returns-in_err-settle_copy-in-Copy-clause-matches : goal.returns-in_err-settle_copy-in-Copy-clause-matches
-returns-in_err-settle_copy-in-Copy-clause-matches g c =
-    let e = c.in_err-settle_copy-in-Copy.ensures in
-    failed_matches (g.F.Flash.state c.args.flash.now) (g.F.Flash.state c.settle_copy.new.flash) 1
-    c.args.index.now c.settle_copy.new.index c.args.blocks.now c.args.blocks.now c.args.unsure.now e.looks e.failed refl c.requires.matches
-
-pub returns-in_err-settle_spare-in-SpareErase-clause-matches : goal.returns-in_err-settle_spare-in-SpareErase-clause-matches
-returns-in_err-settle_spare-in-SpareErase-clause-matches g c =
-    let e = c.in_err-settle_spare-in-SpareErase.ensures in
-    failed_matches (g.F.Flash.state c.args.flash.now) (g.F.Flash.state c.settle_spare.new.flash) c.args.index.now.config.pages_per_block
-    c.args.index.now c.settle_spare.new.index c.args.blocks.now c.args.blocks.now c.args.unsure.now e.looks e.failed refl c.requires.matches
-
-pub returns-in_err-settle_victim-in-VictimErase-clause-matches : goal.returns-in_err-settle_victim-in-VictimErase-clause-matches
-returns-in_err-settle_victim-in-VictimErase-clause-matches g c =
-    let e = c.in_err-settle_victim-in-VictimErase.ensures in
-    failed_matches (g.F.Flash.state c.args.flash.now) (g.F.Flash.state c.settle_victim.new.flash) c.args.index.now.config.pages_per_block
-    c.args.index.now c.settle_victim.new.index c.args.blocks.now c.settle_victim.new.blocks c.args.unsure.now e.looks e.failed.0 e.failed.1 c.requires.matches
+pub returns : goal.returns
+returns g c =
+    let laws = g.met.R.CommitRule in
+    settles_done g.R.CommitRule.protocol (store_of (g.F.Flash.state c.args.flash.now) c.args.index.now c.args.blocks.now c.args.unsure.now) _ c.requires _ _ _ _
+    (settled_stands g.R.CommitRule.protocol laws.partial_write laws.completing_write laws.copy laws.block_loss _ _ _ _ c.requires.kept.matches c.requires.own c.requires.kept.rule)
+    c.in_ok-found.ensures

@@ -1,28 +1,34 @@
-use Rattle.std.proofs.Common.{◌∙◌, refl, sym, ap}
+use Rattle.std.proofs.Common.{Ok, Err, ◌∙◌, sym, ap, subst}
+use Rattle.flash_model.specs.Calls.{Erases}
+use Rattle.version_index.specs.Noted.{erased}
+use Rattle.collector.specs.Calls.{Cleans}
 use Rattle.collector.specs.Collecting.{is_noted_blank}
-use Rattle.collector.proofs.Cleanings.{cleaned_already, blank_is_erased, erase_moves, erase_does, erase_breaks}
+use Rattle.collector.specs.Store.{store_of}
+use Rattle.collector.proofs.Cleanings.{cleans_blank, cleans_erased, cleans_torn}
 use Rattle.collector.proofs.cleaning.clean_spare.Goals as goal
 
-pub returns-then-is_noted_blank-clause-done : goal.returns-then-is_noted_blank-clause-done
-returns-then-is_noted_blank-clause-done g c =
-    cleaned_already _ _ _ _ c.requires.nothing c.requires.matches
-    (ap (is_noted_blank c.args.index.now) (sym c.spare.ensures.spare) ∙ sym c.is_noted_blank.ensures ∙ c.if-is_noted_blank.true)
+pub returns-then-is_noted_blank : goal.returns-then-is_noted_blank
+returns-then-is_noted_blank g c =
+    let laws = g.met.R.CommitRule in
+    cleans_blank g.R.CommitRule.protocol laws.block_loss laws.written_block_loss (store_of (g.F.Flash.state c.args.flash.now) c.args.index.now c.args.blocks.now c.args.unsure.now) c.requires
+    (ap (is_noted_blank c.args.index.now) (sym c.spare-spare.ensures.spare) ∙ sym c.is_noted_blank.ensures ∙ c.if-is_noted_blank.true)
 
-pub returns-then-is_noted_blank-clause-noted : goal.returns-then-is_noted_blank-clause-noted
-returns-then-is_noted_blank-clause-noted g c =
-    blank_is_erased _ _ _ _ c.requires.nothing c.requires.matches
-    (ap (is_noted_blank c.args.index.now) (sym c.spare.ensures.spare) ∙ sym c.is_noted_blank.ensures ∙ c.if-is_noted_blank.true)
+pub returns-in-Err : goal.returns-in-Err
+returns-in-Err g c =
+    let laws = g.met.R.CommitRule in
+    cleans_torn g.R.CommitRule.protocol laws.block_loss laws.written_block_loss (store_of (g.F.Flash.state c.args.flash.now) c.args.index.now c.args.blocks.now c.args.unsure.now) c.requires
+    (ap (is_noted_blank c.args.index.now) (sym c.spare-spare.ensures.spare) ∙ sym c.is_noted_blank.ensures ∙ c.if-is_noted_blank.false) (g.F.Flash.state c.erase.new.self) c.in-Err.broken
+    (subst (λ b. Erases (g.F.Flash.state c.args.flash.now) (g.F.Flash.state c.erase.new.self) b (Err c.in-Err.broken)) c.spare-spare.ensures.spare
+    (subst (Erases (g.F.Flash.state c.args.flash.now) (g.F.Flash.state c.erase.new.self) _) c.in-Err.is c.erase.ensures))
 
-pub returns-clause-done : goal.returns-clause-done
-returns-clause-done g c =
-    erase_does _ _ _ _ c.requires.nothing c.requires.matches _ _ refl c.erase_spare.result c.erase_spare.ensures.erases
-    (ap (is_noted_blank c.args.index.now) (sym c.spare.ensures.spare) ∙ sym c.is_noted_blank.ensures ∙ c.if-is_noted_blank.false)
-
-pub returns-clause-moves : goal.returns-clause-moves
-returns-clause-moves g c =
-    erase_moves _ _ _ _ c.requires.nothing c.requires.matches _ _ refl c.erase_spare.result c.erase_spare.ensures.erases
-
-pub returns-clause-broken : goal.returns-clause-broken
-returns-clause-broken g c =
-    erase_breaks _ _ _ _ c.requires.nothing c.requires.matches _ _ refl c.erase_spare.result c.erase_spare.ensures.erases
-    (ap (is_noted_blank c.args.index.now) (sym c.spare.ensures.spare) ∙ sym c.is_noted_blank.ensures ∙ c.if-is_noted_blank.false)
+pub returns : goal.returns
+returns g c =
+    let laws = g.met.R.CommitRule in
+    let a = store_of (g.F.Flash.state c.args.flash.now) c.args.index.now c.args.blocks.now c.args.unsure.now in
+    let s' = g.F.Flash.state c.erase.new.self in
+    subst (λ n. Cleans g.R.CommitRule.protocol a (store_of s' n c.args.blocks.now c.args.unsure.now) _)
+    (sym (c.note_erased.ensures ∙ ap (erased c.args.index.now) c.spare-spare.ensures.spare))
+    (cleans_erased g.R.CommitRule.protocol laws.block_loss laws.written_block_loss a c.requires
+    (ap (is_noted_blank c.args.index.now) (sym c.spare-spare.ensures.spare) ∙ sym c.is_noted_blank.ensures ∙ c.if-is_noted_blank.false) s' c.in_default.field-0
+    (subst (λ b. Erases (g.F.Flash.state c.args.flash.now) s' b (Ok c.in_default.field-0)) c.spare-spare.ensures.spare
+    (subst (Erases (g.F.Flash.state c.args.flash.now) s' _) c.in_default.is c.erase.ensures)))

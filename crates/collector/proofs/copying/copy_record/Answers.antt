@@ -1,55 +1,42 @@
-use Rattle.collector.proofs.CopyCalls.{can_program, copy_moves_done, copy_matches, copy_preserved, copy_array, copy_is_done, copy_matches_torn, copy_array_torn, copy_moves_torn}
+use Rattle.std.proofs.Common.{sym, subst}
+use Rattle.flash_model.specs.Calls.{Reads, Programs}
+use Rattle.version_index.specs.Noted.{Noted}
+use Rattle.collector.specs.Calls.{CopiesRecord}
+use Rattle.collector.specs.Store.{store_of}
+use Rattle.collector.proofs.CopyCalls.{can_program, copy_is_done, copy_breaks, copy_unread}
+use Rattle.collector.proofs.KeepsLemmas.{by_err}
 use Rattle.collector.proofs.copying.copy_record.Goals as goal
+
+pub returns-in_err-read : goal.returns-in_err-read
+returns-in_err-read g c =
+    let a = store_of (g.F.Flash.state c.args.flash.now) c.args.index.now c.args.blocks.now c.args.unsure.now in
+    let s1 = g.F.Flash.state c.read.new.self in
+    by_err c.from_residual.result (CopiesRecord g.R.CommitRule.protocol a (store_of s1 c.args.index.now c.args.blocks.now c.args.unsure.now) c.args.from c.args.to) c.from_residual.ensures.0 (λ y.
+    copy_unread g.R.CommitRule.protocol a c.requires.sure c.args.from c.args.to s1 _ _ c.in_err-read.field-0.0 y (subst (Reads a.flash s1 c.args.from.0 _ _) c.in_err-read.was c.read.ensures))
 
 pub program-requires-clause-blank : goal.program-requires-clause-blank
 program-requires-clause-blank g c =
-    can_program g.R.CommitRule.protocol g.met.R.CommitRule.copy g.met.R.CommitRule.written_copy (g.F.Flash.state c.args.flash.now) (g.F.Flash.state c.read.new.self) _ _ _
-    c.requires.rule c.requires.nothing c.requires.matches c.args.from c.args.to c.requires.source c.requires.exists c.requires.next _ _ c.in_ok-read.field-0 c.read.result c.read.ensures c.in_ok-read.was
+    let laws = g.met.R.CommitRule in
+    let a = store_of (g.F.Flash.state c.args.flash.now) c.args.index.now c.args.blocks.now c.args.unsure.now in
+    let s1 = g.F.Flash.state c.read.new.self in
+    can_program g.R.CommitRule.protocol laws.copy laws.written_copy a c.requires.sure c.args.from c.args.to c.requires.can s1 _ _ c.in_ok-read.field-0
+    (subst (Reads a.flash s1 c.args.from.0 _ _) c.in_ok-read.was c.read.ensures)
 
-pub returns-in-Err-clause-matches : goal.returns-in-Err-clause-matches
-returns-in-Err-clause-matches g c =
-    copy_matches_torn g.R.CommitRule.protocol g.met.R.CommitRule.copy g.met.R.CommitRule.written_copy (g.F.Flash.state c.args.flash.now) (g.F.Flash.state c.read.new.self) _ _ _
-    c.requires.rule c.requires.nothing c.requires.matches c.args.from c.args.to c.requires.source c.requires.exists c.requires.next _ _ c.in_ok-read.field-0 c.read.result c.read.ensures c.in_ok-read.was
-    (g.F.Flash.state c.program.new.self) c.program.result c.program.ensures c.in-Err.broken c.in-Err.is
+pub returns-in-Err : goal.returns-in-Err
+returns-in-Err g c =
+    let laws = g.met.R.CommitRule in
+    let a = store_of (g.F.Flash.state c.args.flash.now) c.args.index.now c.args.blocks.now c.args.unsure.now in
+    let s1 = g.F.Flash.state c.read.new.self in
+    let s2 = g.F.Flash.state c.program.new.self in
+    copy_breaks g.R.CommitRule.protocol laws.copy laws.written_copy a c.requires.sure c.args.from c.args.to c.requires.can s1 _ _ c.in_ok-read.field-0
+    (subst (Reads a.flash s1 c.args.from.0 _ _) c.in_ok-read.was c.read.ensures) s2 c.in-Err.broken (subst (Programs s1 s2 c.args.to.0 _ _) c.in-Err.is c.program.ensures)
 
-pub returns-in-Err-clause-array : goal.returns-in-Err-clause-array
-returns-in-Err-clause-array g c =
-    copy_array_torn g.R.CommitRule.protocol g.met.R.CommitRule.copy g.met.R.CommitRule.written_copy (g.F.Flash.state c.args.flash.now) (g.F.Flash.state c.read.new.self) _ _ _
-    c.requires.rule c.requires.nothing c.requires.matches c.args.from c.args.to c.requires.source c.requires.exists c.requires.next _ _ c.in_ok-read.field-0 c.read.result c.read.ensures c.in_ok-read.was
-    (g.F.Flash.state c.program.new.self) c.program.result c.program.ensures c.in-Err.broken c.in-Err.is
-
-pub returns-in-Err-clause-moves : goal.returns-in-Err-clause-moves
-returns-in-Err-clause-moves g c =
-    copy_moves_torn g.R.CommitRule.protocol g.met.R.CommitRule.copy g.met.R.CommitRule.written_copy (g.F.Flash.state c.args.flash.now) (g.F.Flash.state c.read.new.self) _ _ _
-    c.requires.rule c.requires.nothing c.requires.matches c.args.from c.args.to c.requires.source c.requires.exists c.requires.next _ _ c.in_ok-read.field-0 c.read.result c.read.ensures c.in_ok-read.was
-    (g.F.Flash.state c.program.new.self) c.program.result c.program.ensures c.in-Err.broken c.in-Err.is
-
-pub returns-clause-matches : goal.returns-clause-matches
-returns-clause-matches g c =
-    copy_matches g.R.CommitRule.protocol g.met.R.CommitRule.copy g.met.R.CommitRule.written_copy (g.F.Flash.state c.args.flash.now) (g.F.Flash.state c.read.new.self) _ _ _
-    c.requires.rule c.requires.nothing c.requires.matches c.args.from c.args.to c.requires.source c.requires.exists c.requires.next _ _ c.in_ok-read.field-0 c.read.result c.read.ensures c.in_ok-read.was
-    (g.F.Flash.state c.program.new.self) c.program.result c.program.ensures c.in_default.field-0 c.in_default.is c.note_copy.new.self c.note_copy.ensures
-
-pub returns-clause-preserves : goal.returns-clause-preserves
-returns-clause-preserves g c =
-    copy_preserved g.R.CommitRule.protocol g.met.R.CommitRule.copy g.met.R.CommitRule.written_copy (g.F.Flash.state c.args.flash.now) (g.F.Flash.state c.read.new.self) _ _ _
-    c.requires.rule c.requires.nothing c.requires.matches c.args.from c.args.to c.requires.source c.requires.exists c.requires.next _ _ c.in_ok-read.field-0 c.read.result c.read.ensures c.in_ok-read.was
-    (g.F.Flash.state c.program.new.self) c.program.result c.program.ensures c.in_default.field-0 c.in_default.is c.note_copy.new.self c.note_copy.ensures
-
-pub returns-clause-array : goal.returns-clause-array
-returns-clause-array g c =
-    copy_array g.R.CommitRule.protocol g.met.R.CommitRule.copy g.met.R.CommitRule.written_copy (g.F.Flash.state c.args.flash.now) (g.F.Flash.state c.read.new.self) _ _ _
-    c.requires.rule c.requires.nothing c.requires.matches c.args.from c.args.to c.requires.source c.requires.exists c.requires.next _ _ c.in_ok-read.field-0 c.read.result c.read.ensures c.in_ok-read.was
-    (g.F.Flash.state c.program.new.self) c.program.result c.program.ensures c.in_default.field-0 c.in_default.is c.note_copy.new.self c.note_copy.ensures
-
-pub returns-clause-done : goal.returns-clause-done
-returns-clause-done g c =
-    copy_is_done g.R.CommitRule.protocol g.met.R.CommitRule.copy g.met.R.CommitRule.written_copy (g.F.Flash.state c.args.flash.now) (g.F.Flash.state c.read.new.self) _ _ _
-    c.requires.rule c.requires.nothing c.requires.matches c.args.from c.args.to c.requires.source c.requires.exists c.requires.next _ _ c.in_ok-read.field-0 c.read.result c.read.ensures c.in_ok-read.was
-    (g.F.Flash.state c.program.new.self) c.program.result c.program.ensures c.in_default.field-0 c.in_default.is c.note_copy.new.self c.note_copy.ensures
-
-pub returns-clause-moves : goal.returns-clause-moves
-returns-clause-moves g c =
-    copy_moves_done g.R.CommitRule.protocol g.met.R.CommitRule.copy g.met.R.CommitRule.written_copy (g.F.Flash.state c.args.flash.now) (g.F.Flash.state c.read.new.self) _ _ _
-    c.requires.rule c.requires.nothing c.requires.matches c.args.from c.args.to c.requires.source c.requires.exists c.requires.next _ _ c.in_ok-read.field-0 c.read.result c.read.ensures c.in_ok-read.was
-    (g.F.Flash.state c.program.new.self) c.program.result c.program.ensures c.in_default.field-0 c.in_default.is c.note_copy.new.self c.note_copy.ensures
+pub returns : goal.returns
+returns g c =
+    let laws = g.met.R.CommitRule in
+    let a = store_of (g.F.Flash.state c.args.flash.now) c.args.index.now c.args.blocks.now c.args.unsure.now in
+    let s1 = g.F.Flash.state c.read.new.self in
+    let s2 = g.F.Flash.state c.program.new.self in
+    subst (λ (n : Noted). CopiesRecord g.R.CommitRule.protocol a (store_of s2 n c.args.blocks.now c.args.unsure.now) c.args.from c.args.to _) (sym c.note_copy.ensures)
+    (copy_is_done g.R.CommitRule.protocol laws.copy laws.written_copy a c.requires.sure c.args.from c.args.to c.requires.can s1 _ _ c.in_ok-read.field-0
+    (subst (Reads a.flash s1 c.args.from.0 _ _) c.in_ok-read.was c.read.ensures) s2 c.in_default.field-0 (subst (Programs s1 s2 c.args.to.0 _ _) c.in_default.is c.program.ensures))

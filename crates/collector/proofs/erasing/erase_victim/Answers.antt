@@ -1,31 +1,26 @@
-use Rattle.collector.proofs.Emptying.{erases_empties}
-use Rattle.collector.proofs.VictimCalls.{victim_matches, victim_preserves, victim_array, victim_matches_torn, victim_array_torn}
+use Rattle.std.proofs.Common.{◌∙◌, sym, ap, subst}
+use Rattle.flash_model.specs.Calls.{Erases}
+use Rattle.version_index.specs.Noted.{Noted, erased, with_spare}
+use Rattle.die_alloc.specs.BlockTable.{BlockTable, IsBlockTable}
+use Rattle.collector.specs.Calls.{ErasesVictim}
+use Rattle.collector.specs.Store.{store_of}
+use Rattle.collector.proofs.VictimCalls.{victim_done, victim_breaks}
 use Rattle.collector.proofs.erasing.erase_victim.Goals as goal
 
-pub returns-in-Err-clause-matches : goal.returns-in-Err-clause-matches
-returns-in-Err-clause-matches g c =
-    victim_matches_torn g.R.CommitRule.protocol g.met.R.CommitRule.block_loss g.met.R.CommitRule.written_block_loss _ _ _ _ _
-    c.requires.rule c.requires.nothing c.requires.matches c.args.block c.requires.exists c.requires.not_spare c.requires.spared c.args.used c.requires.filled c.erase.result (erases_empties _ _ _ _ c.erase.ensures) c.in-Err.broken c.in-Err.is
+pub returns-in-Err : goal.returns-in-Err
+returns-in-Err g c =
+    let laws = g.met.R.CommitRule in
+    let s' = g.F.Flash.state c.erase.new.self in
+    victim_breaks g.R.CommitRule.protocol laws.block_loss laws.written_block_loss (store_of (g.F.Flash.state c.args.flash.now) c.args.index.now c.args.blocks.now c.args.unsure.now)
+    c.requires.sure c.args.block c.args.used c.requires.can s' c.in-Err.broken (subst (Erases (g.F.Flash.state c.args.flash.now) s' _) c.in-Err.is c.erase.ensures)
 
-pub returns-in-Err-clause-array : goal.returns-in-Err-clause-array
-returns-in-Err-clause-array g c =
-    victim_array_torn g.R.CommitRule.protocol g.met.R.CommitRule.block_loss g.met.R.CommitRule.written_block_loss _ _ _ _ _
-    c.requires.rule c.requires.nothing c.requires.matches c.args.block c.requires.exists c.requires.not_spare c.requires.spared c.args.used c.requires.filled c.erase.result (erases_empties _ _ _ _ c.erase.ensures) c.in-Err.broken c.in-Err.is
-
-pub returns-clause-matches : goal.returns-clause-matches
-returns-clause-matches g c =
-    victim_matches g.R.CommitRule.protocol g.met.R.CommitRule.block_loss g.met.R.CommitRule.written_block_loss _ _ _ _ _
-    c.requires.rule c.requires.nothing c.requires.matches c.args.block c.requires.exists c.requires.not_spare c.requires.spared c.args.used c.requires.filled c.erase.result (erases_empties _ _ _ _ c.erase.ensures) c.in_default.field-0 c.in_default.is
-    c.note_erased.new.self c.exchange.new.index c.note_erased.ensures c.exchange.ensures.noted c.exchange.new.blocks c.exchange.ensures.blocks c.exchange.ensures.between c.exchange.ensures.table
-
-pub returns-clause-preserves : goal.returns-clause-preserves
-returns-clause-preserves g c =
-    victim_preserves g.R.CommitRule.protocol g.met.R.CommitRule.block_loss g.met.R.CommitRule.written_block_loss _ _ _ _ _
-    c.requires.rule c.requires.nothing c.requires.matches c.args.block c.requires.exists c.requires.not_spare c.requires.spared c.args.used c.requires.filled c.erase.result (erases_empties _ _ _ _ c.erase.ensures) c.in_default.field-0 c.in_default.is
-    c.note_erased.new.self c.exchange.new.index c.note_erased.ensures c.exchange.ensures.noted c.exchange.new.blocks c.exchange.ensures.blocks c.exchange.ensures.between c.exchange.ensures.table
-
-pub returns-clause-array : goal.returns-clause-array
-returns-clause-array g c =
-    victim_array g.R.CommitRule.protocol g.met.R.CommitRule.block_loss g.met.R.CommitRule.written_block_loss _ _ _ _ _
-    c.requires.rule c.requires.nothing c.requires.matches c.args.block c.requires.exists c.requires.not_spare c.requires.spared c.args.used c.requires.filled c.erase.result (erases_empties _ _ _ _ c.erase.ensures) c.in_default.field-0 c.in_default.is
-    c.note_erased.new.self c.exchange.new.index c.note_erased.ensures c.exchange.ensures.noted c.exchange.new.blocks c.exchange.ensures.blocks c.exchange.ensures.between c.exchange.ensures.table
+pub returns : goal.returns
+returns g c =
+    let laws = g.met.R.CommitRule in
+    let a = store_of (g.F.Flash.state c.args.flash.now) c.args.index.now c.args.blocks.now c.args.unsure.now in
+    let s' = g.F.Flash.state c.erase.new.self in
+    subst (λ (n : Noted). ErasesVictim g.R.CommitRule.protocol a (store_of s' n c.exchange.new.blocks c.args.unsure.now) c.args.block c.args.used _)
+    (sym (c.exchange.ensures.noted ∙ ap (λ k. with_spare k c.args.block.0) c.note_erased.ensures))
+    (subst (λ (t : BlockTable). ErasesVictim g.R.CommitRule.protocol a (store_of s' (with_spare (erased c.args.index.now c.args.block.0) c.args.block.0) t c.args.unsure.now) c.args.block c.args.used _) (sym c.exchange.ensures.blocks)
+    (victim_done g.R.CommitRule.protocol laws.block_loss laws.written_block_loss a c.requires.sure c.args.block c.args.used c.requires.can s' c.in_default.field-0
+    (subst (Erases (g.F.Flash.state c.args.flash.now) s' _) c.in_default.is c.erase.ensures) c.exchange.ensures.between (subst IsBlockTable c.exchange.ensures.blocks c.exchange.ensures.table)))

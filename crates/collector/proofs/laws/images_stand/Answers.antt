@@ -15,19 +15,13 @@ stands g s n t u m take rule =
     settled_stands g.R.CommitRule.protocol g.met.R.CommitRule.partial_write g.met.R.CommitRule.completing_write g.met.R.CommitRule.copy g.met.R.CommitRule.block_loss
     s n t u m take rule
 
-pub returns-clause-matches : goal.returns-clause-matches
-returns-clause-matches g c = λ s n t u m take rule. (stands g s n t u m take rule).matches
-
-pub returns-clause-records : goal.returns-clause-records
-returns-clause-records g c = λ s n t u m take rule. settled_records g.R.CommitRule.protocol s n _ (stands g s n t u m take rule) rule
-
-pub returns-clause-current : goal.returns-clause-current
-returns-clause-current g c = λ s n t u page m take rule. settled_current g.R.CommitRule.protocol s n _ (stands g s n t u m take rule) rule page
-
-pub returns-clause-array : goal.returns-clause-array
-returns-clause-array g c = λ s n t u m take rule. settled_array g.R.CommitRule.protocol s n _ (stands g s n t u m take rule) rule
-
-pub returns-clause-preserves : goal.returns-clause-preserves
-returns-clause-preserves g c = λ s n t u m take rule other.
-    let h = stands g s n t u m take rule in
-    (h.preserves other, settled_kept g.R.CommitRule.protocol s n _ h rule (h.preserves other))
+pub returns : goal.returns
+returns g c = record {
+  matches = λ s n t u m take rule. (stands g s n t u m take rule).matches;
+  records = λ s n t u m take rule. settled_records g.R.CommitRule.protocol s n _ (stands g s n t u m take rule) rule;
+  current = λ s n t u page m take rule. settled_current g.R.CommitRule.protocol s n _ (stands g s n t u m take rule) rule page;
+  array = λ s n t u m take rule. settled_array g.R.CommitRule.protocol s n _ (stands g s n t u m take rule) rule;
+  preserves = λ s n t u m take rule other.
+      let h = stands g s n t u m take rule in
+      (h.preserves other, settled_kept g.R.CommitRule.protocol s n _ h rule (h.preserves other));
+}

@@ -1,13 +1,11 @@
 use Rattle.collector.proofs.NotedWrites.{names_there, partial_noted, completing_noted}
 use Rattle.collector.proofs.laws.noted_writes.Goals as goal
 
-pub returns-clause-names : goal.returns-clause-names
-returns-clause-names g c = λ n at rec name noted exists was. names_there g.R.CommitRule.protocol n at rec noted exists was name
-
-pub returns-clause-partial : goal.returns-clause-partial
-returns-clause-partial g c = λ n at rec next noted exists was.
-    partial_noted g.R.CommitRule.protocol n at rec noted exists was next g.met.R.CommitRule.partial_write
-
-pub returns-clause-completing : goal.returns-clause-completing
-returns-clause-completing g c = λ n at rec next noted exists was.
-    completing_noted g.R.CommitRule.protocol n at rec noted exists was next g.met.R.CommitRule.completing_write
+pub returns : goal.returns
+returns g c = record {
+  names = λ n at rec name noted exists was. names_there g.R.CommitRule.protocol n at rec noted exists was name;
+  partial = λ n at rec next noted exists was.
+      partial_noted g.R.CommitRule.protocol n at rec noted exists was next g.met.R.CommitRule.partial_write;
+  completing = λ n at rec next noted exists was.
+      completing_noted g.R.CommitRule.protocol n at rec noted exists was next g.met.R.CommitRule.completing_write;
+}

@@ -1,11 +1,12 @@
-use Rattle.collector.proofs.ClearRounds.{ClearsSoFar, TurnsSoFar}
+use Rattle.collector.specs.Store.{store_of}
+use Rattle.collector.proofs.ClearRounds.{ClearsSoFar}
 use Rattle.collector.proofs.GoingOrder.{AreAhead, numbers}
 use Rattle.collector.proofs.making_room.clear.Given as goal
 
 -- what is so between two rounds, which blocks were treated, and that those which are left are ahead
 abbrev pub invariant-loop-block : goal.invariant-loop-block
 invariant-loop-block g l = record {
-  so_far : ClearsSoFar g.R.CommitRule.protocol l.page l.below (g.F.Flash.state l.initial.flash) (g.F.Flash.state l.flash) l.initial.index l.index l.blocks l.unsure;
-  turns : TurnsSoFar l.page l.below l.initial.index l.initial.blocks l.index l.blocks;
+  so_far : ClearsSoFar g.R.CommitRule.protocol l.page l.below (store_of (g.F.Flash.state l.initial.flash) l.initial.index l.initial.blocks l.initial.unsure)
+      (store_of (g.F.Flash.state l.flash) l.index l.blocks l.unsure);
   ahead : AreAhead l.index l.page l.below (numbers l.block-items) l.block-index;
 }

@@ -2,12 +2,15 @@ use Rattle.tx_engine.proofs.Removal.{names_low, names_long, closed_stands}
 use Rattle.tx_engine.proofs.closing.close.Goals as goal
 
 pub unpin-requires-clause-range : goal.unpin-requires-clause-range
-unpin-requires-clause-range g c = names_low g.F.Flash.state c.args.store.now c.args.openings.now c.requires.stands c.args.at c.requires.at
+unpin-requires-clause-range g c = names_low g.F.Flash.state c.args.store.now c.args.openings.now c.requires.ready.stands c.args.at c.requires.at
 
 pub unpin-requires-clause-named : goal.unpin-requires-clause-named
-unpin-requires-clause-named g c = names_long g.F.Flash.state c.args.store.now c.args.openings.now c.requires.stands c.args.at c.requires.at
+unpin-requires-clause-named g c = names_long g.F.Flash.state c.args.store.now c.args.openings.now c.requires.ready.stands c.args.at c.requires.at
 
-pub returns-clause-stands : goal.returns-clause-stands
-returns-clause-stands g c =
-    closed_stands g.F.Flash.state c.args.store.now c.args.openings.now c.requires.stands c.args.at c.requires.at c.requires.sure
-    c.unpin.new.store c.remove.new.self c.unpin.ensures.pins c.unpin.ensures.pages c.unpin.ensures.gone c.remove.ensures
+pub returns : goal.returns
+returns g c = record {
+  stands = closed_stands g.F.Flash.state c.args.store.now c.args.openings.now c.requires.ready.stands c.args.at c.requires.at c.requires.ready.sure
+      c.unpin.new.store c.remove.new.self c.unpin.ensures.pins c.unpin.ensures.pages c.unpin.ensures.gone c.remove.ensures;
+  gone = c.remove.ensures;
+  pins = c.unpin.ensures.pins;
+}

@@ -22,17 +22,21 @@ loop-place-preserved g c =
           (unpin_more c.args.store.now.noted.pins c.loop-place.store.noted.pins (λ k. (name_at x k).page) c.loop-place.place c.name.result.page (ap (λ (a : Link). a.page) c.name.ensures) c.loop-place.invariant.gone);
     }
 
-pub returns-clause-gone : goal.returns-clause-gone
-returns-clause-gone g c = λ name.
-    let inv = c.loop-place.invariant.gone name in
-    let x = (opening_at c.args.openings.now c.args.at).naming in
-    let long : length x.names ≡ c.pages-place-end.result = c.requires.named ∙ sym c.pages-place-end.ensures in
-    let past = c.loop-place-test.false in
-    let upto = c.loop-place.auto.place-end in (
-      (λ pin. let both = inv.0 pin in (
-        both.0,
-        λ k d inside same. both.1 k (omega arith)
-            (ap (λ (a : Link). a.page) (get_or_default x.names k no_name d inside) ∙ same),
-      )),
-      (λ both. inv.1 (both.0, λ k less. both.1 k no_name (omega arith))),
-    )
+pub returns : goal.returns
+returns g c = record {
+  pins = c.loop-place.invariant.pins;
+  pages = c.loop-place.invariant.pages;
+  gone = λ name.
+      let inv = c.loop-place.invariant.gone name in
+      let x = (opening_at c.args.openings.now c.args.at).naming in
+      let long : length x.names ≡ c.pages-place-end.result = c.requires.named ∙ sym c.pages-place-end.ensures in
+      let past = c.loop-place-test.false in
+      let upto = c.loop-place.auto.place-end in (
+        (λ pin. let both = inv.0 pin in (
+          both.0,
+          λ k d inside same. both.1 k (omega arith)
+              (ap (λ (a : Link). a.page) (get_or_default x.names k no_name d inside) ∙ same),
+        )),
+        (λ both. inv.1 (both.0, λ k less. both.1 k no_name (omega arith))),
+      );
+}

@@ -1,24 +1,39 @@
-use Rattle.std.proofs.Common.{sym, subst, refl}
-use Rattle.tx_engine.proofs.Kept.{from_stands}
-use Rattle.tx_engine.proofs.Leaving.{left_of}
+use Rattle.std.proofs.Common.{true, false, sym, ap, ◌∙◌, subst, refl}
+use Rattle.tx_types.specs.declared.config.Config.{Config}
+use Rattle.collector.specs.Laws.{ImagesStand}
+use Rattle.collector.proofs.KeepsLemmas.{by_err}
+use Rattle.tx_engine.specs.Calls.{CollectsSettled}
+use Rattle.tx_engine.specs.Stored.{store_in}
+use Rattle.tx_engine.proofs.Collecting.{collects_tables}
+use Rattle.tx_engine.proofs.Leaving.{left_by}
 use Rattle.tx_engine.proofs.NothingLeft.{nothing_left, nothing_of}
-use Rattle.tx_engine.proofs.TableLaws.{IsStayLaw}
-use Rattle.tx_engine.proofs.Tools.{Settles}
 use Rattle.tx_engine.proofs.collect.collect_settled.Goals as goal
 
-pub returns-clause-left : goal.returns-clause-left
-returns-clause-left g c =
-    left_of g.F.Flash.state c.args.store.now c.collect-collected.new.self c.args.openings.now _
-    (subst IsStayLaw (sym c.requires.rule) (record { array = c.arrays_stay.ensures.array; texts = c.arrays_stay.ensures.texts; next = c.arrays_stay.ensures.next }))
-    c.requires.stands g.R.CommitRule.protocol c.config-kept.ensures.stored c.collect-collected.ensures.keeps c.requires.sure c.collect-collected.ensures.others
+pub returns-in_err-any : goal.returns-in_err-any
+returns-in_err-any g c =
+    let state = g.F.Flash.state in let S = c.args.store.now in let S' = c.collect.new.self in let O = c.args.openings.now in let h = c.in_err-any.ensures in
+    by_err c.from_residual.result (CollectsSettled state S S' O) c.from_residual.ensures.0 (λ y. record {
+      left = left_by state S S' O true g.R.CommitRule.protocol c.arrays_stay.ensures c.requires.ready.rule c.requires.ready.stands h.keeps c.requires.ready.sure;
+      tables = tt;
+      stays = h.stays;
+      broken = h.broken;
+      sure = tt;
+      nothing = λ is. absurd (let e = is in cc);
+    })
 
-pub returns-clause-nothing : goal.returns-clause-nothing
-returns-clause-nothing g c = λ is.
-    let left = left_of g.F.Flash.state c.args.store.now c.collect-collected.new.self c.args.openings.now _
-    (subst IsStayLaw (sym c.requires.rule) (record { array = c.arrays_stay.ensures.array; texts = c.arrays_stay.ensures.texts; next = c.arrays_stay.ensures.next }))
-    c.requires.stands g.R.CommitRule.protocol c.config-kept.ensures.stored c.collect-collected.ensures.keeps c.requires.sure c.collect-collected.ensures.others in
-    let k = from_stands g.F.Flash.state c.args.store.now c.args.openings.now c.requires.stands in
-    let both = nothing_of g.F.Flash.state c.args.store.now c.collect-collected.new.self c.collect-collected.result is c.collect-collected.ensures.collects c.collect-collected.ensures.sure in
-    nothing_left g.F.Flash.state c.args.store.now c.collect-collected.new.self c.args.openings.now c.tidy_images.ensures
-    (subst Settles (sym c.config-kept.ensures.stored.rule) (record { matches = c.images_stand.ensures.matches; records = c.images_stand.ensures.records; array = c.images_stand.ensures.array; preserves = c.images_stand.ensures.preserves }))
-    c.args.store.now.table c.args.store.now.unsure (g.F.Flash.state c.args.store.now.flash) k.matches refl left.stands both.1 both.0
+pub returns : goal.returns
+returns g c =
+    let state = g.F.Flash.state in let S = c.args.store.now in let S' = c.collect.new.self in let O = c.args.openings.now in let h = c.in_ok-any.ensures in
+    let left = left_by state S S' O false g.R.CommitRule.protocol c.arrays_stay.ensures c.requires.ready.rule c.requires.ready.stands h.keeps c.requires.ready.sure in
+    record {
+      left = left;
+      tables = collects_tables (store_in state S) (store_in state S') c.in_ok-any.any c.answer_of.result c.answer_of.ensures h.done;
+      stays = tt;
+      broken = tt;
+      sure = h.keeps.sure;
+      nothing = λ is.
+          let none = nothing_of (store_in state S) (store_in state S') c.in_ok-any.any c.answer_of.result _ c.answer_of.ensures refl is h.done in
+          nothing_left state S S' O c.tidy_images.ensures
+          (subst ImagesStand (sym (ap (λ (k : Config). k.protocol) h.keeps.preserves.config ∙ c.requires.ready.rule)) c.images_stand.ensures)
+          S.table S.unsure (state S.flash) c.requires.ready.stands.matches refl left.stands h.keeps.sure none;
+    }

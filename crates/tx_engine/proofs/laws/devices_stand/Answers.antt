@@ -5,13 +5,13 @@ use Rattle.tx_engine.proofs.laws.devices_stand.Goals as goal
 pub returns-clause-array : goal.returns-clause-array
 returns-clause-array g c =
     device_array g.F.Flash.state g.R.CommitRule.protocol
-    (record { matches = c.images_stand.ensures.matches; records = c.images_stand.ensures.records; array = c.images_stand.ensures.array; preserves = c.images_stand.ensures.preserves })
-    (record { names = c.noted_writes.ensures.names; partial = c.noted_writes.ensures.partial; completing = c.noted_writes.ensures.completing })
+    c.images_stand.ensures
+    c.noted_writes.ensures
 
 pub returns-clause-mentions : goal.returns-clause-mentions
 returns-clause-mentions g c =
     device_mentions g.F.Flash.state g.R.CommitRule.protocol
-    (record { matches = c.images_stand.ensures.matches; records = c.images_stand.ensures.records; array = c.images_stand.ensures.array; preserves = c.images_stand.ensures.preserves })
+    c.images_stand.ensures
 
 pub returns-clause-known_records : goal.returns-clause-known_records
 returns-clause-known_records g c = known_records g.F.Flash.state g.R.CommitRule.protocol c.known_images_stand.ensures.notes

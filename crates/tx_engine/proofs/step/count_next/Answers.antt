@@ -1,5 +1,6 @@
 use Rattle.std.proofs.Common.{◌≡◌, ◌+◌, ap, sym, ◌∙◌, refl, arith}
 use Rattle.tx_engine.specs.OpenTable.{OpenTable, no_opening, opening_at, with_opening, with_done}
+use Rattle.tx_engine.specs.Stored.{Stored}
 use Rattle.tx_engine.proofs.Aborting.{closed_machine, closed_exits, closed_current, ready_plain, either_mark}
 use Rattle.tx_engine.proofs.CountExits.{counted_stands, counted_machine, counted_exits}
 use Rattle.tx_engine.proofs.Kept.{from_stands}
@@ -7,38 +8,44 @@ use Rattle.tx_engine.proofs.step.count_next.Goals as goal
 
 pub overflow_add-done : goal.overflow_add-done
 overflow_add-done g c =
-    let known = ((from_stands g.F.Flash.state c.args.store.now c.args.openings.now c.requires.stands).each c.args.at no_opening c.requires.at).named.within in
+    let known = ((from_stands g.F.Flash.state c.args.store.now c.args.openings.now c.requires.ready.stands).each c.args.at no_opening c.requires.at).named.within in
     omega (arith, known, c.done-done.ensures, c.pages-all.ensures, c.pages-all.type_inv)
 
-pub returns-in-Whole-clause-counts : goal.returns-in-Whole-clause-counts
-returns-in-Whole-clause-counts g c = (
-  sym c.mark.ensures ∙ c.in-Whole.is,
-  closed_machine g.F.Flash.state c.args.store.now c.close.new.store c.args.openings.now c.close.new.openings c.args.at c.close.ensures.pins c.close.ensures.gone
-      c.requires.stands c.requires.at (opening_at c.args.openings.now c.args.at).entry.tag refl,
-)
-
-pub returns-in-Whole-clause-exits : goal.returns-in-Whole-clause-exits
-returns-in-Whole-clause-exits g c =
-    closed_exits g.F.Flash.state c.args.store.now c.close.new.store c.args.openings.now c.close.new.openings c.args.at c.close.ensures.pins c.close.ensures.gone
-
-pub returns-in-Whole-clause-versions : goal.returns-in-Whole-clause-versions
-returns-in-Whole-clause-versions g c =
-    closed_current g.F.Flash.state c.args.store.now c.close.new.store c.args.openings.now c.close.new.openings c.args.at c.close.ensures.pins c.close.ensures.gone
+pub returns-in-Whole : goal.returns-in-Whole
+returns-in-Whole g c =
+    let state = g.F.Flash.state in let S = c.args.store.now in let S' = c.close.new.store in let O = c.args.openings.now in let O' = c.close.new.openings in
+    let gone = c.close.ensures.gone in let pins = c.close.ensures.pins in
+    record {
+      stands = c.close.ensures.stands;
+      counts = (
+        sym c.mark.ensures ∙ c.in-Whole.is,
+        closed_machine state S S' O O' c.args.at pins gone c.requires.ready.stands c.requires.at (opening_at O c.args.at).entry.tag refl,
+      );
+      exits = closed_exits state S S' O O' c.args.at pins gone;
+      versions = closed_current state S S' O O' c.args.at pins gone;
+      stays = pins;
+      sure = ap (λ (T : Stored _). T.unsure) pins ∙ c.requires.ready.sure;
+      limits = record {
+        page_bytes = ap (λ (o : OpenTable). o.page_bytes) gone;
+        logical = ap (λ (o : OpenTable). o.logical) gone;
+        pending = ap (λ (o : OpenTable). o.pending) gone;
+      };
+    }
 
 pub returns-in-Plain : goal.returns-in-Plain
 returns-in-Plain g c =
     let state = g.F.Flash.state in
     let O = c.args.openings.now in
-    let ready = ready_plain (opening_at O c.args.at).entry.mark _ (either_mark _ _ c.mark.ensures c.in-Plain.is) c.requires.ready in
+    let ready = ready_plain (opening_at O c.args.at).entry.mark _ (either_mark _ _ c.mark.ensures c.in-Plain.is) c.requires.counts in
     let opens : c.set_done.new.self ≡ with_opening O c.args.at (with_done (opening_at O c.args.at) ((opening_at O c.args.at).entry.done + 1)) =
     c.set_done.ensures ∙ ap (λ k. with_opening O c.args.at (with_done (opening_at O c.args.at) (k + 1))) c.done-done.ensures in
     record {
-      stands = counted_stands state c.args.store.now O c.set_done.new.self c.args.at c.requires.stands c.requires.sure c.requires.at ready.0 ready.1 opens;
-      counts = counted_machine state c.args.store.now O c.set_done.new.self c.args.at c.requires.stands c.requires.sure c.requires.at ready.0 ready.1 opens _ _ (ap (λ k. k + 1) c.done-done.ensures) c.pages-all.ensures;
-      exits = counted_exits state c.args.store.now O c.set_done.new.self c.args.at c.requires.stands c.requires.sure c.requires.at ready.0 ready.1 opens;
+      stands = counted_stands state c.args.store.now O c.set_done.new.self c.args.at c.requires.ready.stands c.requires.ready.sure c.requires.at ready.0 ready.1 opens;
+      counts = counted_machine state c.args.store.now O c.set_done.new.self c.args.at c.requires.ready.stands c.requires.ready.sure c.requires.at ready.0 ready.1 opens _ _ (ap (λ k. k + 1) c.done-done.ensures) c.pages-all.ensures;
+      exits = counted_exits state c.args.store.now O c.set_done.new.self c.args.at c.requires.ready.stands c.requires.ready.sure c.requires.at ready.0 ready.1 opens;
       versions = λ page. refl;
       stays = refl;
-      sure = c.requires.sure;
+      sure = c.requires.ready.sure;
       limits = record {
         page_bytes = ap (λ (o : OpenTable). o.page_bytes) opens;
         logical = ap (λ (o : OpenTable). o.logical) opens;

@@ -1,10 +1,33 @@
-use Rattle.std.proofs.Common.{sym, subst}
-use Rattle.tx_engine.proofs.Leaving.{left_of}
-use Rattle.tx_engine.proofs.TableLaws.{IsStayLaw}
+use Rattle.std.proofs.Common.{◌≡◌, List, None, sym, ap, ◌∙◌, subst}
+use Rattle.tx_types.specs.declared.record.Link.{Link}
+use Rattle.version_index.specs.Noted.{block_to_go}
+use Rattle.collector.specs.Calls.{Clears}
+use Rattle.collector.specs.Going.{IsNextName}
+use Rattle.tx_engine.specs.OpenTable.{HasPlace, name_due, opening_at}
+use Rattle.tx_engine.specs.Standing.{name_at}
+use Rattle.tx_engine.specs.Stored.{store_in}
+use Rattle.tx_engine.proofs.Leaving.{left_by}
+use Rattle.tx_engine.proofs.PageWrites.{place, next_of_due}
+use Rattle.std.specs.Result.{is_err}
 use Rattle.tx_engine.proofs.writing.clear.Goals as goal
 
-pub returns-clause-left : goal.returns-clause-left
-returns-clause-left g c =
-    left_of g.F.Flash.state c.args.store.now c.clear-cleared.new.self c.args.openings.now _
-    (subst IsStayLaw (sym c.requires.rule) (record { array = c.arrays_stay.ensures.array; texts = c.arrays_stay.ensures.texts; next = c.arrays_stay.ensures.next }))
-    c.requires.stands g.R.CommitRule.protocol c.config-kept.ensures.stored c.clear-cleared.ensures.keeps c.requires.sure c.clear-cleared.ensures.others
+pub name-name-requires : goal.name-name-requires
+name-name-requires g c =
+    subst (HasPlace c.args.openings.now c.args.at) (sym c.done.ensures) (place g.F.Flash.state g.R.CommitRule.protocol c.args.store.now c.args.openings.now c.args.at c.requires.ready c.requires.due)
+
+pub clear-requires-clause-next : goal.clear-requires-clause-next
+clear-requires-clause-next g c =
+    let is = c.name-name.ensures ∙ ap (name_at (opening_at c.args.openings.now c.args.at).naming) c.done.ensures in
+    subst (λ (a : Link). (names : List Link) × IsNextName c.args.store.now.noted names a) (sym is)
+    (next_of_due g.F.Flash.state g.R.CommitRule.protocol c.args.store.now c.args.openings.now c.args.at c.requires.ready c.requires.due)
+
+pub returns : goal.returns
+returns g c =
+    let state = g.F.Flash.state in
+    let is = c.name-name.ensures ∙ ap (name_at (opening_at c.args.openings.now c.args.at).naming) c.done.ensures in
+    record {
+      left = left_by state c.args.store.now c.clear.new.self c.args.openings.now _ g.R.CommitRule.protocol c.arrays_stay.ensures
+          c.requires.ready.rule c.requires.ready.stands c.clear.ensures.clears.keeps c.requires.ready.sure;
+      clears = subst (λ (a : Link). Clears g.R.CommitRule.protocol (store_in state c.args.store.now) (store_in state c.clear.new.self) a.page a.version c.clear.result) is c.clear.ensures.clears;
+      idle = λ none. let d = c.clear.ensures.idle (subst (λ (a : Link). block_to_go c.args.store.now.noted a.page a.version ≡ None) (sym is) none) in (ap is_err d.0, d.1);
+    }

@@ -1,4 +1,4 @@
-use Rattle.std.proofs.Common.{◌≡◌, ◌+◌, ◌≤◌, ℕ, sym, ap, ◌∙◌, subst}
+use Rattle.std.proofs.Common.{◌≡◌, ◌+◌, ◌≤◌, sym, ap, ◌∙◌, subst}
 use Rattle.tx_engine.specs.OpenTable.{OpenTable}
 use Rattle.scan_recovery.proofs.ReadingSteps.{read_more-most}
 use Rattle.tx_engine.specs.Opens.{Mounts, mount_reads}
@@ -19,7 +19,7 @@ returns-in-Ok-clause-mounted g c =
     let is : c.in-Ok.openings ≡ empty_table store.noted.config = c.in-Ok.ensures ∙ ap empty_table c.config-known.ensures.config in
     subst (λ (t : OpenTable). Mounts g.F.Flash.state c.args.flash c.args.config (standing_in g.F.Flash.state store t)) (sym is)
     (opened_mounts g.F.Flash.state g.R.CommitRule.protocol c.args.flash c.args.config store c.in_ok-store.ensures.opened c.in_ok-store.ensures.stored
-    (record { matches = c.images_stand.ensures.matches; records = c.images_stand.ensures.records; array = c.images_stand.ensures.array; preserves = c.images_stand.ensures.preserves }))
+    c.images_stand.ensures)
 
 pub returns-in-Err-clause-reads : goal.returns-in-Err-clause-reads
 returns-in-Err-clause-reads g c =

@@ -1,4 +1,4 @@
-use Rattle.std.proofs.Common.{◌≡◌, ◌<◌, ◌++◌, All, ap, sym, ◌∙◌, subst, refl, inl, inr, Ok, Err, Some}
+use Rattle.std.proofs.Common.{◌≡◌, ◌<◌, ◌++◌, All, ap, sym, ◌∙◌, subst, refl, inl, inr, Ok, Err, Some, arith}
 use Rattle.std.specs.Prelude.{IfSome, false, true}
 use Rattle.std.specs.Result.{is_err}
 use Rattle.tx_types.specs.declared.config.Config.{Config}
@@ -217,7 +217,7 @@ returns-in_default-clause-found g c =
     of_each (next_of s c.args.tag) (λ name. IsThere (settlement_of state s).noted name → moment_of (state s.flash) ≡ moment_of (state s.flash)) (λ name here. refl)
 
 pub returns-in_default-clause-fresh : goal.returns-in_default-clause-fresh
-returns-in_default-clause-fresh g c = inl (record { stays = refl; moment = refl; reads = inl refl })
+returns-in_default-clause-fresh g c = inl (record { stays = refl; moment = refl; reads = (0, omega arith, refl) })
 
 pub returns-in_default-settle-clause-fresh : goal.returns-in_default-settle-clause-fresh
 returns-in_default-settle-clause-fresh g c =

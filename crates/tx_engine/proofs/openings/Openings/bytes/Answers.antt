@@ -1,41 +1,27 @@
-use Rattle.std.proofs.Common.{length, ap, ◌∙◌, arith}
-use Rattle.tx_engine.proofs.OpenPages.{openings_long, pages_read, bytes_read, page_whole}
+use Rattle.std.proofs.Common.{◌∙◌, arith}
+use Rattle.tx_engine.proofs.OpenPages.{openings_long, pages_read, bytes_read}
 use Rattle.tx_engine.proofs.openings.Openings.bytes.Goals as goal
 
 pub index-requires : goal.index-requires
 index-requires c =
-    let at = rw (← c.self.view_is) at c.requires.at in
+    let at = rw (← c.self.view_is) at c.requires in
     let count = openings_long c.self.inside.all.items in
     omega arith
 
 pub index-requires-2 : goal.index-requires-2
 index-requires-2 c =
-    let at = rw (← c.self.view_is) at c.requires.at in
-    let place = rw (← c.self.view_is) at c.requires.place in
+    let at = rw (← c.self.view_is) at c.requires in
     let os = c.self.inside.all.items in
     let count = openings_long os in
     let many = pages_read os c.args.at c.index.result.now (omega arith) c.index.ensures in
     omega arith
 
-pub returns-clause-bytes : goal.returns-clause-bytes
-returns-clause-bytes c =
-    let at = rw (← c.self.view_is) at c.requires.at in
-    let place = rw (← c.self.view_is) at c.requires.place in
+pub returns : goal.returns
+returns c =
+    let at = rw (← c.self.view_is) at c.requires in
     let os = c.self.inside.all.items in
     let count = openings_long os in
     let many = pages_read os c.args.at c.index.result.now (omega arith) c.index.ensures in
     rw (← c.self.view_is)
     (c.deref.ensures.value ∙ bytes_read c.self.inside c.args.at c.args.place c.index.result.now c.index-2.result.now c.self.invariant (omega arith) c.index.ensures
     (omega arith) c.index-2.ensures)
-
-pub returns-clause-whole : goal.returns-clause-whole
-returns-clause-whole c =
-    let at = rw (← c.self.view_is) at c.requires.at in
-    let place = rw (← c.self.view_is) at c.requires.place in
-    let os = c.self.inside.all.items in
-    let count = openings_long os in
-    let many = pages_read os c.args.at c.index.result.now (omega arith) c.index.ensures in
-    rw (← c.self.view_is)
-    (ap length c.deref.ensures.value
-    ∙ (page_whole c.self.inside c.args.at c.args.place c.index.result.now c.index-2.result.now c.self.invariant (omega arith) c.index.ensures
-    (omega arith) c.index-2.ensures).long)

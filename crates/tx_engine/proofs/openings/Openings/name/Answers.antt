@@ -4,14 +4,13 @@ use Rattle.tx_engine.proofs.openings.Openings.name.Goals as goal
 
 pub index-requires : goal.index-requires
 index-requires c =
-    let at = rw (← c.self.view_is) at c.requires.at in
+    let at = rw (← c.self.view_is) at c.requires in
     let count = openings_long c.self.inside.all.items in
     omega arith
 
 pub index-requires-2 : goal.index-requires-2
 index-requires-2 c =
-    let at = rw (← c.self.view_is) at c.requires.at in
-    let place = rw (← c.self.view_is) at c.requires.place in
+    let at = rw (← c.self.view_is) at c.requires in
     let os = c.self.inside.all.items in
     let count = openings_long os in
     let many = pages_read os c.args.at c.index.result.now (omega arith) c.index.ensures in
@@ -19,8 +18,7 @@ index-requires-2 c =
 
 pub returns : goal.returns
 returns c =
-    let at = rw (← c.self.view_is) at c.requires.at in
-    let place = rw (← c.self.view_is) at c.requires.place in
+    let at = rw (← c.self.view_is) at c.requires in
     let os = c.self.inside.all.items in
     let count = openings_long os in
     let many = pages_read os c.args.at c.index.result.now (omega arith) c.index.ensures in

@@ -3,27 +3,28 @@ use Rattle.tx_types.specs.declared.config.Config.{Config}
 use Rattle.tx_engine.proofs.StoreCalls.{as_long}
 use Rattle.tx_engine.proofs.store.Store.free_slot.Goals as goal
 
+pub free_slot-requires-clause-sure : goal.free_slot-requires-clause-sure
+free_slot-requires-clause-sure g c = record {
+  matches = c.self.invariant.stored.matches;
+  rule = c.self.invariant.stored.rule;
+  nothing = rw (← c.self.view_is) at c.requires.nothing;
+}
+
 pub invariant_of-self : goal.invariant_of-self
 invariant_of-self g c =
     let k = c.self.invariant in
-    let same = c.free_slot.ensures.preserves.config in
+    let same = c.free_slot.ensures.finds.keeps.preserves.config in
     record {
       stored = record {
-        matches = c.free_slot.ensures.matches;
+        matches = c.free_slot.ensures.finds.keeps.matches;
         rule = ap (λ (x : Config). x.protocol) same ∙ k.stored.rule;
       };
       room = as_long c.self.inside.room c.free_slot.new.room _ (k.room ∙ ap (λ (x : Config). x.page_bytes) (sym same));
     }
 
+pub returns-clause-finds : goal.returns-clause-finds
+returns-clause-finds g c = rw (← c.self.view_is) c.free_slot.ensures.finds
+
 pub returns-clause-direct : goal.returns-clause-direct
 returns-clause-direct g c =
     rw (← c.self.view_is) (λ room. let d = c.free_slot.ensures.direct room in (d.0, d.2, rw (d.3, d.4, d.1, d.5) refl))
-
-pub returns-clause-still_clear : goal.returns-clause-still_clear
-returns-clause-still_clear g c = rw (← c.self.view_is) c.free_slot.ensures.still_clear
-
-pub returns-clause-broken : goal.returns-clause-broken
-returns-clause-broken g c = rw (← c.self.view_is) c.free_slot.ensures.broken
-
-pub returns-clause-collects : goal.returns-clause-collects
-returns-clause-collects g c = rw (← c.self.view_is) c.free_slot.ensures.collects

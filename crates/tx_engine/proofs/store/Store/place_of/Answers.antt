@@ -1,4 +1,4 @@
-use Rattle.std.proofs.Common.{◌≡◌, Bool, true, false, subst, sym, ap, ◌∙◌}
+use Rattle.std.proofs.Common.{◌≡◌, true, false, subst, sym}
 use Rattle.std.specs.Option.{option_map}
 use Rattle.collector.specs.Matches.{Matches}
 use Rattle.version_index.specs.Noted.{discarded_of}

@@ -1,13 +1,19 @@
-use Rattle.std.proofs.Common.{ap, ◌∙◌, sym}
+use Rattle.std.proofs.Common.{ap, ◌∙◌, sym, rules}
 use Rattle.tx_types.specs.declared.config.Config.{Config}
 use Rattle.tx_engine.proofs.StoreCalls.{same_config, as_long}
 use Rattle.tx_engine.proofs.store.Store.settle.Goals as goal
 
+pub settle-requires : goal.settle-requires
+settle-requires g c = record {
+  kept = record { matches = c.self.invariant.stored.matches; rule = c.self.invariant.stored.rule };
+  own = rw (← c.self.view_is) at c.requires.own;
+  room = search rules;
+}
+
 pub invariant_of-self : goal.invariant_of-self
 invariant_of-self g c =
     let k = c.self.invariant in
-    let same = same_config c.self.inside.index c.settle.new.index c.self.inside.blocks c.settle.new.blocks (g.F.Flash.state c.self.inside.flash).image
-    c.self.inside.unsure c.settle.new.unsure c.settle.result c.settle.ensures.settled c.settle.ensures.failed in
+    let same = same_config _ _ c.settle.result c.settle.ensures in
     record {
       stored = record {
         matches = c.settle.ensures.matches;
@@ -15,3 +21,6 @@ invariant_of-self g c =
       };
       room = as_long c.self.inside.room c.settle.new.room _ (k.room ∙ ap (λ (x : Config). x.page_bytes) (sym same));
     }
+
+pub returns-clause-settles : goal.returns-clause-settles
+returns-clause-settles g c = rw (← c.self.view_is) c.settle.ensures
