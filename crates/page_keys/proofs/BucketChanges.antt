@@ -70,9 +70,8 @@ module _ (its : Config) (m : KeyMap) (cs : List Change) (page : ℕ)
       made ∙ ap (λ (l : List Pair). changed l (of_page its.logical page cs)) (read_are pairs is)
       ∙ sym (entries_change its.logical page m cs)
 
-  pub each_after : AllByRecursion IsKeyChange cs →
+  pub each_after : AllByRecursion IsKeyChange (of_page its.logical page cs) →
       AllByRecursion IsEntry (keys.entries (part its.logical page (after m cs)))
   each_after valid =
       subst (AllByRecursion IsEntry) (sym (entries_change its.logical page m cs))
-      (each_changed _ _ (all_filtered IsKeyChange (λ c. is_in its.logical page c.key) cs valid)
-      shows.each)
+      (each_changed _ _ valid shows.each)

@@ -11,10 +11,11 @@ use Rattle.std.specs.FinMap.Entries as sorted
 use Rattle.std.specs.FinMap.Entries.{is_sorted-put, is_sorted-where_key}
 use lib.Dec.{T}
 use Rattle.std.proofs.lemmas.Bool.Decides.{nat_tests}
-use Rattle.std.proofs.lemmas.List.{take-append-drop, take_more}
+use Rattle.std.proofs.lemmas.List.{take-append-drop, take_more, map-append}
 use Rattle.std.proofs.lemmas.List.Elements.{filter-append}
 use Rattle.std.proofs.Math.Seq.{drop-cons}
 use Rattle.std.proofs.Math.Seq.{set-append_seam, take-append_seam, drop-append_seam, drop-append-add}
+use Rattle.page_keys.specs.Groups.{Placed, changes_of}
 use Rattle.page_keys.specs.KeyMaps.{Pair, key_order, is_ascending, is_in, of_page, bucket_of}
 use Rattle.page_keys.specs.declared.changes.Change.{Change}
 use Rattle.page_keys.specs.Entries.{with_pair, changed, AreBelow, BeginsAbove, IsFoundAt, IsGapAt}
@@ -221,24 +222,16 @@ changed_append : (pairs : List Pair) (cs ds : List Change) →
 changed_append pairs [] ds = refl
 changed_append pairs (c ∷ cs) ds = changed_append (with_pair pairs c.key c.value) cs ds
 
-of_page_one : (logical page : ℕ) (pairs : List Pair) (c : Change) (b : Bool) →
-    is_in logical page c.key ≡ b →
-    changed pairs (of_page logical page (c ∷ []))
-    ≡ (if b then with_pair pairs c.key c.value else pairs)
-of_page_one logical page pairs c true is = rw is refl
-of_page_one logical page pairs c false is = rw is refl
-
 -- one change more
-pub merged_more : (logical page : ℕ) (start : List Pair) (cs : List Change) (i : ℕ) (c : Change)
-    (b : Bool) → i < length cs → c ≡ get_or cs i c → is_in logical page c.key ≡ b →
-    changed start (of_page logical page (take (i + 1) cs))
-    ≡ (let before = changed start (of_page logical page (take i cs)) in
-    if b then with_pair before c.key c.value else before)
-merged_more logical page start cs i c b within is test =
-    rw (take_more cs i c within, ← is)
-    (ap (changed start) (filter-append (λ x. is_in logical page x.key) (take i cs) (c ∷ []))
-    ∙ changed_append start (of_page logical page (take i cs)) (of_page logical page (c ∷ []))
-    ∙ of_page_one logical page (changed start (of_page logical page (take i cs))) c b test)
+pub merged_more : (start : List Pair) (ps : List Placed) (i : ℕ) (p : Placed) → i < length ps →
+    p ≡ get_or ps i p →
+    changed start (changes_of (take (i + 1) ps))
+    ≡ with_pair (changed start (changes_of (take i ps))) p.1.now.key p.1.now.value
+merged_more start ps i p within is =
+    ap (λ (l : List Placed). changed start (changes_of l))
+    (take_more ps i p within ∙ ap (λ (q : Placed). take i ps ++ q ∷ []) (sym is))
+    ∙ ap (changed start) (map-append (λ (q : Placed). q.1.now) (take i ps) (p ∷ []))
+    ∙ changed_append start (changes_of (take i ps)) (p.1.now ∷ [])
 
 -- whether a key that was read is in a page
 pub test_read : (logical page r : ℕ) (s key : List ℕ) → s ≡ key → r ≡ bucket_of logical s →

@@ -172,7 +172,7 @@ module _ {F : Type 0} (state : F → FlashState) (protocol : Protocol) (old new 
   memory_here (refused.Spent p) gives is = cc
   memory_here refused.Fault gives is = cc
   memory_here refused.Memory gives is =
-      record { config = gives.config; moment = gives.moment; carries = gives.carries }
+      record { config = gives.1.config; moment = gives.1.moment; carries = gives.1.carries }
 
 -- the answers of a get
 module _ {F : Type 0} (state : F → FlashState) (protocol : Protocol) (old new : Keyed F)

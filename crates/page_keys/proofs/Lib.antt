@@ -2,6 +2,7 @@ pub mod BucketChanges
 pub mod EntriesLeft
 pub mod EntryLists
 pub mod Existing
+pub mod Inserts
 pub mod KeyAllLemmas
 pub mod KeyBeginLemmas
 pub mod KeyCallLemmas
@@ -13,9 +14,11 @@ pub mod OneMap
 pub mod Opening
 pub mod PageLists
 pub mod Parts
+pub mod PlacedChanges
 pub mod PutGiven
 pub mod PutLoop
 pub mod PutWrites
+pub mod RepeatedKeys
 pub mod ScriptLemmas
 pub mod Spelling
 pub mod Steps

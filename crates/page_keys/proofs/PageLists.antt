@@ -1,13 +1,31 @@
 -- The pages of changes, in ascending order.
-use Rattle.std.proofs.Common.{◌≡◌, ℕ, zero, suc, ◌+◌, ◌<◌, ◌≤◌, Bool, true, false, ◌||◌, cond, List, [], ◌∷◌, ◌++◌, length, take, get_or, filter, ◌==◌, nat_lt, inl, inr, refl, sym, ap, ◌∙◌, arith}
+use Rattle.std.proofs.Common.{◌≡◌, ℕ, zero, suc, ◌+◌, ◌<◌, ◌≤◌, Bool, true, false, ◌||◌, cond, if◌then◌else◌, List, [], ◌∷◌, ◌++◌, length, take, get_or, filter, ◌==◌, nat_lt, inl, inr, refl, sym, ap, ◌∙◌, arith, length-append}
+use Rattle.std.specs.BTreeSet.{insert_key}
+use Rattle.std.specs.Ordering.{match_ordering, nat_cmp}
+use Rattle.std.specs.declared.cmp.Ordering.TheVariants.{Less, Equal, Greater}
 use Rattle.std.specs.List.{list_any, range_with_len}
 use Rattle.std.proofs.lemmas.Bool.{cases_lt}
 use Rattle.std.proofs.lemmas.Bool.Decides.{nat_tests}
 use Rattle.std.proofs.lemmas.List.{take_more}
+use Rattle.list_facts.proofs.Ranges.{filter_taken, filter_passed}
 use Rattle.std.proofs.lemmas.List.Folds.{list_any-append}
 use Rattle.page_keys.specs.KeyMaps.{is_in, is_touched, pages_of, bucket_of}
 use Rattle.page_keys.specs.Pages.{with_page}
 use Rattle.page_keys.specs.declared.changes.Change.{Change}
+
+-- a set of pages has one more
+pub inserted_page : (page : ℕ) (qs : List ℕ) → insert_key nat_cmp qs page ≡ with_page page qs
+inserted_page page [] = refl
+inserted_page page (q ∷ qs) =
+    by_tests (nat_lt page q) (page == q) (inserted_page page qs)
+  where
+    by_tests : (less same : Bool) → insert_key nat_cmp qs page ≡ with_page page qs →
+        match_ordering (cond less Less (cond same Equal Greater)) (page ∷ q ∷ qs) (q ∷ qs)
+        (q ∷ insert_key nat_cmp qs page)
+        ≡ cond less (page ∷ q ∷ qs) (cond same (q ∷ qs) (q ∷ with_page page qs))
+    by_tests true same later = refl
+    by_tests false true later = refl
+    by_tests false false later = ap (λ (l : List ℕ). q ∷ l) later
 
 -- with this page too
 abbrev or_page : (ℕ → Bool) → ℕ → ℕ → Bool
@@ -126,6 +144,19 @@ few_in_range t a (suc n) =
       | true ↦ omega arith
       | false ↦ omega arith
     ]
+
+-- the pages up to one more
+pub counted_more : (t : ℕ → Bool) (page : ℕ) (b : Bool) → t page ≡ b →
+    length (filter t (range_with_len 0 (page + 1)))
+    ≡ length (filter t (range_with_len 0 page)) + (if b then 1 else 0)
+counted_more t page true is =
+    ap (length {A = ℕ}) (filter_taken t 0 page page (omega arith) is)
+    ∙ length-append (filter t (range_with_len 0 page)) (page ∷ [])
+counted_more t page false is =
+    let same = ap (length {A = ℕ}) (filter_passed t 0 page page (omega arith) is) in omega (arith, same)
+
+pub few_counted : (t : ℕ → Bool) (n : ℕ) → length (filter t (range_with_len 0 n)) ≤ n
+few_counted t n = few_in_range t 0 n
 
 pub few_pages : (logical : ℕ) (cs : List Change) → length (pages_of logical cs) ≤ logical
 few_pages logical cs = few_in_range (is_touched logical cs) 0 logical

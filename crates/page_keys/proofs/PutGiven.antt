@@ -1,5 +1,5 @@
 -- What a put gives, by what its parts gave.
-use Rattle.std.proofs.Common.{◌≡◌, ◌⊎◌, ◌<◌, ◌≤◌, ℕ, Bool, true, false, List, [], ◌∷◌, ◌++◌, length, if◌then◌else◌, Option, Some, None, Result, Ok, Err, option_map, refl, sym, ap, subst, ◌∙◌, inl, inr, arith, nat_le}
+use Rattle.std.proofs.Common.{◌≡◌, ◌⊎◌, ◌+◌, ◌<◌, ◌≤◌, ℕ, Bool, true, false, List, [], ◌∷◌, ◌++◌, length, if◌then◌else◌, Option, Some, None, Result, Ok, Err, option_map, refl, sym, ap, subst, ◌∙◌, inl, inr, arith, nat_le}
 use Rattle.std.specs.List.{list_any, find}
 use Rattle.std.specs.Option.{option_or}
 use Rattle.std.specs.Result.{IsErrAnd}
@@ -20,12 +20,12 @@ use Rattle.tx_engine.specs.Naming.{is_spent}
 use Rattle.tx_engine.specs.Standing.{Standing}
 use Rattle.page_keys.specs.Buckets.{ShowsMap}
 use Rattle.page_keys.specs.KeyMaps.{KeyMap, after, pages_of, seen_by}
-use Rattle.page_keys.specs.PutAnswers.{PutGives, StaysPut, MakesAll, MakesAllOrNone}
+use Rattle.page_keys.specs.PutAnswers.{PutGives, StaysPut, MakesAll, MakesAllOrNone, ReadsFirst}
 use Rattle.page_keys.specs.Putting.{IsFull, is_put_fault}
 use Rattle.page_keys.specs.Puts as puts
 use Rattle.page_keys.specs.Puts.{early_refusal, put_refusal, spent_among, has_key, wide, repeated}
 use Rattle.page_keys.specs.Stores.{Keyed, OnlyReads}
-use Rattle.std.specs.Prelude.{OnOk, IfErr}
+use Rattle.std.specs.Prelude.{OnOk, IfErr, IsErr, IsSome}
 use Rattle.tx_engine.specs.Submit.{spent_page}
 use Rattle.array_machine.specs.declared.answers.SubmitError.TheVariants as submit
 use Rattle.page_keys.specs.Puts.{put_writes}
@@ -36,32 +36,38 @@ use Rattle.page_keys.specs.declared.answers.PutError.{PutError}
 use Rattle.page_keys.specs.declared.answers.PutError.TheVariants as refused
 use Rattle.page_keys.specs.declared.changes.Change.{Change}
 
--- the changes alone are not refused for a fault
+-- a refusal that the changes alone give
+abbrev is_early : PutError → Bool
+is_early refused.Empty = true
+is_early (refused.Repeated i) = true
+is_early (refused.Wide pages) = true
+is_early _ = false
+
 repeated_kind : (earlier cs : List Change) (e : PutError) → repeated earlier cs ≡ Some e →
-    is_put_fault e ≡ false
+    is_early e ≡ true
 repeated_kind earlier [] e is = cc
 repeated_kind earlier (c ∷ cs) e is =
     head (list_any (has_key c.key) earlier) is (repeated_kind (earlier ++ c ∷ []) cs e)
   where
     head : (b : Bool) →
         (if b then Some (refused.Repeated (length earlier)) else repeated (earlier ++ c ∷ []) cs)
-        ≡ Some e → (repeated (earlier ++ c ∷ []) cs ≡ Some e → is_put_fault e ≡ false) →
-        is_put_fault e ≡ false
+        ≡ Some e → (repeated (earlier ++ c ∷ []) cs ≡ Some e → is_early e ≡ true) →
+        is_early e ≡ true
     head true h rest =
         let same : refused.Repeated (length earlier) ≡ e = cc in
-        ap is_put_fault (sym same)
+        ap is_early (sym same)
     head false h rest = rest h
 
 wide_kind : (pending : ℕ) (ps : List ℕ) (e : PutError) → wide pending ps ≡ Some e →
-    is_put_fault e ≡ false
+    is_early e ≡ true
 wide_kind pending ps e is = head (nat_le (length ps) pending) is
   where
     head : (b : Bool) → (if b then None else Some (refused.Wide (length ps))) ≡ Some e →
-        is_put_fault e ≡ false
+        is_early e ≡ true
     head true h = cc
     head false h =
         let same : refused.Wide (length ps) ≡ e = cc in
-        ap is_put_fault (sym same)
+        ap is_early (sym same)
 
 or_some : (a b : Option PutError) (e : PutError) → option_or a b ≡ Some e →
     (a ≡ Some e) ⊎ (b ≡ Some e)
@@ -69,15 +75,25 @@ or_some None b e h = inr h
 or_some (Some x) b e h = inl h
 
 early_kind : (its : Config) (cs : List Change) (e : PutError) → early_refusal its cs ≡ Some e →
-    is_put_fault e ≡ false
+    is_early e ≡ true
 early_kind its [] e is =
     let same : refused.Empty ≡ e = cc in
-    ap is_put_fault (sym same)
+    ap is_early (sym same)
 early_kind its (c ∷ cs) e is =
     elim (or_some (repeated [] (c ∷ cs)) (wide its.pending (pages_of its.logical (c ∷ cs))) e is) [
       | inl h ↦ repeated_kind [] (c ∷ cs) e h
       | inr h ↦ wide_kind its.pending (pages_of its.logical (c ∷ cs)) e h
     ]
+
+-- changes that are not refused alone have no key twice
+pub not_repeated : (its : Config) (cs : List Change) → early_refusal its cs ≡ None →
+    repeated [] cs ≡ None
+not_repeated its [] none = refl
+not_repeated its (c ∷ cs) none = first_none (repeated [] (c ∷ cs)) _ none
+  where
+    first_none : (a b : Option PutError) → option_or a b ≡ None → a ≡ None
+    first_none None b h = refl
+    first_none (Some x) b h = cc
 
 module _ {F : Type 0} (state : F → FlashState) (old : Keyed F) (m : KeyMap) (cs : List Change)
     (usable : old.broken ≡ false) where
@@ -95,17 +111,18 @@ module _ {F : Type 0} (state : F → FlashState) (old : Keyed F) (m : KeyMap) (c
   -- a refusal, with the store as this
   named : (new : Keyed F) (e : PutError) →
       put_refusal old.device.config (is_spent old.device.noted.mentions) m cs ≡ Some e →
-      is_put_fault e ≡ false → StaysPut state old new → PutGives state old new m cs (Err e)
+      is_early e ≡ true → StaysPut state old new → PutGives state old new m cs (Err e)
   named new refused.Empty is kind stays = (is, stays)
   named new (refused.Repeated k) is kind stays = (is, stays)
   named new (refused.Wide k) is kind stays = (is, stays)
-  named new (refused.Bucket k) is kind stays = (is, stays)
-  named new (refused.Spent k) is kind stays = (is, stays)
+  named new (refused.Bucket k) is kind stays = cc
+  named new (refused.Spent k) is kind stays = cc
   named new refused.Fault is kind stays = cc
-  named new refused.Memory is kind stays = stays
+  named new refused.Memory is kind stays = cc
 
   pub early_gives : (e : PutError) →
-      (early_refusal old.device.config cs ≡ Some e) ⊎ (e ≡ refused.Memory) →
+      (early_refusal old.device.config cs ≡ Some e)
+      ⊎ ((e ≡ refused.Memory) × (early_refusal old.device.config cs ≡ None)) →
       PutGives state old old m cs (Err e)
   early_gives e (inl h) =
       named old e (ap (λ (o : Option PutError). option_or o
@@ -113,7 +130,8 @@ module _ {F : Type 0} (state : F → FlashState) (old : Keyed F) (m : KeyMap) (c
       (spent_among old.device.config (is_spent old.device.noted.mentions) cs))) h)
       (early_kind old.device.config cs e h) stays_put
   early_gives e (inr h) =
-      subst (λ (x : PutError). PutGives state old old m cs (Err x)) (sym h) stays_put
+      subst (λ (x : PutError). PutGives state old old m cs (Err x)) (sym h.0)
+      (h.1, stays_put)
 
   pub gives_error : (new : Keyed F) (r : Result (Unit {0}) PutError) (e : PutError) →
       IsErrAnd r (λ x. x ≡ e) → PutGives state old new m cs (Err e) →
@@ -152,17 +170,19 @@ module _ {F : Type 0} (state : F → FlashState) (old : Keyed F) (t : Standing F
   }
 
   -- a fault in a read: the image is as before
-  read_broken : OnlyReads state old.device t true → old.device.machine.entries ≡ [] →
+  read_broken : early_refusal old.device.config cs ≡ None → OnlyReads state old.device t true →
+      old.device.machine.entries ≡ [] →
       ShowsMap old.device.config old.device.machine.pages m →
       StandsFor old.device.machine (array_in old.device.config.protocol old.device.config.logical
       (state old.device.flash).image) →
       MakesAllOrNone state old (record { device = t; broken = true }) m cs
-  read_broken reads closed shows stands =
+  read_broken early reads closed shows stands =
       let config : t.config ≡ old.device.config = ap (λ (s : Standing F). s.config) reads.stays in
       let image = ap (λ (x : Moment). x.image) reads.moment in
       let arr = ap (array_in old.device.config.protocol old.device.config.logical) image
       ∙ stands_idle old.device.machine _ closed stands in
       record {
+        tried = early;
         left = inl (subst (λ (c : Config). ShowsMap c
             (array_in c.protocol c.logical (state t.flash).image) m) (sym config)
             (subst (λ (p : Pages). ShowsMap old.device.config p m) (sym arr) shows));
@@ -191,8 +211,8 @@ module _ {F : Type 0} (state : F → FlashState) (old : Keyed F) (t : Standing F
     reads_stay reads,
   )
   reads_give refused.Fault full early reads closed shows stands =
-      read_broken reads closed shows stands
-  reads_give refused.Memory full early reads closed shows stands = reads_stay reads
+      read_broken early reads closed shows stands
+  reads_give refused.Memory full early reads closed shows stands = (early, reads_stay reads)
   reads_give refused.Empty full early reads closed shows stands = absurd full
   reads_give (refused.Repeated k) full early reads closed shows stands = absurd full
   reads_give (refused.Wide k) full early reads closed shows stands = absurd full
@@ -286,6 +306,7 @@ module _ {F : Type 0} (state : F → FlashState) (old new : Keyed F) (t : Standi
       let before : t.machine.pages ≡ old.device.machine.pages =
       ap (λ (s : ArrayState). s.pages) its_machine in
       record {
+        tried = early;
         left = elim breaks.left [
           | inl h ↦ inl (shown_now array m breaks.moved.config
               (subst (λ (p : Pages). ShowsMap old.device.config p m) (sym (h ∙ before)) shows))
@@ -335,6 +356,84 @@ module _ {F : Type 0} (state : F → FlashState) (old new : Keyed F) (t : Standi
       IfErr r (λ e. new.broken ≡ is_put_fault e) → PutGives state old new m cs r
   write_gives (Ok u) written usable not broken = all_made written usable
   write_gives (Err e) written usable not broken = not_made e not broken
+
+-- ---- what it reads
+
+no_refusal : (o : Option PutError) → o ≡ None → IsSome o → ⊥
+no_refusal None none some = cc
+no_refusal (Some e) none some = cc
+
+-- nothing, where the changes alone are refused, or there is no memory for them
+pub reads_none : {F : Type 0} (state : F → FlashState) (old : Keyed F) (cs : List Change)
+    (r : Result (Unit {0}) PutError) → IsErr r → ReadsFirst state old old cs r
+reads_none state old cs (Err e) err = record {
+  read = old.device.flash;
+  moment = refl;
+  reads = omega arith;
+  early = λ some. refl;
+  left = λ kind. refl;
+  moves = FlashMoves-nothing (state old.device.flash) (state old.device.flash) (is_put_fault e) refl;
+}
+reads_none state old cs (Ok u) err = cc
+
+module _ {F : Type 0} (state : F → FlashState) (old new : Keyed F) (t : Standing F) (cs : List Change)
+    (reads : OnlyReads state old.device t false)
+    (count : (state t.flash).reads
+    ≤ (state old.device.flash).reads + length (pages_of old.device.config.logical cs))
+    (early : early_refusal old.device.config cs ≡ None) where
+  not_early : IsSome (early_refusal old.device.config cs) → t.flash ≡ old.device.flash
+  not_early some = absurd (no_refusal _ early some)
+
+  -- and then it wrote
+  pub reads_then_wrote : (ws : List PageWrite) (r : Result (Unit {0}) PutError) →
+      OnOk r (Writes state t new.device ws) → IfErr r (WritesNot state t new.device ws) →
+      ReadsFirst state old new cs r
+  reads_then_wrote ws (Ok u) written not = record {
+    read = t.flash;
+    moment = reads.moment;
+    reads = count;
+    early = not_early;
+    left = tt;
+    moves = written.moved.moves;
+  }
+  reads_then_wrote ws (Err (refused.Spent page)) written not = record {
+    read = t.flash;
+    moment = reads.moment;
+    reads = count;
+    early = not_early;
+    left = λ kind. not.1.flash;
+    moves = FlashMoves-nothing (state t.flash) (state new.device.flash) false
+        (ap (λ (f : F). moment_of (state f)) not.1.flash);
+  }
+  reads_then_wrote ws (Err refused.Fault) written not = record {
+    read = t.flash;
+    moment = reads.moment;
+    reads = count;
+    early = not_early;
+    left = λ kind. cc;
+    moves = not.moved.moves;
+  }
+  reads_then_wrote ws (Err refused.Empty) written not = absurd not
+  reads_then_wrote ws (Err (refused.Repeated k)) written not = absurd not
+  reads_then_wrote ws (Err (refused.Wide k)) written not = absurd not
+  reads_then_wrote ws (Err (refused.Bucket k)) written not = absurd not
+  reads_then_wrote ws (Err refused.Memory) written not = absurd not
+
+-- or that was all
+pub reads_alone : {F : Type 0} (state : F → FlashState) (old : Keyed F) (t : Standing F)
+    (cs : List Change) (e : PutError) (broken : Bool) → OnlyReads state old.device t (is_put_fault e) →
+    (state t.flash).reads
+    ≤ (state old.device.flash).reads + length (pages_of old.device.config.logical cs) →
+    early_refusal old.device.config cs ≡ None →
+    ReadsFirst state old (record { device = t; broken = broken }) cs (Err e)
+reads_alone state old t cs e broken reads count early = record {
+  read = t.flash;
+  moment = reads.moment;
+  reads = count;
+  early = λ some. absurd (no_refusal _ early some);
+  left = λ kind. refl;
+  moves = FlashMoves-nothing (state t.flash) (state t.flash) (is_put_fault e) refl;
+}
 
 module _ (protocol : Protocol) (logical : ℕ) where
   length_array : (image : List Contents) → length (array_in protocol logical image) ≡ logical

@@ -20,7 +20,7 @@ use Rattle.page_keys.specs.Puts as puts
 use Rattle.page_keys.specs.Puts.{IsKeyChange, is_over, write_of, put_writes, early_refusal, wide}
 use Rattle.page_keys.specs.declared.changes.Change.{Change}
 use Rattle.page_keys.specs.declared.answers.PutError.TheVariants as refused
-use Rattle.page_keys.proofs.BucketChanges.{each_after}
+use Rattle.page_keys.proofs.BucketChanges.{each_after, all_filtered}
 use Rattle.page_keys.proofs.Parts.{entries_change}
 use Rattle.page_keys.specs.Entries.{changed}
 
@@ -174,7 +174,8 @@ module _ (its : Config) (m : KeyMap) (cs : List Change) (pages : Pages)
       let room = none_found (is_over its (after m cs)) (pages_of its.logical cs) page
       (map_none _ _ fits) there in
       record {
-        each = each_after its m cs page _ (shows page exists) valid;
+        each = each_after its m cs page _ (shows page exists)
+            (all_filtered IsKeyChange (λ c. is_in its.logical page c.key) cs valid);
         fits = not_over its.page_bytes _ room;
         spelled = refl;
       }

@@ -94,10 +94,13 @@ module _ {F : Type 0} (s t : Standing F) (room : List ℕ) (logical page : ℕ)
       (subst (λ k. IsBucket s.config.page_bytes k page room) (sym its)
       (subst (λ (b : List ℕ). IsBucket s.config.page_bytes s.config.logical page b) (sym here) h))
 
-pub is_more : (p q n r : ℕ) → p ≡ q → p / 32 < r → r ≡ n → nat_lt q (32 * n) ≡ true
-is_more p q n r same more size =
+pub is_over_by : (p q n r : ℕ) → p ≡ q → p / 32 < r → r ≤ n → nat_lt q (32 * n) ≡ true
+is_over_by p q n r same more least =
     let over : q < 32 * n = omega arith in
     grind (arith, nat_tests)
+
+pub is_more : (p q n r : ℕ) → p ≡ q → p / 32 < r → r ≡ n → nat_lt q (32 * n) ≡ true
+is_more p q n r same more size = is_over_by p q n r same more (omega arith)
 
 pub is_within : (p q n r : ℕ) → p ≡ q → r ≤ p / 32 → r ≡ n →
     (32 * n ≤ q) × (nat_lt q (32 * n) ≡ false)

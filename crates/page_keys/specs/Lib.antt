@@ -1,5 +1,6 @@
 pub mod Buckets
 pub mod Entries
+pub mod Groups
 pub mod KeyMaps
 pub mod KeyReplies
 pub mod KeyRuns

@@ -1,14 +1,16 @@
 -- What a put answers, and what it leaves.
-use Rattle.std.specs.Prelude.{◌≡◌, ◌⊎◌, ℕ, true, false, List, None, Some, Result, Ok, Err}
+use Rattle.std.specs.Prelude.{◌≡◌, ◌⊎◌, ◌≤◌, ◌+◌, ℕ, true, false, List, length, None, Some, IsSome, IfErr, Result, Ok, Err}
 use Rattle.flash_model.specs.Flash.{FlashState}
 use Rattle.flash_model.specs.Calls.{Carries}
+use Rattle.flash_model.specs.Moves.{FlashMoves}
 use Rattle.flash_model.specs.Operations.{moment_of}
 use Rattle.version_index.specs.Images.{array_in}
 use Rattle.tx_engine.specs.Always.{IsSeen}
 use Rattle.tx_engine.specs.Naming.{is_spent}
 use Rattle.page_keys.specs.Buckets.{ShowsMap}
-use Rattle.page_keys.specs.KeyMaps.{KeyMap, after, seen_by}
-use Rattle.page_keys.specs.Puts.{put_refusal}
+use Rattle.page_keys.specs.KeyMaps.{KeyMap, after, pages_of, seen_by}
+use Rattle.page_keys.specs.Putting.{is_failed, is_put_fault}
+use Rattle.page_keys.specs.Puts.{early_refusal, put_refusal}
 use Rattle.page_keys.specs.Stores.{Keyed}
 use Rattle.page_keys.specs.Writing.{Moved}
 use Rattle.page_keys.specs.declared.answers.PutError.{PutError}
@@ -38,6 +40,7 @@ pub record MakesAll {F : Type 0} (state : F → FlashState) (old new : Keyed F) 
 -- the image shows the map as it was, or with all changes, which were not refused
 pub record MakesAllOrNone {F : Type 0} (state : F → FlashState) (old new : Keyed F) (m : KeyMap)
     (cs : List Change) : Type 0 where
+  pub tried : early_refusal old.device.config cs ≡ None
   pub left : let array = array_in new.device.config.protocol new.device.config.logical
       (state new.device.flash).image in
       ShowsMap new.device.config array m
@@ -52,7 +55,20 @@ abbrev pub PutGives : {F : Type 0} → (F → FlashState) → Keyed F → Keyed 
     List Change → Result (Unit {0}) PutError → Type 0
 PutGives state old new m cs (Ok u) = MakesAll state old new m cs
 PutGives state old new m cs (Err refused.Fault) = MakesAllOrNone state old new m cs
-PutGives state old new m cs (Err refused.Memory) = StaysPut state old new
+PutGives state old new m cs (Err refused.Memory) =
+    (early_refusal old.device.config cs ≡ None) × StaysPut state old new
 PutGives state old new m cs (Err e) =
     (put_refusal old.device.config (is_spent old.device.noted.mentions) m cs ≡ Some e)
     × StaysPut state old new
+
+-- How a put reads. Each page of its keys is read at most once before it writes, and none where its changes alone refuse it: then the
+-- flash is this one. A put that is refused, or finds no memory, leaves it so.
+pub record ReadsFirst {F : Type 0} (state : F → FlashState) (old new : Keyed F) (cs : List Change)
+    (result : Result (Unit {0}) PutError) : Type 0 where
+  pub read : F
+  pub moment : moment_of (state read) ≡ moment_of (state old.device.flash)
+  pub reads : (state read).reads
+      ≤ (state old.device.flash).reads + length (pages_of old.device.config.logical cs)
+  pub early : IsSome (early_refusal old.device.config cs) → read ≡ old.device.flash
+  pub left : IfErr result (λ e. is_put_fault e ≡ false → new.device.flash ≡ read)
+  pub moves : FlashMoves (state read) (state new.device.flash) (is_failed result)

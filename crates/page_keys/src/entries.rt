@@ -1,10 +1,11 @@
 ghost use Rattle.std.specs.Prelude.{◌≡◌, ◌<◌, ◌≤◌, ◌++◌, ◌∷◌, ◌*◌, ℕ, List, [], length, flat_map, IsTrue, IfOk, IfErr, OnOk, OnErr, All};
-ghost use Rattle.page_keys.specs.KeyMaps.{is_ascending, of_page};
+ghost use Rattle.page_keys.specs.Groups.{changes_of};
+ghost use Rattle.page_keys.specs.KeyMaps.{is_ascending};
 ghost use Rattle.page_keys.specs.Entries.{changed, with_pair, IsFoundAt, IsGapAt};
 ghost use Rattle.page_keys.specs.Buckets.{entry_bytes};
 
 use crate::changes::Change;
-use crate::hashing::bucket;
+use crate::grouping::Placed;
 use crate::short::Short;
 use std::cmp::Ordering;
 use tx_types::Memory;
@@ -50,22 +51,14 @@ fn change(entries: &mut Vec<Entry>, change: &Change) -> Result<(), Memory>
     Ok(())
 }
 
-/// Makes the changes of keys of a page, in their order, among its entries.
-pub(crate) fn merge(
-    entries: &mut Vec<Entry>,
-    changes: &[Change],
-    logical: u32,
-    page: u32,
-) -> Result<(), Memory>
-    requires exist { 0 < logical }
-    requires ascend { IsTrue (is_ascending entries.old.items) }
+/// Makes changes, in their order, among entries in ascending order.
+pub(crate) fn merge(entries: &mut Vec<Entry>, changes: &[Placed<'_>]) -> Result<(), Memory>
+    requires { IsTrue (is_ascending entries.old.items) }
     ensures { OnOk result
-        (entries.new.items ≡ changed entries.old.items (of_page logical page changes.now)) }
+        (entries.new.items ≡ changed entries.old.items (changes_of changes.now)) }
 {
-    for one in changes {
-        if bucket(one.key.as_slice(), logical) == page {
-            change(entries, one)?;
-        }
+    for placed in changes {
+        change(entries, placed.1)?;
     }
     Ok(())
 }

@@ -1,15 +1,18 @@
-ghost use Rattle.std.specs.Prelude.{◌≡◌, ◌<◌, ◌≤◌, ◌+◌, ◌^◌, [], None, Some, true, length, IfOk, IfErr, OnErr};
+ghost use Rattle.std.specs.Prelude.{◌≡◌, List, ◌<◌, ◌≤◌, ◌+◌, ◌^◌, [], None, Some, true, length, IfOk, IfErr, OnErr};
 ghost use Rattle.tx_engine.specs.ArrayState.{page_at};
-ghost use Rattle.page_keys.specs.KeyMaps.{KeyMap, pages_of};
+ghost use Rattle.page_keys.specs.Groups.{changes_of};
+ghost use Rattle.page_keys.specs.KeyMaps.{KeyMap, of_page, pages_of};
 ghost use Rattle.page_keys.specs.Buckets.{ShowsMap};
 ghost use Rattle.std.specs.List.{AllByRecursion};
-ghost use Rattle.page_keys.specs.Puts.{IsKeyChange};
+ghost use Rattle.page_keys.specs.Puts.{IsKeyChange, repeated};
 ghost use Rattle.page_keys.specs.Stores.{HasKeys, OnlyReads};
+ghost use Rattle.page_keys.specs.declared.changes.Change.{Change};
 ghost use Rattle.page_keys.specs.Putting.{is_put_fault, is_failed, HasNewBytes, IsTooMuch, HasWrites, IsFull};
 
 use crate::answers::PutError;
 use crate::changes::Change;
 use crate::entries::{merge, write};
+use crate::grouping::{Placed, by_page, count_values, of_page};
 use crate::pages::read_page;
 use crate::reading::{ENTRY_BYTES, read};
 use flash_model::Flash;
@@ -18,36 +21,43 @@ use std::alloc::Global;
 use tx_engine::{Device, held_always};
 use tx_types::Batch;
 
-/// The bytes of the entries of a page after changes. The page is read, once.
+/// The bytes of the entries of a page after its changes of a put, whose keys differ. The page is read once, unless the values
+/// that are put alone do not fit in it.
 fn rewritten<F: Flash, R: CommitRule>(
     alloc: Global,
     device: &mut Device<F, R>,
     room: &mut [u8],
     page: u32,
-    changes: &[Change],
+    changes: &[Placed<'_>],
 ) -> Result<Vec<u8>, PutError>
     requires keys { HasKeys device.old }
-    requires valid { AllByRecursion IsKeyChange changes.now }
+    requires valid { AllByRecursion IsKeyChange (changes_of changes.now) }
     requires room { length room.old ≡ device.old.config.page_bytes }
     requires exists { page < device.old.config.logical }
-    ensures bytes { IfOk result (λ v. (m : KeyMap) →
+    ensures bytes { IfOk result (λ v. (m : KeyMap) (cs : List Change) →
+        of_page device.old.config.logical page cs ≡ changes_of changes.now →
         ShowsMap device.old.config device.old.machine.pages m →
-        HasNewBytes device.old.config m changes.now page v.items) }
+        HasNewBytes device.old.config m cs page v.items) }
     ensures within { IfOk result (λ v. length v.items ≤ device.old.config.page_bytes) }
-    ensures refused { IfErr result (λ e. (m : KeyMap) →
-        ShowsMap device.old.config device.old.machine.pages m →
-        IsTooMuch device.old.config m changes.now page e) }
+    ensures refused { IfErr result (λ e. (m : KeyMap) (cs : List Change) →
+        of_page device.old.config.logical page cs ≡ changes_of changes.now →
+        repeated [] cs ≡ None → ShowsMap device.old.config device.old.machine.pages m →
+        IsTooMuch device.old.config m cs page e) }
     ensures reads { OnlyReads F.state device.old device.new (is_failed result) }
     ensures once { (F.state device.new.flash).reads ≤ (F.state device.old.flash).reads + 1 }
 {
     let config = held_always(device);
+    let most = config.page_bytes as usize / ENTRY_BYTES;
+    if count_values(changes) > most {
+        return Err(PutError::Bucket(page));
+    }
     read_page(device, room, page)?;
     let mut entries = Vec::new(alloc);
     if !read(room, config.logical, page, &mut entries)? {
         unreachable!();
     }
-    merge(&mut entries, changes, config.logical, page)?;
-    if entries.len() > config.page_bytes as usize / ENTRY_BYTES {
+    merge(&mut entries, changes)?;
+    if entries.len() > most {
         return Err(PutError::Bucket(page));
     }
     let mut bytes = Vec::new(alloc);
@@ -55,7 +65,7 @@ fn rewritten<F: Flash, R: CommitRule>(
     Ok(bytes)
 }
 
-/// What a put writes of the pages of its keys. Each of them is read, once.
+/// What a put writes of the pages of its keys, which differ. Each of them is read, once.
 pub(crate) fn rewritten_all<F: Flash, R: CommitRule>(
     alloc: Global,
     device: &mut Device<F, R>,
@@ -65,6 +75,7 @@ pub(crate) fn rewritten_all<F: Flash, R: CommitRule>(
 ) -> Result<Batch, PutError>
     requires keys { HasKeys device.old }
     requires valid { AllByRecursion IsKeyChange changes.now }
+    requires differ { repeated [] changes.now ≡ None }
     requires room { length room.old ≡ device.old.config.page_bytes }
     requires pages { pages.now ≡ pages_of device.old.config.logical changes.now }
     ensures size { IfOk result (λ b. b.page_bytes ≡ device.old.config.page_bytes) }
@@ -78,10 +89,11 @@ pub(crate) fn rewritten_all<F: Flash, R: CommitRule>(
     ensures count { (F.state device.new.flash).reads
         ≤ (F.state device.old.flash).reads + length pages.now }
 {
-    let page_bytes = held_always(device).page_bytes;
-    let mut batch = Batch::new(alloc, page_bytes);
+    let config = held_always(device);
+    let placed = by_page(alloc, config.logical, changes)?;
+    let mut batch = Batch::new(alloc, config.page_bytes);
     for page in pages {
-        let bytes = rewritten(alloc, device, room, *page, changes)?;
+        let bytes = rewritten(alloc, device, room, *page, of_page(&placed, *page))?;
         batch.add(*page, &bytes)?;
     }
     Ok(batch)

@@ -11,7 +11,7 @@ ghost use Rattle.tx_engine.specs.ArrayState.{put};
 ghost use Rattle.tx_engine.specs.Standing.{limits_of};
 ghost use Rattle.tx_engine.specs.Submit.{first_refusals};
 ghost use Rattle.page_keys.specs.Buckets.{AreBuckets};
-ghost use Rattle.page_keys.specs.PutAnswers.{PutGives};
+ghost use Rattle.page_keys.specs.PutAnswers.{PutGives, ReadsFirst};
 ghost use Rattle.page_keys.specs.Putting.{is_put_fault};
 ghost use Rattle.page_keys.specs.Puts.{IsKeyChange};
 ghost use Rattle.page_keys.specs.Writing.{Writes, WritesNot};
@@ -117,9 +117,10 @@ impl<F: Flash, R: CommitRule> KeyStore<F, R> {
         requires usable { self.old.broken ≡ false }
         requires keys { AllByRecursion IsKeyChange changes.now }
         requires few { length changes.now < 2 ^ 32 }
-        ensures { (m : KeyMap) →
+        ensures gives { (m : KeyMap) →
             ShowsMap self.old.device.config self.old.device.machine.pages m →
             PutGives F.state self.old self.new m changes.now result }
+        ensures reads { ReadsFirst F.state self.old self.new changes.now result }
     {
         let config = held_always(&self.device);
         let list = changes.as_slice();

@@ -9,13 +9,13 @@ pub returns-in-Ok-clause-ok : goal.returns-in-Ok-clause-ok
 returns-in-Ok-clause-ok g c m shows =
     stored_here g.F.Flash.state g.R.CommitRule.protocol c.args.store.now c.put.new.self
     c.config.ensures.always c.args.changes.now m shows _
-    (ap length c.as_slice.ensures) (c.in-Ok.ensures m shows)
+    (ap length c.as_slice.ensures) (c.in-Ok.ensures.gives m shows)
 
 pub returns-in-Some-clause-ok : goal.returns-in-Some-clause-ok
 returns-in-Some-clause-ok g c m shows =
     put_here g.F.Flash.state g.R.CommitRule.protocol c.args.store.now c.put.new.self
     c.config.ensures.always c.args.changes.now m shows c.in-Err.refusal c.in-Some.reply
-    (c.in-Err.ensures m shows)
+    (c.in-Err.ensures.gives m shows)
     (ap (λ (cs : List Change). reply_of cs c.in-Err.refusal) (sym c.as_slice-in-Err.ensures)
     ∙ sym c.refused.ensures ∙ c.in-Some.is)
 
@@ -26,6 +26,6 @@ returns-in-None-clause-err g c =
     let shown = shows_some its pages (c.config.ensures.keys c.requires.usable).buckets in
     memory_here g.F.Flash.state g.R.CommitRule.protocol c.args.store.now c.put.new.self
     c.config.ensures.always c.args.changes.now shown.0 shown.1 c.in-Err.refusal
-    (c.in-Err.ensures shown.0 shown.1)
+    (c.in-Err.ensures.gives shown.0 shown.1)
     (ap (λ (cs : List Change). reply_of cs c.in-Err.refusal) (sym c.as_slice-in-Err.ensures)
     ∙ sym c.refused.ensures ∙ c.in-None.is)

@@ -3,13 +3,14 @@ use Rattle.tx_types.specs.declared.config.Config.{Config}
 use Rattle.tx_types.specs.declared.memory.Memory.{Memory}
 use Rattle.std.specs.List.{AllByRecursion}
 use Rattle.page_keys.specs.Puts.{IsKeyChange}
-use Rattle.page_keys.specs.KeyMaps.{is_in}
+use Rattle.std.specs.Prelude.{count_by}
+use Rattle.page_keys.specs.Groups.{puts_value}
 use Rattle.page_keys.specs.Buckets.{entry_bytes, IsEntry}
-use Rattle.page_keys.specs.KeyMaps.{of_page}
 use Rattle.page_keys.specs.Entries.{changed}
-use Rattle.page_keys.proofs.BucketChanges.{merged_are, each_after, each_changed, all_filtered}
+use Rattle.page_keys.proofs.BucketChanges.{merged_are, each_after, each_changed}
+use Rattle.page_keys.proofs.Inserts.{puts_most}
 use Rattle.page_keys.proofs.EntriesLeft.{length_entries}
-use Rattle.page_keys.proofs.StoreReads.{bucket_back, bucket_of_read, is_more, is_within}
+use Rattle.page_keys.proofs.StoreReads.{bucket_back, bucket_of_read, is_over_by, is_more, is_within}
 use Rattle.page_keys.proofs.putting.rewritten.Goals as goal
 
 okay : (b d : Bool) → b ≡ d → let left : Result Bool Memory = Ok b in left ≡ Ok d
@@ -24,45 +25,55 @@ unreachable-requires g c =
     (ap (λ (x : Config). x.logical) c.held_always-config.ensures.config)
     (c.requires.keys.buckets c.args.page c.requires.exists))
 
-pub returns-then-len-config-clause-refused : goal.returns-then-len-config-clause-refused
-returns-then-len-config-clause-refused g c m shows =
+-- values that do not fit alone
+pub returns-then-count_values-most-clause-refused :
+    goal.returns-then-count_values-most-clause-refused
+returns-then-count_values-most-clause-refused g c m cs same differ shows =
+    let s = c.args.device.now in
+    let least = puts_most s.config.logical c.args.page m cs differ in
+    let count = c.count_values.ensures ∙ ap (count_by puts_value) (sym same) in
+    let size = ap (λ (x : Config). x.page_bytes) c.held_always-config.ensures.config in
+    (refl, is_over_by _ _ _ _ size c.if-count_values-most.true
+    (let most = least in omega (arith, most, count)))
+
+pub returns-then-len-most-clause-refused : goal.returns-then-len-most-clause-refused
+returns-then-len-most-clause-refused g c m cs same differ shows =
     let s = c.args.device.now in
     let config = c.held_always-config.ensures.config in
     let is = bucket_of_read s s c.read_page.new.room c.held_always-config.result.logical
     c.args.page refl c.in_ok-read_page.ensures.shown
     (c.read_page.auto.room ∙ c.requires.room) (ap (λ (x : Config). x.logical) config)
     c.read.new.into.items (c.in_ok-read.ensures.yes (okay _ _ c.if-not-branch.false)) in
-    let made = c.in_ok-merge.ensures ∙ ap (λ (x : Config).
-    changed c.read.new.into.items (of_page x.logical c.args.page c.args.changes.now)) config in
-    let merged = merged_are s.config m c.args.changes.now c.args.page _
+    let made = c.in_ok-merge.ensures ∙ ap (changed c.read.new.into.items) (sym same) in
+    let merged = merged_are s.config m cs c.args.page _
     (shows c.args.page c.requires.exists) c.read.new.into.items c.merge.new.entries.items is
     made in (
       refl,
       is_more c.held_always-config.result.page_bytes s.config.page_bytes _ c.len.result
-          (ap (λ (x : Config). x.page_bytes) config) c.if-len-config.true
+          (ap (λ (x : Config). x.page_bytes) config) c.if-len-most.true
           (c.len.ensures ∙ c.merge.new.entries.ok.0 ∙ ap length merged),
     )
 
 pub returns-clause-bytes : goal.returns-clause-bytes
-returns-clause-bytes g c m shows =
+returns-clause-bytes g c m cs same shows =
     let s = c.args.device.now in
     let config = c.held_always-config.ensures.config in
     let is = bucket_of_read s s c.read_page.new.room c.held_always-config.result.logical
     c.args.page refl c.in_ok-read_page.ensures.shown
     (c.read_page.auto.room ∙ c.requires.room) (ap (λ (x : Config). x.logical) config)
     c.read.new.into.items (c.in_ok-read.ensures.yes (okay _ _ c.if-not-branch.false)) in
-    let made = c.in_ok-merge.ensures ∙ ap (λ (x : Config).
-    changed c.read.new.into.items (of_page x.logical c.args.page c.args.changes.now)) config in
+    let made = c.in_ok-merge.ensures ∙ ap (changed c.read.new.into.items) (sym same) in
     let here = shows c.args.page c.requires.exists in
-    let merged = merged_are s.config m c.args.changes.now c.args.page _ here
+    let merged = merged_are s.config m cs c.args.page _ here
     c.read.new.into.items c.merge.new.entries.items is made in
     let few = is_within c.held_always-config.result.page_bytes s.config.page_bytes _ c.len.result
-    (ap (λ (x : Config). x.page_bytes) config) c.if-len-config.false
+    (ap (λ (x : Config). x.page_bytes) config) c.if-len-most.false
     (c.len.ensures ∙ c.merge.new.entries.ok.0 ∙ ap length merged) in
     let bytes = c.in_ok-write.ensures
     ∙ ap (λ (l : List ℕ). l ++ flat_map entry_bytes c.deref.result.now) c.new-bytes.ensures.items
     ∙ ap (flat_map entry_bytes) (c.deref.ensures.value ∙ merged) in
-    let each = each_after s.config m c.args.changes.now c.args.page _ here c.requires.valid in
+    let each = each_after s.config m cs c.args.page _ here
+    (subst (AllByRecursion IsKeyChange) (sym same) c.requires.valid) in
     let size = ap length bytes ∙ length_entries _ each in
     record {
       bytes_are = bytes;
@@ -78,14 +89,10 @@ returns-clause-within g c =
     c.args.page refl c.in_ok-read_page.ensures.shown
     (c.read_page.auto.room ∙ c.requires.room) (ap (λ (x : Config). x.logical) config)
     c.read.new.into.items (c.in_ok-read.ensures.yes (okay _ _ c.if-not-branch.false)) in
-    let cs = of_page c.held_always-config.result.logical c.args.page c.args.changes.now in
-    let valid = all_filtered IsKeyChange
-    (λ x. is_in c.held_always-config.result.logical c.args.page x.key) c.args.changes.now
-    c.requires.valid in
     let each = subst (AllByRecursion IsEntry) (sym c.in_ok-merge.ensures)
-    (each_changed c.read.new.into.items cs valid is.holds.each) in
+    (each_changed c.read.new.into.items _ c.requires.valid is.holds.each) in
     let few = is_within c.held_always-config.result.page_bytes s.config.page_bytes _ c.len.result
-    (ap (λ (x : Config). x.page_bytes) config) c.if-len-config.false
+    (ap (λ (x : Config). x.page_bytes) config) c.if-len-most.false
     (c.len.ensures ∙ c.merge.new.entries.ok.0) in
     let bytes = c.in_ok-write.ensures
     ∙ ap (λ (l : List ℕ). l ++ flat_map entry_bytes c.deref.result.now) c.new-bytes.ensures.items

@@ -1,13 +1,18 @@
 use Rattle.std.proofs.Common.{◌<◌, false, get_or, length, ap, sym, subst, ◌∙◌, arith}
 use Rattle.std.specs.Prelude.{Result, Ok, Err, IfErr}
+use Rattle.std.specs.List.{AllByRecursion}
+use Rattle.std.specs.List.Sorted.{IsNonDecreasingBy}
 use Rattle.std.specs.Result.{IsErrAnd}
+use Rattle.tx_types.specs.declared.config.Config.{Config}
 use Rattle.page_keys.specs.Putting.{IsFull}
 use Rattle.page_keys.specs.declared.answers.PutError.{PutError}
 use Rattle.tx_types.specs.Batch.{Writes}
 use Rattle.tx_engine.specs.Standing.{Standing}
-use Rattle.page_keys.specs.KeyMaps.{KeyMap, after}
+use Rattle.page_keys.specs.KeyMaps.{KeyMap, after, is_in}
 use Rattle.page_keys.specs.Buckets.{ShowsMap}
-use Rattle.page_keys.specs.Puts.{is_over}
+use Rattle.page_keys.specs.Puts.{IsKeyChange, is_over}
+use Rattle.page_keys.proofs.BucketChanges.{all_filtered}
+use Rattle.page_keys.proofs.PlacedChanges.{page_in, group_is}
 use Rattle.page_keys.proofs.StoreReads.{keeps_keys, reads_then}
 use Rattle.page_keys.proofs.PutLoop.{page_exists, find_past, is_full, all_written, entry_added, shows_there, bytes_back, much_back}
 use Rattle.page_keys.proofs.putting.rewritten_all.Goals as goal
@@ -30,11 +35,27 @@ rewritten-requires-clause-exists g c =
     (page_exists c.args.device.now.config.logical c.args.changes.now c.args.pages.now
     c.loop-page.page-index c.requires.pages c.loop-page-test.true)
 
+pub of_page-requires : goal.of_page-requires
+of_page-requires g c =
+    subst (IsNonDecreasingBy page_in) (sym c.deref.ensures.value) c.in_ok-placed.ensures.ascends
+
+pub rewritten-requires-clause-valid : goal.rewritten-requires-clause-valid
+rewritten-requires-clause-valid g c =
+    let p = get_or c.args.pages.now c.loop-page.page-index 0 in
+    let logical = c.loop-page.device.config.logical in
+    subst (AllByRecursion IsKeyChange) (group_is c.held_always-config.result.logical c.loop-page.device.config.logical
+    (get_or c.args.pages.now c.loop-page.page-index 0) c.args.changes.now
+    c.in_ok-placed.placed.items c.deref.result.now c.of_page.result.now
+    (ap (λ (x : Standing g.row.F.Denot). x.config.logical) c.loop-page.invariant.reads.stays
+    ∙ sym (ap (λ (x : Config). x.logical) c.held_always-config.ensures.config))
+    c.in_ok-placed.ensures c.deref.ensures.value c.of_page.ensures)
+    (all_filtered IsKeyChange (λ x. is_in logical p x.key) c.args.changes.now c.requires.valid)
+
 pub add-requires : goal.add-requires
 add-requires g c =
     let same = ap (λ (s : Standing g.row.F.Denot). s.config.page_bytes)
     c.loop-page.invariant.reads.stays in
-    let size = ap length c.deref.ensures.value in
+    let size = ap length c.deref-in-loop-page.ensures.value in
     omega (arith, size, c.in_ok-bytes.ensures.within, same, c.loop-page.invariant.size)
 
 pub returns-in_err-bytes-clause-refused : goal.returns-in_err-bytes-clause-refused
@@ -49,8 +70,15 @@ returns-in_err-bytes-clause-refused g c =
     is_full s.config m c.args.changes.now c.args.pages.now c.loop-page.page-index
     c.requires.pages (i.writes m shows).1 c.loop-page-test.true e
     (much_back s t i.reads.stays m c.args.changes.now _ e
-    (c.in_err-bytes.ensures.refused m (shows_there s t i.reads.stays m shows))) in
-    if_err c.from_residual.result _ F c.from_residual.ensures.1 (λ x is. subst F (sym is) one)
+    (c.in_err-bytes.ensures.refused m c.args.changes.now (group_is c.held_always-config.result.logical c.loop-page.device.config.logical
+    (get_or c.args.pages.now c.loop-page.page-index 0) c.args.changes.now
+    c.in_ok-placed.placed.items c.deref.result.now c.of_page.result.now
+    (ap (λ (x : Standing g.row.F.Denot). x.config.logical) c.loop-page.invariant.reads.stays
+    ∙ sym (ap (λ (x : Config). x.logical) c.held_always-config.ensures.config))
+    c.in_ok-placed.ensures c.deref.ensures.value c.of_page.ensures)
+    c.requires.differ
+    (shows_there s t i.reads.stays m shows))) in
+    if_err c.from_residual-in_err-bytes.result _ F c.from_residual-in_err-bytes.ensures.1 (λ x is. subst F (sym is) one)
 
 pub loop-page-preserved : goal.loop-page-preserved
 loop-page-preserved g c =
@@ -67,11 +95,17 @@ loop-page-preserved g c =
       writes = λ m shows.
           let before = i.writes m shows in
           let made = bytes_back s t i.reads.stays m c.args.changes.now p _
-          (c.in_ok-bytes.ensures.bytes m (shows_there s t i.reads.stays m shows)) in (
+          (c.in_ok-bytes.ensures.bytes m c.args.changes.now (group_is c.held_always-config.result.logical c.loop-page.device.config.logical
+    (get_or c.args.pages.now c.loop-page.page-index 0) c.args.changes.now
+    c.in_ok-placed.placed.items c.deref.result.now c.of_page.result.now
+    (ap (λ (x : Standing g.row.F.Denot). x.config.logical) c.loop-page.invariant.reads.stays
+    ∙ sym (ap (λ (x : Config). x.logical) c.held_always-config.ensures.config))
+    c.in_ok-placed.ensures c.deref.ensures.value c.of_page.ensures)
+          (shows_there s t i.reads.stays m shows)) in (
             ap (λ (b : Writes). b.entries) added
                 ∙ entry_added s.config (after m c.args.changes.now) c.loop-page.batch c.args.pages.now
-                c.loop-page.page-index c.deref.result.now c.loop-page-test.true i.size
-                (c.deref.ensures.value ∙ made.bytes_are) before.0,
+                c.loop-page.page-index c.deref-in-loop-page.result.now c.loop-page-test.true i.size
+                (c.deref-in-loop-page.ensures.value ∙ made.bytes_are) before.0,
             before.1 ∙ find_past (is_over s.config (after m c.args.changes.now)) c.args.pages.now
                 c.loop-page.page-index c.loop-page-test.true made.fits,
           );

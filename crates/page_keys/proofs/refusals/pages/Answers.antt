@@ -1,9 +1,10 @@
-use Rattle.std.proofs.Common.{take, sym, ◌∙◌}
-use Rattle.page_keys.proofs.PageLists.{no_pages, pages_more, few_pages}
+use Rattle.std.proofs.Common.{take, sym, ap, ◌∙◌}
+use Rattle.page_keys.specs.Pages.{with_page}
+use Rattle.page_keys.proofs.PageLists.{no_pages, inserted_page, pages_more, few_pages}
 use Rattle.page_keys.proofs.refusals.pages.Goals as goal
 
 pub loop-change-init : goal.loop-change-init
-loop-change-init c = c.new-pages.ensures.items ∙ sym (no_pages c.args.logical)
+loop-change-init c = c.new-pages.ensures.empty ∙ sym (no_pages c.args.logical)
 
 pub loop-change-preserved : goal.loop-change-preserved
 loop-change-preserved c =
@@ -11,7 +12,8 @@ loop-change-preserved c =
     c.loop-change.change-index c.change-item.result c.as_slice.result.now
     c.loop-change-test.true c.change-item.is c.as_slice.ensures.bytes c.bucket.ensures.bucket
     c.bucket.ensures.exists in
-    rw (c.in_ok-add_page.ensures, c.loop-change.invariant) (sym more)
+    c.in_ok-insert.ensures.keys ∙ inserted_page c.bucket.result _
+    ∙ ap (λ ps. with_page c.bucket.result ps) c.loop-change.invariant ∙ sym more
 
 pub returns-clause-few : goal.returns-clause-few
 returns-clause-few c =

@@ -1,4 +1,6 @@
-use Rattle.std.proofs.Common.{◌≡◌, ◌⊎◌, ◌<◌, List, [], length, ap, sym, subst, ◌∙◌, Some, None, Err, arith}
+use Rattle.std.proofs.Common.{◌≡◌, ◌⊎◌, ◌+◌, ◌<◌, ◌≤◌, Result, Ok, List, [], length, ap, refl, sym, subst, ◌∙◌, Some, None, Err, arith}
+use Rattle.std.specs.Prelude.{IsErr}
+use Rattle.std.specs.Result.{IsErrAnd}
 use Rattle.tx_types.specs.declared.config.Config.{Config}
 use Rattle.tx_types.proofs.ConfigLemmas.{checked_config}
 use Rattle.tx_types.specs.Batch.{PageWrite}
@@ -6,8 +8,8 @@ use Rattle.tx_engine.specs.ArrayState.{put}
 use Rattle.tx_engine.specs.Standing.{Standing, limits_of}
 use Rattle.tx_engine.specs.Submit.{first_refusals}
 use Rattle.page_keys.specs.Buckets.{ShowsMap, AreBuckets}
-use Rattle.page_keys.specs.KeyMaps.{after}
-use Rattle.page_keys.specs.PutAnswers.{PutGives}
+use Rattle.page_keys.specs.KeyMaps.{after, pages_of}
+use Rattle.page_keys.specs.PutAnswers.{PutGives, ReadsFirst}
 use Rattle.page_keys.specs.Putting.{HasWrites, IsFull, is_put_fault}
 use Rattle.page_keys.specs.Puts.{early_refusal}
 use Rattle.page_keys.specs.Stores.{Keyed}
@@ -17,23 +19,29 @@ use Rattle.page_keys.proofs.StoreReads.{keeps_keys, room_is}
 use Rattle.page_keys.proofs.Existing.{shows_some}
 use Rattle.page_keys.proofs.Parts.{shown_buckets}
 use Rattle.page_keys.proofs.PutWrites.{only_spent, shows_after}
-use Rattle.page_keys.proofs.PutGiven.{early_gives, gives_error, reads_give, write_gives, length_pages}
+use Rattle.page_keys.proofs.PutGiven.{early_gives, gives_error, not_repeated, reads_alone, reads_none, reads_then_wrote, reads_give, write_gives, length_pages}
 use Rattle.page_keys.proofs.store.KeyStore.put.Goals as goal
 
-pub returns-in_err-pages : goal.returns-in_err-pages
-returns-in_err-pages g c m shows =
+pub returns-in_err-pages-clause-gives : goal.returns-in_err-pages-clause-gives
+returns-in_err-pages-clause-gives g c m shows =
     let e = c.in_err-pages.field-0.0 in
     let config = c.held_always-config.ensures.config
     ∙ ap (λ (k : Keyed g.row.F.Denot). k.device.config) c.self.view_is in
     let early = subst (λ (l : List Change).
-    (early_refusal c.args.self.now.device.config l ≡ Some e) ⊎ (e ≡ refused.Memory))
+    (early_refusal c.args.self.now.device.config l ≡ Some e)
+    ⊎ ((e ≡ refused.Memory) × (early_refusal c.args.self.now.device.config l ≡ None)))
     c.as_slice-list.ensures
     (subst (λ (x : Config).
-    (early_refusal x c.as_slice-list.result.now ≡ Some e) ⊎ (e ≡ refused.Memory)) config
+    (early_refusal x c.as_slice-list.result.now ≡ Some e)
+    ⊎ ((e ≡ refused.Memory) × (early_refusal x c.as_slice-list.result.now ≡ None))) config
     c.in_err-pages.ensures.refused) in
     gives_error g.F.Flash.state c.args.self.now m c.args.changes.now c.requires.usable
     c.args.self.now c.from_residual.result e c.from_residual.ensures.1
     (early_gives g.F.Flash.state c.args.self.now m c.args.changes.now c.requires.usable e early)
+
+pub rewritten_all-requires-clause-differ : goal.rewritten_all-requires-clause-differ
+rewritten_all-requires-clause-differ g c =
+    not_repeated c.held_always-config.result c.as_slice-list.result.now c.in_ok-pages.ensures.taken
 
 pub invariant_of-self : goal.invariant_of-self
 invariant_of-self g c =
@@ -109,8 +117,8 @@ write-requires-clause-keys g c =
     (subst (λ (ws : List PageWrite). AreBuckets s.config (put s.machine.pages ws))
     (sym has.writes_are) (shown_buckets s.config _ _ made))
 
-pub returns-in-Ok : goal.returns-in-Ok
-returns-in-Ok g c m shows =
+pub returns-in-Ok-clause-gives : goal.returns-in-Ok-clause-gives
+returns-in-Ok-clause-gives g c m shows =
     let s = c.self.inside.device in
     let t = c.rewritten_all.new.device in
     let V : Keyed g.row.F.Denot = record { device = s; broken = c.self.inside.broken } in
@@ -138,8 +146,8 @@ returns-in-Ok g c m shows =
     c.write.ensures.written c.write.ensures.usable c.write.ensures.not_written
     c.write.ensures.broken)
 
-pub returns : goal.returns
-returns g c m shows =
+pub returns-clause-gives : goal.returns-clause-gives
+returns-clause-gives g c m shows =
     let s = c.self.inside.device in
     let t = c.rewritten_all.new.device in
     let e = c.in-Err.e in
@@ -160,3 +168,55 @@ returns g c m shows =
     (record { device = t; broken = is_put_fault e }) m c.args.changes.now (Err e)) c.self.view_is
     (reads_give g.F.Flash.state V t m c.args.changes.now usable e full early
     c.in-Err.ensures.reads keys.closed its c.held_always-config.ensures.always.array))
+
+err_of : {X E : Type 0} (r : Result X E) (P : E → Type 0) → IsErrAnd r P → IsErr r
+err_of (Ok x) P h = absurd h
+err_of (Err e) P h = refl
+
+pub returns-in_err-pages-clause-reads : goal.returns-in_err-pages-clause-reads
+returns-in_err-pages-clause-reads g c =
+    reads_none g.F.Flash.state c.args.self.now c.args.changes.now c.from_residual.result
+    (err_of c.from_residual.result _ c.from_residual.ensures.1)
+
+pub returns-in-Ok-clause-reads : goal.returns-in-Ok-clause-reads
+returns-in-Ok-clause-reads g c =
+    let s = c.self.inside.device in
+    let t = c.rewritten_all.new.device in
+    let V : Keyed g.row.F.Denot = record { device = s; broken = c.self.inside.broken } in
+    let config = c.held_always-config.ensures.config in
+    let early = subst (λ (l : List Change). early_refusal s.config l ≡ None)
+    c.as_slice-list.ensures
+    (subst (λ (x : Config). early_refusal x c.as_slice-list.result.now ≡ None) config
+    c.in_ok-pages.ensures.taken) in
+    let size = ap length (c.deref.ensures.value ∙ c.in_ok-pages.ensures.pages
+    ∙ ap (λ (x : Config). pages_of x.logical c.as_slice-list.result.now) config
+    ∙ ap (pages_of s.config.logical) c.as_slice-list.ensures) in
+    let count = subst (λ k. (g.F.Flash.state t.flash).reads ≤ (g.F.Flash.state s.flash).reads + k)
+    size c.in-Ok.ensures.count in
+    subst (λ (k : Keyed g.row.F.Denot).
+    ReadsFirst g.F.Flash.state k c.write.new.self c.args.changes.now c.write.result) c.self.view_is
+    (reads_then_wrote g.F.Flash.state V c.write.new.self t c.args.changes.now
+    c.in-Ok.ensures.reads count early c.in-Ok.batch.entries c.write.result
+    c.write.ensures.written c.write.ensures.not_written)
+
+pub returns-clause-reads : goal.returns-clause-reads
+returns-clause-reads g c =
+    let s = c.self.inside.device in
+    let t = c.rewritten_all.new.device in
+    let V : Keyed g.row.F.Denot = record { device = s; broken = c.self.inside.broken } in
+    let config = c.held_always-config.ensures.config in
+    let early = subst (λ (l : List Change). early_refusal s.config l ≡ None)
+    c.as_slice-list.ensures
+    (subst (λ (x : Config). early_refusal x c.as_slice-list.result.now ≡ None) config
+    c.in_ok-pages.ensures.taken) in
+    let size = ap length (c.deref.ensures.value ∙ c.in_ok-pages.ensures.pages
+    ∙ ap (λ (x : Config). pages_of x.logical c.as_slice-list.result.now) config
+    ∙ ap (pages_of s.config.logical) c.as_slice-list.ensures) in
+    let e = c.in-Err.e in
+    let count = subst (λ k. (g.F.Flash.state t.flash).reads ≤ (g.F.Flash.state s.flash).reads + k)
+    size c.in-Err.ensures.count in
+    subst (λ (k : Keyed g.row.F.Denot). ReadsFirst g.F.Flash.state k
+    (record { device = t; broken = c.is_fault-self-inside.result }) c.args.changes.now (Err e))
+    c.self.view_is
+    (reads_alone g.F.Flash.state V t c.args.changes.now e c.is_fault-self-inside.result
+    c.in-Err.ensures.reads count early)

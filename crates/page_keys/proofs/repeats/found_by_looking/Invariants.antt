@@ -1,6 +1,6 @@
 use Rattle.std.proofs.Common.{◌≡◌, [], take, drop}
 use Rattle.page_keys.specs.Puts.{repeated}
-use Rattle.page_keys.proofs.refusals.first_repeated.Given as goal
+use Rattle.page_keys.proofs.repeats.found_by_looking.Given as goal
 
 abbrev pub invariant-loop-i : goal.invariant-loop-i
 invariant-loop-i l =

@@ -1,0 +1,7 @@
+use Rattle.std.proofs.Common.{◌≡◌, drop}
+use Rattle.page_keys.specs.KeyMaps.{is_touched}
+use Rattle.page_keys.proofs.refusals.is_touched.Given as goal
+
+abbrev pub invariant-loop-change : goal.invariant-loop-change
+invariant-loop-change l =
+    is_touched l.logical l.changes l.page ≡ is_touched l.logical (drop l.change-index l.changes) l.page

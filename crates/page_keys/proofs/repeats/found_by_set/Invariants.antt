@@ -1,0 +1,14 @@
+use Rattle.std.proofs.Common.{◌≡◌, ℕ, List, [], take, drop}
+use Rattle.std.specs.List.{list_any}
+use Rattle.std.specs.Ordering.{is_eq, nat_cmp}
+use Rattle.std.specs.Cmp.Lexicographic.{slice_cmp}
+use Rattle.page_keys.specs.Puts.{has_key, repeated}
+use Rattle.page_keys.proofs.repeats.found_by_set.Given as goal
+
+abbrev pub invariant-loop-i : goal.invariant-loop-i
+invariant-loop-i l = record {
+  left : repeated [] l.changes ≡ repeated (take l.i l.changes) (drop l.i l.changes);
+  keys : (q : List ℕ) →
+      list_any (λ k. is_eq (slice_cmp nat_cmp q k.now)) l.keys.keys
+      ≡ list_any (has_key q) (take l.i l.changes);
+}
