@@ -6,20 +6,19 @@ use Rattle.std.specs.declared.io.Error.{Error}
 use Rattle.durable_folder.specs.declared.answers.Replaced.{Replaced}
 use Rattle.durable_folder.specs.declared.answers.Replaced.TheVariants as replaced
 use Rattle.durable_folder.specs.FolderState.{FolderState, SomeOf, MayHold, LeavesOf, Leaves, IsDurable, IsFree, file_of, newest, target}
-use Rattle.durable_folder.specs.Calls.{Handle, SparesNames, OfFile, Makes, OpensOrCreates, OpensFolder, SyncsFolder, Resolves}
-use Rattle.durable_folder.specs.Counting.{is_denied, is_unable, these_if, quiet, answer_to_sync_folder}
-use Rattle.durable_folder.specs.Answers.{sync_answer, IsLate}
+use Rattle.durable_folder.specs.Calls.{Handle, SparesNames, OfFile, Makes, OpensOrCreates, OpensFolder, SettlesNames, Resolves}
+use Rattle.durable_folder.specs.Counting.{is_denied, these_if, quiet}
+use Rattle.durable_folder.specs.Answers.{IsLate}
 use Rattle.durable_folder.specs.Histories.{History, Answer, Turns, Runs, CannotSync}
 use Rattle.durable_folder.specs.InPlace.{AfterOk, Overwrites, WritesOver}
 use Rattle.durable_folder.specs.Places.{folder_of}
-use Rattle.durable_folder.specs.Saving.{Prepares, ReplaceOrNotEnds, ReplacesOrNot}
+use Rattle.durable_folder.specs.Saving.{MaySettle, SettlesFolder, Prepares, ReplaceOrNotEnds, ReplacesOrNot}
 use Rattle.durable_folder.specs.Ways.{KeepsOrTears, IsTornLeft, IsInPlace, SavesAt, IsBorn, Bears, WritesNew, Settles, SyncsFolderOf, MakesThrough}
 use Rattle.durable_folder.proofs.Blocks.{holds_one}
-use Rattle.durable_folder.proofs.Heads.{after_err}
+use Rattle.durable_folder.proofs.Heads.{after_err, after_ok_map}
 use Rattle.durable_folder.proofs.Passing.{runs_of, runs_weaker, runs_then, runs_counted}
-use Rattle.durable_folder.proofs.Putting.{late_ok, noted}
 use Rattle.durable_folder.proofs.Replacements.{some_entry, entry_some, leaves_of_files, leaves_bytes, prepares_keeps}
-use Rattle.durable_folder.proofs.Tearing.{tears_less, after_ok_map}
+use Rattle.durable_folder.proofs.Tearing.{tears_less}
 
 -- what opening or making a file does, where there was nothing
 created : {X : Type 0} (handle : X → Handle) (name : List ℕ) (opened : X) (s t : FolderState) → file_of s (target s name) ≡ None →
@@ -41,7 +40,7 @@ opened_bears : {X : Type 0} (handle : X → Handle) (name bytes : List ℕ) (r :
 opened_bears handle name bytes (Ok opened) s t nothing x =
     let m = created handle name opened s t nothing x in inr (m.0, makes_born (target s name) bytes m.0 s t m.2)
 opened_bears handle name bytes (Err error) s t nothing (inl x) = inl x.0
-opened_bears handle name bytes (Err error) s t nothing (inr x) = inl x
+opened_bears handle name bytes (Err error) s t nothing (inr x) = inl x.0
 
 written_born : (name bytes : List ℕ) (file : ℕ) (s t u : FolderState) → Makes file name s t → SparesNames file t u →
     Overwrites bytes (t.files file) (u.files file) → IsBorn name bytes file s u
@@ -168,9 +167,9 @@ pub settles_none : (s : FolderState) → Settles s s
 settles_none s = record { names = λ n f x. x; files = record { files = λ f. refl; fixed = refl } }
 
 -- the folder of a name that was made
-sync_settles : (place : List ℕ) (r : Result (Unit {0}) Error) (s t : FolderState) → SyncsFolder place r s t → Settles s t
-sync_settles place (Ok done) s t x = record { names = x.others; files = x.files }
-sync_settles place (Err error) s t x = rw x (settles_none s)
+may_settle_settles : (place : List ℕ) (s t : FolderState) → MaySettle place s t → Settles s t
+may_settle_settles place s t (inl same) = rw same (settles_none s)
+may_settle_settles place s t (inr x) = record { names = x.others; files = x.files }
 
 still_settles : (s t : FolderState) → t ≡ s → Settles s t
 still_settles s t same = rw same (settles_none s)
@@ -201,28 +200,23 @@ folder_denied place name folder e n a b is denied counts turn =
       inr (denied_notes (is_denied (error_kind e)) name folder h.unsynced k is denied (x.2 ∙ ap (λ places. places ++ h.unsynced) counts)),
     ))
 
-synced_name : (name place : List ℕ) (r : Result (Unit {0}) Error) (s : FolderState) (before : List (List ℕ)) (l : History) → place ≡ folder_of name →
-    SyncsFolder place r s l.now → l.unsynced ≡ (answer_to_sync_folder place r).unsynced ++ before → sync_answer r ≡ Ok tt →
-    (l.now.names name ≡ file_of s name ∷ []) ⊎ CannotSync name l
-synced_name name place (Ok done) s before l is y x ok = inl (y.here name (sym is))
-synced_name name place (Err error) s before l is y x ok = inr (noted (is_unable (error_kind error)) error place name before l is x ok)
+synced_name : (name place : List ℕ) (s : FolderState) (l : History) → place ≡ folder_of name →
+    SettlesNames place s l.now ⊎ SomeOf (λ p. p ≡ place) l.unsynced → (l.now.names name ≡ file_of s name ∷ []) ⊎ CannotSync name l
+synced_name name place s l is (inl y) = inl (y.here name (sym is))
+synced_name name place s l is (inr cannot) = inr (rw is at cannot)
 
-if_ok : (result : Result (Unit {0}) Error) (P : Type 0) → (result ≡ Ok tt → P) → AfterOk result P
-if_ok (Ok done) P f = f refl
-if_ok (Err e) P f = tt
-
-pub folder_synced : {X : Type 0} (place : X → List ℕ) (name folder : List ℕ) (opened : X) (r result : Result (Unit {0}) Error) (a b c : Option History)
-    → folder ≡ folder_of name → IsLate (sync_answer r) result → Turns (OpensFolder place folder (Ok opened)) quiet a b →
-    Turns (SyncsFolder (place opened) r) (answer_to_sync_folder (place opened) r) b c → SyncsFolderOf name result a c
-folder_synced place name folder opened r result a b c is late turn sync =
-    runs_then a b c (runs_of (OpensFolder place folder (Ok opened)) quiet a b turn)
-    (runs_of (SyncsFolder (place opened) r) (answer_to_sync_folder (place opened) r) b c sync)
+pub folder_synced : {X : Type 0} (place : X → List ℕ) (name folder : List ℕ) (opened : X) (result : Result (Unit {0}) Error) (a b c : Option History)
+    → folder ≡ folder_of name → Turns (OpensFolder place folder (Ok opened)) quiet a b → SettlesFolder (place opened) result b c →
+    SyncsFolderOf name result a c
+folder_synced place name folder opened result a b c is turn settles =
+    runs_then a b c (runs_of (OpensFolder place folder (Ok opened)) quiet a b turn) settles.run
     (λ s t x. still_settles s t x.0)
-    (λ h k u x y. let at : SyncsFolder (place opened) r h.now u = rw x.0.0 at y in sync_settles (place opened) r h.now u at)
-    (λ h k l x y. let at : SyncsFolder (place opened) r h.now l.now = rw x.0.0 at y.0 in (
-      sync_settles (place opened) r h.now l.now at,
-      if_ok result ((l.now.names name ≡ file_of h.now name ∷ []) ⊎ CannotSync name l)
-          (λ ok. synced_name name (place opened) r h.now k.unsynced l (x.0.1 ∙ is) at y.2 (late_ok (sync_answer r) result late ok)),
+    (λ h k u x y. let at : MaySettle (place opened) h.now u = rw x.0.0 at y in may_settle_settles (place opened) h.now u at)
+    (λ h k l x y. let at : MaySettle (place opened) h.now l.now = rw x.0.0 at y.0 in (
+      may_settle_settles (place opened) h.now l.now at,
+      after_ok_map result (SettlesNames (place opened) k.now l.now ⊎ SomeOf (λ p. p ≡ place opened) l.unsynced)
+          ((l.now.names name ≡ file_of h.now name ∷ []) ⊎ CannotSync name l)
+          (λ there. rw x.0.0 at (synced_name name (place opened) k.now l (x.0.1 ∙ is) there)) y.1,
     ))
 
 -- after a refusal the name is still free

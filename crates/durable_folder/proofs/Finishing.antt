@@ -67,7 +67,7 @@ put_from beside name (Err e) h k l more same x = tt
 pub put_ends : (beside name : List ℕ) (result : Result Replaced Error) (a b c : Option History) → Rests a b → Puts beside name result b c →
     Ends beside name (Ok replaced.Done) result a c
 put_ends beside name result a b c rests puts =
-    runs_then a b c (runs_counted a b rests) puts
+    runs_then a b c (runs_counted a b rests) puts.run
     (λ s t x differ. rw x (record { here = λ e y. inr y; others = λ n p q e y. y; files = record { files = λ f. refl; fixed = refl } }))
     (λ h k u x y differ. let at : file_of h.now beside ≢ file_of h.now name → Shifts beside name h.now u = rw x.1 at y in at differ)
     (λ h k l x y differ. let there : file_of k.now beside ≢ file_of k.now name = rw x.1 differ in let both = y there in put_from beside name result h

@@ -17,6 +17,10 @@ pub after_err : (r : Result (Unit {0}) Error) (P : Type 0) → IsErr r → After
 after_err (Ok done) P err = cc
 after_err (Err error) P err = tt
 
+pub after_ok_map : (result : Result (Unit {0}) Error) (P Q : Type 0) → (P → Q) → AfterOk result P → AfterOk result Q
+after_ok_map (Ok done) P Q f x = f x
+after_ok_map (Err e) P Q f x = tt
+
 abbrev pub zeros : List ℕ
 zeros = replicate 64 0
 

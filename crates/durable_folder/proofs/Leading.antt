@@ -7,15 +7,16 @@ use Rattle.std.specs.declared.io.ErrorKind.TheVariants as kind
 use Rattle.durable_folder.specs.declared.folder.Found.{Found}
 use Rattle.durable_folder.specs.FolderState.{FolderState, IsDurable, file_of, target}
 use Rattle.durable_folder.specs.Calls.{Handle, Finds, Opens, Resolves}
+use Rattle.durable_folder.specs.Causes.{AtNow, AllTaken}
 use Rattle.durable_folder.specs.Histories.{History, Answer, Turns, Runs, CannotSync}
 use Rattle.durable_folder.specs.InPlace.{WritesOver}
 use Rattle.durable_folder.specs.Saving.{KeepsOrReplaces}
 use Rattle.durable_folder.specs.Ways.{MustBeInPlace, IsInPlace, SavesAt, IsSeen, Looks, WasFound, is_link, MakesThrough, LeadsNowhere, Saves}
-use Rattle.durable_folder.proofs.Heads.{after_err}
+use Rattle.durable_folder.proofs.Heads.{after_err, after_ok_map}
 use Rattle.durable_folder.proofs.Passing.{runs_of, runs_none, runs_weaker, runs_then, runs_counted}
 use Rattle.durable_folder.proofs.Replacements.{prepares_keeps}
 use Rattle.durable_folder.proofs.Bearing.{resolves_stays}
-use Rattle.durable_folder.proofs.Tearing.{OpenedFor, opens_stays, tears_less, after_ok_map, over_opened, over_arrived}
+use Rattle.durable_folder.proofs.Tearing.{OpenedFor, opens_stays, tears_less, over_opened, over_arrived}
 
 -- at a name that is no link
 pub saves_less : (K L : FolderState → Type 0) (name bytes : List ℕ) (result : Result (Unit {0}) Error) (a b : Option History) →
@@ -201,3 +202,23 @@ saved_unresolved handle text name bytes file e result n a b c d counts known tur
     (λ s t y. tears_less (target s name) bytes s t (keeps_none (target s name) bytes s t y))
     (λ h k u x y. over_opened handle name file bytes h k u x.1 y)
     (λ h k l x y. (inl (inr (inr (inr (omega (arith, x.0, y.0))))), over_arrived handle name file bytes result h k l x.1 y.1)))
+
+-- what is taken where the name leads
+abbrev pub TakenThere : List ℕ → FolderState → Type 0
+TakenThere name s = AllTaken (target s name) s
+
+pub here_taken : (name : List ℕ) (found : Option Found) (looked : Result (Option Found) Error) (a b : Option History) → looked ≡ Ok found →
+    is_link found ≡ false → Looks name looked a b → AtNow (AllTaken name) b → AtNow (TakenThere name) a
+here_taken name found looked None b ok no_link looks taken = tt
+here_taken name found looked (Some h) None ok no_link looks taken = absurd looks.run
+here_taken name found looked (Some h) (Some k) ok no_link looks taken =
+    let seen : IsSeen name (Ok found) h.now = rw ok at looks.run.4.1 in
+    let at : AllTaken name h.now = rw looks.run.4.0 at taken in rw (seen_no_link name found h.now no_link seen) at
+
+pub there_taken : (name at : List ℕ) (looked : Result (Option Found) Error) (a b c : Option History) → Learns (LeadsTo name at) a b →
+    Looks at looked b c → AtNow (AllTaken at) c → AtNow (TakenThere name) a
+there_taken name at looked None b c known looks taken = tt
+there_taken name at looked (Some h) None c known looks taken = absurd known.run
+there_taken name at looked (Some h) (Some k) None known looks taken = absurd looks.run
+there_taken name at looked (Some h) (Some k) (Some l) known looks taken =
+    let there : AllTaken at h.now = rw (looks.run.4.0 ∙ known.run.4.0) at taken in rw known.run.4.1.0 at there

@@ -1,5 +1,7 @@
 mod Bearing
+mod Besides
 mod Blocks
+mod Causing
 mod Filling
 mod Finishing
 mod Heads

@@ -6,13 +6,15 @@ use Rattle.std.specs.declared.io.Error.{Error}
 use Rattle.durable_folder.specs.declared.answers.Replaced.{Replaced}
 use Rattle.durable_folder.specs.declared.answers.Replaced.TheVariants as replaced
 use Rattle.durable_folder.specs.FolderState.{FolderState, SomeOf, file_of, newest}
-use Rattle.durable_folder.specs.Calls.{SparesFiles, Moves, Renames, Drops, Removes, SyncsFolder}
-use Rattle.durable_folder.specs.Counting.{is_unable, is_refusal, if_so, never, these_if, error_answer, answer_to_sync_folder}
-use Rattle.durable_folder.specs.Answers.{refusal_of, sync_answer, unless_unable, IsLate}
+use Rattle.durable_folder.specs.Calls.{SparesFiles, Moves, Renames, Drops, Removes, SyncsFolder, SettlesNames}
+use Rattle.durable_folder.specs.Counting.{is_unable, is_refusal, if_so, these_if, error_answer, answer_to_sync_folder}
+use Rattle.durable_folder.specs.Answers.{refusal_of, sync_answer, unless_unable, IsLate, IsSettled}
 use Rattle.durable_folder.specs.Places.{folder_of}
-use Rattle.durable_folder.specs.Histories.{History, Turns, IsTold, Answer, CannotSync}
-use Rattle.durable_folder.specs.Saving.{Shifts, PutEnds, Puts}
-use Rattle.durable_folder.proofs.Passing.{runs_of, runs_then, runs_counted}
+use Rattle.durable_folder.specs.Histories.{History, Turns, IsPlaceOf, Answer, CannotSync}
+use Rattle.durable_folder.specs.InPlace.{AfterOk}
+use Rattle.durable_folder.specs.Saving.{Shifts, PutEnds, Puts, MaySettle, SettlesFolder}
+use Rattle.durable_folder.proofs.Heads.{after_ok_map}
+use Rattle.durable_folder.proofs.Passing.{runs_of, runs_weaker, runs_then, runs_counted}
 
 no_files_change : (s : FolderState) → SparesFiles s s
 no_files_change s = record { files = λ f. refl; fixed = refl }
@@ -45,42 +47,100 @@ renames_shifts beside name (Ok done) s t x differ = moves_shifts beside name s t
 renames_shifts beside name (Err error) s t x differ = stays_shifts beside name s t x
 
 -- a folder that is synced, or is not
-synced_shifts : (beside name place : List ℕ) (r : Result (Unit {0}) Error) (s t u : FolderState) → Shifts beside name s t → SyncsFolder place r t u →
-    Shifts beside name s u
-synced_shifts beside name place (Ok done) s t u x y = record {
+synced_shifts : (beside name place : List ℕ) (s t u : FolderState) → Shifts beside name s t → MaySettle place t u → Shifts beside name s u
+synced_shifts beside name place s t u x (inl same) = rw (sym same) at x
+synced_shifts beside name place s t u x (inr y) = record {
   here = λ e z. x.here e (y.others name e z);
   others = λ n p q e z. x.others n p q e (y.others n e z);
   files = files_then s t u x.files y.files;
 }
-synced_shifts beside name place (Err error) s t u x y = rw (sym y) at x
+
+may_settle : (place : List ℕ) (r : Result (Unit {0}) Error) (s t : FolderState) → SyncsFolder place r s t → MaySettle place s t
+may_settle place (Ok done) s t x = inr x
+may_settle place (Err error) s t x = inl x
 
 -- the answer Ok after a folder that is not synced
-pub noted : (unable : Bool) (error : Error) (place name : List ℕ) (before : List (List ℕ)) (l : History) → place ≡ folder_of name →
-    l.unsynced ≡ these_if unable place ++ before → unless_unable unable error ≡ Ok tt → CannotSync name l
-noted true error place name before l is x ok = rw x (inl is)
-noted false error place name before l is x ok = absurd (cc)
+unable_noted : (unable : Bool) (error : Error) (place : List ℕ) (before : List (List ℕ)) (k : History) →
+    k.unsynced ≡ these_if unable place ++ before → unless_unable unable error ≡ Ok tt → SomeOf (λ p. p ≡ place) k.unsynced
+unable_noted true error place before k x ok = rw x (inl refl)
+unable_noted false error place before k x ok = absurd (cc)
 
-done_put : (beside name place : List ℕ) (r : Result (Unit {0}) Error) (s t : FolderState) (before : List (List ℕ)) (l : History) →
-    place ≡ folder_of name → Moves beside name s t → SyncsFolder place r t l.now →
-    l.unsynced ≡ (answer_to_sync_folder place r).unsynced ++ before → sync_answer r ≡ Ok tt →
-    (l.now.names name ≡ file_of s beside ∷ []) ⊎ CannotSync name l
-done_put beside name place (Ok done) s t before l is m y x ok =
-    inl (y.here name (sym is) ∙ ap (λ names. newest None names ∷ []) m.arrives)
-done_put beside name place (Err error) s t before l is m y x ok =
-    inr (noted (is_unable (error_kind error)) error place name before l is x ok)
+settled_ok : (place : List ℕ) (r : Result (Unit {0}) Error) (s : FolderState) (before : List (List ℕ)) (k : History) → SyncsFolder place r s k.now →
+    k.unsynced ≡ (answer_to_sync_folder place r).unsynced ++ before → sync_answer r ≡ Ok tt →
+    SettlesNames place s k.now ⊎ SomeOf (λ p. p ≡ place) k.unsynced
+settled_ok place (Ok done) s before k y x ok = inl y
+settled_ok place (Err error) s before k y x ok = inr (unable_noted (is_unable (error_kind error)) error place before k x ok)
 
-put_synced_told : (beside name place : List ℕ) (n : Answer) (r : Result (Unit {0}) Error) (result : Result Replaced Error) (a b c : Option History) →
-    ((h k : History) → (sync_answer r ≡ Ok tt → (k.now.names name ≡ file_of h.now beside ∷ []) ⊎ CannotSync name k) →
-    PutEnds beside name result h k) →
-    place ≡ folder_of name → Turns (Renames beside name (Ok tt)) n a b → Turns (SyncsFolder place r) (answer_to_sync_folder place r) b c → Puts beside name result a c
-put_synced_told beside name place n r result a b c ends is first last =
-    runs_then a b c (runs_of (Renames beside name (Ok tt)) n a b first) (runs_of (SyncsFolder place r) (answer_to_sync_folder place r) b c last)
-    (λ s t x differ. renames_shifts beside name (Ok tt) s t x differ)
-    (λ h k u x y differ. synced_shifts beside name place r h.now k.now u (renames_shifts beside name (Ok tt) h.now k.now x.0 differ) y)
-    (λ h k l x y differ. (
-      synced_shifts beside name place r h.now k.now l.now (renames_shifts beside name (Ok tt) h.now k.now x.0 differ) y.0,
-      ends h l (done_put beside name place r h.now k.now k.unsynced l is (x.0.0 differ) y.0 y.2),
-    ))
+if_ok : (result : Result (Unit {0}) Error) (P : Type 0) → (result ≡ Ok tt → P) → AfterOk result P
+if_ok (Ok done) P f = f refl
+if_ok (Err e) P f = tt
+
+late_ok : (done result : Result (Unit {0}) Error) → IsLate done result → result ≡ Ok tt → done ≡ Ok tt
+late_ok (Ok done) result late ok = refl
+late_ok (Err error) (Ok done) late ok = absurd late
+late_ok (Err error) (Err other) late ok = absurd (cc)
+
+pub settled : (place : List ℕ) (r result : Result (Unit {0}) Error) (a b : Option History) → IsSettled r result →
+    Turns (SyncsFolder place r) (answer_to_sync_folder place r) a b → SettlesFolder place result a b
+settled place r result a b settles turn = record {
+  run = runs_weaker a b (runs_of (SyncsFolder place r) (answer_to_sync_folder place r) a b turn) (λ s t x. may_settle place r s t x)
+      (λ h k x. (
+        may_settle place r h.now k.now x.0,
+        if_ok result (SettlesNames place h.now k.now ⊎ SomeOf (λ p. p ≡ place) k.unsynced)
+            (λ ok. settled_ok place r h.now h.unsynced k x.0 x.2 (late_ok (sync_answer r) result settles.is ok)),
+      ));
+}
+
+-- what is at the name then
+done_put : (beside name place : List ℕ) (s t : FolderState) (l : History) → place ≡ folder_of name → Moves beside name s t →
+    SettlesNames place t l.now ⊎ SomeOf (λ p. p ≡ place) l.unsynced → (l.now.names name ≡ file_of s beside ∷ []) ⊎ CannotSync name l
+done_put beside name place s t l is m (inl y) = inl (y.here name (sym is) ∙ ap (λ names. newest None names ∷ []) m.arrives)
+done_put beside name place s t l is m (inr cannot) = inr (rw is at cannot)
+
+pub put_err : (beside name : List ℕ) (r : Result Replaced Error) (h k : History) → IsErr r → PutEnds beside name r h k
+put_err beside name (Ok done) h k err = absurd (cc)
+put_err beside name (Err error) h k err = tt
+
+ends_put : (beside name : List ℕ) (r : Result (Unit {0}) Error) (result : Result Replaced Error) (h k : History) →
+    IsErr result ⊎ ((r ≡ Ok tt) × (result ≡ Ok replaced.Done)) → AfterOk r ((k.now.names name ≡ file_of h.now beside ∷ []) ⊎ CannotSync name k) →
+    PutEnds beside name result h k
+ends_put beside name r result h k (inl err) x = put_err beside name result h k err
+ends_put beside name (Ok done) result h k (inr ok) x = rw ok.1 x
+ends_put beside name (Err e) result h k (inr ok) x = absurd (cc)
+
+put_settled_told : (beside name place : List ℕ) (n : Answer) (r : Result (Unit {0}) Error) (result : Result Replaced Error) (a b c : Option History) →
+    IsErr result ⊎ ((r ≡ Ok tt) × (result ≡ Ok replaced.Done)) → place ≡ folder_of name → Turns (Renames beside name (Ok tt)) n a b →
+    SettlesFolder place r b c → Puts beside name result a c
+put_settled_told beside name place n r result a b c why is first last = record {
+  run = runs_then a b c (runs_of (Renames beside name (Ok tt)) n a b first) last.run
+      (λ s t x differ. renames_shifts beside name (Ok tt) s t x differ)
+      (λ h k u x y differ. synced_shifts beside name place h.now k.now u (renames_shifts beside name (Ok tt) h.now k.now x.0 differ) y)
+      (λ h k l x y differ. (
+        synced_shifts beside name place h.now k.now l.now (renames_shifts beside name (Ok tt) h.now k.now x.0 differ) y.0,
+        ends_put beside name r result h l why
+            (after_ok_map r (SettlesNames place k.now l.now ⊎ SomeOf (λ p. p ≡ place) l.unsynced)
+            ((l.now.names name ≡ file_of h.now beside ∷ []) ⊎ CannotSync name l)
+            (λ x2. done_put beside name place h.now k.now l is (x.0.0 differ) x2) y.1),
+      ));
+}
+
+put_settled : (beside name place : List ℕ) (n : Answer) (r : Result (Unit {0}) Error) (result : Result Replaced Error) (a b c : Option History) →
+    IsErr result ⊎ ((r ≡ Ok tt) × (result ≡ Ok replaced.Done)) → IsPlaceOf place name a → Turns (Renames beside name (Ok tt)) n a b →
+    SettlesFolder place r b c → Puts beside name result a c
+put_settled beside name place n r result None None None why is first last = record { run = record { run = tt } }
+put_settled beside name place n r result None None (Some l) why is first last = absurd last.run.run
+put_settled beside name place n r result None (Some k) c why is first last = absurd first
+put_settled beside name place n r result (Some h) b c why is first last =
+    put_settled_told beside name place n r result (Some h) b c why (is.is tt) first last
+
+pub put_not_synced : (beside name place : List ℕ) (n : Answer) (r : Result (Unit {0}) Error) (result : Result Replaced Error) (a b c : Option History) →
+    IsErr result → IsPlaceOf place name a → Turns (Renames beside name (Ok tt)) n a b → SettlesFolder place r b c → Puts beside name result a c
+put_not_synced beside name place n r result a b c err is first last = put_settled beside name place n r result a b c (inl err) is first last
+
+pub put_done : (beside name place : List ℕ) (n : Answer) (r : Result (Unit {0}) Error) (a b c : Option History) → r ≡ Ok tt →
+    IsPlaceOf place name a → Turns (Renames beside name (Ok tt)) n a b → SettlesFolder place r b c → Puts beside name (Ok replaced.Done) a c
+put_done beside name place n r a b c ok is first last =
+    put_settled beside name place n r (Ok replaced.Done) a b c (inr (ok, refl)) is first last
 
 removes_shifts : (beside name : List ℕ) (r : Result (Unit {0}) Error) (s t : FolderState) → beside ≢ name → Removes beside r s t →
     Shifts beside name s t
@@ -99,47 +159,33 @@ refusal_ends beside name true e h k l same more last = (same, omega (arith, more
 refusal_ends beside name false e h k l same more last = tt
 
 pub put_refused : (beside name : List ℕ) (e : Error) (r : Result (Unit {0}) Error) (m : Answer) (a b c : Option History) → beside ≢ name →
-    Turns (Renames beside name (Err e)) (error_answer never e) a b → Turns (Removes beside r) m b c →
+    Turns (Renames beside name (Err e)) (error_answer is_refusal e) a b → Turns (Removes beside r) m b c →
     Puts beside name (refusal_of e) a c
 put_refused beside name e r m a b c apart first last =
-    runs_then a b c (runs_of (Renames beside name (Err e)) (error_answer never e) a b first)
-    (runs_counted b c (runs_of (Removes beside r) m b c last))
-    (λ s t x differ. stays_shifts beside name s t x)
-    (λ h k u x y differ. let at : Removes beside r h.now u = rw x.0 at y in removes_shifts beside name r h.now u apart at)
-    (λ h k l x y differ. let at : Removes beside r h.now l.now = rw x.0 at y.1.0 in (
-      removes_shifts beside name r h.now l.now apart at,
-      refusal_ends beside name (is_refusal (error_kind e)) e h k l (removes_others beside r h.now l.now at) x.1 y.0,
-    ))
-
-pub put_err : (beside name : List ℕ) (r : Result Replaced Error) (h k : History) → IsErr r → PutEnds beside name r h k
-put_err beside name (Ok done) h k err = absurd (cc)
-put_err beside name (Err error) h k err = tt
-
-pub put_ok : (beside name : List ℕ) (r : Result (Unit {0}) Error) (h k : History) → sync_answer r ≡ Ok tt →
-    (sync_answer r ≡ Ok tt → (k.now.names name ≡ file_of h.now beside ∷ []) ⊎ CannotSync name k) → PutEnds beside name (Ok replaced.Done) h k
-put_ok beside name r h k ok ends = ends ok
-
-pub late_ok : (done result : Result (Unit {0}) Error) → IsLate done result → result ≡ Ok tt → done ≡ Ok tt
-late_ok (Ok done) result late ok = refl
-late_ok (Err error) (Ok done) late ok = absurd late
-late_ok (Err error) (Err other) late ok = absurd (cc)
+    record {
+      run = runs_then a b c (runs_of (Renames beside name (Err e)) (error_answer is_refusal e) a b first)
+          (runs_counted b c (runs_of (Removes beside r) m b c last))
+          (λ s t x differ. stays_shifts beside name s t x)
+          (λ h k u x y differ. let at : Removes beside r h.now u = rw x.0 at y in removes_shifts beside name r h.now u apart at)
+          (λ h k l x y differ. let at : Removes beside r h.now l.now = rw x.0 at y.1.0 in (
+            removes_shifts beside name r h.now l.now apart at,
+            refusal_ends beside name (is_refusal (error_kind e)) e h k l (removes_others beside r h.now l.now at) x.1 y.0,
+          ));
+    }
 
 pub put_failed : (beside name : List ℕ) (e : Error) (result : Result Replaced Error) (r : Result (Unit {0}) Error) (n m : Answer) (a b c : Option History)
     → beside ≢ name → IsErr result →
     Turns (Renames beside name (Err e)) n a b → Turns (Removes beside r) m b c → Puts beside name result a c
 put_failed beside name e result r n m a b c apart err first last =
-    runs_then a b c (runs_of (Renames beside name (Err e)) n a b first) (runs_of (Removes beside r) m b c last)
-    (λ s t x differ. stays_shifts beside name s t x)
-    (λ h k u x y differ. let at : Removes beside r h.now u = rw x.0 at y in removes_shifts beside name r h.now u apart at)
-    (λ h k l x y differ. let at : Removes beside r h.now l.now = rw x.0 at y.0 in
-    (removes_shifts beside name r h.now l.now apart at, put_err beside name result h l err))
+    record {
+      run = runs_then a b c (runs_of (Renames beside name (Err e)) n a b first) (runs_of (Removes beside r) m b c last)
+          (λ s t x differ. stays_shifts beside name s t x)
+          (λ h k u x y differ. let at : Removes beside r h.now u = rw x.0 at y in removes_shifts beside name r h.now u apart at)
+          (λ h k l x y differ. let at : Removes beside r h.now l.now = rw x.0 at y.0 in
+          (removes_shifts beside name r h.now l.now apart at, put_err beside name result h l err));
+    }
 
-pub put_synced : (beside name place : List ℕ) (n : Answer) (r : Result (Unit {0}) Error) (result : Result Replaced Error) (a b c : Option History) →
-    ((h k : History) → (sync_answer r ≡ Ok tt → (k.now.names name ≡ file_of h.now beside ∷ []) ⊎ CannotSync name k) →
-    PutEnds beside name result h k) →
-    (IsTold a → place ≡ folder_of name) → Turns (Renames beside name (Ok tt)) n a b → Turns (SyncsFolder place r) (answer_to_sync_folder place r) b c → Puts beside name result a c
-put_synced beside name place n r result None None None ends is first last = record { run = tt }
-put_synced beside name place n r result None None (Some l) ends is first last = absurd last
-put_synced beside name place n r result None (Some k) c ends is first last = absurd first
-put_synced beside name place n r result (Some h) b c ends is first last = put_synced_told beside name place n r result (Some h) b c ends (is tt)
-    first last
+pub put_refused_so : (beside name : List ℕ) (e : Error) (result : Result Replaced Error) (r : Result (Unit {0}) Error) (m : Answer)
+    (a b c : Option History) → beside ≢ name → result ≡ refusal_of e →
+    Turns (Renames beside name (Err e)) (error_answer is_refusal e) a b → Turns (Removes beside r) m b c → Puts beside name result a c
+put_refused_so beside name e result r m a b c apart is first last = rw is (put_refused beside name e r m a b c apart first last)

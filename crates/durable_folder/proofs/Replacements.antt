@@ -2,7 +2,7 @@
 use Rattle.std.proofs.Common.{◌≡◌, ◌≢◌, inl, inr, ℕ, List, [], ◌∷◌, Option, None, Some, refl, sym, ap, ◌∙◌}
 use Rattle.durable_folder.specs.FolderState.{FolderState, SomeOf, MayHold, LeavesOf, Leaves, IsDurable, file_of, newest}
 use Rattle.durable_folder.specs.Calls.{SparesNames, SparesFiles}
-use Rattle.durable_folder.specs.Saving.{KeepsOrReplaces, IsNew, Prepares, Shifts}
+use Rattle.durable_folder.specs.Saving.{KeepsOrReplaces, IsOther, IsNew, Prepares, Shifts}
 use Rattle.durable_folder.proofs.Blocks.{holds_one}
 
 -- one of them, as a value
@@ -37,8 +37,9 @@ leaves_spared name beside f s t new n apart left x =
     some_spared f s t left new.spares.files (s.names n) (new.is_fresh n) at
 
 -- a name that has a file is not the new one
-taken_apart : (name beside : List ℕ) (f : ℕ) (s t : FolderState) → IsNew name beside f s t → (n : List ℕ) → file_of s n ≢ None → n ≢ beside
-taken_apart name beside f s t new n taken same = taken (ap (λ m. file_of s m) same ∙ new.is_free)
+pub taken_apart : (name beside : List ℕ) (f : ℕ) (s t : FolderState) → IsNew name beside f s t → (n : List ℕ) → IsOther name s n → n ≢ beside
+taken_apart name beside f s t new n (inl taken) same = taken (ap (λ m. file_of s m) same ∙ new.is_free)
+taken_apart name beside f s t new n (inr away) same = away (rw same new.leftover)
 
 pub prepares_keeps : (name bytes : List ℕ) (s t : FolderState) → Prepares name s t → KeepsOrReplaces name bytes s t
 prepares_keeps name bytes s t (inl same) = rw same (record { here = λ left x. inl x; others = λ n apart taken left x. x })
@@ -99,6 +100,7 @@ aside_prepares name beside f s t u new names files = inr (
   f,
   record {
     apart = new.apart;
+    leftover = new.leftover;
     is_free = new.is_free;
     is_fresh = new.is_fresh;
     spares = record {
@@ -114,6 +116,7 @@ aside_prepares name beside f s t u new names files = inr (
 pub new_filled : (name beside : List ℕ) (f : ℕ) (s t u : FolderState) → IsNew name beside f s t → SparesNames f t u → IsNew name beside f s u
 new_filled name beside f s t u new same = record {
   apart = new.apart;
+  leftover = new.leftover;
   is_free = new.is_free;
   is_fresh = new.is_fresh;
   spares = record {

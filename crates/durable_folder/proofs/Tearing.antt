@@ -11,11 +11,11 @@ use Rattle.durable_folder.specs.Calls.{Handle, SparesNames, OfFile, Opens, IsFou
 use Rattle.durable_folder.specs.Histories.{History, Turns, Runs, Answer, CannotSync}
 use Rattle.durable_folder.specs.InPlace.{AfterOk, Overwrites, WritesOver}
 use Rattle.durable_folder.specs.Places.{folder_of}
-use Rattle.durable_folder.specs.Saving.{KeepsOrReplaces, Prepares, ReplaceOrNotEnds, ReplacesOrNot}
+use Rattle.durable_folder.specs.Saving.{IsOther, KeepsOrReplaces, Prepares, ReplaceOrNotEnds, ReplacesOrNot}
 use Rattle.durable_folder.specs.Ways.{IsTornLeft, KeepsOrTears, IsSpecial, MustBeInPlace, IsInPlace, SavesAt, WasFound}
-use Rattle.durable_folder.proofs.Heads.{after_err}
+use Rattle.durable_folder.proofs.Heads.{after_ok_map, after_err}
 use Rattle.durable_folder.proofs.Passing.{runs_of, runs_weaker, runs_then, runs_counted}
-use Rattle.durable_folder.proofs.Replacements.{prepares_keeps}
+use Rattle.durable_folder.proofs.Replacements.{taken_apart, prepares_keeps}
 use Rattle.std.proofs.lemmas.Bool.{cases_lt}
 
 same_or_not : (f g : ℕ) → (f ≡ g) ⊎ (f ≢ g)
@@ -52,10 +52,10 @@ some_torn bytes g t u left spares over (e ∷ es) (inl x) =
 some_torn bytes g t u left spares over (e ∷ es) (inr x) =
     elim (some_torn bytes g t u left spares over es x) [ inl old ↦ inl (inr old) | inr new ↦ inr (inr new.0, new.1) ]
 
-pub prepared_names : (name : List ℕ) (s t : FolderState) → Prepares name s t → (n : List ℕ) → (n ≡ name) ⊎ (file_of s n ≢ None) → t.names n ≡ s.names n
+pub prepared_names : (name : List ℕ) (s t : FolderState) → Prepares name s t → (n : List ℕ) → (n ≡ name) ⊎ IsOther name s n → t.names n ≡ s.names n
 prepared_names name s t (inl same) n is = ap (λ x. x.names n) same
 prepared_names name s t (inr p) n (inl is) = p.2.spares.names n (λ away. p.2.apart (sym away ∙ is))
-prepared_names name s t (inr p) n (inr taken) = p.2.spares.names n (λ is. taken (ap (λ m. file_of s m) is ∙ p.2.is_free))
+prepared_names name s t (inr p) n (inr taken) = p.2.spares.names n (taken_apart name p.0 p.1 s t p.2 n taken)
 
 over_some : (name bytes : List ℕ) (g : ℕ) (s t u : FolderState) → file_of s name ≡ Some g → Prepares name s t → SparesNames g t u →
     Overwrites bytes (t.files g) (u.files g) → KeepsOrTears name bytes s u
@@ -100,10 +100,6 @@ over_bytes bytes (Ok done) None t u x = (x, λ g is. absurd (cc))
 over_bytes bytes (Ok done) (Some f) t u x = ((x.0, x.1.0), λ g is. let same : f ≡ g = cc in ap (λ i. u.files i) (sym same) ∙ x.1.1)
 over_bytes bytes (Err e) None t u x = (x, tt)
 over_bytes bytes (Err e) (Some f) t u x = ((x.0, x.1.0), tt)
-
-pub after_ok_map : (result : Result (Unit {0}) Error) (P Q : Type 0) → (P → Q) → AfterOk result P → AfterOk result Q
-after_ok_map (Ok done) P Q f x = f x
-after_ok_map (Err e) P Q f x = tt
 
 pub opens_stays : {X : Type 0} (handle : X → Handle) (name : List ℕ) (r : Result X Error) (s t : FolderState) → Opens handle name r s t → t ≡ s
 opens_stays handle name (Ok f) s t x = x.0

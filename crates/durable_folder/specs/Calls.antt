@@ -37,6 +37,7 @@ pub record IsFound (s : FolderState) (name : List ℕ) (file : ℕ) (found : Fou
   pub is_plain : found.is_file ≡ s.fixed.is_plain file
   pub shared : found.is_file ≡ true → 1 < found.names → IsShared s name
   pub device : found.device ≡ s.fixed.device file
+  pub inode : found.inode ≡ s.fixed.inode file
 
 abbrev pub Finds : List ℕ → Result Found Error → FolderState → FolderState → Type 0
 Finds name (Ok found) s t = (t ≡ s) × (file : ℕ) × IsFound s name file found
@@ -62,7 +63,9 @@ Opens handle name (Err error) s t =
 
 -- what is told of an open file
 abbrev pub FindsOpen : Handle → Result Found Error → FolderState → FolderState → Type 0
-FindsOpen handle (Ok found) s t = (t ≡ s) × (found.is_file ≡ false → handle.file ≡ None)
+FindsOpen handle (Ok found) s t =
+    (t ≡ s) × (found.is_file ≡ false → handle.file ≡ None) ×
+    ((file : ℕ) → handle.file ≡ Some file → (found.device ≡ s.fixed.device file) × (found.inode ≡ s.fixed.inode file))
 FindsOpen handle (Err error) s t = t ≡ s
 
 -- a folder is opened, and its device told
@@ -86,7 +89,7 @@ pub record Makes (file : ℕ) (name : List ℕ) (s t : FolderState) : Type 0 whe
 abbrev pub Creates : {F : Type 0} → (F → Handle) → List ℕ → Result F Error → FolderState → FolderState → Type 0
 Creates handle name (Ok opened) s t =
     (file : ℕ) × (handle opened ≡ record { file = Some file; offset = 0 }) × Makes file name s t
-Creates handle name (Err error) s t = t ≡ s
+Creates handle name (Err error) s t = (t ≡ s) × (error_kind error ≡ kind.AlreadyExists → file_of s name ≢ None)
 
 -- the file to which the name leads is opened, or made where there is none
 abbrev pub OpensOrCreates : {F : Type 0} → (F → Handle) → List ℕ → Result F Error → FolderState → FolderState → Type 0

@@ -1,5 +1,5 @@
 -- What the answers of the system count as.
-use Rattle.std.specs.Prelude.{ℕ, Bool, true, false, List, [], ◌∷◌, Result, Ok, Err}
+use Rattle.std.specs.Prelude.{ℕ, Bool, true, false, ◌||◌, List, [], ◌∷◌, Result, Ok, Err}
 use Rattle.std.specs.IoError.{error_kind}
 use Rattle.std.specs.declared.io.Error.{Error}
 use Rattle.std.specs.declared.io.ErrorKind.{ErrorKind}
@@ -49,12 +49,12 @@ these_if false place = []
 abbrev pub quiet : Answer
 quiet = record { refusals = 0; failures = 0; unsynced = [] }
 
--- an error, of which this says whether it is none but tells what is there
+-- an error, of which this says whether it is no fault
 abbrev pub error_answer : (ErrorKind → Bool) → Error → Answer
-error_answer tells error =
+error_answer excuses error =
     record {
       refusals = if_so (is_refusal (error_kind error));
-      failures = unless_so (tells (error_kind error));
+      failures = unless_so (excuses (error_kind error));
       unsynced = [];
     }
 
@@ -66,30 +66,44 @@ abbrev pub answer_to : {T : Type 0} → Result T Error → Answer
 answer_to (Ok x) = quiet
 answer_to (Err error) = error_answer never error
 
--- that there is nothing of a name, or that there is something, is no failure of a call that asks
+-- that there is nothing of a name is no fault of a call that asks
 abbrev pub answer_to_find : {T : Type 0} → Result T Error → Answer
 answer_to_find (Ok x) = quiet
 answer_to_find (Err error) = error_answer is_absence error
 
+-- A new file is not needed where there is no leave for it, and another name is tried where there is something.
+abbrev pub is_passed_over : ErrorKind → Bool
+is_passed_over k = is_presence k || is_refusal k
+
 abbrev pub answer_to_create : {T : Type 0} → Result T Error → Answer
 answer_to_create (Ok x) = quiet
-answer_to_create (Err error) = error_answer is_presence error
+answer_to_create (Err error) = error_answer is_passed_over error
+
+abbrev pub answer_to_rename : {T : Type 0} → Result T Error → Answer
+answer_to_rename (Ok x) = quiet
+answer_to_rename (Err error) = error_answer is_refusal error
 
 -- an error of a call that only makes a file what it is to be, or tells where a link leads: it counts as a refusal
 abbrev pub not_given : Answer
-not_given = record { refusals = 1; failures = 1; unsynced = [] }
+not_given = record { refusals = 1; failures = 0; unsynced = [] }
 
 abbrev pub answer_to_give : {T : Type 0} → Result T Error → Answer
 answer_to_give (Ok x) = quiet
 answer_to_give (Err error) = not_given
 
 -- a folder that may not be opened, or that cannot be synced, is noted
+abbrev pub noted_answer : (ErrorKind → Bool) → List ℕ → Error → Answer
+noted_answer notes folder error =
+    record {
+      refusals = if_so (is_refusal (error_kind error));
+      failures = unless_so (notes (error_kind error));
+      unsynced = these_if (notes (error_kind error)) folder;
+    }
+
 abbrev pub answer_to_open_folder : {T : Type 0} → List ℕ → Result T Error → Answer
 answer_to_open_folder folder (Ok x) = quiet
-answer_to_open_folder folder (Err error) =
-    record { refusals = if_so (is_refusal (error_kind error)); failures = 1; unsynced = these_if (is_denied (error_kind error)) folder }
+answer_to_open_folder folder (Err error) = noted_answer is_denied folder error
 
 abbrev pub answer_to_sync_folder : {T : Type 0} → List ℕ → Result T Error → Answer
 answer_to_sync_folder folder (Ok x) = quiet
-answer_to_sync_folder folder (Err error) =
-    record { refusals = if_so (is_refusal (error_kind error)); failures = 1; unsynced = these_if (is_unable (error_kind error)) folder }
+answer_to_sync_folder folder (Err error) = noted_answer is_unable folder error

@@ -7,8 +7,9 @@ pub record Fixed : Type 0 where
   pub leads : List ℕ → List ℕ
   -- whether a file is a plain one, and no folder, link, device or pipe
   pub is_plain : ℕ → Bool
-  -- on which device a file is, and a folder
+  -- on which device a file is, and which number it has there; on which device a folder is
   pub device : ℕ → ℕ
+  pub inode : ℕ → ℕ
   pub folder_device : List ℕ → ℕ
 
 -- A folder as a loss of power sees it. What stands at a name is a file, and a file is a number: two names can have one.

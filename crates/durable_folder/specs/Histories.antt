@@ -10,7 +10,7 @@ pub record History : Type 0 where
   pub before : List FolderState
   -- how often it gave no leave for a call
   pub refusals : ℕ
-  -- how often it met a fault, or gave no leave
+  -- how often it met a fault, or gave no leave for what has to be
   pub failures : ℕ
   -- which folders it said that it cannot sync, or gave no leave to open
   pub unsynced : List (List ℕ)
@@ -50,3 +50,7 @@ pub record Runs (every : FolderState → FolderState → Type 0) (last : History
 abbrev pub IsTold : Option History → Type 0
 IsTold (Some h) = Unit {0}
 IsTold None = ⊥
+
+-- this is the folder of the name, where states are told
+pub record IsPlaceOf (place name : List ℕ) (a : Option History) : Type 0 where
+  pub is : IsTold a → place ≡ folder_of name

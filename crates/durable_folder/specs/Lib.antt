@@ -1,5 +1,6 @@
 pub mod Answers
 pub mod Calls
+pub mod Causes
 pub mod Counting
 pub mod FolderState
 pub mod Histories

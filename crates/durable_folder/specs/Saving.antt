@@ -5,22 +5,28 @@ use Rattle.std.specs.declared.io.Error.{Error}
 use Rattle.durable_folder.specs.declared.answers.Replaced.{Replaced}
 use Rattle.durable_folder.specs.declared.answers.Replaced.TheVariants as replaced
 use Rattle.durable_folder.specs.FolderState.{FolderState, SomeOf, Leaves, IsDurable, file_of}
-use Rattle.durable_folder.specs.Calls.{Handle, Spares, SparesFiles, OfFile}
-use Rattle.durable_folder.specs.Counting.{is_refusal}
-use Rattle.durable_folder.specs.Histories.{History, Runs, CannotSync}
-use Rattle.durable_folder.specs.Places.{folder_of}
+use Rattle.std.specs.declared.io.ErrorKind.TheVariants as kind
+use Rattle.durable_folder.specs.Calls.{Handle, Spares, SparesFiles, OfFile, Creates, SettlesNames}
+use Rattle.durable_folder.specs.Counting.{is_refusal, is_passed_over, quiet, error_answer}
+use Rattle.durable_folder.specs.Histories.{History, Turns, Runs, CannotSync}
+use Rattle.durable_folder.specs.Places.{folder_of, IsLeftover}
 use Rattle.durable_folder.specs.declared.replacing.Owner.{Owner}
 use Rattle.durable_folder.specs.InPlace.{AfterOk, FileRuns}
 
--- A loss of power leaves at the name what it might have left before, or the new bytes. At each other name that has a
--- file it leaves what it might have left before.
+-- a name that has a file, or that a save of this name does not try for a new file
+abbrev pub IsOther : List ℕ → FolderState → List ℕ → Type 0
+IsOther name s n = (file_of s n ≢ None) ⊎ (IsLeftover name n → ⊥)
+
+-- A loss of power leaves at the name what it might have left before, or the new bytes. At each other name it leaves what
+-- it might have left before, but for names beside it that had no file.
 pub record KeepsOrReplaces (name bytes : List ℕ) (s t : FolderState) : Type 0 where
   pub here : (left : Option (List ℕ)) → Leaves t name left → Leaves s name left ⊎ (left ≡ Some bytes)
-  pub others : (n : List ℕ) → n ≢ name → file_of s n ≢ None → (left : Option (List ℕ)) → Leaves t n left → Leaves s n left
+  pub others : (n : List ℕ) → n ≢ name → IsOther name s n → (left : Option (List ℕ)) → Leaves t n left → Leaves s n left
 
 -- A new file has come to a name where there was none, and nothing else has changed.
 pub record IsNew (name beside : List ℕ) (file : ℕ) (s t : FolderState) : Type 0 where
   pub apart : beside ≢ name
+  pub leftover : IsLeftover name beside
   pub is_free : file_of s beside ≡ None
   pub is_fresh : (n : List ℕ) → SomeOf (λ f. f ≡ Some file) (s.names n) → ⊥
   pub spares : Spares beside file s t
@@ -39,6 +45,13 @@ pub record IsMade (handle : Handle) (name beside : List ℕ) (file : ℕ) (s t :
   pub new : IsNew name beside file s t
   pub named : file_of t beside ≡ Some file
   pub empty : t.files file ≡ [] ∷ []
+
+-- A new file of this name was made, or there was something of that name, or an error has changed nothing.
+abbrev pub Tries : {F : Type 0} → (F → Handle) → (F → List ℕ) → List ℕ → Result (Option F) Error → Option History → Option History → Type 0
+Tries handle beside text (Ok (Some new)) a b = (beside new ≡ text) × Turns (Creates handle text (Ok new)) quiet a b
+Tries handle beside text (Ok None) a b = (error : Error) × (error_kind error ≡ kind.AlreadyExists) × Turns (Creates handle text (Err error)) (error_answer is_passed_over error) a b
+Tries handle beside text (Err error) a b =
+    (error_kind error ≢ kind.AlreadyExists) × Turns (Creates handle text (Err error)) (error_answer is_passed_over error) a b
 
 -- what making the new file comes to
 abbrev pub MakesNew : {F : Type 0} → (F → Handle) → (F → List ℕ) → List ℕ → Result F Error → Option History → Option History → Type 0
@@ -69,6 +82,15 @@ FillEnds file bytes (Err error) h k = OfFile (λ old new. Unit {0}) file.file h.
 abbrev pub Fills : Handle → List ℕ → Result Replaced Error → Option History → Option History → Type 0
 Fills file bytes result = Runs (OfFile (λ old new. Unit {0}) file.file) (FillEnds file bytes result)
 
+-- nothing has changed, or the names of the folder are there durably
+abbrev pub MaySettle : List ℕ → FolderState → FolderState → Type 0
+MaySettle place s t = (t ≡ s) ⊎ SettlesNames place s t
+
+-- A folder is synced. After Ok its names are there durably, or the system cannot sync it.
+pub record SettlesFolder (place : List ℕ) (result : Result (Unit {0}) Error) (old new : Option History) : Type 0 where
+  pub run : Runs (MaySettle place)
+      (λ h k. MaySettle place h.now k.now × AfterOk result (SettlesNames place h.now k.now ⊎ SomeOf (λ p. p ≡ place) k.unsynced)) old new
+
 -- the first name may have given its file to the second one, or lost it
 pub record Shifts (beside name : List ℕ) (s t : FolderState) : Type 0 where
   pub here : (e : Option ℕ) → SomeOf (λ f. f ≡ e) (t.names name) → (e ≡ file_of s beside) ⊎ SomeOf (λ f. f ≡ e) (s.names name)
@@ -84,10 +106,9 @@ PutEnds beside name (Ok replaced.Refused) h k =
 PutEnds beside name (Err error) h k = Unit {0}
 
 -- the new file is put in its place, or removed
-abbrev pub Puts : List ℕ → List ℕ → Result Replaced Error → Option History → Option History → Type 0
-Puts beside name result =
-    Runs (λ s t. file_of s beside ≢ file_of s name → Shifts beside name s t)
-    (λ h k. file_of h.now beside ≢ file_of h.now name → Shifts beside name h.now k.now × PutEnds beside name result h k)
+pub record Puts (beside name : List ℕ) (result : Result Replaced Error) (old new : Option History) : Type 0 where
+  pub run : Runs (λ s t. file_of s beside ≢ file_of s name → Shifts beside name s t)
+      (λ h k. file_of h.now beside ≢ file_of h.now name → Shifts beside name h.now k.now × PutEnds beside name result h k) old new
 
 -- only this name may have changed, and no file
 pub record Aside (beside : List ℕ) (s t : FolderState) : Type 0 where

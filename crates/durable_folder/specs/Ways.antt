@@ -6,7 +6,7 @@ use Rattle.durable_folder.specs.Calls.{Spares, SparesFiles, IsFound}
 use Rattle.durable_folder.specs.Histories.{History, Runs, CannotSync}
 use Rattle.durable_folder.specs.InPlace.{IsTorn, AfterOk, Overwrites}
 use Rattle.durable_folder.specs.Places.{folder_of}
-use Rattle.durable_folder.specs.Saving.{KeepsOrReplaces}
+use Rattle.durable_folder.specs.Saving.{KeepsOrReplaces, IsOther}
 use Rattle.durable_folder.specs.declared.folder.Found.{Found}
 use Rattle.durable_folder.specs.declared.saving.Way.{Way}
 use Rattle.durable_folder.specs.declared.saving.Way.TheVariants as way
@@ -32,10 +32,10 @@ abbrev pub Shares : FolderState → List ℕ → List ℕ → Type 0
 Shares s name n = (file : ℕ) × (file_of s name ≡ Some file) × SomeOf (λ f. f ≡ Some file) (s.names n)
 
 -- A loss of power leaves at the name what it might have left before, the new bytes, or what is torn, and so at the other
--- names of this file. At each other name that has a file it leaves what it might have left before.
+-- names of this file. At each other name it leaves what it might have left before, but for names beside it that had no file.
 pub record KeepsOrTears (name bytes : List ℕ) (s t : FolderState) : Type 0 where
   pub here : (left : Option (List ℕ)) → Leaves t name left → Leaves s name left ⊎ ((left ≡ Some bytes) ⊎ IsTornLeft left)
-  pub others : (n : List ℕ) → n ≢ name → file_of s n ≢ None → (left : Option (List ℕ)) → Leaves t n left →
+  pub others : (n : List ℕ) → n ≢ name → IsOther name s n → (left : Option (List ℕ)) → Leaves t n left →
       Leaves s n left ⊎ (Shares s name n × ((left ≡ Some bytes) ⊎ IsTornLeft left))
 
 -- what stands at the name is no plain file

@@ -1,6 +1,6 @@
 //! Answers of the system, and what a save makes of them.
 ghost use Rattle.std.specs.Prelude.{◌≡◌};
-ghost use Rattle.durable_folder.specs.Answers.{IsLate, refusal_of, sync_answer};
+ghost use Rattle.durable_folder.specs.Answers.{IsLate, IsSettled, refusal_of, sync_answer};
 
 use std::io;
 use std::io::{Error, ErrorKind};
@@ -47,4 +47,11 @@ pub fn synced(done: io::Result<()>) -> io::Result<()>
         Err(error) if error.kind() == ErrorKind::InvalidInput => Ok(()),
         _ => done,
     }
+}
+
+/// The answer of syncing a folder whose names may have changed.
+pub fn settled(done: io::Result<()>) -> io::Result<()>
+    ensures { IsSettled done result }
+{
+    late(synced(done))
 }

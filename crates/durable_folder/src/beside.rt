@@ -1,6 +1,8 @@
 //! Where a new file is made that is to take the place of another one.
-ghost use Rattle.std.specs.Prelude.{◌≡◌};
-ghost use Rattle.durable_folder.specs.Places.{folder_of};
+ghost use Rattle.std.specs.Prelude.{◌≡◌, IfOk};
+ghost use Rattle.std.specs.Path.{path_buf_bytes};
+ghost use Rattle.std.specs.String.{string_bytes};
+ghost use Rattle.durable_folder.specs.Places.{IsBeside, IsOwnBeside, folder_of};
 
 use std::alloc::{AllocError, Global};
 use std::path::{Path, PathBuf};
@@ -22,20 +24,22 @@ pub fn folder_of(name: &str) -> &str
     }
 }
 
-/// The name of a new file beside this one: NAME.saving, then NAME.saving2 and so on, with the front
-/// of a long name.
-pub fn name_beside(alloc: Global, name: &str, number: u32) -> Result<PathBuf, AllocError> {
-    let path = Path::new(name);
-    let mut beside = String::new(alloc);
-    for letter in path.file_name().unwrap_or("").chars() {
-        if beside.len() + letter.len_utf8() > MAX_KEPT {
-            break;
-        }
-        beside.push(letter)?;
-    }
-    beside.push_str(".saving")?;
+/// A file's own name with `.saving`, or that with a number, with the front of a long name.
+fn own_beside(alloc: Global, own: &str, number: u32) -> Result<String, AllocError>
+    ensures { IfOk result (λ text. IsOwnBeside own.now number (string_bytes text)) }
+{
+    let front = &own[..own.floor_char_boundary(MAX_KEPT)];
     if number > 1 {
-        beside.push_str(format!(in alloc; "{number}")?.as_str())?;
+        return format!(in alloc; "{front}.saving{number}");
     }
+    format!(in alloc; "{front}.saving")
+}
+
+/// The name of a new file beside this one: NAME.saving, then NAME.saving2 and so on.
+pub fn name_beside(alloc: Global, name: &str, number: u32) -> Result<PathBuf, AllocError>
+    ensures { IfOk result (λ path. IsBeside name.now number (path_buf_bytes path)) }
+{
+    let path = Path::new(name);
+    let beside = own_beside(alloc, path.file_name().unwrap_or(""), number)?;
     path.with_file_name(alloc, beside.as_str())
 }

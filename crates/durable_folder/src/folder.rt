@@ -31,7 +31,7 @@ pub struct Found {
 pub trait Folder {
     ghost use Rattle.durable_folder.specs.Histories.{History, Turns};
     ghost use Rattle.durable_folder.specs.Calls.{Handle, Finds, FindsOpen, FindsFolder, Resolves, Opens, OpensFolder, OpensOrCreates, Creates, Writes, ResizesFile, SyncsFile, Seeks, Renames, Removes, SyncsFolder, Stays};
-    ghost use Rattle.durable_folder.specs.Counting.{answer_to, answer_to_find, answer_to_create, answer_to_give, answer_to_open_folder, answer_to_sync_folder};
+    ghost use Rattle.durable_folder.specs.Counting.{answer_to, answer_to_find, answer_to_create, answer_to_rename, answer_to_give, answer_to_open_folder, answer_to_sync_folder};
 
     /// A file that was opened for writing.
     type File: Drop;
@@ -110,7 +110,7 @@ pub trait Folder {
 
     /// Puts a file at another name, in the place of what is there.
     fn rename(&mut self, from: &str, to: &str) -> io::Result<()>
-        ensures { Turns (Renames from.now to.now result) (answer_to result) (told self.old) (told self.new) };
+        ensures { Turns (Renames from.now to.now result) (answer_to_rename result) (told self.old) (told self.new) };
 
     /// Waits until the names of a folder are in the system's store.
     fn sync_folder(&mut self, folder: &Self::Place) -> io::Result<()>

@@ -1,5 +1,6 @@
 //! Files that are written in place: their first block is zeros until the rest is in the system's store.
 ghost use Rattle.std.specs.Prelude.{◌≡◌, ℕ, List, ◌+◌, ◌<◌, ◌^◌, length, take, drop};
+ghost use Rattle.durable_folder.specs.Causes.{HasFault};
 ghost use Rattle.durable_folder.specs.InPlace.{IsHead, ClearsHead, WritesRest, WritesHead, WritesOver};
 
 use crate::Folder;
@@ -13,6 +14,7 @@ const HEAD_BYTES: usize = 64;
 fn clear_head<F: Folder>(folder: &mut F, file: &mut F::File) -> io::Result<()>
     ensures same { (F.handle file.new).file ≡ (F.handle file.old).file }
     ensures clears { (F.handle file.old).offset ≡ 0 → ClearsHead (F.handle file.old) result (F.told folder.old) (F.told folder.new) }
+    ensures fault { HasFault result (F.told folder.old) (F.told folder.new) }
 {
     folder.write(file, &[0; HEAD_BYTES])?;
     folder.sync(file)
@@ -28,6 +30,7 @@ fn write_rest<F: Folder>(
     requires { head + length rest.now < 2 ^ 63 }
     ensures same { (F.handle file.new).file ≡ (F.handle file.old).file }
     ensures writes { (bytes : List ℕ) → IsHead head bytes → rest.now ≡ drop head bytes → WritesRest (F.handle file.old) head bytes result (F.told folder.old) (F.told folder.new) }
+    ensures fault { HasFault result (F.told folder.old) (F.told folder.new) }
 {
     folder.seek(file, head as u64)?;
     folder.write(file, rest)?;
@@ -39,6 +42,7 @@ fn write_rest<F: Folder>(
 fn write_head<F: Folder>(folder: &mut F, file: &mut F::File, head: &[u8]) -> io::Result<()>
     ensures same { (F.handle file.new).file ≡ (F.handle file.old).file }
     ensures writes { (bytes : List ℕ) → IsHead (length head.now) bytes → head.now ≡ take (length head.now) bytes → WritesHead (F.handle file.old) (length head.now) bytes result (F.told folder.old) (F.told folder.new) }
+    ensures fault { HasFault result (F.told folder.old) (F.told folder.new) }
 {
     folder.seek(file, 0)?;
     folder.write(file, head)?;
@@ -48,7 +52,8 @@ fn write_head<F: Folder>(folder: &mut F, file: &mut F::File, head: &[u8]) -> io:
 /// Writes over the bytes of an open file. The first bytes of a plain file are zeros until the rest is
 /// in the system's store, so that a part of a save is told from a whole one.
 fn write_over<F: Folder>(folder: &mut F, file: &mut F::File, bytes: &[u8]) -> io::Result<()>
-    ensures { (F.handle file.old).offset ≡ 0 → WritesOver (F.handle file.old) bytes.now result (F.told folder.old) (F.told folder.new) }
+    ensures writes { (F.handle file.old).offset ≡ 0 → WritesOver (F.handle file.old) bytes.now result (F.told folder.old) (F.told folder.new) }
+    ensures fault { HasFault result (F.told folder.old) (F.told folder.new) }
 {
     if !folder.find_open(file)?.is_file {
         folder.write(file, bytes)?;
@@ -62,7 +67,8 @@ fn write_over<F: Folder>(folder: &mut F, file: &mut F::File, bytes: &[u8]) -> io
 
 /// Writes to what is there.
 pub fn write_through<F: Folder>(folder: &mut F, file: F::File, bytes: &[u8]) -> io::Result<()>
-    ensures { (F.handle file).offset ≡ 0 → WritesOver (F.handle file) bytes.now result (F.told folder.old) (F.told folder.new) }
+    ensures writes { (F.handle file).offset ≡ 0 → WritesOver (F.handle file) bytes.now result (F.told folder.old) (F.told folder.new) }
+    ensures fault { HasFault result (F.told folder.old) (F.told folder.new) }
 {
     let mut file = file;
     late(write_over(folder, &mut file, bytes))

@@ -8,6 +8,7 @@ mod in_place;
 mod new_file;
 mod replacing;
 mod saving;
+mod settling;
 #[cfg(test)]
 mod tests;
 

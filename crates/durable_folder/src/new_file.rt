@@ -1,7 +1,9 @@
 //! A new file that is to take the place of another one.
 ghost use Rattle.std.specs.Prelude.{◌≢◌, IfOk};
+ghost use Rattle.durable_folder.specs.Causes.{AllTaken, AtNow, MayPassOver};
 ghost use Rattle.durable_folder.specs.NewFiles.{beside_of, handle_of};
-ghost use Rattle.durable_folder.specs.Saving.{MakesNew};
+ghost use Rattle.durable_folder.specs.Saving.{MakesNew, Tries};
+ghost use Rattle.std.specs.Path.{path_buf_bytes};
 
 use crate::Folder;
 use crate::beside::{MAX_TRIES, name_beside};
@@ -23,6 +25,22 @@ const OWN_MODE: u32 = 0o600;
 /// The mode that is asked for where no owner is given. The system takes off what its mask says.
 const ANY_MODE: u32 = 0o666;
 
+/// Makes a file of this name, if there is nothing of that name.
+#[tactic(auto, using(crate::proofs::Making::tried_made, crate::proofs::Making::tried_taken, crate::proofs::Making::tried_failed))]
+fn try_name<F: Folder>(
+    folder: &mut F,
+    beside: PathBuf,
+    mode: u32,
+) -> io::Result<Option<NewFile<F::File>>>
+    ensures { Tries (handle_of F.handle) beside_of (path_buf_bytes beside) result (F.told folder.old) (F.told folder.new) }
+{
+    match folder.create_new(beside.as_str(), mode) {
+        Ok(file) => Ok(Some(NewFile { file, name: beside })),
+        Err(error) if error.kind() == ErrorKind::AlreadyExists => Ok(None),
+        Err(error) => Err(error),
+    }
+}
+
 /// A new file beside the one of this name, of a name that nobody else has.
 pub fn new_file<F: Folder>(
     folder: &mut F,
@@ -31,6 +49,7 @@ pub fn new_file<F: Folder>(
     is_owned: bool,
 ) -> io::Result<NewFile<F::File>>
     ensures apart { IfOk result (λ new. beside_of new ≢ name.now) }
+    ensures cause { MayPassOver (AtNow (AllTaken name.now) (F.told folder.old)) result (F.told folder.old) (F.told folder.new) }
     ensures makes { MakesNew (handle_of F.handle) beside_of name.now result (F.told folder.old) (F.told folder.new) }
 {
     let mode = if is_owned { OWN_MODE } else { ANY_MODE };
@@ -42,9 +61,9 @@ pub fn new_file<F: Folder>(
         if beside.as_str() == name {
             continue;
         }
-        match folder.create_new(beside.as_str(), mode) {
-            Ok(file) => return Ok(NewFile { file, name: beside }),
-            Err(error) if error.kind() == ErrorKind::AlreadyExists => {}
+        match try_name(folder, beside, mode) {
+            Ok(Some(new)) => return Ok(new),
+            Ok(None) => {}
             Err(error) => return Err(error),
         }
     }

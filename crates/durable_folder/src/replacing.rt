@@ -1,13 +1,14 @@
 //! A file is replaced by a new one that was written beside it.
-ghost use Rattle.std.specs.Prelude.{◌≡◌, ◌≢◌, ◌↔◌, IsTrue};
+ghost use Rattle.std.specs.Prelude.{◌≡◌, ◌≢◌, ◌⊎◌, ◌↔◌, IsTrue, true, Ok, IsErr};
 ghost use Rattle.durable_folder.specs.NewFiles.{beside_of, handle_of};
-ghost use Rattle.durable_folder.specs.Histories.{IsTold};
-ghost use Rattle.durable_folder.specs.Places.{folder_of};
+ghost use Rattle.durable_folder.specs.Causes.{AllTaken, AtNow, HasCause, HasFailed, HasFault, IsLater, IsNamed};
+ghost use Rattle.durable_folder.specs.Histories.{IsPlaceOf};
 ghost use Rattle.durable_folder.specs.Saving.{Gives, Rests, WritesWhole, Fills, Puts, Ends, ReplacesBy, Replaces, Mounted, ReplacesOrNot};
 
-use crate::answers::{Replaced, late, refused, synced};
+use crate::answers::{Replaced, refused};
 use crate::beside::folder_of;
 use crate::new_file::{NewFile, new_file};
+use crate::settling::settle;
 use crate::{Folder, Found};
 use std::alloc::Global;
 use std::fs::Permissions;
@@ -26,7 +27,8 @@ pub struct Owner {
 
 /// Gives a new file its owner and mode, if it is to have them. Answers whether the system gave leave.
 fn give<F: Folder>(folder: &mut F, file: &F::File, beside: &str, owner: Option<Owner>) -> bool
-    ensures { Gives result (F.told folder.old) (F.told folder.new) }
+    ensures gives { Gives result (F.told folder.old) (F.told folder.new) }
+    ensures later { IsLater (F.told folder.old) (F.told folder.new) }
 {
     let Some(owner) = owner else {
         return true;
@@ -38,9 +40,11 @@ fn give<F: Folder>(folder: &mut F, file: &F::File, beside: &str, owner: Option<O
 }
 
 /// Writes the bytes of a new file, up to the system's store.
-#[tactic(auto, using(crate::proofs::Filling::whole_failed, crate::proofs::Filling::whole_done))]
+#[tactic(auto, using(crate::proofs::Causing::turn_later, crate::proofs::Causing::turn_failed, crate::proofs::Filling::whole_failed, crate::proofs::Filling::whole_done))]
 fn write_whole<F: Folder>(folder: &mut F, file: &mut F::File, bytes: &[u8]) -> io::Result<()>
-    ensures { WritesWhole (F.handle file.old) bytes.now result (F.told folder.old) (F.told folder.new) }
+    ensures same { (F.handle file.new).file ≡ (F.handle file.old).file }
+    ensures writes { WritesWhole (F.handle file.old) bytes.now result (F.told folder.old) (F.told folder.new) }
+    ensures fault { HasFault result (F.told folder.old) (F.told folder.new) }
 {
     folder.write(file, bytes)?;
     folder.sync(file)
@@ -54,7 +58,9 @@ fn fill<F: Folder>(
     owner: Option<Owner>,
     bytes: &[u8],
 ) -> io::Result<Replaced>
-    ensures { Fills (F.handle file.old) bytes.now result (F.told folder.old) (F.told folder.new) }
+    ensures same { (F.handle file.new).file ≡ (F.handle file.old).file }
+    ensures fills { Fills (F.handle file.old) bytes.now result (F.told folder.old) (F.told folder.new) }
+    ensures fault { HasFault result (F.told folder.old) (F.told folder.new) }
 {
     if !give(folder, file, beside, owner) {
         return Ok(Replaced::Refused);
@@ -72,7 +78,9 @@ fn is_same(one: &Found, other: &Found) -> bool
 
 /// Whether the file still has the name under which it was made.
 fn has_name<F: Folder>(folder: &mut F, file: &F::File, beside: &str) -> io::Result<bool>
-    ensures { Rests (F.told folder.old) (F.told folder.new) }
+    ensures rests { Rests (F.told folder.old) (F.told folder.new) }
+    ensures later { IsLater (F.told folder.old) (F.told folder.new) }
+    ensures named { AtNow (IsNamed (F.handle file.now).file beside.now) (F.told folder.old) → (result ≡ Ok true) ⊎ HasFailed (F.told folder.old) (F.told folder.new) }
 {
     let named = folder.find(beside)?;
     let made = folder.find_open(file)?;
@@ -80,17 +88,19 @@ fn has_name<F: Folder>(folder: &mut F, file: &F::File, beside: &str) -> io::Resu
 }
 
 /// Puts a new file in the place of the one of this name. Where that is refused, it is removed.
+#[tactic(auto, using(crate::proofs::Causing::turn_later, crate::proofs::Causing::turn_failed))]
 fn put<F: Folder>(
     folder: &mut F,
     place: &F::Place,
     beside: &str,
     name: &str,
 ) -> io::Result<Replaced>
-    ensures { beside.now ≢ name.now → (IsTold (F.told folder.old) → F.place place.now ≡ folder_of name.now) → Puts beside.now name.now result (F.told folder.old) (F.told folder.new) }
+    ensures puts { beside.now ≢ name.now → IsPlaceOf (F.place place.now) name.now (F.told folder.old) → Puts beside.now name.now result (F.told folder.old) (F.told folder.new) }
+    ensures fault { HasFault result (F.told folder.old) (F.told folder.new) }
 {
     match folder.rename(beside, name) {
         Ok(()) => {
-            late(synced(folder.sync_folder(place)))?;
+            settle(folder, place)?;
             Ok(Replaced::Done)
         }
         Err(error) => {
@@ -110,7 +120,9 @@ fn finish<F: Folder>(
     name: &str,
     filled: io::Result<Replaced>,
 ) -> io::Result<Replaced>
-    ensures { beside.now ≢ name.now → (IsTold (F.told folder.old) → F.place place.now ≡ folder_of name.now) → Ends beside.now name.now filled result (F.told folder.old) (F.told folder.new) }
+    ensures ends { beside.now ≢ name.now → IsPlaceOf (F.place place.now) name.now (F.told folder.old) → Ends beside.now name.now filled result (F.told folder.old) (F.told folder.new) }
+    ensures later { IsLater (F.told folder.old) (F.told folder.new) }
+    ensures fault { AtNow (IsNamed (F.handle file.now).file beside.now) (F.told folder.old) → IsErr result → IsErr filled ⊎ HasFailed (F.told folder.old) (F.told folder.new) }
 {
     if !has_name(folder, file, beside)? {
         return Err(Error::from(ErrorKind::Other));
@@ -140,8 +152,10 @@ fn replace_by<F: Folder>(
     owner: Option<Owner>,
     bytes: &[u8],
 ) -> io::Result<Replaced>
-    ensures { beside_of new ≢ name.now → (IsTold (F.told folder.old) → F.place place.now ≡ folder_of name.now) →
+    ensures replaces { beside_of new ≢ name.now → IsPlaceOf (F.place place.now) name.now (F.told folder.old) →
         ReplacesBy (handle_of F.handle new) (beside_of new) name.now bytes.now result (F.told folder.old) (F.told folder.new) }
+    ensures later { IsLater (F.told folder.old) (F.told folder.new) }
+    ensures fault { AtNow (IsNamed (handle_of F.handle new).file (beside_of new)) (F.told folder.old) → IsErr result → HasFailed (F.told folder.old) (F.told folder.new) }
 {
     let NewFile { file, name: beside } = new;
     let mut file = file;
@@ -158,7 +172,8 @@ fn replace_in<F: Folder>(
     owner: Option<Owner>,
     bytes: &[u8],
 ) -> io::Result<Replaced>
-    ensures { (IsTold (F.told folder.old) → F.place place.now ≡ folder_of name.now) → Replaces name.now bytes.now result (F.told folder.old) (F.told folder.new) }
+    ensures replaces { IsPlaceOf (F.place place.now) name.now (F.told folder.old) → Replaces name.now bytes.now result (F.told folder.old) (F.told folder.new) }
+    ensures cause { HasCause (AtNow (AllTaken name.now) (F.told folder.old)) result (F.told folder.old) (F.told folder.new) }
 {
     match new_file(folder, alloc, name, owner.is_some()) {
         Ok(new) => replace_by(folder, place, new, name, owner, bytes),
@@ -173,7 +188,8 @@ fn is_mounted<F: Folder>(
     place: &F::Place,
     owner: &Option<Owner>,
 ) -> io::Result<bool>
-    ensures { Mounted (F.place place.now) owner.now result (F.told folder.old) (F.told folder.new) }
+    ensures mounted { Mounted (F.place place.now) owner.now result (F.told folder.old) (F.told folder.new) }
+    ensures fault { HasFault result (F.told folder.old) (F.told folder.new) }
 {
     let Some(old) = owner else {
         return Ok(false);
@@ -191,7 +207,8 @@ pub fn replace<F: Folder>(
     owner: Option<Owner>,
     bytes: &[u8],
 ) -> io::Result<Replaced>
-    ensures { ReplacesOrNot name.now owner bytes.now result (F.told folder.old) (F.told folder.new) }
+    ensures replaces { ReplacesOrNot name.now owner bytes.now result (F.told folder.old) (F.told folder.new) }
+    ensures cause { HasCause (AtNow (AllTaken name.now) (F.told folder.old)) result (F.told folder.old) (F.told folder.new) }
 {
     let place = match folder.open_folder(folder_of(name)) {
         Ok(place) => place,

@@ -1,12 +1,14 @@
 //! How the bytes of a save come to a name.
 ghost use Rattle.std.specs.Prelude.{◌≡◌, Some};
-ghost use Rattle.durable_folder.specs.FolderState.{IsFree};
+ghost use Rattle.durable_folder.specs.Causes.{AllTaken, AtNow, HasCause, HasFault, IsLater};
+ghost use Rattle.durable_folder.specs.FolderState.{IsFree, target};
 ghost use Rattle.durable_folder.specs.Ways.{Chooses, SavesAt, Looks, WasFound, WritesNew, SyncsFolderOf, MakesThrough, Saves, is_link};
 
-use crate::answers::{Replaced, late, synced};
+use crate::answers::{Replaced, late};
 use crate::beside::folder_of;
 use crate::in_place::write_through;
 use crate::replacing::{Owner, replace};
+use crate::settling::settle;
 use crate::{Folder, Found};
 use std::alloc::Global;
 use std::io;
@@ -39,7 +41,8 @@ fn way_of(found: Found) -> Way
 
 /// What stands at a name, if anything does.
 fn look<F: Folder>(folder: &mut F, name: &str) -> io::Result<Option<Found>>
-    ensures { Looks name.now result (F.told folder.old) (F.told folder.new) }
+    ensures looks { Looks name.now result (F.told folder.old) (F.told folder.new) }
+    ensures fault { HasFault result (F.told folder.old) (F.told folder.new) }
 {
     match folder.find(name) {
         Ok(found) => Ok(Some(found)),
@@ -61,7 +64,8 @@ fn is_link(found: &Option<Found>) -> bool
 /// Makes these the bytes of the file of this name, or of the one that a link of this name leads to.
 /// After Ok they are in the system's store, as far as it tells.
 pub fn save<F: Folder>(folder: &mut F, alloc: Global, name: &str, bytes: &[u8]) -> io::Result<()>
-    ensures { Saves name.now bytes.now result (F.told folder.old) (F.told folder.new) }
+    ensures saves { Saves name.now bytes.now result (F.told folder.old) (F.told folder.new) }
+    ensures cause { HasCause (AtNow (λ s. AllTaken (target s name.now) s) (F.told folder.old)) result (F.told folder.old) (F.told folder.new) }
 {
     let found = look(folder, name)?;
     if !is_link(&found) {
@@ -88,7 +92,8 @@ pub fn save<F: Folder>(folder: &mut F, alloc: Global, name: &str, bytes: &[u8]) 
 /// Writes to the file of this name, or to the one that a link of this name leads to. Where there is none
 /// it is made.
 fn write_new<F: Folder>(folder: &mut F, name: &str, bytes: &[u8]) -> io::Result<()>
-    ensures { WritesNew name.now bytes.now result (F.told folder.old) (F.told folder.new) }
+    ensures writes { WritesNew name.now bytes.now result (F.told folder.old) (F.told folder.new) }
+    ensures fault { HasFault result (F.told folder.old) (F.told folder.new) }
 {
     let file = folder.open_or_create(name)?;
     write_through(folder, file, bytes)
@@ -96,7 +101,8 @@ fn write_new<F: Folder>(folder: &mut F, name: &str, bytes: &[u8]) -> io::Result<
 
 /// Makes the file that a link leads to.
 fn make_through<F: Folder>(folder: &mut F, name: &str, bytes: &[u8]) -> io::Result<()>
-    ensures { MakesThrough name.now bytes.now result (F.told folder.old) (F.told folder.new) }
+    ensures makes { MakesThrough name.now bytes.now result (F.told folder.old) (F.told folder.new) }
+    ensures later { IsLater (F.told folder.old) (F.told folder.new) }
 {
     write_new(folder, name, bytes)?;
     match folder.resolve(name) {
@@ -108,10 +114,11 @@ fn make_through<F: Folder>(folder: &mut F, name: &str, bytes: &[u8]) -> io::Resu
 /// Waits until the name of a file that was made is in the system's store. A folder that may not be
 /// read can't be synced.
 fn sync_folder_of<F: Folder>(folder: &mut F, name: &str) -> io::Result<()>
-    ensures { SyncsFolderOf name.now result (F.told folder.old) (F.told folder.new) }
+    ensures syncs { SyncsFolderOf name.now result (F.told folder.old) (F.told folder.new) }
+    ensures fault { HasFault result (F.told folder.old) (F.told folder.new) }
 {
     match folder.open_folder(folder_of(name)) {
-        Ok(place) => late(synced(folder.sync_folder(&place))),
+        Ok(place) => settle(folder, &place),
         Err(error) if error.kind() == ErrorKind::PermissionDenied => Ok(()),
         Err(error) => late(Err(error)),
     }
@@ -125,7 +132,8 @@ fn save_at<F: Folder>(
     found: Option<Found>,
     bytes: &[u8],
 ) -> io::Result<()>
-    ensures { SavesAt (WasFound name.now found) name.now bytes.now result (F.told folder.old) (F.told folder.new) }
+    ensures saves { SavesAt (WasFound name.now found) name.now bytes.now result (F.told folder.old) (F.told folder.new) }
+    ensures cause { HasCause (AtNow (AllTaken name.now) (F.told folder.old)) result (F.told folder.old) (F.told folder.new) }
 {
     match found {
         Some(old) => save_over(folder, alloc, name, old, bytes),
@@ -141,7 +149,8 @@ fn save_over<F: Folder>(
     old: Found,
     bytes: &[u8],
 ) -> io::Result<()>
-    ensures { SavesAt (WasFound name.now (Some old)) name.now bytes.now result (F.told folder.old) (F.told folder.new) }
+    ensures saves { SavesAt (WasFound name.now (Some old)) name.now bytes.now result (F.told folder.old) (F.told folder.new) }
+    ensures cause { HasCause (AtNow (AllTaken name.now) (F.told folder.old)) result (F.told folder.old) (F.told folder.new) }
 {
     // Who may not write a file may not replace it.
     let file = folder.open(name)?;
@@ -156,7 +165,8 @@ fn save_over<F: Folder>(
 
 /// Makes a file where there is none.
 fn make<F: Folder>(folder: &mut F, alloc: Global, name: &str, bytes: &[u8]) -> io::Result<()>
-    ensures { SavesAt (λ s. IsFree s name.now) name.now bytes.now result (F.told folder.old) (F.told folder.new) }
+    ensures saves { SavesAt (λ s. IsFree s name.now) name.now bytes.now result (F.told folder.old) (F.told folder.new) }
+    ensures cause { HasCause (AtNow (AllTaken name.now) (F.told folder.old)) result (F.told folder.old) (F.told folder.new) }
 {
     match replace(folder, alloc, name, None, bytes)? {
         Replaced::Done => Ok(()),

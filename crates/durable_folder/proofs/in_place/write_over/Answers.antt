@@ -1,14 +1,15 @@
 use Rattle.std.proofs.Common.{◌∙◌, length, refl}
+use Rattle.durable_folder.proofs.Causing.{turn_later, later_then, then_failed, file_sync_failed}
 use Rattle.durable_folder.proofs.Over.{not_found, no_file_found, no_file_written, no_file_synced, no_file_over, found_and_cleared, not_cleared, rest_put, rest_not_put, head_put}
 use Rattle.durable_folder.proofs.in_place.write_over.Goals as goal
 
-pub returns-in_err-find_open : goal.returns-in_err-find_open
-returns-in_err-find_open g c start =
+pub returns-in_err-find_open-clause-writes : goal.returns-in_err-find_open-clause-writes
+returns-in_err-find_open-clause-writes g c start =
     not_found (g.F.Folder.handle c.args.file.now) _ c.args.bytes.now c.find_open.result c.from_residual.result (g.F.Folder.told c.args.folder.now)
     (g.F.Folder.told c.find_open.new.self) c.from_residual.ensures.0 c.find_open.ensures
 
-pub returns-in_err-write : goal.returns-in_err-write
-returns-in_err-write g c start =
+pub returns-in_err-write-clause-writes : goal.returns-in_err-write-clause-writes
+returns-in_err-write-clause-writes g c start =
     let file = g.F.Folder.handle c.args.file.now in
     let before = g.F.Folder.told c.args.folder.now in
     let found = g.F.Folder.told c.find_open.new.self in
@@ -18,8 +19,8 @@ returns-in_err-write g c start =
     (no_file_found file _ c.find_open.result c.in_ok-find_open.field-0 before found c.in_ok-find_open.was c.if-not-branch.true c.find_open.ensures)
     c.write.ensures.writes)
 
-pub returns-then-not-branch : goal.returns-then-not-branch
-returns-then-not-branch g c start =
+pub returns-then-not-branch-clause-writes : goal.returns-then-not-branch-clause-writes
+returns-then-not-branch-clause-writes g c start =
     let file = g.F.Folder.handle c.args.file.now in
     let before = g.F.Folder.told c.args.folder.now in
     let found = g.F.Folder.told c.find_open.new.self in
@@ -32,8 +33,8 @@ returns-then-not-branch g c start =
     c.write.ensures.writes)
     c.sync.ensures)
 
-pub returns-in_err-clear_head : goal.returns-in_err-clear_head
-returns-in_err-clear_head g c start =
+pub returns-in_err-clear_head-clause-writes : goal.returns-in_err-clear_head-clause-writes
+returns-in_err-clear_head-clause-writes g c start =
     not_cleared (g.F.Folder.handle c.args.file.now) c.args.bytes.now c.clear_head.result c.from_residual-in_err-clear_head.result
     (g.F.Folder.told c.args.folder.now)
     (g.F.Folder.told c.clear_head.new.folder) c.from_residual-in_err-clear_head.ensures.0
@@ -41,8 +42,8 @@ returns-in_err-clear_head g c start =
     (g.F.Folder.told c.args.folder.now)
     (g.F.Folder.told c.find_open.new.self) (g.F.Folder.told c.clear_head.new.folder) c.find_open.ensures (c.clear_head.ensures.clears start))
 
-pub returns-in_err-write_rest : goal.returns-in_err-write_rest
-returns-in_err-write_rest g c start =
+pub returns-in_err-write_rest-clause-writes : goal.returns-in_err-write_rest-clause-writes
+returns-in_err-write_rest-clause-writes g c start =
     let file = g.F.Folder.handle c.args.file.now in
     let head = length c.split_at.result.0.now in
     let before = g.F.Folder.told c.args.folder.now in
@@ -59,8 +60,8 @@ returns-in_err-write_rest g c start =
     (c.write_rest.ensures.writes c.args.bytes.now (c.split_at.ensures.front_len ∙ c.min.ensures)
     (rw (← c.split_at.ensures.front_len) at c.split_at.ensures.back)))
 
-pub returns : goal.returns
-returns g c start =
+pub returns-clause-writes : goal.returns-clause-writes
+returns-clause-writes g c start =
     let file = g.F.Folder.handle c.args.file.now in
     let head = length c.split_at.result.0.now in
     let before = g.F.Folder.told c.args.folder.now in
@@ -79,3 +80,14 @@ returns g c start =
     (rw (← c.split_at.ensures.front_len) at c.split_at.ensures.back)))
     (c.write_head.ensures.writes c.args.bytes.now (c.split_at.ensures.front_len ∙ c.min.ensures)
     (rw (← c.split_at.ensures.front_len) at c.split_at.ensures.front))
+
+pub returns-then-not-branch-clause-fault : goal.returns-then-not-branch-clause-fault
+returns-then-not-branch-clause-fault g c =
+    let before = g.F.Folder.told c.args.folder.now in
+    let found = g.F.Folder.told c.find_open.new.self in
+    let after = g.F.Folder.told c.write.new.self in
+    let last = g.F.Folder.told c.sync.new.self in
+    let written = later_then before found after (turn_later _ _ before found c.find_open.ensures) (turn_later _ _ found after c.write.ensures.writes) in (
+      later_then before after last written (turn_later _ _ after last c.sync.ensures),
+      λ err. then_failed before after last written (file_sync_failed _ c.sync.result after last c.sync.ensures (rw c.synced.ensures at err)),
+    )

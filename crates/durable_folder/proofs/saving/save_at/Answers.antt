@@ -4,8 +4,8 @@ use Rattle.durable_folder.specs.Ways.{WasFound}
 use Rattle.durable_folder.proofs.Leading.{saves_less}
 use Rattle.durable_folder.proofs.saving.save_at.Goals as goal
 
-pub returns-in-None : goal.returns-in-None
-returns-in-None g c =
+pub returns-in-None-clause-saves : goal.returns-in-None-clause-saves
+returns-in-None-clause-saves g c =
     saves_less (λ s. IsFree s c.args.name.now) (WasFound c.args.name.now c.args.found) c.args.name.now c.args.bytes.now c.make.result
     (g.F.Folder.told c.args.folder.now) (g.F.Folder.told c.make.new.folder)
-    (λ s known. let at : WasFound c.args.name.now None s = rw c.in-None.is at known in at.seen) c.make.ensures
+    (λ s known. let at : WasFound c.args.name.now None s = rw c.in-None.is at known in at.seen) c.make.ensures.saves
