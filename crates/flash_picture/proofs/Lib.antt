@@ -1,0 +1,4 @@
+pub mod Texts
+pub mod Held
+pub mod Alike
+pub mod Tells

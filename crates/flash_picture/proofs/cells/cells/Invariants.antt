@@ -1,0 +1,7 @@
+use Rattle.std.proofs.Common.{◌≡◌, map, take}
+use Rattle.flash_picture.specs.Cells.{cell_of}
+use Rattle.flash_picture.proofs.cells.cells.Given as goal
+
+abbrev pub invariant-loop-note : goal.invariant-loop-note
+invariant-loop-note l =
+    l.cells.items ≡ map (cell_of l.standing.protocol l.standing.list l.standing.logical) (take l.note-index l.notes)

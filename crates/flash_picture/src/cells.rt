@@ -1,0 +1,38 @@
+ghost use Rattle.std.specs.Prelude.{◌≡◌, map, IfOk};
+ghost use Rattle.flash_picture.specs.Cells.{asks_of, cell_of};
+
+use crate::asks::{Ask, asks, is_held};
+use crate::cell::{Cell, Rank};
+use record_chart::Standing;
+use std::alloc::Global;
+use tx_types::Memory;
+use version_index::Note;
+
+/// The cells of slots of which this is noted.
+pub fn cells(alloc: Global, standing: &Standing, notes: &[Note]) -> Result<Vec<Cell>, Memory>
+    ensures { let s = standing.now in
+        IfOk result (λ cells. cells.items ≡ map (cell_of s.protocol s.list s.logical) notes.now) }
+{
+    let asks = asks(alloc, standing)?;
+    let mut cells = Vec::with_capacity(alloc, notes.len())?;
+    for note in notes {
+        cells.push(cell(standing, &asks, *note))?;
+    }
+    Ok(cells)
+}
+
+/// The cell of a slot of which this is noted.
+fn cell(standing: &Standing, asks: &[Ask], note: Note) -> Cell
+    requires { let s = standing.now in asks.now ≡ asks_of s.protocol s.list s.logical }
+    ensures { let s = standing.now in result ≡ cell_of s.protocol s.list s.logical note }
+{
+    match note {
+        Note::Blank => Cell::Blank,
+        Note::Damaged => Cell::Damaged,
+        Note::Holds(rec) => Cell::Holds {
+            rec,
+            rank: Rank::of(standing.current(rec.page), rec.version),
+            held: is_held(standing, asks, rec),
+        },
+    }
+}

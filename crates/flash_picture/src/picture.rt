@@ -1,0 +1,169 @@
+ghost use Rattle.std.specs.Prelude.{◌≡◌, ◌^◌, ◌<◌, [], ◌++◌, Some, Ok, IfOk, OnErr, OnOk, length};
+ghost use Rattle.std.specs.Fmt.{decimal};
+ghost use Rattle.std.specs.List.{cons_option};
+ghost use Rattle.tx_types.specs.Config.{IsShape, checked, shape_of, slots_of};
+ghost use Rattle.version_index.specs.Notes.{found_at, found_in};
+ghost use Rattle.record_chart.specs.Charts.{Sorts};
+ghost use Rattle.flash_picture.specs.Picture.{breach_line, heading, picture, protocol_word};
+
+use crate::cells::cells;
+use crate::map::Map;
+use crate::marks::Marks;
+use crate::text::add_number;
+use crate::walk::write_walks;
+use record_chart::{Chart, Standing};
+use record_list::{Breach, Found};
+use std::alloc::{AllocError, Global};
+use tx_types::{Config, Memory, Protocol, Shape, Slot};
+use version_index::Note;
+
+/// Appends the picture of a device whose slots are noted so, as lines of text. After `Memory` the bytes are
+/// as before.
+///
+/// The first line has the protocol and the numbers of the device. Then comes the map: a row for each block,
+/// under a heading for each die, and a cell for each slot; the row of the spare begins with `spare`. A cell
+/// says `blank`, `damaged`, or PAGE.VERSION and what the record is: `current`, `loose` or `stale`, as its
+/// version is the current one of its page, or above it, or below; then `held` where it is responsible for a
+/// loose record, `discard` where it has no contents, and `!` where a broken law names the slot. Cells are as
+/// wide as the widest, and a row goes on in the next line where 80 columns are too few. Then comes a line for
+/// each page whose newest version does not count: `walk PAGE.VERSION -> LINK -> .. END`, with the links that
+/// the walk from that record takes, at most 16, and END is `absent` or `straddled by V`. Last comes
+/// `unsound law N slot S`, where a law is broken.
+pub fn draw(
+    alloc: Global,
+    config: Config,
+    notes: &[Note],
+    marks: Marks,
+    out: &mut Vec<u8>,
+) -> Result<(), Memory>
+    requires check { checked config ≡ Ok (shape_of config) }
+    requires whole { length notes.now ≡ slots_of (shape_of config) }
+    ensures text { OnOk result (out.new.items ≡ out.old.items ++ picture config notes.now marks) }
+    ensures err { OnErr result (out.new.items ≡ out.old.items) }
+{
+    let mut text = Vec::new(alloc);
+    write_picture(alloc, config, notes, marks, &mut text)?;
+    if out.is_empty() {
+        *out = text;
+    } else {
+        out.extend_from_slice(&text)?;
+    }
+    Ok(())
+}
+
+/// Appends the picture.
+fn write_picture(
+    alloc: Global,
+    config: Config,
+    notes: &[Note],
+    marks: Marks,
+    text: &mut Vec<u8>,
+) -> Result<(), Memory>
+    requires check { checked config ≡ Ok (shape_of config) }
+    requires whole { length notes.now ≡ slots_of (shape_of config) }
+    ensures { OnOk result (text.new.items ≡ text.old.items ++ picture config notes.now marks) }
+{
+    let chart = charted(alloc, notes)?;
+    let standing = Standing::new(alloc, chart, config.protocol, config.logical)?;
+    let cells = cells(alloc, &standing, notes)?;
+    write_heading(config, text)?;
+    let map = Map {
+        shape: shape(config),
+        cells: &cells,
+        marks,
+    };
+    map.write(alloc, text)?;
+    write_walks(standing.chart(), config.protocol, config.logical, text)?;
+    write_breach(marks.breach, text)?;
+    Ok(())
+}
+
+/// The shape of a device's flash.
+fn shape(config: Config) -> Shape
+    requires { checked config ≡ Ok (shape_of config) }
+    ensures shape { result ≡ shape_of config }
+    ensures bounds { IsShape result }
+{
+    match config.check() {
+        Ok(shape) => shape,
+        Err(_) => unreachable!(),
+    }
+}
+
+/// The records that are noted, in order of their names.
+fn charted(alloc: Global, notes: &[Note]) -> Result<Chart, Memory>
+    requires { length notes.now < 2 ^ 32 }
+    ensures { IfOk result (λ chart. Sorts (found_in notes.now) chart) }
+{
+    Ok(Chart::new(alloc, found(alloc, notes)?)?)
+}
+
+/// The records that are noted, in the order of their slots.
+fn found(alloc: Global, notes: &[Note]) -> Result<Vec<Found>, Memory>
+    requires { length notes.now < 2 ^ 32 }
+    ensures { IfOk result (λ list. list.items ≡ found_in notes.now) }
+{
+    let mut list = Vec::with_capacity(alloc, notes.len())?;
+    for (at, note) in notes.iter().enumerate() {
+        keep(Slot(at as u32), *note, &mut list)?;
+    }
+    Ok(list)
+}
+
+/// Adds a slot with its record, where one is noted.
+fn keep(slot: Slot, note: Note, list: &mut Vec<Found>) -> Result<(), Memory>
+    ensures { OnOk result (list.new.items ≡ list.old.items ++ cons_option (found_at slot.0 note) []) }
+{
+    if let Note::Holds(rec) = note {
+        list.push(Found { slot, rec })?;
+    }
+    Ok(())
+}
+
+/// Appends the first line.
+fn write_heading(config: Config, text: &mut Vec<u8>) -> Result<(), AllocError>
+    ensures { OnOk result (text.new.items ≡ text.old.items ++ heading config) }
+{
+    text.extend_from_slice(protocol_word(config.protocol))?;
+    text.extend_from_slice(b", ")?;
+    write_count(config.logical, b" pages, dies of ", text)?;
+    write_count(config.blocks_per_die, b" blocks of ", text)?;
+    write_count(config.pages_per_block, b" slots\n", text)
+}
+
+/// Appends the line of a law that is broken.
+fn write_breach(breach: Option<Breach>, text: &mut Vec<u8>) -> Result<(), AllocError>
+    ensures { OnOk result (text.new.items ≡ text.old.items ++ breach_line breach) }
+{
+    match breach {
+        None => Ok(()),
+        Some(breach) => write_law(breach, text),
+    }
+}
+
+/// Appends the law that is broken, and the slot that it names.
+fn write_law(breach: Breach, text: &mut Vec<u8>) -> Result<(), AllocError>
+    ensures { OnOk result (text.new.items ≡ text.old.items ++ breach_line (Some breach)) }
+{
+    text.extend_from_slice(b"unsound law ")?;
+    write_count(u32::from(breach.law), b" slot ", text)?;
+    write_count(breach.slot.0, b"\n", text)
+}
+
+/// Appends a number and what stands behind it.
+fn write_count(count: u32, behind: &[u8], text: &mut Vec<u8>) -> Result<(), AllocError>
+    ensures { OnOk result (text.new.items ≡ text.old.items ++ (decimal count ++ behind.now)) }
+{
+    add_number(u64::from(count), text)?;
+    text.extend_from_slice(behind)
+}
+
+/// The word of a protocol.
+fn protocol_word(protocol: Protocol) -> &'static [u8]
+    ensures { result.now ≡ protocol_word protocol }
+{
+    match protocol {
+        Protocol::Scc => b"scc",
+        Protocol::Bpcc => b"bpcc",
+    }
+}

@@ -1,0 +1,118 @@
+ghost use Rattle.std.specs.Prelude.{◌≡◌, Ok};
+ghost use Rattle.tx_types.specs.Config.{checked, shape_of, slots_of};
+
+use crate::{Marks, draw};
+use record_list::Breach;
+use std::alloc::{AllocError, Global};
+use std::test::Fail;
+use tx_types::{Block, Config, Link, Protocol, Rec, Slot};
+use version_index::Note;
+
+/// A device of eight slots on two dies, for three pages.
+fn device(protocol: Protocol) -> Config
+    ensures check { checked result ≡ Ok (shape_of result) }
+    ensures slots { slots_of (shape_of result) ≡ 8 }
+{
+    Config {
+        protocol,
+        page_bytes: 16,
+        pages_per_block: 2,
+        blocks_per_die: 2,
+        dies: 2,
+        logical: 3,
+        pending: 1,
+    }
+}
+
+/// A record of a page and a version, with its link and its back version.
+fn rec(name: (u32, u64), next: (u32, u64), back: u64) -> Note {
+    Note::Holds(Rec {
+        page: name.0,
+        version: name.1,
+        next: Link {
+            page: next.0,
+            version: next.1,
+        },
+        back,
+        count: 0,
+        discard: false,
+    })
+}
+
+/// The picture behind a byte that was there before.
+fn picture(
+    alloc: Global,
+    protocol: Protocol,
+    notes: &[Note; 8],
+    marks: Marks,
+) -> Result<Vec<u8>, AllocError> {
+    let mut out = [b'>'].to_vec(alloc)?;
+    match draw(alloc, device(protocol), notes, marks, &mut out) {
+        Ok(()) => Ok(out),
+        Err(_) => Err(AllocError),
+    }
+}
+
+#[test]
+fn draws_a_cut_transaction(rt: HostRuntime) -> Result<(), Fail> {
+    // page 0 was written again with page 1, and power was cut between the two
+    let notes = [
+        rec((0, 1), (0, 1), 0),
+        Note::Blank,
+        rec((0, 2), (1, 1), 0),
+        Note::Damaged,
+        rec((2, 1), (2, 1), 0),
+        Note::Blank,
+        Note::Blank,
+        Note::Blank,
+    ];
+    let marks = Marks {
+        spare: Some(Block(3)),
+        breach: None,
+    };
+    let want = ">scc, 3 pages, dies of 2 blocks of 2 slots\n\
+         die 0\n\
+         block 0    |0.1 current|blank      |\n\
+         block 1    |0.2 loose  |damaged    |\n\
+         die 1\n\
+         block 2    |2.1 current|blank      |\n\
+         spare 3    |blank      |blank      |\n\
+         walk 0.2 -> 1.1 absent\n";
+    let said = picture(rt.alloc(), Protocol::Scc, &notes, marks)?;
+    assert_eq!(rt; said.as_slice(), want.as_bytes());
+    Ok(())
+}
+
+#[test]
+fn draws_a_straddled_link(rt: HostRuntime) -> Result<(), Fail> {
+    // the first write of page 1 is gone, and the record that followed it answers for the other page
+    let notes = [
+        rec((0, 1), (1, 1), 0),
+        rec((1, 2), (1, 2), 0),
+        rec((1, 3), (1, 3), 2),
+        Note::Blank,
+        Note::Blank,
+        Note::Blank,
+        rec((2, 1), (2, 1), 0),
+        Note::Blank,
+    ];
+    let marks = Marks {
+        spare: None,
+        breach: Some(Breach {
+            law: 9,
+            slot: Slot(6),
+        }),
+    };
+    let want = ">bpcc, 3 pages, dies of 2 blocks of 2 slots\n\
+         die 0\n\
+         block 0    |0.1 loose     |1.2 stale held|\n\
+         block 1    |1.3 current   |blank         |\n\
+         die 1\n\
+         block 2    |blank         |blank         |\n\
+         block 3    |2.1 current ! |blank         |\n\
+         walk 0.1 -> 1.1 straddled by 2\n\
+         unsound law 9 slot 6\n";
+    let said = picture(rt.alloc(), Protocol::Bpcc, &notes, marks)?;
+    assert_eq!(rt; said.as_slice(), want.as_bytes());
+    Ok(())
+}

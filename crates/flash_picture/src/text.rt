@@ -1,0 +1,44 @@
+ghost use Rattle.std.specs.Prelude.{◌≡◌, ◌≤◌, ◌-◌, ◌∷◌, ◌++◌, OnOk, length, replicate};
+ghost use Rattle.std.specs.Fmt.{decimal};
+ghost use Rattle.flash_picture.specs.Cells.{name_word};
+
+use itoa::Buffer;
+use std::alloc::AllocError;
+use tx_types::Link;
+
+/// Appends a number.
+pub fn add_number(number: u64, text: &mut Vec<u8>) -> Result<(), AllocError>
+    ensures { OnOk result (text.new.items ≡ text.old.items ++ decimal number) }
+{
+    let mut digits = Buffer::new();
+    text.extend_from_slice(digits.format(number).as_bytes())
+}
+
+/// Appends a name.
+pub fn add_name(name: Link, text: &mut Vec<u8>) -> Result<(), AllocError>
+    ensures { OnOk result (text.new.items ≡ text.old.items ++ name_word name) }
+{
+    add_number(u64::from(name.page), text)?;
+    text.extend_from_slice(b".")?;
+    add_number(name.version, text)
+}
+
+/// Appends this many spaces.
+pub fn add_spaces(count: usize, text: &mut Vec<u8>) -> Result<(), AllocError>
+    ensures { OnOk result (text.new.items ≡ text.old.items ++ replicate count 32) }
+{
+    for _space in 0..count {
+        text.push(b' ').map_err(|_| AllocError)?;
+    }
+    Ok(())
+}
+
+/// Appends spaces behind what stands in the text from `start` on, up to a width.
+pub fn pad(start: usize, width: usize, text: &mut Vec<u8>) -> Result<(), AllocError>
+    requires { start ≤ length text.old.items }
+    ensures { OnOk result (text.new.items
+        ≡ text.old.items ++ replicate (width - (length text.old.items - start)) 32) }
+{
+    let written = text.len() - start;
+    add_spaces(width.saturating_sub(written), text)
+}
