@@ -1,10 +1,10 @@
 -- The slots of a scan hold the numbers of their records.
-use Rattle.std.proofs.Common.{◌≡◌, ℕ, ◌+◌, ◌<◌, ◌≤◌, Bool, true, eqb, List, length, map, set, get_or, Contains, Some, None, refl, sym, ap, ◌∙◌, subst, inl, inr, arith, eq-eqb}
+use Rattle.std.proofs.Common.{◌≡◌, ℕ, ◌+◌, ◌<◌, ◌≤◌, Bool, true, eqb, List, [], ◌∷◌, ◌++◌, length, map, set, get_or, Contains, Some, None, refl, sym, ap, ◌∙◌, subst, inl, inr, arith, eq-eqb}
 use Rattle.std.specs.Option.{option_map_or}
 use Rattle.std.specs.Prelude.{position}
 use Rattle.std.proofs.Math.ListN.{get_or-map}
 use Rattle.std.proofs.lemmas.Bool.{false≢true, cases_eq, cases_lt, and_from}
-use Rattle.std.proofs.lemmas.List.{length-map, length-set, get_or-set_same, get_or-set_other, get_or_past, ext_get_or}
+use Rattle.std.proofs.lemmas.List.{length-map, length-append, get_or_push, get_or_append_left, length-set, get_or-set_same, get_or-set_other, get_or_past, ext_get_or}
 use Rattle.std.proofs.lemmas.List.Elements.{at_from_Contains, Contains-get_or}
 use Rattle.std.proofs.lemmas.Option.{none-some}
 use Rattle.list_facts.proofs.Positions.{position-all, position_some}
@@ -22,10 +22,12 @@ use Rattle.slot_tables.specs.Copies.{NumbersBelow}
 use Rattle.slot_tables.specs.Kept.{Kept, record_at, use_at}
 use Rattle.version_index.specs.declared.note.Note.{Note}
 use Rattle.version_index.specs.declared.note.Note.TheVariants as note
-use Rattle.version_index.specs.Filling.{NamesAgree, AreNumbered, AreListed, IsListed, IsNumberAt, UsesNote}
-use Rattle.version_index.specs.Notes.{note_at}
+use Rattle.version_index.specs.Filling.{NamesAgree, AreNumbered, AreListed, AreUses, IsListed, IsNumberAt, UsesNote}
+use Rattle.flash_model.specs.declared.flash.Seen.{Seen}
+use Rattle.version_index.specs.Notes.{note_at, complete_slots}
 use Rattle.version_index.specs.Tables.{note_in, notes_in}
 use Rattle.version_index.proofs.FoundIn.{noted_in, holds_within, found}
+use Rattle.version_index.proofs.Scans.{IsScannedTo, slots, scan_start, scan_end}
 
 -- a name that is present has a place
 pub not_missing : (list : List Found) (rec : Rec) → is_present list (name_of rec) ≡ true → position (λ f. has_name (name_of rec) f.rec) list ≡ None → ⊥
@@ -45,13 +47,6 @@ number_there list numbers rec place e =
     let within = position_some p list place e in
     let stands = find_stands p list (get_or list place nothing) (find-position p list place nothing e) in
     record { place = place; within = within.1; number = refl; its_name = stands.1 }
-
--- a noted record is listed
-pub note_listed : (notes : List Note) (list : List Found) → AreListed notes list → (at : ℕ) (its : Note) → note_at notes at ≡ its → IsListed list its
-note_listed notes list all at note.Blank e = tt
-note_listed notes list all at note.Damaged e = tt
-note_listed notes list all at (note.Holds rec) e =
-    present_in list (found at rec) (all (found at rec) (noted_in notes at rec (holds_within notes at rec e) e))
 
 module _ (list : List Found) (numbers : List ℕ) (k : Kept) (numbered : AreNumbered list numbers k) (whole : length numbers ≡ length list)
     (agree : NamesAgree list) where
@@ -101,30 +96,6 @@ pub record IsHolding (list : List Found) (numbers : List ℕ) (k t : Kept) (note
       (note_in k.records (use_at t.slots a) ≡ note_at notes a) × UsesNote list numbers (note_at notes a) (use_at t.slots a)
 
 module _ (list : List Found) (numbers : List ℕ) (k : Kept) (notes : List Note) where
-  pub start_holding : length k.slots ≡ length notes → IsHolding list numbers k k notes 0
-  start_holding size = record { rest = refl; size = size; done = λ a low high. absurd (omega arith) }
-
-  pub hold_more : (t : Kept) (count at : ℕ) (u : SlotUse) → IsHolding list numbers k t notes count → at + count + 1 ≡ length notes →
-      note_in k.records u ≡ note_at notes at → UsesNote list numbers (note_at notes at) u →
-      IsHolding list numbers k (record t { slots = set t.slots at u }) notes (count + 1)
-  hold_more t count at u h place is uses = record {
-    rest = ap (λ (v : Kept). record v { slots = set t.slots at u }) h.rest;
-    size = length-set t.slots at u ∙ h.size;
-    done = λ a low high. elim (cases_eq a at) [
-      | inl here ↦ (
-          let size = h.size in
-          let same = ap (use_at (set t.slots at u)) here ∙ get_or-set_same t.slots at u slot.Blank (omega arith) in (
-            ap (note_in k.records) same ∙ is ∙ ap (note_at notes) (sym here),
-            subst (UsesNote list numbers (note_at notes a)) (sym same)
-                (subst (λ b. UsesNote list numbers (note_at notes b) u) (sym here) uses),
-          ))
-      | inr off ↦ (
-          let other = get_or-set_other t.slots at a u slot.Blank off in
-          let old = h.done a (omega arith) high in
-          (ap (note_in k.records) other ∙ old.0, subst (UsesNote list numbers (note_at notes a)) (sym other) old.1))
-    ];
-  }
-
   pub all_held : (t : Kept) (count : ℕ) → IsHolding list numbers k t notes count → length notes ≤ count → notes_in t ≡ notes
   all_held t count h all =
       ap (λ l. map (note_in l) t.slots) (ap (λ (v : Kept). v.records) h.rest)
@@ -145,3 +116,91 @@ module _ (list : List Found) (numbers : List ℕ) (k : Kept) (notes : List Note)
       of_note note.Blank h = (let other : slot.Holds x ≡ slot.Blank = h in absurd cc)
       of_note note.Damaged h = (let other : slot.Holds x ≡ slot.Damaged = h in absurd cc)
       of_note (note.Holds rec) h = (h.place, h.within, h.number)
+
+-- slots that are used so by what is noted of them are used as they were noted
+pub uses_held : (list : List Found) (numbers : List ℕ) (k t : Kept) (seen : List Seen) (scanned : List Found) (uses : List SlotUse)
+    → AreNumbered list numbers k → length numbers ≡ length list → NamesAgree list → ((f : Found) → Contains scanned f → Contains list f)
+    → (h : AreUses list numbers seen scanned uses) → t ≡ record k { slots = uses } → IsHolding list numbers k t h.notes (length h.notes)
+uses_held list numbers k t seen scanned uses numbered whole agree listed h e = record {
+  rest = e ∙ ap (λ (s : List SlotUse). record k { slots = s }) (sym (ap (λ (v : Kept). v.slots) e));
+  size = ap (λ (v : Kept). length v.slots) e ∙ h.size;
+  done = λ a low high.
+      let slots = ap (λ (v : Kept). v.slots) e in
+      let its = h.each a high in
+      let own : AreListed h.notes list = λ f i. listed f (subst (λ l. Contains l f) h.found i) in (
+        ap (λ s. note_in k.records (use_at s a)) slots
+            ∙ uses_note list numbers k numbered whole agree h.notes own a (note_at h.notes a) (use_at uses a) refl its,
+        subst (λ s. UsesNote list numbers (note_at h.notes a) (use_at s a)) (sym slots) its,
+      );
+}
+
+-- the numbers of such slots are in range
+pub each_below : (list : List Found) (numbers : List ℕ) (k : Kept) (seen : List Seen) (scanned : List Found) (uses : List SlotUse)
+    → AreNumbered list numbers k → length numbers ≡ length list → NamesAgree list → length k.records ≡ slots_of k.shape
+    → (h : AreUses list numbers seen scanned uses) → (at : ℕ) → NumbersBelow (slots_of k.shape) (use_at uses at)
+each_below list numbers k seen scanned uses numbered whole agree sizes h at = elim (cases_lt at (length uses)) [
+  | inl low ↦ (let size = h.size in
+      uses_below list numbers k numbered whole agree sizes (note_at h.notes at) (use_at uses at) (h.each at (omega arith)))
+  | inr past ↦ subst (NumbersBelow (slots_of k.shape)) (sym (get_or_past uses at slot.Blank past)) tt
+]
+
+-- the uses of the first slots, by their notes
+pub record AreUsesTo (list : List Found) (numbers : List ℕ) (all : List Seen) (scanned : List Found) (i next : ℕ) (uses : List SlotUse) : Type 0 where
+  pub notes : List Note
+  pub scan : IsScannedTo all scanned i next notes
+  pub size : length uses ≡ length notes
+  pub each : (at : ℕ) → at < length notes → UsesNote list numbers (note_at notes at) (use_at uses at)
+
+module _ (list : List Found) (numbers : List ℕ) (all : List Seen) (scanned : List Found) where
+  pub no_uses : slots scanned ≡ complete_slots all → AreUsesTo list numbers all scanned 0 0 []
+  no_uses complete = record { notes = []; scan = scan_start all scanned complete; size = refl; each = λ at low. absurd (omega arith) }
+
+  pub one_use : (i next next' : ℕ) (uses : List SlotUse) (its : Note) (u : SlotUse) → (h : AreUsesTo list numbers all scanned i next uses)
+      → IsScannedTo all scanned (i + 1) next' (h.notes ++ its ∷ []) → UsesNote list numbers its u
+      → AreUsesTo list numbers all scanned (i + 1) next' (uses ++ u ∷ [])
+  one_use i next next' uses its u h scan is = record {
+    notes = h.notes ++ its ∷ [];
+    scan = scan;
+    size = length-append uses (u ∷ []) ∙ ap (λ n. n + 1) h.size ∙ sym (length-append h.notes (its ∷ []));
+    each = λ at low.
+        let size = h.size in
+        let long = length-append h.notes (its ∷ []) in
+        elim (cases_eq at (length h.notes)) [
+          | inl last ↦
+              subst (λ n. UsesNote list numbers n (use_at (uses ++ u ∷ []) at)) (sym (get_or_push h.notes its note.Blank at (sym last)))
+              (subst (UsesNote list numbers its) (sym (get_or_push uses u slot.Blank at (size ∙ sym last))) is)
+          | inr other ↦
+              let before : at < length h.notes = omega arith in
+              subst (λ n. UsesNote list numbers n (use_at (uses ++ u ∷ []) at)) (sym (get_or_append_left h.notes (its ∷ []) note.Blank at before))
+              (subst (UsesNote list numbers (note_at h.notes at)) (sym (get_or_append_left uses (u ∷ []) slot.Blank at (omega arith))) (h.each at before))
+        ];
+  }
+
+  pub all_uses : (i next : ℕ) (uses : List SlotUse) → AreUsesTo list numbers all scanned i next uses → length all ≤ i
+      → AreUses list numbers all scanned uses
+  all_uses i next uses h past =
+      let ends = scan_end all scanned i next h.notes h.scan past in
+      record { notes = h.notes; reads = ends.0; found = ends.1; size = h.size; each = h.each }
+
+-- so many of the last slots are used so
+pub record AreUsedFrom (k t : Kept) (uses : List SlotUse) (count : ℕ) : Type 0 where
+  pub rest : t ≡ record k { slots = t.slots }
+  pub size : length t.slots ≡ length k.slots
+  pub done : (a : ℕ) → length uses ≤ a + count → a < length uses → use_at t.slots a ≡ use_at uses a
+
+module _ (k : Kept) (uses : List SlotUse) where
+  pub one_used : (t : Kept) (count at : ℕ) (u : SlotUse) → AreUsedFrom k t uses count → at < length t.slots → at + count + 1 ≡ length uses
+      → u ≡ use_at uses at → AreUsedFrom k (record t { slots = set t.slots at u }) uses (count + 1)
+  one_used t count at u h low place is = record {
+    rest = ap (λ (v : Kept). record v { slots = set t.slots at u }) h.rest;
+    size = length-set t.slots at u ∙ h.size;
+    done = λ a least high. elim (cases_eq a at) [
+      | inl here ↦ ap (use_at (set t.slots at u)) here ∙ get_or-set_same t.slots at u slot.Blank low ∙ is ∙ ap (use_at uses) (sym here)
+      | inr off ↦ get_or-set_other t.slots at a u slot.Blank off ∙ h.done a (omega arith) high
+    ];
+  }
+
+  pub all_used : (t : Kept) (count : ℕ) → AreUsedFrom k t uses count → length k.slots ≡ length uses → length uses ≤ count → t ≡ record k { slots = uses }
+  all_used t count h size all =
+      h.rest ∙ ap (λ (s : List SlotUse). record k { slots = s })
+      (ext_get_or slot.Blank t.slots uses (h.size ∙ size) (λ a low. let long = h.size in h.done a (omega arith) (omega arith)))

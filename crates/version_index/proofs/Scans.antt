@@ -1,7 +1,7 @@
 -- The notes of slots that were scanned, made from how they read and from the list of their records.
 use Rattle.std.proofs.Common.{◌≡◌, ℕ, suc, ◌+◌, ◌<◌, ◌≤◌, List, [], ◌∷◌, ◌++◌, length, get_or, take, drop, map, Option, None, refl, sym, ap, ◌∙◌, arith}
 use Rattle.std.specs.List.{cons_option}
-use Rattle.std.proofs.lemmas.List.{append-nil, append_assoc, length-drop, length-map, take_more, drop_more, map_push, length-take-le}
+use Rattle.std.proofs.lemmas.List.{take_all, drop_all, nil_from_length, append-nil, append_assoc, length-drop, length-map, take_more, drop_more, map_push, length-take-le}
 use Rattle.tx_types.specs.declared.record.Rec.{Rec}
 use Rattle.flash_model.specs.declared.flash.Seen.{Seen}
 use Rattle.flash_model.specs.declared.flash.Seen.TheVariants as seen
@@ -78,3 +78,11 @@ module _ (all : List Seen) (list : List Found) (i next : ℕ) (notes : List Note
     where
       the_found : ℕ → Rec → Found
       the_found k rec = record { slot = record { 0 = k }; rec = rec }
+
+-- once all slots have their notes, these read as the slots and hold all records
+pub scan_end : (all : List Seen) (list : List Found) (i next : ℕ) (notes : List Note) → IsScannedTo all list i next notes → length all ≤ i →
+    (map seen_as notes ≡ all) × (found_in notes ≡ list)
+scan_end all list i next notes s past =
+    let left : slots (drop next list) ≡ [] = s.rest ∙ ap (given numbered_complete i) (drop_all i all past) in
+    let none : drop next list ≡ [] = nil_from_length (drop next list) (sym (length-map (drop next list) (λ f. f.slot.0)) ∙ ap length left) in
+    (s.reads ∙ take_all i all past, sym (append-nil (found_in notes)) ∙ ap (λ l. found_in notes ++ l) (sym none) ∙ s.found)

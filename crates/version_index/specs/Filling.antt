@@ -1,5 +1,5 @@
 -- Tables that are filled with the records of a scan.
-use Rattle.std.specs.Prelude.{◌≡◌, ◌≢◌, ℕ, replicate, true, ◌<◌, ◌≤◌, ◌⊎◌, List, length, slice_index, Option, Some, None, option_and_then, position, Contains}
+use Rattle.std.specs.Prelude.{◌≡◌, ◌≢◌, ℕ, replicate, true, ◌<◌, ◌≤◌, ◌⊎◌, List, length, map, slice_index, Option, Some, None, option_and_then, position, Contains}
 use Rattle.std.specs.Option.{option_map}
 use Rattle.tx_types.specs.declared.record.Link.{Link}
 use Rattle.tx_types.specs.Config.{slots_of}
@@ -15,7 +15,8 @@ use Rattle.slot_tables.specs.declared.slots.SlotUse.{SlotUse}
 use Rattle.slot_tables.specs.declared.slots.SlotUse.TheVariants as slot
 use Rattle.version_index.specs.declared.note.Note.{Note}
 use Rattle.version_index.specs.declared.note.Note.TheVariants as note
-use Rattle.version_index.specs.Notes.{found_in}
+use Rattle.flash_model.specs.declared.flash.Seen.{Seen}
+use Rattle.version_index.specs.Notes.{found_in, note_at, seen_as}
 use Rattle.version_index.specs.Judged.{name_at, answerer, is_waiting}
 use Rattle.version_index.specs.JudgedChanges.{Judged}
 use Rattle.version_index.specs.Numbered.{awaited}
@@ -96,6 +97,14 @@ UsesNote list numbers note.Damaged u = u ≡ slot.Damaged
 UsesNote list numbers (note.Holds rec) slot.Blank = ⊥
 UsesNote list numbers (note.Holds rec) slot.Damaged = ⊥
 UsesNote list numbers (note.Holds rec) (slot.Holds x) = IsNumberAt list numbers rec x
+
+-- slots that read so and hold these records are used so, by what is noted of them
+pub record AreUses (chart : List Found) (numbers : List ℕ) (seen : List Seen) (list : List Found) (uses : List SlotUse) : Type 0 where
+  pub notes : List Note
+  pub reads : map seen_as notes ≡ seen
+  pub found : found_in notes ≡ list
+  pub size : length uses ≡ length notes
+  pub each : (at : ℕ) → at < length notes → UsesNote chart numbers (note_at notes at) (use_at uses at)
 
 -- the number at the place of a name
 abbrev pub number_by : List Found → List ℕ → Option Link → Option ℕ

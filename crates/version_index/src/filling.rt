@@ -1,44 +1,50 @@
-ghost use Rattle.std.specs.Prelude.{◌≡◌, ◌≤◌, All, length, IfOk, OnOk};
+ghost use Rattle.std.specs.Prelude.{◌≡◌, ◌≤◌, All, Contains, length, map, IfOk, OnOk};
 ghost use Rattle.tx_types.specs.Config.{slots_of};
 ghost use Rattle.record_chart.specs.Charts.{Sorts};
 ghost use Rattle.slot_tables.specs.Kept.{blank_tables};
 ghost use Rattle.record_list.specs.SoundList.{PagesExist};
-ghost use Rattle.version_index.specs.Filling.{NamesAgree, AreListed, AreFilled};
+ghost use Rattle.record_list.specs.declared.found.Found.{Found};
+ghost use Rattle.version_index.specs.Filling.{NamesAgree, AreFilled};
+ghost use Rattle.version_index.specs.Notes.{seen_as, found_in, complete_slots};
 ghost use Rattle.version_index.specs.Tables.{notes_in};
 
-use crate::Note;
 use crate::deciding::{decide_current, decide_records};
-use crate::holding::hold_notes;
+use crate::holding::{hold_uses, used_slots};
 use crate::numbering::number_records;
+use flash_model::Seen;
 use record_chart::{Chart, Standing};
 use record_list::Found;
 use slot_tables::Filling;
 use std::alloc::{AllocError, Global};
 use tx_types::{Memory, Protocol};
 
-/// Fills tables of blank slots with what is noted of the slots. Of the noted records it is known where
-/// their pages stand.
+/// Fills tables of blank slots with slots that read so and hold these records, in the order of their slots. Of
+/// the records it is known where their pages stand.
 pub fn fill(
     alloc: Global,
     tables: &mut Filling,
     logical: u32,
-    notes: &[Note],
+    seen: &[Seen],
+    list: &[Found],
     standing: &Standing,
 ) -> Result<(), Memory>
     requires blank { tables.old ≡ blank_tables tables.old.shape logical }
-    requires notes { length notes.now ≡ slots_of tables.old.shape }
+    requires seen { length seen.now ≡ slots_of tables.old.shape }
+    requires complete { map (λ f. f.slot.0) list.now ≡ complete_slots seen.now }
     requires logical { standing.now.logical ≡ logical }
     requires agree { NamesAgree standing.now.list }
     requires exist { All (PagesExist logical) standing.now.list }
-    requires listed { AreListed notes.now standing.now.list }
+    requires listed { (f : Found) → Contains list.now f → Contains standing.now.list f }
     requires few { length standing.now.list ≤ slots_of tables.old.shape }
-    ensures notes { OnOk result (notes_in tables.new ≡ notes.now) }
+    ensures reads { OnOk result (map seen_as (notes_in tables.new) ≡ seen.now) }
+    ensures found { OnOk result (found_in (notes_in tables.new) ≡ list.now) }
     ensures filled { OnOk result
         (AreFilled standing.now.protocol standing.now.list tables.old.shape logical tables.new) }
 {
     let chart = standing.chart();
     let numbers = number_records(alloc, tables, chart.records())?;
-    hold_notes(tables, chart, &numbers, notes);
+    let uses = used_slots(alloc, chart, &numbers, seen, list)?;
+    hold_uses(tables, &uses);
     decide_current(tables, logical, standing, &numbers);
     decide_records(tables, logical, standing, &numbers);
     Ok(())

@@ -1,34 +1,61 @@
-ghost use Rattle.std.specs.Prelude.{◌≡◌, ◌<◌, ℕ, length, slice_index};
+ghost use Rattle.std.specs.Prelude.{◌≡◌, ℕ, length, map, Contains, IfOk};
 ghost use Rattle.tx_types.specs.Config.{slots_of};
-ghost use Rattle.slot_tables.specs.declared.slots.SlotUse.TheVariants as slot;
+ghost use Rattle.record_list.specs.declared.found.Found.{Found};
+ghost use Rattle.slot_tables.specs.Copies.{NumbersBelow};
 ghost use Rattle.slot_tables.specs.Kept.{use_at};
-ghost use Rattle.version_index.specs.Filling.{NamesAgree, AreNumbered, AreListed, IsListed, UsesNote};
-ghost use Rattle.version_index.specs.Tables.{notes_in};
+ghost use Rattle.version_index.specs.Filling.{IsListed, UsesNote, AreUses};
+ghost use Rattle.version_index.specs.Notes.{complete_slots};
 
 use crate::Note;
+use flash_model::Seen;
 use record_chart::Chart;
+use record_list::Found;
 use slot_tables::{Filling, SlotUse};
-use tx_types::{Link, Slot};
+use std::alloc::Global;
+use tx_types::{Link, Memory, Slot};
 
-/// Each slot is used as it was noted, by the numbers of the records. The last slots come first, as each
-/// record then goes in front of its copies.
-pub fn hold_notes(tables: &mut Filling, chart: &Chart, numbers: &[u32], notes: &[Note])
-    requires notes { length notes.now ≡ slots_of tables.old.shape }
-    requires numbered { AreNumbered chart.now numbers.now tables.old }
+/// How each slot is used that reads so and holds these records, in the order of their slots, by the numbers of
+/// the records.
+pub fn used_slots(
+    alloc: Global,
+    chart: &Chart,
+    numbers: &[u32],
+    seen: &[Seen],
+    list: &[Found],
+) -> Result<Vec<SlotUse>, Memory>
+    requires complete { map (λ f. f.slot.0) list.now ≡ complete_slots seen.now }
     requires whole { length numbers.now ≡ length chart.now }
-    requires agree { NamesAgree chart.now }
-    requires listed { AreListed notes.now chart.now }
-    ensures rest { tables.new ≡ record tables.old { slots = tables.new.slots } }
-    ensures notes { notes_in tables.new ≡ notes.now }
-    ensures placed { (at x : ℕ) → use_at tables.new.slots at ≡ slot.Holds x →
-        (j : ℕ) × (j < length chart.now) × (slice_index numbers.now j ≡ x) }
+    requires listed { (f : Found) → Contains list.now f → Contains chart.now f }
+    ensures { IfOk result (λ uses. AreUses chart.now numbers.now seen.now list.now uses.items) }
+{
+    let mut uses = Vec::with_capacity(alloc, seen.len())?;
+    let mut next = 0;
+    for how in seen {
+        let note = match how {
+            Seen::Blank => Note::Blank,
+            Seen::Damaged => Note::Damaged,
+            Seen::Complete => {
+                let rec = list[next].rec;
+                next += 1;
+                Note::Holds(rec)
+            }
+        };
+        uses.push(use_of(chart, numbers, note))?;
+    }
+    Ok(uses)
+}
+
+/// Each slot is used so. The last slots come first, as each record then goes in front of its copies.
+pub fn hold_uses(tables: &mut Filling, uses: &[SlotUse])
+    requires size { length uses.now ≡ slots_of tables.old.shape }
+    requires below { (at : ℕ) → NumbersBelow (slots_of tables.old.shape) (use_at uses.now at) }
+    ensures { tables.new ≡ record tables.old { slots = uses.now } }
 {
     let _ = tables.shape();
-    let count = notes.len();
+    let count = uses.len();
     for i in 0..count {
         let at = count - 1 - i;
-        let held = use_of(chart, numbers, notes[at]);
-        tables.set_slot(Slot(at as u32), held);
+        tables.set_slot(Slot(at as u32), uses[at]);
     }
 }
 

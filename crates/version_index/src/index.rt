@@ -8,7 +8,6 @@ ghost use Rattle.version_index.specs.Noted.{IsNoted, IsNotedFrom};
 
 use crate::filling::{fill, standing_of};
 use crate::mentioning::first_mentions;
-use crate::noting::noted_slots;
 use flash_model::Seen;
 use record_chart::Standing;
 use record_list::{CommitRule, Found};
@@ -84,9 +83,8 @@ impl<R: CommitRule> Index<R> {
         let Ok(shape) = config.check() else {
             unreachable!();
         };
-        let notes = noted_slots(alloc, seen, list)?;
         let mut filling = Filling::new(alloc, shape, config.logical)?;
-        fill(alloc, &mut filling, config.logical, &notes, standing)?;
+        fill(alloc, &mut filling, config.logical, seen, list, standing)?;
         let tables = filling.finish(alloc)?;
         Ok(Index {
             config,

@@ -13,7 +13,6 @@ pub mod laws;
 mod losing;
 mod mentioning;
 mod note;
-mod noting;
 mod numbering;
 mod reading;
 #[cfg(test)]

@@ -1,36 +1,112 @@
-use Rattle.std.proofs.Common.{◌≡◌, ◌<◌, ℕ, List, [], length, get_or, ap, sym, subst, ◌∙◌}
-use Rattle.std.proofs.lemmas.List.{length-replicate}
-use Rattle.slot_tables.specs.declared.slots.SlotUse.TheVariants as slot
-use Rattle.slot_tables.specs.Kept.{Kept, use_at}
-use Rattle.version_index.specs.Filling.{NamesAgree, AreListed, AreNumbered, AreBlankBut, AreCurrent, AreDecided}
+-- The slots are used by the numbers of their records, and what is decided of these leaves them.
+use Rattle.std.proofs.Common.{List, [], Contains, length, map, ap, sym, subst, ◌∙◌, arith}
+use Rattle.std.proofs.lemmas.List.{length-map, length-replicate}
+use Rattle.tx_types.specs.Config.{slots_of}
+use Rattle.slot_tables.specs.declared.slots.SlotUse.{SlotUse}
+use Rattle.slot_tables.specs.Kept.{Kept}
+use Rattle.version_index.specs.Filling.{NamesAgree, AreNumbered, AreBlankBut, AreUses, AreCurrent, AreDecided}
+use Rattle.version_index.specs.Notes.{seen_as, found_in}
+use Rattle.version_index.specs.Tables.{notes_in}
 use Rattle.version_index.proofs.ScanFilled.{filled_from}
+use Rattle.version_index.proofs.ScanSlots.{all_held, all_placed, each_below, uses_held}
 use Rattle.version_index.proofs.filling.fill.Goals as goal
 
 pub number_records-requires-clause-agree : goal.number_records-requires-clause-agree
 number_records-requires-clause-agree c = subst NamesAgree (sym (c.records.ensures.records ∙ c.chart-chart.ensures)) c.requires.agree
 
-pub hold_notes-requires-clause-listed : goal.hold_notes-requires-clause-listed
-hold_notes-requires-clause-listed c = subst (AreListed c.args.notes.now) (sym c.chart-chart.ensures) c.requires.listed
+pub used_slots-requires-clause-listed : goal.used_slots-requires-clause-listed
+used_slots-requires-clause-listed c f i = subst (λ l. Contains l f) (sym c.chart-chart.ensures) (c.requires.listed f i)
+
+pub hold_uses-requires-clause-below : goal.hold_uses-requires-clause-below
+hold_uses-requires-clause-below c at =
+    let list = c.args.standing.now.list in
+    let numbers = c.in_ok-numbers.numbers.items in
+    let scanned = c.args.list.now in
+    let seen = c.args.seen.now in
+    let t0 = c.number_records.new.tables in
+    let chart = c.chart-chart.ensures in
+    let in_chart = c.records.ensures.records ∙ chart in
+    let numbered = subst (λ l. AreNumbered l numbers t0) in_chart c.in_ok-numbers.ensures.numbered in
+    let whole = c.in_ok-numbers.ensures.whole ∙ ap length in_chart in
+    let uses = c.in_ok-uses.uses.items in
+    let used = subst (λ l. AreUses l numbers seen scanned uses) chart
+    (subst (λ ns. AreUses c.chart-chart.result.now ns seen scanned uses) c.deref.ensures.value c.in_ok-uses.ensures) in
+    let blank = c.in_ok-numbers.ensures.blank in
+    let sizes = blank.sizes ∙ sym (ap (λ (k : Kept). slots_of k.shape) blank.rest) in
+    rw c.deref-2.ensures.value (each_below list numbers t0 seen scanned uses numbered whole c.requires.agree sizes used at)
+
+pub hold_uses-requires-clause-size : goal.hold_uses-requires-clause-size
+hold_uses-requires-clause-size c =
+    let used = c.in_ok-uses.ensures in
+    ap length c.deref-2.ensures.value ∙ used.size ∙ sym (length-map used.notes seen_as) ∙ ap length used.reads ∙ c.requires.seen
+    ∙ sym (ap (λ (k : Kept). slots_of k.shape) c.in_ok-numbers.ensures.blank.rest)
+
+pub returns-clause-reads : goal.returns-clause-reads
+returns-clause-reads c =
+    let list = c.args.standing.now.list in
+    let numbers = c.in_ok-numbers.numbers.items in
+    let scanned = c.args.list.now in
+    let seen = c.args.seen.now in
+    let t0 = c.number_records.new.tables in
+    let chart = c.chart-chart.ensures in
+    let in_chart = c.records.ensures.records ∙ chart in
+    let numbered = subst (λ l. AreNumbered l numbers t0) in_chart c.in_ok-numbers.ensures.numbered in
+    let whole = c.in_ok-numbers.ensures.whole ∙ ap length in_chart in
+    let uses = c.in_ok-uses.uses.items in
+    let used = subst (λ l. AreUses l numbers seen scanned uses) chart
+    (subst (λ ns. AreUses c.chart-chart.result.now ns seen scanned uses) c.deref.ensures.value c.in_ok-uses.ensures) in
+    let t1 = c.hold_uses.new.tables in
+    let is = c.hold_uses.ensures ∙ ap (λ (s : List SlotUse). record t0 { slots = s }) c.deref-2.ensures.value in
+    let held = uses_held list numbers t0 t1 seen scanned uses numbered whole c.requires.agree c.requires.listed used is in
+    let notes = ap notes_in c.decide_records.ensures.rest ∙ ap notes_in c.decide_current.ensures.rest
+    ∙ all_held list numbers t0 used.notes t1 (length used.notes) held (omega arith) in
+    ap (map seen_as) notes ∙ used.reads
+
+pub returns-clause-found : goal.returns-clause-found
+returns-clause-found c =
+    let list = c.args.standing.now.list in
+    let numbers = c.in_ok-numbers.numbers.items in
+    let scanned = c.args.list.now in
+    let seen = c.args.seen.now in
+    let t0 = c.number_records.new.tables in
+    let chart = c.chart-chart.ensures in
+    let in_chart = c.records.ensures.records ∙ chart in
+    let numbered = subst (λ l. AreNumbered l numbers t0) in_chart c.in_ok-numbers.ensures.numbered in
+    let whole = c.in_ok-numbers.ensures.whole ∙ ap length in_chart in
+    let uses = c.in_ok-uses.uses.items in
+    let used = subst (λ l. AreUses l numbers seen scanned uses) chart
+    (subst (λ ns. AreUses c.chart-chart.result.now ns seen scanned uses) c.deref.ensures.value c.in_ok-uses.ensures) in
+    let t1 = c.hold_uses.new.tables in
+    let is = c.hold_uses.ensures ∙ ap (λ (s : List SlotUse). record t0 { slots = s }) c.deref-2.ensures.value in
+    let held = uses_held list numbers t0 t1 seen scanned uses numbered whole c.requires.agree c.requires.listed used is in
+    let notes = ap notes_in c.decide_records.ensures.rest ∙ ap notes_in c.decide_current.ensures.rest
+    ∙ all_held list numbers t0 used.notes t1 (length used.notes) held (omega arith) in
+    ap found_in notes ∙ used.found
 
 pub returns-clause-filled : goal.returns-clause-filled
 returns-clause-filled c =
-    let k = c.args.tables.now in
     let list = c.args.standing.now.list in
     let numbers = c.in_ok-numbers.numbers.items in
+    let scanned = c.args.list.now in
+    let seen = c.args.seen.now in
+    let t0 = c.number_records.new.tables in
+    let chart = c.chart-chart.ensures in
+    let in_chart = c.records.ensures.records ∙ chart in
+    let numbered = subst (λ l. AreNumbered l numbers t0) in_chart c.in_ok-numbers.ensures.numbered in
+    let whole = c.in_ok-numbers.ensures.whole ∙ ap length in_chart in
+    let uses = c.in_ok-uses.uses.items in
+    let used = subst (λ l. AreUses l numbers seen scanned uses) chart
+    (subst (λ ns. AreUses c.chart-chart.result.now ns seen scanned uses) c.deref.ensures.value c.in_ok-uses.ensures) in
+    let t1 = c.hold_uses.new.tables in
+    let is = c.hold_uses.ensures ∙ ap (λ (s : List SlotUse). record t0 { slots = s }) c.deref-2.ensures.value in
+    let held = uses_held list numbers t0 t1 seen scanned uses numbered whole c.requires.agree c.requires.listed used is in
+    let k = c.args.tables.now in
     let protocol = c.args.standing.now.protocol in
     let logical = c.args.logical in
-    let t0 = c.number_records.new.tables in
-    let t1 = c.hold_notes.new.tables in
     let t2 = c.decide_current.new.tables in
     let t3 = c.decide_records.new.tables in
     let pages = ap (λ (t : Kept). length t.pages) c.requires.blank ∙ length-replicate logical [] in
-    let chart = c.chart-chart.ensures in
-    let in_chart = c.records.ensures.records ∙ chart in
     filled_from protocol list k.shape logical numbers t0 t1 t2 t3 (subst (λ n. AreBlankBut k.shape n t0) pages c.in_ok-numbers.ensures.blank)
-    (c.in_ok-numbers.ensures.whole ∙ ap length in_chart) (subst (λ l. AreNumbered l numbers t0) in_chart c.in_ok-numbers.ensures.numbered)
-    c.hold_notes.ensures.rest
-    (subst (λ l. (at x : ℕ) → use_at t1.slots at ≡ slot.Holds x → (j : ℕ) × (j < length l) × (get_or numbers j 0 ≡ x)) chart
-    (subst (λ (ns : List ℕ). (at x : ℕ) → use_at t1.slots at ≡ slot.Holds x → (j : ℕ) × (j < length c.chart-chart.result.now) × (get_or ns j 0 ≡ x))
-    c.deref.ensures.value c.hold_notes.ensures.placed))
-    (subst (λ ns. AreCurrent protocol list ns logical t1 t2) c.deref-2.ensures.value c.decide_current.ensures)
-    (subst (λ ns. AreDecided protocol list ns logical t2 t3 (length list)) c.deref-3.ensures.value c.decide_records.ensures)
+    whole numbered held.rest (all_placed list numbers t0 used.notes t1 (length used.notes) held (omega arith))
+    (subst (λ ns. AreCurrent protocol list ns logical t1 t2) c.deref-3.ensures.value c.decide_current.ensures)
+    (subst (λ ns. AreDecided protocol list ns logical t2 t3 (length list)) c.deref-4.ensures.value c.decide_records.ensures)

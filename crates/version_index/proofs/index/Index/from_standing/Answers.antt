@@ -1,4 +1,4 @@
-use Rattle.std.proofs.Common.{◌≡◌, ◌≤◌, ◌-◌, ◌*◌, length, map, Contains, ap, sym, subst, refl, ◌∙◌, arith}
+use Rattle.std.proofs.Common.{◌≡◌, ◌≤◌, ◌-◌, ◌*◌, length, ap, sym, subst, refl, ◌∙◌, arith}
 use Rattle.std.specs.Result.{result_unwrap_or}
 use Rattle.std.proofs.Math.Nat.{mul-le-mul_right}
 use Rattle.std.proofs.lemmas.List.{length-map}
@@ -8,11 +8,10 @@ use Rattle.record_chart.specs.Charts.{Sorts}
 use Rattle.slot_tables.specs.Kept.{Kept, blank_tables}
 use Rattle.version_index.specs.Filling.{AreFilled}
 use Rattle.version_index.specs.Noted.{IsNotedFrom}
-use Rattle.version_index.specs.Notes.{found_in, seen_as}
 use Rattle.version_index.specs.Tables.{noted_by, AreIndexed}
 use Rattle.version_index.proofs.NotedChanges.{fresh_noted}
 use Rattle.version_index.proofs.ScanJudged.{filled_indexed}
-use Rattle.version_index.proofs.ScanSizes.{found_length, sorted_agree, sorted_exist}
+use Rattle.version_index.proofs.ScanSizes.{complete_length, sorted_agree, sorted_exist}
 use Rattle.version_index.proofs.index.Index.from_standing.Goals as goal
 
 pub fill-requires-clause-agree : goal.fill-requires-clause-agree
@@ -25,9 +24,8 @@ fill-requires-clause-few g c =
     ap (λ r. result_unwrap_or r (shape_of c.args.config)) (sym c.in-Ok.is ∙ c.check.ensures.exact ∙ c.requires.check) in
     let slots = ap (λ (t : Kept). slots_of t.shape) c.in_ok-filling.ensures ∙ ap slots_of same in
     let long = length_permutation c.args.list.now c.args.standing.now.list c.requires.sorts.records in
-    let notes = sym (length-map c.in_ok-notes.notes.items seen_as) ∙ ap length c.in_ok-notes.ensures.seen in
-    let found = ap length c.in_ok-notes.ensures.found in
-    let few = found_length c.in_ok-notes.notes.items in
+    let some = sym (length-map c.args.list.now (λ f. f.slot.0)) ∙ ap length c.requires.complete in
+    let few = complete_length c.args.seen.now in
     let seen = c.requires.seen in
     omega arith
 
@@ -39,14 +37,13 @@ invariant_of-result g c =
     let same : c.in-Ok.shape ≡ shape_of its =
     ap (λ r. result_unwrap_or r (shape_of its)) (sym c.in-Ok.is ∙ c.check.ensures.exact ∙ c.requires.check) in
     let shape = ap (λ (u : Kept). u.shape) c.in_ok-filling.ensures ∙ same in
-    let notes = c.in_ok-fill.ensures.notes ∙ c.deref.ensures.value in
-    let found = ap found_in notes ∙ c.in_ok-notes.ensures.found in
+    let found = c.in_ok-fill.ensures.found in
     let filled = subst (λ p. AreFilled p c.args.standing.now.list (shape_of its) its.logical t) c.requires.protocol
     (subst (λ s. AreFilled c.args.standing.now.protocol c.args.standing.now.list s its.logical t) shape c.in_ok-fill.ensures.filled) in
     let noted = fresh_noted _ its c.args.seen.now c.args.list.now (noted_by its m t) c.requires.check c.in-Ok.ensures.bounds c.requires.rule
     c.requires.seen c.requires.scanned c.requires.sound (record {
       config = refl;
-      reads = ap (map seen_as) notes ∙ c.in_ok-notes.ensures.seen;
+      reads = c.in_ok-fill.ensures.reads;
       found = found;
       pins = filled.pins;
       spare = filled.spare;
@@ -60,12 +57,11 @@ returns g c =
     let t : Kept = c.fill.new.tables in
     let its = c.args.config in
     let m = c.in_ok-first_mentions.field-0.items in
-    let notes = c.in_ok-fill.ensures.notes ∙ c.deref.ensures.value in
     let filled = c.in_ok-fill.ensures.filled in
     subst (λ (k : Kept). IsNotedFrom its c.args.seen.now c.args.list.now (noted_by its m k)) (sym c.in_ok-tables.ensures) (record {
       config = refl;
-      reads = ap (map seen_as) notes ∙ c.in_ok-notes.ensures.seen;
-      found = ap found_in notes ∙ c.in_ok-notes.ensures.found;
+      reads = c.in_ok-fill.ensures.reads;
+      found = c.in_ok-fill.ensures.found;
       pins = filled.pins;
       spare = filled.spare;
       mentions = c.in_ok-first_mentions.ensures;
@@ -87,19 +83,13 @@ fill-requires-clause-exist g c =
     sorted_exist _ c.args.list.now c.args.standing.now.list c.args.config.logical c.requires.sound c.requires.scanned c.requires.sorts
 
 pub fill-requires-clause-listed : goal.fill-requires-clause-listed
-fill-requires-clause-listed g c f i =
-    Contains-permutation c.args.list.now c.args.standing.now.list f c.requires.sorts.records
-    (subst (λ l. Contains l f) (ap found_in c.deref.ensures.value ∙ c.in_ok-notes.ensures.found) i)
+fill-requires-clause-listed g c f i = Contains-permutation c.args.list.now c.args.standing.now.list f c.requires.sorts.records i
 
-pub fill-requires-clause-notes : goal.fill-requires-clause-notes
-fill-requires-clause-notes g c =
+pub fill-requires-clause-seen : goal.fill-requires-clause-seen
+fill-requires-clause-seen g c =
     let same : c.in-Ok.shape ≡ shape_of c.args.config =
     ap (λ r. result_unwrap_or r (shape_of c.args.config)) (sym c.in-Ok.is ∙ c.check.ensures.exact ∙ c.requires.check) in
-    let slots = ap (λ (t : Kept). slots_of t.shape) c.in_ok-filling.ensures ∙ ap slots_of same in
-    let long = ap length c.deref.ensures.value in
-    let notes = sym (length-map c.in_ok-notes.notes.items seen_as) ∙ ap length c.in_ok-notes.ensures.seen in
-    let seen = c.requires.seen in
-    omega arith
+    c.requires.seen ∙ sym (ap (λ (t : Kept). slots_of t.shape) c.in_ok-filling.ensures ∙ ap slots_of same)
 
 pub fill-requires-clause-blank : goal.fill-requires-clause-blank
 fill-requires-clause-blank g c =
