@@ -8,11 +8,11 @@ use Rattle.std.proofs.Math.Seq.{take-length, take-append_seam}
 use Rattle.tx_types.specs.Config.{checked, shape_of}
 use Rattle.tx_types.specs.declared.config.Config.{Config}
 use Rattle.tx_types.specs.declared.config.Shape.{Shape}
-use Rattle.flash_model.specs.Flash.{FlashState}
+use Rattle.flash_model.specs.Flash.{FlashState, Contents}
 use Rattle.flash_model.specs.Operations.{Moment, moment_of}
 use Rattle.version_index.specs.Images.{IsSoundImage, IsLeastImageBreach, array_in}
 use Rattle.version_index.proofs.OneBreach.{sound_unbroken}
-use Rattle.page_keys.specs.Buckets.{AreBuckets}
+use Rattle.page_keys.specs.Buckets.{AreBuckets, ShowsMap}
 use Rattle.page_keys.specs.KeyMaps.{KeyMap}
 use Rattle.page_keys.specs.KeyReplies.{key_text, key_texts}
 use Rattle.page_keys.specs.KeyRuns.{IsKeyPoint, IsKeyRun, KeyPoint, ServesKeys, last_point, mentions_in}
@@ -25,7 +25,7 @@ use Rattle.page_keys.specs.declared.key_error.KeyServeError.TheVariants as faile
 use Rattle.page_keys.specs.declared.key_reply.KeyReply.{KeyReply}
 use Rattle.page_keys.specs.declared.key_session.KeySession.{KeySession}
 use Rattle.page_keys.specs.declared.key_session.KeySession.TheVariants as session
-use Rattle.page_keys.proofs.KeyRunLemmas.{as_many, few_first, last_more, run_more, seen_more_over, seen_over}
+use Rattle.page_keys.proofs.KeyRunLemmas.{as_many, few_first, last_is_point, last_more, run_more, seen_more_over, seen_over}
 use Rattle.page_keys.proofs.KeyServeLemmas.{mounted_point}
 use Rattle.page_keys.proofs.Parts.{shown_buckets}
 
@@ -309,3 +309,35 @@ pub is_not_ok : {E : Type 0} (P : Type 0) (r : Result (Unit {0}) E) → is_err r
     OnErr r P → P
 is_not_ok P (Ok u) whole h = cc
 is_not_ok P (Err e) whole h = h
+
+-- ---- the image that is left
+
+run_keeps : (its : Config) (cs : List KeyCommand) (told : ℕ) (old new : FlashState)
+    (before after : List ℕ) → ServesKeyRun its cs told old new before after → IsKeyImage its new
+run_keeps its cs told old new before after serves =
+    let p = last_is_point its (mentions_in its (moment_of serves.first.flash)) serves.first cs
+    serves.replies serves.points serves.run.begins serves.run.runs in
+    let same : (last_point serves.first serves.points).flash.image ≡ new.image =
+    sym (ap (λ (m : Moment). m.image) serves.last) in
+    record {
+      sound = subst (IsSoundImage its.protocol its.logical (shape_of its)) same p.sound;
+      buckets = shown_buckets its (array_in its.protocol its.logical new.image)
+          (last_point serves.first serves.points).keys
+          (subst (λ (i : List Contents). ShowsMap its (array_in its.protocol its.logical i)
+          (last_point serves.first serves.points).keys) same p.shows);
+    }
+
+-- what was served leaves a sound image with buckets
+pub script_keeps : (its : Config) (cs : List KeyCommand) (old new : FlashState)
+    (before after : List ℕ) (r : Result (Unit {0}) KeyServeError) →
+    ServesScript its cs old new before after r → IsKeyImage its new
+script_keeps its cs old new before after (Ok u) serves =
+    run_keeps its cs (length cs) old new before after serves
+script_keeps its cs old new before after (Err failed.Memory) serves =
+    let told = serves.0 in
+    elim serves.2 [
+      | inl run ↦ run_keeps its (take told cs) told old new before after run
+      | inr run ↦ run_keeps its (take (told + 1) cs) told old new before after run
+    ]
+script_keeps its cs old new before after (Err (failed.Unsound law slot)) serves = absurd serves
+script_keeps its cs old new before after (Err (failed.Bucket page)) serves = absurd serves

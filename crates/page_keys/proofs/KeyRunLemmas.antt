@@ -163,3 +163,15 @@ at_once its seen old (d ∷ cs) (s ∷ rs) [] run = absurd run
 at_once its seen old (d ∷ cs) (s ∷ rs) (q ∷ ps) run =
     let one = taken its run.0.0 d old q s run.0.2.does in
     (one.0, one.1, at_once its (seen_after its seen d s) q cs rs ps run.2)
+
+-- a run ends at a point whose image is sound and shows its map
+pub last_is_point : (its : Config) (seen : ℕ → ℕ) (old : KeyPoint) (cs : List KeyCommand)
+    (rs : List KeyReply) (ps : List KeyPoint) → IsKeyPoint its old → KeyRun its seen old cs rs ps →
+    IsKeyPoint its (last_point old ps)
+last_is_point its seen old [] [] [] is run = is
+last_is_point its seen old [] [] (q ∷ ps) is run = absurd run
+last_is_point its seen old [] (s ∷ rs) ps is run = absurd run
+last_is_point its seen old (d ∷ cs) [] ps is run = absurd run
+last_is_point its seen old (d ∷ cs) (s ∷ rs) [] is run = absurd run
+last_is_point its seen old (d ∷ cs) (s ∷ rs) (q ∷ ps) is run =
+    last_is_point its (seen_after its seen d s) q cs rs ps run.1 run.2

@@ -76,7 +76,7 @@ pub same_group : (placed sorted : List Placed) → IsStableByKey page_in nat_cmp
     (page : ℕ) → at_page page sorted ≡ at_page page placed
 same_group placed sorted stable page =
     let same : (p : Placed) → ties (λ x y. is_lt (nat_cmp (page_in x) (page_in y))) (nowhere page) p
-        ≡ (p.0 == page) = λ p. ties_page page p.0 in
+    ≡ (p.0 == page) = λ p. ties_page page p.0 in
     sym (ap (λ (t : Placed → Bool). filter t sorted) (λ i p. same p i))
     ∙ stable (nowhere page) ∙ ap (λ (t : Placed → Bool). filter t placed) (λ i p. same p i)
 

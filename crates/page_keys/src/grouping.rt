@@ -26,11 +26,7 @@ pub(crate) fn by_page<'a>(
 }
 
 /// The changes in their order, each with the page of its key.
-fn placed<'a>(
-    alloc: Global,
-    logical: u32,
-    changes: &'a [Change],
-) -> Result<Vec<Placed<'a>>, Memory>
+fn placed<'a>(alloc: Global, logical: u32, changes: &'a [Change]) -> Result<Vec<Placed<'a>>, Memory>
     requires { 0 < logical }
     ensures { IfOk result (λ v. (page : ℕ) →
         changes_of (at_page page v.items) ≡ of_page logical page changes.now) }

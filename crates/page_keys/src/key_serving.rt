@@ -186,6 +186,8 @@ pub fn key_serve<F: Power + Arms, R: CommitRule>(
     ensures serves { IsKeyImage config (F.state flash) →
         ServesScript config list.now (F.state flash) (F.state result.0) out.old.items
         out.new.items result.1 }
+    ensures keeps { IsKeyImage config (F.state flash) →
+        IsKeyImage config (F.state result.0) }
     ensures steady { IsSteady (F.state flash) → OnOk result.1 (IsKeyImage config (F.state flash)) }
     ensures unopened { (IsKeyImage config (F.state flash) → ⊥) →
         moment_of (F.state result.0) ≡ moment_of (F.state flash) }

@@ -6,7 +6,7 @@ ghost use Rattle.tx_engine.specs.ArrayState.{Pages};
 ghost use Rattle.flash_model.specs.Flash.{Told};
 ghost use Rattle.page_keys.specs.Buckets.{AreBuckets, ShowsMap};
 ghost use Rattle.page_keys.specs.KeyMaps.{KeyMap};
-ghost use Rattle.page_keys.specs.KeyRuns.{KeyPoint, KeyRun, ChangesAtOnce, AreFewBreaks};
+ghost use Rattle.page_keys.specs.KeyRuns.{KeyPoint, KeyRun, ChangesAtOnce, AreFewBreaks, IsKeyPoint, IsKeyRun, last_point};
 ghost use Rattle.page_keys.specs.declared.command.KeyCommand.{KeyCommand};
 ghost use Rattle.page_keys.specs.declared.key_reply.KeyReply.{KeyReply};
 
@@ -30,4 +30,11 @@ pub fn puts_are_whole()
         (cs : List KeyCommand) (rs : List KeyReply) (ps : List KeyPoint) (told : Told) →
         old.flash.told ≡ Some told → KeyRun its seen old cs rs ps →
         AreFewBreaks told.cuts told.breaks cs rs }
+{}
+
+/// A run ends at a point whose image is sound and shows the map that its commands leave.
+pub fn runs_leave_maps()
+    ensures { (its : Config) (first : KeyPoint)
+        (cs : List KeyCommand) (rs : List KeyReply) (ps : List KeyPoint) →
+        IsKeyRun its first cs rs ps → IsKeyPoint its (last_point first ps) }
 {}

@@ -34,7 +34,7 @@ pub use hashing::bucket;
 pub use key_error::KeyServeError;
 pub use key_reply::{KeyReply, key_reply_text};
 pub use key_serving::key_serve;
-pub use laws::{arrays_show_maps, puts_are_whole};
+pub use laws::{arrays_show_maps, puts_are_whole, runs_leave_maps};
 pub use script::parse_keys;
 pub use script_error::KeyTextError;
 pub use short::{MAX_SHORT, Short};

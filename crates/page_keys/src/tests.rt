@@ -68,9 +68,10 @@ fn scripts_are_served(rt: HostRuntime) -> Result<(), Fail> {
     assert_eq!(rt; out.as_slice(), wanted.as_slice());
     let out = replies(
         alloc,
-        b"# A put\r\n\n put\nput 61=- 61=01\nput 01=01 02=01 03=01 04=01 05=01 06=01 07=01 08=01\nput 0A=-\nget 0a\n",
+        b"# A put\r\n\n put\nput 61=- 61=01\nput 01=01 02=01 03=01 04=01 05=01 06=01 07=01 08=01\nput 0A=-\nget 0a\nput 01=~ 02=~ 03=~ 04=~ 05=~ 06=~ 07=~ 08=~ 09=~ 0b=~ 0c=~ 0d=~ 0e=~ 0f=~ 10=~ 11=~ 12=~ 0c=~\n",
     )?;
-    let wanted = b"refused empty\nrefused repeated 61\nrefused wide 8\nstored 1\nvalue 0a -\n";
+    let wanted =
+        b"refused empty\nrefused repeated 61\nrefused wide 8\nstored 1\nvalue 0a -\nrefused repeated 0c\n";
     assert_eq!(rt; out.as_slice(), wanted.as_slice());
     Ok(())
 }

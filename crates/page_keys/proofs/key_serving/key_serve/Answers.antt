@@ -1,10 +1,17 @@
-use Rattle.std.proofs.Common.{◌∙◌}
+use Rattle.std.proofs.Common.{Err, ◌∙◌}
 use Rattle.page_keys.proofs.KeyBeginLemmas.{begin_ended, on_each, same_shape}
+use Rattle.page_keys.proofs.KeyAllLemmas.{script_keeps}
 use Rattle.page_keys.proofs.key_serving.key_serve.Goals as goal
 
 pub returns-in-Ok-clause-serves : goal.returns-in-Ok-clause-serves
 returns-in-Ok-clause-serves g c = λ image.
     c.serve_all.ensures.serves (g.F.Flash.state c.args.flash) (c.in-Ok.ensures.begins image)
+
+pub returns-in-Ok-clause-keeps : goal.returns-in-Ok-clause-keeps
+returns-in-Ok-clause-keeps g c = λ image.
+    script_keeps c.args.config c.args.list.now (g.F.Flash.state c.args.flash)
+    (g.F.Flash.state c.serve_all.result.0) _ _ c.serve_all.result.1
+    (returns-in-Ok-clause-serves g c image)
 
 pub returns-in-Ok-clause-steady : goal.returns-in-Ok-clause-steady
 returns-in-Ok-clause-steady g c = λ steady.
@@ -30,6 +37,11 @@ pub returns-in-Err-clause-serves : goal.returns-in-Err-clause-serves
 returns-in-Err-clause-serves g c = λ image.
     begin_ended g.row.R.Denot g.F.Flash.state c.args.config c.args.list.now c.args.flash
     c.in-Err.flash c.in-Err.why c.args.out.now.items c.requires.check image c.in-Err.ensures.failed
+
+pub returns-in-Err-clause-keeps : goal.returns-in-Err-clause-keeps
+returns-in-Err-clause-keeps g c = λ image.
+    script_keeps c.args.config c.args.list.now (g.F.Flash.state c.args.flash)
+    (g.F.Flash.state c.in-Err.flash) _ _ (Err c.in-Err.why) (returns-in-Err-clause-serves g c image)
 
 pub returns-in-Err-clause-unopened : goal.returns-in-Err-clause-unopened
 returns-in-Err-clause-unopened g c = λ not. c.in-Err.ensures.failed.still.still.moment

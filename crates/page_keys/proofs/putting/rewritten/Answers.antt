@@ -32,9 +32,11 @@ returns-then-count_values-most-clause-refused g c m cs same differ shows =
     let s = c.args.device.now in
     let least = puts_most s.config.logical c.args.page m cs differ in
     let count = c.count_values.ensures ∙ ap (count_by puts_value) (sym same) in
-    let size = ap (λ (x : Config). x.page_bytes) c.held_always-config.ensures.config in
-    (refl, is_over_by _ _ _ _ size c.if-count_values-most.true
-    (let most = least in omega (arith, most, count)))
+    let size = ap (λ (x : Config). x.page_bytes) c.held_always-config.ensures.config in (
+      refl,
+      is_over_by _ _ _ _ size c.if-count_values-most.true
+          (let most = least in omega (arith, most, count)),
+    )
 
 pub returns-then-len-most-clause-refused : goal.returns-then-len-most-clause-refused
 returns-then-len-most-clause-refused g c m cs same differ shows =

@@ -96,11 +96,11 @@ loop-page-preserved g c =
           let before = i.writes m shows in
           let made = bytes_back s t i.reads.stays m c.args.changes.now p _
           (c.in_ok-bytes.ensures.bytes m c.args.changes.now (group_is c.held_always-config.result.logical c.loop-page.device.config.logical
-    (get_or c.args.pages.now c.loop-page.page-index 0) c.args.changes.now
-    c.in_ok-placed.placed.items c.deref.result.now c.of_page.result.now
-    (ap (λ (x : Standing g.row.F.Denot). x.config.logical) c.loop-page.invariant.reads.stays
-    ∙ sym (ap (λ (x : Config). x.logical) c.held_always-config.ensures.config))
-    c.in_ok-placed.ensures c.deref.ensures.value c.of_page.ensures)
+          (get_or c.args.pages.now c.loop-page.page-index 0) c.args.changes.now
+          c.in_ok-placed.placed.items c.deref.result.now c.of_page.result.now
+          (ap (λ (x : Standing g.row.F.Denot). x.config.logical) c.loop-page.invariant.reads.stays
+          ∙ sym (ap (λ (x : Config). x.logical) c.held_always-config.ensures.config))
+          c.in_ok-placed.ensures c.deref.ensures.value c.of_page.ensures)
           (shows_there s t i.reads.stays m shows)) in (
             ap (λ (b : Writes). b.entries) added
                 ∙ entry_added s.config (after m c.args.changes.now) c.loop-page.batch c.args.pages.now
