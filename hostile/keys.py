@@ -191,7 +191,7 @@ def draw_bytes(draw: Draw, least: int) -> bytes:
 
 
 def draw_keys(draw: Draw) -> List[bytes]:
-    return [draw_bytes(draw, 1) for _ in range(draw.randint(1, 12))]
+    return [draw_bytes(draw, 1) for _ in range(draw.choice((draw.randint(1, 12), draw.randint(1, 12), 60)))]
 
 
 def draw_pages(draw: Draw, config: Config, keys: List[bytes]) -> List[Optional[bytes]]:
@@ -230,8 +230,10 @@ def draw_script(draw: Draw, keys: List[bytes]) -> bytes:
         elif how < 0.45:
             lines.append(f"get {draw.choice(keys).hex()}")
         else:
-            words = [f"{draw.choice(keys).hex()}={draw.choice(('~', '-', draw_bytes(draw, 1).hex()))}"
-                     for _ in range(draw.choice((0, 1, 1, 2, 2, 3, 5)))]
+            put_keys = [draw.choice(keys) for _ in range(draw.choice((0, 1, 1, 2, 2, 3, 5)))]
+            if draw.random() < 0.1:  # many, of which at most one comes twice
+                put_keys = draw.sample(sorted(set(keys)), len(set(keys))) + draw.sample(keys, draw.choice((0, 0, 1)))
+            words = [f"{it.hex()}={draw.choice(('~', '~', '-', draw_bytes(draw, 1).hex()))}" for it in put_keys]
             lines.append(" ".join(["put", *words]))
         if draw.random() < 0.03:
             lines[-1] = draw.choice((lines[-1] + " x", lines[-1].upper(), lines[-1][:-1], "get " + "00" * 16, "put 61=1",

@@ -208,7 +208,7 @@ class Sweeper:
             self.counts[f"keys {kind}"] += 1
             if ended.status == 0:
                 for it in said.split("\n")[:-1]:
-                    self.counts[f"keys {re.sub(' [0-9a-f]+| -', '', it)}"] += 1
+                    self.counts[f"keys {re.sub(r' [0-9a-f]+(?![a-z])| -', '', it)}"] += 1
             need_files(True)
         except Wrong as wrong:
             self.told("keys", number, str(wrong), ["old/" + IMAGE, COMMANDS])
