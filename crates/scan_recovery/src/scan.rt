@@ -19,7 +19,7 @@ use version_index::Note;
 
 /// How many records there is room for in the list, for each slot. What is not used costs no memory, but
 /// common allocators keep as much as they once gave at a time, and an opening takes about as much again.
-const LIST_ROOM: usize = 4;
+const LIST_ROOM: usize = 6;
 
 /// How the slots of a flash read, and their records, in the order of the slots.
 #[derive(Drop)]
