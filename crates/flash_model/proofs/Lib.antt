@@ -1,3 +1,4 @@
 pub mod CallLemmas
 pub mod ImageLemmas
 pub mod MoveLemmas
+pub mod RetireLemmas

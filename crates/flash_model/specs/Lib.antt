@@ -3,3 +3,5 @@ pub mod Calls
 pub mod Flash
 pub mod Moves
 pub mod Operations
+pub mod Retiring
+pub mod Readings

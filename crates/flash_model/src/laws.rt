@@ -7,6 +7,7 @@ ghost use Rattle.flash_model.specs.Flash.{FlashState, slot_at, IsImage, IsSteady
 ghost use Rattle.flash_model.specs.Operations.{Operation, Moment, CanDo, WorksIn, Torn};
 ghost use Rattle.flash_model.specs.Moves.{Does, Moves, FlashMoves, StayOff};
 ghost use Rattle.flash_model.specs.Calls.{Carries, Operates};
+ghost use Rattle.flash_model.specs.Retiring.{CarriesRetiring};
 
 /// A call that was not broken, and then another, keep together what each keeps, and move the flash together.
 pub fn calls_compose()
@@ -42,4 +43,18 @@ pub fn images_stay()
 pub fn steady_stays()
     ensures { (old new : FlashState) (broken : Bool) →
         IsSteady old → Carries old new broken → (broken ≡ false) × IsSteady new }
+{}
+
+/// A call that may retire a block keeps all that another does but for what is told of retired blocks. It keeps
+/// the same together with calls before it and behind it, and no such call is broken on a steady flash, which
+/// stays steady.
+pub fn retiring_composes()
+    ensures more { (old new : FlashState) (broken : Bool) →
+        Carries old new broken → CarriesRetiring old new broken }
+    ensures behind { (a b c : FlashState) (broken : Bool) →
+        Carries a b false → CarriesRetiring b c broken → CarriesRetiring a c broken }
+    ensures before { (a b c : FlashState) (broken : Bool) →
+        CarriesRetiring a b false → Carries b c broken → CarriesRetiring a c broken }
+    ensures steady { (old new : FlashState) (broken : Bool) →
+        IsSteady old → CarriesRetiring old new broken → (broken ≡ false) × IsSteady new }
 {}

@@ -5,8 +5,10 @@ mod arms;
 mod flash;
 mod laws;
 mod outcome;
+mod retire;
 
 pub use arms::{Arms, Power};
 pub use flash::{Broken, Flash, SPARE_BYTES, Seen};
-pub use laws::{calls_compose, images_stay, operations_move, steady_stays};
+pub use laws::{calls_compose, images_stay, operations_move, retiring_composes, steady_stays};
 pub use outcome::{Arm, Outcome};
+pub use retire::{MAX_ALLOWANCE, Retire};

@@ -5,8 +5,9 @@ use Rattle.flash_model.specs.declared.flash.Broken.{Broken}
 use Rattle.flash_model.specs.declared.outcome.Arm.{Arm}
 use Rattle.flash_model.specs.declared.outcome.Outcome.{Outcome}
 use Rattle.flash_model.specs.declared.outcome.Outcome.TheVariants as outcome
-use Rattle.flash_model.specs.Flash.{counted}
-use Rattle.flash_model.specs.Operations.{Operation, image_left, programs_after, erases_after}
+use Rattle.flash_model.specs.Flash.{blank, counted}
+use Rattle.flash_model.specs.Operations.{Operation, with_block, image_left, programs_after, erases_after}
+use Rattle.flash_model.specs.Retiring.{one_more}
 use Rattle.mem_flash.specs.Memory.{MemoryState}
 use Rattle.mem_flash.specs.declared.armed.Armed.{Armed}
 
@@ -63,6 +64,23 @@ operated s o = record (met s) {
   programs = if is_some (broken_by s) then s.programs else programs_after o s.programs;
   erases = if is_some (broken_by s) then s.erases else erases_after o s.erases;
 }
+
+-- the flash with a fresh block in the place of this one
+abbrev pub replaced : MemoryState → ℕ → MemoryState
+replaced s block = record s {
+  image = with_block s.shape s.image block blank;
+  extras = one_more s.extras;
+}
+
+-- the flash once a block was to be retired, with this outcome: no block can be replaced in part
+abbrev pub retired : MemoryState → ℕ → Outcome → MemoryState
+retired s block outcome.None = s
+retired s block outcome.All = replaced s block
+retired s block outcome.Bad = replaced s block
+
+-- the flash after a retirement, which meets the arms as a program or an erase does, and is counted as neither
+abbrev pub after_retiring : MemoryState → ℕ → MemoryState
+after_retiring s block = retired (met s) block (unwrap_or (broken_by s) outcome.All)
 
 -- the next read is broken: it is the one that is to fail, or power is off
 abbrev pub is_read_broken : MemoryState → Bool

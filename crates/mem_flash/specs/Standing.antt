@@ -1,5 +1,6 @@
 -- How a flash in memory is kept.
 use Rattle.std.specs.Prelude.{◌≡◌, ◌≤◌, ◌*◌, length}
+use Rattle.flash_model.specs.Retiring.{max_allowance}
 use Rattle.mem_flash.specs.Memory.{MemoryState}
 use Rattle.mem_flash.specs.Slots.{cell_bytes}
 use Rattle.mem_flash.specs.declared.memory.MemFlash.TheInside.{Inside}
@@ -17,7 +18,9 @@ memory_of f = record {
   extras = record { allowance = f.allowance; retired = f.retired };
 }
 
--- There is room for the contents and the spare area of a slot on each die, and no more blocks are retired than may be.
+-- There is room for the contents and the spare area of a slot on each die. No more blocks are retired than may be, and no
+-- more may be than any flash may allow.
 pub record IsKept (f : Inside) : Type 0 where
   pub room : length f.room.items ≡ f.slots.shape.dies * cell_bytes f.slots.shape.page_bytes
   pub within : f.retired ≤ f.allowance
+  pub few : f.allowance ≤ max_allowance

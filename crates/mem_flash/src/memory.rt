@@ -7,14 +7,15 @@ ghost use Rattle.flash_model.specs.Flash.{slot_at, IsFlash};
 ghost use Rattle.flash_model.specs.Operations.{CanProgram, program, erase};
 ghost use Rattle.flash_model.specs.Calls.{Reads, Programs, Erases, seen_of};
 ghost use Rattle.flash_model.specs.Arms.{TurnsOn, ArmsCut, ArmsFault, ArmsBadRead};
+ghost use Rattle.flash_model.specs.Retiring.{Retires, max_allowance};
 ghost use Rattle.mem_flash.specs.Slots.{cell_bytes, cell_of, image_of, AreFilled};
 ghost use Rattle.mem_flash.specs.Memory.{state_of, fresh, blank_flash};
-ghost use Rattle.mem_flash.specs.Breaking.{broken_by, answered, met, operated, is_read_broken, after_read};
+ghost use Rattle.mem_flash.specs.Breaking.{broken_by, answered, met, operated, retired, after_retiring, is_read_broken, after_read};
 
 use crate::armed::{Armed, count_down, count_read};
 use crate::cells::cell_bytes;
 use crate::slots::Slots;
-use flash_model::{Arm, Arms, Broken, Flash, Outcome, Power, Seen};
+use flash_model::{Arm, Arms, Broken, Flash, Outcome, Power, Retire, Seen};
 use std::alloc::Global;
 use std::marker::Model;
 use tx_types::{Block, Memory, Shape, Slot};
@@ -116,6 +117,18 @@ impl MemFlash {
         })
     }
 
+    /// Says how many blocks may be retired, and how many are.
+    pub fn set_extras(&mut self, allowance: u32, retired: u32)
+        requires within { retired ≤ allowance }
+        requires few { allowance ≤ max_allowance }
+        ensures { self.new ≡ record self.old {
+          extras = record { allowance = allowance; retired = retired };
+        } }
+    {
+        self.allowance = allowance;
+        self.retired = retired;
+    }
+
     /// How a slot reads.
     pub fn seen(&self, at: Slot) -> Seen
         requires { at.0 < slots_of self.now.shape }
@@ -177,6 +190,19 @@ impl MemFlash {
             self.faults = self.faults.saturating_add(1);
         }
         broken
+    }
+
+    /// Puts a fresh block in the place of this one, but where all is to stay.
+    fn replace(&mut self, block: Block, how: Outcome)
+        requires exists { block.0 < blocks_of self.old.shape }
+        requires left { self.old.extras.retired < self.old.extras.allowance }
+        ensures { self.new ≡ retired self.old block.0 how }
+    {
+        if how == Outcome::None {
+            return;
+        }
+        self.slots.erase(block, Outcome::All);
+        self.retired += 1;
     }
 
     /// Counts a read. Tells whether it is broken.
@@ -307,5 +333,36 @@ impl Arms for MemFlash {
         ensures arms { ArmsBadRead (state_of self.old) (state_of self.new) count }
     {
         self.armed.bad_read = Some(count);
+    }
+}
+
+impl Retire for MemFlash {
+    fn allowance(&self) -> u32
+        ensures exact { result ≡ self.now.extras.allowance }
+        ensures few { self.now.extras.allowance ≤ max_allowance }
+    {
+        self.allowance
+    }
+
+    fn retired(&self) -> u32
+        ensures exact { result ≡ self.now.extras.retired }
+        ensures within { self.now.extras.retired ≤ self.now.extras.allowance }
+    {
+        self.retired
+    }
+
+    fn retire(&mut self, block: Block) -> Result<(), Broken>
+        requires exists { block.0 < blocks_of self.old.shape }
+        requires left { self.old.extras.retired < self.old.extras.allowance }
+        ensures next { self.new ≡ after_retiring self.old block.0 }
+        ensures answer { result ≡ answered (broken_by self.old) }
+        ensures retires { Retires (state_of self.old) (state_of self.new) block.0 result }
+    {
+        let broken = self.meet_arms();
+        self.replace(block, broken.unwrap_or(Outcome::All));
+        if broken.is_some() {
+            return Err(Broken);
+        }
+        Ok(())
     }
 }

@@ -4,7 +4,7 @@ ghost use Rattle.flash_model.specs.Calls.{Rose};
 ghost use Rattle.mem_flash.specs.Memory.{blank_flash};
 
 use super::*;
-use flash_model::{Arms, Flash, Outcome, Power, Seen};
+use flash_model::{Arms, Flash, Outcome, Power, Retire, Seen};
 use std::alloc::Global;
 use std::process::Abort;
 use std::test::Fail;
@@ -27,46 +27,47 @@ enum Step {
     PowerOn,
     Program(u32),
     Erase(u32),
+    Replace(u32),
     Read(u32),
 }
 
 use Outcome::{All, Bad, None as Nothing};
-use Step::{BadRead, Cut, Erase, Fault, PowerOn, Program, Read};
+use Step::{BadRead, Cut, Erase, Fault, PowerOn, Program, Read, Replace};
 
-/// Steps on a flash whose slots 0, 2 and 3 were programmed. Then for each call whether it was answered (`+`) or
-/// broken (`-`), each slot (`.` blank, `C` complete, `X` damaged), whether power is on, and the counts of programs,
-/// erases, reads and faults.
-const ROWS: [(&[Step], &str); 24] = [
-    (&[], " C.CC.... on 3 0 0 0"),
-    (&[Program(1)], "+ CCCC.... on 4 0 0 0"),
-    (&[Erase(1)], "+ C....... on 3 1 0 0"),
-    (&[Read(0)], "+ C.CC.... on 3 0 1 0"),
+/// Steps on a flash of which two blocks may be retired and whose slots 0, 2 and 3 were programmed. Then for each call
+/// whether it was answered (`+`) or broken (`-`), each slot (`.` blank, `C` complete, `X` damaged), whether power is
+/// on, the counts of programs, erases, reads and faults, and the blocks retired.
+const ROWS: [(&[Step], &str); 33] = [
+    (&[], " C.CC.... on 3 0 0 0 0"),
+    (&[Program(1)], "+ CCCC.... on 4 0 0 0 0"),
+    (&[Erase(1)], "+ C....... on 3 1 0 0 0"),
+    (&[Read(0)], "+ C.CC.... on 3 0 1 0 0"),
     // Each outcome of each operation.
-    (&[Cut(1, Nothing), Program(1)], "- C.CC.... off 3 0 0 1"),
-    (&[Cut(1, All), Program(1)], "- CCCC.... off 3 0 0 1"),
-    (&[Cut(1, Bad), Program(1)], "- CXCC.... off 3 0 0 1"),
-    (&[Cut(1, Nothing), Erase(1)], "- C.CC.... off 3 0 0 1"),
-    (&[Cut(1, All), Erase(1)], "- C....... off 3 0 0 1"),
-    (&[Cut(1, Bad), Erase(1)], "- C.XX.... off 3 0 0 1"),
-    (&[Fault(1, Nothing), Program(1)], "- C.CC.... on 3 0 0 1"),
-    (&[Fault(1, All), Program(1)], "- CCCC.... on 3 0 0 1"),
-    (&[Fault(1, Bad), Program(1)], "- CXCC.... on 3 0 0 1"),
-    (&[Fault(1, Nothing), Erase(1)], "- C.CC.... on 3 0 0 1"),
-    (&[Fault(1, All), Erase(1)], "- C....... on 3 0 0 1"),
-    (&[Fault(1, Bad), Erase(1)], "- C.XX.... on 3 0 0 1"),
+    (&[Cut(1, Nothing), Program(1)], "- C.CC.... off 3 0 0 1 0"),
+    (&[Cut(1, All), Program(1)], "- CCCC.... off 3 0 0 1 0"),
+    (&[Cut(1, Bad), Program(1)], "- CXCC.... off 3 0 0 1 0"),
+    (&[Cut(1, Nothing), Erase(1)], "- C.CC.... off 3 0 0 1 0"),
+    (&[Cut(1, All), Erase(1)], "- C....... off 3 0 0 1 0"),
+    (&[Cut(1, Bad), Erase(1)], "- C.XX.... off 3 0 0 1 0"),
+    (&[Fault(1, Nothing), Program(1)], "- C.CC.... on 3 0 0 1 0"),
+    (&[Fault(1, All), Program(1)], "- CCCC.... on 3 0 0 1 0"),
+    (&[Fault(1, Bad), Program(1)], "- CXCC.... on 3 0 0 1 0"),
+    (&[Fault(1, Nothing), Erase(1)], "- C.CC.... on 3 0 0 1 0"),
+    (&[Fault(1, All), Erase(1)], "- C....... on 3 0 0 1 0"),
+    (&[Fault(1, Bad), Erase(1)], "- C.XX.... on 3 0 0 1 0"),
     // Reads, and what each arm counts.
     (
         &[BadRead(2), Read(0), Program(1), Read(0), Read(0)],
-        "++-+ CCCC.... on 4 0 3 1",
+        "++-+ CCCC.... on 4 0 3 1 0",
     ),
     (
         &[Fault(2, Bad), Program(1), Read(0), Program(4), Program(5)],
-        "++-+ CCCCXC.. on 5 0 1 1",
+        "++-+ CCCCXC.. on 5 0 1 1 0",
     ),
     // A newer arm replaces an older one.
     (
         &[Fault(1, Bad), Fault(2, Nothing), Program(1), Program(4)],
-        "+- CCCC.... on 4 0 0 1",
+        "+- CCCC.... on 4 0 0 1 0",
     ),
     // Where both come due the cut decides, and both are spent.
     (
@@ -77,7 +78,7 @@ const ROWS: [(&[Step], &str); 24] = [
             PowerOn,
             Program(1),
         ],
-        "-+ CCCC.... on 4 0 0 1",
+        "-+ CCCC.... on 4 0 0 1 0",
     ),
     // The cut counts the call in which the fault comes due,
     (
@@ -89,7 +90,7 @@ const ROWS: [(&[Step], &str); 24] = [
             PowerOn,
             Program(4),
         ],
-        "--+ CXCCC... on 4 0 0 2",
+        "--+ CXCCC... on 4 0 0 2 0",
     ),
     // and the fault that of the cut. It counts no call without power, and is armed still when power is on again.
     (
@@ -102,7 +103,7 @@ const ROWS: [(&[Step], &str); 24] = [
             PowerOn,
             Program(1),
         ],
-        "---- CCCC.... on 3 0 0 4",
+        "---- CCCC.... on 3 0 0 4 0",
     ),
     (
         &[
@@ -114,11 +115,34 @@ const ROWS: [(&[Step], &str); 24] = [
             Read(0),
             Read(0),
         ],
-        "---+ C.CC.... on 3 0 2 3",
+        "---+ C.CC.... on 3 0 2 3 0",
     ),
     (
         &[Cut(3, All), Erase(0), Program(0), Erase(1), Read(2)],
-        "++-- C....... off 4 1 0 2",
+        "++-- C....... off 4 1 0 2 0",
+    ),
+    // A block is retired whole or not at all, and is counted for the arms alone.
+    (&[Replace(1)], "+ C....... on 3 0 0 0 1"),
+    (&[Cut(1, Nothing), Replace(1)], "- C.CC.... off 3 0 0 1 0"),
+    (&[Cut(1, All), Replace(1)], "- C....... off 3 0 0 1 1"),
+    (&[Cut(1, Bad), Replace(1)], "- C....... off 3 0 0 1 1"),
+    (&[Fault(1, Nothing), Replace(1)], "- C.CC.... on 3 0 0 1 0"),
+    (&[Fault(1, All), Replace(1)], "- C....... on 3 0 0 1 1"),
+    (&[Fault(1, Bad), Replace(1)], "- C....... on 3 0 0 1 1"),
+    (
+        &[Fault(2, Bad), Replace(1), Replace(0)],
+        "+- ........ on 3 0 0 1 2",
+    ),
+    (
+        &[
+            Cut(1, Nothing),
+            Program(1),
+            Replace(1),
+            PowerOn,
+            Replace(0),
+            Erase(1),
+        ],
+        "--++ ........ on 3 1 0 2 1",
     ),
 ];
 
@@ -168,6 +192,10 @@ fn take(rt: &impl Abort, flash: &mut MemFlash, step: Step) -> Option<bool>
             assert!(rt; block < 4);
             Some(flash.erase(Block(block)).is_ok())
         }
+        Replace(block) => {
+            assert!(rt; block < 4 && flash.retired() < flash.allowance());
+            Some(flash.retire(Block(block)).is_ok())
+        }
         Read(at) => {
             assert!(rt; at < 8);
             Some(flash.read(Slot(at), &mut [0; 16], &mut [0; 64]).is_ok())
@@ -195,6 +223,7 @@ fn picture(rt: &impl Abort, alloc: Global, flash: &MemFlash) -> Result<String, F
 /// What the steps of a row come to.
 fn outcome(rt: &impl Abort, alloc: Global, steps: &[Step]) -> Result<String, Fail> {
     let mut flash = MemFlash::new(alloc, SHAPE)?;
+    flash.set_extras(2, 0);
     assert!(rt; program(rt, &mut flash, 0));
     assert!(rt; program(rt, &mut flash, 2));
     assert!(rt; program(rt, &mut flash, 3));
@@ -207,8 +236,10 @@ fn outcome(rt: &impl Abort, alloc: Global, steps: &[Step]) -> Result<String, Fai
     let slots = picture(rt, alloc, &flash)?;
     let power = if flash.live() { "on" } else { "off" };
     let (programs, erases) = (flash.programs(), flash.erases());
-    let (reads, faults) = (flash.reads(), flash.faults());
-    Ok(format!(in alloc; "{answers} {slots} {power} {programs} {erases} {reads} {faults}")?)
+    let (reads, faults, retired) = (flash.reads(), flash.faults(), flash.retired());
+    Ok(format!(in alloc;
+        "{answers} {slots} {power} {programs} {erases} {reads} {faults} {retired}"
+    )?)
 }
 
 #[test]
@@ -285,6 +316,17 @@ fn slots_come_back_as_they_were_given(rt: HostRuntime) -> Result<(), Fail> {
     Ok(())
 }
 
+/// On any flash: retires a block if it may, and tells how many may be retired and how many are.
+fn retire_one<F: Retire>(flash: &mut F, block: Block) -> (u32, u32)
+    requires { block.0 < blocks_of (F.state flash.old).shape }
+    ensures { (F.state flash.new).shape ≡ (F.state flash.old).shape }
+{
+    if flash.retired() < flash.allowance() {
+        let _ = flash.retire(block);
+    }
+    (flash.allowance(), flash.retired())
+}
+
 /// On any flash: an erase that is cut, and one when power is on again.
 fn erase_twice<F: Arms + Power>(flash: &mut F, block: Block) -> (bool, bool)
     requires { block.0 < blocks_of (F.state flash.old).shape }
@@ -299,5 +341,15 @@ fn erase_twice<F: Arms + Power>(flash: &mut F, block: Block) -> (bool, bool)
 fn a_flash_in_memory_is_a_flash(rt: HostRuntime) -> Result<(), Fail> {
     let mut flash = MemFlash::new(rt.alloc(), SHAPE)?;
     assert_eq!(rt; erase_twice(&mut flash, Block(3)), (true, true));
+    Ok(())
+}
+
+#[test]
+fn blocks_are_retired_up_to_the_allowance(rt: HostRuntime) -> Result<(), Fail> {
+    let mut flash = MemFlash::new(rt.alloc(), SHAPE)?;
+    assert_eq!(rt; retire_one(&mut flash, Block(3)), (0, 0));
+    flash.set_extras(1024, 1023);
+    assert_eq!(rt; retire_one(&mut flash, Block(3)), (1024, 1024));
+    assert_eq!(rt; retire_one(&mut flash, Block(3)), (1024, 1024));
     Ok(())
 }
