@@ -4,10 +4,10 @@ use Rattle.std.specs.Option.{option_or, option_map_or}
 use Rattle.std.proofs.lemmas.Bool.{eq-eqb}
 use Rattle.tx_types.specs.Config.{image_bytes}
 use Rattle.tx_types.specs.declared.config.Config.{Config}
-use Rattle.flash_model.specs.Flash.{Contents, no_extras}
+use Rattle.flash_model.specs.Flash.{Contents, Extras}
 use Rattle.mem_flash.specs.Slots.{cell_bytes}
 use Rattle.image_file.specs.Spelling.{Spells}
-use Rattle.image_file.specs.Rules.{config_in, image_in, reading, shape_in, states_in, cells_in, all_seen, wrong_state, wrong_bytes, number_at, broken_header, broken_slots, first_broken, IsRefusal}
+use Rattle.image_file.specs.Rules.{config_in, image_in, extras_in, reading, shape_in, states_in, cells_in, all_seen, wrong_state, wrong_bytes, number_at, broken_header, broken_slots, first_broken, IsRefusal}
 use Rattle.image_file.specs.declared.error.ImageError.{ImageError}
 use Rattle.image_file.specs.declared.error.ImageError.TheVariants as error
 use Rattle.image_file.proofs.SpellingLemmas.{first_broken-spelling}
@@ -32,10 +32,10 @@ pub only_memory : (broken : Option ImageError) (e : ImageError) → IsRefusal br
 only_memory broken error.Memory h none = refl
 only_memory broken e h none = absurd cc
 
-pub spelled_memory : (bytes : List ℕ) (e : ImageError) → IsRefusal (first_broken bytes) e → (c : Config) (image : List Contents)
-    → Spells bytes c image → e ≡ error.Memory
-spelled_memory bytes e refused c image spelled =
-    only_memory (first_broken bytes) e refused (ap first_broken spelled.same ∙ first_broken-spelling c image spelled.can)
+pub spelled_memory : (bytes : List ℕ) (e : ImageError) → IsRefusal (first_broken bytes) e → (c : Config) (image : List Contents) (extras : Extras)
+    → Spells bytes c image extras → e ≡ error.Memory
+spelled_memory bytes e refused c image extras spelled =
+    only_memory (first_broken bytes) e refused (ap first_broken spelled.same ∙ first_broken-spelling c image extras spelled.can)
 
 pub refused_header : (bytes : List ℕ) (e : ImageError) → broken_header bytes ≡ Some e → IsRefusal (first_broken bytes) e
 unfolding first_broken
@@ -61,5 +61,5 @@ pub nothing_broken : (bytes : List ℕ) → broken_header bytes ≡ None → bro
 unfolding first_broken
 nothing_broken bytes header slots = ap (λ o. option_or o (broken_slots bytes)) header ∙ slots
 
-pub reading-read : (bytes : List ℕ) → first_broken bytes ≡ None → reading bytes ≡ Ok (config_in bytes, image_in bytes, no_extras)
-reading-read bytes none = ap (λ o. option_map_or Err o (Ok (config_in bytes, image_in bytes, no_extras))) none
+pub reading-read : (bytes : List ℕ) → first_broken bytes ≡ None → reading bytes ≡ Ok (config_in bytes, image_in bytes, extras_in bytes)
+reading-read bytes none = ap (λ o. option_map_or Err o (Ok (config_in bytes, image_in bytes, extras_in bytes))) none

@@ -1,5 +1,5 @@
 -- A configuration and slots have one spelling, and what breaks no rule is one.
-use Rattle.std.proofs.Common.{◌≡◌, ◌↔◌, ℕ, ◌+◌, ◌-◌, ◌*◌, eqb, List, ◌++◌, map, length, take, drop, slice_range, Option, Some, None, Ok, Err, refl, sym, ap, subst, ◌∙◌, arith}
+use Rattle.std.proofs.Common.{◌≡◌, ◌↔◌, ℕ, ◌+◌, ◌-◌, ◌*◌, ◌≤◌, eqb, List, ◌++◌, map, length, take, drop, slice_range, Option, Some, None, Ok, Err, refl, sym, ap, subst, ◌∙◌, arith}
 use Rattle.std.specs.Option.{option_map, option_map_or}
 use Rattle.std.specs.List.{flat_map}
 use Rattle.std.proofs.lemmas.Bool.{eqb-true, eq-eqb}
@@ -12,16 +12,17 @@ use Rattle.tx_types.specs.declared.config.Config.{Config}
 use Rattle.tx_types.specs.declared.config.Shape.{Shape}
 use Rattle.tx_types.proofs.ConfigLemmas.{checked_config}
 use Rattle.flash_model.specs.declared.flash.Seen.{Seen}
-use Rattle.flash_model.specs.Flash.{Contents, IsImage, Extras, no_extras}
+use Rattle.flash_model.specs.Flash.{Contents, IsImage, Extras}
+use Rattle.flash_model.specs.Retiring.{max_allowance}
 use Rattle.flash_model.specs.Calls.{seen_of}
 use Rattle.mem_flash.specs.Slots.{cell_bytes, cell_of}
 use Rattle.mem_flash.proofs.Images.{length-image_of, All-image_of}
 use Rattle.image_file.specs.Spelling.{header_of, state_byte, spelling, CanBeSpelled, Spells}
-use Rattle.image_file.specs.Rules.{config_in, shape_in, states_in, cells_in, all_seen, image_in, wrong_state, wrong_bytes, number_at, broken_header, broken_slots, first_broken, reading}
+use Rattle.image_file.specs.Rules.{config_in, extras_in, shape_in, states_in, cells_in, all_seen, image_in, wrong_state, wrong_bytes, number_at, broken_header, broken_slots, first_broken, reading}
 use Rattle.image_file.specs.declared.error.ImageError.{ImageError}
 use Rattle.image_file.specs.declared.error.ImageError.TheVariants as error
 use Rattle.image_file.proofs.ImageLemmas.{states-all_seen, states-image_of, cells-image_of, all_seen-states, wrong_state-states, length-cells, image_of-cells, wrong_bytes-cells}
-use Rattle.image_file.proofs.HeaderLemmas.{HeaderHolds, passed, passes, header_holds, header_passes, header_again, length-header_of, config_in-header, HeaderHolds-header}
+use Rattle.image_file.proofs.HeaderLemmas.{HeaderHolds, Reads, passed, passes, header_holds, header_passes, header_again, length-header_of, header_reads}
 
 -- ---- the rules behind the header, each by itself
 
@@ -85,23 +86,29 @@ module _ (bytes : List ℕ) (fits : IsBytes bytes) (header : HeaderHolds bytes) 
     whole = All-image_of n seen (cells_in bytes) length-cells_in;
   }
 
-  pub read_again : bytes ≡ spelling (config_in bytes) (image_in bytes)
+  pub read_again : bytes ≡ spelling (config_in bytes) (image_in bytes) (extras_in bytes)
   unfolding spelling
   read_again =
       let states_are = states-image_of n seen (cells_in bytes) ∙ states-all_seen (states_in bytes) slots.states_hold in
       let cells_are = cells-image_of n seen (cells_in bytes) length-cells_in slots.bytes_hold in
-      let header_is = header_again bytes fits header in
+      let header_is = (header_again bytes fits header).header in
       let many : 64 + count - 64 ≡ count = omega arith in
       let front : take 64 bytes ++ states_in bytes ≡ take (64 + count) bytes = ap (λ k. take 64 bytes ++ take k (drop 64 bytes)) many ∙ sym (take-add 64 count bytes) in
-      let parts : header_of (config_in bytes) ++ map (λ slot. state_byte (seen_of slot)) (image_in bytes) ++ flat_map (cell_of n) (image_in bytes) ≡ bytes =
+      let parts : header_of (config_in bytes) (extras_in bytes) ++ map (λ slot. state_byte (seen_of slot)) (image_in bytes) ++ flat_map (cell_of n) (image_in bytes) ≡ bytes =
       rw (header_is, states_are, cells_are) (ap (λ bs. bs ++ cells_in bytes) front ∙ take-append-drop (64 + count) bytes) in
       sym parts
 
 -- ---- what is spelled breaks no rule
 
-module _ (c : Config) (image : List Contents) (can : CanBeSpelled c image) where
+module _ (c : Config) (image : List Contents) (extras : Extras) (can : CanBeSpelled c image extras) where
   abbrev spelled : List ℕ
-  spelled = spelling c image
+  spelled = spelling c image extras
+
+  abbrev header : List ℕ
+  header = header_of c extras
+
+  length-header : length header ≡ 64
+  length-header = length-header_of c extras can.within
 
   abbrev states : List ℕ
   states = map (λ slot. state_byte (seen_of slot)) image
@@ -109,15 +116,18 @@ module _ (c : Config) (image : List Contents) (can : CanBeSpelled c image) where
   abbrev cells : List ℕ
   cells = flat_map (cell_of c.page_bytes) image
 
-  in_parts : spelled ≡ header_of c ++ (states ++ cells)
+  in_parts : spelled ≡ header ++ (states ++ cells)
   unfolding spelling
-  in_parts = append_assoc (header_of c) states cells
+  in_parts = append_assoc header states cells
+
+  reads : Reads spelled c extras
+  reads = subst (λ bytes. Reads bytes c extras) (sym in_parts) (header_reads c extras (states ++ cells) can.checks can.within can.few)
 
   pub config_in-spelling : config_in spelled ≡ c
-  config_in-spelling = ap config_in in_parts ∙ config_in-header c (states ++ cells) can.checks
+  config_in-spelling = reads.config
 
-  HeaderHolds-spelling : HeaderHolds spelled
-  HeaderHolds-spelling = subst HeaderHolds (sym in_parts) (HeaderHolds-header c (states ++ cells) can.checks)
+  pub extras_in-spelling : extras_in spelled ≡ extras
+  extras_in-spelling = reads.extras
 
   length-states : length states ≡ slots_of (shape_of c)
   length-states = length-map image _ ∙ can.fits.slots
@@ -128,10 +138,10 @@ module _ (c : Config) (image : List Contents) (can : CanBeSpelled c image) where
   pub length-spelling : length spelled ≡ image_bytes (shape_of c)
   length-spelling =
       ap length in_parts
-      ∙ omega (arith, length-append (header_of c) (states ++ cells), length-append states cells, length-header_of c, length-states, length-all_cells)
+      ∙ omega (arith, length-append header (states ++ cells), length-append states cells, length-header, length-states, length-all_cells)
 
   behind : drop 64 spelled ≡ states ++ cells
-  behind = ap (drop 64) in_parts ∙ drop_at (header_of c) (states ++ cells) 64 (length-header_of c)
+  behind = ap (drop 64) in_parts ∙ drop_at header (states ++ cells) 64 length-header
 
   states_in-spelling : states_in spelled ≡ states
   states_in-spelling =
@@ -162,52 +172,64 @@ module _ (c : Config) (image : List Contents) (can : CanBeSpelled c image) where
   }
 
   pub first_broken-spelling : first_broken spelled ≡ None
-  first_broken-spelling = none_broken spelled HeaderHolds-spelling SlotsHold-spelling
+  first_broken-spelling = none_broken spelled reads.holds SlotsHold-spelling
 
-  pub reading-spelling : reading spelled ≡ Ok (c, image, no_extras)
-  reading-spelling = rw (first_broken-spelling, config_in-spelling, image_in-spelling) refl
+  pub reading-spelling : reading spelled ≡ Ok (c, image, extras)
+  reading-spelling = rw (first_broken-spelling, config_in-spelling, image_in-spelling, extras_in-spelling) refl
 
 -- ---- both ways
 
 pub read_spelled : (bytes : List ℕ) → IsBytes bytes → first_broken bytes ≡ None
-    → Spells bytes (config_in bytes) (image_in bytes)
+    → Spells bytes (config_in bytes) (image_in bytes) (extras_in bytes)
 read_spelled bytes fits none =
     let holds = holds_of bytes none in
+    let header = header_again bytes fits holds.0 in
     record {
-      can = record { checks = holds.0.checks; fits = IsImage-read bytes fits holds.0 holds.1 };
+      can = record { checks = holds.0.checks; fits = IsImage-read bytes fits holds.0 holds.1; within = header.within; few = header.few };
       same = read_again bytes fits holds.0 holds.1;
     }
 
 -- header, states and bytes one after the other
-pub written : (bytes : List ℕ) (c : Config) (shape : Shape) (image : List Contents) → checked c ≡ Ok shape → IsImage shape image
-    → bytes ≡ header_of c ++ map (λ slot. state_byte (seen_of slot)) image ++ flat_map (cell_of shape.page_bytes) image → Spells bytes c image
+pub written : (bytes : List ℕ) (c : Config) (shape : Shape) (image : List Contents) (extras : Extras) → checked c ≡ Ok shape → IsImage shape image
+    → extras.retired ≤ extras.allowance → extras.allowance ≤ max_allowance
+    → bytes ≡ header_of c extras ++ map (λ slot. state_byte (seen_of slot)) image ++ flat_map (cell_of shape.page_bytes) image
+    → Spells bytes c image extras
 unfolding spelling
-written bytes c shape image checks fits parts =
+written bytes c shape image extras checks fits within few parts =
     let shape_is = (checked_config c shape checks).1 in
     record {
-      can = record { checks = checks ∙ ap (λ s. Ok s) shape_is; fits = subst (λ (s : Shape). IsImage s image) shape_is fits };
-      same = parts ∙ ap (λ (s : Shape). header_of c ++ map (λ slot. state_byte (seen_of slot)) image ++ flat_map (cell_of s.page_bytes) image) shape_is;
+      can = record {
+        checks = checks ∙ ap (λ s. Ok s) shape_is;
+        fits = subst (λ (s : Shape). IsImage s image) shape_is fits;
+        within = within;
+        few = few;
+      };
+      same = parts ∙ ap (λ (s : Shape). header_of c extras ++ map (λ slot. state_byte (seen_of slot)) image ++ flat_map (cell_of s.page_bytes) image) shape_is;
     }
 
--- no two pairs have one spelling
-pub spelling-injective : (c d : Config) (a b : List Contents) → CanBeSpelled c a → CanBeSpelled d b → spelling c a ≡ spelling d b → (c ≡ d) × (a ≡ b)
-spelling-injective c d a b can_a can_b same = (
-  sym (config_in-spelling c a can_a) ∙ ap config_in same ∙ config_in-spelling d b can_b,
-  sym (image_in-spelling c a can_a) ∙ ap image_in same ∙ image_in-spelling d b can_b,
+-- no two have one spelling
+pub spelling-injective : (c d : Config) (a b : List Contents) (e f : Extras) → CanBeSpelled c a e → CanBeSpelled d b f
+    → spelling c a e ≡ spelling d b f → (c ≡ d) × (a ≡ b) × (e ≡ f)
+spelling-injective c d a b e f can_a can_b same = (
+  sym (config_in-spelling c a e can_a) ∙ ap config_in same ∙ config_in-spelling d b f can_b,
+  sym (image_in-spelling c a e can_a) ∙ ap image_in same ∙ image_in-spelling d b f can_b,
+  sym (extras_in-spelling c a e can_a) ∙ ap extras_in same ∙ extras_in-spelling d b f can_b,
 )
 
 -- what is read from bytes is what they spell
-pub reading-iff : (bytes : List ℕ) (c : Config) (image : List Contents) → IsBytes bytes → (reading bytes ≡ Ok (c, image, no_extras)) ↔ Spells bytes c image
-reading-iff bytes c image fits = (
+pub reading-iff : (bytes : List ℕ) (c : Config) (image : List Contents) (extras : Extras) → IsBytes bytes
+    → (reading bytes ≡ Ok (c, image, extras)) ↔ Spells bytes c image extras
+reading-iff bytes c image extras fits = (
   λ h.
-      let read : Config × List Contents × Extras = (config_in bytes, image_in bytes, no_extras) in
-      let P : Option ImageError → Type 0 = λ broken. first_broken bytes ≡ broken → option_map_or Err broken (Ok read) ≡ Ok (c, image, no_extras) → Spells bytes c image in
+      let read : Config × List Contents × Extras = (config_in bytes, image_in bytes, extras_in bytes) in
+      let P : Option ImageError → Type 0 = λ broken.
+      first_broken bytes ≡ broken → option_map_or Err broken (Ok read) ≡ Ok (c, image, extras) → Spells bytes c image extras in
       let cases : P (first_broken bytes) = elim (first_broken bytes) as P [
         | None ↦ λ none found.
-            let same : read ≡ (c, image, no_extras) = cc in
-            subst (λ (p : Config × List Contents × Extras). Spells bytes p.0 p.1) same (read_spelled bytes fits none)
+            let same : read ≡ (c, image, extras) = cc in
+            subst (λ (p : Config × List Contents × Extras). Spells bytes p.0 p.1 p.2) same (read_spelled bytes fits none)
         | Some e ↦ λ _ found. absurd cc
       ] in
       cases refl h,
-  λ h. ap reading h.same ∙ reading-spelling c image h.can,
+  λ h. ap reading h.same ∙ reading-spelling c image extras h.can,
 )

@@ -1,2 +1,3 @@
 pub mod Spelling
 pub mod Rules
+pub mod Header

@@ -1,5 +1,5 @@
 -- The rules that the bytes of an image file have to meet, and what such bytes spell.
-use Rattle.std.specs.Prelude.{◌≡◌, ℕ, ◌+◌, ◌==◌, Bool, true, not, nat_eq, nat_le, List, map, length, drop, slice_range, position, Option, Some, None, is_some, is_none, unwrap_or, Result, Ok, Err, if◌then◌else◌}
+use Rattle.std.specs.Prelude.{◌≡◌, ℕ, ◌+◌, ◌==◌, Bool, true, not, ◌&&◌, ◌||◌, nat_eq, nat_le, List, map, length, drop, slice_range, position, Option, Some, None, is_some, is_none, unwrap_or, Result, Ok, Err, if◌then◌else◌}
 use Rattle.std.specs.Option.{option_map, option_or, option_map_or}
 use Rattle.std.specs.Result.{result_err}
 use Rattle.std.specs.List.{starts_with, zip}
@@ -14,11 +14,12 @@ use Rattle.tx_types.specs.declared.config.Protocol.TheVariants.{Scc, Bpcc}
 use Rattle.flash_model.specs.declared.flash.Seen.{Seen}
 use Rattle.flash_model.specs.declared.flash.Seen.TheVariants.{Blank, Complete, Damaged}
 use Rattle.flash_model.specs.Flash.{Contents, Extras, no_extras}
+use Rattle.flash_model.specs.Retiring.{max_allowance}
 use Rattle.lane_scan.specs.Scans.{all_equal}
 use Rattle.mem_flash.specs.Slots.{cell_bytes, image_of}
 use Rattle.image_file.specs.declared.error.ImageError.{ImageError}
 use Rattle.image_file.specs.declared.error.ImageError.TheVariants as error
-use Rattle.image_file.specs.Spelling.{magic}
+use Rattle.image_file.specs.Spelling.{first_magic, second_magic}
 
 -- ---- what stands in the bytes
 
@@ -44,6 +45,22 @@ config_in bytes = record {
 
 abbrev pub shape_in : List ℕ → Shape
 shape_in bytes = shape_of (config_in bytes)
+
+-- a file that begins so tells of retired blocks
+abbrev pub is_second : List ℕ → Bool
+is_second bytes = starts_with nat_eq bytes second_magic
+
+-- how many blocks may be retired, and how many are, in a file that tells
+abbrev pub told_in : List ℕ → Extras
+told_in bytes = record { allowance = number_at 36 bytes; retired = number_at 40 bytes }
+
+-- and none in another
+abbrev pub extras_in : List ℕ → Extras
+extras_in bytes = if is_second bytes then told_in bytes else no_extras
+
+-- where the reserved bytes of a header begin
+abbrev pub reserved_from : List ℕ → ℕ
+reserved_from bytes = if is_second bytes then 44 else 36
 
 -- how a slot reads for which this byte stands
 abbrev pub seen_from : ℕ → Option Seen
@@ -93,14 +110,26 @@ wrong_bytes size seen cells =
 abbrev pub unless : Bool → ImageError → Option ImageError → Option ImageError
 unless holds refusal rest = if holds then rest else Some refusal
 
+-- some blocks may be retired, no more than any flash may allow, and no more are retired than may be
+abbrev pub is_allowed : Extras → Bool
+is_allowed extras =
+    nat_le 1 extras.allowance && nat_le extras.allowance max_allowance
+    && nat_le extras.retired extras.allowance
+
+-- the first rule that is broken of what stands behind the numbers: of the reserved bytes, and then of what the file
+-- tells of retired blocks
+unfoldable pub broken_rest : List ℕ → Option ImageError
+broken_rest bytes =
+    unless (all_equal (slice_range bytes (reserved_from bytes) header_bytes) 0) error.Reserved
+    (unless (not (is_second bytes) || is_allowed (told_in bytes)) error.Allowance None)
+
 -- the first rule of the header that is broken
 abbrev pub broken_header : List ℕ → Option ImageError
 broken_header bytes =
     unless (nat_le header_bytes (length bytes)) error.Short
-    (unless (starts_with nat_eq bytes magic) error.Magic
+    (unless (starts_with nat_eq bytes first_magic || is_second bytes) error.Magic
     (unless (is_some (protocol_of (number_at 8 bytes))) error.Protocol
-    (unless (all_equal (slice_range bytes 36 header_bytes) 0) error.Reserved
-    (option_map error.Config (result_err (checked (config_in bytes)))))))
+    (option_or (broken_rest bytes) (option_map error.Config (result_err (checked (config_in bytes)))))))
 
 -- the refusal of the first state that stands for nothing
 abbrev pub broken_states : List ℕ → Option ImageError
@@ -124,10 +153,10 @@ first_broken bytes = option_or (broken_header bytes) (broken_slots bytes)
 
 -- ---- what a reading answers
 
--- the configuration, the slots, and that no block may be retired; or the first rule that is broken
+-- the configuration, the slots, and what is told of retired blocks; or the first rule that is broken
 abbrev pub reading : List ℕ → Result (Config × List Contents × Extras) ImageError
 reading bytes =
-    option_map_or Err (first_broken bytes) (Ok (config_in bytes, image_in bytes, no_extras))
+    option_map_or Err (first_broken bytes) (Ok (config_in bytes, image_in bytes, extras_in bytes))
 
 -- want of memory, or this rule and no other
 abbrev pub IsRefusal : Option ImageError → ImageError → Type 0

@@ -9,12 +9,14 @@ use tx_types::{ConfigError, Memory, Slot};
 pub enum ImageError {
     /// There are at least 64 bytes.
     Short,
-    /// The file begins with `TXFLASH1`.
+    /// The file begins with `TXFLASH1` or `TXFLASH2`.
     Magic,
     /// The protocol is 1 or 2.
     Protocol,
     /// The reserved bytes of the header are 0.
     Reserved,
+    /// A file that begins with `TXFLASH2` allows from 1 to 1024 blocks to be retired, and no more are.
+    Allowance,
     /// The numbers of the header are those of a device.
     Config(ConfigError),
     /// The file has as many bytes as the header says.

@@ -1,42 +1,54 @@
-ghost use Rattle.std.specs.Prelude.{◌≡◌, ◌+◌, ◌<◌, ◌≤◌, length, All, None, Some, MatchResult};
-ghost use Rattle.tx_types.specs.Config.{checked, shape_of, image_bytes, IsShape};
-ghost use Rattle.tx_types.specs.declared.config.Shape.{Shape};
-ghost use Rattle.image_file.specs.Spelling.{code_of, header_of};
-ghost use Rattle.image_file.specs.Rules.{number_at, protocol_of, config_in, broken_header};
+ghost use Rattle.std.specs.Prelude.{◌≡◌, ◌||◌, nat_eq, ◌+◌, ◌<◌, ◌≤◌, length, All, None, Some, MatchResult};
+ghost use Rattle.std.specs.List.{starts_with};
+ghost use Rattle.tx_types.specs.Config.{checked, shape_of};
+ghost use Rattle.tx_types.specs.Limits.{header_bytes};
+ghost use Rattle.flash_model.specs.Retiring.{max_allowance};
+ghost use Rattle.image_file.specs.Spelling.{first_magic, code_of, header_of};
+ghost use Rattle.image_file.specs.Rules.{number_at, protocol_of, is_second, extras_in, broken_rest, broken_header};
+ghost use Rattle.image_file.specs.Header.{IsHeader};
 
 use crate::ImageError;
 use byteorder::{ByteOrder, LittleEndian};
+use flash_model::MAX_ALLOWANCE;
 use lane_scan::all_equal;
 use tx_types::{Config, Protocol, Shape};
 
-/// What each image file begins with.
-const MAGIC: [u8; 8] = *b"TXFLASH1";
+/// What an image file begins with where no block may be retired.
+const FIRST_MAGIC: [u8; 8] = *b"TXFLASH1";
+
+/// What it begins with where some may.
+const SECOND_MAGIC: [u8; 8] = *b"TXFLASH2";
 
 /// The bytes of a header.
 pub(crate) const HEADER_BYTES: usize = 64;
 
-/// Where the reserved bytes of a header begin.
-const RESERVED: usize = 36;
+/// What stands in the header of an image file.
+#[derive(Clone, Copy)]
+pub(crate) struct Header {
+    pub config: Config,
+    /// The shape of the configuration.
+    pub shape: Shape,
+    /// How many blocks may be retired.
+    pub allowance: u32,
+    /// How many blocks are.
+    pub retired: u32,
+}
 
-/// The configuration in the header of an image file with its shape, or the first rule of the header
-/// that the bytes break.
-pub(crate) fn read_header(bytes: &[u8]) -> Result<(Config, Shape), ImageError>
+/// The header of an image file, or the first rule of a header that the bytes break.
+pub(crate) fn read_header(bytes: &[u8]) -> Result<Header, ImageError>
     ensures answer { MatchResult result
-        (λ r. (broken_header bytes.now ≡ None) × (r.0 ≡ config_in bytes.now)
-        × (r.1 ≡ shape_of r.0) × IsShape r.1)
+        (λ header. (broken_header bytes.now ≡ None) × IsHeader bytes.now header)
         (λ e. broken_header bytes.now ≡ Some e) }
     ensures bytes { All (λ b. b < 256) bytes.now }
 {
     if bytes.len() < HEADER_BYTES {
         return Err(ImageError::Short);
     }
-    if !bytes.starts_with(&MAGIC) {
+    if !has_magic(bytes) {
         return Err(ImageError::Magic);
     }
     let protocol = protocol_of(number_at(bytes, 8)).ok_or(ImageError::Protocol)?;
-    if !all_equal(&bytes[RESERVED..HEADER_BYTES], 0) {
-        return Err(ImageError::Reserved);
-    }
+    let (allowance, retired) = read_extras(bytes)?;
     let config = Config {
         protocol,
         page_bytes: number_at(bytes, 12),
@@ -47,16 +59,62 @@ pub(crate) fn read_header(bytes: &[u8]) -> Result<(Config, Shape), ImageError>
         pending: number_at(bytes, 32),
     };
     let shape = config.check()?;
-    Ok((config, shape))
+    Ok(Header {
+        config,
+        shape,
+        allowance,
+        retired,
+    })
 }
 
-/// The header of an image file of this configuration.
+/// Whether the bytes begin as an image file does.
+fn has_magic(bytes: &[u8]) -> bool
+    ensures { result ≡ (starts_with nat_eq bytes.now first_magic || is_second bytes.now) }
+{
+    bytes.starts_with(&FIRST_MAGIC) || bytes.starts_with(&SECOND_MAGIC)
+}
+
+/// How many blocks may be retired and how many are, by what stands behind the numbers of a header.
+#[tactic(auto, unfolding(crate::specs::Rules::broken_rest))]
+fn read_extras(bytes: &[u8]) -> Result<(u32, u32), ImageError>
+    requires { header_bytes ≤ length bytes.now }
+    ensures { MatchResult result
+        (λ told. (broken_rest bytes.now ≡ None)
+        × (record { allowance = told.0; retired = told.1 } ≡ extras_in bytes.now)
+        × (told.1 ≤ told.0) × (told.0 ≤ max_allowance))
+        (λ e. broken_rest bytes.now ≡ Some e) }
+{
+    if !bytes.starts_with(&SECOND_MAGIC) {
+        return if all_equal(&bytes[36..HEADER_BYTES], 0) {
+            Ok((0, 0))
+        } else {
+            Err(ImageError::Reserved)
+        };
+    }
+    if !all_equal(&bytes[44..HEADER_BYTES], 0) {
+        return Err(ImageError::Reserved);
+    }
+    let allowance = number_at(bytes, 36);
+    let retired = number_at(bytes, 40);
+    if allowance == 0 || allowance > MAX_ALLOWANCE || retired > allowance {
+        return Err(ImageError::Allowance);
+    }
+    Ok((allowance, retired))
+}
+
+/// The header of an image file of this configuration, with this many blocks that may be retired and that are.
 #[tactic(auto, unfolding(crate::specs::Spelling::header_of))]
-pub(crate) fn header(config: &Config) -> [u8; HEADER_BYTES]
-    ensures { result ≡ header_of config.now }
+pub(crate) fn header_of(config: &Config, allowance: u32, retired: u32) -> [u8; HEADER_BYTES]
+    requires { retired ≤ allowance }
+    ensures { result ≡ header_of config.now (record { allowance = allowance; retired = retired }) }
 {
     let mut header = [0; HEADER_BYTES];
-    header[..MAGIC.len()].copy_from_slice(&MAGIC);
+    let magic = if allowance == 0 {
+        &FIRST_MAGIC
+    } else {
+        &SECOND_MAGIC
+    };
+    header[..magic.len()].copy_from_slice(magic);
     LittleEndian::write_u32(&mut header[8..], code(config.protocol));
     LittleEndian::write_u32(&mut header[12..], config.page_bytes);
     LittleEndian::write_u32(&mut header[16..], config.pages_per_block);
@@ -64,6 +122,8 @@ pub(crate) fn header(config: &Config) -> [u8; HEADER_BYTES]
     LittleEndian::write_u32(&mut header[24..], config.dies);
     LittleEndian::write_u32(&mut header[28..], config.logical);
     LittleEndian::write_u32(&mut header[32..], config.pending);
+    LittleEndian::write_u32(&mut header[36..], allowance);
+    LittleEndian::write_u32(&mut header[40..], retired);
     header
 }
 

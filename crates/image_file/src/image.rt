@@ -1,9 +1,9 @@
 ghost use Rattle.std.specs.Prelude.{◌≡◌, length, None, List, Ok, IfOk, IfErr};
 ghost use Rattle.std.specs.Result.{IsOkUnless};
-ghost use Rattle.tx_types.specs.Config.{shape_of, IsShape};
+ghost use Rattle.tx_types.specs.Config.{checked, shape_of, IsShape};
 ghost use Rattle.tx_types.specs.declared.config.Config.{Config};
-ghost use Rattle.flash_model.specs.Flash.{Contents};
-ghost use Rattle.mem_flash.specs.Memory.{fresh};
+ghost use Rattle.flash_model.specs.Flash.{Contents, Extras};
+ghost use Rattle.mem_flash.specs.Memory.{loaded, fresh};
 ghost use Rattle.image_file.specs.Spelling.{Spells};
 ghost use Rattle.image_file.specs.Rules.{shape_in, image_in, broken_slots, first_broken, reading, IsRefusal};
 
@@ -17,15 +17,16 @@ use std::alloc::Global;
 use tx_types::{Config, Shape, Slot};
 
 /// The configuration and the flash that an image file spells, or the first rule that its bytes break.
-/// Power is on, nothing is armed and nothing was counted.
+/// Power is on, nothing is armed and nothing was counted. The flash is told of retired blocks what the file tells.
 pub fn read_image(alloc: Global, bytes: &[u8]) -> Result<(Config, MemFlash), ImageError>
     // What is read is spelled so.
-    ensures spelled { IfOk result (λ r. Spells bytes.now r.0 r.1.image) }
-    ensures flash { IfOk result (λ r. r.1 ≡ fresh (shape_of r.0) r.1.image) }
+    ensures spelled { IfOk result (λ r. Spells bytes.now r.0 r.1.image r.1.extras) }
+    ensures flash { IfOk result (λ r. r.1 ≡ loaded (shape_of r.0) r.1.image r.1.extras) }
+    ensures check { IfOk result (λ r. checked r.0 ≡ Ok r.1.shape) }
     // What is spelled so is read, unless there is no memory.
-    ensures only { (config : Config) (image : List Contents) → Spells bytes.now config image →
-        IsOkUnless result ImageError.Memory
-        × IfOk result (λ r. (r.0 ≡ config) × (r.1 ≡ fresh (shape_of config) image)) }
+    ensures only { (config : Config) (image : List Contents) (extras : Extras) →
+        Spells bytes.now config image extras → IsOkUnless result ImageError.Memory
+        × IfOk result (λ r. (r.0 ≡ config) × (r.1 ≡ loaded (shape_of config) image extras)) }
 
     // Both answers as functions of the bytes: the error is the first rule that is broken.
     ensures found { IfOk result (λ r. reading bytes.now ≡ Ok (r.0, r.1.image, r.1.extras)) }
@@ -36,17 +37,19 @@ pub fn read_image(alloc: Global, bytes: &[u8]) -> Result<(Config, MemFlash), Ima
 
 /// The same of bytes that are handed over. They become those of the flash, and are not copied.
 pub fn take_image(alloc: Global, bytes: Vec<u8>) -> Result<(Config, MemFlash), ImageError>
-    ensures spelled { IfOk result (λ r. Spells bytes.items r.0 r.1.image) }
-    ensures flash { IfOk result (λ r. r.1 ≡ fresh (shape_of r.0) r.1.image) }
-    ensures only { (config : Config) (image : List Contents) → Spells bytes.items config image →
-        IsOkUnless result ImageError.Memory
-        × IfOk result (λ r. (r.0 ≡ config) × (r.1 ≡ fresh (shape_of config) image)) }
+    ensures spelled { IfOk result (λ r. Spells bytes.items r.0 r.1.image r.1.extras) }
+    ensures flash { IfOk result (λ r. r.1 ≡ loaded (shape_of r.0) r.1.image r.1.extras) }
+    ensures check { IfOk result (λ r. checked r.0 ≡ Ok r.1.shape) }
+    ensures only { (config : Config) (image : List Contents) (extras : Extras) →
+        Spells bytes.items config image extras → IsOkUnless result ImageError.Memory
+        × IfOk result (λ r. (r.0 ≡ config) × (r.1 ≡ loaded (shape_of config) image extras)) }
     ensures found { IfOk result (λ r. reading bytes.items ≡ Ok (r.0, r.1.image, r.1.extras)) }
     ensures error { IfErr result (IsRefusal (first_broken bytes.items)) }
 {
-    let (config, shape) = read_header(&bytes)?;
-    let flash = take_slots(alloc, bytes, shape)?;
-    Ok((config, flash))
+    let header = read_header(&bytes)?;
+    let mut flash = take_slots(alloc, bytes, header.shape)?;
+    flash.set_extras(header.allowance, header.retired);
+    Ok((header.config, flash))
 }
 
 /// The flash whose states and bytes stand behind the header of an image file.

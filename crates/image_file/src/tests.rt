@@ -1,5 +1,5 @@
 use super::*;
-use flash_model::{Arms, Flash, Outcome, Seen};
+use flash_model::{Arms, Flash, Outcome, Retire, Seen};
 use mem_flash::MemFlash;
 use std::alloc::{AllocError, Global};
 use std::process::Abort;
@@ -51,7 +51,7 @@ fn a_blank_flash_is_spelled(rt: HostRuntime) -> Result<(), Fail> {
     let bytes = write_image(rt.alloc(), &SMALL, &flash)?;
     assert_eq!(rt; bytes, blank_image(rt.alloc())?);
     let shape = SMALL.check()?;
-    assert_eq!(rt; crate::blank_image(rt.alloc(), &SMALL, shape)?, bytes);
+    assert_eq!(rt; crate::blank_image(rt.alloc(), &SMALL, shape, 0)?, bytes);
 
     let ordinary = Config {
         protocol: Protocol::Bpcc,
@@ -70,15 +70,10 @@ fn a_blank_flash_is_spelled(rt: HostRuntime) -> Result<(), Fail> {
     Ok(())
 }
 
-#[test]
-fn slots_of_each_kind_are_written_and_read(rt: HostRuntime) -> Result<(), Fail> {
-    let mut flash = MemFlash::new(rt.alloc(), SMALL.check()?)?;
-    flash.program(Slot(1), b"0123456789abcdef", &[0x54; 64])?;
-    flash.arm_fault(1, Outcome::Bad);
-    let _ = flash.program(Slot(4), &[7; 16], &[8; 64]);
-    let bytes = write_image(rt.alloc(), &SMALL, &flash)?;
-    let mut want = changed(rt.alloc(), &[(64 + 1, 1), (64 + 4, 2)])?;
-    for (place, byte) in want.iter_mut().enumerate() {
+/// The image of a small device with a complete slot and a damaged one.
+fn each_kind(alloc: Global) -> Result<Vec<u8>, AllocError> {
+    let mut bytes = changed(alloc, &[(64 + 1, 1), (64 + 4, 2)])?;
+    for (place, byte) in bytes.iter_mut().enumerate() {
         *byte = match place {
             176..192 => b"0123456789abcdef"[place - 176],
             192..256 => 0x54,
@@ -86,32 +81,82 @@ fn slots_of_each_kind_are_written_and_read(rt: HostRuntime) -> Result<(), Fail> 
             _ => *byte,
         };
     }
-    assert_eq!(rt; bytes, want);
+    Ok(bytes)
+}
 
+#[test]
+fn slots_of_each_kind_are_written(rt: HostRuntime) -> Result<(), Fail> {
+    let mut flash = MemFlash::new(rt.alloc(), SMALL.check()?)?;
+    flash.program(Slot(1), b"0123456789abcdef", &[0x54; 64])?;
+    flash.arm_fault(1, Outcome::Bad);
+    let _ = flash.program(Slot(4), &[7; 16], &[8; 64]);
+    let bytes = write_image(rt.alloc(), &SMALL, &flash)?;
+    assert_eq!(rt; bytes, each_kind(rt.alloc())?);
+    Ok(())
+}
+
+#[test]
+fn slots_of_each_kind_are_read(rt: HostRuntime) -> Result<(), Fail> {
+    let mut bytes = each_kind(rt.alloc())?;
     let (config, flash) = read_image(rt.alloc(), &bytes)?;
     assert_eq!(rt; config, SMALL);
     assert_eq!(rt;
         (flash.live(), flash.programs(), flash.erases()),
         (true, 0, 0)
     );
-    assert_eq!(rt; write_image(rt.alloc(), &config, &flash)?, want);
-    assert_eq!(rt; into_image(rt.alloc(), &config, flash)?, want);
-    let (config, flash) = take_image(rt.alloc(), bytes)?;
-    assert_eq!(rt; into_image(rt.alloc(), &config, flash)?, want);
-
+    assert_eq!(rt; write_image(rt.alloc(), &config, &flash)?, bytes);
     // The last byte of the damaged slot.
-    if let Some(byte) = want.get_mut(495) {
+    if let Some(byte) = bytes.get_mut(495) {
         *byte = 1;
     }
-    let refused = read_image(rt.alloc(), &want).err();
+    let refused = read_image(rt.alloc(), &bytes).err();
     assert_eq!(rt; refused, Some(ImageError::SlotBytes(Slot(4))));
+    Ok(())
+}
+
+#[test]
+fn bytes_that_are_handed_over_come_back(rt: HostRuntime) -> Result<(), Fail> {
+    let bytes = each_kind(rt.alloc())?;
+    let (config, flash) = take_image(rt.alloc(), bytes)?;
+    assert_eq!(rt;
+        into_image(rt.alloc(), &config, flash)?,
+        each_kind(rt.alloc())?
+    );
+    let flash = MemFlash::new(rt.alloc(), SMALL.check()?)?;
+    assert_eq!(rt;
+        into_image(rt.alloc(), &SMALL, flash)?,
+        blank_image(rt.alloc())?
+    );
+    Ok(())
+}
+
+#[test]
+fn retired_blocks_are_written(rt: HostRuntime) -> Result<(), Fail> {
+    let shape = SMALL.check()?;
+    let mut flash = MemFlash::new(rt.alloc(), shape)?;
+    flash.set_extras(0x203, 2);
+    let bytes = write_image(rt.alloc(), &SMALL, &flash)?;
+    let want = changed(rt.alloc(), &[(7, 0x32), (36, 3), (37, 2), (40, 2)])?;
+    assert_eq!(rt; bytes, want);
+    let new = crate::blank_image(rt.alloc(), &SMALL, shape, 7)?;
+    assert_eq!(rt; new, changed(rt.alloc(), &[(7, 0x32), (36, 7)])?);
+    Ok(())
+}
+
+#[test]
+fn retired_blocks_are_read(rt: HostRuntime) -> Result<(), Fail> {
+    let bytes = changed(rt.alloc(), &[(7, 0x32), (36, 3), (37, 2), (40, 2)])?;
+    let (_, flash) = read_image(rt.alloc(), &bytes)?;
+    assert_eq!(rt; (flash.allowance(), flash.retired()), (0x203, 2));
+    let (_, flash) = take_image(rt.alloc(), blank_image(rt.alloc())?)?;
+    assert_eq!(rt; (flash.allowance(), flash.retired()), (0, 0));
     Ok(())
 }
 
 /// What is changed in the image of a small device, and the rule that is broken then.
 type Case = (&'static [(usize, u8)], Option<ImageError>);
 
-const CASES: [Case; 30] = [
+const CASES: [Case; 47] = [
     (&[], None),
     // Every rule is broken, and then one rule fewer at each line.
     (
@@ -135,7 +180,7 @@ const CASES: [Case; 30] = [
     (&[(176, 0)], Some(ImageError::SlotBytes(Slot(1)))),
     // Each end of the magic.
     (&[(0, 0x74)], Some(ImageError::Magic)),
-    (&[(7, 0x32)], Some(ImageError::Magic)),
+    (&[(7, 0x33)], Some(ImageError::Magic)),
     // The protocols.
     (&[(8, 0)], Some(ImageError::Protocol)),
     (&[(8, 2)], None),
@@ -144,6 +189,31 @@ const CASES: [Case; 30] = [
     // Each end of the reserved bytes.
     (&[(36, 1)], Some(ImageError::Reserved)),
     (&[(63, 0x80)], Some(ImageError::Reserved)),
+    (&[(36, 1), (40, 1)], Some(ImageError::Reserved)),
+    // The second magic: from 1 to 1024 blocks may be retired, and no more are.
+    (&[(7, 0x32)], Some(ImageError::Allowance)),
+    (&[(7, 0x32), (36, 1)], None),
+    (&[(7, 0x32), (36, 1), (40, 1)], None),
+    (&[(7, 0x32), (36, 1), (40, 2)], Some(ImageError::Allowance)),
+    (&[(7, 0x32), (37, 4), (41, 4)], None),
+    (&[(7, 0x32), (36, 1), (37, 4)], Some(ImageError::Allowance)),
+    (&[(7, 0x32), (36, 1), (39, 1)], Some(ImageError::Allowance)),
+    (&[(7, 0x32), (36, 9), (43, 1)], Some(ImageError::Allowance)),
+    (&[(7, 0x32), (40, 1)], Some(ImageError::Allowance)),
+    // Its reserved bytes, and what is tried before and behind its numbers.
+    (&[(7, 0x32), (36, 1), (44, 1)], Some(ImageError::Reserved)),
+    (&[(7, 0x32), (36, 1), (63, 1)], Some(ImageError::Reserved)),
+    (&[(7, 0x32), (44, 1)], Some(ImageError::Reserved)),
+    (&[(7, 0x32), (8, 3), (44, 1)], Some(ImageError::Protocol)),
+    (&[(7, 0x32), (12, 24)], Some(ImageError::Allowance)),
+    (
+        &[(7, 0x32), (36, 1), (12, 24)],
+        Some(ImageError::Config(ConfigError::Page)),
+    ),
+    (
+        &[(7, 0x32), (36, 1), (73, 3)],
+        Some(ImageError::SlotState(Slot(9))),
+    ),
     // Numbers of no device, and of one with fewer or more slots.
     (&[(28, 21)], Some(ImageError::Config(ConfigError::Space))),
     (&[(35, 1)], Some(ImageError::Config(ConfigError::Pending))),

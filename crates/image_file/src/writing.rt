@@ -2,25 +2,28 @@ ghost use Rattle.std.specs.Prelude.{◌≡◌, ◌≤◌, ◌++◌, length, map,
 ghost use Rattle.std.specs.List.{flat_map};
 ghost use Rattle.tx_types.specs.Config.{checked, shape_of, slots_of};
 ghost use Rattle.flash_model.specs.Flash.{blank};
+ghost use Rattle.flash_model.specs.Retiring.{max_allowance};
 ghost use Rattle.flash_model.specs.Calls.{seen_of};
 ghost use Rattle.mem_flash.specs.Slots.{cell_of};
 ghost use Rattle.image_file.specs.Spelling.{header_of, state_byte, Spells};
 
-use crate::header::header;
+use crate::header::header_of;
 use crate::sizes::{head_bytes, image_bytes};
 use crate::slots::state;
-use flash_model::{Flash, Seen};
+use flash_model::{Flash, Retire, Seen};
 use mem_flash::MemFlash;
 use std::alloc::{AllocError, Global};
 use tx_types::{Config, Memory, Shape, Slot};
 
-/// The image file of a device: the one spelling of its configuration and of what its flash holds.
+/// The image file of a device: the one spelling of its configuration, of what its flash holds, and of what it
+/// tells of retired blocks.
 pub fn write_image(alloc: Global, config: &Config, flash: &MemFlash) -> Result<Vec<u8>, Memory>
     requires { checked config.now ≡ Ok flash.now.shape }
-    ensures { IfOk result (λ bytes. Spells bytes.items config.now flash.now.image) }
+    ensures { IfOk result (λ bytes.
+        Spells bytes.items config.now flash.now.image flash.now.extras) }
 {
     let mut bytes = Vec::with_capacity(alloc, image_bytes(flash.shape()))?;
-    bytes.extend_from_slice(&header(config))?;
+    bytes.extend_from_slice(&header_of(config, flash.allowance(), flash.retired()))?;
     add_states(flash, &mut bytes)?;
     add_cells(flash, &mut bytes)?;
     Ok(bytes)
@@ -30,10 +33,10 @@ pub fn write_image(alloc: Global, config: &Config, flash: &MemFlash) -> Result<V
 /// the flash was taken from an image file.
 pub fn into_image(alloc: Global, config: &Config, flash: MemFlash) -> Result<Vec<u8>, Memory>
     requires { checked config.now ≡ Ok flash.shape }
-    ensures { IfOk result (λ bytes. Spells bytes.items config.now flash.image) }
+    ensures { IfOk result (λ bytes. Spells bytes.items config.now flash.image flash.extras) }
 {
     let mut head = Vec::with_capacity(alloc, head_bytes(flash.shape()))?;
-    head.extend_from_slice(&header(config))?;
+    head.extend_from_slice(&header_of(config, flash.allowance(), flash.retired()))?;
     add_states(&flash, &mut head)?;
     let mut bytes = flash.into_bytes(alloc, head.len())?;
     write_head(&mut bytes, &head);
@@ -48,13 +51,20 @@ fn write_head(bytes: &mut [u8], head: &[u8])
     bytes[..head.len()].copy_from_slice(head);
 }
 
-/// The image file of a device whose slots are all blank.
-pub fn blank_image(alloc: Global, config: &Config, shape: Shape) -> Result<Vec<u8>, Memory>
-    requires { checked config.now ≡ Ok shape }
-    ensures { IfOk result (λ bytes. Spells bytes.items config.now (replicate (slots_of shape) blank)) }
+/// The image file of a device whose slots are all blank, with this many blocks that may be retired and none that is.
+pub fn blank_image(
+    alloc: Global,
+    config: &Config,
+    shape: Shape,
+    allowance: u32,
+) -> Result<Vec<u8>, Memory>
+    requires checks { checked config.now ≡ Ok shape }
+    requires few { allowance ≤ max_allowance }
+    ensures { IfOk result (λ bytes. Spells bytes.items config.now
+        (replicate (slots_of shape) blank) (record { allowance = allowance; retired = 0 })) }
 {
     let mut bytes = Vec::with_capacity(alloc, image_bytes(shape))?;
-    bytes.extend_from_slice(&header(config))?;
+    bytes.extend_from_slice(&header_of(config, allowance, 0))?;
     bytes.resize(head_bytes(shape), state(Seen::Blank))?;
     bytes.resize(image_bytes(shape), 0xff)?;
     Ok(bytes)

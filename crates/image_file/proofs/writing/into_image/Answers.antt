@@ -12,5 +12,6 @@ returns c =
     let long : c.len.result ≡ length head = omega arith in
     let cells = rw long at c.in_ok-bytes.ensures.cells in
     let over = rw (c.deref_mut.ensures.value, c.deref.ensures.value, cells) at c.write_head.ensures in
-    written _ c.args.config.now c.args.flash.shape c.args.flash.image c.requires c.shape.ensures.whole
+    written _ c.args.config.now c.args.flash.shape c.args.flash.image c.args.flash.extras c.requires c.shape.ensures.whole
+    (search rules) (search rules)
     (whole ∙ over ∙ ap (λ front. front ++ flat_map (cell_of c.args.flash.shape.page_bytes) c.args.flash.image) (search rules))
