@@ -1,14 +1,15 @@
 -- What is known of the slot that is programmed next.
-use Rattle.std.proofs.Common.{◌≡◌, ℕ, ◌-◌, ◌/◌, ◌<◌, ◌↔◌, inl, inr, Option, Some, None, refl, sym, ◌∙◌, arith}
+use Rattle.std.proofs.Common.{◌≡◌, ℕ, ◌+◌, ◌*◌, ◌-◌, ◌/◌, ◌<◌, ◌≤◌, ◌↔◌, inl, inr, Option, Some, None, refl, sym, ◌∙◌, arith}
 use Rattle.std.specs.List.{range_with_len}
 use Rattle.std.specs.Option.{IsNone, option_or}
 use Rattle.std.proofs.Math.Nat.{mul_comm}
 use Rattle.std.proofs.lemmas.Bool.{cases_lt}
 use Rattle.std.proofs.lemmas.Nat.{div_below, div-add-mod', mod_below, mul-add-lt, div-mul-add, mod-mul-add}
 use Rattle.list_facts.proofs.Options.{option_or_some, option_or_none}
-use Rattle.tx_types.specs.Config.{blocks_of}
+use Rattle.tx_types.specs.Config.{IsShape, blocks_of}
+use Rattle.tx_types.specs.declared.config.Shape.{Shape}
 use Rattle.die_alloc.specs.BlockTable.{BlockTable, IsBlockTable, used_of, HasRoom, IsFull, IsFirstFree, block_of_slot}
-use Rattle.die_alloc.specs.NextSlot.{first_answer, open_block, next_block, first_unused}
+use Rattle.die_alloc.specs.NextSlot.{first_answer, open_block, next_block, first_unused, die_after}
 use Rattle.die_alloc.proofs.FirstAnswers.{first_answer-append, answer_of_one, no_answer}
 use Rattle.die_alloc.proofs.OpenBlocks.{die_lies, open_block_has_room, no_open_block}
 
@@ -101,3 +102,11 @@ pub is_first_free_moved : (t : BlockTable) (at die : ℕ) → IsFirstFree t at �
 is_first_free_moved t at die h = record { free = record { within = h.free.within; room = h.free.room; unused = h.free.unused }; first = h.first }
 
 pub ruleset next_blocks = (next_block_split, next_block_has_room, no_block_where_full)
+
+-- the first die comes after the last one
+pub first_die : (s : Shape) (block : ℕ) → IsShape s → block < blocks_of s → s.dies ≤ block / s.blocks_per_die + 1 → die_after s block ≡ 0
+first_die s block shape within past =
+    let below : block / s.blocks_per_die < s.dies =
+    div_below block s.blocks_per_die s.dies (omega (arith, shape.blocks_least)) (omega (arith, within, mul_comm s.blocks_per_die s.dies)) in
+    let place : block / s.blocks_per_die + 1 ≡ 1 * s.dies + 0 = omega arith in
+    rw place (mod-mul-add 1 s.dies 0 (omega arith))

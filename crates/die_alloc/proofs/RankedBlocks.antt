@@ -1,10 +1,10 @@
 -- The ranks of the blocks of each die, and which of them comes first.
-use Rattle.std.proofs.Common.{◌≡◌, ◌≢◌, ℕ, ◌+◌, ◌*◌, ◌/◌, ◌%◌, ◌<◌, ◌≤◌, inl, inr, false, List, [], ◌∷◌, ◌++◌, take, drop, length, get_or, set, Some, None, refl, sym, ap, ◌∙◌, subst, arith, All, ap₂}
+use Rattle.std.proofs.Common.{◌≡◌, ◌≢◌, ℕ, ◌+◌, ◌-◌, ◌*◌, ◌/◌, ◌%◌, ◌<◌, ◌≤◌, inl, inr, false, List, [], ◌∷◌, ◌++◌, take, drop, length, get_or, set, Some, None, refl, sym, ap, ◌∙◌, subst, arith, All, ap₂}
 use Rattle.std.specs.Option.{option_or}
 use Rattle.std.proofs.Math.ListN.{length-set}
 use Rattle.std.proofs.lemmas.Bool.{cases_eq}
 use Rattle.std.proofs.lemmas.Grind.{common_steps}
-use Rattle.std.proofs.lemmas.List.{get_or-drop, get_or-take, get_or-set_same, get_or-set_other, get_or_push, get_or_append_left, get_or_default, length_push}
+use Rattle.std.proofs.lemmas.List.{get_or-drop, get_or-take, get_or-set_same, get_or-set_other, get_or_push, get_or_append_left, get_or_default, length_push, set-get_or}
 use Rattle.std.proofs.lemmas.Nat.{div_below, div-mul-add, mod-mul-add, div-add-mod', mod_below, row_fits_turned}
 use Rattle.std.proofs.Math.Nat.{mul_comm, mul-le-mul_right}
 use Rattle.plain_tables.specs.Greatest.{IsFirstGreatest}
@@ -134,6 +134,11 @@ module _ (s : Shape) (old : List BlockUse) (ranks : List (List ℕ)) (block : �
       let low = div_below block width s.dies (omega (arith, shape.blocks_least)) (omega (arith, within, mul_comm width s.dies)) in
       (omega (arith, split), rest, low)
 
+  -- the rank of its place is kept
+  pub spot_lies : spot < length (get_or ranks home [])
+  spot_lies =
+      let n = (are.each home place.2).size in let m = die_size s old count home place.2 in omega (arith, place.1)
+
   -- another block keeps its rank
   other : (die k : ℕ) → die < s.dies → k < width → die * width + k ≢ block →
       rank_of (get_or old (die * width + k) no_block).state ≡ rank_of (get_or now (die * width + k) no_block).state
@@ -143,6 +148,9 @@ module _ (s : Shape) (old : List BlockUse) (ranks : List (List ℕ)) (block : �
   was die k below low =
       (are.each die below).each k (let n = die_size s old count die below in omega arith)
       ∙ ap (λ b. rank_of b.state) (block_in_die s old count die below k low)
+
+  rank_kept : get_or (get_or ranks home []) spot 0 ≡ rank_of (get_or old block no_block).state
+  rank_kept = was home spot place.2 place.1 ∙ ap (λ n. rank_of (get_or old n no_block).state) place.0
 
   same_home : (die k : ℕ) → k < width → die * width + k ≡ block → (die ≡ home) × (k ≡ spot)
   same_home die k low e =
@@ -154,13 +162,11 @@ module _ (s : Shape) (old : List BlockUse) (ranks : List (List ℕ)) (block : �
     | inl e ↦ (
         let (d, p) = same_home die k low e in
         let in_ranks : home < length ranks = let n = are.dies in omega (arith, place.2) in
-        let in_here : spot < length (get_or ranks home []) =
-        let n = (are.each home place.2).size in let m = die_size s old count home place.2 in omega (arith, place.1) in
         rw (
           d,
           p,
           get_or-set_same ranks home here [] in_ranks,
-          get_or-set_same (get_or ranks home []) spot (rank_of its.state) 0 in_here,
+          get_or-set_same (get_or ranks home []) spot (rank_of its.state) 0 spot_lies,
           place.0,
           get_or-set_same old block its no_block (omega arith),
         ) refl)
@@ -234,6 +240,18 @@ have_ranks_more n s blocks ranks ranks' now these are have =
       ],
     )
 
+-- the same where its rank stays
+pub same_ranks : (s : Shape) (old : List BlockUse) (ranks : List (List ℕ)) (block : ℕ) (its : BlockUse) → IsShape s →
+    block < blocks_of s → length old ≡ blocks_of s → AreRanks s old ranks → rank_of its.state ≡ rank_of (get_or old block no_block).state →
+    AreRanks s (set old block its) ranks
+same_ranks s old ranks block its shape within count are same =
+    let die = block / s.blocks_per_die in
+    let at = block % s.blocks_per_die in
+    let rank = same ∙ sym (rank_kept s old ranks block its shape within count are) in
+    subst (AreRanks s (set old block its)) (ap (λ n. set ranks die (set (get_or ranks die []) at n)) rank
+    ∙ ap (set ranks die) (set-get_or (get_or ranks die []) at 0) ∙ set-get_or ranks die [])
+    (ranks_kept s old ranks block its shape within count are)
+
 pub kept_ranks : (s : Shape) (old : List BlockUse) (ranks ranks' : List (List ℕ)) (block : ℕ) (its : BlockUse) (rank : ℕ) → IsShape s →
     block < blocks_of s → length old ≡ blocks_of s → AreRanks s old ranks → rank ≡ rank_of its.state →
     ranks' ≡ set ranks (block / s.blocks_per_die) (set (get_or ranks (block / s.blocks_per_die) []) (block % s.blocks_per_die) rank) →
@@ -242,6 +260,10 @@ kept_ranks s old ranks ranks' block its rank shape within count are is_rank is =
     subst (AreRanks s (set old block its)) (sym (is ∙ ap (λ n. set ranks (block / s.blocks_per_die)
     (set (get_or ranks (block / s.blocks_per_die) []) (block % s.blocks_per_die) n)) is_rank))
     (ranks_kept s old ranks block its shape within count are)
+
+-- what is left of a block's number behind those of the dies before is its place
+pub rest_is : (block size : ℕ) → block - block / size * size ≡ block % size
+rest_is block size = let whole = div-add-mod' block size in omega (arith, whole)
 
 -- what was read of the ranks of a die is so of them
 pub of_die : (P : List ℕ → Type 0) (s : Shape) (blocks : List BlockUse) (ranks : List (List ℕ)) (read : List ℕ) (die : ℕ) → AreRanks s blocks ranks → die < s.dies →

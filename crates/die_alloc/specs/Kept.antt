@@ -1,4 +1,5 @@
 -- How a block table is kept.
+use Rattle.std.specs.Prelude.{◌≡◌}
 use Rattle.die_alloc.specs.BlockTable.{BlockTable, IsBlockTable}
 use Rattle.die_alloc.specs.Ranks.{AreRanks}
 use Rattle.die_alloc.specs.declared.blocks.Blocks.TheInside.{Inside}
@@ -7,7 +8,9 @@ abbrev pub table_of : Inside → BlockTable
 table_of b =
     record { shape = b.shape; blocks = b.blocks.items; spare = b.spare.0; cursor = b.cursor }
 
--- its ranks are those of its blocks
+-- its divisors are those of its shape, and its ranks those of its blocks
 pub record IsKept (b : Inside) : Type 0 where
   pub table : IsBlockTable (table_of b)
+  pub pages : b.pages ≡ b.shape.pages_per_block
+  pub die_blocks : b.die_blocks ≡ b.shape.blocks_per_die
   pub ranks : AreRanks b.shape b.blocks.items b.ranks.items

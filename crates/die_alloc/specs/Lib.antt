@@ -2,3 +2,4 @@ pub mod BlockTable
 pub mod NextSlot
 pub mod Ranks
 pub mod Kept
+pub mod Opening

@@ -1,12 +1,12 @@
 ghost use Rattle.std.specs.Prelude.{◌≡◌, ◌≢◌, ◌-◌, ◌*◌, ◌/◌, ◌%◌, ◌<◌, ◌≤◌, ◌↔◌, IfOk, IfSome, IfNone, IsNone};
 ghost use Rattle.tx_types.specs.Config.{IsShape, slots_of, blocks_of};
 ghost use Rattle.die_alloc.specs.BlockTable.{IsBlockTable, MayHave, block_state, used_of, fresh_table, with_slot, with_use, table_with_spare, HasRoom, IsFree, IsFirstFree, IsFull};
-ghost use Rattle.die_alloc.specs.NextSlot.{next_slot, first_unused, next_block, open_block, after_next_slot, first_answer};
+ghost use Rattle.die_alloc.specs.NextSlot.{next_slot, first_unused, next_block, open_block, die_after, after_next_slot, first_answer};
 ghost use Rattle.std.specs.List.{range_with_len};
 
 use crate::block_use::BlockUse;
 use crate::ranks::{keep, ranks};
-use plain_tables::Peaks;
+use plain_tables::{Divisor, Peaks};
 use std::alloc::Global;
 use std::marker::Model;
 use tx_types::{Block, BlockState, Memory, Shape, Slot};
@@ -15,6 +15,9 @@ use tx_types::{Block, BlockState, Memory, Shape, Slot};
 #[derive(Debug, Drop)]
 pub struct Blocks {
     shape: Shape,
+    /// The pages of a block, and the blocks of a die.
+    pages: Divisor,
+    die_blocks: Divisor,
     blocks: Vec<BlockUse>,
     spare: Block,
     /// The die at which the search for a slot begins.
@@ -48,6 +51,8 @@ impl Blocks {
         let ranks = ranks(alloc, shape, &blocks)?;
         Ok(Blocks {
             shape,
+            pages: Divisor::new(shape.pages_per_block),
+            die_blocks: Divisor::new(shape.blocks_per_die),
             blocks,
             spare: Block(last),
             cursor: 0,
@@ -68,8 +73,17 @@ impl Blocks {
     {
         let block = self.next_block()?;
         let at = self.first_unused(block);
-        self.cursor = (block / self.shape.blocks_per_die + 1) % self.shape.dies;
+        self.cursor = self.die_after(block);
         Some(at)
+    }
+
+    /// The die after that of a block, in cyclic order.
+    fn die_after(&self, block: u32) -> u32
+        requires { block < blocks_of self.now.shape }
+        ensures { result ≡ die_after self.now.shape block }
+    {
+        let next = self.die_blocks.quotient(block) + 1;
+        if next < self.shape.dies { next } else { 0 }
     }
 
     /// The first slot of a block after its used ones.
@@ -153,15 +167,22 @@ impl Blocks {
         ensures used { self.new ≡ with_slot self.old at.0 }
         ensures table { IsBlockTable self.new }
     {
-        let used = at.0 % self.shape.pages_per_block + 1;
+        let block = self.pages.quotient(at.0);
+        let used = at.0 - block * self.shape.pages_per_block + 1;
         let state = if used == self.shape.pages_per_block {
             BlockState::Shut
         } else {
             BlockState::Part
         };
-        let block = at.0 / self.shape.pages_per_block;
         let now = BlockUse { state, used };
-        keep(self.shape, &mut self.blocks, &mut self.ranks, block, now);
+        keep(
+            self.shape,
+            &self.die_blocks,
+            &mut self.blocks,
+            &mut self.ranks,
+            block,
+            now,
+        );
     }
 
     /// Gives a block that is not the spare this state and this number of used slots.
@@ -174,7 +195,14 @@ impl Blocks {
         ensures table { IsBlockTable self.new }
     {
         let now = BlockUse { state, used };
-        keep(self.shape, &mut self.blocks, &mut self.ranks, block.0, now);
+        keep(
+            self.shape,
+            &self.die_blocks,
+            &mut self.blocks,
+            &mut self.ranks,
+            block.0,
+            now,
+        );
     }
 
     /// Makes a block the spare. The one that was it before, where it is another block, is clean.
@@ -186,6 +214,7 @@ impl Blocks {
         let (shape, old) = (self.shape, self.spare.0);
         keep(
             shape,
+            &self.die_blocks,
             &mut self.blocks,
             &mut self.ranks,
             old,
@@ -193,6 +222,7 @@ impl Blocks {
         );
         keep(
             shape,
+            &self.die_blocks,
             &mut self.blocks,
             &mut self.ranks,
             block.0,

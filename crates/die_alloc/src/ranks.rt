@@ -3,7 +3,7 @@ ghost use Rattle.tx_types.specs.Config.{IsShape, blocks_of};
 ghost use Rattle.die_alloc.specs.Ranks.{rank_of, AreRanksOf, AreRanks};
 
 use crate::block_use::BlockUse;
-use plain_tables::Peaks;
+use plain_tables::{Divisor, Peaks};
 use std::alloc::Global;
 use tx_types::{BlockState, Memory, Shape};
 
@@ -46,24 +46,30 @@ fn die_ranks(alloc: Global, blocks: &[BlockUse]) -> Result<Peaks, Memory>
     Ok(ranks)
 }
 
-/// Keeps this of a block, and its rank.
+/// Keeps this of a block, and its rank where that is another one.
 pub fn keep(
     shape: Shape,
+    die_blocks: &Divisor,
     blocks: &mut Vec<BlockUse>,
     ranks: &mut Vec<Peaks>,
     block: u32,
     now: BlockUse,
 )
     requires shape { IsShape shape }
+    requires divisor { die_blocks.now ≡ shape.blocks_per_die }
     requires within { block < blocks_of shape }
     requires blocks { length blocks.old.items ≡ blocks_of shape }
     requires ranks { AreRanks shape blocks.old.items ranks.old.items }
     ensures blocks { blocks.new.items ≡ slice_set blocks.old.items block now }
     ensures ranks { AreRanks shape blocks.new.items ranks.new.items }
 {
-    let die = block / shape.blocks_per_die;
-    let place = block % shape.blocks_per_die;
-    set_rank(ranks, die as usize, place as usize, rank(now.state));
+    let before = rank(blocks[block as usize].state);
+    let after = rank(now.state);
+    if after != before {
+        let die = die_blocks.quotient(block);
+        let place = block - die * shape.blocks_per_die;
+        set_rank(ranks, die as usize, place as usize, after);
+    }
     blocks[block as usize] = now;
 }
 

@@ -5,3 +5,4 @@ pub mod Membership
 pub mod GreatestNumbers
 pub mod Tree
 pub mod Descent
+pub mod Division

@@ -2,3 +2,4 @@ pub mod ChainLists
 pub mod Links
 pub mod Greatest
 pub mod Levels
+pub mod Reciprocals

@@ -175,3 +175,14 @@ fn the_first_greatest_number_is_known(rt: HostRuntime) -> Result<(), Fail> {
     }
     Ok(())
 }
+
+#[test]
+fn a_number_is_divided_by_the_reciprocal(rt: HostRuntime) {
+    assert_eq!(rt; Divisor::new(1).quotient(65535), 65535);
+    assert_eq!(rt; Divisor::new(3).quotient(65535), 21845);
+    assert_eq!(rt; Divisor::new(7).quotient(48), 6);
+    assert_eq!(rt; Divisor::new(7).quotient(49), 7);
+    assert_eq!(rt; Divisor::new(255).quotient(65534), 256);
+    assert_eq!(rt; Divisor::new(65536).quotient(65535), 0);
+    assert_eq!(rt; Divisor::new(65537).quotient(65535), 0);
+}
