@@ -1,4 +1,5 @@
 pub mod Alike
+mod Arranged
 mod CountLaw
 mod Groups
 mod MinimaSteps

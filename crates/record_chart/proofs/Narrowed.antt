@@ -2,14 +2,14 @@
 use Rattle.std.proofs.Common.{◌≡◌, ℕ, ◌+◌, ◌-◌, ◌<◌, ◌≤◌, Bool, true, false, List, length, get_or, sym, ap, ◌∙◌, subst, subst₂, inl, inr, arith}
 use Rattle.std.specs.List.{slice_range}
 use Rattle.std.specs.List.Sorted.{IsPartitionPoint}
-use Rattle.std.proofs.lemmas.Bool.{cases_lt}
+use Rattle.std.proofs.lemmas.Bool.{cases_Bool, cases_lt}
 use Rattle.std.proofs.lemmas.List.{get_or_default}
 use Rattle.std.proofs.lemmas.List.Edits.{length-between, get_or-between}
 use Rattle.tx_types.specs.declared.record.Link.{Link}
 use Rattle.record_list.specs.declared.found.Found.{Found}
 use Rattle.record_list.specs.Records.{name_of, record_at, nothing}
 use Rattle.record_chart.specs.Charts.{is_below, IsInOrder}
-use Rattle.record_chart.proofs.Order.{IsFrom, IsBelow, below_cases, below_true, below_false, true_below, below_first, later_from}
+use Rattle.record_chart.proofs.Order.{IsFrom, IsBelow, below_cases, below_true, below_false, true_below, below_first, later_from, parted_by_name}
 
 -- a part of records in order is in order
 pub part_in_order : (l : List Found) (from to : ℕ) → IsInOrder l → to ≤ length l → IsInOrder (slice_range l from to)
@@ -90,3 +90,19 @@ name_point l name end parts = (
     above : (a : Link) → IsFrom a record { page = name.page; version = name.version + 1 } → is_below name a ≡ true
     above a (inl p) = true_below name a (inl p)
     above a (inr p) = true_below name a (inr (p.0, omega arith))
+
+-- names are below one up to a place, if that before it is, and the one at it is not
+pub point_here : (l : List Found) (name : Link) (at : ℕ) → IsInOrder l → at ≤ length l → ((k : ℕ) → k < at → is_below (name_of (record_at l k)) name ≡ true) →
+    (at < length l → is_below (name_of (record_at l at)) name ≡ false) →
+    IsPartitionPoint (λ f. is_below (name_of f.rec) name ≡ true) (λ f. is_below (name_of f.rec) name ≡ false) l at
+point_here l name at order within before here = (
+  λ k d from less. subst (λ (f : Found). is_below (name_of f.rec) name ≡ true) (get_or_default l k nothing d (omega arith)) (before k less),
+  λ k d high low. elim (cases_Bool (is_below (name_of (get_or l k d).rec) name)) [
+    | inr f ↦ f
+    | inl t ↦ absurd (
+        let first = parted_by_name l name order at k d high low t in
+        let same = ap (λ (f : Found). is_below (name_of f.rec) name) (get_or_default l at nothing d (omega arith)) in
+        let other = here (omega arith) in
+        cc)
+  ],
+)

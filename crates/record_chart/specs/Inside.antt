@@ -1,5 +1,5 @@
 -- What is so inside each chart.
-use Rattle.std.specs.Prelude.{◌≡◌, ◌<◌, ◌^◌, [], length}
+use Rattle.std.specs.Prelude.{◌≡◌, ◌<◌, ◌^◌, [], IfSome, length}
 use Rattle.record_chart.specs.declared.chart.Chart.TheInside.{Inside}
 use Rattle.record_chart.specs.Orbits.{AreOrbits}
 use Rattle.record_chart.specs.Minima.{AreMinima}
@@ -7,12 +7,12 @@ use Rattle.record_chart.specs.Charts.{IsInOrder, link_graph}
 use Rattle.record_chart.specs.NameGraph.{name_graph}
 use Rattle.record_chart.specs.Starts.{AreStarts}
 
--- its records are in order and can be counted, and it has the places where their pages begin, their least back versions,
--- the places that their links name, and the orbits of their links
+-- its records are in order and can be counted, and it has the places where their pages begin, the least back versions
+-- of many, the places that their links name, and the orbits of their links
 pub record IsCharted (c : Inside) : Type 0 where
   pub order : IsInOrder c.records.items
   pub few : length c.records.items < 2 ^ 32
   pub starts : AreStarts c.records.items c.starts.items
-  pub minima : AreMinima c.records.items [] c.least.items
+  pub minima : IfSome c.least (λ least. AreMinima c.records.items [] least.items)
   pub targets : c.targets.items ≡ name_graph c.records.items
   pub orbits : AreOrbits (link_graph c.records.items) c.orbits

@@ -1,11 +1,11 @@
 -- What is so inside each standing.
-use Rattle.std.specs.Prelude.{◌≡◌, map}
+use Rattle.std.specs.Prelude.{◌≡◌, IfSome, map}
 use Rattle.std.specs.List.{range_with_len}
 use Rattle.record_list.specs.Current.{cur}
 use Rattle.record_chart.specs.Minima.{AreMinima}
 use Rattle.record_chart.specs.declared.standing.Standing.TheInside.{Inside}
 
--- it has the current version of each page, and the least back versions of the records up to it
+-- it has the current version of each page, and the least back versions of many records up to it
 pub record IsStanding (s : Inside) : Type 0 where
   pub current : s.current.items ≡ map (cur s.protocol s.chart s.logical) (range_with_len 0 s.logical)
-  pub settled : AreMinima s.chart s.current.items s.settled.items
+  pub settled : IfSome s.settled (λ least. AreMinima s.chart s.current.items least.items)

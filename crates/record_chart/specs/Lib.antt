@@ -1,3 +1,4 @@
+pub mod Arrangement
 pub mod Charts
 pub mod Inside
 pub mod InsideStanding

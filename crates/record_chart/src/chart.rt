@@ -1,4 +1,4 @@
-ghost use Rattle.std.specs.Prelude.{◌≡◌, ◌<◌, ◌^◌, Some, position, filter, IfOk, length, slice_index_or};
+ghost use Rattle.std.specs.Prelude.{◌≡◌, ◌<◌, ◌^◌, Some, position, filter, IfOk, IfSome, length, slice_index_or};
 ghost use Rattle.tx_types.specs.declared.config.Protocol.TheVariants.{Bpcc};
 ghost use Rattle.record_list.specs.Records.{greatest, name_of, record_at, has_name, is_present, newest, next_older};
 ghost use Rattle.record_list.specs.Verdict.{link_of, back_of, straddling, why};
@@ -8,9 +8,10 @@ ghost use Rattle.record_chart.specs.Minima.{AreMinima};
 ghost use Rattle.record_chart.specs.NameGraph.{name_graph};
 ghost use Rattle.record_chart.specs.Orbits.{IsGraph};
 
+use crate::arrange::arranged;
 use crate::group::{straddling, straddling_up_to, straddling_up_to_bound};
-use crate::in_order::{back_of, find, first_namesake, link_of, named, newest, next_older, sort};
-use crate::minima::minima;
+use crate::in_order::{back_of, find, first_namesake, link_of, named, newest, next_older};
+use crate::minima::minima_of_many;
 use crate::search::page_starts;
 use crate::walks::{links, shown, targets};
 use crate::{Orbit, Orbits};
@@ -24,7 +25,7 @@ use tx_types::{Link, Protocol};
 pub struct Chart {
     records: Vec<Found>,
     starts: Vec<u32>,
-    least: Vec<u64>,
+    least: Option<Vec<u64>>,
     targets: Vec<Option<u32>>,
     orbits: Orbits,
 }
@@ -43,17 +44,17 @@ impl Model for Chart {
 }
 
 impl Chart {
-    /// Sorts the records, and finds where their links lead. Records of one name stay in the order that
-    /// they have. For more than `u32::MAX` of them there is no room.
-    pub fn new(alloc: Global, mut records: Vec<Found>) -> Result<Chart, AllocError>
-        ensures { IfOk result (λ chart. Sorts records.items chart) }
+    /// Puts the records of a list in order, and finds where their links lead. Records of one name stay in
+    /// the order that they have. For more than `u32::MAX` of them there is no room.
+    pub fn of(alloc: Global, list: &[Found]) -> Result<Chart, AllocError>
+        ensures { IfOk result (λ chart. Sorts list.now chart) }
     {
-        if records.len() > u32::MAX as usize {
+        if list.len() > u32::MAX as usize {
             return Err(AllocError);
         }
-        sort(&mut records)?;
+        let records = arranged(alloc, list)?;
         let starts = page_starts(alloc, &records)?;
-        let least = minima(alloc, &records, &[])?;
+        let least = minima_of_many(alloc, &records, &starts, &[])?;
         let targets = targets(alloc, &records, &starts)?;
         let links = links(alloc, &records, &starts, &targets)?;
         let orbits = Orbits::new(alloc, &links)?;
@@ -222,10 +223,27 @@ impl Chart {
         straddling_up_to(&self.records, &self.starts, name, top)
     }
 
+    /// The least back versions of the records up to these versions of their pages, if some page has many
+    /// records.
+    pub(crate) fn minima_up_to(
+        &self,
+        alloc: Global,
+        tops: &[u64],
+    ) -> Result<Option<Vec<u64>>, AllocError>
+        ensures { IfOk result (λ r. IfSome r (λ least. AreMinima self.now tops.now least.items)) }
+    {
+        minima_of_many(alloc, &self.records, &self.starts, tops)
+    }
+
     /// The greatest version, up to the bound of its page, of a record that straddles this name, 0 for none,
-    /// by the least back versions of the records up to their bounds.
-    pub(crate) fn straddling_up_to_bound(&self, tops: &[u64], least: &[u64], name: Link) -> u64
-        requires minima { AreMinima self.now tops.now least.now }
+    /// by the least back versions of the records up to their bounds, where they are noted.
+    pub(crate) fn straddling_up_to_bound(
+        &self,
+        tops: &[u64],
+        least: &Option<Vec<u64>>,
+        name: Link,
+    ) -> u64
+        requires minima { IfSome least.now (λ m. AreMinima self.now tops.now m.items) }
         requires bound { name.page < length tops.now }
         ensures { result
             ≡ greatest (straddling_upto (slice_index_or tops.now name.page 0) name) self.now }

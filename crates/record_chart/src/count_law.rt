@@ -16,24 +16,24 @@ use std::alloc::{AllocError, Global};
 use tx_types::{Link, Rec};
 
 /// The slot that law 9 names, where it is broken, of a list that keeps law 2: by its records in order of
-/// their names. Links are followed where a record has a count, each once. The list itself is gone
-/// through only where a record breaks the law.
-pub fn counts(alloc: Global, chart: &Chart, list: &[Found]) -> Result<Option<Breach>, AllocError>
+/// their names and the orbits of their links. The list itself is gone through only where a record breaks
+/// the law.
+pub fn counts(chart: &Chart, orbits: &Orbits, list: &[Found]) -> Option<Breach>
     requires scanned { IsScanned list.now }
     requires sorts { Sorts list.now chart.now }
     requires copies { All (CopiesAgree list.now) list.now }
-    ensures { IfOk result (IsFirstMiscount list.now) }
+    requires orbits { AreOrbits (name_graph chart.now) orbits.now }
+    ensures { IsFirstMiscount list.now result }
 {
     if !has_count(list) {
-        return Ok(None);
+        return None;
     }
-    let orbits = name_orbits(alloc, chart)?;
-    if all_keep_count(chart, &orbits) {
-        return Ok(None);
+    if all_keep_count(chart, orbits) {
+        return None;
     }
-    match first_miscount(chart, &orbits, list) {
-        None => Ok(None),
-        Some(at) => Ok(Some(breach_at(list, 9, at))),
+    match first_miscount(chart, orbits, list) {
+        None => None,
+        Some(at) => Some(breach_at(list, 9, at)),
     }
 }
 

@@ -1,7 +1,7 @@
 ghost use Rattle.std.specs.Prelude.{IsTrue};
 ghost use Rattle.record_list.specs.Records.{IsScanned};
 
-use crate::{Chart, counts};
+use crate::{Chart, counts, name_orbits};
 use record_list::{Breach, Found, first_contradiction};
 use std::alloc::Global;
 use std::process::Abort;
@@ -44,14 +44,13 @@ fn is_scanned(list: &[Found]) -> bool
 fn expect_miscount(rt: &impl Abort, alloc: Global, list: &[Found], want: Option<u32>) {
     assert!(rt; is_scanned(list));
     assert_eq!(rt; first_contradiction(list), None);
-    let mut records = Vec::new(alloc);
-    records.extend_from_slice(list).expect(rt, "memory");
-    let chart = Chart::new(alloc, records).expect(rt, "memory");
+    let chart = Chart::of(alloc, list).expect(rt, "memory");
     let law = want.map(|slot| Breach {
         law: 9,
         slot: Slot(slot),
     });
-    let found = counts(alloc, &chart, list).expect(rt, "memory");
+    let orbits = name_orbits(alloc, &chart).expect(rt, "memory");
+    let found = counts(&chart, &orbits, list);
     assert_eq!(rt; found, law);
 }
 

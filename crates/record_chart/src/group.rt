@@ -1,5 +1,5 @@
 //! The records of one page, in records that are in order of their names.
-ghost use Rattle.std.specs.Prelude.{◌≡◌, ◌≢◌, ℕ, ◌<◌, [], length, slice_index_or};
+ghost use Rattle.std.specs.Prelude.{◌≡◌, ◌≢◌, ℕ, ◌<◌, [], IfSome, length, slice_index_or};
 ghost use Rattle.tx_types.specs.declared.record.Rec.{Rec};
 ghost use Rattle.record_list.specs.Records.{greatest};
 ghost use Rattle.record_list.specs.Verdict.{straddling};
@@ -16,8 +16,45 @@ use straddle_sets::straddles;
 use tx_types::Link;
 
 /// The greatest version of a record that straddles this name, 0 for none, by the least back versions of
-/// the records.
-pub fn straddling(records: &[Found], starts: &[u32], least: &[u64], name: Link) -> u64
+/// the records, where they are noted.
+pub fn straddling(records: &[Found], starts: &[u32], least: &Option<Vec<u64>>, name: Link) -> u64
+    requires order { IsInOrder records.now }
+    requires starts { AreStarts records.now starts.now }
+    requires minima { IfSome least.now (λ m. AreMinima records.now [] m.items) }
+    ensures { result ≡ straddling records.now name }
+{
+    match least {
+        Some(least) => straddling_by_minima(records, starts, least, name),
+        None => straddling_of_few(records, starts, name),
+    }
+}
+
+/// The greatest version of a record that straddles this name, 0 for none, by all records of its page.
+fn straddling_of_few(records: &[Found], starts: &[u32], name: Link) -> u64
+    requires order { IsInOrder records.now }
+    requires starts { AreStarts records.now starts.now }
+    ensures { result ≡ straddling records.now name }
+{
+    greatest_straddling(group(records, starts, name.page), name)
+}
+
+/// The greatest version of one of these records that straddles this name, 0 for none.
+#[tactic(auto, using(record_list::proofs::Greatest::greatest_step))]
+fn greatest_straddling(group: &[Found], name: Link) -> u64
+    ensures { result ≡ straddling group.now name }
+{
+    let mut best = 0;
+    for found in group {
+        let rec = found.rec;
+        if rec.page == name.page && straddles(rec, name.version) {
+            best = rec.version.max(best);
+        }
+    }
+    best
+}
+
+/// The same by the least back versions of the records.
+fn straddling_by_minima(records: &[Found], starts: &[u32], least: &[u64], name: Link) -> u64
     requires order { IsInOrder records.now }
     requires starts { AreStarts records.now starts.now }
     requires minima { AreMinima records.now [] least.now }
@@ -30,8 +67,29 @@ pub fn straddling(records: &[Found], starts: &[u32], least: &[u64], name: Link) 
 }
 
 /// The greatest version, up to the bound of its page, of a record that straddles this name, 0 for none,
-/// by the least back versions of the records up to their bounds.
+/// by the least back versions of the records up to their bounds, where they are noted.
 pub fn straddling_up_to_bound(
+    records: &[Found],
+    starts: &[u32],
+    tops: &[u64],
+    least: &Option<Vec<u64>>,
+    name: Link,
+) -> u64
+    requires order { IsInOrder records.now }
+    requires starts { AreStarts records.now starts.now }
+    requires minima { IfSome least.now (λ m. AreMinima records.now tops.now m.items) }
+    requires bound { name.page < length tops.now }
+    ensures { result
+        ≡ greatest (straddling_upto (slice_index_or tops.now name.page 0) name) records.now }
+{
+    match least {
+        Some(least) => straddling_by_bounds(records, starts, tops, least, name),
+        None => straddling_up_to(records, starts, name, tops[name.page as usize]),
+    }
+}
+
+/// The same by the least back versions of the records up to their bounds.
+fn straddling_by_bounds(
     records: &[Found],
     starts: &[u32],
     tops: &[u64],

@@ -6,7 +6,7 @@ ghost use Rattle.record_list.specs.Verdict.{link_of, back_of};
 ghost use Rattle.record_chart.specs.Charts.{is_below, IsInOrder, Sorts, SortsByLink, last_version};
 ghost use Rattle.record_chart.specs.Starts.{AreStarts};
 
-use crate::search::{is_below_before, names_below, pages_below, pages_up_to};
+use crate::search::{is_below_before, names_below, names_below_near, pages_below, pages_up_to};
 use record_list::Found;
 use std::alloc::AllocError;
 use tx_types::{Link, Rec};
@@ -35,6 +35,17 @@ pub fn find(records: &[Found], starts: &[u32], name: Link) -> Option<u32>
     requires few { length records.now < 2 ^ 32 }
     ensures { result ≡ position (λ f. has_name name f.rec) records.now }
 {
+    find_near(records, starts, name, &mut 0)
+}
+
+/// The same, where a search may well end beside the place at which the last one ended.
+#[inline]
+pub fn find_near(records: &[Found], starts: &[u32], name: Link, near: &mut usize) -> Option<u32>
+    requires order { IsInOrder records.now }
+    requires starts { AreStarts records.now starts.now }
+    requires few { length records.now < 2 ^ 32 }
+    ensures { result ≡ position (λ f. has_name name f.rec) records.now }
+{
     let at = pages_below(records, starts, name.page);
     if at == records.len() {
         return None;
@@ -45,19 +56,20 @@ pub fn find(records: &[Found], starts: &[u32], name: Link) -> Option<u32>
     } else if rec.version == name.version {
         Some(at as u32)
     } else {
-        find_by_search(records, starts, name)
+        find_by_search(records, starts, name, near)
     }
 }
 
 /// The same by a search among the records of the page.
 #[inline(never)]
-fn find_by_search(records: &[Found], starts: &[u32], name: Link) -> Option<u32>
+fn find_by_search(records: &[Found], starts: &[u32], name: Link, near: &mut usize) -> Option<u32>
     requires order { IsInOrder records.now }
     requires starts { AreStarts records.now starts.now }
     requires few { length records.now < 2 ^ 32 }
     ensures { result ≡ position (λ f. has_name name f.rec) records.now }
 {
-    let at = names_below(records, starts, name);
+    let at = names_below_near(records, starts, name, *near);
+    *near = at;
     if at < records.len() && has_name(&records[at].rec, name) {
         Some(at as u32)
     } else {
@@ -160,7 +172,7 @@ pub fn next_older(records: &[Found], starts: &[u32], page: u32, below: u64) -> u
 
 /// Whether a record has this name.
 #[inline(always)]
-fn has_name(rec: &Rec, name: Link) -> bool
+pub fn has_name(rec: &Rec, name: Link) -> bool
     ensures { result ≡ has_name name rec.now }
 {
     rec.page == name.page && rec.version == name.version

@@ -2,6 +2,7 @@
 //! has at most one next.
 #![tactic(auto)]
 
+mod arrange;
 mod chart;
 mod count_law;
 #[cfg(test)]
@@ -13,6 +14,7 @@ mod minima;
 mod orbit;
 mod orbits;
 mod path_end;
+mod places;
 mod search;
 mod seen;
 mod standing;

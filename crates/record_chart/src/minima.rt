@@ -1,5 +1,5 @@
 //! Least back versions, by which the records that straddle a version are found.
-ghost use Rattle.std.specs.Prelude.{◌≡◌, ℕ, ◌+◌, ◌<◌, ◌≤◌, IfOk, length, slice_set, slice_index_or};
+ghost use Rattle.std.specs.Prelude.{◌≡◌, ℕ, ◌+◌, ◌<◌, ◌≤◌, IfOk, IfSome, length, slice_set, slice_index_or};
 ghost use Rattle.std.specs.List.Sorted.{IsPartitionPoint};
 ghost use Rattle.record_chart.specs.Charts.{IsInOrder};
 ghost use Rattle.record_chart.specs.Minima.{counts, AreMinima, least_from, last_above};
@@ -8,9 +8,40 @@ use record_list::Found;
 use std::alloc::{AllocError, Global};
 use tx_types::Rec;
 
+/// A page with more records than this has their least back versions noted: those of fewer are looked at.
+const FEW: u32 = 16;
+
+/// The least back versions of the records, as `minima` gives them, if some page has many records.
+pub fn minima_of_many(
+    alloc: Global,
+    records: &[Found],
+    starts: &[u32],
+    tops: &[u64],
+) -> Result<Option<Vec<u64>>, AllocError>
+    requires { IsInOrder records.now }
+    ensures { IfOk result (λ r. IfSome r (λ least. AreMinima records.now tops.now least.items)) }
+{
+    if !has_many(records.len(), starts) {
+        return Ok(None);
+    }
+    Ok(Some(minima(alloc, records, tops)?))
+}
+
+/// Whether more than a few of so many records stand from one of these starts to the next.
+fn has_many(count: usize, starts: &[u32]) -> bool {
+    let mut before = 0;
+    for start in starts {
+        if start.saturating_sub(before) > FEW {
+            return true;
+        }
+        before = *start;
+    }
+    count.saturating_sub(before as usize) > FEW as usize
+}
+
 /// For each record the least back version of the records of its page from it on. Those count whose
 /// version is up to the bound of their page; a page beyond the bounds has none.
-pub fn minima(alloc: Global, records: &[Found], tops: &[u64]) -> Result<Vec<u64>, AllocError>
+fn minima(alloc: Global, records: &[Found], tops: &[u64]) -> Result<Vec<u64>, AllocError>
     requires { IsInOrder records.now }
     ensures { IfOk result (λ least. AreMinima records.now tops.now least.items) }
 {

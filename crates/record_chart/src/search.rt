@@ -58,7 +58,7 @@ pub fn pages_below(records: &[Found], starts: &[u32], page: u32) -> usize
     }
 }
 
-/// The same by a search among all.
+/// The same where the start of the page is not known: by a search among all, if it is not behind them.
 #[cold]
 #[inline(never)]
 fn pages_below_beyond(records: &[Found], page: u32) -> usize
@@ -69,7 +69,11 @@ fn pages_below_beyond(records: &[Found], page: u32) -> usize
         (λ f. is_below (name_of f.rec) record { page = page; version = 0 } ≡ false)
         records.now result }
 {
-    count_below(records, Link { page, version: 0 })
+    let name = Link { page, version: 0 };
+    if is_below_before(records, name, records.len()) {
+        return records.len();
+    }
+    count_below(records, name)
 }
 
 /// How many of the records are of pages up to this one: they are the first.
@@ -97,7 +101,39 @@ pub fn names_below(records: &[Found], starts: &[u32], name: Link) -> usize
 {
     let from = pages_below(records, starts, name.page);
     let to = pages_up_to(records, starts, name.page);
+    if is_below_before(records, name, to) {
+        return to;
+    }
     from + count_below(&records[from..to], name)
+}
+
+/// The same, where it may well be this number or one more.
+pub fn names_below_near(records: &[Found], starts: &[u32], name: Link, near: usize) -> usize
+    requires order { IsInOrder records.now }
+    requires starts { AreStarts records.now starts.now }
+    ensures within { result ≤ length records.now }
+    ensures first { IsPartitionPoint (λ f. is_below (name_of f.rec) name ≡ true)
+        (λ f. is_below (name_of f.rec) name ≡ false) records.now result }
+{
+    for count in [near, near.saturating_add(1)] {
+        if are_names_below(records, name, count) {
+            return count;
+        }
+    }
+    names_below(records, starts, name)
+}
+
+/// Whether the records that have names below this one are so many.
+#[inline(always)]
+fn are_names_below(records: &[Found], name: Link, count: usize) -> bool
+    requires order { IsInOrder records.now }
+    ensures within { result ≡ true → count ≤ length records.now }
+    ensures first { result ≡ true → IsPartitionPoint (λ f. is_below (name_of f.rec) name ≡ true)
+        (λ f. is_below (name_of f.rec) name ≡ false) records.now count }
+{
+    count <= records.len()
+        && is_below_before(records, name, count)
+        && (count == records.len() || !is_below(&records[count], name))
 }
 
 /// Whether the name of the record before this place, if there is one, is below this one.
@@ -113,7 +149,7 @@ pub fn is_below_before(records: &[Found], name: Link, at: usize) -> bool
 
 /// Whether a record's name is below this one.
 #[inline(always)]
-fn is_below(found: &Found, name: Link) -> bool
+pub fn is_below(found: &Found, name: Link) -> bool
     ensures { result ≡ is_below (name_of found.now.rec) name }
 {
     let rec = found.rec;

@@ -5,7 +5,6 @@ ghost use Rattle.record_list.specs.Current.{cur, responsible, is_loose, straddli
 ghost use Rattle.record_chart.specs.Standings.{Judged};
 
 use crate::Chart;
-use crate::minima::minima;
 use std::alloc::{AllocError, Global};
 use std::marker::Model;
 use tx_types::{Link, Protocol, Rec};
@@ -18,7 +17,7 @@ pub struct Standing {
     protocol: Protocol,
     logical: u32,
     current: Vec<u64>,
-    settled: Vec<u64>,
+    settled: Option<Vec<u64>>,
 }
 
 impl Model for Standing {
@@ -44,7 +43,7 @@ impl Standing {
         ensures { IfOk result (λ s. s ≡ record { protocol = protocol; logical = logical; list = chart }) }
     {
         let current = current_versions(alloc, &chart, protocol, logical)?;
-        let settled = minima(alloc, chart.records(), &current)?;
+        let settled = chart.minima_up_to(alloc, &current)?;
         Ok(Standing {
             chart,
             protocol,

@@ -1,3 +1,4 @@
+use crate::places::places_by_name;
 use crate::{Chart, Orbit, Orbits, Standing};
 use record_list::{Found, Why};
 use std::process::Abort;
@@ -42,6 +43,30 @@ fn orbits_of_a_graph(rt: HostRuntime) {
 }
 
 #[test]
+fn records_out_of_order(rt: HostRuntime) {
+    // one record in two slots, three versions of a page, and once a page far behind the others
+    let own = |slot, page, version| found(slot, (page, version), (page, version), 0);
+    let near = [
+        own(0, 2, 3),
+        own(1, 0, 1),
+        own(2, 2, 1),
+        own(3, 1, 5),
+        own(4, 2, 3),
+        own(5, 2, 2),
+    ];
+    let mut far = near;
+    far[1] = own(1, 4_000_000_000, 1);
+    let places = places_by_name(rt.alloc(), &near).expect(&rt, "memory");
+    assert_eq!(rt; places.as_slice(), [1, 3, 2, 5, 0, 4].as_slice());
+    for (list, slots) in [(near, [1, 3, 2, 5, 0, 4]), (far, [3, 2, 5, 0, 4, 1])] {
+        let chart = Chart::of(rt.alloc(), &list).expect(&rt, "memory");
+        for (found, slot) in chart.records().iter().zip(slots) {
+            assert_eq!(rt; found.slot, Slot(slot));
+        }
+    }
+}
+
+#[test]
 fn chart_of_a_few_records(rt: HostRuntime) {
     // pages 0 and 1 stand in one cycle; page 2 links to an aborted version of page 1, which is straddled
     let list = [
@@ -50,8 +75,7 @@ fn chart_of_a_few_records(rt: HostRuntime) {
         found(2, (0, 2), (1, 4), 0),
         found(3, (1, 1), (1, 1), 0),
     ];
-    let records = Vec::from_array(rt.alloc(), list).expect(&rt, "memory");
-    let chart = Chart::new(rt.alloc(), records).expect(&rt, "memory");
+    let chart = Chart::of(rt.alloc(), &list).expect(&rt, "memory");
     assert_eq!(rt; chart.records().first().copied(), Some(list[2]));
     assert_eq!(rt; chart.newest(1), 4);
     assert_eq!(rt; chart.next_older(1, 4), 1);
@@ -103,9 +127,7 @@ fn standings_of_a_few_records(rt: HostRuntime) {
         ),
         (loose.as_slice(), Protocol::Bpcc, [2, 0, 0], link(0, 1), 0),
     ] {
-        let mut records = Vec::new(rt.alloc());
-        records.extend_from_slice(list).expect(&rt, "memory");
-        let chart = Chart::new(rt.alloc(), records).expect(&rt, "memory");
+        let chart = Chart::of(rt.alloc(), list).expect(&rt, "memory");
         let standing = Standing::new(rt.alloc(), chart, protocol, 5).expect(&rt, "memory");
         for (page, version) in current.iter().enumerate() {
             assert_eq!(rt; standing.current(page as u32), *version, "page {page}");

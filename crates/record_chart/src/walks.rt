@@ -1,5 +1,6 @@
 //! Where the walks along the links of newest records lead, in records that are in order of their names.
-ghost use Rattle.std.specs.Prelude.{◌≡◌, ◌<◌, ◌^◌, [], IfOk, length, map};
+ghost use Rattle.std.specs.Prelude.{◌≡◌, ◌<◌, ◌^◌, [], IfOk, IfSome, length, map, position};
+ghost use Rattle.record_list.specs.Records.{has_name, record_at};
 ghost use Rattle.record_list.specs.Verdict.{passed};
 ghost use Rattle.record_chart.specs.Minima.{AreMinima};
 ghost use Rattle.record_chart.specs.Charts.{IsInOrder, EndsBelow, newest_target, ending, shown};
@@ -8,7 +9,7 @@ ghost use Rattle.record_chart.specs.Starts.{AreStarts};
 
 use crate::Orbit;
 use crate::group::straddling;
-use crate::in_order::{find, newest};
+use crate::in_order::{find_near, first_namesake, has_name, newest};
 use record_list::{Found, Why};
 use std::alloc::{AllocError, Global};
 use tx_types::{Link, Protocol};
@@ -24,10 +25,29 @@ pub fn targets(
     requires few { length records.now < 2 ^ 32 }
     ensures { IfOk result (λ targets. targets.items ≡ name_graph records.now) }
 {
-    records
-        .iter()
-        .map(|found| find(records, starts, found.rec.next))
-        .collect(alloc)
+    let mut targets = Vec::with_capacity(alloc, records.len())?;
+    let mut near = 0;
+    for at in 0..records.len() {
+        targets.push(target(records, starts, at as u32, &mut near))?;
+    }
+    Ok(targets)
+}
+
+/// The place of the first record that the link of the one at this place names.
+#[inline(always)]
+fn target(records: &[Found], starts: &[u32], at: u32, near: &mut usize) -> Option<u32>
+    requires order { IsInOrder records.now }
+    requires starts { AreStarts records.now starts.now }
+    requires few { length records.now < 2 ^ 32 }
+    requires within { at < length records.now }
+    ensures { result ≡ position (λ g. has_name (record_at records.now at).next g.rec) records.now }
+{
+    let rec = &records[at as usize].rec;
+    if has_name(rec, rec.next) {
+        Some(first_namesake(records, starts, at))
+    } else {
+        find_near(records, starts, rec.next, near)
+    }
 }
 
 /// For each record the place to which its link leads, by the place that it names: this, where it is that of
@@ -68,13 +88,13 @@ pub fn shown(
     protocol: Protocol,
     records: &[Found],
     starts: &[u32],
-    least: &[u64],
+    least: &Option<Vec<u64>>,
     logical: u32,
     orbit: Orbit,
 ) -> Why
     requires order { IsInOrder records.now }
     requires starts { AreStarts records.now starts.now }
-    requires minima { AreMinima records.now [] least.now }
+    requires minima { IfSome least.now (λ m. AreMinima records.now [] m.items) }
     requires within { EndsBelow (length records.now) orbit }
     ensures { result ≡ shown protocol records.now logical orbit }
 {
@@ -94,10 +114,16 @@ pub fn shown(
 }
 
 /// What a link shows at which a walk ends, if it is not that to its start.
-fn ending(protocol: Protocol, records: &[Found], starts: &[u32], least: &[u64], link: Link) -> Why
+fn ending(
+    protocol: Protocol,
+    records: &[Found],
+    starts: &[u32],
+    least: &Option<Vec<u64>>,
+    link: Link,
+) -> Why
     requires order { IsInOrder records.now }
     requires starts { AreStarts records.now starts.now }
-    requires minima { AreMinima records.now [] least.now }
+    requires minima { IfSome least.now (λ m. AreMinima records.now [] m.items) }
     ensures { result ≡ ending protocol records.now link }
 {
     if link.version < newest(records, starts, link.page) {
@@ -108,10 +134,16 @@ fn ending(protocol: Protocol, records: &[Found], starts: &[u32], least: &[u64], 
 }
 
 /// What a link shows that leads below the newest version of its page.
-fn passed(protocol: Protocol, records: &[Found], starts: &[u32], least: &[u64], link: Link) -> Why
+fn passed(
+    protocol: Protocol,
+    records: &[Found],
+    starts: &[u32],
+    least: &Option<Vec<u64>>,
+    link: Link,
+) -> Why
     requires order { IsInOrder records.now }
     requires starts { AreStarts records.now starts.now }
-    requires minima { AreMinima records.now [] least.now }
+    requires minima { IfSome least.now (λ m. AreMinima records.now [] m.items) }
     ensures { result ≡ passed protocol records.now link }
 {
     match protocol {

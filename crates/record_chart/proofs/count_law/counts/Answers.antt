@@ -18,8 +18,8 @@ returns-in-None c =
     miscounts_alike c.args.list.now c.args.chart.now c.requires.sorts c.requires.copies c.requires.scanned None
     (subst (FindsFirst (KeepsCount c.args.chart.now) c.args.list.now) c.in-None.is c.first_miscount.ensures)
 
-pub returns : goal.returns
-returns c =
+pub returns-in-Some : goal.returns-in-Some
+returns-in-Some c =
     rw c.breach_at.ensures (miscount_at c.args.list.now c.in-Some.at c.requires.scanned
     (miscounts_alike c.args.list.now c.args.chart.now c.requires.sorts c.requires.copies c.requires.scanned (Some c.in-Some.at)
     (subst (FindsFirst (KeepsCount c.args.chart.now) c.args.list.now) c.in-Some.is c.first_miscount.ensures)))
