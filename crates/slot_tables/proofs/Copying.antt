@@ -149,6 +149,21 @@ module _ (uses : List SlotUse) (at : ℕ) (low : at < length uses) (to : SlotUse
       ∙ filter_took (λ s. holds x (use_at (set uses at to) s)) (λ s. holds x (use_at uses s)) at (length uses - at - 1) (length uses)
       (λ k other. sym (elsewhere x k other)) whole (here x ∙ off) on
 
+  -- those with it and without it
+  pub copies_split : (x : ℕ) → holds x (use_at uses at) ≡ true → holds x to ≡ false
+      → (front : List ℕ) × (back : List ℕ) × (copies_of uses x ≡ front ++ at ∷ back) × (copies_of (set uses at to) x ≡ front ++ back)
+  unfolding copies_of
+  copies_split x on off =
+      let p = λ (s : ℕ). holds x (use_at (set uses at to) s) in
+      let q = λ (s : ℕ). holds x (use_at uses s) in
+      let m = length uses - at - 1 in (
+        filter p (range_with_len 0 at),
+        filter p (range_with_len (at + 1) m),
+        with_is p q at m (length uses) (λ k other. sym (elsewhere x k other)) whole (here x ∙ off) on,
+        ap (λ n. filter p (range_with_len 0 n)) (length-set uses at to)
+            ∙ without_is p q at m (length uses) (λ k other. sym (elsewhere x k other)) whole (here x ∙ off) on,
+      )
+
   -- the copies of the others stay
   pub copies_stay : (x : ℕ) → holds x to ≡ holds x (use_at uses at) → copies_of (set uses at to) x ≡ copies_of uses x
   unfolding copies_of

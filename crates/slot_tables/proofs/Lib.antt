@@ -5,6 +5,7 @@ pub mod Answering
 pub mod Rising
 pub mod Listed
 pub mod Copying
+pub mod Leaving
 pub mod Held
 pub mod Waiters
 pub mod Numbering

@@ -33,7 +33,7 @@ page_lies r page x h has = elim (cases_lt page r.pages) [
 ]
 
 -- a record stands in the list of its page
-pub record_listed : (r : Inside) (number : ℕ) (rec : Rec) → AreNumbered r → record_at r.records.items number ≡ Some rec
+pub record_listed : (r : Inside) (number : ℕ) (rec : Rec) → AreNumbered r → record_at r.records number ≡ Some rec
     → (rec.page < r.pages) × Contains (list_of r.lists rec.page) number
 record_listed r number rec h is =
     let listed = h.versions.listed number rec is in
@@ -42,10 +42,10 @@ record_listed r number rec h is =
 
 -- and what stands there is a record of the page
 pub listed_record : (r : Inside) (page number : ℕ) → AreNumbered r → page < r.pages → Contains (list_of r.lists page) number
-    → (rec : Rec) × (record_at r.records.items number ≡ Some rec) × (rec.page ≡ page)
+    → (rec : Rec) × (record_at r.records number ≡ Some rec) × (rec.page ≡ page)
 listed_record r page number h low has = h.versions.page page number (rw (page_list r page low) has)
 
-pub list_falls : (r : Inside) (page : ℕ) → AreNumbered r → page < r.pages → AllPairs (IsNewer r.records.items) (list_of r.lists page)
+pub list_falls : (r : Inside) (page : ℕ) → AreNumbered r → page < r.pages → AllPairs (IsNewer r.records) (list_of r.lists page)
 list_falls r page h low = rw (page_list r page low) at (h.versions.falls page)
 
 -- the rest of a list keeps the order
@@ -56,7 +56,7 @@ pairs_drop R xs n h i j d less low =
 -- the record that is looked for stands in what is left of the list of its page
 abbrev pub IsAhead : Inside → ℕ → ℕ → Option ℕ → Type 0
 IsAhead r page version next =
-    (number : ℕ) (rec : Rec) → record_at r.records.items number ≡ Some rec → Names page version rec
+    (number : ℕ) (rec : Rec) → record_at r.records number ≡ Some rec → Names page version rec
     → Contains (rest_from (list_of r.lists page) next) number
 
 module _ (r : Inside) (h : AreNumbered r) (page version : ℕ) (low : page < r.pages) where
@@ -66,12 +66,12 @@ module _ (r : Inside) (h : AreNumbered r) (page version : ℕ) (low : page < r.p
       rw (whole, ← names.0) (record_listed r number rec h is).1
 
   -- of two records with one name the numbers are the same
-  pub one_number : (x y : ℕ) (r1 r2 : Rec) → record_at r.records.items x ≡ Some r1 → record_at r.records.items y ≡ Some r2
+  pub one_number : (x y : ℕ) (r1 r2 : Rec) → record_at r.records x ≡ Some r1 → record_at r.records y ≡ Some r2
       → Names page version r1 → Names page version r2 → x ≡ y
   one_number x y r1 r2 is1 is2 n1 n2 =
       let has1 : Contains (list_of r.lists page) x = rw (← n1.0) (record_listed r x r1 h is1).1 in
       let has2 : Contains (list_of r.lists page) y = rw (← n2.0) (record_listed r y r2 h is2).1 in
-      elim (in_order (IsNewer r.records.items) (list_of r.lists page) x y (list_falls r page h low) has1 has2) [
+      elim (in_order (IsNewer r.records) (list_of r.lists page) x y (list_falls r page h low) has1 has2) [
         | inl same ↦ same
         | inr either ↦ elim either [
           | inl newer ↦ absurd (let less = newer r1 r2 is1 is2 in omega (arith, n1.1, n2.1, less))
@@ -79,7 +79,7 @@ module _ (r : Inside) (h : AreNumbered r) (page version : ℕ) (low : page < r.p
         ]
       ]
 
-  module _ (at : ℕ) (here : Rec) (next : Option ℕ) (ahead : IsAhead r page version (Some at)) (is : record_at r.records.items at ≡ Some here)
+  module _ (at : ℕ) (here : Rec) (next : Option ℕ) (ahead : IsAhead r page version (Some at)) (is : record_at r.records at ≡ Some here)
       (order : rest_from (list_of r.lists page) (Some at) ≡ at ∷ rest_from (list_of r.lists page) next) where
     -- past a newer record
     pub ahead_next : version < here.version → IsAhead r page version next
@@ -92,9 +92,9 @@ module _ (r : Inside) (h : AreNumbered r) (page version : ℕ) (low : page < r.p
         ]
 
   -- at an older one it is not there
-  pub none_behind : (at : ℕ) (here : Rec) → IsAhead r page version (Some at) → record_at r.records.items at ≡ Some here
+  pub none_behind : (at : ℕ) (here : Rec) → IsAhead r page version (Some at) → record_at r.records at ≡ Some here
       → Contains (list_of r.lists page) at
-      → here.version < version → (number : ℕ) (rec : Rec) → record_at r.records.items number ≡ Some rec → Names page version rec → ⊥
+      → here.version < version → (number : ℕ) (rec : Rec) → record_at r.records number ≡ Some rec → Names page version rec → ⊥
   none_behind at here ahead is has older number rec rec_is names =
       let xs = list_of r.lists page in
       let starts = rest_starts xs at has in
@@ -102,11 +102,11 @@ module _ (r : Inside) (h : AreNumbered r) (page version : ℕ) (low : page < r.p
         | inl same ↦ (let one : Some here ≡ Some rec = sym is ∙ rw (← same) at rec_is in let equal : here.version ≡ rec.version = ap
             (λ f. f.version) (same_record here rec one) in omega (arith, names.1, equal, older))
         | inr rest ↦ (
-            let falls = pairs_drop (IsNewer r.records.items) xs (index_in xs at) (list_falls r page h low) in
-            let less = pairs_head (IsNewer r.records.items) at (drop (index_in xs at + 1) xs) number (rw starts at falls) rest here rec is rec_is in
+            let falls = pairs_drop (IsNewer r.records) xs (index_in xs at) (list_falls r page h low) in
+            let less = pairs_head (IsNewer r.records) at (drop (index_in xs at + 1) xs) number (rw starts at falls) rest here rec is rec_is in
             omega (arith, names.1, older, less))
       ]
 
   -- at the end it is not there
-  pub none_left : IsAhead r page version None → (number : ℕ) (rec : Rec) → record_at r.records.items number ≡ Some rec → Names page version rec → ⊥
+  pub none_left : IsAhead r page version None → (number : ℕ) (rec : Rec) → record_at r.records number ≡ Some rec → Names page version rec → ⊥
   none_left ahead number rec is names = Contains-nil number (ahead number rec is names)

@@ -1,7 +1,6 @@
 -- The records of each page, after a number gets a record or loses it.
 use Rattle.std.proofs.Common.{◌≡◌, ◌≢◌, ℕ, zero, suc, ◌+◌, ◌<◌, ◌≤◌, ◌⊎◌, ◌↔◌, inl, inr, Option, Some, None, List, [], ◌∷◌, length, get_or, set, take, replicate, refl, sym, ◌∙◌, ap, subst, arith, length-set, length-take}
 use Rattle.std.specs.List.{AllPairs, Contains, remove}
-use Rattle.std.specs.Vec.{with_item}
 use Rattle.std.specs.Option.{IsSomeAnd}
 use Rattle.std.proofs.lemmas.Bool.{cases_eq, cases_lt}
 use Rattle.std.proofs.lemmas.List.{get_or-take, get_or_past, get_or-set_same, get_or-set_other, get_or-replicate, length-replicate, take-set-le, ext_get_or}
@@ -32,19 +31,19 @@ pairs_stay records records' xs same h i j d less low r s r_is s_is =
     (sym (same (get_or xs j d) (Contains-get_or xs j d low)) ∙ s_is)
 
 -- a number gets another record, or none, and stands in the list of that one alone
-module _ (r : Inside) (h : AreNumbered r) (number : ℕ) (new : Option Rec) (lists : ChainLists) (within : number < length r.records.items)
+module _ (r : Inside) (h : AreNumbered r) (number : ℕ) (new : Option Rec) (lists : ChainLists) (within : number < length r.records)
     (places : lists.places ≡ r.lists.places) (disjoint : AreDisjoint lists) (keys : length lists.lists ≡ r.pages + 1)
     (has : (k y : ℕ) → Contains (list_of lists k) y ↔ (((k ≡ key_of r new) × (y ≡ number)) ⊎ (Contains (list_of r.lists k) y × (y ≢ number))))
     (key_low : (rec : Rec) → new ≡ Some rec → rec.page < r.pages)
-    (falls : (p : ℕ) → p < r.pages → AllPairs (IsNewer (set r.records.items number new)) (list_of lists p)) where
+    (falls : (p : ℕ) → p < r.pages → AllPairs (IsNewer (set r.records number new)) (list_of lists p)) where
   abbrev records : List (Option Rec)
-  records = set r.records.items number new
+  records = set r.records number new
 
   own : record_at records number ≡ new
-  own = get_or-set_same r.records.items number new None within
+  own = get_or-set_same r.records number new None within
 
-  others : (y : ℕ) → y ≢ number → record_at records y ≡ record_at r.records.items y
-  others y other = get_or-set_other r.records.items number y new None other
+  others : (y : ℕ) → y ≢ number → record_at records y ≡ record_at r.records y
+  others y other = get_or-set_other r.records number y new None other
 
   long : length (take r.pages lists.lists) ≡ r.pages
   long = length-take r.pages lists.lists ∙ (omega (arith, keys))
@@ -80,8 +79,8 @@ module _ (r : Inside) (h : AreNumbered r) (number : ℕ) (new : Option Rec) (lis
     where
       forth : Contains (list_of lists r.pages) y → (y < length records) × (record_at records y ≡ None)
       forth is = elim ((has r.pages y).0 is) [
-        | inl both ↦ (rw (length-set r.records.items number new, both.1) within, by new refl both.0 both.1)
-        | inr old ↦ (let free = (h.free y).0 old.0 in (rw (length-set r.records.items number new) free.0, others y old.1 ∙ free.1))
+        | inl both ↦ (rw (length-set r.records number new, both.1) within, by new refl both.0 both.1)
+        | inr old ↦ (let free = (h.free y).0 old.0 in (rw (length-set r.records number new) free.0, others y old.1 ∙ free.1))
       ]
         where
           by : (n : Option Rec) → new ≡ n → r.pages ≡ key_of r new → y ≡ number → record_at records y ≡ None
@@ -91,14 +90,14 @@ module _ (r : Inside) (h : AreNumbered r) (number : ℕ) (new : Option Rec) (lis
       back : (y < length records) × (record_at records y ≡ None) → Contains (list_of lists r.pages) y
       back (low, none) = elim (cases_eq y number) [
         | inl is_own ↦ (let e : new ≡ None = sym own ∙ rw is_own at none in (has r.pages y).1 (inl (rw e refl, is_own)))
-        | inr other ↦ (has r.pages y).1 (inr ((h.free y).1 (rw (length-set r.records.items number new) at low, sym (others y other) ∙ none), other))
+        | inr other ↦ (has r.pages y).1 (inr ((h.free y).1 (rw (length-set r.records number new) at low, sym (others y other) ∙ none), other))
       ]
 
-  pub renumbered : AreNumbered (record r { records = with_item r.records number new; lists = lists })
+  pub renumbered : AreNumbered (record r { records = set r.records number new; lists = lists })
   renumbered = record {
-    small = rw (length-set r.records.items number new) h.small;
+    small = rw (length-set r.records number new) h.small;
     few = h.few;
-    places = places ∙ h.places ∙ sym (length-set r.records.items number new);
+    places = places ∙ h.places ∙ sym (length-set r.records number new);
     keys = keys;
     disjoint = disjoint;
     versions = record {
@@ -126,7 +125,7 @@ take_set (suc n) (x ∷ xs) (suc k) v = ap (λ rest. x ∷ rest) (take_set n xs 
 
 -- a number without a record gets one that is newer than those of its page
 module _ (r : Inside) (h : AreNumbered r) (number : ℕ) (rec : Rec)
-    (free : Contains (list_of r.lists r.pages) number) (low : rec.page < r.pages) (newest : IsNewest r.records.items rec) where
+    (free : Contains (list_of r.lists r.pages) number) (low : rec.page < r.pages) (newest : IsNewest r.records rec) where
   abbrev rest : ChainLists
   rest = without r.lists r.pages number
 
@@ -147,7 +146,7 @@ module _ (r : Inside) (h : AreNumbered r) (number : ℕ) (rec : Rec)
         λ either. elim either [ inl both ↦ first.1 (inl both) | inr both ↦ first.1 (inr (old.1 both)) ],
       )
 
-  none : (number < length r.records.items) × (record_at r.records.items number ≡ None)
+  none : (number < length r.records) × (record_at r.records number ≡ None)
   none = (h.free number).0 free
 
   member_other : (p y : ℕ) → p < r.pages → Contains (list_of r.lists p) y → y ≢ number
@@ -155,8 +154,8 @@ module _ (r : Inside) (h : AreNumbered r) (number : ℕ) (rec : Rec)
       let found = listed_record r p number h p_low (subst (Contains (list_of r.lists p)) e has) in
       (let no : None ≡ Some found.0 = sym none.1 ∙ found.1 in cc)
 
-  entry : (y : ℕ) → y ≢ number → record_at (set r.records.items number (Some rec)) y ≡ record_at r.records.items y
-  entry y other = get_or-set_other r.records.items number y (Some rec) None other
+  entry : (y : ℕ) → y ≢ number → record_at (set r.records number (Some rec)) y ≡ record_at r.records y
+  entry y other = get_or-set_other r.records number y (Some rec) None other
 
   rest_list : (p : ℕ) → p ≢ r.pages → list_of rest p ≡ list_of r.lists p
   rest_list p other = get_or-set_other r.lists.lists r.pages p _ [] other
@@ -166,18 +165,18 @@ module _ (r : Inside) (h : AreNumbered r) (number : ℕ) (rec : Rec)
       get_or-set_same rest.lists rec.page (number ∷ list_of rest rec.page) [] (omega (arith, rest_keys))
       ∙ ap (λ xs. number ∷ xs) (rest_list rec.page apart)
 
-  its_falls : (p : ℕ) → p < r.pages → AllPairs (IsNewer (set r.records.items number (Some rec))) (list_of with_it p)
+  its_falls : (p : ℕ) → p < r.pages → AllPairs (IsNewer (set r.records number (Some rec))) (list_of with_it p)
   its_falls p p_low =
-      let old = pairs_stay r.records.items (set r.records.items number (Some rec)) (list_of r.lists p)
+      let old = pairs_stay r.records (set r.records number (Some rec)) (list_of r.lists p)
       (λ y has. entry y (member_other p y p_low has)) (list_falls r p h p_low) in
       elim (cases_eq p rec.page) [
         | inl here ↦
             rw (here, own_list)
-            (pairs_cons (IsNewer (set r.records.items number (Some rec))) number (list_of r.lists rec.page)
+            (pairs_cons (IsNewer (set r.records number (Some rec))) number (list_of r.lists rec.page)
             (λ y has a s a_is s_is.
             let other = member_other rec.page y low has in
             let found = listed_record r rec.page y h low has in
-            let one = same_record rec a (sym (get_or-set_same r.records.items number (Some rec) None none.0) ∙ a_is) in
+            let one = same_record rec a (sym (get_or-set_same r.records number (Some rec) None none.0) ∙ a_is) in
             let two = same_record found.0 s (sym found.1 ∙ sym (entry y other) ∙ s_is) in
             let newer = newest y s (sym (entry y other) ∙ s_is) (ap (λ f. f.page) (sym two) ∙ found.2) in
             rw (← one) newer)
@@ -187,7 +186,7 @@ module _ (r : Inside) (h : AreNumbered r) (number : ℕ) (rec : Rec)
             rw same old
       ]
 
-  pub numbered : AreDisjoint with_it → AreNumbered (record r { records = with_item r.records number (Some rec); lists = with_it })
+  pub numbered : AreDisjoint with_it → AreNumbered (record r { records = set r.records number (Some rec); lists = with_it })
   numbered its_disjoint = renumbered r h number (Some rec) with_it none.0 refl its_disjoint (length-set rest.lists rec.page _ ∙ rest_keys) has_it
       (λ its e. rw (← same_record rec its e) low) its_falls
 
@@ -199,8 +198,8 @@ module _ (r : Inside) (h : AreNumbered r) (number : ℕ) (rec : Rec)
       ∙ ap (λ xs. set (take r.pages r.lists.lists) rec.page (number ∷ xs)) (rest_list rec.page apart ∙ sym (page_list r rec.page low))
 
 -- a number loses its record
-module _ (r : Inside) (h : AreNumbered r) (number : ℕ) (rec : Rec) (is : record_at r.records.items number ≡ Some rec)
-    (within : number < length r.records.items) where
+module _ (r : Inside) (h : AreNumbered r) (number : ℕ) (rec : Rec) (is : record_at r.records number ≡ Some rec)
+    (within : number < length r.records) where
   abbrev left : ChainLists
   left = without r.lists rec.page number
 
@@ -224,21 +223,21 @@ module _ (r : Inside) (h : AreNumbered r) (number : ℕ) (rec : Rec) (is : recor
   freed_list : (p : ℕ) → p < r.pages → list_of freed p ≡ list_of left p
   freed_list p low = get_or-set_other left.lists r.pages p _ [] (λ e. omega (arith, low))
 
-  left_falls : (p : ℕ) → p < r.pages → AllPairs (IsNewer (set r.records.items number None)) (list_of freed p)
+  left_falls : (p : ℕ) → p < r.pages → AllPairs (IsNewer (set r.records number None)) (list_of freed p)
   left_falls p low =
-      pairs_stay r.records.items (set r.records.items number None) (list_of freed p)
-      (λ y has. get_or-set_other r.records.items number y None None (other y has)) old
+      pairs_stay r.records (set r.records number None) (list_of freed p)
+      (λ y has. get_or-set_other r.records number y None None (other y has)) old
     where
       other : (y : ℕ) → Contains (list_of freed p) y → y ≢ number
       other y has = elim ((has_left p y).0 has) [ inl both ↦ absurd (let at = both.0 in omega (arith, low, at)) | inr both ↦ both.1 ]
 
-      old : AllPairs (IsNewer r.records.items) (list_of freed p)
+      old : AllPairs (IsNewer r.records) (list_of freed p)
       old = rw (freed_list p low) (elim (cases_eq p rec.page) [
         | inl here ↦
             let own = get_or-set_same r.lists.lists rec.page (remove (list_of r.lists rec.page) (index_in
             (list_of r.lists rec.page) number)) [] (omega (arith, h.keys, listed.0)) in
             rw (here, own)
-            (all_pairs_remove (IsNewer r.records.items) (list_of r.lists rec.page) (index_in (list_of r.lists rec.page) number)
+            (all_pairs_remove (IsNewer r.records) (list_of r.lists rec.page) (index_in (list_of r.lists rec.page) number)
             (index_reads (list_of r.lists rec.page) number listed.1).0 (list_falls r rec.page h listed.0))
         | inr apart ↦
             let same = get_or-set_other r.lists.lists rec.page p (remove (list_of r.lists rec.page) (index_in
@@ -246,7 +245,7 @@ module _ (r : Inside) (h : AreNumbered r) (number : ℕ) (rec : Rec) (is : recor
             rw same (list_falls r p h low)
       ])
 
-  pub unnumbered : AreDisjoint freed → AreNumbered (record r { records = with_item r.records number None; lists = freed })
+  pub unnumbered : AreDisjoint freed → AreNumbered (record r { records = set r.records number None; lists = freed })
   unnumbered its_disjoint = renumbered r h number None freed within refl its_disjoint (length-set left.lists r.pages _ ∙ left_keys) has_left
       (λ its e. absurd (cc)) left_falls
 
@@ -258,15 +257,15 @@ module _ (r : Inside) (h : AreNumbered r) (number : ℕ) (rec : Rec) (is : recor
       ∙ take_set r.pages r.lists.lists rec.page _
       ∙ ap (λ xs. set (take r.pages r.lists.lists) rec.page (remove xs (index_in xs number))) (sym (page_list r rec.page listed.0))
 
--- while the first numbers are put into the list of those without a record
-pub record HasFirst (pages count number : ℕ) (c : ChainLists) : Type 0 where
+-- while the last numbers are put into the list of those without a record
+pub record HasLast (pages count number : ℕ) (c : ChainLists) : Type 0 where
   pub places : c.places ≡ count
   pub keys : length c.lists ≡ pages + 1
   pub disjoint : AreDisjoint c
-  pub free : (y : ℕ) → Contains (list_of c pages) y ↔ (y < number)
+  pub free : (y : ℕ) → Contains (list_of c pages) y ↔ ((count ≤ y + number) × (y < count))
   pub others : (k : ℕ) → k ≢ pages → list_of c k ≡ []
 
-pub first_none : (pages count : ℕ) → HasFirst pages count 0 (empty_lists (pages + 1) count)
+pub first_none : (pages count : ℕ) → HasLast pages count 0 (empty_lists (pages + 1) count)
 first_none pages count = record {
   places = refl;
   keys = length-replicate {A = List ℕ} (pages + 1) [];
@@ -275,7 +274,7 @@ first_none pages count = record {
     apart = λ k j y has other. absurd (Contains-nil y (rw (empty k) at has));
     once = λ k i j d less low. absurd (let none = empty k in let no = rw none at low in omega arith);
   };
-  free = λ y. (λ has. absurd (Contains-nil y (rw (empty pages) at has)), λ l. absurd (omega arith));
+  free = λ y. (λ has. absurd (Contains-nil y (rw (empty pages) at has)), λ both. absurd (let low = both.0 in let high = both.1 in omega arith));
   others = λ k other. empty k;
 }
   where
@@ -285,14 +284,14 @@ first_none pages count = record {
       | inr past ↦ get_or_past {X = List ℕ} (replicate (pages + 1) []) k [] (rw (length-replicate {A = List ℕ} (pages + 1) []) past)
     ]
 
-module _ (pages count number : ℕ) (c : ChainLists) (h : HasFirst pages count number c) where
-  pub first_unlisted : IsListed c number → ⊥
+module _ (pages count number at : ℕ) (c : ChainLists) (h : HasLast pages count number c) (place : at + number + 1 ≡ count) where
+  pub first_unlisted : IsListed c at → ⊥
   first_unlisted (k, has) = elim (cases_eq k pages) [
-    | inl here ↦ (let low = (h.free number).0 (rw here at has) in omega (arith, low))
-    | inr other ↦ Contains-nil number (rw (h.others k other) at has)
+    | inl here ↦ (let low = (h.free at).0 (rw here at has) in let least = low.0 in omega arith)
+    | inr other ↦ Contains-nil at (rw (h.others k other) at has)
   ]
 
-  pub first_more : AreDisjoint (with_first c pages number) → HasFirst pages count (number + 1) (with_first c pages number)
+  pub first_more : AreDisjoint (with_first c pages at) → HasLast pages count (number + 1) (with_first c pages at)
   first_more its_disjoint =
       let low : pages < length c.lists = omega (arith, h.keys) in
       record {
@@ -300,19 +299,19 @@ module _ (pages count number : ℕ) (c : ChainLists) (h : HasFirst pages count n
         keys = length-set c.lists pages _ ∙ h.keys;
         disjoint = its_disjoint;
         free = λ y.
-            let either = in_with_first c pages number low pages y in (
+            let either = in_with_first c pages at low pages y in (
               λ has. elim (either.0 has) [
-                | inl both ↦ (let e = both.1 in omega (arith, e))
-                | inr old ↦ (let less = (h.free y).0 old in omega
-                    (arith, less))
+                | inl both ↦ (let e = both.1 in (omega arith, omega arith))
+                | inr old ↦ (let both = (h.free y).0 old in let least = both.0 in let high = both.1 in (omega arith, omega arith))
               ],
-              λ less. elim (cases_eq y number) [ inl e ↦ either.1 (inl (refl, e)) | inr other ↦ either.1 (inr ((h.free y).1 (omega arith))) ],
+              λ both. let least = both.0 in let high = both.1 in
+                  elim (cases_eq y at) [ inl e ↦ either.1 (inl (refl, e)) | inr other ↦ either.1 (inr ((h.free y).1 (omega arith, omega arith))) ],
             );
         others = λ k other. get_or-set_other c.lists pages k _ [] other ∙ h.others k other;
       }
 
 -- then no number has a record
-pub none_numbered : (r : Inside) (count : ℕ) → HasFirst r.pages count count r.lists → r.records.items ≡ replicate count None → count ≤ 65536
+pub none_numbered : (r : Inside) (count : ℕ) → HasLast r.pages count count r.lists → r.records ≡ replicate count None → count ≤ 65536
     → r.pages ≤ 65536 → AreNumbered r
 none_numbered r count h none small few = record {
   small = rw long small;
@@ -325,13 +324,13 @@ none_numbered r count h none small few = record {
     listed = λ y rec is. absurd (let no : None ≡ Some rec = sym (no_record y) ∙ is in cc);
     falls = λ p. rw (no_list p) (λ i j d less low. absurd (omega arith));
   };
-  free = λ y. (λ has. (rw long ((h.free y).0 has), no_record y), λ both. (h.free y).1 (rw long at both.0));
+  free = λ y. (λ has. (rw long ((h.free y).0 has).1, no_record y), λ both. (h.free y).1 (omega arith, rw long at both.0));
 }
   where
-    long : length r.records.items ≡ count
+    long : length r.records ≡ count
     long = rw none (length-replicate {A = Option Rec} count None)
 
-    no_record : (y : ℕ) → record_at r.records.items y ≡ None
+    no_record : (y : ℕ) → record_at r.records y ≡ None
     no_record y = rw none (elim (cases_lt y count) [
       | inl low ↦ get_or-replicate {A = Option Rec} count y None None low
       | inr past ↦ get_or_past {X = Option Rec} (replicate count None) y None (rw (length-replicate {A = Option Rec} count None) past)
@@ -343,7 +342,7 @@ none_numbered r count h none small few = record {
       | inr past ↦ get_or_past (take r.pages r.lists.lists) p [] (let keys = h.keys in rw (length-take r.pages r.lists.lists) (omega arith))
     ]
 
-pub none_pages : (r : Inside) (count : ℕ) → HasFirst r.pages count count r.lists → take r.pages r.lists.lists ≡ replicate r.pages []
+pub none_pages : (r : Inside) (count : ℕ) → HasLast r.pages count count r.lists → take r.pages r.lists.lists ≡ replicate r.pages []
 none_pages r count h =
     ext_get_or [] (take r.pages r.lists.lists) (replicate r.pages []) (long ∙ sym (length-replicate {A = List ℕ} r.pages []))
     (λ p low.

@@ -2,9 +2,9 @@
 use Rattle.std.proofs.Common.{◌≡◌, ◌≢◌, ℕ, ◌+◌, ◌-◌, ◌*◌, ◌/◌, ◌<◌, ◌≤◌, Bool, true, false, inl, inr, List, length, get_or, set, replicate, refl, sym, ◌∙◌, ap, arith, length-set}
 use Rattle.std.specs.List.{range_with_len}
 use Rattle.std.proofs.Math.Bool.{beq}
-use Rattle.std.proofs.Math.Nat.{div-mul-le_self, lt-div-mul-add, lt_of_mul-lt-mul_right}
+use Rattle.std.proofs.Math.Nat.{div-mul-le_self, lt-div-mul-add, lt_of_mul-lt-mul_right, mul-le-mul_right}
 use Rattle.std.proofs.lemmas.Nat.{div-mul-add, div_below, row_fits}
-use Rattle.std.proofs.lemmas.Bool.{cases_eq}
+use Rattle.std.proofs.lemmas.Bool.{cases_eq, cases_lt}
 use Rattle.std.specs.Vec.{with_item}
 use Rattle.std.proofs.lemmas.List.{get_or_read, get_or-set_same, get_or-set_other, get_or-replicate}
 use Rattle.std.proofs.lemmas.List.Sums.{count_by-le-length}
@@ -46,6 +46,13 @@ module _ (marks : List Bool) (size at : ℕ) (mark : Bool) (some : 0 < size) (lo
   marked_there group other =
       count_same (is_marked (set marks at mark)) (is_marked marks) (group * size) size
       (λ k first last. get_or-set_other marks at k mark false (λ e. other (sym (group_of size group at (omega arith) (omega arith)))))
+
+-- where there is a place, a group is small
+pub size_fits : (t : Inside) (at : ℕ) → IsTally t → at < length t.marks.items → t.size ≤ 65536
+size_fits t at h low = elim (cases_lt 0 (length t.counts.items)) [
+  | inl some ↦ let one : 1 * t.size ≤ length t.counts.items * t.size = mul-le-mul_right t.size some in omega (arith, h.groups, h.small)
+  | inr none ↦ absurd (let zero : length t.counts.items ≡ 0 = omega arith in let e = rw zero at h.groups in omega (arith, e))
+]
 
 -- where all marks are the same
 module _ (groups size group : ℕ) (mark : Bool) (low : group < groups) where

@@ -1,17 +1,17 @@
 -- How many slots of each block are not needed, after a change.
-use Rattle.std.proofs.Common.{◌≡◌, ◌≢◌, ℕ, ◌+◌, ◌-◌, ◌*◌, ◌/◌, ◌<◌, ◌≤◌, Bool, true, false, eqb, inl, inr, Some, None, List, length, get_or, set, replicate, refl, sym, ◌∙◌, ap, arith, length-set}
+use Rattle.std.proofs.Common.{◌≡◌, ◌≢◌, ℕ, ◌+◌, ◌-◌, ◌*◌, ◌/◌, ◌<◌, ◌≤◌, Bool, true, false, eqb, inl, inr, Some, None, List, length, get_or, set, refl, sym, ◌∙◌, ap, arith, length-set}
 use Rattle.std.specs.Option.{option_map}
 use Rattle.std.proofs.lemmas.Nat.{div_below, row_fits}
 use Rattle.std.proofs.lemmas.Bool.{cases_eq}
 use Rattle.std.proofs.lemmas.Bool.Decides.{nat_tests}
-use Rattle.std.proofs.lemmas.List.{get_or-set_same, get_or-set_other, length-replicate}
+use Rattle.std.proofs.lemmas.List.{get_or-set_same, get_or-set_other}
 use Rattle.std.proofs.lemmas.List.FromFn.{fill_by_all, get_or-map-range_with_len}
 use Rattle.tx_types.specs.declared.config.Block.{Block}
 use Rattle.record_list.specs.Written.{is_slot}
 use Rattle.slot_tables.specs.declared.needs.Needs.TheInside.{Inside}
 use Rattle.slot_tables.specs.Counts.{Marks, marked_in, unmarked_in}
 use Rattle.slot_tables.specs.NeededSlots.{needed_of, AreNeeds}
-use Rattle.slot_tables.proofs.Tallying.{marked_there, marked_none}
+use Rattle.slot_tables.proofs.Tallying.{marked_there}
 
 -- the number of a block
 pub number_read : (n : Inside) (block : ℕ) → AreNeeds n → block < length n.unneeded → get_or n.unneeded block 0 ≡ unmarked_in (needed_of n) block
@@ -117,21 +117,18 @@ next_spare n block old number h low is counted =
       | inr apart ↦ get_or-set_other n.unneeded old.0 k number 0 apart ∙ number_read n k h lies ∙ rw (is, other_block old.0 k apart) refl
     ])
 
--- at first no slot is needed
-pub first_numbers : (n : Inside) (blocks : ℕ) → n.needed ≡ record { marks = replicate (blocks * n.size) false; size = n.size } → n.spare ≡ None
-    → 0 < n.size → blocks * n.size ≤ 65536 → length n.unneeded ≡ blocks → ((k : ℕ) → k < blocks → get_or n.unneeded k 0 ≡ n.size)
+-- at first there is no spare
+pub first_numbers : (n : Inside) (blocks : ℕ) → n.needed.size ≡ n.size → n.spare ≡ None → 0 < n.size → length n.needed.marks ≡ blocks * n.size
+    → length n.needed.marks ≤ 65536 → length n.unneeded ≡ blocks
+    → ((k : ℕ) → k < blocks → get_or n.unneeded k 0 ≡ n.size - marked_in n.needed.marks n.size k)
     → AreNeeds n
-first_numbers n blocks marks none positive small long numbers = record {
-  size = ap (λ m. m.size) marks;
+first_numbers n blocks size none positive slots small long numbers = record {
+  size = size;
   positive = positive;
-  slots = ap (λ m. length m.marks) marks ∙ length-replicate {A = Bool} (blocks * n.size) false ∙ ap (λ k. k * n.size) (sym long);
-  small = rw (ap (λ m. length m.marks) marks ∙ length-replicate {A = Bool} (blocks * n.size) false) small;
+  slots = slots ∙ ap (λ k. k * n.size) (sym long);
+  small = small;
   spare = rw none tt;
   unneeded =
       fill_by_all (unmarked_in (needed_of n)) n.unneeded (length n.unneeded) 0 refl
-      (λ k within.
-      let lies : k < blocks = rw long at within in
-      let count = marked_none blocks n.size k lies in
-      let all : marked_in n.needed.marks n.size k ≡ 0 = rw marks count in
-      numbers k lies ∙ rw (none, all) (omega arith));
+      (λ k within. let lies : k < blocks = rw long at within in numbers k lies ∙ rw none refl);
 }

@@ -1,9 +1,9 @@
 -- What the tables are given.
-use Rattle.std.specs.Prelude.{◌≡◌, ◌≢◌, ◌<◌, ℕ, ◌==◌, ◌⊎◌, Bool, true, false, Option, Some, None, List, length, slice_set, if◌then◌else◌}
+use Rattle.std.specs.Prelude.{◌≡◌, ◌≢◌, ℕ, ◌==◌, ◌⊎◌, Bool, true, false, Option, Some, None, List, length, slice_set, if◌then◌else◌}
 use Rattle.std.specs.Option.{option_map, option_and_then}
 use Rattle.slot_tables.specs.declared.given.Given.{Given}
 use Rattle.slot_tables.specs.declared.slots.SlotUse.TheVariants.{Holds}
-use Rattle.slot_tables.specs.Kept.{Kept, IsKept, home_in, home, use_at, slots_in, is_needed}
+use Rattle.slot_tables.specs.Kept.{Kept, IsKept, home_in, home, use_at, slots_in, is_needed, is_wanted}
 use Rattle.slot_tables.specs.Counts.{Needed, is_marked}
 use Rattle.std.specs.List.{Contains}
 
@@ -30,11 +30,14 @@ abbrev pub settled : Kept → List Bool → Option ℕ → List Bool
 settled k needed None = needed
 settled k needed (Some at) = slice_set needed at (is_needed k at)
 
--- the marks of the slots up to this one are said anew, and nothing else is
-pub record AreSettled (k : Kept) (upto : ℕ) (old new : Needed) : Type 0 where
-  pub rest : new ≡ record old { needed = new.needed }
-  pub slots : length new.needed ≡ length old.needed
-  pub right : (at : ℕ) → at < upto → is_marked new.needed at ≡ is_needed k at
+-- with that of one slot set, if there is one
+abbrev pub marked : List Bool → Option ℕ → List Bool
+marked marks None = marks
+marked marks (Some at) = slice_set marks at true
+
+-- with that of the home of a record, where it is wanted
+abbrev pub home_marked : Kept → List Bool → ℕ → List Bool
+home_marked k marks number = if is_wanted k number then marked marks (home k number) else marks
 
 abbrev pub is_same_slot : Option ℕ → Option ℕ → Bool
 is_same_slot None None = true

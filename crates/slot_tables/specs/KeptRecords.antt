@@ -7,15 +7,15 @@ use Rattle.slot_tables.specs.Kept.{record_at, AreVersions}
 use Rattle.slot_tables.specs.Versions.{Numbered}
 
 abbrev pub numbered_of : Inside → Numbered
-numbered_of r = record { records = r.records.items; pages = take r.pages r.lists.lists }
+numbered_of r = record { records = r.records; pages = take r.pages r.lists.lists }
 
 -- behind the lists of the pages is that of the numbers that have no record
 pub record AreNumbered (r : Inside) : Type 0 where
-  pub small : length r.records.items ≤ 65536
+  pub small : length r.records ≤ 65536
   pub few : r.pages ≤ 65536
-  pub places : r.lists.places ≡ length r.records.items
+  pub places : r.lists.places ≡ length r.records
   pub keys : length r.lists.lists ≡ r.pages + 1
   pub disjoint : AreDisjoint r.lists
-  pub versions : AreVersions r.records.items (take r.pages r.lists.lists)
+  pub versions : AreVersions r.records (take r.pages r.lists.lists)
   pub free : (number : ℕ) → Contains (list_of r.lists r.pages) number ↔
-      ((number < length r.records.items) × (record_at r.records.items number ≡ None))
+      ((number < length r.records) × (record_at r.records number ≡ None))

@@ -3,7 +3,7 @@ ghost use Rattle.tx_types.specs.Config.{slots_of, blocks_of};
 ghost use Rattle.tx_types.specs.declared.record.Rec.{Rec};
 ghost use Rattle.slot_tables.specs.Kept.{record_at, added, given_up, IsNewest, copies_of};
 ghost use Rattle.slot_tables.specs.Versions.{HasFree};
-ghost use Rattle.slot_tables.specs.Copies.{NumbersBelow};
+ghost use Rattle.slot_tables.specs.Copies.{HoldsNone, NumbersBelow};
 
 use crate::Tables;
 use crate::slots::{SlotUse, is_blank, number_in};
@@ -36,6 +36,33 @@ impl Tables {
 
     /// Says what a slot holds. Where it is a record this goes through its copies below the slot.
     pub fn set_slot(&mut self, at: Slot, to: SlotUse)
+        requires slot { at.0 < slots_of self.old.shape }
+        requires number { NumbersBelow (slots_of self.old.shape) to }
+        ensures { self.new ≡ record self.old { slots = slice_set self.old.slots at.0 to } }
+    {
+        match to {
+            SlotUse::Blank | SlotUse::Damaged => self.empty_slot(at, to),
+            SlotUse::Holds(_) => self.fill_slot(at, to),
+        }
+    }
+
+    /// Says that a slot holds no record. Where it was needed, another slot is now in its place.
+    fn empty_slot(&mut self, at: Slot, to: SlotUse)
+        requires slot { at.0 < slots_of self.old.shape }
+        requires none { HoldsNone to }
+        ensures { self.new ≡ record self.old { slots = slice_set self.old.slots at.0 to } }
+    {
+        let left = number_in(self.given.slots.get(at.0));
+        self.given.slots.set(at.0, to);
+        let blank = is_blank(to);
+        self.blanks.set(at.0, blank);
+        if self.needs.is_needed(at.0) {
+            self.given.move_need(&mut self.needs, at.0, left);
+        }
+    }
+
+    /// Says what a slot holds, and looks at the homes of the record that leaves it and of the one that comes.
+    fn fill_slot(&mut self, at: Slot, to: SlotUse)
         requires slot { at.0 < slots_of self.old.shape }
         requires number { NumbersBelow (slots_of self.old.shape) to }
         ensures { self.new ≡ record self.old { slots = slice_set self.old.slots at.0 to } }

@@ -140,8 +140,9 @@ impl Filling {
         ensures { IfOk result (λ t. t ≡ self) }
     {
         let shape = self.given.shape;
-        let mut needs = Needs::new(alloc, shape.blocks(), shape.pages_per_block)?;
-        self.given.settle_all(&mut needs);
+        let mut marks = Tally::new(alloc, shape.blocks(), shape.pages_per_block, false)?;
+        self.given.mark_needed(&mut marks);
+        let needs = Needs::new(alloc, shape.blocks(), marks)?;
         Ok(Tables {
             given: self.given,
             blanks: self.blanks,

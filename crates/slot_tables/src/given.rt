@@ -1,17 +1,19 @@
-ghost use Rattle.std.specs.Prelude.{◌≡◌, ℕ, ◌<◌, ◌↔◌, length, slice_index, Some, IfSome, IsSomeAnd};
+ghost use Rattle.std.specs.Prelude.{◌≡◌, ℕ, ◌<◌, ◌↔◌, length, slice_index, slice_set, Some, false, IfSome, IsSomeAnd};
 ghost use Rattle.std.specs.Option.{option_map, option_and_then};
 ghost use Rattle.tx_types.specs.Config.{blocks_of};
 ghost use Rattle.tx_types.specs.declared.record.Rec.{Rec};
 ghost use Rattle.record_list.specs.Written.{is_slot};
 ghost use Rattle.slot_tables.specs.Kept.{home, home_in, is_wanted, is_needed, first_below, links_below, record_at};
 ghost use Rattle.slot_tables.specs.Versions.{Names};
-ghost use Rattle.slot_tables.specs.Given.{kept_of, settled, is_same_slot, moved_settled, IsSized, AreSettled, IsSettledFrom};
+ghost use Rattle.slot_tables.specs.Given.{kept_of, settled, is_same_slot, marked, home_marked, moved_settled, IsSized, IsSettledFrom};
+ghost use Rattle.slot_tables.specs.Counts.{is_marked};
 
 use crate::answers::Answers;
 use crate::current::Current;
 use crate::needs::Needs;
 use crate::records::Records;
 use crate::slots::{Slots, number_in};
+use crate::tally::Tally;
 use crate::waits::Waits;
 use tx_types::{Block, Shape};
 
@@ -125,6 +127,7 @@ impl Given {
     }
 
     /// Says anew whether the home of the record of a number is needed.
+    #[inline(always)]
     pub fn settle_home(&self, needs: &mut Needs, number: Option<u32>)
         requires sized { IsSized self.now }
         requires number { IfSome number (λ number. number < length self.now.slots) }
@@ -133,12 +136,23 @@ impl Given {
             needs.new ≡ record needs.old { needed = settled (kept_of self.now) needs.old.needed at } }
     {
         if let Some(number) = number {
-            self.settle_wanted(needs, number, self.home_of(Some(number)));
+            self.settle_number(needs, number);
         }
     }
 
-    /// Says anew of the home of the record of a number, if it has one, whether it is needed: where the record is
-    /// wanted.
+    /// Says anew of the home of the record of a number, if it has one, whether it is needed.
+    fn settle_number(&self, needs: &mut Needs, number: u32)
+        requires sized { IsSized self.now }
+        requires number { number < length self.now.slots }
+        requires needs { length needs.old.needed ≡ length self.now.slots }
+        ensures { let at = home (kept_of self.now) number in
+            needs.new ≡ record needs.old { needed = settled (kept_of self.now) needs.old.needed at } }
+    {
+        self.settle_wanted(needs, number, self.home_of(Some(number)));
+    }
+
+    /// The same where the home is known: it is needed where the record is wanted.
+    #[inline(always)]
     fn settle_wanted(&self, needs: &mut Needs, number: u32, at: Option<u32>)
         requires sized { IsSized self.now }
         requires number { number < length self.now.slots }
@@ -155,6 +169,7 @@ impl Given {
 
     /// Where the home of the record of a number is another slot than before, says anew whether each of the two is
     /// needed.
+    #[inline(always)]
     pub fn settle_moved(&self, needs: &mut Needs, before: Option<u32>, number: Option<u32>)
         requires sized { IsSized self.now }
         requires before { IfSome before (λ at. at < length self.now.slots) }
@@ -167,10 +182,45 @@ impl Given {
     {
         let home = self.home_of(number);
         if !is_same(before, home) {
-            self.settle(needs, before);
-            if let Some(number) = number {
-                self.settle_wanted(needs, number, home);
-            }
+            self.settle_both(needs, before, number, home);
+        }
+    }
+
+    /// Says anew whether the home of a record before and the one now are needed.
+    fn settle_both(
+        &self,
+        needs: &mut Needs,
+        before: Option<u32>,
+        number: Option<u32>,
+        now: Option<u32>,
+    )
+        requires sized { IsSized self.now }
+        requires before { IfSome before (λ at. at < length self.now.slots) }
+        requires number { IfSome number (λ number. number < length self.now.slots) }
+        requires now { now ≡ option_and_then (home (kept_of self.now)) number }
+        requires needs { length needs.old.needed ≡ length self.now.slots }
+        ensures { needs.new ≡ record needs.old {
+          needed = settled (kept_of self.now) (settled (kept_of self.now) needs.old.needed before) now;
+        } }
+    {
+        self.settle(needs, before);
+        if let Some(number) = number {
+            self.settle_wanted(needs, number, now);
+        }
+    }
+
+    /// A slot is not needed any more, but the home of this record is, if it has one.
+    pub fn move_need(&self, needs: &mut Needs, at: u32, number: Option<u32>)
+        requires sized { IsSized self.now }
+        requires slot { at < length self.now.slots }
+        requires number { IfSome number (λ number. number < length self.now.slots) }
+        requires needs { length needs.old.needed ≡ length self.now.slots }
+        ensures { let home = option_and_then (home (kept_of self.now)) number in
+            needs.new ≡ record needs.old { needed = marked (slice_set needs.old.needed at false) home } }
+    {
+        needs.set(at, false);
+        if let Some(home) = self.home_of(number) {
+            needs.set(home, true);
         }
     }
 
@@ -188,14 +238,32 @@ impl Given {
         }
     }
 
-    /// Says anew of each slot whether it is needed.
-    pub fn settle_all(&self, needs: &mut Needs)
+    /// Marks each slot that is needed: the home of each record that is wanted. No slot is marked before.
+    pub fn mark_needed(&self, marks: &mut Tally)
         requires sized { IsSized self.now }
-        requires needs { length needs.old.needed ≡ length self.now.slots }
-        ensures { AreSettled (kept_of self.now) (length self.now.slots) needs.old needs.new }
+        requires slots { length marks.old.marks ≡ length self.now.slots }
+        requires none { (at : ℕ) → is_marked marks.old.marks at ≡ false }
+        ensures size { marks.new.size ≡ marks.old.size }
+        ensures slots { length marks.new.marks ≡ length self.now.slots }
+        ensures needed { (at : ℕ) → is_marked marks.new.marks at ≡ is_needed (kept_of self.now) at }
     {
-        for at in 0..self.shape.slots() {
-            self.settle(needs, Some(at));
+        for number in 0..self.shape.slots() {
+            self.mark_home(marks, number);
+        }
+    }
+
+    /// Marks the home of the record of a number, where it is wanted.
+    fn mark_home(&self, marks: &mut Tally, number: u32)
+        requires sized { IsSized self.now }
+        requires number { number < length self.now.slots }
+        requires slots { length marks.old.marks ≡ length self.now.slots }
+        ensures { marks.new
+            ≡ record marks.old { marks = home_marked (kept_of self.now) marks.old.marks number } }
+    {
+        if self.is_wanted(number) {
+            if let Some(at) = self.home_of(Some(number)) {
+                marks.set(at, true);
+            }
         }
     }
 

@@ -11,6 +11,7 @@ mod gathering;
 mod given;
 mod needs;
 mod reading;
+mod record_table;
 mod records;
 mod slots;
 mod tables;

@@ -33,19 +33,19 @@ impl Model for Needs {
 }
 
 impl Needs {
-    /// No slot is needed, and there is no spare.
-    pub fn new(alloc: Global, blocks: u32, size: u32) -> Result<Needs, AllocError>
-        requires size { 0 < size }
-        requires small { blocks * size ≤ 65536 }
+    /// The slots that are marked are needed, and there is no spare.
+    pub fn new(alloc: Global, blocks: u32, needed: Tally) -> Result<Needs, AllocError>
+        requires { length needed.marks ≡ blocks * needed.size }
         ensures { IfOk result (λ n. n
-            ≡ record { needed = replicate (blocks * size) false; size = size; blocks = blocks; spare = None }) }
+            ≡ record { needed = needed.marks; size = needed.size; blocks = blocks; spare = None }) }
     {
+        let size = needed.size();
         let mut unneeded = Peaks::new(alloc, blocks as usize)?;
         for block in 0..blocks {
-            unneeded.set(block as usize, size);
+            unneeded.set(block as usize, size - needed.count(block));
         }
         Ok(Needs {
-            needed: Tally::new(alloc, blocks, size, false)?,
+            needed,
             unneeded,
             spare: None,
             size,
@@ -103,7 +103,7 @@ impl Needs {
             return;
         }
         self.needed.set(at, needed);
-        let block = Block(at / self.size);
+        let block = Block(self.needed.group(at));
         if !is_spare(self.spare, block) {
             let count = self.needed.count(block.0);
             self.unneeded.set(block.0 as usize, self.size - count);

@@ -5,6 +5,7 @@ ghost use Rattle.tx_types.specs.declared.record.Rec.{Rec};
 ghost use Rattle.slot_tables.specs.Kept.{record_at, numbers_at, AreVersions, IsNewest};
 ghost use Rattle.slot_tables.specs.Versions.{Names, HasFree};
 
+use crate::record_table::RecordTable;
 use plain_tables::Chains;
 use std::alloc::{AllocError, Global};
 use std::marker::Model;
@@ -13,7 +14,7 @@ use tx_types::Rec;
 /// The record of each number, and of each page the numbers of its records, newest first.
 #[derive(Debug, Drop)]
 pub struct Records {
-    records: Vec<Option<Rec>>,
+    records: RecordTable,
     /// Behind the pages a list of the numbers that have no record.
     lists: Chains,
     /// How many pages there are.
@@ -41,11 +42,11 @@ impl Records {
             r ≡ record { records = replicate count None; pages = replicate pages [] }) }
     {
         let mut lists = Chains::new(alloc, pages + 1, count)?;
-        for number in 0..count {
-            lists.push(pages, number);
+        for k in 0..count {
+            lists.push(pages, count - 1 - k);
         }
         Ok(Records {
-            records: vec![in alloc; None; count as usize]?,
+            records: RecordTable::new(alloc, count)?,
             lists,
             pages,
         })
@@ -57,7 +58,7 @@ impl Records {
         ensures record { result ≡ record_at self.now.records number }
         ensures versions { AreVersions self.now.records self.now.pages }
     {
-        self.records[number as usize]
+        self.records.get(number)
     }
 
     /// The number of the newest record of a page.
@@ -75,7 +76,7 @@ impl Records {
         ensures { IfSome (record_at self.now.records number) (λ r.
             result ≡ next_in (numbers_at self.now.pages r.page) number) }
     {
-        match self.records[number as usize] {
+        match self.records.get(number) {
             None => None,
             Some(_) => self.lists.next(number),
         }
@@ -92,7 +93,7 @@ impl Records {
     {
         let mut next = self.lists.first(page);
         while let Some(number) = next {
-            let Some(rec) = self.records[number as usize] else {
+            let Some(rec) = self.records.get(number) else {
                 return None;
             };
             if rec.version <= version {
@@ -119,7 +120,7 @@ impl Records {
         let number = self.lists.first(self.pages).unwrap();
         self.lists.remove(self.pages, number);
         self.lists.push(rec.page, number);
-        self.records[number as usize] = Some(rec);
+        self.records.set(number, Some(rec));
         number
     }
 
@@ -136,6 +137,6 @@ impl Records {
     {
         self.lists.remove(page, number);
         self.lists.push(self.pages, number);
-        self.records[number as usize] = None;
+        self.records.set(number, None);
     }
 }

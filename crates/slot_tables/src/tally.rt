@@ -1,6 +1,7 @@
-ghost use Rattle.std.specs.Prelude.{◌≡◌, ℕ, ◌+◌, ◌*◌, ◌<◌, ◌≤◌, length, replicate, slice_index_or, slice_set, IfOk, if◌then◌else◌};
+ghost use Rattle.std.specs.Prelude.{◌≡◌, ℕ, ◌+◌, ◌*◌, ◌/◌, ◌<◌, ◌≤◌, length, replicate, slice_index_or, slice_set, IfOk, if◌then◌else◌};
 ghost use Rattle.slot_tables.specs.Counts.{is_marked, marked_in};
 
+use plain_tables::Divisor;
 use std::alloc::{AllocError, Global};
 use std::marker::Model;
 
@@ -9,7 +10,7 @@ use std::marker::Model;
 pub struct Tally {
     marks: Vec<bool>,
     counts: Vec<u32>,
-    size: u32,
+    size: Divisor,
 }
 
 impl Model for Tally {
@@ -36,8 +37,26 @@ impl Tally {
         Ok(Tally {
             marks: vec![in alloc; mark; (groups * size) as usize]?,
             counts: vec![in alloc; count; groups as usize]?,
-            size,
+            size: Divisor::new(size),
         })
+    }
+
+    /// How many places each group has.
+    pub fn size(&self) -> u32
+        ensures size { result ≡ self.now.size }
+        ensures some { 0 < result }
+        ensures small { length self.now.marks ≤ 65536 }
+    {
+        self.size.get()
+    }
+
+    /// The group of a place.
+    #[inline(always)]
+    pub fn group(&self, at: u32) -> u32
+        requires { at < length self.now.marks }
+        ensures { result ≡ at / self.now.size }
+    {
+        self.size.quotient(at)
     }
 
     /// The mark of a place.
@@ -65,7 +84,7 @@ impl Tally {
         if self.marks[at as usize] == mark {
             return;
         }
-        let group = (at / self.size) as usize;
+        let group = self.size.quotient(at) as usize;
         self.marks[at as usize] = mark;
         if mark {
             self.counts[group] += 1;

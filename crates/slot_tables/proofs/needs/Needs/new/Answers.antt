@@ -1,12 +1,13 @@
--- At first no slot is needed.
-use Rattle.std.proofs.Common.{refl, arith}
+-- At first there is no spare.
+use Rattle.std.proofs.Common.{refl, sym, arith}
 use Rattle.slot_tables.proofs.Unneeded.{first_numbers}
 use Rattle.slot_tables.proofs.needs.Needs.new.Goals as goal
 
 pub invariant_of-result : goal.invariant_of-result
 invariant_of-result c =
-    first_numbers _ c.args.blocks c.in_ok-new.ensures refl c.requires.size c.requires.small c.loop-block.invariant.0
-    (λ k low. c.loop-block.invariant.1 k (omega arith))
+    let its = c.size-size.ensures in
+    first_numbers _ c.args.blocks (sym its.size) refl its.some (rw its.size c.requires) its.small c.loop-block.invariant.0
+    (λ k low. rw its.size (c.loop-block.invariant.1 k (omega arith)))
 
 pub returns : goal.returns
-returns c = rw (c.in_ok-new.ensures, c.loop-block.invariant.0) refl
+returns c = rw (c.size-size.ensures.size, c.loop-block.invariant.0) refl

@@ -1,6 +1,5 @@
 -- The record that is looked for stands in what is left of the list of its page.
 use Rattle.std.proofs.Common.{◌≡◌, ◌<◌, Some, None, length, sym, ◌∙◌, ap, arith}
-use Rattle.std.proofs.lemmas.List.{get_or_read}
 use Rattle.slot_tables.specs.Kept.{record_at}
 use Rattle.slot_tables.proofs.Numbering.{pages_long, listed_record, same_record, ahead_first, ahead_next, none_behind, one_number}
 use Rattle.slot_tables.proofs.records.Records.number_of.Goals as goal
@@ -11,21 +10,21 @@ loop-next-init c =
     let low = rw (← c.self.view_is, pages_long r c.self.invariant) at c.requires in
     (ahead_first r c.self.invariant c.args.page c.args.version low c.first-next.result c.first-next.ensures.order, c.first-next.ensures.listed)
 
-pub index-requires : goal.index-requires
-index-requires c =
+pub get-requires : goal.get-requires
+get-requires c =
     let r = c.self.inside in
     let within = c.first-next.ensures.lists.within c.args.page c.in-Some.number (rw c.in-Some.is at c.loop-next.invariant.1) in
-    omega (arith, within, c.self.invariant.places, r.records.ok.0)
+    rw c.self.invariant.places at within
 
-pub returns-in_default-index-clause-names : goal.returns-in_default-index-clause-names
-returns-in_default-index-clause-names c =
+pub returns-in_default-get-clause-names : goal.returns-in_default-get-clause-names
+returns-in_default-get-clause-names c =
     let r = c.self.inside in
     let low = rw (← c.self.view_is, pages_long r c.self.invariant) at c.requires in
     let has = rw c.in-Some.is at c.loop-next.invariant.1 in
     let rec = listed_record r c.args.page c.in-Some.number c.self.invariant low has in
-    let within : c.in-Some.number < length r.records.items = rw c.self.invariant.places at
+    let within : c.in-Some.number < length r.records = rw c.self.invariant.places at
     (c.first-next.ensures.lists.within c.args.page c.in-Some.number has) in
-    let none = sym (get_or_read r.records.items c.in-Some.number c.index.result.now within c.index.ensures None) ∙ c.in_default-index.is in
+    let none = sym c.get.ensures ∙ c.in_default-get.is in
     absurd (let no : None ≡ Some rec.0 = sym none ∙ rec.1 in cc)
 
 pub returns-then-rec-version-2-clause-names : goal.returns-then-rec-version-2-clause-names
@@ -34,18 +33,18 @@ returns-then-rec-version-2-clause-names c =
     let low = rw (← c.self.view_is, pages_long r c.self.invariant) at c.requires in
     let has = rw c.in-Some.is at c.loop-next.invariant.1 in
     let found = listed_record r c.args.page c.in-Some.number c.self.invariant low has in
-    let within : c.in-Some.number < length r.records.items = rw c.self.invariant.places at
+    let within : c.in-Some.number < length r.records = rw c.self.invariant.places at
     (c.first-next.ensures.lists.within c.args.page c.in-Some.number has) in
-    let is : record_at r.records.items c.in-Some.number ≡ Some c.in-Some-index.rec =
-    sym (get_or_read r.records.items c.in-Some.number c.index.result.now within c.index.ensures None) ∙ c.in-Some-index.is in
-    let page = ap (λ f. f.page) (same_record c.in-Some-index.rec found.0 (sym is ∙ found.1)) ∙ found.2 in
+    let is : record_at r.records c.in-Some.number ≡ Some c.in-Some-get.rec =
+    sym c.get.ensures ∙ c.in-Some-get.is in
+    let page = ap (λ f. f.page) (same_record c.in-Some-get.rec found.0 (sym is ∙ found.1)) ∙ found.2 in
     rw (← c.self.view_is)
     (λ number rec rec_is. (
-      λ names. ap Some (one_number r c.self.invariant c.args.page c.args.version low c.in-Some.number number c.in-Some-index.rec rec is
+      λ names. ap Some (one_number r c.self.invariant c.args.page c.args.version low c.in-Some.number number c.in-Some-get.rec rec is
           rec_is (page, c.if-rec-version-2.true) names),
       λ e.
           let number_is : c.in-Some.number ≡ number = cc in
-          let one = same_record c.in-Some-index.rec rec (sym is ∙ rw (← number_is) at rec_is) in
+          let one = same_record c.in-Some-get.rec rec (sym is ∙ rw (← number_is) at rec_is) in
           rw (← one) (page, c.if-rec-version-2.true),
     ))
 
@@ -55,11 +54,11 @@ returns-then-rec-version-2-clause-found c =
     let low = rw (← c.self.view_is, pages_long r c.self.invariant) at c.requires in
     let has = rw c.in-Some.is at c.loop-next.invariant.1 in
     let found = listed_record r c.args.page c.in-Some.number c.self.invariant low has in
-    let within : c.in-Some.number < length r.records.items = rw c.self.invariant.places at
+    let within : c.in-Some.number < length r.records = rw c.self.invariant.places at
     (c.first-next.ensures.lists.within c.args.page c.in-Some.number has) in
-    let is : record_at r.records.items c.in-Some.number ≡ Some c.in-Some-index.rec =
-    sym (get_or_read r.records.items c.in-Some.number c.index.result.now within c.index.ensures None) ∙ c.in-Some-index.is in
-    let page = ap (λ f. f.page) (same_record c.in-Some-index.rec found.0 (sym is ∙ found.1)) ∙ found.2 in
+    let is : record_at r.records c.in-Some.number ≡ Some c.in-Some-get.rec =
+    sym c.get.ensures ∙ c.in-Some-get.is in
+    let page = ap (λ f. f.page) (same_record c.in-Some-get.rec found.0 (sym is ∙ found.1)) ∙ found.2 in
     rw (← c.self.view_is, is) (page, c.if-rec-version-2.true)
 
 pub returns-else-rec-version-2-clause-names : goal.returns-else-rec-version-2-clause-names
@@ -67,14 +66,14 @@ returns-else-rec-version-2-clause-names c =
     let r = c.self.inside in
     let low = rw (← c.self.view_is, pages_long r c.self.invariant) at c.requires in
     let has = rw c.in-Some.is at c.loop-next.invariant.1 in
-    let within : c.in-Some.number < length r.records.items = rw c.self.invariant.places at
+    let within : c.in-Some.number < length r.records = rw c.self.invariant.places at
     (c.first-next.ensures.lists.within c.args.page c.in-Some.number has) in
-    let is : record_at r.records.items c.in-Some.number ≡ Some c.in-Some-index.rec =
-    sym (get_or_read r.records.items c.in-Some.number c.index.result.now within c.index.ensures None) ∙ c.in-Some-index.is in
-    let older : c.in-Some-index.rec.version < c.args.version = omega (arith, c.if-rec-version.true, c.if-rec-version-2.false) in
+    let is : record_at r.records c.in-Some.number ≡ Some c.in-Some-get.rec =
+    sym c.get.ensures ∙ c.in-Some-get.is in
+    let older : c.in-Some-get.rec.version < c.args.version = omega (arith, c.if-rec-version.true, c.if-rec-version-2.false) in
     rw (← c.self.view_is)
     (λ number rec rec_is. (
-      λ names. absurd (none_behind r c.self.invariant c.args.page c.args.version low c.in-Some.number c.in-Some-index.rec
+      λ names. absurd (none_behind r c.self.invariant c.args.page c.args.version low c.in-Some.number c.in-Some-get.rec
           (rw c.in-Some.is at c.loop-next.invariant.0) is has older number rec rec_is names),
       λ e. absurd (cc),
     ))
@@ -84,11 +83,11 @@ loop-next-preserved c =
     let r = c.self.inside in
     let low = rw (← c.self.view_is, pages_long r c.self.invariant) at c.requires in
     let has = rw c.in-Some.is at c.loop-next.invariant.1 in
-    let within : c.in-Some.number < length r.records.items = rw c.self.invariant.places at
+    let within : c.in-Some.number < length r.records = rw c.self.invariant.places at
     (c.first-next.ensures.lists.within c.args.page c.in-Some.number has) in
-    let is : record_at r.records.items c.in-Some.number ≡ Some c.in-Some-index.rec =
-    sym (get_or_read r.records.items c.in-Some.number c.index.result.now within c.index.ensures None) ∙ c.in-Some-index.is in (
-      ahead_next r c.self.invariant c.args.page c.args.version low c.in-Some.number c.in-Some-index.rec c.next-next.result
+    let is : record_at r.records c.in-Some.number ≡ Some c.in-Some-get.rec =
+    sym c.get.ensures ∙ c.in-Some-get.is in (
+      ahead_next r c.self.invariant c.args.page c.args.version low c.in-Some.number c.in-Some-get.rec c.next-next.result
           (rw c.in-Some.is at c.loop-next.invariant.0) is (c.next-next.ensures.order c.args.page has) c.if-rec-version.false,
       c.next-next.ensures.listed c.args.page has,
     )

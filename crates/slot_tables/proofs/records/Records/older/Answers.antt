@@ -1,6 +1,5 @@
 -- The record stands in the list of its page.
-use Rattle.std.proofs.Common.{◌≡◌, ◌<◌, Some, None, length, sym, ◌∙◌}
-use Rattle.std.proofs.lemmas.List.{get_or_read}
+use Rattle.std.proofs.Common.{◌≡◌, ◌<◌, Some, length, sym, ◌∙◌}
 use Rattle.slot_tables.specs.Kept.{record_at}
 use Rattle.slot_tables.proofs.Numbering.{record_listed, page_list}
 use Rattle.slot_tables.proofs.records.Records.older.Goals as goal
@@ -8,15 +7,15 @@ use Rattle.slot_tables.proofs.records.Records.older.Goals as goal
 pub next-requires : goal.next-requires
 next-requires c =
     let r = c.self.inside in
-    let low : c.args.number < length r.records.items = rw (← c.self.view_is) at c.requires.number in
-    let is = sym (get_or_read r.records.items c.args.number c.index.result.now low c.index.ensures None) ∙ c.in-Some.is in
+    let low : c.args.number < length r.records = rw (← c.self.view_is) at c.requires.number in
+    let is = sym c.get.ensures ∙ c.in-Some.is in
     (c.in-Some.field-0.page, (record_listed r c.args.number c.in-Some.field-0 c.self.invariant is).1)
 
 pub returns-in-Some : goal.returns-in-Some
 returns-in-Some c =
     let r = c.self.inside in
-    let low : c.args.number < length r.records.items = rw (← c.self.view_is) at c.requires.number in
-    let is : record_at r.records.items c.args.number ≡ Some c.in-Some.field-0 =
-    sym (get_or_read r.records.items c.args.number c.index.result.now low c.index.ensures None) ∙ c.in-Some.is in
+    let low : c.args.number < length r.records = rw (← c.self.view_is) at c.requires.number in
+    let is : record_at r.records c.args.number ≡ Some c.in-Some.field-0 =
+    sym c.get.ensures ∙ c.in-Some.is in
     let listed = record_listed r c.args.number c.in-Some.field-0 c.self.invariant is in
     rw (← c.self.view_is, is, page_list r c.in-Some.field-0.page listed.0) (c.next.ensures.next c.in-Some.field-0.page listed.1)
