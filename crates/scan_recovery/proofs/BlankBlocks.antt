@@ -21,7 +21,9 @@ use Rattle.version_index.specs.Notes.{complete_at, complete_slots}
 use Rattle.version_index.proofs.Given.{given_from}
 use Rattle.version_index.proofs.Blocks.{in_it, inside_block}
 use Rattle.version_index.proofs.Scans.{numbered_complete}
-use Rattle.scan_recovery.specs.Opening.{reads_blank, seen_in_block, IsBlankBlock, HasNoBlankBlock, IsHighest, FindsHighest, IsChosenFrom, FindsSpare}
+use Rattle.flash_model.specs.Readings.{reads_blank, seen_in_block}
+use Rattle.version_index.specs.Opening.{IsBlankBlock, HasNoBlankBlock, IsHighest, IsChosenFrom}
+use Rattle.scan_recovery.specs.Opening.{FindsHighest, FindsSpare}
 
 -- a slot that reads complete
 record ReadsComplete (slots : List Seen) (slot : ℕ) : Type 0 where

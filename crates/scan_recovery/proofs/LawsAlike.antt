@@ -1,35 +1,19 @@
 -- A list and its records in order of their names keep the same laws.
-use Rattle.std.proofs.Common.{◌≡◌, ◌≢◌, ◌↔◌, ℕ, zero, suc, ◌<◌, ◌≤◌, ◌⊎◌, Bool, true, false, Option, Some, None, List, get_or, All, refl, sym, ap, ap₂, ◌∙◌, subst, lt-ltb, arith}
-use Rattle.std.specs.List.{list_any}
-use Rattle.std.proofs.lemmas.Bool.{false≢true}
+use Rattle.std.proofs.Common.{◌≡◌, ◌≢◌, ◌↔◌, ℕ, zero, suc, ◌<◌, ◌≤◌, ◌⊎◌, Bool, true, Option, Some, None, List, get_or, All, refl, sym, ap, ap₂, ◌∙◌, subst, arith}
 use Rattle.std.proofs.lemmas.List.Elements.{All-contains}
 use Rattle.std.proofs.lemmas.List.Sorted.{Contains-permutation}
 use Rattle.list_facts.proofs.Membership.{all_from}
-use Rattle.list_facts.proofs.Tests.{any_none}
 use Rattle.tx_types.specs.declared.record.Link.{Link}
 use Rattle.tx_types.specs.declared.config.Protocol.{Protocol}
 use Rattle.tx_types.specs.declared.config.Protocol.TheVariants.{Scc, Bpcc}
 use Rattle.record_list.specs.declared.found.Found.{Found}
 use Rattle.record_list.specs.Records.{newest, is_present}
 use Rattle.record_list.specs.Verdict.{straddling, link_of}
-use Rattle.record_list.specs.Current.{cur, is_loose, responsible}
+use Rattle.record_list.specs.Current.{cur, responsible}
 use Rattle.record_list.specs.SoundList.{CurrentIsPresent, LinkHasCounted, LooseIsShown, LooseEnds, follow}
 use Rattle.record_list.specs.Search.{FindsFirst}
 use Rattle.record_chart.specs.Charts.{Sorts}
 use Rattle.record_chart.proofs.Alike.{newest_alike, present_alike, link_alike, straddling_alike, cur_alike, responsible_alike}
-
--- law 7 says nothing of records that are not loose, and nothing under Simple Cyclic Commit
-pub none_loose : (protocol : Protocol) (list l : List Found) (logical : ℕ) → list_any (λ f. is_loose protocol l logical f.rec) list ≡ false →
-    All (LooseEnds protocol l logical) list
-unfolding LooseEnds
-none_loose Scc list l logical none = λ k d within. tt
-none_loose Bpcc list l logical none =
-    all_from (LooseEnds Bpcc l logical) list (λ f c loose.
-    absurd (false≢true (sym (any_none (λ g. is_loose Bpcc l logical g.rec) list none f c) ∙ lt-ltb (cur Bpcc l logical f.rec.page) f.rec.version loose)))
-
-pub unasked : (list l : List Found) (logical : ℕ) → All (LooseEnds Scc l logical) list
-unfolding LooseEnds
-unasked list l logical = λ k d within. tt
 
 -- a search for the first that breaks one fact is one for the first that breaks another, where the facts are the same
 pub finds_alike : (P Q : Found → Type 0) (list : List Found) (first : Option ℕ) → ((f : Found) → P f ↔ Q f) →
@@ -41,11 +25,6 @@ finds_alike P Q list (Some i) same (within, breaks, before) =
 -- what holds of each record in order holds of each of the list
 pub all_back : (list sorted : List Found) → Sorts list sorted → (P : Found → Type 0) → All P sorted → All P list
 all_back list sorted is P all = all_from P list (λ f c. All-contains P sorted f all (Contains-permutation list sorted f is.records c))
-
--- so where a search among them finds nothing, there is nothing to find in the list
-pub none_first : (list sorted records : List Found) → Sorts list sorted → (P : Found → Type 0) → records ≡ sorted → (first : Option ℕ) → first ≡ None →
-    All P records → FindsFirst P list first
-none_first list sorted records is P same first none all = subst (FindsFirst P list) (sym none) (all_back list sorted is P (subst (All P) same all))
 
 -- what is one fact holds alike
 both_ways : (P Q : Type 0) → P ≡ Q → P ↔ Q

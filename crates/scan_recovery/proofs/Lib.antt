@@ -9,6 +9,7 @@ pub mod LeastBreaches
 pub mod NameOrbits
 pub mod LawsAlike
 pub mod SharedLinks
+pub mod OwnLinks
 pub mod ReadingSteps
 pub mod Used
 pub mod Highest

@@ -37,7 +37,9 @@ use Rattle.scan_recovery.specs.declared.error.RecoverError.{RecoverError}
 use Rattle.scan_recovery.specs.declared.error.RecoverError.TheVariants as error
 use Rattle.scan_recovery.specs.Reading.{ReadsAll}
 use Rattle.scan_recovery.specs.Scans.{IsScanOf}
-use Rattle.scan_recovery.specs.Opening.{IsOpenedFrom, IsBroken, IsOpened, IsChosenFrom, opening_table}
+use Rattle.die_alloc.specs.Opening.{opening_table}
+use Rattle.version_index.specs.Opening.{IsChosenFrom}
+use Rattle.scan_recovery.specs.Opening.{IsOpenedFrom, IsBroken, IsOpened}
 use Rattle.scan_recovery.specs.Twins.{compared}
 use Rattle.scan_recovery.specs.Recovered.{IfUnsound, is_read_failure, reads_again, ReadsFor}
 use Rattle.scan_recovery.proofs.ReadingSteps.{reads_some_all}

@@ -14,7 +14,8 @@ use Rattle.flash_model.specs.declared.flash.Seen.{Seen}
 use Rattle.die_alloc.specs.declared.block_use.BlockUse.{BlockUse}
 use Rattle.die_alloc.specs.BlockTable.{BlockTable, IsBlockTable, no_block, use_of, with_use}
 use Rattle.die_alloc.proofs.Changes.{use_of-with_use_same, use_of-with_use_other}
-use Rattle.scan_recovery.specs.Opening.{seen_in_block, reads_blank_block, used_in, use_in, opening_table, with_slots}
+use Rattle.flash_model.specs.Readings.{seen_in_block, reads_blank_block}
+use Rattle.die_alloc.specs.Opening.{used_in, use_in, opening_table, with_slots}
 use Rattle.scan_recovery.proofs.Used.{used_blank, used_some}
 
 -- what is kept of a block, by its parts

@@ -14,7 +14,7 @@ use Rattle.record_list.specs.declared.found.Found.{Found}
 use Rattle.record_list.specs.Records.{IsScanned, name_of, has_name, is_same, nothing}
 use Rattle.record_list.specs.SoundList.{LinksDiffer}
 use Rattle.record_list.proofs.Names.{same_name, has_name_true, has_own_name}
-use Rattle.record_chart.specs.Charts.{SortsByLink}
+use Rattle.record_chart.specs.Charts.{is_below, SortsByLink}
 use Rattle.record_chart.proofs.Order.{below_false}
 use Rattle.scan_recovery.specs.Searches.{FindsLowest, lower, share_link, IsLowestBelow, NextShares, next_slot, IsLowestSharer}
 
@@ -96,6 +96,42 @@ shares r s yes_both =
       other = λ same. false≢true (sym (ap not (has_own_name (name_of s) r same)) ∙ both.1);
     }
 
+module _ (s : List Found) (order : AllPairs (λ f g. is_below g.rec.next f.rec.next ≡ false) s) where
+  abbrev in_order : ℕ → Found
+  in_order k = get_or s k nothing
+
+  -- the records between two of one link have it
+  pub between : (i k j : ℕ) → i ≤ k → k < j → j < length s → (in_order i).rec.next ≡ (in_order j).rec.next → (in_order k).rec.next ≡ (in_order j).rec.next
+  between i k j low high within same = elim (cases_order i k) [
+    | inl e ↦ ap (λ n. (in_order n).rec.next) (sym e) ∙ same
+    | inr (inr more) ↦ absurd (omega arith)
+    | inr (inl less) ↦ (
+        let page = ap (λ n. n.page) same in
+        let version = ap (λ n. n.version) same in
+        elim (below_false (in_order k).rec.next (in_order i).rec.next (order i k nothing less (omega arith))) [
+          | inl p ↦ elim (below_false (in_order j).rec.next (in_order k).rec.next (order k j nothing high within)) [ inl q ↦ absurd (omega arith) | inr q ↦ absurd (omega arith) ]
+          | inr p ↦ elim (below_false (in_order j).rec.next (in_order k).rec.next (order k j nothing high within)) [
+            | inl q ↦ absurd (omega arith)
+            | inr q ↦ same_name (in_order k).rec.next (in_order j).rec.next q.0 (omega arith)
+          ]
+        ])
+  ]
+
+  -- where no record has its neighbour's link and another name, two of one link have one name
+  pub one_name_beside : (n i j : ℕ) → j ≡ i + n → j < length s → (in_order i).rec.next ≡ (in_order j).rec.next →
+      IsLowestSharer s (length s) None → name_of (in_order i).rec ≡ name_of (in_order j).rec
+  one_name_beside zero i j sum within same none = ap (λ n. name_of (in_order n).rec) (omega arith)
+  one_name_beside (suc n) i j sum within same none =
+      let m = i + n in
+      let next : suc m ≡ j = omega arith in
+      let link = between i m j (omega arith) (omega arith) within same in
+      one_name_beside n i m refl (omega arith) (same ∙ sym link) none
+      ∙ elim (cases_Bool (has_name (name_of (in_order j).rec) (in_order m).rec)) [
+        | inl yes_here ↦ has_name_true (name_of (in_order j).rec) (in_order m).rec yes_here
+        | inr other ↦ absurd (none m (omega arith)
+            (subst (λ k. share_link (in_order m).rec (in_order k).rec ≡ true) (sym next) (share_true (in_order m).rec (in_order j).rec link other)))
+      ]
+
 module _ (list s : List Found) (scanned : IsScanned list) (is : SortsByLink list s) where
   abbrev at : ℕ → Found
   at k = get_or s k nothing
@@ -112,23 +148,6 @@ module _ (list s : List Found) (scanned : IsScanned list) (is : SortsByLink list
       same_links : (a b : Link) → a ≡ b → is_same a b ≡ true
       same_links a b e = rw (eq-eqb a.page b.page (ap (λ n. n.page) e), eq-eqb a.version b.version (ap (λ n. n.version) e)) refl
 
-  -- the records between two of one link have it
-  between : (i k j : ℕ) → i ≤ k → k < j → j < length s → (at i).rec.next ≡ (at j).rec.next → (at k).rec.next ≡ (at j).rec.next
-  between i k j low high within same = elim (cases_order i k) [
-    | inl e ↦ ap (λ n. (at n).rec.next) (sym e) ∙ same
-    | inr (inr more) ↦ absurd (omega arith)
-    | inr (inl less) ↦ (
-        let page = ap (λ n. n.page) same in
-        let version = ap (λ n. n.version) same in
-        elim (below_false (at k).rec.next (at i).rec.next (is.order i k nothing less (omega arith))) [
-          | inl p ↦ elim (below_false (at j).rec.next (at k).rec.next (is.order k j nothing high within)) [ inl q ↦ absurd (omega arith) | inr q ↦ absurd (omega arith) ]
-          | inr p ↦ elim (below_false (at j).rec.next (at k).rec.next (is.order k j nothing high within)) [
-            | inl q ↦ absurd (omega arith)
-            | inr q ↦ same_name (at k).rec.next (at j).rec.next q.0 (omega arith)
-          ]
-        ])
-  ]
-
   -- where no record up to a slot has its neighbour's link and another name, two of one link have one name
   one_name : (top n i j : ℕ) → j ≡ i + n → j < length s → (at i).rec.next ≡ (at j).rec.next → (at j).slot.0 ≤ top →
       ((k : ℕ) → k < length s - 1 → NextShares s k → top < (next_slot s k).0) → name_of (at i).rec ≡ name_of (at j).rec
@@ -136,7 +155,7 @@ module _ (list s : List Found) (scanned : IsScanned list) (is : SortsByLink list
   one_name top (suc n) i j sum within same low none =
       let m = i + n in
       let next : suc m ≡ j = omega arith in
-      let link = between i m j (omega arith) (omega arith) within same in
+      let link = between s is.order i m j (omega arith) (omega arith) within same in
       let rise = slots_rise m j (omega arith) within link in
       one_name top n i m refl (omega arith) (same ∙ sym link) (omega arith) none
       ∙ elim (cases_Bool (has_name (name_of (at j).rec) (at m).rec)) [

@@ -5,7 +5,8 @@ use Rattle.std.proofs.lemmas.Bool.{false≢true}
 use Rattle.std.proofs.lemmas.List.Folds.{list_all_at}
 use Rattle.flash_model.specs.declared.flash.Seen.{Seen}
 use Rattle.flash_model.specs.declared.flash.Seen.TheVariants.{Blank}
-use Rattle.scan_recovery.specs.Opening.{reads_blank, used_in}
+use Rattle.flash_model.specs.Readings.{reads_blank}
+use Rattle.die_alloc.specs.Opening.{used_in}
 
 -- each slot is blank
 pub all_blank : (slots : List Seen) → ((k : ℕ) → k < length slots → reads_blank (get_or slots k Blank) ≡ true) → list_all reads_blank slots ≡ true

@@ -1,16 +1,19 @@
-//! Laws 3 to 7 of a list that keeps laws 1 and 2, by its records in order of their names. Each of laws 4 to 7
-//! is tried of the records in that order, in which what is looked up for one lies near that for the next, and
-//! only where it is broken of them in the order of their slots.
-ghost use Rattle.std.specs.Prelude.{◌≡◌, ◌↔◌, IsTrue, All, IfOk, length};
+//! Laws 3 to 7 of a list that keeps laws 1 and 2, by its records in order of their names. Laws 4 to 7 are tried
+//! of the records in that order, in which what is looked up for one lies near that for the next, and only where
+//! one is broken of them in the order of their slots.
+ghost use Rattle.std.specs.Prelude.{◌≡◌, ◌↔◌, true, IsTrue, All, IfOk, length};
 ghost use Rattle.tx_types.specs.declared.config.Protocol.TheVariants.{Bpcc};
 ghost use Rattle.record_list.specs.Records.{IsScanned};
-ghost use Rattle.record_list.specs.SoundList.{PagesExist, CopiesAgree, CurrentIsPresent, LinkHasCounted, LooseIsShown, IsFirstBreach};
+ghost use Rattle.record_list.specs.SoundList.{PagesExist, CopiesAgree, LinksDiffer, CurrentIsPresent, LinkHasCounted, LooseIsShown, IsFirstBreach};
 ghost use Rattle.record_list.specs.Search.{FindsFirst};
 ghost use Rattle.record_chart.specs.Charts.{Sorts};
+ghost use Rattle.record_chart.specs.Orbits.{AreOrbits};
+ghost use Rattle.record_chart.specs.NameGraph.{name_graph};
+ghost use Rattle.scan_recovery.specs.Searches.{IsKept, AreKept};
 
-use crate::endings::first_endless;
+use crate::endings::{endless, is_ending};
 use crate::shared_links::lowest_shared_link;
-use record_chart::Standing;
+use record_chart::{Orbits, Standing};
 use record_list::{Breach, Found, breach_at};
 use std::alloc::{AllocError, Global};
 use tx_types::{Link, Protocol};
@@ -19,45 +22,78 @@ use tx_types::{Link, Protocol};
 pub fn first_breach(
     alloc: Global,
     standing: &Standing,
+    orbits: &Orbits,
     list: &[Found],
 ) -> Result<Option<Breach>, AllocError>
     requires scanned { IsScanned list.now }
     requires sorts { Sorts list.now standing.now.list }
     requires pages { All (PagesExist standing.now.logical) list.now }
     requires copies { All (CopiesAgree list.now) list.now }
+    requires orbits { AreOrbits (name_graph standing.now.list) orbits.now }
     ensures { let s = standing.now in
         IfOk result (IsFirstBreach s.protocol list.now s.logical) }
 {
-    if let Some(slot) = lowest_shared_link(alloc, list)? {
+    if let Some(slot) = lowest_shared_link(alloc, standing.chart(), list)? {
         return Ok(Some(Breach { law: 3, slot }));
     }
-    if let Some(at) = first_without_current(standing, list) {
-        return Ok(Some(breach_at(list, 4, at)));
+    if are_kept(standing, orbits, standing.chart().records()) {
+        return Ok(None);
     }
-    if let Some(at) = first_early_link(standing, list) {
-        return Ok(Some(breach_at(list, 5, at)));
-    }
-    if let Some(at) = first_unshown(standing, list) {
-        return Ok(Some(breach_at(list, 6, at)));
-    }
-    if let Some(at) = first_endless(alloc, standing, list)? {
-        return Ok(Some(breach_at(list, 7, at)));
-    }
-    Ok(None)
+    Ok(first_of_slots(standing, orbits, list))
 }
 
-/// The index of the first record that breaks law 4: where it is the newest of its page, the current
-/// version of its page is 0 or present.
-fn first_without_current(standing: &Standing, list: &[Found]) -> Option<usize>
-    requires { Sorts list.now standing.now.list }
-    ensures { let s = standing.now in
-        FindsFirst (CurrentIsPresent s.protocol s.list s.logical) list.now result }
+/// The first of laws 4 to 7 that is broken, and the slot that it names. The list keeps laws 1 to 3.
+fn first_of_slots(standing: &Standing, orbits: &Orbits, list: &[Found]) -> Option<Breach>
+    requires scanned { IsScanned list.now }
+    requires sorts { Sorts list.now standing.now.list }
+    requires pages { All (PagesExist standing.now.logical) list.now }
+    requires copies { All (CopiesAgree list.now) list.now }
+    requires links { All (LinksDiffer list.now) list.now }
+    requires orbits { AreOrbits (name_graph standing.now.list) orbits.now }
+    ensures { let s = standing.now in IsFirstBreach s.protocol list.now s.logical result }
 {
-    without_current(standing, standing.chart().records())?;
-    without_current(standing, list)
+    if let Some(at) = without_current(standing, list) {
+        return Some(breach_at(list, 4, at));
+    }
+    if let Some(at) = early_link(standing, list) {
+        return Some(breach_at(list, 5, at));
+    }
+    if let Some(at) = unshown(standing, list) {
+        return Some(breach_at(list, 6, at));
+    }
+    if let Some(at) = endless(standing, orbits, list) {
+        return Some(breach_at(list, 7, at));
+    }
+    None
 }
 
-/// The index of the first of these records that breaks law 4.
+/// Whether each of these records keeps laws 4 to 7.
+fn are_kept(standing: &Standing, orbits: &Orbits, records: &[Found]) -> bool
+    requires { AreOrbits (name_graph standing.now.list) orbits.now }
+    ensures { result ≡ true → AreKept standing.now records.now }
+{
+    for found in records {
+        if !is_kept(standing, orbits, found) {
+            return false;
+        }
+    }
+    true
+}
+
+/// Whether a record keeps laws 4 to 7.
+#[inline(always)]
+fn is_kept(standing: &Standing, orbits: &Orbits, found: &Found) -> bool
+    requires { AreOrbits (name_graph standing.now.list) orbits.now }
+    ensures { result ≡ true → IsKept standing.now found.now }
+{
+    has_current(standing, found)
+        && has_counted(standing, found)
+        && is_shown(standing, found)
+        && is_ending(standing, orbits, found)
+}
+
+/// The index of the first of these records that breaks law 4: where it is the newest of its page, the
+/// current version of its page is 0 or present.
 fn without_current(standing: &Standing, records: &[Found]) -> Option<usize>
     ensures { let s = standing.now in
         FindsFirst (CurrentIsPresent s.protocol s.list s.logical) records.now result }
@@ -87,18 +123,8 @@ fn has_other_current(standing: &Standing, found: &Found) -> bool
         || chart.is_present(Link { page, version })
 }
 
-/// The index of the first record that breaks law 5: the link of a current record is not above the
-/// current version there, and under Back Pointer Cyclic Commit is not straddled.
-fn first_early_link(standing: &Standing, list: &[Found]) -> Option<usize>
-    requires { Sorts list.now standing.now.list }
-    ensures { let s = standing.now in
-        FindsFirst (LinkHasCounted s.protocol s.list s.logical) list.now result }
-{
-    early_link(standing, standing.chart().records())?;
-    early_link(standing, list)
-}
-
-/// The index of the first of these records that breaks law 5.
+/// The index of the first of these records that breaks law 5: the link of a current record is not above
+/// the current version there, and under Back Pointer Cyclic Commit is not straddled.
 fn early_link(standing: &Standing, records: &[Found]) -> Option<usize>
     ensures { let s = standing.now in
         FindsFirst (LinkHasCounted s.protocol s.list s.logical) records.now result }
@@ -124,19 +150,9 @@ fn has_counted(standing: &Standing, found: &Found) -> bool
     }
 }
 
-/// The index of the first record that breaks law 6, which speaks of Back Pointer Cyclic Commit alone:
-/// where it is loose, its back version is the current one of its page, its link is not to a current
+/// The index of the first of these records that breaks law 6, which speaks of Back Pointer Cyclic Commit
+/// alone: where it is loose, its back version is the current one of its page, its link is not to a current
 /// record, and where its link is below the current version there, a record is responsible for it.
-fn first_unshown(standing: &Standing, list: &[Found]) -> Option<usize>
-    requires { Sorts list.now standing.now.list }
-    ensures { let s = standing.now in
-        FindsFirst (LooseIsShown s.protocol s.list s.logical) list.now result }
-{
-    unshown(standing, standing.chart().records())?;
-    unshown(standing, list)
-}
-
-/// The index of the first of these records that breaks law 6.
 fn unshown(standing: &Standing, records: &[Found]) -> Option<usize>
     ensures { let s = standing.now in
         FindsFirst (LooseIsShown s.protocol s.list s.logical) records.now result }

@@ -6,16 +6,13 @@ mod endings;
 mod error;
 mod held;
 mod laws;
-#[cfg(test)]
-mod list_tests;
 mod opening;
+mod own_links;
 mod recovery;
 mod removable;
 mod scan;
 mod shared_links;
 mod spare;
-#[cfg(test)]
-mod tests;
 mod twins;
 
 pub use error::RecoverError;

@@ -7,7 +7,9 @@ ghost use Rattle.record_list.specs.Counts.{HasCounts};
 ghost use Rattle.record_chart.specs.Charts.{Sorts};
 ghost use Rattle.die_alloc.specs.BlockTable.{IsBlockTable};
 ghost use Rattle.version_index.specs.Notes.{complete_slots};
-ghost use Rattle.scan_recovery.specs.Opening.{used_in, opening_table, with_slots, IsOpenedFrom, IsBroken};
+ghost use Rattle.die_alloc.specs.Opening.{used_in, opening_table, with_slots};
+ghost use Rattle.version_index.specs.Opening.{IsChosenFrom};
+ghost use Rattle.scan_recovery.specs.Opening.{IsOpenedFrom, IsBroken};
 ghost use Rattle.scan_recovery.specs.Recovered.{IfUnsound, is_read_failure};
 
 use crate::RecoverError;
@@ -15,7 +17,7 @@ use crate::laws::first_breach;
 use crate::spare::{chosen_spare, is_blank, slots_in};
 use die_alloc::Blocks;
 use flash_model::Seen;
-use record_chart::{Standing, counts};
+use record_chart::{Standing, counts, name_orbits};
 use record_list::{Breach, CommitRule, Found};
 use std::alloc::Global;
 use tx_types::{Block, BlockState, Config, Memory, Shape, Slot};
@@ -51,7 +53,41 @@ pub fn open_tables<R: CommitRule>(
         (IsBroken R.protocol list.now config.logical shape)) }
     ensures no_fault { is_read_failure result ≡ false }
 {
-    if let Some(Breach { law, slot }) = first_breach(alloc, standing, list)? {
+    let spare = lawful_spare(alloc, shape, seen, list, standing)?;
+    let mut index = Index::from_standing(alloc, config, seen, list, standing)?;
+    index.set_spare(spare);
+    let blocks = block_table(alloc, shape, seen, spare)?;
+    Ok((index, blocks))
+}
+
+/// The block that becomes the spare, where the records keep laws 3 to 9, else the first that they break, and
+/// the slot that it names. They keep laws 1 and 2.
+fn lawful_spare(
+    alloc: Global,
+    shape: Shape,
+    seen: &[Seen],
+    list: &[Found],
+    standing: &Standing,
+) -> Result<Block, RecoverError>
+    requires shape { IsShape shape }
+    requires seen { length seen.now ≡ slots_of shape }
+    requires complete { map (λ f. f.slot.0) list.now ≡ complete_slots seen.now }
+    requires scanned { IsScanned list.now }
+    requires pages { All (PagesExist standing.now.logical) list.now }
+    requires copies { All (CopiesAgree list.now) list.now }
+    requires sorts { Sorts list.now standing.now.list }
+    ensures sound { let s = standing.now in
+        OnOk result
+        (IsSoundList s.protocol list.now s.logical × HasRemovable s.protocol list.now s.logical shape
+        × HasCounts list.now) }
+    ensures spare { let s = standing.now in
+        IfOk result (λ spare. IsChosenFrom s.protocol s.logical shape seen.now list.now spare.0) }
+    ensures unsound { let s = standing.now in
+        IfErr result (λ e. IfUnsound e (IsBroken s.protocol list.now s.logical shape)) }
+    ensures no_fault { is_read_failure result ≡ false }
+{
+    let orbits = name_orbits(alloc, standing.chart())?;
+    if let Some(Breach { law, slot }) = first_breach(alloc, standing, &orbits, list)? {
         return Err(RecoverError::Unsound { law, slot });
     }
     let Some(spare) = chosen_spare(alloc, seen, list, standing, shape)? else {
@@ -60,13 +96,10 @@ pub fn open_tables<R: CommitRule>(
             slot: Slot(0),
         });
     };
-    if let Some(Breach { law, slot }) = counts(alloc, standing.chart(), list)? {
-        return Err(RecoverError::Unsound { law, slot });
+    match counts(standing.chart(), &orbits, list) {
+        None => Ok(spare),
+        Some(Breach { law, slot }) => Err(RecoverError::Unsound { law, slot }),
     }
-    let mut index = Index::from_standing(alloc, config, seen, list, standing)?;
-    index.set_spare(spare);
-    let blocks = block_table(alloc, shape, seen, spare)?;
-    Ok((index, blocks))
 }
 
 /// The block table of slots that read so, with this spare.

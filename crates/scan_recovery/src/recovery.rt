@@ -106,5 +106,5 @@ fn sound_scan<F: Flash>(
 fn charted(alloc: Global, list: &[Found]) -> Result<Chart, AllocError>
     ensures { IfOk result (λ chart. Sorts list.now chart) }
 {
-    Chart::new(alloc, list.to_vec(alloc)?)
+    Chart::of(alloc, list)
 }

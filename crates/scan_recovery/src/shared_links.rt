@@ -1,27 +1,38 @@
 //! Law 3, by the records in order of their links.
 ghost use Rattle.std.specs.Prelude.{◌≡◌, IfOk, length};
 ghost use Rattle.record_list.specs.Records.{IsScanned};
+ghost use Rattle.record_chart.specs.Charts.{Sorts};
 ghost use Rattle.record_list.specs.SoundList.{LinksDiffer};
 ghost use Rattle.scan_recovery.specs.Searches.{FindsLowest, IsLowestSharer, lower, share_link};
 
+use crate::own_links::have_own_links;
 use crate::removable::has_name_of;
-use record_chart::sort_by_link;
+use record_chart::{Chart, sort_by_link};
 use record_list::Found;
 use std::alloc::{AllocError, Global};
 use tx_types::{Rec, Slot};
 
 /// The lowest slot whose record breaks law 3: a record in a lower slot has its link and another name.
-pub fn lowest_shared_link(alloc: Global, list: &[Found]) -> Result<Option<Slot>, AllocError>
-    requires { IsScanned list.now }
+/// The records are in order of their names too.
+pub fn lowest_shared_link(
+    alloc: Global,
+    chart: &Chart,
+    list: &[Found],
+) -> Result<Option<Slot>, AllocError>
+    requires scanned { IsScanned list.now }
+    requires sorts { Sorts list.now chart.now }
     ensures { IfOk result (FindsLowest (LinksDiffer list.now) list.now) }
 {
+    if have_own_links(alloc, chart)? {
+        return Ok(None);
+    }
     let mut by_link = list.to_vec(alloc)?;
     sort_by_link(&mut by_link)?;
     Ok(lowest_sharer(&by_link))
 }
 
 /// The lowest slot whose record has the link of the record before it, and another name.
-fn lowest_sharer(by_link: &[Found]) -> Option<Slot>
+pub fn lowest_sharer(by_link: &[Found]) -> Option<Slot>
     ensures { IsLowestSharer by_link.now (length by_link.now) result }
 {
     let mut lowest = None;

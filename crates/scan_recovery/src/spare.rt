@@ -5,7 +5,9 @@ ghost use Rattle.record_list.specs.Records.{IsScanned};
 ghost use Rattle.record_list.specs.SoundList.{CopiesAgree};
 ghost use Rattle.record_chart.specs.Charts.{Sorts};
 ghost use Rattle.version_index.specs.Notes.{complete_slots};
-ghost use Rattle.scan_recovery.specs.Opening.{reads_blank, seen_in_block, IsBlankBlock, FindsHighest, FindsSpare};
+ghost use Rattle.flash_model.specs.Readings.{reads_blank, seen_in_block};
+ghost use Rattle.version_index.specs.Opening.{IsBlankBlock};
+ghost use Rattle.scan_recovery.specs.Opening.{FindsHighest, FindsSpare};
 
 use crate::removable::highest_removable;
 use flash_model::Seen;

@@ -1,5 +1,5 @@
 -- Mentions that a noted record raises.
-use Rattle.std.proofs.Common.{◌≡◌, ℕ, ◌<◌, ◌≤◌, max, ◌==◌, ◌+◌, List, length, map, take, get_or, sym, ap, ◌∙◌, subst, inl, inr, arith, eqb, eq-eqb, ne_eqb, if◌then◌else◌}
+use Rattle.std.proofs.Common.{◌≡◌, ℕ, ◌<◌, ◌≤◌, max, ◌==◌, ◌+◌, List, [], ◌∷◌, refl, ap₂, length, map, take, get_or, sym, ap, ◌∙◌, subst, inl, inr, arith, eqb, eq-eqb, ne_eqb, if◌then◌else◌}
 use Rattle.std.proofs.lemmas.Bool.{cases_eq, cond-true, cond-false}
 use Rattle.std.specs.List.{range_with_len}
 use Rattle.std.proofs.lemmas.List.{length-set, get_or-set_same, get_or-set_other, ext_get_or}
@@ -13,6 +13,8 @@ use Rattle.record_list.specs.Changes.{IsInserted}
 use Rattle.record_list.proofs.Greatest.{greatest_step}
 use Rattle.record_list.proofs.Names.{greatest_bound, greatest_least}
 use Rattle.record_list.proofs.OneMore.{inserted_in}
+use Rattle.record_chart.specs.Charts.{Sorts}
+use Rattle.record_chart.proofs.Alike.{greatest_alike}
 use Rattle.version_index.specs.Noted.{raised, raised_to}
 
 -- the version at which a name mentions a page
@@ -94,3 +96,9 @@ mentions_are list some count mentions all are =
     (λ page low. (let s = are.size in
     are.each page (omega arith) ∙ ap (λ l. mention l page) all
     ∙ sym (get_or-map-range_with_len (mention list) 0 count page page 0 (omega arith) (omega arith))))
+
+-- records in the order of their names mention pages as before
+pub mentions_sorted : (list sorted records : List Found) → Sorts list sorted → records ≡ sorted → (pages : List ℕ) → map (mention records) pages ≡ map (mention list) pages
+mentions_sorted list sorted records is same [] = refl
+mentions_sorted list sorted records is same (page ∷ pages) =
+    ap₂ (λ x xs. x ∷ xs) (ap (λ l. mention l page) same ∙ greatest_alike list sorted is (mentioned_at page)) (mentions_sorted list sorted records is same pages)

@@ -1,5 +1,5 @@
 -- The slots of a scan hold the numbers of their records.
-use Rattle.std.proofs.Common.{◌≡◌, ℕ, ◌+◌, ◌<◌, ◌≤◌, Bool, true, eqb, List, [], ◌∷◌, ◌++◌, length, map, set, get_or, Contains, Some, None, refl, sym, ap, ◌∙◌, subst, inl, inr, arith, eq-eqb}
+use Rattle.std.proofs.Common.{◌≡◌, ℕ, ◌+◌, ◌<◌, ◌≤◌, Bool, true, eqb, List, [], ◌∷◌, ◌++◌, length, map, set, get_or, All, Contains, Some, None, refl, sym, ap, ◌∙◌, subst, subst₂, inl, inr, arith, eq-eqb}
 use Rattle.std.specs.Option.{option_map_or}
 use Rattle.std.specs.Prelude.{position}
 use Rattle.std.proofs.Math.ListN.{get_or-map}
@@ -7,6 +7,7 @@ use Rattle.std.proofs.lemmas.Bool.{false≢true, cases_eq, cases_lt, and_from}
 use Rattle.std.proofs.lemmas.List.{length-map, length-append, get_or_push, get_or_append_left, length-set, get_or-set_same, get_or-set_other, get_or_past, ext_get_or}
 use Rattle.std.proofs.lemmas.List.Elements.{at_from_Contains, Contains-get_or}
 use Rattle.std.proofs.lemmas.Option.{none-some}
+use Rattle.list_facts.proofs.Membership.{all_from}
 use Rattle.list_facts.proofs.Positions.{position-all, position_some}
 use Rattle.list_facts.proofs.Tests.{find-position, find_stands}
 use Rattle.tx_types.specs.Config.{slots_of}
@@ -15,19 +16,20 @@ use Rattle.tx_types.specs.declared.record.Rec.{Rec}
 use Rattle.record_list.specs.declared.found.Found.{Found}
 use Rattle.record_list.specs.Records as records
 use Rattle.record_list.specs.Records.{name_of, has_name, is_present, nothing}
-use Rattle.record_list.proofs.Names.{found_named, present_in, has_name_true}
+use Rattle.record_list.proofs.Names.{found_named, present_in, has_name_true, has_own_name}
 use Rattle.slot_tables.specs.declared.slots.SlotUse.{SlotUse}
 use Rattle.slot_tables.specs.declared.slots.SlotUse.TheVariants as slot
 use Rattle.slot_tables.specs.Copies.{NumbersBelow}
 use Rattle.slot_tables.specs.Kept.{Kept, record_at, use_at}
 use Rattle.version_index.specs.declared.note.Note.{Note}
 use Rattle.version_index.specs.declared.note.Note.TheVariants as note
-use Rattle.version_index.specs.Filling.{NamesAgree, AreNumbered, AreListed, AreUses, IsListed, IsNumberAt, UsesNote}
+use Rattle.version_index.specs.Filling.{NamesAgree, AreNumbered, AreListed, AreUses, IsNumberAt, UsesNote, first_use, ArePut}
 use Rattle.flash_model.specs.declared.flash.Seen.{Seen}
-use Rattle.version_index.specs.Notes.{note_at, complete_slots}
+use Rattle.flash_model.specs.declared.flash.Seen.TheVariants as seen
+use Rattle.version_index.specs.Notes.{note_at, seen_as, complete_slots}
 use Rattle.version_index.specs.Tables.{note_in, notes_in}
-use Rattle.version_index.proofs.FoundIn.{noted_in, holds_within, found}
-use Rattle.version_index.proofs.Scans.{IsScannedTo, slots, scan_start, scan_end}
+use Rattle.version_index.proofs.FoundIn.{noted_in, noted_from, holds_within, found}
+use Rattle.version_index.proofs.Scans.{slots, scanned_notes}
 
 -- a name that is present has a place
 pub not_missing : (list : List Found) (rec : Rec) → is_present list (name_of rec) ≡ true → position (λ f. has_name (name_of rec) f.rec) list ≡ None → ⊥
@@ -38,15 +40,6 @@ not_missing list rec present none =
     let own = and_from (eqb f.0.rec.page rec.page) (eqb f.0.rec.version rec.version)
     (eq-eqb f.0.rec.page rec.page (ap (λ (l : Link). l.page) f.2)) (eq-eqb f.0.rec.version rec.version (ap (λ (l : Link). l.version) f.2)) in
     false≢true (sym fails ∙ ap (λ g. has_name (name_of rec) g.rec) (k.2 nothing) ∙ own)
-
--- and the number there is one with the name
-pub number_there : (list : List Found) (numbers : List ℕ) (rec : Rec) (place : ℕ) → position (λ f. has_name (name_of rec) f.rec) list ≡ Some place →
-    IsNumberAt list numbers rec (get_or numbers place 0)
-number_there list numbers rec place e =
-    let p : Found → Bool = λ f. has_name (name_of rec) f.rec in
-    let within = position_some p list place e in
-    let stands = find_stands p list (get_or list place nothing) (find-position p list place nothing e) in
-    record { place = place; within = within.1; number = refl; its_name = stands.1 }
 
 module _ (list : List Found) (numbers : List ℕ) (k : Kept) (numbered : AreNumbered list numbers k) (whole : length numbers ≡ length list)
     (agree : NamesAgree list) where
@@ -118,10 +111,10 @@ module _ (list : List Found) (numbers : List ℕ) (k : Kept) (notes : List Note)
       of_note (note.Holds rec) h = (h.place, h.within, h.number)
 
 -- slots that are used so by what is noted of them are used as they were noted
-pub uses_held : (list : List Found) (numbers : List ℕ) (k t : Kept) (seen : List Seen) (scanned : List Found) (uses : List SlotUse)
+pub uses_held : (list : List Found) (numbers : List ℕ) (k t : Kept) (all : List Seen) (scanned : List Found) (uses : List SlotUse)
     → AreNumbered list numbers k → length numbers ≡ length list → NamesAgree list → ((f : Found) → Contains scanned f → Contains list f)
-    → (h : AreUses list numbers seen scanned uses) → t ≡ record k { slots = uses } → IsHolding list numbers k t h.notes (length h.notes)
-uses_held list numbers k t seen scanned uses numbered whole agree listed h e = record {
+    → (h : AreUses list numbers all scanned uses) → t ≡ record k { slots = uses } → IsHolding list numbers k t h.notes (length h.notes)
+uses_held list numbers k t all scanned uses numbered whole agree listed h e = record {
   rest = e ∙ ap (λ (s : List SlotUse). record k { slots = s }) (sym (ap (λ (v : Kept). v.slots) e));
   size = ap (λ (v : Kept). length v.slots) e ∙ h.size;
   done = λ a low high.
@@ -135,52 +128,95 @@ uses_held list numbers k t seen scanned uses numbered whole agree listed h e = r
 }
 
 -- the numbers of such slots are in range
-pub each_below : (list : List Found) (numbers : List ℕ) (k : Kept) (seen : List Seen) (scanned : List Found) (uses : List SlotUse)
+pub each_below : (list : List Found) (numbers : List ℕ) (k : Kept) (all : List Seen) (scanned : List Found) (uses : List SlotUse)
     → AreNumbered list numbers k → length numbers ≡ length list → NamesAgree list → length k.records ≡ slots_of k.shape
-    → (h : AreUses list numbers seen scanned uses) → (at : ℕ) → NumbersBelow (slots_of k.shape) (use_at uses at)
-each_below list numbers k seen scanned uses numbered whole agree sizes h at = elim (cases_lt at (length uses)) [
+    → (h : AreUses list numbers all scanned uses) → (at : ℕ) → NumbersBelow (slots_of k.shape) (use_at uses at)
+each_below list numbers k all scanned uses numbered whole agree sizes h at = elim (cases_lt at (length uses)) [
   | inl low ↦ (let size = h.size in
       uses_below list numbers k numbered whole agree sizes (note_at h.notes at) (use_at uses at) (h.each at (omega arith)))
   | inr past ↦ subst (NumbersBelow (slots_of k.shape)) (sym (get_or_past uses at slot.Blank past)) tt
 ]
 
--- the uses of the first slots, by their notes
-pub record AreUsesTo (list : List Found) (numbers : List ℕ) (all : List Seen) (scanned : List Found) (i next : ℕ) (uses : List SlotUse) : Type 0 where
-  pub notes : List Note
-  pub scan : IsScannedTo all scanned i next notes
-  pub size : length uses ≡ length notes
-  pub each : (at : ℕ) → at < length notes → UsesNote list numbers (note_at notes at) (use_at uses at)
+-- a slot is noted blank or damaged, or holds a record
+unnoted : (its : Note) (u : SlotUse) (how : Seen) → seen_as its ≡ how → ((rec : Rec) → its ≡ note.Holds rec → ⊥) → u ≡ first_use how → (list : List Found) (numbers : List ℕ)
+    → UsesNote list numbers its u
+unnoted note.Blank u how e none is list numbers = is ∙ ap first_use (sym e)
+unnoted note.Damaged u how e none is list numbers = is ∙ ap first_use (sym e)
+unnoted (note.Holds rec) u how e none is list numbers = absurd (none rec refl)
 
-module _ (list : List Found) (numbers : List ℕ) (all : List Seen) (scanned : List Found) where
-  pub no_uses : slots scanned ≡ complete_slots all → AreUsesTo list numbers all scanned 0 0 []
-  no_uses complete = record { notes = []; scan = scan_start all scanned complete; size = refl; each = λ at low. absurd (omega arith) }
+-- slots in which the records of a scan were put are used by what is noted of them
+pub put_used : (list : List Found) (numbers : List ℕ) (all : List Seen) (scanned : List Found) (uses : List SlotUse) → slots scanned ≡ complete_slots all
+    → ((f : Found) → Contains scanned f → Contains list f) → ((f : Found) → Contains list f → Contains scanned f)
+    → ArePut list numbers all (length list) uses → AreUses list numbers all scanned uses
+put_used list numbers all scanned uses complete listed known put =
+    let (its_notes, reads, its_found) = scanned_notes all scanned complete in
+    let long : length its_notes ≡ length all = sym (length-map its_notes seen_as) ∙ ap length reads in
+    record {
+      notes = its_notes;
+      reads = reads;
+      found = its_found;
+      size = put.size ∙ sym long;
+      each = λ at low. elim (put.each at (omega arith)) [
+        | inl (j, within, there, is) ↦
+            let f = get_or list j nothing in
+            let stands = noted_from its_notes f (subst (λ l. Contains l f) (sym its_found) (known f (Contains-get_or list j nothing within))) in
+            subst₂ (UsesNote list numbers) (sym stands.1 ∙ ap (note_at its_notes) there) (sym is)
+            (record { place = j; within = within; number = refl; its_name = has_own_name (name_of f.rec) f.rec refl })
+        | inr (none, is) ↦
+            unnoted (note_at its_notes at) (use_at uses at) (get_or all at seen.Blank)
+            (sym (get_or-map seen_as its_notes at note.Blank) ∙ ap (λ l. get_or l at seen.Blank) reads)
+            (λ rec e.
+            let f = found at rec in
+            let own = listed f (subst (λ l. Contains l f) its_found (noted_in its_notes at rec low e)) in
+            let k = at_from_Contains list f own in
+            none k.0 k.1 (ap (λ g. g.slot.0) (k.2 nothing)))
+            is list numbers
+      ];
+    }
 
-  pub one_use : (i next next' : ℕ) (uses : List SlotUse) (its : Note) (u : SlotUse) → (h : AreUsesTo list numbers all scanned i next uses)
-      → IsScannedTo all scanned (i + 1) next' (h.notes ++ its ∷ []) → UsesNote list numbers its u
-      → AreUsesTo list numbers all scanned (i + 1) next' (uses ++ u ∷ [])
-  one_use i next next' uses its u h scan is = record {
-    notes = h.notes ++ its ∷ [];
-    scan = scan;
-    size = length-append uses (u ∷ []) ∙ ap (λ n. n + 1) h.size ∙ sym (length-append h.notes (its ∷ []));
-    each = λ at low.
-        let size = h.size in
-        let long = length-append h.notes (its ∷ []) in
-        elim (cases_eq at (length h.notes)) [
-          | inl last ↦
-              subst (λ n. UsesNote list numbers n (use_at (uses ++ u ∷ []) at)) (sym (get_or_push h.notes its note.Blank at (sym last)))
-              (subst (UsesNote list numbers its) (sym (get_or_push uses u slot.Blank at (size ∙ sym last))) is)
-          | inr other ↦
-              let before : at < length h.notes = omega arith in
-              subst (λ n. UsesNote list numbers n (use_at (uses ++ u ∷ []) at)) (sym (get_or_append_left h.notes (its ∷ []) note.Blank at before))
-              (subst (UsesNote list numbers (note_at h.notes at)) (sym (get_or_append_left uses (u ∷ []) slot.Blank at (omega arith))) (h.each at before))
-        ];
-  }
+-- and there are such slots
+pub put_within : (list : List Found) (all : List Seen) (scanned : List Found) → slots scanned ≡ complete_slots all
+    → ((f : Found) → Contains list f → Contains scanned f) → All (λ f. f.slot.0 < length all) list
+put_within list all scanned complete known =
+    let (its_notes, reads, its_found) = scanned_notes all scanned complete in
+    let long : length its_notes ≡ length all = sym (length-map its_notes seen_as) ∙ ap length reads in
+    all_from (λ f. f.slot.0 < length all) list (λ f i.
+    let stands = noted_from its_notes f (subst (λ l. Contains l f) (sym its_found) (known f i)) in
+    let low = stands.0 in
+    omega arith)
 
-  pub all_uses : (i next : ℕ) (uses : List SlotUse) → AreUsesTo list numbers all scanned i next uses → length all ≤ i
-      → AreUses list numbers all scanned uses
-  all_uses i next uses h past =
-      let ends = scan_end all scanned i next h.notes h.scan past in
-      record { notes = h.notes; reads = ends.0; found = ends.1; size = h.size; each = h.each }
+-- one record more is put where it stands
+pub put_more : (list : List Found) (numbers : List ℕ) (all : List Seen) (count : ℕ) (uses : List SlotUse) → ArePut list numbers all count uses
+    → (get_or list count nothing).slot.0 < length uses
+    → ArePut list numbers all (count + 1) (set uses (get_or list count nothing).slot.0 (slot.Holds (get_or numbers count 0)))
+put_more list numbers all count uses put low =
+    let there = (get_or list count nothing).slot.0 in
+    let u = slot.Holds (get_or numbers count 0) in
+    record {
+      size = length-set uses there u ∙ put.size;
+      each = λ at within. elim (cases_eq at there) [
+        | inl here ↦ inl (count, omega arith, sym here, ap (use_at (set uses there u)) here ∙ get_or-set_same uses there u slot.Blank low)
+        | inr off ↦
+            let same = get_or-set_other uses there at u slot.Blank off in
+            elim (put.each at within) [
+              | inl (j, less, stands, is) ↦ inl (j, omega arith, stands, same ∙ is)
+              | inr (none, is) ↦ inr (
+                λ j less stands. elim (cases_eq j count) [
+                  | inl e ↦ off (sym stands ∙ ap (λ k. (get_or list k nothing).slot.0) e)
+                  | inr other ↦ none j (omega arith) stands
+                ],
+                same ∙ is,
+              )
+            ]
+      ];
+    }
+
+-- at first none is
+pub none_put : (list : List Found) (numbers : List ℕ) (all : List Seen) (uses : List SlotUse) → uses ≡ map first_use all → ArePut list numbers all 0 uses
+none_put list numbers all uses is = record {
+  size = ap length is ∙ length-map all first_use;
+  each = λ at within. inr (λ j less. absurd (omega arith), ap (λ l. use_at l at) is ∙ get_or-map first_use all at seen.Blank);
+}
 
 -- so many of the last slots are used so
 pub record AreUsedFrom (k t : Kept) (uses : List SlotUse) (count : ℕ) : Type 0 where

@@ -1,13 +1,14 @@
 -- The notes of slots that were scanned, made from how they read and from the list of their records.
-use Rattle.std.proofs.Common.{◌≡◌, ℕ, suc, ◌+◌, ◌<◌, ◌≤◌, List, [], ◌∷◌, ◌++◌, length, get_or, take, drop, map, Option, None, refl, sym, ap, ◌∙◌, arith}
+use Rattle.std.proofs.Common.{◌≡◌, ℕ, zero, suc, ◌+◌, ◌<◌, ◌≤◌, List, [], ◌∷◌, ◌++◌, ◌⊎◌, inl, inr, length, get_or, take, drop, map, Option, None, refl, sym, ap, ◌∙◌, arith}
 use Rattle.std.specs.List.{cons_option}
 use Rattle.std.proofs.lemmas.List.{take_all, drop_all, nil_from_length, append-nil, append_assoc, length-drop, length-map, take_more, drop_more, map_push, length-take-le}
 use Rattle.tx_types.specs.declared.record.Rec.{Rec}
 use Rattle.flash_model.specs.declared.flash.Seen.{Seen}
 use Rattle.flash_model.specs.declared.flash.Seen.TheVariants as seen
 use Rattle.record_list.specs.declared.found.Found.{Found}
+use Rattle.record_list.specs.Records.{nothing}
 use Rattle.version_index.specs.declared.note.Note.{Note}
-use Rattle.version_index.specs.declared.note.Note.TheVariants.{Holds}
+use Rattle.version_index.specs.declared.note.Note.TheVariants.{Blank, Damaged, Holds}
 use Rattle.version_index.specs.Notes.{seen_as, found_at, found_in, complete_at, complete_slots}
 use Rattle.version_index.proofs.Given.{given}
 use Rattle.version_index.proofs.FoundIn.{found_in_nil, found_in_push}
@@ -86,3 +87,24 @@ scan_end all list i next notes s past =
     let left : slots (drop next list) ≡ [] = s.rest ∙ ap (given numbered_complete i) (drop_all i all past) in
     let none : drop next list ≡ [] = nil_from_length (drop next list) (sym (length-map (drop next list) (λ f. f.slot.0)) ∙ ap length left) in
     (s.reads ∙ take_all i all past, sym (append-nil (found_in notes)) ∙ ap (λ l. found_in notes ++ l) (sym none) ∙ s.found)
+
+cases_Seen : (how : Seen) → (how ≡ seen.Blank) ⊎ ((how ≡ seen.Damaged) ⊎ (how ≡ seen.Complete))
+cases_Seen seen.Blank = inl refl
+cases_Seen seen.Damaged = inr (inl refl)
+cases_Seen seen.Complete = inr (inr refl)
+
+-- slots that were scanned can be noted
+notes_from : (all : List Seen) (list : List Found) (n i next : ℕ) (notes : List Note) → n + i ≡ length all → IsScannedTo all list i next notes
+    → (its : List Note) × (map seen_as its ≡ all) × (found_in its ≡ list)
+notes_from all list zero i next notes sum s = let ends = scan_end all list i next notes s (omega arith) in (notes, ends.0, ends.1)
+notes_from all list (suc n) i next notes sum s = elim (cases_Seen (get_or all i seen.Blank)) [
+  | inl e ↦ notes_from all list n (i + 1) next (notes ++ Blank ∷ []) (omega arith)
+      (scan_without all list i next notes (omega arith) s Blank (sym e) (ap (complete_at i) e) refl)
+  | inr (inl e) ↦ notes_from all list n (i + 1) next (notes ++ Damaged ∷ []) (omega arith)
+      (scan_without all list i next notes (omega arith) s Damaged (sym e) (ap (complete_at i) e) refl)
+  | inr (inr e) ↦ notes_from all list n (i + 1) (next + 1) (notes ++ Holds (get_or list next nothing).rec ∷ []) (omega arith)
+      (scan_with all list i next notes (omega arith) s nothing e)
+]
+
+pub scanned_notes : (all : List Seen) (list : List Found) → slots list ≡ complete_slots all → (its : List Note) × (map seen_as its ≡ all) × (found_in its ≡ list)
+scanned_notes all list complete = notes_from all list (length all) 0 0 [] (omega arith) (scan_start all list complete)

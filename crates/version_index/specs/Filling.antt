@@ -1,5 +1,5 @@
 -- Tables that are filled with the records of a scan.
-use Rattle.std.specs.Prelude.{◌≡◌, ◌≢◌, ℕ, replicate, true, ◌<◌, ◌≤◌, ◌⊎◌, List, length, map, slice_index, Option, Some, None, option_and_then, position, Contains}
+use Rattle.std.specs.Prelude.{◌≡◌, ◌≢◌, ℕ, replicate, true, ◌<◌, ◌≤◌, ◌⊎◌, List, length, map, slice_index, slice_index_or, Option, Some, None, option_and_then, position, Contains}
 use Rattle.std.specs.Option.{option_map}
 use Rattle.tx_types.specs.declared.record.Link.{Link}
 use Rattle.tx_types.specs.Config.{slots_of}
@@ -16,6 +16,7 @@ use Rattle.slot_tables.specs.declared.slots.SlotUse.TheVariants as slot
 use Rattle.version_index.specs.declared.note.Note.{Note}
 use Rattle.version_index.specs.declared.note.Note.TheVariants as note
 use Rattle.flash_model.specs.declared.flash.Seen.{Seen}
+use Rattle.flash_model.specs.declared.flash.Seen.TheVariants as seen
 use Rattle.version_index.specs.Notes.{found_in, note_at, seen_as}
 use Rattle.version_index.specs.Judged.{name_at, answerer, is_waiting}
 use Rattle.version_index.specs.JudgedChanges.{Judged}
@@ -78,11 +79,6 @@ pub record AreBlankBut (its_shape : Shape) (logical : ℕ) (k : Kept) : Type 0 w
 abbrev pub AreListed : List Note → List Found → Type 0
 AreListed notes list = (f : Found) → Contains (found_in notes) f → Contains list f
 
-abbrev pub IsListed : List Found → Note → Type 0
-IsListed list note.Blank = Unit {0}
-IsListed list note.Damaged = Unit {0}
-IsListed list (note.Holds rec) = is_present list (name_of rec) ≡ true
-
 -- the number at some place of a list has the name of this record
 pub record IsNumberAt (list : List Found) (numbers : List ℕ) (rec : Rec) (x : ℕ) : Type 0 where
   pub place : ℕ
@@ -99,12 +95,29 @@ UsesNote list numbers (note.Holds rec) slot.Damaged = ⊥
 UsesNote list numbers (note.Holds rec) (slot.Holds x) = IsNumberAt list numbers rec x
 
 -- slots that read so and hold these records are used so, by what is noted of them
-pub record AreUses (chart : List Found) (numbers : List ℕ) (seen : List Seen) (list : List Found) (uses : List SlotUse) : Type 0 where
+pub record AreUses (chart : List Found) (numbers : List ℕ) (how : List Seen) (list : List Found) (uses : List SlotUse) : Type 0 where
   pub notes : List Note
-  pub reads : map seen_as notes ≡ seen
+  pub reads : map seen_as notes ≡ how
   pub found : found_in notes ≡ list
   pub size : length uses ≡ length notes
   pub each : (at : ℕ) → at < length notes → UsesNote chart numbers (note_at notes at) (use_at uses at)
+
+-- how a slot is used that reads so, where no record stands in it
+abbrev pub first_use : Seen → SlotUse
+first_use seen.Blank = slot.Blank
+first_use seen.Damaged = slot.Damaged
+first_use seen.Complete = slot.Damaged
+
+-- a slot holds the number of one of the first of these records, which stands in it, or none of them stands in it
+abbrev pub IsPut : List Found → List ℕ → List Seen → ℕ → ℕ → SlotUse → Type 0
+IsPut list numbers how count at u =
+    ((j : ℕ) × (j < count) × ((slice_index_or list j records.nothing).slot.0 ≡ at) × (u ≡ slot.Holds (slice_index numbers j)))
+    ⊎ (((j : ℕ) → j < count → (slice_index_or list j records.nothing).slot.0 ≢ at) × (u ≡ first_use (slice_index_or how at seen.Blank)))
+
+-- each slot does
+pub record ArePut (list : List Found) (numbers : List ℕ) (how : List Seen) (count : ℕ) (uses : List SlotUse) : Type 0 where
+  pub size : length uses ≡ length how
+  pub each : (at : ℕ) → at < length how → IsPut list numbers how count at (use_at uses at)
 
 -- the number at the place of a name
 abbrev pub number_by : List Found → List ℕ → Option Link → Option ℕ

@@ -14,3 +14,4 @@ pub mod Going
 pub mod Losing
 pub mod Committing
 pub mod Filling
+pub mod Opening

@@ -35,6 +35,7 @@ pub fn fill(
     requires agree { NamesAgree standing.now.list }
     requires exist { All (PagesExist logical) standing.now.list }
     requires listed { (f : Found) → Contains list.now f → Contains standing.now.list f }
+    requires known { (f : Found) → Contains standing.now.list f → Contains list.now f }
     requires few { length standing.now.list ≤ slots_of tables.old.shape }
     ensures reads { OnOk result (map seen_as (notes_in tables.new) ≡ seen.now) }
     ensures found { OnOk result (found_in (notes_in tables.new) ≡ list.now) }
@@ -43,7 +44,7 @@ pub fn fill(
 {
     let chart = standing.chart();
     let numbers = number_records(alloc, tables, chart.records())?;
-    let uses = used_slots(alloc, chart, &numbers, seen, list)?;
+    let uses = used_slots(alloc, chart.records(), &numbers, seen)?;
     hold_uses(tables, &uses);
     decide_current(tables, logical, standing, &numbers);
     decide_records(tables, logical, standing, &numbers);
@@ -61,6 +62,6 @@ pub fn standing_of(
     ensures protocol { IfOk result (λ s. s.protocol ≡ protocol) }
     ensures logical { IfOk result (λ s. s.logical ≡ logical) }
 {
-    let chart = Chart::new(alloc, list.to_vec(alloc)?)?;
+    let chart = Chart::of(alloc, list)?;
     Standing::new(alloc, chart, protocol, logical)
 }

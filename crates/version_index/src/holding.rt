@@ -1,48 +1,58 @@
-ghost use Rattle.std.specs.Prelude.{◌≡◌, ℕ, length, map, Contains, IfOk};
+ghost use Rattle.std.specs.Prelude.{◌≡◌, ◌<◌, ℕ, All, length, map, slice_set, IfOk};
 ghost use Rattle.tx_types.specs.Config.{slots_of};
-ghost use Rattle.record_list.specs.declared.found.Found.{Found};
 ghost use Rattle.slot_tables.specs.Copies.{NumbersBelow};
 ghost use Rattle.slot_tables.specs.Kept.{use_at};
-ghost use Rattle.version_index.specs.Filling.{IsListed, UsesNote, AreUses};
-ghost use Rattle.version_index.specs.Notes.{complete_slots};
+ghost use Rattle.slot_tables.specs.declared.slots.SlotUse.TheVariants as slot;
+ghost use Rattle.version_index.specs.Filling.{first_use, ArePut};
 
-use crate::Note;
 use flash_model::Seen;
-use record_chart::Chart;
 use record_list::Found;
 use slot_tables::{Filling, SlotUse};
-use std::alloc::Global;
-use tx_types::{Link, Memory, Slot};
+use std::alloc::{AllocError, Global};
+use tx_types::{Memory, Slot};
 
-/// How each slot is used that reads so and holds these records, in the order of their slots, by the numbers of
-/// the records.
+/// How each slot is used that reads so, where these records with these numbers stand.
 pub fn used_slots(
     alloc: Global,
-    chart: &Chart,
+    records: &[Found],
     numbers: &[u32],
     seen: &[Seen],
-    list: &[Found],
 ) -> Result<Vec<SlotUse>, Memory>
-    requires complete { map (λ f. f.slot.0) list.now ≡ complete_slots seen.now }
-    requires whole { length numbers.now ≡ length chart.now }
-    requires listed { (f : Found) → Contains list.now f → Contains chart.now f }
-    ensures { IfOk result (λ uses. AreUses chart.now numbers.now seen.now list.now uses.items) }
+    requires whole { length numbers.now ≡ length records.now }
+    requires within { All (λ f. f.slot.0 < length seen.now) records.now }
+    ensures { IfOk result (λ uses. ArePut records.now numbers.now seen.now
+        (length records.now) uses.items) }
 {
-    let mut uses = Vec::with_capacity(alloc, seen.len())?;
-    let mut next = 0;
-    for how in seen {
-        let note = match how {
-            Seen::Blank => Note::Blank,
-            Seen::Damaged => Note::Damaged,
-            Seen::Complete => {
-                let rec = list[next].rec;
-                next += 1;
-                Note::Holds(rec)
-            }
-        };
-        uses.push(use_of(chart, numbers, note))?;
+    let mut uses = first_uses(alloc, seen)?;
+    for place in 0..records.len() {
+        put(&mut uses, records[place].slot, numbers[place]);
     }
     Ok(uses)
+}
+
+/// A slot holds the record of a number.
+fn put(uses: &mut Vec<SlotUse>, at: Slot, number: u32)
+    requires { at.0 < length uses.old.items }
+    ensures { uses.new.items ≡ slice_set uses.old.items at.0 (slot.Holds number) }
+{
+    uses[at.0 as usize] = SlotUse::Holds(number);
+}
+
+/// How each slot is used where no record stands.
+fn first_uses(alloc: Global, seen: &[Seen]) -> Result<Vec<SlotUse>, AllocError>
+    ensures { IfOk result (λ uses. uses.items ≡ map first_use seen.now) }
+{
+    seen.iter().map(|how| first_use(*how)).collect(alloc)
+}
+
+/// How a slot is used that reads so, where no record stands in it.
+fn first_use(how: Seen) -> SlotUse
+    ensures { result ≡ first_use how }
+{
+    match how {
+        Seen::Blank => SlotUse::Blank,
+        Seen::Damaged | Seen::Complete => SlotUse::Damaged,
+    }
 }
 
 /// Each slot is used so. The last slots come first, as each record then goes in front of its copies.
@@ -56,27 +66,5 @@ pub fn hold_uses(tables: &mut Filling, uses: &[SlotUse])
     for i in 0..count {
         let at = count - 1 - i;
         tables.set_slot(Slot(at as u32), uses[at]);
-    }
-}
-
-/// How a slot is used of which this is noted.
-fn use_of(chart: &Chart, numbers: &[u32], note: Note) -> SlotUse
-    requires whole { length numbers.now ≡ length chart.now }
-    requires listed { IsListed chart.now note }
-    ensures { UsesNote chart.now numbers.now note result }
-{
-    match note {
-        Note::Blank => SlotUse::Blank,
-        Note::Damaged => SlotUse::Damaged,
-        Note::Holds(rec) => {
-            let name = Link {
-                page: rec.page,
-                version: rec.version,
-            };
-            match chart.find(name) {
-                Some(place) => SlotUse::Holds(numbers[place as usize]),
-                None => unreachable!(),
-            }
-        }
     }
 }

@@ -89,7 +89,7 @@ impl<R: CommitRule> Index<R> {
         Ok(Index {
             config,
             tables,
-            mentions: first_mentions(alloc, list, config.logical)?,
+            mentions: first_mentions(alloc, standing.chart().records(), config.logical)?,
             rule: PhantomData,
         })
     }

@@ -15,8 +15,6 @@ mod mentioning;
 mod note;
 mod numbering;
 mod reading;
-#[cfg(test)]
-mod tests;
 mod theorems;
 
 pub use index::Index;

@@ -1,6 +1,6 @@
 use Rattle.std.proofs.Common.{◌+◌, sym, ap, ◌∙◌, subst, arith}
 use Rattle.die_alloc.specs.BlockTable.{IsBlockTable}
-use Rattle.scan_recovery.specs.Opening.{with_slots}
+use Rattle.die_alloc.specs.Opening.{with_slots}
 use Rattle.scan_recovery.proofs.OpenedTable.{IsOpenedTo, opened_next, opened_all}
 use Rattle.scan_recovery.proofs.opening.block_table.Goals as goal
 

@@ -3,11 +3,12 @@ use Rattle.tx_types.specs.Config.{IsShape, shape_of, slots_of}
 use Rattle.tx_types.proofs.ConfigLemmas.{checked_config}
 use Rattle.record_list.specs.SoundList.{IsSoundList}
 use Rattle.record_list.specs.Written.{HasRemovable}
-use Rattle.scan_recovery.specs.Opening.{opening_table, IsChosenFrom}
+use Rattle.die_alloc.specs.Opening.{opening_table}
+use Rattle.version_index.specs.Opening.{IsChosenFrom}
 use Rattle.scan_recovery.proofs.opening.open_tables.Goals as goal
 
-pub chosen_spare-requires-clause-shape : goal.chosen_spare-requires-clause-shape
-chosen_spare-requires-clause-shape g c =
+pub lawful_spare-requires-clause-shape : goal.lawful_spare-requires-clause-shape
+lawful_spare-requires-clause-shape g c =
     let its = checked_config c.args.config c.args.shape c.requires.check in
     subst IsShape (sym its.1) its.0.shape
 
@@ -17,24 +18,22 @@ from_standing-requires-clause-seen g c = c.requires.seen ∙ ap slots_of (checke
 pub returns-clause-sound : goal.returns-clause-sound
 returns-clause-sound g c =
     let list = c.args.list.now in
-    let keeps = rw c.in_default.is at c.in_ok-law.ensures in
-    let finds = rw c.in-Some-2.is at c.in_ok-spare.ensures in (
-      subst₂ (λ p logical. IsSoundList p list logical) c.requires.protocol c.requires.logical keeps,
-      subst₂ (λ p logical. HasRemovable p list logical c.args.shape) c.requires.protocol c.requires.logical finds.1,
-      rw c.in_default-3.is at c.in_ok-law-2.ensures,
+    let keeps = c.in_ok-spare.ensures.sound in (
+      subst₂ (λ p logical. IsSoundList p list logical) c.requires.protocol c.requires.logical keeps.0,
+      subst₂ (λ p logical. HasRemovable p list logical c.args.shape) c.requires.protocol c.requires.logical keeps.1,
+      keeps.2,
     )
 
 pub returns-clause-tables : goal.returns-clause-tables
 returns-clause-tables g c =
     let config = c.args.config in
     let standing = c.args.standing.now in
-    let spare = c.in-Some-2.spare.0 in
+    let spare = c.in_ok-spare.spare.0 in
     let same = (checked_config config c.args.shape c.requires.check).1 in
-    let finds = rw c.in-Some-2.is at c.in_ok-spare.ensures in
     record {
       spare = spare;
       chosen = subst (λ n. IsChosenFrom config.protocol n (shape_of config) c.args.seen.now c.args.list.now spare) c.requires.logical
-          (subst₂ (λ p s. IsChosenFrom p standing.logical s c.args.seen.now c.args.list.now spare) (c.requires.protocol ∙ sym c.requires.rule) same finds.0);
+          (subst₂ (λ p s. IsChosenFrom p standing.logical s c.args.seen.now c.args.list.now spare) (c.requires.protocol ∙ sym c.requires.rule) same c.in_ok-spare.ensures.spare);
       scan = c.in_ok-index.index;
       scanned = c.in_ok-index.ensures;
       noted_is = c.set_spare.ensures;

@@ -1,6 +1,6 @@
 use Rattle.std.proofs.Common.{◌≡◌, ℕ, ◌<◌, ◌≤◌, true, length, get_or}
 use Rattle.flash_model.specs.declared.flash.Seen.TheVariants.{Blank}
-use Rattle.scan_recovery.specs.Opening.{reads_blank}
+use Rattle.flash_model.specs.Readings.{reads_blank}
 use Rattle.scan_recovery.proofs.opening.used_in.Given as goal
 
 abbrev pub decreases-loop-used : goal.decreases-loop-used

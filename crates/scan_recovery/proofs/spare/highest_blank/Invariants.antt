@@ -1,6 +1,6 @@
 use Rattle.std.proofs.Common.{ℕ, ◌<◌, ◌≤◌}
 use Rattle.tx_types.specs.Config.{blocks_of}
-use Rattle.scan_recovery.specs.Opening.{IsBlankBlock}
+use Rattle.version_index.specs.Opening.{IsBlankBlock}
 use Rattle.scan_recovery.proofs.spare.highest_blank.Given as goal
 
 abbrev pub decreases-loop-block : goal.decreases-loop-block

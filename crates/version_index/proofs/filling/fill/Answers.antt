@@ -8,14 +8,16 @@ use Rattle.version_index.specs.Filling.{NamesAgree, AreNumbered, AreBlankBut, Ar
 use Rattle.version_index.specs.Notes.{seen_as, found_in}
 use Rattle.version_index.specs.Tables.{notes_in}
 use Rattle.version_index.proofs.ScanFilled.{filled_from}
-use Rattle.version_index.proofs.ScanSlots.{all_held, all_placed, each_below, uses_held}
+use Rattle.version_index.proofs.ScanSlots.{all_held, all_placed, each_below, put_used, put_within, uses_held}
 use Rattle.version_index.proofs.filling.fill.Goals as goal
 
 pub number_records-requires-clause-agree : goal.number_records-requires-clause-agree
 number_records-requires-clause-agree c = subst NamesAgree (sym (c.records.ensures.records ∙ c.chart-chart.ensures)) c.requires.agree
 
-pub used_slots-requires-clause-listed : goal.used_slots-requires-clause-listed
-used_slots-requires-clause-listed c f i = subst (λ l. Contains l f) (sym c.chart-chart.ensures) (c.requires.listed f i)
+pub used_slots-requires-clause-within : goal.used_slots-requires-clause-within
+used_slots-requires-clause-within c =
+    rw (c.records-2.ensures.records ∙ c.chart-chart.ensures)
+    (put_within c.args.standing.now.list c.args.seen.now c.args.list.now c.requires.complete c.requires.known)
 
 pub hold_uses-requires-clause-below : goal.hold_uses-requires-clause-below
 hold_uses-requires-clause-below c at =
@@ -29,17 +31,15 @@ hold_uses-requires-clause-below c at =
     let numbered = subst (λ l. AreNumbered l numbers t0) in_chart c.in_ok-numbers.ensures.numbered in
     let whole = c.in_ok-numbers.ensures.whole ∙ ap length in_chart in
     let uses = c.in_ok-uses.uses.items in
-    let used = subst (λ l. AreUses l numbers seen scanned uses) chart
-    (subst (λ ns. AreUses c.chart-chart.result.now ns seen scanned uses) c.deref.ensures.value c.in_ok-uses.ensures) in
+    let put = rw (c.deref.ensures.value, c.records-2.ensures.records ∙ chart) at c.in_ok-uses.ensures in
+    let used = put_used list numbers seen scanned uses c.requires.complete c.requires.listed c.requires.known put in
     let blank = c.in_ok-numbers.ensures.blank in
     let sizes = blank.sizes ∙ sym (ap (λ (k : Kept). slots_of k.shape) blank.rest) in
     rw c.deref-2.ensures.value (each_below list numbers t0 seen scanned uses numbered whole c.requires.agree sizes used at)
 
 pub hold_uses-requires-clause-size : goal.hold_uses-requires-clause-size
 hold_uses-requires-clause-size c =
-    let used = c.in_ok-uses.ensures in
-    ap length c.deref-2.ensures.value ∙ used.size ∙ sym (length-map used.notes seen_as) ∙ ap length used.reads ∙ c.requires.seen
-    ∙ sym (ap (λ (k : Kept). slots_of k.shape) c.in_ok-numbers.ensures.blank.rest)
+    ap length c.deref-2.ensures.value ∙ c.in_ok-uses.ensures.size ∙ c.requires.seen ∙ sym (ap (λ (k : Kept). slots_of k.shape) c.in_ok-numbers.ensures.blank.rest)
 
 pub returns-clause-reads : goal.returns-clause-reads
 returns-clause-reads c =
@@ -53,8 +53,8 @@ returns-clause-reads c =
     let numbered = subst (λ l. AreNumbered l numbers t0) in_chart c.in_ok-numbers.ensures.numbered in
     let whole = c.in_ok-numbers.ensures.whole ∙ ap length in_chart in
     let uses = c.in_ok-uses.uses.items in
-    let used = subst (λ l. AreUses l numbers seen scanned uses) chart
-    (subst (λ ns. AreUses c.chart-chart.result.now ns seen scanned uses) c.deref.ensures.value c.in_ok-uses.ensures) in
+    let put = rw (c.deref.ensures.value, c.records-2.ensures.records ∙ chart) at c.in_ok-uses.ensures in
+    let used = put_used list numbers seen scanned uses c.requires.complete c.requires.listed c.requires.known put in
     let t1 = c.hold_uses.new.tables in
     let is = c.hold_uses.ensures ∙ ap (λ (s : List SlotUse). record t0 { slots = s }) c.deref-2.ensures.value in
     let held = uses_held list numbers t0 t1 seen scanned uses numbered whole c.requires.agree c.requires.listed used is in
@@ -74,8 +74,8 @@ returns-clause-found c =
     let numbered = subst (λ l. AreNumbered l numbers t0) in_chart c.in_ok-numbers.ensures.numbered in
     let whole = c.in_ok-numbers.ensures.whole ∙ ap length in_chart in
     let uses = c.in_ok-uses.uses.items in
-    let used = subst (λ l. AreUses l numbers seen scanned uses) chart
-    (subst (λ ns. AreUses c.chart-chart.result.now ns seen scanned uses) c.deref.ensures.value c.in_ok-uses.ensures) in
+    let put = rw (c.deref.ensures.value, c.records-2.ensures.records ∙ chart) at c.in_ok-uses.ensures in
+    let used = put_used list numbers seen scanned uses c.requires.complete c.requires.listed c.requires.known put in
     let t1 = c.hold_uses.new.tables in
     let is = c.hold_uses.ensures ∙ ap (λ (s : List SlotUse). record t0 { slots = s }) c.deref-2.ensures.value in
     let held = uses_held list numbers t0 t1 seen scanned uses numbered whole c.requires.agree c.requires.listed used is in
@@ -95,8 +95,8 @@ returns-clause-filled c =
     let numbered = subst (λ l. AreNumbered l numbers t0) in_chart c.in_ok-numbers.ensures.numbered in
     let whole = c.in_ok-numbers.ensures.whole ∙ ap length in_chart in
     let uses = c.in_ok-uses.uses.items in
-    let used = subst (λ l. AreUses l numbers seen scanned uses) chart
-    (subst (λ ns. AreUses c.chart-chart.result.now ns seen scanned uses) c.deref.ensures.value c.in_ok-uses.ensures) in
+    let put = rw (c.deref.ensures.value, c.records-2.ensures.records ∙ chart) at c.in_ok-uses.ensures in
+    let used = put_used list numbers seen scanned uses c.requires.complete c.requires.listed c.requires.known put in
     let t1 = c.hold_uses.new.tables in
     let is = c.hold_uses.ensures ∙ ap (λ (s : List SlotUse). record t0 { slots = s }) c.deref-2.ensures.value in
     let held = uses_held list numbers t0 t1 seen scanned uses numbered whole c.requires.agree c.requires.listed used is in

@@ -1,5 +1,5 @@
-use Rattle.version_index.proofs.ScanSlots.{AreUsesTo}
+use Rattle.version_index.specs.Filling.{ArePut}
 use Rattle.version_index.proofs.holding.used_slots.Given as goal
 
-abbrev pub invariant-loop-how : goal.invariant-loop-how
-invariant-loop-how l = AreUsesTo l.chart l.numbers l.seen l.list l.how-index l.next l.uses.items
+abbrev pub invariant-loop-place : goal.invariant-loop-place
+invariant-loop-place l = ArePut l.records l.numbers l.fn.seen l.place l.uses.items

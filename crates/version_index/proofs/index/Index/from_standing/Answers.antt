@@ -2,13 +2,15 @@ use Rattle.std.proofs.Common.{◌≡◌, ◌≤◌, ◌-◌, ◌*◌, length, ap
 use Rattle.std.specs.Result.{result_unwrap_or}
 use Rattle.std.proofs.Math.Nat.{mul-le-mul_right}
 use Rattle.std.proofs.lemmas.List.{length-map}
-use Rattle.std.proofs.lemmas.List.Sorted.{length_permutation, Contains-permutation}
+use Rattle.std.proofs.lemmas.List.Sorted.{length_permutation, Contains-permutation, IsPermutation-sym}
 use Rattle.tx_types.specs.Config.{IsShape, shape_of, slots_of, blocks_of}
 use Rattle.record_chart.specs.Charts.{Sorts}
 use Rattle.slot_tables.specs.Kept.{Kept, blank_tables}
 use Rattle.version_index.specs.Filling.{AreFilled}
 use Rattle.version_index.specs.Noted.{IsNotedFrom}
 use Rattle.version_index.specs.Tables.{noted_by, AreIndexed}
+use Rattle.std.specs.List.{range_with_len}
+use Rattle.version_index.proofs.Mentions.{mentions_sorted}
 use Rattle.version_index.proofs.NotedChanges.{fresh_noted}
 use Rattle.version_index.proofs.ScanJudged.{filled_indexed}
 use Rattle.version_index.proofs.ScanSizes.{complete_length, sorted_agree, sorted_exist}
@@ -47,7 +49,8 @@ invariant_of-result g c =
       found = found;
       pins = filled.pins;
       spare = filled.spare;
-      mentions = c.in_ok-first_mentions.ensures;
+      mentions = c.in_ok-first_mentions.ensures
+          ∙ mentions_sorted c.args.list.now c.args.standing.now.list c.records.result.now c.requires.sorts (c.records.ensures.records ∙ c.chart.ensures) (range_with_len 0 its.logical);
     }) in
     subst (λ (k : Kept). AreIndexed g.R.CommitRule.protocol its m k) (sym c.in_ok-tables.ensures)
     (filled_indexed _ its m t c.args.standing.now.list noted (subst (λ l. Sorts l c.args.standing.now.list) (sym found) c.requires.sorts) filled)
@@ -64,7 +67,8 @@ returns g c =
       found = c.in_ok-fill.ensures.found;
       pins = filled.pins;
       spare = filled.spare;
-      mentions = c.in_ok-first_mentions.ensures;
+      mentions = c.in_ok-first_mentions.ensures
+          ∙ mentions_sorted c.args.list.now c.args.standing.now.list c.records.result.now c.requires.sorts (c.records.ensures.records ∙ c.chart.ensures) (range_with_len 0 its.logical);
     })
 
 pub new-requires-clause-pages : goal.new-requires-clause-pages
@@ -84,6 +88,12 @@ fill-requires-clause-exist g c =
 
 pub fill-requires-clause-listed : goal.fill-requires-clause-listed
 fill-requires-clause-listed g c f i = Contains-permutation c.args.list.now c.args.standing.now.list f c.requires.sorts.records i
+
+pub fill-requires-clause-known : goal.fill-requires-clause-known
+fill-requires-clause-known g c f i =
+    let list = c.args.list.now in
+    let sorted = c.args.standing.now.list in
+    Contains-permutation sorted list f (IsPermutation-sym list sorted c.requires.sorts.records) i
 
 pub fill-requires-clause-seen : goal.fill-requires-clause-seen
 fill-requires-clause-seen g c =

@@ -1,6 +1,0 @@
-use Rattle.std.proofs.Common.{◌≡◌}
-use Rattle.scan_recovery.specs.declared.tests.TheConstants.{SHAPE}
-use Rattle.scan_recovery.proofs.tests.written.Given as goal
-
-abbrev pub invariant-loop-slot : goal.invariant-loop-slot
-invariant-loop-slot g l = l.flash.shape ≡ SHAPE

@@ -1,7 +1,0 @@
--- No slot before this one holds a record.
-use Rattle.std.proofs.Common.{◌≡◌, [], take}
-use Rattle.version_index.specs.Notes.{found_in}
-use Rattle.version_index.proofs.tests.has_no_record.Given as goal
-
-abbrev pub invariant-loop-at : goal.invariant-loop-at
-invariant-loop-at g l = found_in (take l.at l.index.notes) ≡ []
