@@ -9,15 +9,9 @@ use Rattle.std.proofs.lemmas.List.Sums.{count_by-le-length}
 use Rattle.list_facts.proofs.Counts.{count_first}
 use Rattle.version_index.specs.declared.note.Note.{Note}
 use Rattle.version_index.specs.declared.note.Note.TheVariants.{Blank, Damaged, Holds}
-use Rattle.version_index.specs.Notes.{note_at, seen_as}
+use Rattle.version_index.specs.Notes.{note_at}
 use Rattle.version_index.specs.Noted.{Noted, is_blank, blanks_of}
-use Rattle.collector.specs.Collecting.{is_noted_blank, reads_blank}
-
--- a slot reads blank exactly where it is noted so
-pub blank_seen : (note : Note) → reads_blank (seen_as note) ≡ is_blank note
-blank_seen Blank = refl
-blank_seen Damaged = refl
-blank_seen (Holds rec) = refl
+use Rattle.collector.specs.Collecting.{is_noted_blank}
 
 -- a note that passes the test is blank
 pub noted_blank : (note : Note) → is_blank note ≡ true → note ≡ Blank

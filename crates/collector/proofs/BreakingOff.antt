@@ -1,5 +1,5 @@
 -- Where a collection breaks off: from what its calls leave to what is said of the whole.
-use Rattle.std.proofs.Common.{◌≡◌, ◌≢◌, ℕ, ◌+◌, ◌-◌, ◌*◌, ◌<◌, ◌≤◌, true, List, [], ◌∷◌, ◌++◌, OnErr, Ok, Err, Result, length, filter, refl, sym, ap, ◌∙◌, subst, inl, inr, arith, Contains}
+use Rattle.std.proofs.Common.{◌≡◌, ◌≢◌, ℕ, ◌+◌, ◌-◌, ◌*◌, ◌<◌, ◌≤◌, true, List, [], ◌∷◌, ◌++◌, length, filter, refl, sym, ap, ◌∙◌, subst, inl, inr, arith, Contains}
 use Rattle.std.specs.List.{range_with_len}
 use Rattle.std.proofs.lemmas.List.{append-nil}
 use Rattle.std.proofs.lemmas.List.Elements.{Contains-append_left, Contains-append_right}
@@ -9,17 +9,16 @@ use Rattle.tx_types.specs.Config.{shape_of, blocks_of}
 use Rattle.tx_types.specs.declared.config.Block.{Block}
 use Rattle.tx_types.specs.declared.config.Protocol.{Protocol}
 use Rattle.tx_types.specs.declared.config.Slot.{Slot}
-use Rattle.flash_model.specs.declared.flash.Broken.{Broken}
-use Rattle.flash_model.specs.Calls.{Erases, page_of, spare_area_of}
+use Rattle.flash_model.specs.Calls.{page_of, spare_area_of}
 use Rattle.flash_model.specs.Flash.{FlashState, counted}
 use Rattle.flash_model.specs.Moves.{Does}
-use Rattle.flash_model.specs.Operations.{Moment, Operation, Torn, program, erase, moment_of}
+use Rattle.flash_model.specs.Operations.{Moment, Torn, program, erase, moment_of}
 use Rattle.record_list.specs.Changes.{LossLaw}
 use Rattle.version_index.specs.Noted.{Noted, needed_of, erased}
 use Rattle.die_alloc.specs.BlockTable.{BlockTable}
 use Rattle.collector.specs.declared.unsure.Unsure.{Unsure}
 use Rattle.collector.specs.declared.unsure.Unsure.TheVariants as unsure
-use Rattle.collector.specs.BreakingOff.{CopiedFirst, CopyBreaks, CopyBreaksOff, CopiesBreakOff, BreaksOff}
+use Rattle.collector.specs.BreakingOff.{CopiedFirst, CopyBreaksOff, CopiesBreakOff, BreaksOff}
 use Rattle.collector.specs.Collecting.{cleaning, copies, copied_from, copy_program, needed_slots, CopiesDone}
 use Rattle.collector.specs.Looking.{reads_after}
 use Rattle.collector.specs.Matches.{Matches}
@@ -130,25 +129,24 @@ module _ (p : Protocol) (loss : LossLaw p) (s0 : FlashState) (n0 : Noted) (t : B
   copies_broke lives s2 n2 (unsure.VictimErase at) b = absurd b
 
   -- the erase of the block broke off
-  module _ (s2 s3 : FlashState) (n2 : Noted) (used : ℕ) (exists : block < blocks_of (shape_of n0.config)) (shape2 : s2.shape ≡ s0.shape)
-      (copied : CopiesDone n1 n2 s1 s2 t1.spare block used) (its : Block) (its_is : its.0 ≡ block) (n3 : Noted) (u3 : Unsure) (C : Type 0) where
-    pub victim_broke : (r : Result (Unit {0}) Broken) → Erases s2 s3 block r → OnErr r ((u3 ≡ unsure.VictimErase its) × (n3 ≡ n2) × C) →
-        OnErr r (BreaksOff n0 s0 s3 t.spare block n3 u3)
-    victim_broke (Ok x) e torn = tt
-    victim_broke (Err x) e torn =
-        let all = all_copied p loss s0 n0 t u0 rule m s1 n1 t1 block noted table apart shape1 cleans s2 s3 n2 used exists shape2 copied (Err x) e in
-        subst (BreaksOff n0 s0 s3 t.spare block n3) (sym torn.0) (
+  module _ (s2 s3 : FlashState) (n2 : Noted) (used : ℕ) (shape2 : s2.shape ≡ s0.shape)
+      (copied : CopiesDone n1 n2 s1 s2 t1.spare block used) (its : Block) (its_is : its.0 ≡ block) (n3 : Noted) (u3 : Unsure) where
+    pub victim_broke : Torn s2.shape (moment_of s2) (erase block) (moment_of s3) → s3.reads ≡ s2.reads → u3 ≡ unsure.VictimErase its → n3 ≡ n2 →
+        BreaksOff n0 s0 s3 t.spare block n3 u3
+    victim_broke torn unread_still place stays =
+        subst (BreaksOff n0 s0 s3 t.spare block n3) (sym place) (
           its_is,
           record {
             between = moment_of s2;
             copied = record {
               order = sym (append-nil (needed_slots (erased n0 t.spare) block));
-              done = all;
-              noted = torn.1 ∙ subst (λ (k : BlockTable). n2 ≡ copied_from (erased n0 t.spare) (k.spare * n0.config.pages_per_block) (needed_slots (erased n0 t.spare) block)) table
+              done = all_copied p loss s0 n0 t u0 rule m s1 n1 t1 block noted table apart shape1 cleans s2 n2 used copied;
+              noted = stays
+                  ∙ subst (λ (k : BlockTable). n2 ≡ copied_from (erased n0 t.spare) (k.spare * n0.config.pages_per_block) (needed_slots (erased n0 t.spare) block)) table
                   (subst (λ (k : Noted). n2 ≡ copied_from k (t1.spare * k.config.pages_per_block) (needed_slots k block)) noted copied.noted);
             };
-            torn = subst (λ sh. Torn sh (moment_of s2) (erase block) (moment_of s3)) shape2 e.torn;
-            reads = e.reads ∙ copied.reads ∙ ap (reads_after used) unread
+            torn = subst (λ sh. Torn sh (moment_of s2) (erase block) (moment_of s3)) shape2 torn;
+            reads = unread_still ∙ copied.reads ∙ ap (reads_after used) unread
                 ∙ ap (λ k. reads_after k s0.reads) (copied.count ∙ ap (λ (k : Noted). length (needed_slots k block)) noted);
           },
         )

@@ -1,6 +1,6 @@
 -- What a collection that breaks costs, and that no record is new then.
-use Rattle.std.proofs.Common.{◌≡◌, ℕ, ◌+◌, ◌<◌, ◌≤◌, sym, ap, subst, arith, Ok, Err, Result}
-use Rattle.std.specs.Prelude.{OnOk, OnErr}
+use Rattle.std.proofs.Common.{◌≡◌, ℕ, ◌+◌, ◌<◌, ◌≤◌, subst, arith, Ok, Err, Result}
+use Rattle.std.specs.Prelude.{OnErr}
 use Rattle.tx_types.specs.declared.config.Config.{Config}
 use Rattle.tx_types.specs.declared.config.Protocol.{Protocol}
 use Rattle.flash_model.specs.declared.flash.Broken.{Broken}

@@ -1,12 +1,10 @@
 -- Making the spare blank: where it is blank already, and by an erase.
-use Rattle.std.proofs.Common.{◌≡◌, ℕ, ◌+◌, ◌*◌, ◌<◌, ◌≤◌, true, false, [], ◌∷◌, length, Option, Some, None, Ok, Err, Result, refl, sym, ap, ◌∙◌, subst, inl, inr, arith}
-use Rattle.std.specs.Prelude.{is_err}
+use Rattle.std.proofs.Common.{◌≡◌, ℕ, ◌+◌, ◌*◌, ◌<◌, ◌≤◌, true, false, [], ◌∷◌, length, Option, Some, None, Ok, Err, refl, sym, ap, ◌∙◌, subst, inl, inr, arith}
 use Rattle.std.specs.Option.{option_map_or}
 use Rattle.std.proofs.lemmas.Bool.{cases_lt, cond-true, cond-false}
 use Rattle.std.proofs.lemmas.List.{ext_get_or}
 use Rattle.list_facts.proofs.Ranges.{all_range, range_same}
 use Rattle.tx_types.specs.Config.{shape_of, slots_of, blocks_of}
-use Rattle.tx_types.specs.declared.config.Block.{Block}
 use Rattle.tx_types.specs.declared.config.Protocol.{Protocol}
 use Rattle.tx_types.specs.declared.record.Rec.{Rec}
 use Rattle.flash_model.specs.declared.flash.Broken.{Broken}
@@ -30,14 +28,15 @@ use Rattle.collector.specs.Calls.{Cleans}
 use Rattle.collector.specs.Matches.{Matches}
 use Rattle.collector.specs.Collecting.{is_blank_slot, is_blank_block, is_noted_blank, cleaning}
 use Rattle.collector.specs.Preserves.{KeepsArray}
+use Rattle.collector.specs.Retiring.{KeepsTables}
 use Rattle.collector.specs.Store.{Store, store_of, IsSure}
 use Rattle.collector.proofs.Calm.{noted_as_read}
 use Rattle.collector.proofs.Chains.{HasNoNewRecord-nothing}
 use Rattle.collector.proofs.CollectedNotes.{erased_no_new}
 use Rattle.collector.proofs.EraseExits.{spare_erased, spare_torn, array_erased, left_torn}
-use Rattle.collector.proofs.Emptying.{erases_empties}
+use Rattle.collector.proofs.Emptying.{Empties, erases_empties}
 use Rattle.collector.proofs.Keeping.{preserves_same}
-use Rattle.collector.proofs.KeepsLemmas.{keeps_same}
+use Rattle.collector.proofs.KeepsLemmas.{keeps_same, keeps_of}
 use Rattle.collector.proofs.Losing.{preserves, can_be_lost}
 use Rattle.collector.proofs.NotesLeft.{note_at-in, note_at-out, length-noted}
 use Rattle.collector.proofs.BlankNotes.{noted_blank}
@@ -122,6 +121,37 @@ module _ (p : Protocol) (loss : LossLaw p) (written_loss : WrittenLossLaw p) (a 
     erases = omega arith;
   }
 
+  some : 0 < a.noted.config.pages_per_block
+  some = (let b = matches.noted.bounds.shape.pages_least in omega arith)
+
+  -- what is kept where the spare was made blank
+  pub spare_emptied : (s' : FlashState) → Empties a.flash s' a.table.spare (Ok tt) →
+      KeepsTables p a (store_of s' (erased a.noted a.table.spare) a.table a.unsure) false
+  spare_emptied s' done = record {
+    matches = subst (Matches s' (erased a.noted a.table.spare) a.table) (sym k.nothing)
+        (spare_erased a.flash s' a.noted a.table matches law written_law done
+        (block_noted a.noted.config.protocol a.noted matches.noted law a.table.spare Blank refl spare_below
+        (can_be_lost a.noted a.table.spare matches.spared)));
+    preserves = preserves a.noted matches.noted law a.table.spare spare_below matches.spared Blank refl;
+    array = at_rule s' (array_erased a.flash s' a.noted a.table matches law written_law a.table.spare spare_below matches.spared done.shape done.done);
+    sure = k.nothing;
+    others = λ at rec own. (let e = sym k.nothing ∙ own in cc);
+    records = erased_no_new a.noted some matches.noted.slots a.table.spare spare_below;
+  }
+
+  -- and where that was broken
+  pub spare_left : (s' : FlashState) (x : Broken) → Empties a.flash s' a.table.spare (Err x) →
+      KeepsTables p a (store_of s' a.noted a.table unsure.SpareErase) true
+  spare_left s' x broken = record {
+    matches = spare_torn a.flash s' a.noted a.table matches law written_law x broken;
+    preserves = preserves_same a.noted;
+    array = at_rule s'
+        (left_torn a.flash s' a.noted a.table matches law written_law a.table.spare spare_below matches.spared broken.shape broken.torn.0 broken.torn.1).array;
+    sure = tt;
+    others = λ at rec own. (let e = own in cc);
+    records = HasNoNewRecord-nothing a.noted;
+  }
+
   -- else it is erased
   module _ (fail : is_noted_blank a.noted a.table.spare ≡ false) (s' : FlashState) where
     its_cleaning : cleaning a.noted a.flash.image a.table.spare ≡ erase a.table.spare ∷ []
@@ -132,56 +162,32 @@ module _ (p : Protocol) (loss : LossLaw p) (written_loss : WrittenLossLaw p) (a 
     can : CanDo a.flash.shape a.flash.image (erase a.table.spare)
     can = omega (arith, spare_below, ap blocks_of matches.shape)
 
-    some : 0 < a.noted.config.pages_per_block
-    some = (let b = matches.noted.bounds.shape.pages_least in omega arith)
-
     pub cleans_erased : (x : Unit {0}) → Erases a.flash s' a.table.spare (Ok x) → Cleans p a (store_of s' (erased a.noted a.table.spare) a.table a.unsure) (Ok tt)
-    cleans_erased x e =
-        let done = erases_empties a.flash s' a.table.spare (Ok tt) e in
-        record {
-          keeps = record {
-            matches = subst (Matches s' (erased a.noted a.table.spare) a.table) (sym k.nothing)
-                (spare_erased a.flash s' a.noted a.table matches law written_law done
-                (block_noted a.noted.config.protocol a.noted matches.noted law a.table.spare Blank refl spare_below (can_be_lost a.noted a.table.spare matches.spared)));
-            preserves = preserves a.noted matches.noted law a.table.spare spare_below matches.spared Blank refl;
-            array = at_rule s' (array_erased a.flash s' a.noted a.table matches law written_law a.table.spare spare_below matches.spared done.shape done.done);
-            sure = k.nothing;
-            others = λ at rec own. (let e = sym k.nothing ∙ own in cc);
-            records = erased_no_new a.noted some matches.noted.slots a.table.spare spare_below;
-            moves = FlashMoves-operates a.flash s' (erase a.table.spare) (Ok x) can e;
-            carries = e.carries;
-          };
-          done = subst (λ l. Does a.flash.shape (moment_of a.flash) l (moment_of s')) (sym its_cleaning)
-              (can, same_moments (moment_of s') (after a.flash.shape (moment_of a.flash) (erase a.table.spare)) e.done.image e.done.programs e.done.erases);
-          noted = refl;
-          broken = tt;
-          torn = tt;
-          blocks = refl;
-          reads = e.reads;
-          programs = e.done.programs;
-          erases = omega (arith, e.done.erases);
-        }
+    cleans_erased x e = record {
+      keeps = keeps_of p a (store_of s' (erased a.noted a.table.spare) a.table a.unsure) false
+          (spare_emptied s' (erases_empties a.flash s' a.table.spare (Ok tt) e))
+          (FlashMoves-operates a.flash s' (erase a.table.spare) (Ok x) can e) e.carries;
+      done = subst (λ l. Does a.flash.shape (moment_of a.flash) l (moment_of s')) (sym its_cleaning)
+          (can, same_moments (moment_of s') (after a.flash.shape (moment_of a.flash) (erase a.table.spare)) e.done.image e.done.programs e.done.erases);
+      noted = refl;
+      broken = tt;
+      torn = tt;
+      blocks = refl;
+      reads = e.reads;
+      programs = e.done.programs;
+      erases = omega (arith, e.done.erases);
+    }
 
     pub cleans_torn : (x : Broken) → Erases a.flash s' a.table.spare (Err x) → Cleans p a (store_of s' a.noted a.table unsure.SpareErase) (Err x)
-    cleans_torn x e =
-        let broken = erases_empties a.flash s' a.table.spare (Err x) e in
-        record {
-          keeps = record {
-            matches = spare_torn a.flash s' a.noted a.table matches law written_law x broken;
-            preserves = preserves_same a.noted;
-            array = at_rule s' (left_torn a.flash s' a.noted a.table matches law written_law a.table.spare spare_below matches.spared broken.shape broken.torn.0 broken.torn.1).array;
-            sure = tt;
-            others = λ at rec own. (let e = own in cc);
-            records = HasNoNewRecord-nothing a.noted;
-            moves = FlashMoves-operates a.flash s' (erase a.table.spare) (Err x) can e;
-            carries = e.carries;
-          };
-          done = tt;
-          noted = tt;
-          broken = record { first = its_cleaning; torn = e.torn; reads = e.reads };
-          torn = (refl, refl);
-          blocks = refl;
-          reads = e.reads;
-          programs = e.torn.programs;
-          erases = omega (arith, e.torn.erases);
-        }
+    cleans_torn x e = record {
+      keeps = keeps_of p a (store_of s' a.noted a.table unsure.SpareErase) true (spare_left s' x (erases_empties a.flash s' a.table.spare (Err x) e))
+          (FlashMoves-operates a.flash s' (erase a.table.spare) (Err x) can e) e.carries;
+      done = tt;
+      noted = tt;
+      broken = record { first = its_cleaning; torn = e.torn; reads = e.reads };
+      torn = (refl, refl);
+      blocks = refl;
+      reads = e.reads;
+      programs = e.torn.programs;
+      erases = omega (arith, e.torn.erases);
+    }

@@ -1,5 +1,5 @@
 -- The rounds of clearing: what is so between two rounds, and what a round leaves.
-use Rattle.std.proofs.Common.{◌≡◌, ◌≢◌, ℕ, ◌+◌, ◌<◌, ◌≤◌, true, false, List, None, Some, Ok, Err, Result, refl, sym, ap, ◌∙◌, subst, inl, inr, arith}
+use Rattle.std.proofs.Common.{◌≡◌, ◌≢◌, ℕ, ◌+◌, ◌<◌, ◌≤◌, true, false, List, None, Some, Ok, Err, refl, sym, ap, ◌∙◌, subst, inl, inr, arith}
 use Rattle.std.proofs.lemmas.Bool.{cases_eq}
 use Rattle.tx_types.specs.Config.{shape_of, blocks_of}
 use Rattle.tx_types.specs.declared.config.Config.{Config}
@@ -12,9 +12,9 @@ use Rattle.version_index.specs.Noted.{Noted, block_to_go, erased}
 use Rattle.die_alloc.specs.BlockTable.{BlockTable}
 use Rattle.collector.specs.declared.unsure.Unsure.TheVariants as unsure
 use Rattle.collector.specs.BreakingOff.{BreaksOff}
-use Rattle.collector.specs.Calls.{Keeps, Clears, Treats, Cleans, Collects}
+use Rattle.collector.specs.Calls.{Keeps, Clears, Treats}
 use Rattle.collector.specs.Collecting.{HasUnneeded}
-use Rattle.collector.specs.Going.{IsNextName, IsTreated, TreatsInTurn, none, one_more, CostsAtMost, is_going, blocks_to_go}
+use Rattle.collector.specs.Going.{IsNextName, TreatsInTurn, none, one_more, CostsAtMost, is_going, blocks_to_go}
 use Rattle.collector.specs.Matches.{Matches}
 use Rattle.collector.specs.Preserves.{Preserves}
 use Rattle.collector.specs.Store.{Store, IsSure}
@@ -26,34 +26,6 @@ use Rattle.collector.proofs.GoingOrder.{slot_exists}
 use Rattle.collector.proofs.Losing.{preserves}
 use Rattle.collector.proofs.NextNames.{next_stays}
 use Rattle.collector.proofs.RoomMade.{spare_within}
-
--- a block is erased where it is the spare
-pub treats_spare : (p : Protocol) (a b : Store) (block : ℕ) → block ≡ a.table.spare → (r : Result (Unit {0}) Broken) → Cleans p a b r → Treats p a b block r
-treats_spare p a b block is (Ok x) c = record {
-  keeps = c.keeps;
-  treated = (λ same. (c.noted, c.blocks), λ apart. absurd (apart is));
-  broken = tt;
-  stays = tt;
-  costs = record { programs = omega (arith, c.programs); erases = omega (arith, c.erases) };
-}
-treats_spare p a b block is (Err x) c = record {
-  keeps = c.keeps;
-  treated = tt;
-  broken = subst (BreaksOff a.noted a.flash b.flash a.table.spare block b.noted) (sym c.torn.0) (c.broken, c.torn.1);
-  stays = c.blocks;
-  costs = record { programs = omega (arith, c.programs); erases = omega (arith, c.erases) };
-}
-
--- and else collected
-pub treats_other : (p : Protocol) (a b : Store) (block : ℕ) → block ≢ a.table.spare → (r : Result (Unit {0}) Broken) → Collects p a b block r → Treats p a b block r
-treats_other p a b block apart (Ok x) c = record {
-  keeps = c.keeps;
-  treated = (λ same. absurd (apart same), λ other. (c.noted, c.blocks));
-  broken = tt;
-  stays = tt;
-  costs = c.at_most;
-}
-treats_other p a b block apart (Err x) c = record { keeps = c.keeps; treated = tt; broken = c.broken; stays = c.stays; costs = c.at_most }
 
 -- what is so between two rounds, and which blocks were treated
 pub record ClearsSoFar (p : Protocol) (page below : ℕ) (a b : Store) : Type 0 where

@@ -1,7 +1,6 @@
 -- Collecting a block: the spare is made blank, what is needed is copied, and the block is erased.
 use Rattle.std.proofs.Common.{◌≡◌, ◌≢◌, ℕ, ◌+◌, ◌-◌, ◌*◌, ◌/◌, ◌<◌, false, List, [], ◌∷◌, ◌++◌, OnOk, Ok, Err, Result, sym, ap, ◌∙◌, subst, inl, inr, arith, Contains}
 use Rattle.std.specs.List.{range_with_len}
-use Rattle.std.specs.Result.{is_err}
 use Rattle.std.proofs.lemmas.Bool.{cases_Bool, cond_both, both_ways}
 use Rattle.std.proofs.lemmas.Nat.{div-mul-add}
 use Rattle.list_facts.proofs.Membership.{all_from, from_filter, Contains-nil, Contains-one}
@@ -13,9 +12,9 @@ use Rattle.flash_model.specs.declared.flash.Broken.{Broken}
 use Rattle.flash_model.specs.Flash.{FlashState, slot_at}
 use Rattle.flash_model.specs.Calls.{Erases}
 use Rattle.flash_model.specs.Operations.{Moment, Operation, erase, WorksIn, moment_of, after, CanDo}
-use Rattle.flash_model.specs.Moves.{Does, FlashMoves, StayOff}
+use Rattle.flash_model.specs.Moves.{Does, StayOff}
 use Rattle.flash_model.proofs.ImageLemmas.{block_within, slot_at-does}
-use Rattle.flash_model.proofs.MoveLemmas.{same_moments, Does-append, FlashMoves-operates}
+use Rattle.flash_model.proofs.MoveLemmas.{same_moments, Does-append}
 use Rattle.record_list.specs.Changes.{LossLaw}
 use Rattle.version_index.specs.declared.note.Note.TheVariants.{Blank}
 use Rattle.version_index.specs.Noted.{Noted, needed_of, erased}
@@ -100,23 +99,20 @@ module _ (p : Protocol) (loss : LossLaw p) (s0 : FlashState) (n0 : Noted) (t : B
         does))))
 
     -- the operations of the whole
-    module _ (s2 s3 : FlashState) (n2 : Noted) (used : ℕ) (exists : block < blocks_of (shape_of n0.config)) (shape2 : s2.shape ≡ s0.shape)
-        (copied : CopiesDone n1 n2 s1 s2 t1.spare block used) (r : Result (Unit {0}) Broken) (erases : Erases s2 s3 block r) where
-      can : CanDo s2.shape s2.image (erase block)
-      can = omega (arith, exists, ap blocks_of (shape2 ∙ m.shape))
-
-      pub victim_moves : FlashMoves s2 s3 (is_err r)
-      victim_moves = FlashMoves-operates s2 s3 (erase block) r can erases
-
+    module _ (s2 : FlashState) (n2 : Noted) (used : ℕ) (copied : CopiesDone n1 n2 s1 s2 t1.spare block used) where
       -- all that is needed was copied
       pub all_copied : Does s0.shape (moment_of s0) (cleaning n0 s0.image t.spare ++ programs slots) (moment_of s2)
       all_copied = copies_follow slots (λ k i. i) (moment_of s2)
           (subst (λ (k : Noted). Does s1.shape (moment_of s1) (copies n1.config.page_bytes s1.image (t1.spare * n1.config.pages_per_block) (needed_slots k block)) (moment_of s2)) noted
           copied.programmed)
 
-      pub collects : OnOk r (Does s0.shape (moment_of s0) (collecting n0 s0.image t.spare block) (moment_of s3))
-      collects = by r erases
+      pub collects : (s3 : FlashState) → block < blocks_of (shape_of n0.config) → s2.shape ≡ s0.shape → (r : Result (Unit {0}) Broken) → Erases s2 s3 block r →
+          OnOk r (Does s0.shape (moment_of s0) (collecting n0 s0.image t.spare block) (moment_of s3))
+      collects s3 exists shape2 r erases = by r erases
         where
+          can : CanDo s2.shape s2.image (erase block)
+          can = omega (arith, exists, ap blocks_of (shape2 ∙ m.shape))
+
           by : (q : Result (Unit {0}) Broken) → Erases s2 s3 block q → OnOk q (Does s0.shape (moment_of s0) (collecting n0 s0.image t.spare block) (moment_of s3))
           by (Err x) e = tt
           by (Ok x) e =

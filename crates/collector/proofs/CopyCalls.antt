@@ -27,7 +27,7 @@ use Rattle.die_alloc.specs.BlockTable.{BlockTable}
 use Rattle.collector.specs.declared.unsure.Unsure.TheVariants as unsure
 use Rattle.collector.specs.Calls.{CanCopy, CopiesRecord}
 use Rattle.collector.specs.Matches.{Matches, IsNextOfSpare}
-use Rattle.collector.specs.Preserves.{Preserves, KeepsArray}
+use Rattle.collector.specs.Preserves.{KeepsArray}
 use Rattle.collector.specs.Collecting.{copy_program}
 use Rattle.collector.specs.Store.{Store, store_of, IsSure}
 use Rattle.collector.proofs.Calm.{noted_as_read}

@@ -1,11 +1,13 @@
 -- What is known of a flash after a call that was to make a block blank, whatever else the call did.
-use Rattle.std.proofs.Common.{◌≡◌, ℕ, Result, Ok, Err}
+use Rattle.std.proofs.Common.{◌≡◌, ℕ, Result, Ok, Err, ap, inl, inr}
 use Rattle.std.specs.Prelude.{OnOk, OnErr}
 use Rattle.flash_model.specs.declared.flash.Broken.{Broken}
 use Rattle.flash_model.specs.declared.outcome.Outcome.{Outcome}
+use Rattle.flash_model.specs.declared.outcome.Outcome.TheVariants as outcome
 use Rattle.flash_model.specs.Flash.{FlashState, blank}
 use Rattle.flash_model.specs.Calls.{Erases}
-use Rattle.flash_model.specs.Operations.{erase, with_block, image_left}
+use Rattle.flash_model.specs.Operations.{Moment, Torn, erase, moment_of, with_block, image_left}
+use Rattle.flash_model.specs.Retiring.{Retires}
 
 -- the shape stays; the block is all blank, or where the call was broken what a broken erase leaves
 pub record Empties (old new : FlashState) (block : ℕ) (result : Result (Unit {0}) Broken) : Type 0 where
@@ -18,3 +20,25 @@ pub erases_empties : (old new : FlashState) (block : ℕ) (result : Result (Unit
     → Empties old new block result
 erases_empties old new block (Ok x) e = record { shape = e.carries.shape; done = e.done.image; torn = tt }
 erases_empties old new block (Err x) e = record { shape = e.carries.shape; done = tt; torn = e.torn.left }
+
+-- and so does replacing it: a broken call did all of it, or nothing
+pub retires_empties : (old new : FlashState) (block : ℕ) (result : Result (Unit {0}) Broken) → Retires old new block result
+    → Empties old new block result
+retires_empties old new block (Ok x) e = record { shape = e.carries.carries.shape; done = e.done.image; torn = tt }
+retires_empties old new block (Err x) e = record {
+  shape = e.carries.carries.shape;
+  done = tt;
+  torn = elim e.torn [
+    | inl still ↦ (outcome.None, ap (λ (m : Moment). m.image) still.moment)
+    | inr replaced ↦ (outcome.All, replaced.image)
+  ];
+}
+
+-- a broken one leaves what a broken erase may
+pub retires_torn : (old new : FlashState) (block : ℕ) (x : Broken) → Retires old new block (Err x)
+    → Torn old.shape (moment_of old) (erase block) (moment_of new)
+retires_torn old new block x e = record {
+  left = (retires_empties old new block (Err x) e).torn;
+  programs = elim e.torn [ inl still ↦ ap (λ (m : Moment). m.programs) still.moment | inr replaced ↦ replaced.programs ];
+  erases = elim e.torn [ inl still ↦ ap (λ (m : Moment). m.erases) still.moment | inr replaced ↦ replaced.erases ];
+}

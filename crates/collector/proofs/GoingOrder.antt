@@ -1,5 +1,5 @@
 -- The blocks that hold a record which must go, treated in their order: which is the next, and which are left.
-use Rattle.std.proofs.Common.{◌≡◌, ◌≢◌, ℕ, ◌+◌, ◌*◌, ◌/◌, ◌<◌, ◌≤◌, Bool, true, false, List, [], ◌∷◌, length, map, get_or, find, Option, Some, None, AllPairs, Contains, refl, sym, ap, ◌∙◌, subst, inl, inr, arith}
+use Rattle.std.proofs.Common.{◌≡◌, ◌≢◌, ℕ, ◌+◌, ◌/◌, ◌<◌, ◌≤◌, Bool, true, false, List, [], ◌∷◌, length, map, get_or, find, Option, Some, None, AllPairs, Contains, refl, sym, ap, ◌∙◌, subst, inl, inr, arith}
 use Rattle.std.specs.List.{filter, range_with_len}
 use Rattle.std.specs.Option.{option_map}
 use Rattle.std.proofs.Math.Nat.{mul_comm, div-mul-le_self}
@@ -21,7 +21,7 @@ use Rattle.slot_tables.proofs.Copying.{filter_rises}
 use Rattle.version_index.specs.Notes.{found_in}
 use Rattle.version_index.specs.Noted.{Noted, IsNoted, is_going, going_blocks, block_to_go}
 use Rattle.version_index.proofs.FoundIn.{found_in_ascending, noted_from}
-use Rattle.collector.proofs.GoingCounts.{GoesIn, going_at, at_going}
+use Rattle.collector.proofs.GoingCounts.{going_at, at_going}
 use Rattle.collector.proofs.GoneRecords.{going_none, going_some, none_going}
 
 -- in the order of slots the first that passes is not above another one

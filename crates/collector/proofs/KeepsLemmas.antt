@@ -1,17 +1,17 @@
 -- What calls keep, one after the other.
-use Rattle.std.proofs.Common.{◌≡◌, ℕ, Bool, true, false, Ok, Err, Result, refl, sym, ap, ◌∙◌, subst}
-use Rattle.std.specs.Bool.{OnFalse}
+use Rattle.std.proofs.Common.{◌≡◌, Bool, true, false, Ok, Err, Result, refl, sym, ap, ◌∙◌, subst}
 use Rattle.std.specs.Prelude.{is_err}
 use Rattle.tx_types.specs.declared.config.Config.{Config}
 use Rattle.tx_types.specs.declared.config.Protocol.{Protocol}
-use Rattle.flash_model.specs.Flash.{FlashState}
 use Rattle.flash_model.proofs.CallLemmas.{Carries-nothing, Carries-then}
+use Rattle.flash_model.specs.Calls.{Carries}
+use Rattle.flash_model.specs.Moves.{FlashMoves}
 use Rattle.flash_model.proofs.MoveLemmas.{FlashMoves-nothing, FlashMoves-then}
+use Rattle.flash_model.proofs.RetireLemmas.{CarriesRetiring-carries}
 use Rattle.flash_model.specs.declared.flash.Broken.{Broken}
-use Rattle.collector.specs.declared.unsure.Unsure.TheVariants as unsure
 use Rattle.collector.specs.Calls.{Keeps}
-use Rattle.collector.specs.Matches.{Matches}
 use Rattle.collector.specs.Preserves.{KeepsArray}
+use Rattle.collector.specs.Retiring.{KeepsRetiring, KeepsTables}
 use Rattle.collector.specs.Store.{Store, IsSure}
 use Rattle.collector.proofs.Chains.{HasNoNewRecord-nothing, HasNoNewRecord-then}
 use Rattle.collector.proofs.Keeping.{preserves_same, preserves_then, keeps_array_same, keeps_array_then}
@@ -29,9 +29,40 @@ keeps_same p a k = record {
   carries = Carries-nothing a.flash;
 }
 
+-- what is kept of the tables and of the array, and what a call keeps beside that
+pub tables_of : (p : Protocol) (a b : Store) (broken : Bool) → Keeps p a b broken → KeepsTables p a b broken
+tables_of p a b broken h = record {
+  matches = h.matches;
+  preserves = h.preserves;
+  array = h.array;
+  sure = h.sure;
+  others = h.others;
+  records = h.records;
+}
+
+pub keeps_of : (p : Protocol) (a b : Store) (broken : Bool) → KeepsTables p a b broken → FlashMoves a.flash b.flash broken →
+    Carries a.flash b.flash broken → Keeps p a b broken
+keeps_of p a b broken h moves carries = record {
+  matches = h.matches;
+  preserves = h.preserves;
+  array = h.array;
+  sure = h.sure;
+  others = h.others;
+  records = h.records;
+  moves = moves;
+  carries = carries;
+}
+
+-- a call that replaces no block keeps what one keeps that may
+pub keeps_retiring : (p : Protocol) (a b : Store) (broken : Bool) → Keeps p a b broken → KeepsRetiring p a b broken
+keeps_retiring p a b broken h = record {
+  tables = tables_of p a b broken h;
+  carries = CarriesRetiring-carries a.flash b.flash broken h.carries;
+}
+
 -- what both keep, the whole keeps
-pub keeps_then : (p : Protocol) (a b c : Store) (broken : Bool) → Keeps p a b false → Keeps p b c broken → Keeps p a c broken
-keeps_then p a b c broken ab bc = record {
+pub tables_then : (p : Protocol) (a b c : Store) (broken : Bool) → KeepsTables p a b false → KeepsTables p b c broken → KeepsTables p a c broken
+tables_then p a b c broken ab bc = record {
   matches = bc.matches;
   preserves = preserves_then a.noted b.noted c.noted ab.preserves bc.preserves;
   array = keeps_array_then p a.noted.config.logical a.flash.image b.flash.image c.flash.image ab.array
@@ -39,9 +70,12 @@ keeps_then p a b c broken ab bc = record {
   sure = bc.sure;
   others = bc.others;
   records = HasNoNewRecord-then a.noted b.noted c.noted ab.records bc.records;
-  moves = FlashMoves-then a.flash b.flash c.flash broken ab.carries.shape ab.moves bc.moves;
-  carries = Carries-then a.flash b.flash c.flash broken ab.carries bc.carries;
 }
+
+pub keeps_then : (p : Protocol) (a b c : Store) (broken : Bool) → Keeps p a b false → Keeps p b c broken → Keeps p a c broken
+keeps_then p a b c broken ab bc =
+    keeps_of p a c broken (tables_then p a b c broken (tables_of p a b false ab) (tables_of p b c broken bc))
+    (FlashMoves-then a.flash b.flash c.flash broken ab.carries.shape ab.moves bc.moves) (Carries-then a.flash b.flash c.flash broken ab.carries bc.carries)
 
 -- and nothing is unsure between the two
 pub sure_then : (p : Protocol) (a b : Store) → IsSure p a → Keeps p a b false → IsSure p b

@@ -15,7 +15,6 @@ pub mod OwnExits
 pub mod Programming
 pub mod BlankNotes
 pub mod Victims
-pub mod Shapes
 pub mod Cleanings
 pub mod VictimCalls
 pub mod CopyCalls
@@ -55,5 +54,7 @@ pub mod OpenedTables
 mod BreakingOff
 mod NeededCopies
 mod CollectCalls
+mod RetireParts
+mod RetireCalls
 mod BrokenCollections
 pub mod SureCounts

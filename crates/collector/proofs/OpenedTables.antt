@@ -19,7 +19,7 @@ use Rattle.flash_model.specs.declared.flash.Seen.{Seen}
 use Rattle.flash_model.specs.declared.flash.Seen.TheVariants as seen
 use Rattle.flash_model.specs.Calls.{seen_of}
 use Rattle.flash_model.specs.Flash.{FlashState, IsFlash, Contents, blank, damaged, complete, slot_at}
-use Rattle.flash_model.specs.Operations.{Moment, moment_of}
+use Rattle.flash_model.specs.Operations.{Moment}
 use Rattle.record_list.specs.declared.found.Found.{Found}
 use Rattle.record_list.specs.Records.{name_of, is_present, mention, IsScanned}
 use Rattle.record_list.specs.Changes.{left}
@@ -41,8 +41,11 @@ use Rattle.version_index.proofs.Pins.{numbered_pin}
 use Rattle.die_alloc.specs.declared.block_use.BlockUse.{BlockUse}
 use Rattle.die_alloc.specs.BlockTable.{BlockTable, IsBlockTable, IsFree, HasRoom, MayHave, use_of, block_state, used_of, no_block}
 use Rattle.die_alloc.proofs.Changes.{block_within}
-use Rattle.scan_recovery.specs.Opening.{reads_blank, seen_in, seen_in_block, reads_blank_block, used_in, use_in, opening_table, opening_noted, IsChosenFrom, IsOpened}
+use Rattle.flash_model.specs.Readings.{reads_blank, seen_in, seen_in_block, reads_blank_block}
+use Rattle.die_alloc.specs.Opening.{used_in, use_in, opening_table}
+use Rattle.version_index.specs.Opening.{opening_noted, IsChosenFrom}
 use Rattle.collector.specs.declared.unsure.Unsure.TheVariants as unsure
+use Rattle.collector.specs.Laws.{OpenedTablesMatch}
 use Rattle.collector.specs.Matches.{Matches, CanSpare}
 use Rattle.collector.proofs.SettledExits.{matches_still}
 use Rattle.collector.proofs.SureCounts.{sure_counts}
@@ -269,10 +272,7 @@ module _ (its : Config) (s : FlashState) (check : checked its ≡ Ok s.shape) (w
   }
 
 -- the tables of an image that is read match the flash
-pub opened_matches : (its : Config) (s s' : FlashState) (n : Noted) (t : BlockTable) → checked its ≡ Ok s.shape → IsFlash s →
-    IsSoundImage its.protocol its.logical s.shape s.image → IsOpened its s.image n t → s'.shape ≡ s.shape → moment_of s' ≡ moment_of s → Matches s' n t unsure.Nothing
-opened_matches its s s' n t check whole sound h shape moment =
-    subst (λ k. Matches s' n k unsure.Nothing) (sym h.table_is)
-    (subst (λ k. Matches s' k (opening_table (shape_of its) (seen_in s.image) h.spare) unsure.Nothing) (sym h.noted_is)
-    (matches_still s s' (opening_noted its s.image h.spare) (opening_table (shape_of its) (seen_in s.image) h.spare) unsure.Nothing shape (ap (λ (x : Moment). x.image) moment)
-    (opening_matches its s check whole sound h.spare h.chosen)))
+pub opened_match : OpenedTablesMatch
+opened_match its s s' spare check whole sound chosen shape moment =
+    matches_still s s' (opening_noted its s.image spare) (opening_table (shape_of its) (seen_in s.image) spare) unsure.Nothing
+    shape (ap (λ (x : Moment). x.image) moment) (opening_matches its s check whole sound spare chosen)

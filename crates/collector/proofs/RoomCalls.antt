@@ -1,6 +1,5 @@
 -- Making room: the spare is made blank, and the block with the most garbage is collected, if there is any.
-use Rattle.std.proofs.Common.{◌≡◌, ◌≢◌, ℕ, ◌+◌, ◌*◌, ◌<◌, ◌≤◌, true, false, length, List, Result, Ok, Err, refl, sym, ap, ap₂, ◌∙◌, subst, inl, inr, arith}
-use Rattle.std.specs.Prelude.{is_err}
+use Rattle.std.proofs.Common.{◌≡◌, ◌≢◌, ◌*◌, ◌<◌, true, false, length, List, Result, Ok, Err, refl, sym, ap, ap₂, ◌∙◌, subst, inl, inr, arith}
 use Rattle.tx_types.specs.Config.{shape_of, blocks_of}
 use Rattle.tx_types.specs.declared.config.Config.{Config}
 use Rattle.tx_types.specs.declared.config.Block.{Block}
@@ -67,9 +66,6 @@ module _ (p : Protocol) (loss : LossLaw p) (a m : Store) (k : IsSure p a) (clean
   }
 
   module _ (block : Block) (v : IsVictim m.noted m.table block.0) where
-    pub chosen_exists : block.0 < blocks_of (shape_of m.noted.config)
-    chosen_exists = v.exists
-
     pub chosen_apart : block.0 ≢ m.table.spare
     chosen_apart = victim_apart m.flash m.noted m.table calm block.0 v
 

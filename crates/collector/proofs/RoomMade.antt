@@ -1,5 +1,5 @@
 -- Where no block has room and the spare is blank, some block has garbage; and once it was collected the old spare has room.
-use Rattle.std.proofs.Common.{◌≡◌, ◌≢◌, ◌⊎◌, ℕ, ◌*◌, ◌/◌, ◌<◌, Bool, true, false, ◌||◌, eqb, eqb-true, eq-eqb, ne_eqb, List, zip, count_by, Contains, refl, sym, ap, ◌∙◌, subst, inl, inr, arith, if◌then◌else◌, suc, ◌+◌, ◌≤◌, ap₂}
+use Rattle.std.proofs.Common.{◌≡◌, ◌≢◌, ◌⊎◌, ℕ, ◌*◌, ◌/◌, ◌<◌, Bool, true, false, ◌||◌, eqb, eq-eqb, ne_eqb, List, zip, count_by, Contains, refl, sym, ap, ◌∙◌, subst, inl, inr, arith, if◌then◌else◌, ap₂}
 use Rattle.std.specs.List.{range_with_len}
 use Rattle.std.proofs.Math.ListN.{length-set}
 use Rattle.std.proofs.Math.Nat.{mul_comm}

@@ -1,5 +1,5 @@
 -- Settling as a call: what it leaves once the place was read, and after a failed read.
-use Rattle.std.proofs.Common.{◌≡◌, true, List, ℕ, Ok, Err, Result, refl, sym, ap, ◌∙◌, subst}
+use Rattle.std.proofs.Common.{◌≡◌, true, List, ℕ, Ok, Err, Result, refl, sym, ap, subst}
 use Rattle.std.specs.Prelude.{is_err}
 use Rattle.tx_types.specs.declared.config.Protocol.{Protocol}
 use Rattle.flash_model.specs.declared.flash.Broken.{Broken}

@@ -18,7 +18,7 @@ use Rattle.version_index.specs.declared.note.Note.{Note}
 use Rattle.version_index.specs.declared.note.Note.TheVariants.{Blank, Damaged, Holds}
 use Rattle.version_index.specs.Images.{records_in, current_in, array_in}
 use Rattle.version_index.specs.Notes.{found_in, note_at, note_of, rec_of}
-use Rattle.version_index.specs.Noted.{Noted, IsNoted, current_of, programmed, damaged_at, copied, erased, lost, with_spare}
+use Rattle.version_index.specs.Noted.{Noted, IsNoted, current_of, programmed, copied, erased, lost, with_spare}
 use Rattle.version_index.proofs.Blocks.{in_it}
 use Rattle.version_index.proofs.NotedChanges.{damaged_noted, copied_noted, programmed_noted, block_noted}
 use Rattle.die_alloc.specs.BlockTable.{BlockTable, IsFree, block_of_slot}

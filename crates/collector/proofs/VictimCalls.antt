@@ -1,5 +1,5 @@
 -- The erase of a collected block as a call: what it leaves where it is done, and where it is broken.
-use Rattle.std.proofs.Common.{◌≡◌, ◌≢◌, ℕ, ◌<◌, Ok, Err, Result, refl, sym, ap, ◌∙◌, subst, arith}
+use Rattle.std.proofs.Common.{ℕ, ◌<◌, true, false, Ok, Err, refl, sym, ap, ◌∙◌, subst, arith}
 use Rattle.tx_types.specs.Config.{shape_of, blocks_of}
 use Rattle.tx_types.specs.declared.config.Block.{Block}
 use Rattle.tx_types.specs.declared.config.Protocol.{Protocol}
@@ -13,18 +13,20 @@ use Rattle.record_list.specs.WrittenChanges.{WrittenLossLaw}
 use Rattle.version_index.specs.declared.note.Note.TheVariants.{Blank}
 use Rattle.version_index.specs.Noted.{Noted, IsNoted, current_of, held_of, erased, with_spare}
 use Rattle.version_index.proofs.NotedChanges.{block_noted}
-use Rattle.die_alloc.specs.BlockTable.{BlockTable, IsBlockTable, table_with_spare}
+use Rattle.die_alloc.specs.BlockTable.{IsBlockTable, table_with_spare}
 use Rattle.collector.specs.declared.unsure.Unsure.TheVariants as unsure
 use Rattle.collector.specs.Calls.{CanErase, ErasesVictim}
 use Rattle.collector.specs.Collecting.{exchanged}
 use Rattle.collector.specs.Matches.{Matches}
 use Rattle.collector.specs.Preserves.{Preserves, KeepsArray}
+use Rattle.collector.specs.Retiring.{KeepsTables}
 use Rattle.collector.specs.Store.{Store, store_of, IsSure}
 use Rattle.collector.proofs.Chains.{HasNoNewRecord-nothing}
 use Rattle.collector.proofs.CollectedNotes.{erased_no_new}
 use Rattle.collector.proofs.EraseExits.{victim_erased, victim_torn, array_erased, left_torn}
-use Rattle.collector.proofs.Emptying.{erases_empties}
+use Rattle.collector.proofs.Emptying.{Empties, erases_empties}
 use Rattle.collector.proofs.Keeping.{preserves_same}
+use Rattle.collector.proofs.KeepsLemmas.{keeps_of}
 use Rattle.collector.proofs.Losing.{preserves, can_be_lost}
 
 -- a block that becomes the spare is noted so
@@ -80,47 +82,50 @@ module _ (p : Protocol) (loss : LossLaw p) (written_loss : WrittenLossLaw p) (a 
   abbrev now : Noted
   now = with_spare (erased a.noted b.0) b.0
 
+  -- what is kept where the block was made blank, and is the spare
+  pub victim_emptied : Empties a.flash s' b.0 (Ok tt) → IsBlockTable (table_with_spare a.table b.0) → IsBlockTable (exchanged a.table b.0 used) →
+      KeepsTables p a (store_of s' now (exchanged a.table b.0 used) a.unsure) false
+  victim_emptied done between good = record {
+    matches = subst (Matches s' now (exchanged a.table b.0 used)) (sym k.nothing)
+        (victim_erased a.flash s' a.noted a.table m law written_law b.0 can.exists can.not_spare can.spared (used, can.filled) done
+        (spare_noted a.noted.config.protocol (erased a.noted b.0) b.0 can.exists
+        (block_noted a.noted.config.protocol a.noted m.noted law b.0 Blank refl can.exists (can_be_lost a.noted b.0 can.spared)))
+        between good);
+    preserves = with_spare_preserves a.noted (erased a.noted b.0) b.0 (preserves a.noted m.noted law b.0 can.exists can.spared Blank refl);
+    array = at_rule (array_erased a.flash s' a.noted a.table m law written_law b.0 can.exists can.spared done.shape done.done);
+    sure = k.nothing;
+    others = λ at rec own. (let q = sym k.nothing ∙ own in cc);
+    records = erased_no_new a.noted some m.noted.slots b.0 can.exists;
+  }
+
+  -- and where that was broken
+  pub victim_left : (x : Broken) → Empties a.flash s' b.0 (Err x) → KeepsTables p a (store_of s' a.noted a.table (unsure.VictimErase b)) true
+  victim_left x broken = record {
+    matches = victim_torn a.flash s' a.noted a.table m law written_law b can.exists can.not_spare can.spared (used, can.filled) x broken;
+    preserves = preserves_same a.noted;
+    array = at_rule (left_torn a.flash s' a.noted a.table m law written_law b.0 can.exists can.spared broken.shape broken.torn.0 broken.torn.1).array;
+    sure = tt;
+    others = λ at rec own. (let q = own in cc);
+    records = HasNoNewRecord-nothing a.noted;
+  }
+
   pub victim_done : (x : Unit {0}) → Erases a.flash s' b.0 (Ok x) → IsBlockTable (table_with_spare a.table b.0) → IsBlockTable (exchanged a.table b.0 used) →
       ErasesVictim p a (store_of s' now (exchanged a.table b.0 used) a.unsure) b used (Ok tt)
-  victim_done x e between good =
-      let done = erases_empties a.flash s' b.0 (Ok tt) e in
-      record {
-        keeps = record {
-          matches = subst (Matches s' now (exchanged a.table b.0 used)) (sym k.nothing)
-              (victim_erased a.flash s' a.noted a.table m law written_law b.0 can.exists can.not_spare can.spared (used, can.filled) done
-              (spare_noted a.noted.config.protocol (erased a.noted b.0) b.0 can.exists
-              (block_noted a.noted.config.protocol a.noted m.noted law b.0 Blank refl can.exists (can_be_lost a.noted b.0 can.spared)))
-              between good);
-          preserves = with_spare_preserves a.noted (erased a.noted b.0) b.0 (preserves a.noted m.noted law b.0 can.exists can.spared Blank refl);
-          array = at_rule (array_erased a.flash s' a.noted a.table m law written_law b.0 can.exists can.spared done.shape done.done);
-          sure = k.nothing;
-          others = λ at rec own. (let q = sym k.nothing ∙ own in cc);
-          records = erased_no_new a.noted some m.noted.slots b.0 can.exists;
-          moves = FlashMoves-operates a.flash s' (erase b.0) (Ok x) can_do e;
-          carries = e.carries;
-        };
-        erases = e;
-        noted = refl;
-        blocks = refl;
-        torn = tt;
-      }
+  victim_done x e between good = record {
+    keeps = keeps_of p a (store_of s' now (exchanged a.table b.0 used) a.unsure) false (victim_emptied (erases_empties a.flash s' b.0 (Ok tt) e) between good)
+        (FlashMoves-operates a.flash s' (erase b.0) (Ok x) can_do e) e.carries;
+    erases = e;
+    noted = refl;
+    blocks = refl;
+    torn = tt;
+  }
 
   pub victim_breaks : (x : Broken) → Erases a.flash s' b.0 (Err x) → ErasesVictim p a (store_of s' a.noted a.table (unsure.VictimErase b)) b used (Err x)
-  victim_breaks x e =
-      let broken = erases_empties a.flash s' b.0 (Err x) e in
-      record {
-        keeps = record {
-          matches = victim_torn a.flash s' a.noted a.table m law written_law b can.exists can.not_spare can.spared (used, can.filled) x broken;
-          preserves = preserves_same a.noted;
-          array = at_rule (left_torn a.flash s' a.noted a.table m law written_law b.0 can.exists can.spared broken.shape broken.torn.0 broken.torn.1).array;
-          sure = tt;
-          others = λ at rec own. (let q = own in cc);
-          records = HasNoNewRecord-nothing a.noted;
-          moves = FlashMoves-operates a.flash s' (erase b.0) (Err x) can_do e;
-          carries = e.carries;
-        };
-        erases = e;
-        noted = tt;
-        blocks = tt;
-        torn = (refl, refl, refl);
-      }
+  victim_breaks x e = record {
+    keeps = keeps_of p a (store_of s' a.noted a.table (unsure.VictimErase b)) true (victim_left x (erases_empties a.flash s' b.0 (Err x) e))
+        (FlashMoves-operates a.flash s' (erase b.0) (Err x) can_do e) e.carries;
+    erases = e;
+    noted = tt;
+    blocks = tt;
+    torn = (refl, refl, refl);
+  }

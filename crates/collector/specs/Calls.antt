@@ -1,5 +1,5 @@
 -- What the calls of the collector keep and do: each has one clause.
-use Rattle.std.specs.Prelude.{◌≡◌, ◌≢◌, ℕ, ◌+◌, ◌*◌, ◌<◌, ◌≤◌, IsSome, Bool, true, false, None, List, [], length, Result, Err, Ok, IfOk, OnOk, OnErr}
+use Rattle.std.specs.Prelude.{◌≡◌, ◌≢◌, ℕ, ◌+◌, ◌<◌, ◌≤◌, IsSome, Bool, true, false, None, [], length, Result, Err, Ok, IfOk, OnOk, OnErr}
 use Rattle.std.specs.Bool.{OnFalse}
 use Rattle.std.specs.Result.{is_err}
 use Rattle.tx_types.specs.Config.{shape_of, slots_of, blocks_of}

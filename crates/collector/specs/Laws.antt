@@ -1,10 +1,13 @@
 -- What follows where the tables of a device match its flash, under the rule of a protocol.
-use Rattle.std.specs.Prelude.{◌≡◌, ◌≢◌, ◌<◌, ◌↔◌, ◌⊎◌, ℕ, List, Any, All, Contains, length, true, false}
-use Rattle.tx_types.specs.Config.{shape_of, slots_of}
+use Rattle.std.specs.Prelude.{◌≡◌, ◌≢◌, ◌<◌, ◌↔◌, ◌⊎◌, ℕ, List, Any, All, Contains, Ok, length, true, false}
+use Rattle.tx_types.specs.Config.{checked, shape_of, slots_of}
+use Rattle.tx_types.specs.declared.config.Config.{Config}
 use Rattle.tx_types.specs.declared.config.Protocol.{Protocol}
 use Rattle.tx_types.specs.declared.record.Link.{Link}
 use Rattle.tx_types.specs.declared.record.Rec.{Rec}
-use Rattle.flash_model.specs.Flash.{FlashState}
+use Rattle.flash_model.specs.Flash.{FlashState, IsFlash}
+use Rattle.flash_model.specs.Operations.{moment_of}
+use Rattle.flash_model.specs.Readings.{seen_in}
 use Rattle.record_list.specs.Records.{is_present, name_of}
 use Rattle.record_list.specs.Changes.{PartialWriteKeeps, CompletingWriteKeeps}
 use Rattle.record_list.specs.Written.{text_at}
@@ -12,7 +15,9 @@ use Rattle.version_index.specs.declared.note.Note.TheVariants as note
 use Rattle.version_index.specs.Images.{IsSoundImage, array_in, current_in, records_in, written_in}
 use Rattle.version_index.specs.Notes.{notes_of, note_at, found_in}
 use Rattle.version_index.specs.Noted.{Noted, IsNoted, IsNextRecord, current_of, pinned_names, programmed}
+use Rattle.version_index.specs.Opening.{IsChosenSpare, opening_noted}
 use Rattle.die_alloc.specs.BlockTable.{BlockTable}
+use Rattle.die_alloc.specs.Opening.{opening_table}
 use Rattle.collector.specs.declared.unsure.Unsure.{Unsure}
 use Rattle.collector.specs.declared.unsure.Unsure.TheVariants as unsure
 use Rattle.collector.specs.declared.unsure.Settled.TheVariants as settled
@@ -21,6 +26,15 @@ use Rattle.collector.specs.Known.{known_image, array_known}
 use Rattle.collector.specs.Matches.{Matches, CanTake}
 use Rattle.collector.specs.Preserves.{Preserves, KeepsArray, IsThere}
 use Rattle.collector.specs.Settling.{settlement}
+
+-- The tables of a sound image, with the block that is chosen as the spare, match the flash that they were read from.
+abbrev pub OpenedTablesMatch : Type 0
+OpenedTablesMatch = (its : Config) (s s' : FlashState) (spare : ℕ) →
+    checked its ≡ Ok s.shape → IsFlash s →
+    IsSoundImage its.protocol its.logical s.shape s.image → IsChosenSpare its s.image spare →
+    s'.shape ≡ s.shape → moment_of s' ≡ moment_of s →
+    Matches s' (opening_noted its s.image spare)
+    (opening_table (shape_of its) (seen_in s.image) spare) unsure.Nothing
 
 -- The known image is sound, its notes are those of the tables, and it stands for the array that is known.
 pub record KnownImagesStand (p : Protocol) : Type 0 where

@@ -12,3 +12,4 @@ pub mod Best
 pub mod BreakingOff
 pub mod Calls
 pub mod Laws
+pub mod Retiring

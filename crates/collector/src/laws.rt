@@ -8,13 +8,18 @@ ghost use Rattle.version_index.specs.Noted.{Noted, pinned_names};
 ghost use Rattle.die_alloc.specs.BlockTable.{BlockTable};
 ghost use Rattle.collector.specs.declared.unsure.Unsure.TheVariants as unsure;
 ghost use Rattle.collector.specs.Going.{blocks_to_go};
-ghost use Rattle.collector.specs.Laws.{ArraysStay, ImagesStand, KnownImagesStand, NotedWrites};
+ghost use Rattle.collector.specs.Laws.{ArraysStay, ImagesStand, KnownImagesStand, NotedWrites, OpenedTablesMatch};
 ghost use Rattle.collector.specs.Matches.{Matches, AllOfBlock};
 ghost use Rattle.collector.specs.Tidy.{IsTidy};
 ghost use Rattle.collector.specs.Victim.{HasNoGarbage};
 
 use record_list::CommitRule;
 use tx_types::Protocol;
+
+/// The tables of a sound image match the flash that they were read from.
+pub fn opened_tables_match()
+    ensures { OpenedTablesMatch }
+{}
 
 /// The known image is sound, its notes are those of the tables, and it stands for the array that is
 /// known.

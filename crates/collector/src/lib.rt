@@ -14,9 +14,8 @@ mod exchanging;
 pub mod laws;
 mod making_room;
 mod reading;
+mod retiring;
 mod settling;
-#[cfg(test)]
-mod tests;
 mod unsure;
 
 pub use block_room::BlockRoom;
@@ -25,4 +24,5 @@ pub use choosing::victim;
 pub use cleaning::clean_spare;
 pub use collecting::collect;
 pub use making_room::{clear, collect_most, free_slot};
+pub use retiring::retire_block;
 pub use unsure::{Settled, Unsure};

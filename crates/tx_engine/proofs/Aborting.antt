@@ -1,7 +1,6 @@
 -- A device that settled, and of which an open transaction goes then.
 use Rattle.std.proofs.Common.{◌≡◌, ◌≢◌, ◌⊎◌, ℕ, ◌<◌, Bool, false, List, length, map, get_or, Option, Some, None, Result, Ok, Err, refl, sym, ap, ap₂, ◌∙◌, subst, inl, inr, arith, eqb-true}
 use Rattle.std.specs.Prelude.{position, remove, MatchOption, Any}
-use Rattle.std.specs.Result.{IsErrAnd}
 use Rattle.std.proofs.lemmas.List.{length-map, get_or-map}
 use Rattle.std.proofs.lemmas.List.Elements.{All-from_get_or, All-map}
 use Rattle.list_facts.proofs.Positions.{position-all}
@@ -142,11 +141,6 @@ abort_done there old mid new tag e f a found settles is gone how =
 pub not_whole : (m : Mark) → (m ≡ Plain) ⊎ (m ≡ Doubt) → m ≢ Whole
 not_whole m (inl is) h = let both : Plain ≡ Whole = sym is ∙ h in cc
 not_whole m (inr is) h = let both : Doubt ≡ Whole = sym is ∙ h in cc
-
--- what `?` hands on
-pub fault_is : {T : Type 0} (r : Result T StepError) → IsErrAnd r (λ e. e ≡ failed.Fault) → r ≡ Err failed.Fault
-fault_is (Ok x) h = absurd h
-fault_is (Err e) h = ap (λ x. Err x) h
 
 -- what is ready and not whole is plain
 pub ready_plain : (m : Mark) (P : Type 0) → (m ≡ Plain) ⊎ (m ≡ Doubt) → (m ≡ Whole) ⊎ ((m ≡ Plain) × P) → (m ≡ Plain) × P

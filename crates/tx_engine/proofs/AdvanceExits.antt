@@ -1,7 +1,6 @@
 -- An open transaction of a settled device goes on.
-use Rattle.std.proofs.Common.{◌≡◌, ◌≢◌, ℕ, ◌+◌, ◌<◌, ◌≤◌, ◌==◌, true, false, not, ◌&&◌, List, [], length, Result, Ok, Err, refl, sym, ap, ap₂, ◌∙◌, subst, inl, inr, arith, eqb-true, eq-eqb, ne_eqb}
+use Rattle.std.proofs.Common.{◌≡◌, ◌≢◌, ℕ, ◌+◌, ◌<◌, ◌≤◌, ◌==◌, true, false, not, ◌&&◌, List, [], length, Ok, Err, refl, sym, ap, ap₂, ◌∙◌, subst, inl, inr, arith, eqb-true, eq-eqb, ne_eqb}
 use Rattle.std.specs.Prelude.{if◌then◌else◌}
-use Rattle.std.specs.Result.{is_err}
 use Rattle.std.proofs.lemmas.Bool.{cases_eq, cond-true, cond-false, cond_both, eqb-false}
 use Rattle.std.proofs.Math.Seq.{map-set_same}
 use Rattle.tx_types.specs.Batch.{PageWrite}
@@ -146,8 +145,3 @@ failed_advances state S S' O O' i b h within plain w =
         )
       ],
     )
-
--- what `?` hands on
-pub err_advances : (s new : ArrayState) (tag : ℕ) (e : Entry) (r : Result Progress Broken) → is_err r ≡ true → ((b : Broken) → Advances s tag e (Err b) new) → Advances s tag e r new
-err_advances s new tag e (Ok p) is h = cc
-err_advances s new tag e (Err b) is h = h b

@@ -1,5 +1,5 @@
 -- How a transaction of a settled device goes on, as a whole: it counts a page that is noted, or a page is written before, or its write broke off.
-use Rattle.std.proofs.Common.{◌≡◌, ℕ, ◌<◌, Bool, true, false, List, [], length, Ok, Err, refl, sym, ap, ◌∙◌, subst, inl, inr, eq-eqb, ◌+◌, ◌≢◌}
+use Rattle.std.proofs.Common.{◌≡◌, ℕ, ◌<◌, true, false, List, [], length, Ok, Err, refl, sym, ap, ◌∙◌, subst, inl, inr, eq-eqb, ◌+◌, ◌≢◌}
 use Rattle.std.specs.Prelude.{if◌then◌else◌}
 use Rattle.std.proofs.lemmas.List.Elements.{All-nil}
 use Rattle.tx_types.specs.Batch.{PageWrite}

@@ -29,7 +29,7 @@ use Rattle.tx_engine.specs.ArrayState.{Entry, Pages, put, is_doubted}
 use Rattle.array_machine.specs.declared.mark.Mark.{Mark}
 use Rattle.array_machine.specs.declared.mark.Mark.TheVariants.{Plain, Doubt, Whole}
 use Rattle.tx_engine.specs.Exits.{StandsFor}
-use Rattle.tx_engine.specs.Standing.{Standing, Naming, Stands, DoubtsAs, IsOwn, IsOpenAs, IsUnderWay, write_at, text_with}
+use Rattle.tx_engine.specs.Standing.{Standing, Naming, Stands, DoubtsAs, IsOwn, IsOpenAs, IsUnderWay, text_with}
 use Rattle.tx_engine.proofs.OpenOnes.{under_way, can_take}
 use Rattle.tx_engine.proofs.InDoubt.{slot_text, partly_array, wholly_array}
 use Rattle.collector.specs.Laws.{ImagesStand, NotedWrites}

@@ -18,8 +18,6 @@ pub mod FoundSlots
 pub mod Locating
 pub mod Programs
 pub mod ProgramCalls
-pub mod KeptTwice
-pub mod TableLaws
 pub mod OpenList
 pub mod OpenNames
 pub mod Kept
@@ -37,6 +35,7 @@ pub mod Aborting
 pub mod Leaving
 pub mod Collecting
 pub mod NothingLeft
+pub mod Retirements
 pub mod NextRecord
 pub mod WriteExits
 pub mod OpenPages

@@ -1,13 +1,18 @@
 -- A device that was just mounted stands for the array of its image.
-use Rattle.std.proofs.Common.{◌≡◌, ℕ, zero, suc, ◌+◌, [], replicate, filter_map, Contains, refl, sym, ap, ◌∙◌, subst, arith}
+use Rattle.std.proofs.Common.{◌≡◌, ℕ, zero, suc, ◌+◌, Ok, [], replicate, filter_map, Contains, refl, sym, ap, ◌∙◌, subst, arith}
 use Rattle.std.specs.List.{enumerate_from}
+use Rattle.tx_types.specs.Config.{checked, shape_of}
 use Rattle.tx_types.specs.declared.config.Config.{Config}
 use Rattle.tx_types.specs.declared.config.Protocol.{Protocol}
 use Rattle.tx_types.specs.declared.record.Link.{Link}
-use Rattle.flash_model.specs.Flash.{FlashState}
-use Rattle.flash_model.specs.Operations.{Moment}
-use Rattle.version_index.specs.Images.{array_in}
+use Rattle.flash_model.specs.Flash.{FlashState, IsFlash}
+use Rattle.flash_model.specs.Operations.{Moment, moment_of}
+use Rattle.flash_model.specs.Readings.{seen_in}
+use Rattle.version_index.specs.Images.{IsSoundImage, array_in}
 use Rattle.version_index.specs.Noted.{Noted, pinned_at, pinned_names}
+use Rattle.die_alloc.specs.BlockTable.{BlockTable}
+use Rattle.die_alloc.specs.Opening.{opening_table}
+use Rattle.scan_recovery.specs.Opening.{IsOpened}
 use Rattle.collector.specs.declared.unsure.Unsure.{Unsure}
 use Rattle.collector.specs.declared.unsure.Unsure.TheVariants as unsure
 use Rattle.collector.specs.Matches.{Matches}
@@ -17,7 +22,15 @@ use Rattle.tx_engine.specs.Opens.{StoresOpened, Mounts}
 use Rattle.tx_engine.specs.Standing.{DoubtsAs}
 use Rattle.tx_engine.specs.Stored.{Stored, IsStored}
 use Rattle.tx_engine.specs.Tables.{IsStanding, standing_in}
-use Rattle.collector.specs.Laws.{ImagesStand}
+use Rattle.collector.specs.Laws.{ImagesStand, OpenedTablesMatch}
+
+-- the tables of an image that is read match the flash
+pub opened_matches : OpenedTablesMatch → (its : Config) (s s' : FlashState) (n : Noted) (t : BlockTable) → checked its ≡ Ok s.shape → IsFlash s →
+    IsSoundImage its.protocol its.logical s.shape s.image → IsOpened its s.image n t → s'.shape ≡ s.shape → moment_of s' ≡ moment_of s → Matches s' n t unsure.Nothing
+opened_matches law its s s' n t check whole sound h shape moment =
+    subst (λ k. Matches s' n k unsure.Nothing) (sym h.table_is)
+    (subst (λ k. Matches s' k (opening_table (shape_of its) (seen_in s.image) h.spare) unsure.Nothing) (sym h.noted_is)
+    (law its s s' h.spare check whole sound h.chosen shape moment))
 
 none_pinned : (k n : ℕ) → filter_map (λ (page, version). pinned_at page version) (enumerate_from n (replicate k 0)) ≡ []
 none_pinned zero n = refl

@@ -69,15 +69,6 @@ pub record FreesFirst (old now : Vec PendingPage Global) (rooms rooms' : Vec (Ve
   pub rooms_capacity : vec_capacity rooms ≤ vec_capacity rooms'
   pub sizes : (size : ℕ) → All (HasRoom size) rooms.items → All (IsWhole size) old.items → All (IsWhole size) now.items × All (HasRoom size) rooms'.items
 
-pub frees_none : (old : Vec PendingPage Global) (rooms : Vec (Vec ℕ Global) Global) → FreesFirst old old rooms rooms 0
-frees_none old rooms = record {
-  left = omega arith;
-  more = omega arith;
-  capacity = refl;
-  rooms_capacity = omega arith;
-  sizes = λ size rooms pages. (pages, rooms);
-}
-
 pub frees_more : (old pages pages' : Vec PendingPage Global) (rooms rooms' rooms'' : Vec (Vec ℕ Global) Global) (count : ℕ) (p : PendingPage) →
     FreesFirst old pages rooms rooms' count → pages.items ≡ pages'.items ++ p ∷ [] → vec_capacity pages' ≡ vec_capacity pages →
     rooms''.items ≡ rooms'.items ++ p.bytes ∷ [] → vec_capacity rooms' ≤ vec_capacity rooms'' → FreesFirst old pages' rooms rooms'' (count + 1)

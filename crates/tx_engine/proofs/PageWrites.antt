@@ -1,7 +1,6 @@
 -- The write of a page as a whole: what it asks for on its way, and what each of its ends leaves.
-use Rattle.std.proofs.Common.{◌≡◌, ℕ, ◌<◌, length, false, true, List, None, Ok, Err, refl, sym, ap, ◌∙◌, subst, inl, arith}
+use Rattle.std.proofs.Common.{◌≡◌, ℕ, ◌<◌, length, false, true, List, None, Ok, Err, refl, sym, ap, ◌∙◌, subst, inl}
 use Rattle.std.specs.Prelude.{if◌then◌else◌}
-use Rattle.std.proofs.lemmas.List.Elements.{All-contains}
 use Rattle.tx_types.specs.Batch.{bytes_in, no_write}
 use Rattle.tx_types.specs.declared.config.Config.{Config}
 use Rattle.tx_types.specs.declared.config.Protocol.{Protocol}
@@ -10,17 +9,15 @@ use Rattle.tx_types.specs.declared.record.Link.{Link}
 use Rattle.tx_types.specs.declared.record.Rec.{Rec}
 use Rattle.flash_model.specs.declared.flash.Broken.{Broken}
 use Rattle.flash_model.specs.Flash.{FlashState}
-use Rattle.record_list.specs.Records.{name_of}
-use Rattle.version_index.specs.Noted.{Noted, IsNextRecord, block_to_go}
+use Rattle.version_index.specs.Noted.{block_to_go}
 use Rattle.collector.specs.declared.unsure.Unsure.TheVariants as unsure
 use Rattle.collector.specs.Going.{IsNextName}
 use Rattle.collector.specs.Laws.{ImagesStand, NotedWrites}
-use Rattle.collector.specs.Store.{IsSure}
 use Rattle.array_machine.specs.declared.mark.Mark.TheVariants.{Doubt}
 use Rattle.tx_engine.specs.Calls.{ClearsFor, FindsFor, IsReady, IsRecordDue, WritesPage}
 use Rattle.tx_engine.specs.OpenTable.{HasPlace, IsDueAt, OpenTable, Opening, bytes_due, name_due, opening_at, with_mark, with_opening}
 use Rattle.tx_engine.specs.Settling.{IsLeft, is_at_last, with_next}
-use Rattle.tx_engine.specs.Standing.{Standing, Stands, name_at, write_at, no_name, text_in, text_with}
+use Rattle.tx_engine.specs.Standing.{Standing, write_at, no_name, text_in, text_with}
 use Rattle.tx_engine.specs.Stored.{CanWrite, Stored, WritesOwn, WritesStored, store_in}
 use Rattle.tx_engine.specs.Tables.{standing_in}
 use Rattle.tx_engine.specs.Writing.{due_record}

@@ -1,6 +1,5 @@
 -- The write of a page after room was made for it.
-use Rattle.std.proofs.Common.{◌≡◌, ℕ, ◌<◌, Bool, false, List, [], length, get_or, All, Result, Ok, Err, refl, sym, ap, ◌∙◌, subst, inl}
-use Rattle.std.specs.Result.{OnErr}
+use Rattle.std.proofs.Common.{◌≡◌, ℕ, ◌<◌, Bool, false, List, [], length, get_or, All, refl, sym, ap, ◌∙◌, subst, inl}
 use Rattle.std.proofs.lemmas.Bool.{cond_both}
 use Rattle.std.proofs.lemmas.List.Elements.{All-nil}
 use Rattle.tx_types.specs.Batch.{PageWrite}
@@ -17,7 +16,7 @@ use Rattle.tx_engine.specs.Stored.{Stored}
 use Rattle.tx_engine.specs.Tables.{standing_in}
 use Rattle.tx_engine.proofs.Collecting.{own_writes_low}
 use Rattle.tx_engine.proofs.Kept.{IsKept, from_stands}
-use Rattle.tx_engine.proofs.KeptTwice.{Preserves-then}
+use Rattle.collector.proofs.Keeping.{preserves_then}
 
 pub settled_kept : {F : Type 0} (state : F → FlashState) (S : Stored F) (O : OpenTable) → Stands state (standing_in state S O) → S.unsure ≡ unsure.Nothing →
     IsKept (state S.flash) S.noted S.table unsure.Nothing O
@@ -49,7 +48,7 @@ pub fails_after : {F : Type 0} (state : F → FlashState) (a b c : Standing F) (
 fails_after state a b c o o' i left w = record {
   pages = w.pages ∙ ap (λ m. m.pages) left.machine;
   rises = rises_after a b c [] left.exits.tables.config (All-nil (λ (w : PageWrite). w.page < a.config.logical)) left.versions w.rises;
-  kept = Preserves-then a.noted b.noted c.noted left.kept w.kept;
+  kept = preserves_then a.noted b.noted c.noted left.kept w.kept;
   opens = w.opens;
 }
 
@@ -61,8 +60,3 @@ fails_room state a b o i broken left = record {
   kept = left.kept;
   opens = inl refl;
 }
-
--- what holds anyhow holds where it failed
-pub where_failed : {T E : Type 0} (r : Result T E) (P : Type 0) → P → OnErr r P
-where_failed (Ok x) P h = tt
-where_failed (Err e) P h = h

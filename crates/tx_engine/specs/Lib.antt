@@ -15,6 +15,7 @@ pub mod OpenTables
 pub mod PendingPages
 pub mod Opens
 pub mod Read
+pub mod Retire
 pub mod Settling
 pub mod Standing
 pub mod Stored

@@ -1,5 +1,5 @@
 -- What a step writes next, what it did with it, and in which slot.
-use Rattle.std.specs.Prelude.{false, ◌≡◌, ◌⊎◌, ℕ, List, [], ◌∷◌, length, None, Option, Some, find, Result, Ok, Err, IfSome}
+use Rattle.std.specs.Prelude.{false, ◌≡◌, ◌⊎◌, ℕ, [], ◌∷◌, length, None, Option, Some, find, Result, Ok, Err, IfSome}
 use Rattle.std.specs.List.{zip}
 use Rattle.std.specs.Option.{option_map}
 use Rattle.tx_types.specs.declared.config.Slot.{Slot}

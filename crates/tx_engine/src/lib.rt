@@ -15,13 +15,12 @@ mod pending;
 mod programming;
 mod read;
 mod refusals;
+mod retire;
 mod settling;
 mod step;
 mod store;
 mod submit;
 mod telling;
-#[cfg(test)]
-mod tests;
 mod writing;
 
 pub use always::held_always;
@@ -30,3 +29,4 @@ pub use array_machine::{
 };
 pub use device::Device;
 pub use mount::MountError;
+pub use retire::RetireError;

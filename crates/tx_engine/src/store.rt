@@ -1,4 +1,4 @@
-ghost use Rattle.std.specs.Prelude.{◌≡◌, ◌<◌, ◌≤◌, ◌+◌, ◌==◌, ℕ, List, true, false, Ok, Err, Some, None, length, IfOk, IfErr, IfSome, IfNone, OnOk, OnErr, sum_by};
+ghost use Rattle.std.specs.Prelude.{◌≡◌, ◌<◌, ◌≤◌, ◌+◌, ◌==◌, List, true, false, Ok, Err, Some, None, length, IfOk, IfErr, IfSome, IfNone, OnErr, sum_by};
 ghost use Rattle.std.specs.Result.{is_err};
 ghost use Rattle.std.specs.List.{range_with_len};
 ghost use Rattle.std.specs.Option.{option_map};
@@ -11,7 +11,6 @@ ghost use Rattle.die_alloc.specs.BlockTable.{IsFull};
 ghost use Rattle.die_alloc.specs.NextSlot.{next_slot, after_next_slot};
 ghost use Rattle.collector.specs.declared.unsure.Unsure.{Unsure};
 ghost use Rattle.collector.specs.declared.unsure.Unsure.TheVariants as unsure;
-ghost use Rattle.collector.specs.declared.unsure.Settled.TheVariants as settled;
 ghost use Rattle.collector.specs.Calls.{Clears, CollectsMost, FindsSlot};
 ghost use Rattle.collector.specs.Matches.{CanTake};
 ghost use Rattle.collector.specs.Settling.{Settles};
@@ -70,6 +69,7 @@ impl<F: Flash, R: CommitRule> Store<F, R> {
         ensures failed { IfErr result (λ e. FailsToMount F.state flash config e.0 e.1) }
         ensures reads { IfErr result (λ e. ReadsUnmounted F.state flash config e.0 e.1) }
     {
+        laws::opened_tables_match();
         let Ok(room) = page_room(alloc, flash.shape()) else {
             return Err((flash, MountError::Memory));
         };

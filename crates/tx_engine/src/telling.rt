@@ -1,4 +1,4 @@
-ghost use Rattle.std.specs.Prelude.{◌≡◌, ◌<◌, ◌*◌, IfOk, count_by, is_some, sum_by};
+ghost use Rattle.std.specs.Prelude.{◌≡◌, ◌<◌, IfOk, count_by, is_some, sum_by};
 ghost use Rattle.std.specs.List.{range_with_len};
 ghost use Rattle.tx_types.specs.Config.{shape_of, blocks_of};
 ghost use Rattle.version_index.specs.Noted.{current_of};

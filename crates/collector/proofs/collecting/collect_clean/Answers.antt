@@ -1,5 +1,5 @@
 use Rattle.std.proofs.Common.{refl}
-use Rattle.collector.specs.Calls.{CanErase, stops_copying, comes_to_erase}
+use Rattle.collector.specs.Calls.{stops_copying, comes_to_erase}
 use Rattle.collector.proofs.KeepsLemmas.{sure_then}
 use Rattle.collector.proofs.collecting.collect_clean.Goals as goal
 

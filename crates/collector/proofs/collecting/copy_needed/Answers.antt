@@ -2,7 +2,6 @@ use Rattle.std.proofs.Common.{◌≡◌, ◌+◌, ◌*◌, ◌<◌, refl, sym, a
 use Rattle.tx_types.specs.declared.config.Config.{Config}
 use Rattle.record_list.specs.Changes.{CopyLaw}
 use Rattle.collector.specs.Calls.{CopiesNeeded}
-use Rattle.collector.specs.Store.{store_of}
 use Rattle.collector.proofs.CopyingBlocks.{copied_none, copied_passed, copied_taken, at_within, next_of_spare, has_record}
 use Rattle.collector.proofs.KeepsLemmas.{by_err, sure_then}
 use Rattle.collector.proofs.NeededCopies.{needed_copied, needed_broke}

@@ -1,9 +1,8 @@
-use Rattle.std.proofs.Common.{◌≡◌, ◌≤◌, ℕ, length, get_or, Option, Some, None, is_some, true, false, not, refl, sym, ap, ◌∙◌, subst, arith}
+use Rattle.std.proofs.Common.{◌≡◌, get_or, Option, Some, None, is_some, true, false, not, refl, sym, ap, ◌∙◌, arith}
 use Rattle.std.specs.Option.{option_map}
 use Rattle.tx_types.specs.declared.config.Block.{Block}
 use Rattle.tx_types.specs.declared.config.Config.{Config}
 use Rattle.collector.specs.Calls.{Clears}
-use Rattle.collector.specs.Store.{store_of}
 use Rattle.collector.proofs.ClearRounds.{clears_none, clears_all, block_unneeded, round_broke, round_still, round_done}
 use Rattle.collector.proofs.GoingOrder.{numbers, all_ahead, next_exists, next_found, next_passed, next_treated, none_next}
 use Rattle.collector.proofs.KeepsLemmas.{by_err, sure_then}

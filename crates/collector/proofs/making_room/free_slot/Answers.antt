@@ -1,4 +1,4 @@
-use Rattle.std.proofs.Common.{◌≡◌, true, Ok, Err, refl, sym, subst}
+use Rattle.std.proofs.Common.{Ok, Err, refl, sym, subst}
 use Rattle.die_alloc.specs.BlockTable.{BlockTable}
 use Rattle.collector.specs.Calls.{CollectsMost, FindsSlot}
 use Rattle.collector.specs.Store.{store_of}

@@ -1,6 +1,5 @@
-use Rattle.std.proofs.Common.{sym, ap, ◌∙◌}
+use Rattle.std.proofs.Common.{sym, ◌∙◌}
 use Rattle.collector.proofs.KeepsLemmas.{by_err}
-use Rattle.tx_types.specs.declared.config.Config.{Config}
 use Rattle.tx_engine.specs.Calls.{AdvancesTo}
 use Rattle.tx_engine.proofs.AdvanceExits.{not_due_ready}
 use Rattle.tx_engine.proofs.Advancing.{is_due_at, counted_on, advance_breaks, counts_then, exists_then, ready_then, advanced}

@@ -3,7 +3,7 @@ use Rattle.tx_types.specs.declared.record.Link.{Link}
 use Rattle.version_index.specs.Noted.{block_to_go}
 use Rattle.collector.specs.Calls.{Clears}
 use Rattle.collector.specs.Going.{IsNextName}
-use Rattle.tx_engine.specs.OpenTable.{HasPlace, name_due, opening_at}
+use Rattle.tx_engine.specs.OpenTable.{HasPlace, opening_at}
 use Rattle.tx_engine.specs.Standing.{name_at}
 use Rattle.tx_engine.specs.Stored.{store_in}
 use Rattle.tx_engine.proofs.Leaving.{left_by}

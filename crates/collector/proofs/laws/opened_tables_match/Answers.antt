@@ -1,0 +1,5 @@
+use Rattle.collector.proofs.OpenedTables.{opened_match}
+use Rattle.collector.proofs.laws.opened_tables_match.Goals as goal
+
+pub returns : goal.returns
+returns c = opened_match

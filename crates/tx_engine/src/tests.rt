@@ -1,5 +1,0 @@
-mod calls;
-mod devices;
-mod doubts;
-mod full;
-mod rows;
