@@ -11,8 +11,6 @@ mod mounting;
 mod reading;
 mod serving;
 mod session;
-#[cfg(test)]
-mod tests;
 mod watch;
 
 pub use lines::Lines;

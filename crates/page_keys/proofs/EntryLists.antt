@@ -1,5 +1,5 @@
 -- A change of a key in a list of entries in ascending order.
-use Rattle.std.proofs.Common.{◌≡◌, ◌≢◌, ℕ, suc, ◌+◌, ◌<◌, Bool, true, false, not, ◌&&◌, if◌then◌else◌, List, [], ◌∷◌, ◌++◌, length, take, drop, set, Option, Some, None, ◌==◌, IsTrue, get_or, refl, sym, ap, subst, ◌∙◌, arith, length-take}
+use Rattle.std.proofs.Common.{◌≡◌, ◌≢◌, ℕ, suc, ◌+◌, ◌<◌, Bool, true, false, not, ◌&&◌, List, [], ◌∷◌, ◌++◌, length, take, drop, set, Option, Some, None, ◌==◌, IsTrue, get_or, refl, sym, ap, subst, ◌∙◌, arith, length-take}
 use Rattle.std.specs.List.{insert, remove}
 use Rattle.std.specs.Ordering.{eq_by_cmp, is_lt, ordering_reverse}
 use Rattle.std.specs.declared.cmp.Ordering.{Ordering}
@@ -12,11 +12,10 @@ use Rattle.std.specs.FinMap.Entries.{is_sorted-put, is_sorted-where_key}
 use lib.Dec.{T}
 use Rattle.std.proofs.lemmas.Bool.Decides.{nat_tests}
 use Rattle.std.proofs.lemmas.List.{take-append-drop, take_more, map-append}
-use Rattle.std.proofs.lemmas.List.Elements.{filter-append}
 use Rattle.std.proofs.Math.Seq.{drop-cons}
 use Rattle.std.proofs.Math.Seq.{set-append_seam, take-append_seam, drop-append_seam, drop-append-add}
 use Rattle.page_keys.specs.Groups.{Placed, changes_of}
-use Rattle.page_keys.specs.KeyMaps.{Pair, key_order, is_ascending, is_in, of_page, bucket_of}
+use Rattle.page_keys.specs.KeyMaps.{Pair, key_order, is_ascending, is_in, bucket_of}
 use Rattle.page_keys.specs.declared.changes.Change.{Change}
 use Rattle.page_keys.specs.Entries.{with_pair, changed, AreBelow, BeginsAbove, IsFoundAt, IsGapAt}
 

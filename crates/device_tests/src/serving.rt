@@ -1,24 +1,16 @@
+//! Commands that are served over cuts and faults, and how many slots are read.
+
 ghost use Rattle.std.specs.Prelude.{◌≤◌, length, None};
 
-use super::*;
+use crate::building::SIMPLE;
+use cut_replay::{Lines, Watch, serve};
 use flash_model::Flash;
 use host_protocol::{Reply, parse};
 use mem_flash::MemFlash;
 use scc_commit::Scc;
 use std::alloc::Global;
 use std::test::Fail;
-use tx_types::{Config, Memory, Protocol};
-
-/// Two dies of four blocks of four slots, for 20 logical pages.
-const DEFAULT: Config = Config {
-    protocol: Protocol::Scc,
-    page_bytes: 16,
-    pages_per_block: 4,
-    blocks_per_die: 4,
-    dies: 2,
-    logical: 20,
-    pending: 7,
-};
+use tx_types::Memory;
 
 /// What the flash was at each reply: whether power was on, and how many reads it counted.
 #[derive(Drop)]
@@ -42,14 +34,14 @@ impl Watch<MemFlash> for Moments {
 fn served<W: Watch<MemFlash>>(alloc: Global, commands: &[u8], out: &mut W) -> Result<u64, Memory>
     requires { length commands.now ≤ 1000 }
 {
-    let Ok(shape) = DEFAULT.check() else {
+    let Ok(shape) = SIMPLE.check() else {
         unreachable!();
     };
-    let Ok(list) = parse(alloc, commands, DEFAULT.page_bytes) else {
+    let Ok(list) = parse(alloc, commands, SIMPLE.page_bytes) else {
         return Err(Memory);
     };
     let flash = MemFlash::new(alloc, shape)?;
-    let (flash, result) = serve::<MemFlash, Scc, W>(alloc, flash, DEFAULT, &list, out);
+    let (flash, result) = serve::<MemFlash, Scc, W>(alloc, flash, SIMPLE, &list, out);
     if result.is_err() {
         return Err(Memory);
     }

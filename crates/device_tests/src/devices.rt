@@ -1,0 +1,7 @@
+//! Devices over small flashes: calls and their answers, as tables of rows.
+
+mod calls;
+mod doubts;
+mod flashes;
+mod full;
+mod rows;

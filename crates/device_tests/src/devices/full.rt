@@ -1,0 +1,78 @@
+//! A device that is full, and one that is mounted again.
+
+use super::calls::Call::{Read, Stats};
+use super::calls::{finish, mounted, served, write};
+use super::flashes::blank;
+use crate::building::{BACK_POINTER, SIMPLE};
+use array_machine::Progress;
+use bpcc_commit::Bpcc;
+use flash_model::Flash;
+use mem_flash::MemFlash;
+use record_list::CommitRule;
+use scc_commit::Scc;
+use std::alloc::Global;
+use std::process::Abort;
+use std::test::Fail;
+use tx_engine::{Device, MountError};
+use tx_types::Config;
+
+/// Fills a page with a byte in a transaction of its own.
+fn fill<F: Flash, R: CommitRule>(
+    rt: &impl Abort,
+    alloc: Global,
+    device: &mut Device<F, R>,
+    page: u32,
+    byte: u8,
+) -> Result<(), Fail> {
+    assert_eq!(rt; write(rt, alloc, device, 9, &[(page, byte)])?, Ok(()));
+    assert_eq!(rt; finish(device, 9), Ok(Progress::Done));
+    Ok(())
+}
+
+/// Each page is written, and then one page again and again, where only collections make room.
+fn rewritten<R: CommitRule>(
+    rt: &impl Abort,
+    alloc: Global,
+    config: Config,
+) -> Result<String, Fail> {
+    let mut device = mounted::<MemFlash, R>(rt, alloc, blank(alloc, config)?, config)?;
+    for page in 0..20 {
+        fill(rt, alloc, &mut device, page, 0xff)?;
+    }
+    for byte in 1..29 {
+        fill(rt, alloc, &mut device, 0, byte)?;
+    }
+    served(rt, alloc, device, &[Read(0), Read(19), Stats])
+}
+
+#[test]
+fn a_full_device_is_rewritten(rt: HostRuntime) -> Result<(), Fail> {
+    let alloc = rt.alloc();
+    let want = "28; 255; written 20 open 0 pending 0 programs 55 erases 7 garbage 7";
+    let simple = rewritten::<Scc>(&rt, alloc, SIMPLE)?;
+    assert_eq!(rt; simple.as_str(), want);
+    let back_pointer = rewritten::<Bpcc>(&rt, alloc, BACK_POINTER)?;
+    assert_eq!(rt; back_pointer.as_str(), want);
+    Ok(())
+}
+
+/// A mount that meets a fault gives the flash back, which is mounted then.
+#[test]
+fn a_flash_comes_back_from_a_fault(rt: HostRuntime) -> Result<(), Fail> {
+    let alloc = rt.alloc();
+    let mut device = mounted::<MemFlash, Scc>(&rt, alloc, blank(alloc, SIMPLE)?, SIMPLE)?;
+    fill(&rt, alloc, &mut device, 3, 5)?;
+    device.arm_bad_read(2);
+    let flash = device.close();
+    assert_eq!(rt; SIMPLE.check(), Ok(flash.shape()));
+    let Err((flash, MountError::Fault)) = Device::<MemFlash, Scc>::mount(alloc, flash, SIMPLE)
+    else {
+        return Err(Fail::new("the fault did not come"));
+    };
+    let device = mounted::<MemFlash, Scc>(&rt, alloc, flash, SIMPLE)?;
+    assert_eq!(rt;
+        served(&rt, alloc, device, &[Read(3), Stats])?.as_str(),
+        "5; written 1 open 0 pending 0 programs 1 erases 0 garbage 3"
+    );
+    Ok(())
+}

@@ -1,0 +1,4 @@
+//! Tables of slots with a few records.
+
+mod numbers;
+mod tables;

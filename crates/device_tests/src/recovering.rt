@@ -1,0 +1,5 @@
+//! Recovery of flashes with a few records.
+
+mod flashes;
+mod lists;
+mod tables;
