@@ -25,7 +25,7 @@ use Rattle.flash_picture.specs.declared.marks.Marks.{Marks}
 use Rattle.flash_picture.specs.Cells.{cell_of, name_word, rank_by}
 use Rattle.flash_picture.specs.Map.{map_text}
 use Rattle.flash_picture.specs.Picture.{breach_line, cells_of, heading, picture}
-use Rattle.flash_picture.specs.Walks.{chain, chain_text, end_text, ends_at, walk_line, walks_text}
+use Rattle.flash_picture.specs.Walks.{chain, chain_text, end_text, ends_at, story_text, walk_line, walks_text}
 
 module _ (list sorted : List Found) (is : Sorts list sorted) where
   held_alike : (protocol : Protocol) (logical : ℕ) (r : Rec) → is_held protocol sorted logical r ≡ is_held protocol list logical r
@@ -60,15 +60,24 @@ module _ (list sorted : List Found) (is : Sorts list sorted) where
       ap (λ rest. codes "walk " ++ name_word start ++ rest)
       (chain_alike start 16 (link_of sorted start) ∙ ap (chain list start 16) (link_alike list sorted is start))
 
-  line_alike : (page : ℕ) (w : Why) → walk_line sorted page w ≡ walk_line list page w
-  line_alike page w =
-      ap (λ t. cond (is_committed w) [] (t ++ end_text w ++ 10 ∷ []))
+  pub story_alike : (page : ℕ) (w : Why) → story_text sorted page w ≡ story_text list page w
+  story_alike page w =
+      ap (λ t. t ++ end_text w)
       (chain_text_alike (newest_name sorted page) ∙ ap (chain_text list) (newest_name_alike list sorted is page))
+
+  line_alike : (page : ℕ) (w : Why) → walk_line sorted page w ≡ walk_line list page w
+  line_alike page w = ap (λ t. cond (is_committed w) [] (t ++ 10 ∷ [])) (story_alike page w)
 
   pub walks_alike : (protocol : Protocol) (logical : ℕ) → walks_text protocol sorted logical ≡ walks_text protocol list logical
   walks_alike protocol logical =
       ap (λ f. flat_map f (range_with_len 0 logical))
       (fun_ext (λ page. line_alike page (why protocol sorted logical page) ∙ ap (walk_line list page) (why_alike list sorted is protocol logical page)))
+
+  pub cells_alike : (its : Config) (notes : List Note) → list ≡ found_in notes →
+      map (cell_of its.protocol sorted its.logical) notes ≡ cells_of its notes
+  cells_alike its notes e =
+      ap (λ f. map f notes) (fun_ext (cell_alike its.protocol its.logical))
+      ∙ ap (λ l. map (cell_of its.protocol l its.logical) notes) e
 
 -- a picture that is written part by part
 pub picture_written : (its : Config) (notes : List Note) (marks : Marks) (sorted : List Found) (cells : List Cell) (old first second third all : List ℕ) →
@@ -83,7 +92,7 @@ picture_written its notes marks sorted cells old first second third all is cells
     let walks = walks_text its.protocol list its.logical in
     d ∙ ap (λ t. t ++ breach_line marks.breach)
     (c ∙ ap₂ (λ t w. t ++ w) (b ∙ ap₂ (λ t cs. t ++ map_text (shape_of its) cs marks) a
-    (cells_are ∙ ap (λ f. map f notes) (fun_ext (cell_alike list sorted is its.protocol its.logical))))
+    (cells_are ∙ cells_alike list sorted is its notes refl))
     (walks_alike list sorted is its.protocol its.logical)
     ∙ ap (λ t. t ++ walks) (append_assoc old (heading its) drawn)
     ∙ append_assoc old (heading its ++ drawn) walks)

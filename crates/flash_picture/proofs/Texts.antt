@@ -31,6 +31,10 @@ cell_joined Damaged more = joined_more (codes "damaged") [] more
 cell_joined (Holds rec rank held) more =
     joined_more (name_word (name_of rec)) (rank_word rank ∷ (word_if held (codes "held") ++ word_if rec.discard (codes "discard"))) more
 
+-- a text that has grown by a piece, and grows by one more
+pub then : (old piece text more all : List ℕ) → text ≡ old ++ piece → all ≡ text ++ more → all ≡ old ++ (piece ++ more)
+then old piece text more all before after = after ∙ ap (λ t. t ++ more) before ∙ append_assoc old piece more
+
 -- a text grows by that of one number more
 pub text_more : (f : ℕ → List ℕ) (k : ℕ) (old text new : List ℕ) → text ≡ old ++ flat_map f (range_with_len 0 k) → new ≡ text ++ f k →
     new ≡ old ++ flat_map f (range_with_len 0 (k + 1))

@@ -68,7 +68,7 @@ abbrev pub cell_at : List Cell → ℕ → Cell
 cell_at cells slot = slice_index_or cells slot Blank
 
 -- the text of a slot: its words with a space between each two, the last a `!` where a broken law names it
-abbrev pub slot_text : List Cell → Marks → ℕ → List ℕ
+unfoldable pub slot_text : List Cell → Marks → ℕ → List ℕ
 slot_text cells marks slot =
     join_with_byte 32
     (cell_words (cell_at cells slot) ++ word_if (is_named marks.breach slot) (codes "!"))

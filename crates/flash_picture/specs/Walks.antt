@@ -39,12 +39,14 @@ abbrev pub chain_text : List Found → Link → List ℕ
 chain_text list start =
     codes "walk " ++ name_word start ++ chain list start most_links (link_of list start)
 
+-- the walk from the newest record of a page, with what it ends in
+abbrev pub story_text : List Found → ℕ → Why → List ℕ
+story_text list page why = chain_text list (newest_name list page) ++ end_text why
+
 -- the line of a page, by what decides the verdict on its newest version, which does not count; nothing where it
 -- does
 abbrev pub walk_line : List Found → ℕ → Why → List ℕ
-walk_line list page why =
-    if is_committed why then []
-    else chain_text list (newest_name list page) ++ end_text why ++ 10 ∷ []
+walk_line list page why = if is_committed why then [] else story_text list page why ++ 10 ∷ []
 
 abbrev pub walk_text : Protocol → List Found → ℕ → ℕ → List ℕ
 walk_text protocol list logical page = walk_line list page (why protocol list logical page)

@@ -5,9 +5,15 @@
 mod asks;
 mod cell;
 mod cells;
+mod grid;
+mod legend;
 mod map;
 mod marks;
 mod picture;
+mod pieces;
+mod svg;
+mod svg_lines;
+mod svg_map;
 #[cfg(test)]
 mod tests;
 mod text;
@@ -17,4 +23,5 @@ mod walk;
 pub use cell::{Cell, Rank};
 pub use marks::Marks;
 pub use picture::draw;
-pub use theorems::{cells_tell, labels_tell};
+pub use svg::draw_svg;
+pub use theorems::{cells_tell, labels_tell, svg_tells};

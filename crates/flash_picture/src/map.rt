@@ -41,7 +41,7 @@ impl Map<'_> {
     }
 
     /// The greatest length of the text of a slot.
-    fn width(&self, alloc: Global) -> Result<usize, Memory>
+    pub fn width(&self, alloc: Global) -> Result<usize, Memory>
         requires { IsShape self.now.shape }
         ensures width { let m = self.now in IfOk result (λ width. width ≡ widest m.cells.now m.marks (slots_of m.shape)) }
         ensures few { IfOk result (λ width. width < 2 ^ 63) }
@@ -133,10 +133,18 @@ impl Map<'_> {
             ≡ text.old.items ++ padded 11 (join_with_byte 32 (label_words self.now.marks block.0))) }
     {
         let start = text.len();
+        self.write_label_words(block, text)?;
+        pad(start, LABEL_COLUMNS, text)
+    }
+
+    /// Appends the words of the label of a block.
+    pub fn write_label_words(&self, block: Block, text: &mut Vec<u8>) -> Result<(), AllocError>
+        ensures { OnOk result (text.new.items
+            ≡ text.old.items ++ join_with_byte 32 (label_words self.now.marks block.0)) }
+    {
         text.extend_from_slice(label_word(self.is_spare(block)))?;
         text.extend_from_slice(b" ")?;
-        add_number(u64::from(block.0), text)?;
-        pad(start, LABEL_COLUMNS, text)
+        add_number(u64::from(block.0), text)
     }
 
     /// Whether a block is the spare.
@@ -147,7 +155,7 @@ impl Map<'_> {
     }
 
     /// Appends the text of a slot.
-    fn write_slot(&self, slot: Slot, text: &mut Vec<u8>) -> Result<(), AllocError>
+    pub fn write_slot(&self, slot: Slot, text: &mut Vec<u8>) -> Result<(), AllocError>
         ensures { OnOk result (text.new.items
             ≡ text.old.items ++ slot_text self.now.cells.now self.now.marks slot.0) }
     {
@@ -166,7 +174,7 @@ impl Map<'_> {
     }
 
     /// The cell of a slot.
-    fn cell(&self, slot: Slot) -> Cell
+    pub fn cell(&self, slot: Slot) -> Cell
         ensures { result ≡ cell_at self.now.cells.now slot.0 }
     {
         match self.cells.get(slot.0 as usize) {

@@ -79,7 +79,7 @@ fn write_picture(
 }
 
 /// The shape of a device's flash.
-fn shape(config: Config) -> Shape
+pub fn shape(config: Config) -> Shape
     requires { checked config ≡ Ok (shape_of config) }
     ensures shape { result ≡ shape_of config }
     ensures bounds { IsShape result }
@@ -91,11 +91,11 @@ fn shape(config: Config) -> Shape
 }
 
 /// The records that are noted, in order of their names.
-fn charted(alloc: Global, notes: &[Note]) -> Result<Chart, Memory>
+pub fn charted(alloc: Global, notes: &[Note]) -> Result<Chart, Memory>
     requires { length notes.now < 2 ^ 32 }
     ensures { IfOk result (λ chart. Sorts (found_in notes.now) chart) }
 {
-    Ok(Chart::new(alloc, found(alloc, notes)?)?)
+    Ok(Chart::of(alloc, &found(alloc, notes)?)?)
 }
 
 /// The records that are noted, in the order of their slots.
@@ -121,7 +121,7 @@ fn keep(slot: Slot, note: Note, list: &mut Vec<Found>) -> Result<(), Memory>
 }
 
 /// Appends the first line.
-fn write_heading(config: Config, text: &mut Vec<u8>) -> Result<(), AllocError>
+pub fn write_heading(config: Config, text: &mut Vec<u8>) -> Result<(), AllocError>
     ensures { OnOk result (text.new.items ≡ text.old.items ++ heading config) }
 {
     text.extend_from_slice(protocol_word(config.protocol))?;
@@ -142,7 +142,7 @@ fn write_breach(breach: Option<Breach>, text: &mut Vec<u8>) -> Result<(), AllocE
 }
 
 /// Appends the law that is broken, and the slot that it names.
-fn write_law(breach: Breach, text: &mut Vec<u8>) -> Result<(), AllocError>
+pub fn write_law(breach: Breach, text: &mut Vec<u8>) -> Result<(), AllocError>
     ensures { OnOk result (text.new.items ≡ text.old.items ++ breach_line (Some breach)) }
 {
     text.extend_from_slice(b"unsound law ")?;

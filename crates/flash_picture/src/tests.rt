@@ -1,7 +1,7 @@
 ghost use Rattle.std.specs.Prelude.{◌≡◌, Ok};
 ghost use Rattle.tx_types.specs.Config.{checked, shape_of, slots_of};
 
-use crate::{Marks, draw};
+use crate::{Marks, draw, draw_svg};
 use record_list::Breach;
 use std::alloc::{AllocError, Global};
 use std::test::Fail;
@@ -114,5 +114,48 @@ fn draws_a_straddled_link(rt: HostRuntime) -> Result<(), Fail> {
          unsound law 9 slot 6\n";
     let said = picture(rt.alloc(), Protocol::Bpcc, &notes, marks)?;
     assert_eq!(rt; said.as_slice(), want.as_bytes());
+    Ok(())
+}
+
+/// What stands in the picture below: cells with their words, the label of the spare, arrows, and a walk. A link to
+/// a record that stands twice leads to the lower slot.
+const PIECES: [&[u8]; 8] = [
+    b"height='436'",
+    b"<title>slot 2: 0.2 loose, link 2.1, back 1</title>",
+    b"<g class='1.1 current'><title>slot 3: 1.1 current, link 0.1, back 0</title>",
+    b"<g class='spare 3'><text x='8' y='360'>spare 3</text></g>",
+    b"<path d='M132,144C132,122 236,178 236,200'/>",
+    b"<path d='M252,200C252,178 116,122 116,144'/>",
+    b"<path d='M252,288C252,266 116,122 116,144'/>",
+    b">walk 0.2 -> 2.1 absent</tspan>",
+];
+
+#[test]
+fn draws_in_svg(rt: HostRuntime) -> Result<(), Fail> {
+    // pages 0 and 1 were written together, the record of page 1 was copied, and a write of page 0 was cut
+    let notes = [
+        rec((0, 1), (1, 1), 0),
+        Note::Blank,
+        rec((0, 2), (2, 1), 1),
+        rec((1, 1), (0, 1), 0),
+        Note::Damaged,
+        rec((1, 1), (0, 1), 0),
+        Note::Blank,
+        Note::Blank,
+    ];
+    let marks = Marks {
+        spare: Some(Block(3)),
+        breach: None,
+    };
+    let mut out = Vec::new(rt.alloc());
+    assert!(rt; draw_svg(rt.alloc(), device(Protocol::Scc), &notes, marks, &mut out).is_ok());
+    for piece in PIECES {
+        assert!(rt; out.windows(piece.len()).any(|part| part == piece));
+    }
+    let paths = out
+        .windows(5)
+        .filter(|part| *part == b"<path".as_slice())
+        .count();
+    assert_eq!(rt; paths, 3);
     Ok(())
 }

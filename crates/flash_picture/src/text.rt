@@ -6,12 +6,26 @@ use itoa::Buffer;
 use std::alloc::AllocError;
 use tx_types::Link;
 
+/// Appends bytes.
+pub fn add(bytes: &[u8], text: &mut Vec<u8>) -> Result<(), AllocError>
+    ensures { OnOk result (text.new.items ≡ text.old.items ++ bytes.now) }
+{
+    text.extend_from_slice(bytes)
+}
+
 /// Appends a number.
 pub fn add_number(number: u64, text: &mut Vec<u8>) -> Result<(), AllocError>
     ensures { OnOk result (text.new.items ≡ text.old.items ++ decimal number) }
 {
     let mut digits = Buffer::new();
     text.extend_from_slice(digits.format(number).as_bytes())
+}
+
+/// Appends a number of 32 bits.
+pub fn add_count(count: u32, text: &mut Vec<u8>) -> Result<(), AllocError>
+    ensures { OnOk result (text.new.items ≡ text.old.items ++ decimal count) }
+{
+    add_number(u64::from(count), text)
 }
 
 /// Appends a name.

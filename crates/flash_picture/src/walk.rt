@@ -1,7 +1,7 @@
 ghost use Rattle.std.specs.Prelude.{◌≡◌, ◌++◌, OnOk, codes};
 ghost use Rattle.record_list.specs.Verdict.{newest_name};
 ghost use Rattle.flash_picture.specs.Cells.{name_word};
-ghost use Rattle.flash_picture.specs.Walks.{chain, chain_text, end_text, ends_at, walk_line, walks_text};
+ghost use Rattle.flash_picture.specs.Walks.{chain, chain_text, end_text, ends_at, story_text, walk_line, walks_text};
 
 use crate::text::{add_name, add_number};
 use record_chart::Chart;
@@ -35,11 +35,18 @@ fn write_walk(chart: &Chart, page: u32, why: Why, text: &mut Vec<u8>) -> Result<
     match why.verdict() {
         Verdict::Committed => Ok(()),
         Verdict::Uncommitted => {
-            write_chain(chart, newest_name(chart, page), text)?;
-            write_end(why, text)?;
+            write_story(chart, page, why, text)?;
             text.extend_from_slice(b"\n")
         }
     }
+}
+
+/// Appends the walk from the newest record of a page, with what it ends in.
+pub fn write_story(chart: &Chart, page: u32, why: Why, text: &mut Vec<u8>) -> Result<(), AllocError>
+    ensures { OnOk result (text.new.items ≡ text.old.items ++ story_text chart.now page why) }
+{
+    write_chain(chart, newest_name(chart, page), text)?;
+    write_end(why, text)
 }
 
 /// The name of the newest record of a page.

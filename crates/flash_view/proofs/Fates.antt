@@ -1,28 +1,61 @@
 -- What comes of the bytes of an image.
-use Rattle.std.proofs.Common.{◌≡◌, ℕ, Bool, List, Ok, Err, refl, sym, subst}
+use Rattle.std.proofs.Common.{◌≡◌, inl, inr, ℕ, Bool, List, Some, Result, Ok, Err, refl, sym, ap, subst}
+use Rattle.std.specs.Prelude.{IfOk, IfErr, Vec}
+use Rattle.std.specs.Global.{Global}
+use Rattle.std.specs.Result.{IsErrAnd}
 use Rattle.tx_types.specs.declared.config.Config.{Config}
 use Rattle.flash_model.specs.Flash.{Contents, Extras}
 use Rattle.version_index.specs.Notes.{notes_of}
 use Rattle.image_file.specs.Rules.{reading}
-use Rattle.image_file.specs.declared.error.ImageError.{ImageError}
-use Rattle.flash_picture.specs.Picture.{picture}
+use Rattle.desk_io.specs.Desk as found
+use Rattle.desk_io.specs.Desk.{DeskState, Finds, after_answer, as_before}
+use Rattle.image_desk.specs.Loading.{Fetches, ImageStops, RefusesImage}
+use Rattle.image_desk.specs.Refusals.{ImageFate}
+use Rattle.image_desk.specs.declared.stop.ImageStop.{ImageStop}
+use Rattle.image_desk.specs.declared.stop.ImageStop.TheVariants as stop
+use Rattle.flash_view.specs.Asked.{Asked}
+use Rattle.flash_view.specs.declared.words.Form.{Form}
 use Rattle.flash_view.specs.declared.opening.Opening.{Opening}
-use Rattle.flash_view.specs.Fate.{Fate, Drawn, AfterReading, BadImage, Drawing, Gives, IsOpening, Opens, fate_of, marks_of}
+use Rattle.flash_view.specs.Fate.{Fate, Drawn, Refused, AfterReading, Drawing, Gives, IsOpening, Opens, fate_of, marks_of, picture_in}
+use Rattle.flash_view.specs.Top.{Works}
 
 -- bytes that spell an image come to what the image comes to
-module _ (unsound : Bool) (bytes : List ℕ) (its : Config) (image : List Contents) (extras : Extras)
+module _ (form : Form) (unsound : Bool) (bytes : List ℕ) (its : Config) (image : List Contents) (extras : Extras)
     (read : reading bytes ≡ Ok (its, image, extras)) where
-  pub drawing_opens : (fate : Fate) → Opens unsound its image fate → Drawing unsound bytes fate
-  drawing_opens fate opens = subst (λ r. AfterReading unsound r fate) (sym read) opens
+  pub drawing_opens : (fate : Fate) → Opens form unsound its image fate → Drawing form unsound bytes fate
+  drawing_opens fate opens = subst (λ r. AfterReading form unsound r fate) (sym read) opens
 
 -- and those that break a rule are refused
-pub drawing_refused : (unsound : Bool) (bytes : List ℕ) (rule : ImageError) (fate : Fate) → reading bytes ≡ Err rule → fate ≡ BadImage rule →
-    Drawing unsound bytes fate
-drawing_refused unsound bytes rule fate read is = subst (λ r. AfterReading unsound r fate) (sym read) is
+pub drawing_refused : (form : Form) (unsound : Bool) (bytes : List ℕ) (why : ImageFate) → RefusesImage bytes why → Drawing form unsound bytes (Refused why)
+drawing_refused form unsound bytes why (rule, read, is) = subst (λ r. AfterReading form unsound r (Refused why)) (sym read.0) (ap Refused is)
 
 -- what is drawn of an opening that may be drawn
-pub opens_drawn : (unsound : Bool) (its : Config) (image : List Contents) (opened : Opening) (text : List ℕ) → IsOpening its image opened →
-    fate_of unsound its image opened ≡ Drawn its image (marks_of opened) →
-    text ≡ picture its (notes_of its.protocol image) (marks_of opened) → Gives (Opens unsound its image) text
-opens_drawn unsound its image opened text is drawn text_is =
-    (Drawn its image (marks_of opened), (opened, is, sym drawn), refl, text_is)
+pub opens_drawn : (form : Form) (unsound : Bool) (its : Config) (image : List Contents) (opened : Opening) (text : List ℕ) → IsOpening its image opened →
+    fate_of form unsound its image opened ≡ Drawn form its image (marks_of opened) →
+    text ≡ picture_in form its (notes_of its.protocol image) (marks_of opened) → Gives (Opens form unsound its image) text
+opens_drawn form unsound its image opened text is drawn text_is =
+    (Drawn form its image (marks_of opened), (opened, is, sym drawn), refl, text_is)
+
+-- ---- the work of a call
+
+-- a load gives no bytes
+unfetched_by : (a : Asked) (old new : DeskState) (e : ImageStop) → Fetches old new a.image (Err e) → Works (Some a) old new (Err e)
+unfetched_by a old new (stop.Refused refusal) (after, inl (none, is)) = ((found.Missing, none, ap Refused is), after)
+unfetched_by a old new (stop.Refused refusal) (after, inr (much, is)) = ((found.TooLong, much, ap Refused is), after)
+unfetched_by a old new stop.Fault fault = fault
+unfetched_by a old new stop.Memory starved = inl starved
+
+pub unfetched : (a : Asked) (old new : DeskState) (e : ImageStop) (result : Result (Vec ℕ Global) ImageStop) → IsErrAnd result (λ x. x ≡ e) →
+    Fetches old new a.image (Err e) → Works (Some a) old new result
+unfetched a old new e (Ok text) same fetches = absurd same
+unfetched a old new e (Err x) same fetches = rw same (unfetched_by a old new e fetches)
+
+-- it gives bytes, and the work comes to what they come to
+pub fetched : (a : Asked) (old new : DeskState) (bytes : List ℕ) (result : Result (Vec ℕ Global) ImageStop) →
+    Finds old a.image (found.Bytes bytes) → new ≡ after_answer as_before old →
+    IfOk result (λ text. Gives (Drawing a.form a.unsound bytes) text.items) → IfErr result (ImageStops (λ why. Drawing a.form a.unsound bytes (Refused why))) →
+    Works (Some a) old new result
+fetched a old new bytes (Ok text) finds after (fate, comes, done, said) none = ((fate, (found.Bytes bytes, finds, comes), done, said), after)
+fetched a old new bytes (Err (stop.Refused refusal)) finds after none why = ((found.Bytes bytes, finds, why), after)
+fetched a old new bytes (Err stop.Fault) finds after none fault = absurd fault
+fetched a old new bytes (Err stop.Memory) finds after none starved = inr after

@@ -1,2 +1,3 @@
 pub mod Endings
 pub mod Fates
+pub mod Pictures

@@ -1,3 +1,4 @@
 pub mod Asked
 pub mod Fate
 pub mod Top
+pub mod Laws

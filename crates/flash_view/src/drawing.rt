@@ -1,50 +1,46 @@
-ghost use Rattle.std.specs.Prelude.{◌≡◌, Ok, Err, IfOk, IfErr, length};
+ghost use Rattle.std.specs.Prelude.{◌≡◌, Ok, IfOk, IfErr, length};
 ghost use Rattle.tx_types.specs.Config.{checked, shape_of, slots_of};
-ghost use Rattle.flash_picture.specs.Picture.{picture};
 ghost use Rattle.mem_flash.specs.Memory.{loaded};
-ghost use Rattle.version_index.specs.Notes.{notes_of};
-ghost use Rattle.image_file.specs.Rules.{reading};
-ghost use Rattle.flash_view.specs.Fate.{BadImage, Drawing, Gives, Opens, StopsBy};
+ghost use Rattle.image_desk.specs.Loading.{ImageStops};
+ghost use Rattle.flash_view.specs.Fate.{Drawing, Gives, Opens, Refused, picture_in};
 
 use crate::opening::{Opening, notes, open};
-use crate::refusal::{Refusal, Stop};
-use flash_picture::{Marks, draw};
-use image_file::{ImageError, take_image};
+use crate::words::Form;
+use flash_picture::{Marks, draw, draw_svg};
+use image_desk::{ImageRefusal, ImageStop, read_device};
 use mem_flash::MemFlash;
 use std::alloc::Global;
 use tx_types::Config;
 use version_index::Note;
 
 /// The picture of an image file, from its bytes on. One that is not sound is drawn only where that is asked for.
-pub fn drawn(alloc: Global, bytes: Vec<u8>, unsound: bool) -> Result<Vec<u8>, Stop>
-    ensures text { IfOk result (λ text. Gives (Drawing unsound bytes.items) text.items) }
-    ensures err { IfErr result (StopsBy (Drawing unsound bytes.items)) }
+pub fn drawn(
+    alloc: Global,
+    bytes: Vec<u8>,
+    form: Form,
+    unsound: bool,
+) -> Result<Vec<u8>, ImageStop<'static>>
+    ensures text { IfOk result (λ text. Gives (Drawing form unsound bytes.items) text.items) }
+    ensures err { IfErr result
+        (ImageStops (λ why. Drawing form unsound bytes.items (Refused why))) }
 {
     let (config, flash) = read_device(alloc, bytes)?;
-    pictured(alloc, config, flash, unsound)
-}
-
-/// The configuration and the flash of an image file.
-fn read_device(alloc: Global, bytes: Vec<u8>) -> Result<(Config, MemFlash), Stop>
-    ensures read { IfOk result (λ d. reading bytes.items ≡ Ok (d.0, d.1.image, d.1.extras)) }
-    ensures check { IfOk result (λ d. checked d.0 ≡ Ok (shape_of d.0)) }
-    ensures ready { IfOk result (λ d. d.1 ≡ loaded (shape_of d.0) d.1.image d.1.extras) }
-    ensures err { IfErr result (StopsBy (λ fate. (rule : ImageError)
-        × (reading bytes.items ≡ Err rule) × (fate ≡ BadImage rule))) }
-{
-    match take_image(alloc, bytes) {
-        Ok(device) => Ok(device),
-        Err(ImageError::Memory) => Err(Stop::Memory),
-        Err(rule) => Err(Stop::Refused(Refusal::BadImage(rule))),
-    }
+    pictured(alloc, config, flash, form, unsound)
 }
 
 /// The picture of the device of a flash.
-fn pictured(alloc: Global, config: Config, flash: MemFlash, unsound: bool) -> Result<Vec<u8>, Stop>
+fn pictured(
+    alloc: Global,
+    config: Config,
+    flash: MemFlash,
+    form: Form,
+    unsound: bool,
+) -> Result<Vec<u8>, ImageStop<'static>>
     requires check { checked config ≡ Ok (shape_of config) }
     requires ready { flash ≡ loaded (shape_of config) flash.image flash.extras }
-    ensures text { IfOk result (λ text. Gives (Opens unsound config flash.image) text.items) }
-    ensures err { IfErr result (StopsBy (Opens unsound config flash.image)) }
+    ensures text { IfOk result (λ text. Gives (Opens form unsound config flash.image) text.items) }
+    ensures err { IfErr result
+        (ImageStops (λ why. Opens form unsound config flash.image (Refused why))) }
 {
     let notes = notes(alloc, config.protocol, &flash)?;
     match open(alloc, config, flash)? {
@@ -53,7 +49,7 @@ fn pictured(alloc: Global, config: Config, flash: MemFlash, unsound: bool) -> Re
                 spare: Some(block),
                 breach: None,
             };
-            text(alloc, config, &notes, marks)
+            text(alloc, config, &notes, marks, form)
         }
         Opening::Unsound(breach) => {
             if unsound {
@@ -61,22 +57,31 @@ fn pictured(alloc: Global, config: Config, flash: MemFlash, unsound: bool) -> Re
                     spare: None,
                     breach: Some(breach),
                 };
-                text(alloc, config, &notes, marks)
+                text(alloc, config, &notes, marks, form)
             } else {
-                Err(Stop::Refused(Refusal::Unsound(breach)))
+                Err(ImageStop::Refused(ImageRefusal::Unsound(breach)))
             }
         }
     }
 }
 
 /// The picture of a device whose slots are noted so.
-fn text(alloc: Global, config: Config, notes: &[Note], marks: Marks) -> Result<Vec<u8>, Stop>
+fn text(
+    alloc: Global,
+    config: Config,
+    notes: &[Note],
+    marks: Marks,
+    form: Form,
+) -> Result<Vec<u8>, ImageStop<'static>>
     requires check { checked config ≡ Ok (shape_of config) }
     requires whole { length notes.now ≡ slots_of (shape_of config) }
-    ensures text { IfOk result (λ text. text.items ≡ picture config notes.now marks) }
-    ensures err { IfErr result (λ e. e ≡ Stop.Memory) }
+    ensures text { IfOk result (λ text. text.items ≡ picture_in form config notes.now marks) }
+    ensures err { IfErr result (λ e. e ≡ ImageStop.Memory) }
 {
     let mut text = Vec::new(alloc);
-    draw(alloc, config, notes, marks, &mut text)?;
+    match form {
+        Form::Text => draw(alloc, config, notes, marks, &mut text)?,
+        Form::Svg => draw_svg(alloc, config, notes, marks, &mut text)?,
+    }
     Ok(text)
 }

@@ -1,11 +1,13 @@
-//! The program: it draws the flash of an image file as text.
+//! The program: it draws the flash of an image file, as text or in SVG.
 #![tactic(auto)]
 
 ghost use Rattle.std.specs.Prelude.{◌≡◌, ◌⊎◌, ◌↔◌};
 
 mod drawing;
+mod laws;
 mod opening;
-mod refusal;
+#[cfg(test)]
+mod tests;
 mod top;
 mod words;
 

@@ -1,11 +1,12 @@
 use Rattle.std.proofs.Common.{◌∙◌, ◌++◌, sym, ap, append_assoc, codes}
 use Rattle.std.specs.List.{join_with_byte}
 use Rattle.std.proofs.lemmas.Result.{on_ok_weaker}
-use Rattle.flash_picture.specs.Cells.{after_spaces, cell_at, cell_words, is_named, word_if}
+use Rattle.flash_picture.specs.Cells.{after_spaces, cell_at, cell_words, is_named, slot_text, word_if}
 use Rattle.flash_picture.proofs.Texts.{cell_joined}
 use Rattle.flash_picture.proofs.map.Map.write_slot.Goals as goal
 
 pub returns : goal.returns
+unfolding slot_text
 returns c =
     let cell = cell_at c.args.self.now.cells.now c.args.slot.0 in
     let more = word_if (is_named c.args.self.now.marks.breach c.args.slot.0) (codes "!") in

@@ -1,0 +1,19 @@
+use Rattle.std.proofs.Common.{◌∙◌, ◌++◌, ap, ap₂}
+use Rattle.std.proofs.lemmas.Result.{on_ok_weaker}
+use Rattle.flash_picture.specs.Pieces.{beside, rectangle, words_begin}
+use Rattle.flash_picture.proofs.Texts.{then}
+use Rattle.flash_picture.proofs.svg_map.Plan.write_cell.Goals as goal
+
+pub returns : goal.returns
+returns c =
+    let old = c.args.text.now.items in
+    let begun = c.open_group.new.text.items in
+    let boxed = c.add_rectangle.new.text.items in
+    let spot = c.spot-spot.ensures.spot in
+    let box =
+    c.in_ok-add_rectangle.ensures
+    ∙ ap₂ (λ s width. c.write_title.new.text.items ++ rectangle s width 24) (c.beside.ensures ∙ ap (λ s. beside s 0 24) spot) c.cell_width.ensures in
+    let place = c.in_ok-open_words.ensures ∙ ap (λ s. boxed ++ words_begin s) (c.beside-2.ensures ∙ ap (λ s. beside s 8 40) spot) in
+    let words = then boxed _ _ _ _ (then boxed _ _ _ _ place c.in_ok-write_slot.ensures) c.in_ok-add.ensures in
+    let drawn = then begun _ _ _ _ (then begun _ _ _ _ c.in_ok-write_title.ensures box) words in
+    on_ok_weaker c.add-2.result (λ end. then old _ _ _ _ (then old _ _ _ _ c.in_ok-open_group.ensures drawn) end) c.add-2.ensures

@@ -1,0 +1,13 @@
+use Rattle.std.proofs.Common.{◌∙◌, ◌+◌, ◌++◌, ap}
+use Rattle.std.proofs.lemmas.Result.{on_ok_weaker}
+use Rattle.flash_picture.specs.Pieces.{words_begin}
+use Rattle.flash_picture.proofs.Texts.{then}
+use Rattle.flash_picture.proofs.svg_map.Plan.write_label.Goals as goal
+
+pub returns : goal.returns
+returns c =
+    let old = c.args.text.now.items in
+    let begun = c.open_label.new.text.items in
+    let place = c.in_ok-open_words.ensures ∙ ap (λ top. begun ++ words_begin (record { left = 8; top = top + 72 })) c.top_of_block-top.ensures.top in
+    let words = then begun _ _ _ _ (then begun _ _ _ _ place c.in_ok-write_label_words.ensures) c.in_ok-add.ensures in
+    on_ok_weaker c.add-2.result (λ end. then old _ _ _ _ (then old _ _ _ _ c.in_ok-open_label.ensures words) end) c.add-2.ensures

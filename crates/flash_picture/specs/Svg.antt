@@ -1,0 +1,203 @@
+-- The picture of a flash in SVG.
+use Rattle.std.specs.Prelude.{ℕ, ◌+◌, ◌*◌, min, Bool, not, if◌then◌else◌, Option, Some, None, List, [], ◌∷◌, ◌++◌, length, filter, codes}
+use Rattle.std.specs.List.{flat_map, join_with_byte, range_with_len}
+use Rattle.std.specs.Fmt.{decimal}
+use Rattle.tx_types.specs.declared.config.Config.{Config}
+use Rattle.tx_types.specs.declared.config.Protocol.{Protocol}
+use Rattle.tx_types.specs.declared.config.Shape.{Shape}
+use Rattle.tx_types.specs.declared.config.Slot.{Slot}
+use Rattle.tx_types.specs.declared.record.Link.{Link}
+use Rattle.tx_types.specs.Config.{blocks_of, shape_of, slots_of}
+use Rattle.record_list.specs.declared.found.Breach.{Breach}
+use Rattle.record_list.specs.declared.found.Found.{Found}
+use Rattle.record_list.specs.declared.found.Why.{Why}
+use Rattle.record_list.specs.Records.{has_name}
+use Rattle.record_list.specs.Verdict.{is_committed, why}
+use Rattle.version_index.specs.declared.note.Note.{Note}
+use Rattle.version_index.specs.Notes.{found_in}
+use Rattle.flash_picture.specs.declared.cell.Cell.{Cell}
+use Rattle.flash_picture.specs.declared.cell.Cell.TheVariants.{Blank, Damaged, Holds}
+use Rattle.flash_picture.specs.declared.grid.Grid.{Grid}
+use Rattle.flash_picture.specs.declared.grid.Spot.{Spot}
+use Rattle.flash_picture.specs.declared.marks.Marks.{Marks}
+use Rattle.flash_picture.specs.Cells.{cell_at, name_word, slot_text}
+use Rattle.flash_picture.specs.Grid.{bottom, cell_width, height, most_columns, spot_of, top_of_block}
+use Rattle.flash_picture.specs.Map.{label_words, widest}
+use Rattle.flash_picture.specs.Picture.{breach_line, cells_of, heading}
+use Rattle.flash_picture.specs.Pieces.{attribute, beside, curve, group, next_line, rectangle, title, words_at}
+use Rattle.flash_picture.specs.Walks.{story_text}
+
+-- ---- above the map
+
+-- how the classes look
+unfoldable pub style : List ℕ
+style =
+    codes "<style>svg{background:#fff}text{font:12px monospace;fill:#222}"
+    ++ codes "rect{fill:#fff;stroke:#888}path{fill:none;stroke:#557;stroke-opacity:.8;marker-end:url(#tip)}"
+    ++ codes ".current rect{fill:#cdebc9}.loose rect{fill:#fde1b1}.stale rect{fill:#e4e4e4}"
+    ++ codes ".held rect{stroke:#0a62b5;stroke-width:2}.discard rect{stroke-dasharray:5 2}"
+    ++ codes ".damaged rect{fill:#f4c3c3}[class~='!'] rect{stroke:#c00;stroke-width:3}"
+    ++ codes ".blank text{fill:#777}.loose path{stroke:#b60}g:hover path{stroke-width:3}"
+    ++ codes ".die text,.spare text,.unsound{font-weight:bold}.spare text{fill:#1a4fb4}"
+    ++ codes ".unsound{fill:#c00}</style>\n"
+
+-- the tip of an arrow
+unfoldable pub tip : List ℕ
+tip =
+    codes "<defs><marker id='tip' viewBox='0 0 8 8' refX='7' refY='4' markerWidth='7' "
+    ++ codes "markerHeight='7' orient='auto'><polygon points='0,1 8,4 0,7'/></marker></defs>\n"
+
+-- the head, of a picture of this height
+abbrev pub head : ℕ → List ℕ
+head height =
+    codes "<svg xmlns='http://www.w3.org/2000/svg' width='1400'" ++ attribute (codes "height") height
+    ++ codes " viewBox='0 0 1400 " ++ decimal height ++ codes "'>\n" ++ style ++ tip
+
+-- a line of the legend: what a class looks like, and what it says
+unfoldable pub entry : List ℕ → ℕ → ℕ → List ℕ → List ℕ
+entry class left top says =
+    let spot : Spot = record { left = left; top = top } in
+    group class (rectangle spot 16 12 ++ words_at (beside spot 22 10) says)
+
+-- what the legend says of arrows
+unfoldable pub link_entry : List ℕ
+link_entry =
+    group (codes "link")
+    (words_at (record { left = 908; top = 66 }) (codes "arrow: from a record to the one that it links to"))
+
+unfoldable pub legend : List ℕ
+legend =
+    entry (codes "current") 8 34 (codes "current: the version that counts")
+    ++ entry (codes "loose") 308 34 (codes "loose: above the current version")
+    ++ entry (codes "stale") 608 34 (codes "stale: below the current version")
+    ++ entry (codes "held") 908 34 (codes "held: a loose record needs it")
+    ++ entry (codes "discard") 8 56 (codes "discard: its page has no contents")
+    ++ entry (codes "damaged") 308 56 (codes "damaged: nothing that can be read")
+    ++ entry (codes "!") 608 56 (codes "!: a broken law names the slot")
+    ++ link_entry
+
+-- the head, the first line of the picture as text, and the legend
+unfoldable pub above : Config → ℕ → List ℕ
+above its height = head height ++ words_at (record { left = 8; top = 20 }) (heading its) ++ legend
+
+-- ---- the map
+
+-- the heading of a die
+abbrev pub die_heading : Grid → ℕ → List ℕ
+die_heading grid die =
+    group (codes "die")
+    (words_at (record { left = 8; top = top_of_block grid (die * grid.shape.blocks_per_die) + 24 }) (codes "die " ++ decimal die))
+
+-- the label of a block, before its first line
+abbrev pub label_svg : Grid → Marks → ℕ → List ℕ
+label_svg grid marks block =
+    let label = join_with_byte 32 (label_words marks block) in
+    group label (words_at (record { left = 8; top = top_of_block grid block + 72 }) label)
+
+-- what a record links to, and its back version
+abbrev pub links_text : Cell → List ℕ
+links_text Blank = []
+links_text Damaged = []
+links_text (Holds rec rank held) = codes ", link " ++ name_word rec.next ++ codes ", back " ++ decimal rec.back
+
+-- what a pointer shows at the cell of a slot
+abbrev pub slot_title : List Cell → Marks → ℕ → List ℕ
+slot_title cells marks slot =
+    codes "slot " ++ decimal slot ++ codes ": " ++ slot_text cells marks slot ++ links_text (cell_at cells slot)
+
+-- the cell of a slot: a rectangle with the words of the slot, by which it has its colours
+abbrev pub cell_svg : Grid → List Cell → Marks → ℕ → List ℕ
+cell_svg grid cells marks slot =
+    let spot = spot_of grid slot in
+    group (slot_text cells marks slot)
+    (title (slot_title cells marks slot) ++ rectangle (beside spot 0 24) (cell_width grid) 24
+    ++ words_at (beside spot 8 40) (slot_text cells marks slot))
+
+abbrev pub map_svg : Grid → List Cell → Marks → List ℕ
+map_svg grid cells marks =
+    flat_map (die_heading grid) (range_with_len 0 grid.shape.dies)
+    ++ flat_map (label_svg grid marks) (range_with_len 0 (blocks_of grid.shape))
+    ++ flat_map (cell_svg grid cells marks) (range_with_len 0 (slots_of grid.shape))
+
+-- ---- the arrows
+
+-- the slot of the first of some records, if there is one
+abbrev pub first_slot : List Found → Option Slot
+first_slot [] = None
+first_slot (f ∷ fs) = Some f.slot
+
+-- the lowest slot of a record with this name, if there is one, in a list in the order of slots
+abbrev pub slot_named : List Found → Link → Option Slot
+slot_named list name = first_slot (filter (λ f. has_name name f.rec) list)
+
+-- the slot to which the record of a cell links, if there is one
+abbrev pub target : List Found → Cell → Option Slot
+target list Blank = None
+target list Damaged = None
+target list (Holds rec rank held) = slot_named list rec.next
+
+-- an arrow of a class from a cell to that of a slot, if there is one
+abbrev pub arrow_to : Grid → List ℕ → ℕ → Option Slot → List ℕ
+arrow_to grid class slot None = []
+arrow_to grid class slot (Some to) = group class (curve (spot_of grid slot) (spot_of grid to.0))
+
+-- the arrow from the cell of a slot
+abbrev pub arrow_svg : Grid → List Found → List Cell → Marks → ℕ → List ℕ
+arrow_svg grid list cells marks slot =
+    arrow_to grid (slot_text cells marks slot) slot (target list (cell_at cells slot))
+
+abbrev pub arrows_svg : Grid → List Found → List Cell → Marks → List ℕ
+arrows_svg grid list cells marks =
+    flat_map (arrow_svg grid list cells marks) (range_with_len 0 (slots_of grid.shape))
+
+-- ---- below the map
+
+-- whether the newest version of a page does not count
+abbrev pub is_uncommitted : Protocol → List Found → ℕ → ℕ → Bool
+is_uncommitted protocol list logical page = not (is_committed (why protocol list logical page))
+
+-- how many pages have such a version
+abbrev pub uncommitted : Protocol → List Found → ℕ → ℕ
+uncommitted protocol list logical =
+    length (filter (is_uncommitted protocol list logical) (range_with_len 0 logical))
+
+-- the line of a page, by what decides the verdict on its newest version; nothing where that counts
+abbrev pub walk_row : List Found → ℕ → Why → List ℕ
+walk_row list page why = if is_committed why then [] else next_line (codes "walk") (story_text list page why)
+
+abbrev pub walk_svg : Protocol → List Found → ℕ → ℕ → List ℕ
+walk_svg protocol list logical page = walk_row list page (why protocol list logical page)
+
+-- the law that is broken
+abbrev pub breach_svg : Option Breach → List ℕ
+breach_svg None = []
+breach_svg (Some breach) = next_line (codes "unsound") (breach_line (Some breach))
+
+abbrev pub walks_svg : Protocol → List Found → ℕ → List ℕ
+walks_svg protocol list logical = flat_map (walk_svg protocol list logical) (range_with_len 0 logical)
+
+-- the lines below the map
+abbrev pub lines_svg : Grid → Protocol → List Found → ℕ → Option Breach → List ℕ
+lines_svg grid protocol list logical breach =
+    codes "<text" ++ attribute (codes "y") (bottom grid) ++ codes ">"
+    ++ walks_svg protocol list logical ++ breach_svg breach ++ codes "</text>\n"
+
+-- ---- the whole
+
+-- the grid of a picture: the cells are as wide as the widest
+abbrev pub grid_of : Shape → List Cell → Marks → Grid
+grid_of shape cells marks =
+    record { shape = shape; columns = min most_columns (widest cells marks (slots_of shape)) }
+
+-- the picture of records with these cells
+abbrev pub drawing : Config → Grid → List Found → List Cell → Marks → List ℕ
+drawing its grid list cells marks =
+    above its (height grid (uncommitted its.protocol list its.logical)) ++ map_svg grid cells marks
+    ++ arrows_svg grid list cells marks ++ lines_svg grid its.protocol list its.logical marks.breach
+    ++ codes "</svg>\n"
+
+-- the picture in SVG of a device whose slots are noted so
+unfoldable pub svg : Config → List Note → Marks → List ℕ
+svg its notes marks =
+    let cells = cells_of its notes in
+    drawing its (grid_of (shape_of its) cells marks) (found_in notes) cells marks

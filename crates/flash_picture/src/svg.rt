@@ -1,0 +1,134 @@
+ghost use Rattle.std.specs.Prelude.{◌≡◌, ◌++◌, Ok, IfOk, OnErr, OnOk, length};
+ghost use Rattle.tx_types.specs.Config.{IsShape, checked, shape_of, slots_of};
+ghost use Rattle.flash_picture.specs.Grid.{IsGrid};
+ghost use Rattle.flash_picture.specs.Svg.{above, drawing, grid_of, lines_svg, svg};
+
+use crate::cells::cells;
+use crate::grid::{Grid, Spot};
+use crate::legend::{write_head, write_legend};
+use crate::map::Map;
+use crate::marks::Marks;
+use crate::picture::{charted, shape, write_heading};
+use crate::pieces::{add_attribute, open_words};
+use crate::svg_lines::{uncommitted, write_breach, write_walks};
+use crate::svg_map::Plan;
+use crate::text::add;
+use record_chart::{Chart, Standing};
+use std::alloc::{AllocError, Global};
+use tx_types::{Config, Memory};
+use version_index::Note;
+
+/// No cell has more columns than the longest text of a slot.
+const MOST_COLUMNS: usize = 56;
+
+/// Appends the same picture in SVG.
+pub fn draw_svg(
+    alloc: Global,
+    config: Config,
+    notes: &[Note],
+    marks: Marks,
+    out: &mut Vec<u8>,
+) -> Result<(), Memory>
+    requires check { checked config ≡ Ok (shape_of config) }
+    requires whole { length notes.now ≡ slots_of (shape_of config) }
+    ensures text { OnOk result (out.new.items ≡ out.old.items ++ svg config notes.now marks) }
+    ensures err { OnErr result (out.new.items ≡ out.old.items) }
+{
+    let mut text = Vec::new(alloc);
+    write_svg(alloc, config, notes, marks, &mut text)?;
+    if out.is_empty() {
+        *out = text;
+    } else {
+        out.extend_from_slice(&text)?;
+    }
+    Ok(())
+}
+
+/// Appends the picture.
+fn write_svg(
+    alloc: Global,
+    config: Config,
+    notes: &[Note],
+    marks: Marks,
+    text: &mut Vec<u8>,
+) -> Result<(), Memory>
+    requires check { checked config ≡ Ok (shape_of config) }
+    requires whole { length notes.now ≡ slots_of (shape_of config) }
+    ensures { OnOk result (text.new.items ≡ text.old.items ++ svg config notes.now marks) }
+{
+    let chart = charted(alloc, notes)?;
+    let standing = Standing::new(alloc, chart, config.protocol, config.logical)?;
+    let cells = cells(alloc, &standing, notes)?;
+    let map = Map {
+        shape: shape(config),
+        cells: &cells,
+        marks,
+    };
+    let grid = grid(alloc, &map)?;
+    write_drawing(config, &Plan { map, grid }, standing.chart(), text)?;
+    Ok(())
+}
+
+/// How the cells of a map stand.
+fn grid(alloc: Global, map: &Map<'_>) -> Result<Grid, Memory>
+    requires { IsShape map.now.shape }
+    ensures grid { let m = map.now in
+        IfOk result (λ grid. grid ≡ grid_of m.shape m.cells.now m.marks) }
+    ensures bounds { IfOk result IsGrid }
+{
+    let width = map.width(alloc)?;
+    Ok(Grid {
+        shape: map.shape,
+        columns: width.min(MOST_COLUMNS) as u32,
+    })
+}
+
+/// Appends the picture of records with these cells.
+fn write_drawing(
+    config: Config,
+    plan: &Plan<'_>,
+    chart: &Chart,
+    text: &mut Vec<u8>,
+) -> Result<(), AllocError>
+    requires { IsGrid plan.now.grid }
+    ensures { let p = plan.now in OnOk result (text.new.items ≡ text.old.items
+        ++ drawing config p.grid chart.now p.map.cells.now p.map.marks) }
+{
+    let walks = uncommitted(chart, config.protocol, config.logical);
+    write_above(config, plan.grid.height(walks), text)?;
+    plan.write(text)?;
+    plan.write_arrows(chart, text)?;
+    write_lines(config, plan, chart, text)?;
+    add(b"</svg>\n", text)
+}
+
+/// Appends what stands above the map of a picture of this height.
+#[tactic(auto, unfolding(crate::specs::Svg::above))]
+fn write_above(config: Config, height: u64, text: &mut Vec<u8>) -> Result<(), AllocError>
+    ensures { OnOk result (text.new.items ≡ text.old.items ++ above config height) }
+{
+    write_head(height, text)?;
+    open_words(Spot { left: 8, top: 20 }, text)?;
+    write_heading(config, text)?;
+    add(b"</text>", text)?;
+    write_legend(text)
+}
+
+/// Appends the lines below the map.
+fn write_lines(
+    config: Config,
+    plan: &Plan<'_>,
+    chart: &Chart,
+    text: &mut Vec<u8>,
+) -> Result<(), AllocError>
+    requires { IsGrid plan.now.grid }
+    ensures { let p = plan.now in OnOk result (text.new.items ≡ text.old.items
+        ++ lines_svg p.grid config.protocol chart.now config.logical p.map.marks.breach) }
+{
+    add(b"<text", text)?;
+    add_attribute(b"y", plan.grid.bottom(), text)?;
+    add(b">", text)?;
+    write_walks(chart, config.protocol, config.logical, text)?;
+    write_breach(plan.map.marks.breach, text)?;
+    add(b"</text>\n", text)
+}

@@ -1,0 +1,245 @@
+//! The map of a picture in SVG: headings of dies, labels of blocks, cells of slots, and arrows between cells.
+ghost use Rattle.std.specs.Prelude.{◌≡◌, ◌<◌, ◌++◌, OnOk};
+ghost use Rattle.std.specs.List.{flat_map, join_with_byte, range_with_len};
+ghost use Rattle.tx_types.specs.Config.{blocks_of, slots_of};
+ghost use Rattle.flash_picture.specs.Cells.{slot_text};
+ghost use Rattle.flash_picture.specs.Grid.{IsGrid};
+ghost use Rattle.flash_picture.specs.Map.{label_words};
+ghost use Rattle.flash_picture.specs.Pieces.{group_begin, title};
+ghost use Rattle.flash_picture.specs.Svg.{arrow_svg, arrow_to, arrows_svg, cell_svg, die_heading, first_slot, label_svg, links_text, map_svg, slot_title, target};
+
+use crate::cell::Cell;
+use crate::grid::{Grid, Spot};
+use crate::map::Map;
+use crate::pieces::{add_curve, add_rectangle, open_group, open_words};
+use crate::text::{add, add_count, add_name, add_number};
+use record_chart::Chart;
+use record_list::Found;
+use std::alloc::AllocError;
+use tx_types::{Block, Slot};
+
+/// A map, and where its cells stand.
+#[derive(Clone, Copy, Debug)]
+pub struct Plan<'a> {
+    pub map: Map<'a>,
+    pub grid: Grid,
+}
+
+impl Plan<'_> {
+    /// Appends the map.
+    pub fn write(&self, text: &mut Vec<u8>) -> Result<(), AllocError>
+        requires { IsGrid self.now.grid }
+        ensures { let p = self.now in OnOk result (text.new.items
+            ≡ text.old.items ++ map_svg p.grid p.map.cells.now p.map.marks) }
+    {
+        self.write_dies(text)?;
+        self.write_labels(text)?;
+        self.write_cells(text)
+    }
+
+    /// Appends the headings of all dies.
+    fn write_dies(&self, text: &mut Vec<u8>) -> Result<(), AllocError>
+        requires { IsGrid self.now.grid }
+        ensures { let grid = self.now.grid in OnOk result (text.new.items
+            ≡ text.old.items ++ flat_map (die_heading grid) (range_with_len 0 grid.shape.dies)) }
+    {
+        for die in 0..self.grid.shape.dies {
+            self.write_die(die, text)?;
+        }
+        Ok(())
+    }
+
+    /// Appends the heading of a die.
+    fn write_die(&self, die: u32, text: &mut Vec<u8>) -> Result<(), AllocError>
+        requires grid { IsGrid self.now.grid }
+        requires exists { die < self.now.grid.shape.dies }
+        ensures { OnOk result (text.new.items ≡ text.old.items ++ die_heading self.now.grid die) }
+    {
+        let top = self.grid.top_of_block(die * self.grid.shape.blocks_per_die);
+        open_group(b"die", text)?;
+        open_words(
+            Spot {
+                left: 8,
+                top: top + 24,
+            },
+            text,
+        )?;
+        add(b"die ", text)?;
+        add_count(die, text)?;
+        add(b"</text>", text)?;
+        add(b"</g>\n", text)
+    }
+
+    /// Appends the labels of all blocks.
+    fn write_labels(&self, text: &mut Vec<u8>) -> Result<(), AllocError>
+        requires { IsGrid self.now.grid }
+        ensures { let p = self.now in OnOk result (text.new.items ≡ text.old.items
+            ++ flat_map (label_svg p.grid p.map.marks) (range_with_len 0 (blocks_of p.grid.shape))) }
+    {
+        for block in 0..self.grid.shape.blocks() {
+            self.write_label(Block(block), text)?;
+        }
+        Ok(())
+    }
+
+    /// Appends the label of a block.
+    fn write_label(&self, block: Block, text: &mut Vec<u8>) -> Result<(), AllocError>
+        requires { IsGrid self.now.grid }
+        ensures { let p = self.now in OnOk result (text.new.items
+            ≡ text.old.items ++ label_svg p.grid p.map.marks block.0) }
+    {
+        let top = self.grid.top_of_block(block.0);
+        self.open_label(block, text)?;
+        open_words(
+            Spot {
+                left: 8,
+                top: top + 72,
+            },
+            text,
+        )?;
+        self.map.write_label_words(block, text)?;
+        add(b"</text>", text)?;
+        add(b"</g>\n", text)
+    }
+
+    /// Begins what is drawn under the label of a block as its class.
+    #[tactic(auto, unfolding(crate::specs::Pieces::group_begin))]
+    fn open_label(&self, block: Block, text: &mut Vec<u8>) -> Result<(), AllocError>
+        ensures { let marks = self.now.map.marks in OnOk result (text.new.items
+            ≡ text.old.items ++ group_begin (join_with_byte 32 (label_words marks block.0))) }
+    {
+        add(b"<g class='", text)?;
+        self.map.write_label_words(block, text)?;
+        add(b"'>", text)
+    }
+
+    /// Appends the cells of all slots.
+    fn write_cells(&self, text: &mut Vec<u8>) -> Result<(), AllocError>
+        requires { IsGrid self.now.grid }
+        ensures { let p = self.now in OnOk result (text.new.items ≡ text.old.items
+            ++ flat_map (cell_svg p.grid p.map.cells.now p.map.marks)
+            (range_with_len 0 (slots_of p.grid.shape))) }
+    {
+        for slot in 0..self.grid.shape.slots() {
+            self.write_cell(Slot(slot), text)?;
+        }
+        Ok(())
+    }
+
+    /// Appends the cell of a slot.
+    fn write_cell(&self, slot: Slot, text: &mut Vec<u8>) -> Result<(), AllocError>
+        requires { IsGrid self.now.grid }
+        ensures { let p = self.now in OnOk result (text.new.items
+            ≡ text.old.items ++ cell_svg p.grid p.map.cells.now p.map.marks slot.0) }
+    {
+        let spot = self.grid.spot(slot);
+        self.open_group(slot, text)?;
+        self.write_title(slot, text)?;
+        add_rectangle(spot.beside(0, 24), self.grid.cell_width(), 24, text)?;
+        open_words(spot.beside(8, 40), text)?;
+        self.map.write_slot(slot, text)?;
+        add(b"</text>", text)?;
+        add(b"</g>\n", text)
+    }
+
+    /// Begins what is drawn under the words of a slot as its class.
+    #[tactic(auto, unfolding(crate::specs::Pieces::group_begin))]
+    fn open_group(&self, slot: Slot, text: &mut Vec<u8>) -> Result<(), AllocError>
+        ensures { let m = self.now.map in OnOk result (text.new.items
+            ≡ text.old.items ++ group_begin (slot_text m.cells.now m.marks slot.0)) }
+    {
+        add(b"<g class='", text)?;
+        self.map.write_slot(slot, text)?;
+        add(b"'>", text)
+    }
+
+    /// Appends what a pointer shows at the cell of a slot.
+    fn write_title(&self, slot: Slot, text: &mut Vec<u8>) -> Result<(), AllocError>
+        ensures { let m = self.now.map in OnOk result (text.new.items
+            ≡ text.old.items ++ title (slot_title m.cells.now m.marks slot.0)) }
+    {
+        add(b"<title>", text)?;
+        add(b"slot ", text)?;
+        add_count(slot.0, text)?;
+        add(b": ", text)?;
+        self.map.write_slot(slot, text)?;
+        write_links(self.map.cell(slot), text)?;
+        add(b"</title>", text)
+    }
+
+    /// Appends the arrows from all cells.
+    pub fn write_arrows(&self, chart: &Chart, text: &mut Vec<u8>) -> Result<(), AllocError>
+        requires { IsGrid self.now.grid }
+        ensures { let p = self.now in OnOk result (text.new.items
+            ≡ text.old.items ++ arrows_svg p.grid chart.now p.map.cells.now p.map.marks) }
+    {
+        for slot in 0..self.grid.shape.slots() {
+            self.write_arrow(chart, Slot(slot), text)?;
+        }
+        Ok(())
+    }
+
+    /// Appends the arrow from the cell of a slot.
+    fn write_arrow(&self, chart: &Chart, slot: Slot, text: &mut Vec<u8>) -> Result<(), AllocError>
+        requires { IsGrid self.now.grid }
+        ensures { let p = self.now in OnOk result (text.new.items
+            ≡ text.old.items ++ arrow_svg p.grid chart.now p.map.cells.now p.map.marks slot.0) }
+    {
+        self.write_arrow_to(slot, target(chart, self.map.cell(slot)), text)
+    }
+
+    /// Appends an arrow from the cell of a slot to that of another one, if there is one.
+    fn write_arrow_to(
+        &self,
+        slot: Slot,
+        target: Option<Slot>,
+        text: &mut Vec<u8>,
+    ) -> Result<(), AllocError>
+        requires { IsGrid self.now.grid }
+        ensures { let p = self.now in OnOk result (text.new.items ≡ text.old.items
+            ++ arrow_to p.grid (slot_text p.map.cells.now p.map.marks slot.0) slot.0 target) }
+    {
+        match target {
+            None => Ok(()),
+            Some(to) => {
+                self.open_group(slot, text)?;
+                add_curve(self.grid.spot(slot), self.grid.spot(to), text)?;
+                add(b"</g>\n", text)
+            }
+        }
+    }
+}
+
+/// Appends what a record links to, and its back version.
+fn write_links(cell: Cell, text: &mut Vec<u8>) -> Result<(), AllocError>
+    ensures { OnOk result (text.new.items ≡ text.old.items ++ links_text cell) }
+{
+    match cell {
+        Cell::Blank => Ok(()),
+        Cell::Damaged => Ok(()),
+        Cell::Holds { rec, .. } => {
+            add(b", link ", text)?;
+            add_name(rec.next, text)?;
+            add(b", back ", text)?;
+            add_number(rec.back, text)
+        }
+    }
+}
+
+/// The slot to which the record of a cell links, if there is one.
+fn target(chart: &Chart, cell: Cell) -> Option<Slot>
+    ensures { result ≡ target chart.now cell }
+{
+    match cell {
+        Cell::Blank => None,
+        Cell::Damaged => None,
+        Cell::Holds { rec, .. } => first_slot(chart.named(rec.next)),
+    }
+}
+
+/// The slot of the first of some records, if there is one.
+fn first_slot(records: &[Found]) -> Option<Slot>
+    ensures { result ≡ first_slot records.now }
+{
+    Some(records.first()?.slot)
+}
