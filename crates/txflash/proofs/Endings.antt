@@ -1,14 +1,20 @@
 -- How a call of the program ends, and what follows for its status and the files.
 use Rattle.std.proofs.Common.{◌≡◌, ◌≢◌, ◌⊎◌, inl, inr, ℕ, zero, suc, List, [], ◌∷◌, length, take, Option, None, Some, Result, Ok, Err, refl, ap, sym, subst, ◌∙◌, arith}
+use Rattle.std.specs.Prelude.{IfOk, String, string_bytes}
+use Rattle.std.specs.Global.{Global}
+use Rattle.std.specs.declared.alloc.AllocError.{AllocError}
 use Rattle.std.specs.Option.{option_map}
-use Rattle.desk_io.specs.Desk.{DeskContents, DeskState, Files, Rose, Says, as_before, called, counted, after_memory, once_asked, files_with, with_file, with_said}
-use Rattle.desk_io.specs.declared.desk.SinkError.{SinkError}
+use Rattle.desk_io.specs.Desk.{DeskContents, DeskState, Files, Rose, as_before, called, counted, files_with, with_file}
 use Rattle.desk_io.specs.declared.desk.SinkError.TheVariants as sink
+use Rattle.image_desk.specs.Refusals.{image_refused}
+use Rattle.image_desk.specs.Saying.{MemoryTold, Refuses, Speaks, after_text, files_in}
+use Rattle.image_desk.proofs.Refusing as done
+use Rattle.image_desk.proofs.Spoken.{faults_tried, files_asked, files_said, files_text, same_files}
 use Rattle.txflash.specs.Fate.{Fate, status, refusal_line}
 use Rattle.txflash.specs.Gives.{Given, SavedFile, Gives}
 use Rattle.txflash.specs.Steps.{IsFate}
-use Rattle.txflash.specs.Stops.{Comes, Delivers, MemoryTold, Speaks, refused}
-use Rattle.txflash.specs.Top.{Decision, EndsCall, Decided, Faulted, Starved, IsExact, IsFaulted, Leaves, LeavesFiles, CallFails, FileStops, RunsOutOfMemory, TellsFate, after_loads, after_save, after_text, files_in, after_loading, after_saving}
+use Rattle.txflash.specs.Stops.{Comes, Delivers, refused}
+use Rattle.txflash.specs.Top.{Decision, EndsCall, Decided, Faulted, Starved, IsExact, IsFaulted, Leaves, LeavesFiles, CallFails, FileStops, RunsOutOfMemory, TellsFate, after_loads, after_save, after_loading, after_saving}
 use Rattle.txflash.specs.Words.{Asked, file_of, files_of}
 use Rattle.txflash.specs.declared.refusal.Refusal.{Refusal}
 use Rattle.txflash.specs.declared.refusal.Refusal.TheVariants as refusal
@@ -54,14 +60,8 @@ faults_call task old new (inr (inl (it, fails))) =
 faults_call task old new (inr (inr (it, fails))) =
     ap (λ (d : DeskState). d.faults) fails.1.1 ∙ ap counted (faults_save it.given.saved (after_loading old it) ∙ faults_loads it.loads old)
 
-faults_tried : (n : ℕ) (mid new : DeskState) (text : List ℕ) (result : Result (Unit {0}) SinkError) → mid.faults ≡ counted n →
-    Says mid new text result → Rose n new.faults
-faults_tried n mid new text (Ok done) rose says = let same = ap (λ (d : DeskState). d.faults) says in omega arith
-faults_tried n mid new text (Err sink.Failed) rose says = let same = ap (λ (d : DeskState). d.faults) says.1 in omega arith
-faults_tried n mid new text (Err sink.Memory) rose says = let same = ap (λ (d : DeskState). d.faults) says in omega arith
-
 pub faulted : (task : Option Asked) (old new : DeskState) → IsFaulted task old new → Rose old.faults new.faults
-faulted task old new (mid, fails, (result, says)) = faults_tried old.faults mid new _ result (faults_call task old mid fails) says
+faulted task old new (mid, fails, tried) = faults_tried old.faults mid new _ (faults_call task old mid fails) tried
 
 pub only_fault : (task : Option Asked) (old new : DeskState) (answer : ℕ) → EndsCall task old new answer → answer ≡ 5 → Rose old.faults new.faults
 only_fault task old new answer (Decided it same said) five = absurd (never_five it.fate (sym five ∙ same))
@@ -85,32 +85,9 @@ exact task old new answer ends = record {
 
 -- ---- which file changes
 
--- a call that keeps the files keeps them
-same_files : (change : DeskContents → DeskContents) (told : Option DeskContents) → ((c : DeskContents) → (change c).files ≡ c.files) →
-    option_map (λ c. c.files) (option_map (called change) told) ≡ option_map (λ c. c.files) told
-same_files change None keeps = refl
-same_files change (Some c) keeps = ap (λ f. Some f) (keeps c)
-
 files_loads : (n : ℕ) (desk : DeskState) → files_in (after_loads n desk) ≡ files_in desk
 files_loads zero desk = refl
 files_loads (suc n) desk = same_files as_before (after_loads n desk).told (λ c. refl) ∙ files_loads n desk
-
-files_text : (text : List ℕ) (desk : DeskState) → files_in (after_text text desk) ≡ files_in desk
-files_text [] desk = refl
-files_text (c ∷ cs) desk = same_files (with_said (c ∷ cs)) desk.told (λ c. refl)
-
--- a call that runs out of memory keeps the files
-files_asked : (desk : DeskState) → files_in (after_memory desk) ≡ files_in desk
-files_asked desk = by_told desk.told
-  where
-    by_told : (told : Option DeskContents) → option_map (λ c. c.files) (option_map once_asked told) ≡ option_map (λ c. c.files) told
-    by_told None = refl
-    by_told (Some c) = refl
-
-files_said : (old new : DeskState) (text : List ℕ) (result : Result (Unit {0}) SinkError) → Says old new text result → files_in new ≡ files_in old
-files_said old new text (Ok done) says = ap files_in says ∙ same_files (with_said text) old.told (λ c. refl)
-files_said old new text (Err sink.Failed) says = ap files_in says.1 ∙ same_files (with_said (take says.0 text)) old.told (λ c. refl)
-files_said old new text (Err sink.Memory) says = ap files_in says ∙ files_asked old
 
 -- a call that changes a file changes that one
 other_files : (name : List ℕ) (left : Option (List ℕ)) (told : Option DeskContents) →
@@ -223,12 +200,8 @@ leaves_files task old new answer ends =
 
 -- a refusal gives its line
 refusal_gives : (r : Refusal) (text : List ℕ) → text ≡ refusal_line (refused r) → Gives (refused r) (record { saved = None; text = text })
-refusal_gives refusal.BadWords text e = record { saves_nothing = refl; said = e }
-refusal_gives (refusal.Missing name) text e = record { saves_nothing = refl; said = e }
-refusal_gives (refusal.TooLong name) text e = record { saves_nothing = refl; said = e }
-refusal_gives (refusal.BadImage rule) text e = record { saves_nothing = refl; said = e }
 refusal_gives (refusal.BadLine n) text e = record { saves_nothing = refl; said = e }
-refusal_gives (refusal.Unsound law slot) text e = record { saves_nothing = refl; said = e }
+refusal_gives (refusal.Image why) text e = record { saves_nothing = refl; said = e }
 refusal_gives (refusal.BadConfiguration rule) text e = record { saves_nothing = refl; said = e }
 refusal_gives (refusal.WrongLine k) text e = record { saves_nothing = refl; said = e }
 refusal_gives (refusal.BadBucket page) text e = record { saves_nothing = refl; said = e }
@@ -237,14 +210,14 @@ refusal_gives (refusal.DifferBlank page) text e = record { saves_nothing = refl;
 refusal_gives (refusal.DifferAt page at) text e = record { saves_nothing = refl; said = e }
 
 -- the end after a refusal whose line is tried
-pub ends_refused : (task : Option Asked) (old mid new : DeskState) (r : Refusal) (text : List ℕ) (wanted answer : ℕ) →
+ends_refused : (task : Option Asked) (old mid new : DeskState) (r : Refusal) (text : List ℕ) (wanted answer : ℕ) →
     Comes task old mid (refused r) → text ≡ refusal_line (refused r) → wanted ≡ status (refused r) → Speaks mid new text wanted answer →
     EndsCall task old new answer
 ends_refused task old mid new r text wanted answer comes is_line same speaks =
     ends_delivered task old mid new (refused r) (record { saved = None; text = text }) wanted answer comes (refusal_gives r text is_line) same (inl speaks)
 
 -- the end after a refusal for whose line there was no memory
-pub ends_unsaid : (task : Option Asked) (old mid new : DeskState) (r : Refusal) (answer : ℕ) →
+ends_unsaid : (task : Option Asked) (old mid new : DeskState) (r : Refusal) (answer : ℕ) →
     Comes task old mid (refused r) → MemoryTold mid new answer → EndsCall task old new answer
 ends_unsaid task old mid new r answer (loads, is, at) told =
     Starved told.0 (mid, inl (inr (it, never_done r, at)), told.1)
@@ -259,15 +232,19 @@ ends_unsaid task old mid new r answer (loads, is, at) told =
     }
 
     never_done : (r : Refusal) → status (refused r) ≢ 0
-    never_done refusal.BadWords e = absurd (omega arith)
-    never_done (refusal.Missing name) e = absurd (omega arith)
-    never_done (refusal.TooLong name) e = absurd (omega arith)
-    never_done (refusal.BadImage rule) e = absurd (omega arith)
     never_done (refusal.WrongLine k) e = absurd (omega arith)
     never_done (refusal.BadBucket page) e = absurd (omega arith)
     never_done refusal.DifferShape e = absurd (omega arith)
     never_done (refusal.DifferBlank page) e = absurd (omega arith)
     never_done (refusal.DifferAt page at) e = absurd (omega arith)
     never_done (refusal.BadLine n) e = absurd (omega arith)
-    never_done (refusal.Unsound law slot) e = absurd (omega arith)
+    never_done (refusal.Image why) e = done.never_done (image_refused why) e
     never_done (refusal.BadConfiguration rule) e = absurd (omega arith)
+
+-- the end after a refusal
+pub ends_stopped : (task : Option Asked) (old mid new : DeskState) (r : Refusal) (line : Result (String Global) AllocError) (wanted answer : ℕ) →
+    Comes task old mid (refused r) → IfOk line (λ l. string_bytes l ≡ refusal_line (refused r)) → wanted ≡ status (refused r) →
+    Refuses mid new line wanted answer → EndsCall task old new answer
+ends_stopped task old mid new r (Ok text) wanted answer comes is_line same speaks =
+    ends_refused task old mid new r (string_bytes text) wanted answer comes is_line same speaks
+ends_stopped task old mid new r (Err none) wanted answer comes is_line same told = ends_unsaid task old mid new r answer comes told

@@ -1,10 +1,9 @@
 -- The fate of a comparison, from what is found.
-use Rattle.std.proofs.Common.{◌≡◌, ◌≢◌, ◌⊎◌, inl, inr, ℕ, ◌+◌, ◌-◌, ◌*◌, ◌<◌, ◌≤◌, ◌==◌, ◌&&◌, Bool, true, false, List, length, get_or, map, Option, None, Some, Result, Ok, Err, refl, sym, ap, ◌∙◌, subst, arith, eqb-true, eq-eqb, slice_index}
+use Rattle.std.proofs.Common.{◌≡◌, ◌≢◌, ◌⊎◌, inl, inr, ℕ, ◌+◌, ◌-◌, ◌*◌, ◌<◌, ◌≤◌, List, length, Option, None, Some, Result, Ok, Err, refl, sym, ap, ◌∙◌, subst, arith, slice_index}
 use Rattle.std.specs.Prelude.{All, IfErr, IfOk}
 use Rattle.std.specs.Result.{IsErrAnd}
 use Rattle.std.specs.List.{range_with_len}
 use Rattle.std.proofs.Math.Nat.{mul-le-mul_right}
-use Rattle.std.proofs.lemmas.Bool.{and_parts, and_from, false≢true}
 use Rattle.std.proofs.lemmas.List.{length-map, ext_get_or}
 use Rattle.std.proofs.lemmas.List.Elements.{All-weaker}
 use Rattle.std.proofs.lemmas.List.FromFn.{length-range_with_len}
@@ -18,13 +17,11 @@ use Rattle.record_list.specs.Records.{IsScanned}
 use Rattle.record_list.specs.SoundList.{Pages as page_law, PagesExist}
 use Rattle.version_index.specs.Images.{IsSoundImage, array_in, records_in}
 use Rattle.version_index.proofs.ImageScans.{records_scanned}
-use Rattle.array_machine.specs.ArrayState.{ArrayState, Pages, idle, page_at}
-use Rattle.lane_scan.specs.Scans.{DifferFirstAt}
-use Rattle.verdict_report.specs.Report.{pages, report}
-use Rattle.verdict_check.specs.Texts.{IsFirstDifference}
-use Rattle.txflash.specs.Fate.{Fate, Good, WrongLine, Same, DifferShape, DifferBlank, DifferAt}
-use Rattle.txflash.specs.Checking.{Checks, ChecksList, HaveOneShape, IsFirstPage, DifferAtByte, OneArray, Shapes, BlankAt, ByteAt, array_of_device}
-use Rattle.txflash.specs.Differences.{ComesTo, DiffersAt, FindsFirst, IsSomeAt, difference_fate}
+use Rattle.array_machine.specs.ArrayState.{ArrayState, idle, page_at}
+use Rattle.verdict_report.specs.Report.{pages}
+use Rattle.txflash.specs.Fate.{Fate, Same, DifferBlank, DifferAt}
+use Rattle.txflash.specs.Checking.{ChecksList, HaveOneShape, DifferAtByte, OneArray, Shapes, BlankAt, ByteAt, array_of_device}
+use Rattle.txflash.specs.Differences.{ComesTo, FindsFirst, IsSomeAt, difference_fate}
 use Rattle.txflash.specs.declared.difference.Difference.{Difference}
 use Rattle.txflash.specs.declared.difference.Difference.TheVariants as difference
 use Rattle.txflash.specs.declared.product.Stop.{Stop}

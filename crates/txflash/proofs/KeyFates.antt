@@ -1,10 +1,10 @@
 -- The fate of a key script, from what its parts come to.
-use Rattle.std.proofs.Common.{◌≡◌, ◌⊎◌, inl, inr, ℕ, ◌<◌, List, [], ◌++◌, length, take, None, Some, Result, Ok, Err, refl, sym, ap, ap₂, subst, ◌∙◌}
+use Rattle.std.proofs.Common.{◌≡◌, inl, inr, ℕ, List, [], length, Result, Ok, Err, refl, sym, ap, subst, ◌∙◌}
 use Rattle.std.proofs.lemmas.Bool.{cases_order}
 use Rattle.tx_types.specs.Config.{shape_of}
 use Rattle.tx_types.specs.declared.config.Config.{Config}
 use Rattle.tx_types.specs.declared.config.Slot.{Slot}
-use Rattle.flash_model.specs.Flash.{Contents, Extras, FlashState}
+use Rattle.flash_model.specs.Flash.{Contents, Extras}
 use Rattle.flash_model.specs.Operations.{Moment, moment_of}
 use Rattle.mem_flash.specs.Memory.{MemoryState, loaded, state_of, told_of}
 use Rattle.version_index.specs.Images.{IsSoundImage, array_in}
@@ -12,22 +12,20 @@ use Rattle.page_keys.proofs.KeyRunLemmas.{as_many}
 use Rattle.page_keys.proofs.Parts.{shown_buckets}
 use Rattle.page_keys.proofs.ScriptLemmas.{first_same, script_bad, script_same}
 use Rattle.page_keys.specs.Buckets.{AreBuckets, ShowsMap}
-use Rattle.page_keys.specs.KeyReplies.{key_texts}
-use Rattle.page_keys.specs.KeyRuns.{AreFewBreaks, last_point, mentions_in}
+use Rattle.page_keys.specs.KeyRuns.{AreFewBreaks, mentions_in}
 use Rattle.page_keys.specs.KeyServed.{RefusesKeys, ServesKeyRun}
-use Rattle.page_keys.specs.KeySessions.{IsKeyImage, IsWhy}
 use Rattle.page_keys.specs.Scripts.{IsScript}
-use Rattle.page_keys.specs.Stores.{IsFirstBad}
 use Rattle.page_keys.specs.declared.command.KeyCommand.{KeyCommand}
 use Rattle.page_keys.specs.declared.key_error.KeyServeError.TheVariants as failed
-use Rattle.page_keys.specs.declared.key_reply.KeyReply.{KeyReply}
 use Rattle.list_facts.proofs.Lists.{take_whole}
-use Rattle.txflash.specs.Fate.{Fate, BadBucket, BadLine, Keyed, Unsound}
+use Rattle.image_desk.specs.Loading.{ReadsImage}
+use Rattle.image_desk.specs.Refusals.{Unsound}
+use Rattle.txflash.specs.Fate.{Fate, BadBucket, BadLine, Image, Keyed}
 use Rattle.txflash.specs.KeyWork.{AfterBuckets, AfterScript, HoldsKeys, IsKeysRun, OpensStore, ParsesScript, ParsingScript}
 use Rattle.txflash.specs.Runs.{first_moment}
-use Rattle.txflash.specs.Steps.{Keying, ReadsImage}
+use Rattle.txflash.specs.Steps.{Keying}
 use Rattle.txflash.specs.Stops.{RefusesScript, RefusesStore}
-use Rattle.txflash.proofs.RunLemmas.{is_steady, starts}
+use Rattle.txflash.proofs.RunLemmas.{starts}
 
 -- ---- what holds of each fate
 
@@ -108,7 +106,7 @@ module _ (name bytes lines : List ℕ) (its : Config) (image : List Contents) (e
   pub keying_done : (cs : List KeyCommand) → IsScript lines cs →
       IsSoundImage its.protocol its.logical (shape_of its) image →
       AreBuckets its (array_in its.protocol its.logical image) →
-      Keying name bytes lines (Keyed name its image cs)
+      Keying name bytes lines (Keyed name its image extras cs)
   keying_done cs script sound buckets = (
     Ok (its, image, extras),
     read,
@@ -141,7 +139,7 @@ is_keys_run its flash left cs before after e none served =
 -- why it was refused
 pub refuses_store : (its : Config) (flash : MemoryState) (law : ℕ) (slot : Slot) →
     RefusesKeys its (state_of flash) (Err (failed.Unsound law slot)) →
-    RefusesStore its flash.image (Unsound (record { law = law; slot = slot }))
+    RefusesStore its flash.image (Image (Unsound (record { law = law; slot = slot })))
 refuses_store its flash law slot h = inl (record { law = law; slot = slot }, h, refl)
 
 pub refuses_bucket : (its : Config) (flash : MemoryState) (page : ℕ) →

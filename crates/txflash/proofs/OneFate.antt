@@ -39,15 +39,15 @@ one_loading desk name next tells one a b m n h k =
     after found.TooLong h k = h.0 ∙ sym k.0
     after (found.Bytes bytes) h k = one bytes a b h.0 k.0 h.1 k.1
 
-one_reading : (bytes : List ℕ) (next : Config → List Contents → Fate → Type 0) →
-    ((its : Config) (image : List Contents) (a b : Fate) → next its image a → next its image b → a ≡ b) →
+one_reading : (bytes : List ℕ) (next : Config → List Contents → Extras → Fate → Type 0) →
+    ((its : Config) (image : List Contents) (extras : Extras) (a b : Fate) → next its image extras a → next its image extras b → a ≡ b) →
     (a b : Fate) → Reading bytes next a → Reading bytes next b → a ≡ b
 one_reading bytes next one a b h k =
-    after k.0 (subst (λ read. AfterReading (λ its image. WithoutLoad (next its image)) read a 0) (sym h.1.0 ∙ k.1.0) h.2) k.2
+    after k.0 (subst (λ read. AfterReading (λ its image extras. WithoutLoad (next its image extras)) read a 0) (sym h.1.0 ∙ k.1.0) h.2) k.2
   where
-    after : (read : Result (Config × List Contents × Extras) ImageError) → AfterReading (λ its image. WithoutLoad (next its image)) read a 0
-        → AfterReading (λ its image. WithoutLoad (next its image)) read b 0 → a ≡ b
-    after (Ok read) h k = one read.0 read.1 a b h.0 k.0
+    after : (read : Result (Config × List Contents × Extras) ImageError) → AfterReading (λ its image extras. WithoutLoad (next its image extras)) read a 0
+        → AfterReading (λ its image extras. WithoutLoad (next its image extras)) read b 0 → a ≡ b
+    after (Ok read) h k = one read.0 read.1 read.2 a b h.0 k.0
     after (Err rule) h k = h.0 ∙ sym k.0
 
 one_parsed : (page_bytes : ℕ) (bytes : List ℕ) (p q : Result (List Command) ℕ) → Parses page_bytes bytes p → Parses page_bytes bytes q → p ≡ q
@@ -80,14 +80,14 @@ one_opening its image done a b h k =
     after (Ok sound) h k = h ∙ sym k
     after (Err breach) h k = h ∙ sym k
 
-one_reading_on : (bytes : List ℕ) (next : Config → List Contents → Fate → ℕ → Type 0) →
-    ((its : Config) (image : List Contents) (a b : Fate) (m n : ℕ) → next its image a m → next its image b n → a ≡ b) →
+one_reading_on : (bytes : List ℕ) (next : Config → List Contents → Extras → Fate → ℕ → Type 0) →
+    ((its : Config) (image : List Contents) (extras : Extras) (a b : Fate) (m n : ℕ) → next its image extras a m → next its image extras b n → a ≡ b) →
     (a b : Fate) (m n : ℕ) → ReadingOn bytes next a m → ReadingOn bytes next b n → a ≡ b
 one_reading_on bytes next one a b m n h k =
     after k.0 (subst (λ read. AfterReading next read a m) (sym h.1.0 ∙ k.1.0) h.2) k.2
   where
     after : (read : Result (Config × List Contents × Extras) ImageError) → AfterReading next read a m → AfterReading next read b n → a ≡ b
-    after (Ok read) h k = one read.0 read.1 a b m n h k
+    after (Ok read) h k = one read.0 read.1 read.2 a b m n h k
     after (Err rule) h k = h.0 ∙ sym k.0
 
 one_opened_on : (its : Config) (image : List Contents) (next : Fate → Type 0) → ((a b : Fate) → next a → next b → a ≡ b) →
@@ -106,10 +106,10 @@ one_try lines a b h k = one_parsing 16 lines _ (λ cs a b h k. h ∙ sym k) a b 
 
 one_run : (name bytes lines : List ℕ) (a b : Fate) → Running name bytes lines a → Running name bytes lines b → a ≡ b
 one_run name bytes lines a b h k =
-    one_reading bytes _ (λ its image. one_parsing its.page_bytes lines _ (λ cs. one_opening its image _)) a b h k
+    one_reading bytes _ (λ its image extras. one_parsing its.page_bytes lines _ (λ cs. one_opening its image _)) a b h k
 
 one_explanation : (bytes : List ℕ) (a b : Fate) → Explaining bytes a → Explaining bytes b → a ≡ b
-one_explanation bytes a b h k = one_reading bytes _ (λ its image. one_opening its image _) a b h k
+one_explanation bytes a b h k = one_reading bytes _ (λ its image extras. one_opening its image _) a b h k
 
 one_judging : (its : Config) (image : List Contents) (text : List ℕ) (a b : Fate) → Judging its image text a → Judging its image text b → a ≡ b
 one_judging its image text =
@@ -123,7 +123,7 @@ one_comparing a image b other =
 one_keys : (name bytes lines : List ℕ) (a b : Fate) → Keying name bytes lines a → Keying name bytes lines b → a ≡ b
 one_keys name bytes lines =
     one_reading bytes _
-    (λ its image. one_parsing_script lines _ (λ cs. one_opened_on its image _ (one_store its image _)))
+    (λ its image extras. one_parsing_script lines _ (λ cs. one_opened_on its image _ (one_store its image _)))
 
 -- where the desk tells what it hangs on, the fate of a task is the only one
 pub one_fate : (task : Option Asked) (desk : DeskState) (a b : Fate) (m n : ℕ) → TellsFate task desk →
@@ -145,13 +145,13 @@ one_fate (Some (Check image report)) desk a b m n (inl none) h k = absurd (cc)
 one_fate (Some (Check image report)) desk a b m n (inr tells) h k =
     one_loading desk image _ tells
     (λ bytes. one_loading desk report _ tells
-    (λ text a b m n h k. one_reading bytes _ (λ its image. one_judging its image text) a b h.0 k.0)) a b m n h k
+    (λ text a b m n h k. one_reading bytes _ (λ its image extras. one_judging its image text) a b h.0 k.0)) a b m n h k
 one_fate (Some (Compare first second)) desk a b m n (inl none) h k = absurd (cc)
 one_fate (Some (Compare first second)) desk a b m n (inr tells) h k =
     one_loading desk first _ tells
     (λ bytes. one_reading_on bytes _
-    (λ its image. one_loading desk second _ tells
-    (λ others a b m n h k. one_reading others _ (λ b other. one_comparing its image b other) a b h.0 k.0))) a b m n h k
+    (λ its image extras. one_loading desk second _ tells
+    (λ others a b m n h k. one_reading others _ (λ b other extras. one_comparing its image b other) a b h.0 k.0))) a b m n h k
 one_fate (Some (Keys image script)) desk a b m n (inl none) h k = absurd (cc)
 one_fate (Some (Keys image script)) desk a b m n (inr tells) h k =
     one_loading desk image _ tells

@@ -11,7 +11,8 @@ use Rattle.host_protocol.specs.declared.command.Command.{Command}
 use Rattle.drive_gen.specs.Summary.{summary_line}
 use Rattle.txflash.specs.Fate.{Fate, Explained, Ran}
 use Rattle.txflash.specs.Runs.{IsRun, blank_image, default_config}
-use Rattle.txflash.specs.Steps.{Explaining, ReadsImage, Running, Trying}
+use Rattle.txflash.specs.Steps.{Explaining, Running, Trying}
+use Rattle.image_desk.specs.Loading.{ReadsImage}
 use Rattle.txflash.specs.Stops.{RefusesDevice, RefusesLine}
 use Rattle.version_index.proofs.OneBreach.{sound_unbroken}
 use Rattle.txflash.proofs.Sound.{blank_sound}
@@ -57,7 +58,7 @@ running_device name bytes lines its image extras cs read file fate h = (Ok (its,
 
 pub running_done : (name bytes lines : List ℕ) (its : Config) (image : List Contents) (extras : Extras) (cs : List Command) →
     ReadsImage bytes (Ok (its, image, extras)) → IsFile its.page_bytes lines cs →
-    IsSoundImage its.protocol its.logical (shape_of its) image → Running name bytes lines (Ran name its image cs)
+    IsSoundImage its.protocol its.logical (shape_of its) image → Running name bytes lines (Ran name its image extras cs)
 running_done name bytes lines its image extras cs read file sound = (Ok (its, image, extras), read, ((Ok cs, file, (Ok tt, sound, refl)), refl))
 
 -- ---- an explanation

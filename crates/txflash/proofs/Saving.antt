@@ -11,7 +11,9 @@ use Rattle.host_protocol.specs.declared.command.Command.{Command}
 use Rattle.image_file.specs.declared.error.ImageError.{ImageError}
 use Rattle.desk_io.specs.Desk as found
 use Rattle.desk_io.specs.Desk.{DeskState, FileFound}
-use Rattle.txflash.specs.Fate.{Fate, Tried, Formatted, Ran, Explained, Driven, Keyed, Good, WrongLine, Same, DifferShape, DifferBlank, DifferAt, BadWords, Missing, TooLong, BadImage, BadLine, Unsound, BadBucket, BadConfiguration, status}
+use Rattle.image_desk.specs.Refusals.{Missing, TooLong, BadImage, Unsound}
+use Rattle.image_desk.proofs.Refusing.{never_fault}
+use Rattle.txflash.specs.Fate.{Fate, Tried, Formatted, Ran, Explained, Driven, Keyed, Good, WrongLine, Same, DifferShape, DifferBlank, DifferAt, Image, BadLine, BadBucket, BadConfiguration, status}
 use Rattle.txflash.specs.Gives.{Given, Gives}
 use Rattle.txflash.specs.Steps.{AfterLoad, AfterOpening, AfterParsing, AfterReading, AfterOpened, Opening, ReadingOn, Checking, Comparing, Keying, Explaining, IsFate, Loading, OpensAndServes, Parsing, Reading, Running, Trying, formatting, WithoutLoad}
 use Rattle.txflash.specs.Words.{Asked, Try, Format, Run, Explain, Drive, Check, Compare, Keys, file_of}
@@ -21,15 +23,15 @@ use Rattle.txflash.specs.Checking.{check_fate, Comparison, OneArray, Shapes, Bla
 -- the file that a fate saves
 abbrev pub saver : Fate → Option (List ℕ)
 saver (Formatted name its) = Some name
-saver (Ran name its image commands) = Some name
-saver (Keyed name its image commands) = Some name
+saver (Ran name its image extras commands) = Some name
+saver (Keyed name its image extras commands) = Some name
 saver _ = None
 
 pub gives_saves : (fate : Fate) (p : Given) → Gives fate p → option_map (λ file. file.name) p.saved ≡ saver fate
 gives_saves (Tried commands) p h = ap (option_map (λ file. file.name)) h.saves_nothing
 gives_saves (Formatted name its) p h = ap (option_map (λ file. file.name)) h.saves
-gives_saves (Ran name its image commands) p h = ap (option_map (λ file. file.name)) h.saves
-gives_saves (Keyed name its image commands) p h = ap (option_map (λ file. file.name)) h.saves
+gives_saves (Ran name its image extras commands) p h = ap (option_map (λ file. file.name)) h.saves
+gives_saves (Keyed name its image extras commands) p h = ap (option_map (λ file. file.name)) h.saves
 gives_saves (Explained its image) p h = ap (option_map (λ file. file.name)) h.saves_nothing
 gives_saves (Driven start count protocol) p h = ap (option_map (λ file. file.name)) h.saves_nothing
 gives_saves (Good pages) p h = ap (option_map (λ file. file.name)) h.saves_nothing
@@ -38,20 +40,16 @@ gives_saves (Same logical) p h = ap (option_map (λ file. file.name)) h.saves_no
 gives_saves DifferShape p h = ap (option_map (λ file. file.name)) h.saves_nothing
 gives_saves (DifferBlank page) p h = ap (option_map (λ file. file.name)) h.saves_nothing
 gives_saves (DifferAt page at) p h = ap (option_map (λ file. file.name)) h.saves_nothing
-gives_saves BadWords p h = ap (option_map (λ file. file.name)) h.saves_nothing
-gives_saves (Missing name) p h = ap (option_map (λ file. file.name)) h.saves_nothing
-gives_saves (TooLong name) p h = ap (option_map (λ file. file.name)) h.saves_nothing
-gives_saves (BadImage rule) p h = ap (option_map (λ file. file.name)) h.saves_nothing
 gives_saves (BadLine n) p h = ap (option_map (λ file. file.name)) h.saves_nothing
-gives_saves (Unsound breach) p h = ap (option_map (λ file. file.name)) h.saves_nothing
+gives_saves (Image why) p h = ap (option_map (λ file. file.name)) h.saves_nothing
 gives_saves (BadBucket page) p h = ap (option_map (λ file. file.name)) h.saves_nothing
 gives_saves (BadConfiguration rule) p h = ap (option_map (λ file. file.name)) h.saves_nothing
 
 -- a refusal saves none
 pub refusal_saves : (fate : Fate) → (status fate ≡ 0 → ⊥) → saver fate ≡ None
 refusal_saves (Formatted name its) refused = absurd (refused refl)
-refusal_saves (Ran name its image commands) refused = absurd (refused refl)
-refusal_saves (Keyed name its image commands) refused = absurd (refused refl)
+refusal_saves (Ran name its image extras commands) refused = absurd (refused refl)
+refusal_saves (Keyed name its image extras commands) refused = absurd (refused refl)
 refusal_saves (Tried commands) refused = refl
 refusal_saves (Explained its image) refused = refl
 refusal_saves (Driven start count protocol) refused = refl
@@ -61,12 +59,8 @@ refusal_saves (Same logical) refused = refl
 refusal_saves DifferShape refused = refl
 refusal_saves (DifferBlank page) refused = refl
 refusal_saves (DifferAt page at) refused = refl
-refusal_saves BadWords refused = refl
-refusal_saves (Missing name) refused = refl
-refusal_saves (TooLong name) refused = refl
-refusal_saves (BadImage rule) refused = refl
 refusal_saves (BadLine n) refused = refl
-refusal_saves (Unsound breach) refused = refl
+refusal_saves (Image why) refused = refl
 refusal_saves (BadBucket page) refused = refl
 refusal_saves (BadConfiguration rule) refused = refl
 
@@ -74,8 +68,8 @@ refusal_saves (BadConfiguration rule) refused = refl
 pub never_five : (fate : Fate) → 5 ≡ status fate → ⊥
 never_five (Tried commands) e = absurd (omega arith)
 never_five (Formatted name its) e = absurd (omega arith)
-never_five (Ran name its image commands) e = absurd (omega arith)
-never_five (Keyed name its image commands) e = absurd (omega arith)
+never_five (Ran name its image extras commands) e = absurd (omega arith)
+never_five (Keyed name its image extras commands) e = absurd (omega arith)
 never_five (Explained its image) e = absurd (omega arith)
 never_five (Driven start count protocol) e = absurd (omega arith)
 never_five (Good pages) e = absurd (omega arith)
@@ -84,19 +78,15 @@ never_five (Same logical) e = absurd (omega arith)
 never_five DifferShape e = absurd (omega arith)
 never_five (DifferBlank page) e = absurd (omega arith)
 never_five (DifferAt page at) e = absurd (omega arith)
-never_five BadWords e = absurd (omega arith)
-never_five (Missing name) e = absurd (omega arith)
-never_five (TooLong name) e = absurd (omega arith)
-never_five (BadImage rule) e = absurd (omega arith)
 never_five (BadLine n) e = absurd (omega arith)
-never_five (Unsound breach) e = absurd (omega arith)
+never_five (Image why) e = never_fault why e
 never_five (BadBucket page) e = absurd (omega arith)
 never_five (BadConfiguration rule) e = absurd (omega arith)
 
 -- ---- what holds of each fate to which a step may lead
 
 loading_all : (P : Fate → Type 0) (desk : DeskState) (name : List ℕ) (next : List ℕ → Fate → ℕ → Type 0) →
-    P (Missing name) → P (TooLong name) → ((bytes : List ℕ) (fate : Fate) (more : ℕ) → next bytes fate more → P fate) →
+    P (Image (Missing name)) → P (Image (TooLong name)) → ((bytes : List ℕ) (fate : Fate) (more : ℕ) → next bytes fate more → P fate) →
     (fate : Fate) (loads : ℕ) → Loading desk name next fate loads → P fate
 loading_all P desk name next missing long leads fate loads (there, finds, h) = after there h
   where
@@ -105,26 +95,26 @@ loading_all P desk name next missing long leads fate loads (there, finds, h) = a
     after found.TooLong h = rw h.0 long
     after (found.Bytes bytes) h = leads bytes fate h.0 h.1
 
-reading_all : (P : Fate → Type 0) (bytes : List ℕ) (next : Config → List Contents → Fate → Type 0) →
-    ((rule : ImageError) → P (BadImage rule)) → ((its : Config) (image : List Contents) (fate : Fate) → next its image fate → P fate) →
+reading_all : (P : Fate → Type 0) (bytes : List ℕ) (next : Config → List Contents → Extras → Fate → Type 0) →
+    ((rule : ImageError) → P (Image (BadImage rule))) → ((its : Config) (image : List Contents) (extras : Extras) (fate : Fate) → next its image extras fate → P fate) →
     (fate : Fate) → Reading bytes next fate → P fate
 reading_all P bytes next bad leads fate (read, reads, h) = after read h
   where
-    after : (read : Result (Config × List Contents × Extras) ImageError) → AfterReading (λ its image. WithoutLoad (next its image)) read fate 0 → P fate
-    after (Ok read) h = leads read.0 read.1 fate h.0
+    after : (read : Result (Config × List Contents × Extras) ImageError) → AfterReading (λ its image extras. WithoutLoad (next its image extras)) read fate 0 → P fate
+    after (Ok read) h = leads read.0 read.1 read.2 fate h.0
     after (Err rule) h = rw h.0 (bad rule)
 
-reading_on_all : (P : Fate → Type 0) (bytes : List ℕ) (next : Config → List Contents → Fate → ℕ → Type 0) →
-    ((rule : ImageError) → P (BadImage rule)) →
-    ((its : Config) (image : List Contents) (fate : Fate) (more : ℕ) → next its image fate more → P fate) →
+reading_on_all : (P : Fate → Type 0) (bytes : List ℕ) (next : Config → List Contents → Extras → Fate → ℕ → Type 0) →
+    ((rule : ImageError) → P (Image (BadImage rule))) →
+    ((its : Config) (image : List Contents) (extras : Extras) (fate : Fate) (more : ℕ) → next its image extras fate more → P fate) →
     (fate : Fate) (loads : ℕ) → ReadingOn bytes next fate loads → P fate
 reading_on_all P bytes next bad leads fate loads (read, reads, h) = after read h
   where
     after : (read : Result (Config × List Contents × Extras) ImageError) → AfterReading next read fate loads → P fate
-    after (Ok read) h = leads read.0 read.1 fate loads h
+    after (Ok read) h = leads read.0 read.1 read.2 fate loads h
     after (Err rule) h = rw h.0 (bad rule)
 
-opened_all : (P : Fate → Type 0) (its : Config) (image : List Contents) (next : Fate → Type 0) → ((b : Breach) → P (Unsound b)) →
+opened_all : (P : Fate → Type 0) (its : Config) (image : List Contents) (next : Fate → Type 0) → ((b : Breach) → P (Image (Unsound b))) →
     ((fate : Fate) → next fate → P fate) → (fate : Fate) → Opening its image next fate → P fate
 opened_all P its image next bad leads fate (opened, opens, h) = after opened h
   where
@@ -141,7 +131,7 @@ parsing_all P page_bytes bytes next bad leads fate (parsed, parses, h) = after p
     after (Ok cs) h = leads cs fate h
     after (Err n) h = rw h (bad n)
 
-opening_all : (P : Fate → Type 0) (its : Config) (image : List Contents) (done : Fate) → P done → ((b : Breach) → P (Unsound b)) →
+opening_all : (P : Fate → Type 0) (its : Config) (image : List Contents) (done : Fate) → P done → ((b : Breach) → P (Image (Unsound b))) →
     (fate : Fate) → OpensAndServes its image done fate → P fate
 opening_all P its image done good bad fate (opened, opens, h) = after opened h
   where
@@ -158,7 +148,7 @@ SavesAtMost file fate = (saver fate ≡ None) ⊎ (saver fate ≡ file)
 run_saves : (name bytes lines : List ℕ) (fate : Fate) → Running name bytes lines fate → SavesAtMost (Some name) fate
 run_saves name bytes lines =
     reading_all (SavesAtMost (Some name)) bytes _ (λ rule. inl refl)
-    (λ its image. parsing_all (SavesAtMost (Some name)) its.page_bytes lines _ (λ n. inl refl)
+    (λ its image extras. parsing_all (SavesAtMost (Some name)) its.page_bytes lines _ (λ n. inl refl)
     (λ cs. opening_all (SavesAtMost (Some name)) its image _ (inr refl) (λ b. inl refl)))
 
 try_saves : (lines : List ℕ) (fate : Fate) → Trying lines fate → SavesAtMost None fate
@@ -167,7 +157,7 @@ try_saves lines = parsing_all (SavesAtMost None) 16 lines _ (λ n. inl refl) (λ
 explanation_saves : (bytes : List ℕ) (fate : Fate) → Explaining bytes fate → SavesAtMost None fate
 explanation_saves bytes =
     reading_all (SavesAtMost None) bytes _ (λ rule. inl refl)
-    (λ its image. opening_all (SavesAtMost None) its image _ (inl refl) (λ b. inl refl))
+    (λ its image extras. opening_all (SavesAtMost None) its image _ (inl refl) (λ b. inl refl))
 
 checked_saves : (check : Result ℕ ℕ) → SavesAtMost None (check_fate check)
 checked_saves (Ok n) = inl refl
@@ -176,7 +166,7 @@ checked_saves (Err k) = inl refl
 check_saves : (bytes text : List ℕ) (fate : Fate) → Checking bytes text fate → SavesAtMost None fate
 check_saves bytes text =
     reading_all (SavesAtMost None) bytes _ (λ rule. inl refl)
-    (λ its image. opened_all (SavesAtMost None) its image _ (λ b. inl refl) (λ fate h. rw h.2 (checked_saves h.0)))
+    (λ its image extras. opened_all (SavesAtMost None) its image _ (λ b. inl refl) (λ fate h. rw h.2 (checked_saves h.0)))
 
 compared_saves : (a : Config) (comes : Comparison) → SavesAtMost None (comparison_fate a comes)
 compared_saves a OneArray = inl refl
@@ -192,7 +182,7 @@ comparison_saves a image b other =
 keys_saves : (name bytes lines : List ℕ) (fate : Fate) → Keying name bytes lines fate → SavesAtMost (Some name) fate
 keys_saves name bytes lines =
     reading_all (SavesAtMost (Some name)) bytes _ (λ rule. inl refl)
-    (λ its image. script_all (SavesAtMost (Some name)) lines _ (λ n. inl refl)
+    (λ its image extras. script_all (SavesAtMost (Some name)) lines _ (λ n. inl refl)
     (λ cs. opened_all (SavesAtMost (Some name)) its image _ (λ b. inl refl)
     (store_all (SavesAtMost (Some name)) its image _ (inr refl) (λ page. inl refl))))
 
@@ -224,6 +214,6 @@ fate_saves (Some (Check image report)) desk fate loads h =
 fate_saves (Some (Compare first second)) desk fate loads h =
     loading_all (SavesAtMost None) desk first _ (inl refl) (inl refl)
     (λ bytes. reading_on_all (SavesAtMost None) bytes _ (λ rule. inl refl)
-    (λ a image. loading_all (SavesAtMost None) desk second _ (inl refl) (inl refl)
-    (λ others fate more h. reading_all (SavesAtMost None) others _ (λ rule. inl refl) (λ b other. comparison_saves a image b other) fate h.0)))
+    (λ a image extras. loading_all (SavesAtMost None) desk second _ (inl refl) (inl refl)
+    (λ others fate more h. reading_all (SavesAtMost None) others _ (λ rule. inl refl) (λ b other extras. comparison_saves a image b other) fate h.0)))
     fate loads h

@@ -1,14 +1,20 @@
 -- How the work of a task ends, from its parts.
-use Rattle.std.proofs.Common.{◌≡◌, inl, inr, ℕ, suc, ◌<◌, ◌≤◌, List, [], ◌∷◌, length, Option, None, Some, Result, Ok, Err, ap, ◌∙◌, arith}
+use Rattle.std.proofs.Common.{◌≡◌, inl, inr, ℕ, suc, ◌<◌, ◌≤◌, List, [], ◌∷◌, length, Option, None, Some, Result, Ok, Err, refl, ap, ◌∙◌, arith}
 use Rattle.std.specs.Prelude.{All, IfSome}
 use Rattle.std.specs.Option.{option_map}
 use Rattle.std.specs.Result.{IsErrAnd}
 use Rattle.std.proofs.lemmas.List.Elements.{All-cons, All-nil}
+use Rattle.tx_types.specs.declared.config.Config.{Config}
+use Rattle.flash_model.specs.Flash.{Contents, Extras}
 use Rattle.desk_io.specs.Desk as found
 use Rattle.desk_io.specs.Desk.{DeskContents, DeskState, FileFound, Finds, IsShort, after_answer, after_memory, as_before, called, file_at, file_found}
-use Rattle.txflash.specs.Fate.{Fate, Missing, TooLong}
-use Rattle.txflash.specs.Steps.{IsFate}
-use Rattle.txflash.specs.Stops.{Fetches, StopsBy, Works, WorksTo, refused}
+use Rattle.image_desk.specs.Loading.{Fetches, ImageStops, RefusesImage}
+use Rattle.image_desk.specs.Refusals.{ImageFate, Missing, TooLong, image_refused}
+use Rattle.image_desk.specs.declared.stop.ImageStop.{ImageStop}
+use Rattle.image_desk.specs.declared.stop.ImageStop.TheVariants as image
+use Rattle.txflash.specs.Fate.{Fate, Image}
+use Rattle.txflash.specs.Steps.{IsFate, Reading}
+use Rattle.txflash.specs.Stops.{StopsBy, Works, WorksTo, refused, stop_of}
 use Rattle.txflash.specs.Top.{CameThrough, FindsBytes, after_loads}
 use Rattle.txflash.specs.Words.{Asked, IsWorkedAfter, files_of}
 use Rattle.txflash.specs.declared.product.Product.{Product}
@@ -27,6 +33,24 @@ pub stopped : (P Q : Fate → Type 0) (result : Result Product Stop) (e : Stop) 
 stopped P Q (Ok product) e same leads h = absurd same
 stopped P Q (Err x) e same leads h = stops_by P Q leads x (rw same h)
 
+-- so is what stops where reading an image does
+image_stops_by : (P : ImageFate → Type 0) (Q : Fate → Type 0) → ((why : ImageFate) → P why → Q (Image why)) → (stopped : ImageStop) →
+    ImageStops P stopped → StopsBy Q (stop_of stopped)
+image_stops_by P Q leads (image.Refused refusal) h = leads (image_refused refusal) h
+image_stops_by P Q leads image.Fault h = h
+image_stops_by P Q leads image.Memory h = h
+
+pub unread : (P : ImageFate → Type 0) (Q : Fate → Type 0) (result : Result Product Stop) (e : ImageStop) → IsErrAnd result (λ x. x ≡ stop_of e) →
+    ((why : ImageFate) → P why → Q (Image why)) → ImageStops P e → WorksTo Q result
+unread P Q (Ok product) e same leads h = absurd same
+unread P Q (Err x) e same leads h = rw same (image_stops_by P Q leads e h)
+
+-- the work on the bytes of an image stops where reading them does
+pub unread_image : (bytes : List ℕ) (next : Config → List Contents → Extras → Fate → Type 0) (result : Result Product Stop) (e : ImageStop) →
+    IsErrAnd result (λ x. x ≡ stop_of e) → ImageStops (RefusesImage bytes) e → WorksTo (Reading bytes next) result
+unread_image bytes next result e same h =
+    unread (RefusesImage bytes) (Reading bytes next) result e same (λ why refuses. (Err refuses.0, refuses.1, (ap Image refuses.2, refl))) h
+
 -- after its loads, the work of a task comes to what its last part comes to
 pub works : (task : Option Asked) (old new : DeskState) (n : ℕ) (comes : Fate → Type 0) (result : Result Product Stop) →
     new ≡ after_loads n old → IsWorkedAfter task n → CameThrough task old n →
@@ -38,24 +62,24 @@ works task old new n comes (Err stop.Memory) loaded all came leads h =
     inr (n, all, came, loaded)
 
 -- the work of a task ends where a load gives no bytes
-unfetched_by : (task : Option Asked) (old mid new : DeskState) (n : ℕ) (name : List ℕ) (stopped : Stop) →
+unfetched_by : (task : Option Asked) (old mid new : DeskState) (n : ℕ) (name : List ℕ) (stopped : ImageStop) →
     mid ≡ after_loads n old → n < length (files_of task) → CameThrough task old n →
-    (Finds mid name found.Missing → IsFate task old (Missing name) (suc n)) →
-    (Finds mid name found.TooLong → IsFate task old (TooLong name) (suc n)) →
-    Fetches mid new name (Err stopped) → Works task old new (Err stopped)
-unfetched_by task old mid new n name (stop.Refused refusal) loaded most came missing long h =
+    (Finds mid name found.Missing → IsFate task old (Image (Missing name)) (suc n)) →
+    (Finds mid name found.TooLong → IsFate task old (Image (TooLong name)) (suc n)) →
+    Fetches mid new name (Err stopped) → Works task old new (Err (stop_of stopped))
+unfetched_by task old mid new n name (image.Refused refusal) loaded most came missing long h =
     let after : new ≡ after_loads (suc n) old = h.0 ∙ ap (after_answer as_before) loaded in
     elim h.1 [
       | inl none ↦ (suc n, rw none.1 (missing none.0), after)
       | inr much ↦ (suc n, rw much.1 (long much.0), after)
     ]
-unfetched_by task old mid new n name stop.Fault loaded most came missing long h = (n, most, came, rw (← loaded) h)
-unfetched_by task old mid new n name stop.Memory loaded most came missing long h = inl (n, most, came, h ∙ ap after_memory loaded)
+unfetched_by task old mid new n name image.Fault loaded most came missing long h = (n, most, came, rw (← loaded) h)
+unfetched_by task old mid new n name image.Memory loaded most came missing long h = inl (n, most, came, h ∙ ap after_memory loaded)
 
-pub unfetched : (task : Option Asked) (old mid new : DeskState) (n : ℕ) (name : List ℕ) (stopped : Stop) (result : Result Product Stop) →
-    IsErrAnd result (λ x. x ≡ stopped) → mid ≡ after_loads n old → n < length (files_of task) → CameThrough task old n →
-    (Finds mid name found.Missing → IsFate task old (Missing name) (suc n)) →
-    (Finds mid name found.TooLong → IsFate task old (TooLong name) (suc n)) →
+pub unfetched : (task : Option Asked) (old mid new : DeskState) (n : ℕ) (name : List ℕ) (stopped : ImageStop) (result : Result Product Stop) →
+    IsErrAnd result (λ x. x ≡ stop_of stopped) → mid ≡ after_loads n old → n < length (files_of task) → CameThrough task old n →
+    (Finds mid name found.Missing → IsFate task old (Image (Missing name)) (suc n)) →
+    (Finds mid name found.TooLong → IsFate task old (Image (TooLong name)) (suc n)) →
     Fetches mid new name (Err stopped) → Works task old new result
 unfetched task old mid new n name stopped (Ok product) same loaded most came missing long h = absurd same
 unfetched task old mid new n name stopped (Err x) same loaded most came missing long h =

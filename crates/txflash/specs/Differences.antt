@@ -3,7 +3,7 @@ use Rattle.std.specs.Prelude.{◌≡◌, ◌⊎◌, ℕ, ◌<◌, List, Option, 
 use Rattle.tx_types.specs.declared.config.Config.{Config}
 use Rattle.array_machine.specs.ArrayState.{Pages, page_at}
 use Rattle.txflash.specs.Fate.{Fate, Same, DifferShape, DifferBlank, DifferAt}
-use Rattle.txflash.specs.Checking.{HaveOneShape, IsFirstPage, DifferAtByte}
+use Rattle.txflash.specs.Checking.{HaveOneShape, DifferAtByte}
 use Rattle.txflash.specs.declared.difference.Difference.{Difference}
 use Rattle.txflash.specs.declared.difference.Difference.TheVariants as difference
 

@@ -5,7 +5,7 @@ use Rattle.tx_types.specs.declared.config.Config.{Config}
 use Rattle.tx_types.specs.declared.config.Protocol.{Protocol}
 use Rattle.tx_types.specs.declared.config.Protocol.TheVariants.{Scc}
 use Rattle.tx_types.specs.Config.{shape_of, slots_of}
-use Rattle.flash_model.specs.Flash.{Contents}
+use Rattle.flash_model.specs.Flash.{Contents, Extras, no_extras}
 use Rattle.version_index.specs.Images.{IsSoundImage, records_in}
 use Rattle.verdict_report.specs.Report.{report}
 use Rattle.host_protocol.specs.declared.command.Command.{Command}
@@ -13,7 +13,8 @@ use Rattle.image_file.specs.Spelling.{Spells}
 use Rattle.drive_gen.specs.Work.{generated}
 use Rattle.drive_gen.specs.Summary.{summary_line}
 use Rattle.page_keys.specs.declared.command.KeyCommand.{KeyCommand}
-use Rattle.txflash.specs.Fate.{Fate, Tried, Formatted, Ran, Explained, Driven, Keyed, line, refusal_line}
+use Rattle.image_desk.specs.Refusals.{line}
+use Rattle.txflash.specs.Fate.{Fate, Tried, Formatted, Ran, Explained, Driven, Keyed, refusal_line}
 use Rattle.txflash.specs.KeyWork.{IsKeysRun}
 use Rattle.txflash.specs.Runs.{IsRun, default_config, blank_image}
 
@@ -37,19 +38,19 @@ pub record IsTried (commands : List Command) (p : Given) : Type 0 where
 pub record IsFormatted (name : List ℕ) (its : Config) (p : Given) : Type 0 where
   pub bytes : List ℕ
   pub saves : p.saved ≡ Some (record { name = name; bytes = bytes })
-  pub spelled : Spells bytes its (blank_image its)
+  pub spelled : Spells bytes its (blank_image its) no_extras
   pub said : p.text
       ≡ line (codes "formatted " ++ name ++ codes " " ++ decimal (slots_of (shape_of its)))
 
 -- the replies of a run from this image on, and the file of the image with which the run ends, under
--- the same configuration
-pub record IsRan (name : List ℕ) (its : Config) (image : List Contents) (commands : List Command)
-    (p : Given) : Type 0 where
+-- the same configuration and with the same retired blocks
+pub record IsRan (name : List ℕ) (its : Config) (image : List Contents) (extras : Extras)
+    (commands : List Command) (p : Given) : Type 0 where
   pub bytes : List ℕ
   pub saves : p.saved ≡ Some (record { name = name; bytes = bytes })
   pub left : List Contents
   pub run : IsRun its image commands left p.text
-  pub spelled : Spells bytes its left
+  pub spelled : Spells bytes its left extras
 
 -- the report on the records of this image, which is sound
 pub record IsExplained (its : Config) (image : List Contents) (p : Given) : Type 0 where
@@ -70,14 +71,14 @@ pub record IsDriven (start count : ℕ) (protocol : Protocol) (p : Given) : Type
       (length (generated start count (default_config protocol))) replies
 
 -- the replies of a run of the map machine from this image on, whose pages are buckets, and the file of the image with which
--- the run ends, under the same configuration
-pub record IsKeyed (name : List ℕ) (its : Config) (image : List Contents)
+-- the run ends, under the same configuration and with the same retired blocks
+pub record IsKeyed (name : List ℕ) (its : Config) (image : List Contents) (extras : Extras)
     (commands : List KeyCommand) (p : Given) : Type 0 where
   pub bytes : List ℕ
   pub saves : p.saved ≡ Some (record { name = name; bytes = bytes })
   pub left : List Contents
   pub run : IsKeysRun its image commands left p.text
-  pub spelled : Spells bytes its left
+  pub spelled : Spells bytes its left extras
 
 -- a line, and no file: what was found, or a refusal
 pub record IsRefused (text : List ℕ) (p : Given) : Type 0 where
@@ -88,8 +89,8 @@ pub record IsRefused (text : List ℕ) (p : Given) : Type 0 where
 abbrev pub Gives : Fate → Given → Type 0
 Gives (Tried commands) p = IsTried commands p
 Gives (Formatted name its) p = IsFormatted name its p
-Gives (Ran name its image commands) p = IsRan name its image commands p
+Gives (Ran name its image extras commands) p = IsRan name its image extras commands p
 Gives (Explained its image) p = IsExplained its image p
 Gives (Driven start count protocol) p = IsDriven start count protocol p
-Gives (Keyed name its image commands) p = IsKeyed name its image commands p
+Gives (Keyed name its image extras commands) p = IsKeyed name its image extras commands p
 Gives refused p = IsRefused (refusal_line refused) p

@@ -1,6 +1,6 @@
 -- The steps of the work, what each comes to, and so the fate of a task. The first step that fails
 -- decides.
-use Rattle.std.specs.Prelude.{◌≡◌, ℕ, ◌+◌, List, Option, None, Some, Result, Ok, Err, IfOk}
+use Rattle.std.specs.Prelude.{◌≡◌, ℕ, ◌+◌, List, Option, None, Some, Result, Ok, Err}
 use Rattle.tx_types.specs.declared.config.Config.{Config}
 use Rattle.tx_types.specs.declared.config.ConfigError.{ConfigError}
 use Rattle.tx_types.specs.declared.config.Shape.{Shape}
@@ -10,13 +10,13 @@ use Rattle.record_list.specs.declared.found.Breach.{Breach}
 use Rattle.version_index.specs.Images.{IsSoundImage, IsLeastImageBreach}
 use Rattle.host_protocol.specs.Files.{IsFile, IsFirstBad}
 use Rattle.host_protocol.specs.declared.command.Command.{Command}
-use Rattle.image_file.specs.Rules.{reading}
-use Rattle.image_file.specs.Spelling.{Spells}
 use Rattle.image_file.specs.declared.error.ImageError.{ImageError}
 use Rattle.desk_io.specs.Desk as found
 use Rattle.desk_io.specs.Desk.{DeskState, FileFound, Finds}
 use Rattle.tx_types.specs.declared.config.Protocol.TheVariants.{Scc}
-use Rattle.txflash.specs.Fate.{Fate, Tried, Formatted, Ran, Explained, Driven, Keyed, BadWords, Missing, TooLong, BadImage, BadLine, Unsound, BadConfiguration}
+use Rattle.image_desk.specs.Loading.{ReadsImage}
+use Rattle.image_desk.specs.Refusals.{BadWords, Missing, TooLong, BadImage, Unsound}
+use Rattle.txflash.specs.Fate.{Fate, Tried, Formatted, Ran, Explained, Driven, Keyed, Image, BadLine, BadConfiguration}
 use Rattle.txflash.specs.Runs.{default_config}
 use Rattle.txflash.specs.Words.{Asked, Try, Format, Run, Explain, Drive, Check, Compare, Keys}
 use Rattle.txflash.specs.KeyWork.{ParsingScript, OpensStore}
@@ -26,8 +26,8 @@ use Rattle.txflash.specs.Checking.{Checks, check_fate, Comparison, Compares, com
 
 -- by what is found at a name: the fate, after so many loads
 abbrev pub AfterLoad : List ℕ → (List ℕ → Fate → ℕ → Type 0) → FileFound → Fate → ℕ → Type 0
-AfterLoad name next found.Missing fate loads = (fate ≡ Missing name) × (loads ≡ 1)
-AfterLoad name next found.TooLong fate loads = (fate ≡ TooLong name) × (loads ≡ 1)
+AfterLoad name next found.Missing fate loads = (fate ≡ Image (Missing name)) × (loads ≡ 1)
+AfterLoad name next found.TooLong fate loads = (fate ≡ Image (TooLong name)) × (loads ≡ 1)
 AfterLoad name next (found.Bytes bytes) fate loads =
     (more : ℕ) × next bytes fate more × (loads ≡ more + 1)
 
@@ -42,25 +42,22 @@ WithoutLoad comes fate loads = comes fate × (loads ≡ 0)
 
 -- ---- reading an image
 
--- the bytes are the spelling of this configuration and this image, or this is the first rule that
--- they break
-abbrev pub ReadsImage : List ℕ → Result (Config × List Contents × Extras) ImageError → Type 0
-ReadsImage bytes read = (reading bytes ≡ read) × IfOk read (λ r. Spells bytes r.0 r.1)
-
-abbrev pub AfterReading : (Config → List Contents → Fate → ℕ → Type 0) →
+abbrev pub AfterReading : (Config → List Contents → Extras → Fate → ℕ → Type 0) →
     Result (Config × List Contents × Extras) ImageError → Fate → ℕ → Type 0
-AfterReading next (Ok read) fate loads = next read.0 read.1 fate loads
-AfterReading next (Err rule) fate loads = WithoutLoad (λ its. its ≡ BadImage rule) fate loads
+AfterReading next (Ok read) fate loads = next read.0 read.1 read.2 fate loads
+AfterReading next (Err rule) fate loads = WithoutLoad (λ its. its ≡ Image (BadImage rule)) fate loads
 
 -- the bytes of an image file are read, and then comes what its device gives, which may load more
-abbrev pub ReadingOn : List ℕ → (Config → List Contents → Fate → ℕ → Type 0) → Fate → ℕ → Type 0
+abbrev pub ReadingOn :
+    List ℕ → (Config → List Contents → Extras → Fate → ℕ → Type 0) → Fate → ℕ → Type 0
 ReadingOn bytes next fate loads =
     (read : Result (Config × List Contents × Extras) ImageError) × ReadsImage bytes read
     × AfterReading next read fate loads
 
 -- the same where nothing more is loaded
-abbrev pub Reading : List ℕ → (Config → List Contents → Fate → Type 0) → Fate → Type 0
-Reading bytes next fate = ReadingOn bytes (λ its image. WithoutLoad (next its image)) fate 0
+abbrev pub Reading : List ℕ → (Config → List Contents → Extras → Fate → Type 0) → Fate → Type 0
+Reading bytes next fate =
+    ReadingOn bytes (λ its image extras. WithoutLoad (next its image extras)) fate 0
 
 -- ---- parsing
 
@@ -89,7 +86,7 @@ Opens its image (Err breach) =
 
 abbrev pub AfterOpening : Fate → Result (Unit {0}) Breach → Fate → Type 0
 AfterOpening done (Ok sound) fate = fate ≡ done
-AfterOpening done (Err breach) fate = fate ≡ Unsound breach
+AfterOpening done (Err breach) fate = fate ≡ Image (Unsound breach)
 
 -- the device of an image is opened, and then all is done
 abbrev pub OpensAndServes : Config → List Contents → Fate → Fate → Type 0
@@ -98,7 +95,7 @@ OpensAndServes its image done fate =
 
 abbrev pub AfterOpened : (Fate → Type 0) → Result (Unit {0}) Breach → Fate → Type 0
 AfterOpened next (Ok sound) fate = next fate
-AfterOpened next (Err breach) fate = fate ≡ Unsound breach
+AfterOpened next (Err breach) fate = fate ≡ Image (Unsound breach)
 
 -- the device of an image is opened, and then comes what it gives
 abbrev pub Opening : Config → List Contents → (Fate → Type 0) → Fate → Type 0
@@ -114,11 +111,11 @@ Trying lines =
 abbrev pub Running : List ℕ → List ℕ → List ℕ → Fate → Type 0
 Running name bytes lines =
     Reading bytes
-    (λ its image. Parsing its.page_bytes lines
-    (λ commands. OpensAndServes its image (Ran name its image commands)))
+    (λ its image extras. Parsing its.page_bytes lines
+    (λ commands. OpensAndServes its image (Ran name its image extras commands)))
 
 abbrev pub Explaining : List ℕ → Fate → Type 0
-Explaining bytes = Reading bytes (λ its image. OpensAndServes its image (Explained its image))
+Explaining bytes = Reading bytes (λ its image extras. OpensAndServes its image (Explained its image))
 
 -- from the device on
 abbrev pub Judging : Config → List Contents → List ℕ → Fate → Type 0
@@ -127,7 +124,7 @@ Judging its image text =
     (λ fate. (check : Result ℕ ℕ) × Checks its image text check × (fate ≡ check_fate check))
 
 abbrev pub Checking : List ℕ → List ℕ → Fate → Type 0
-Checking bytes text = Reading bytes (λ its image. Judging its image text)
+Checking bytes text = Reading bytes (λ its image extras. Judging its image text)
 
 -- from both devices on
 abbrev pub Comparing : Config → List Contents → Config → List Contents → Fate → Type 0
@@ -139,8 +136,8 @@ Comparing a image b other =
 abbrev pub Keying : List ℕ → List ℕ → List ℕ → Fate → Type 0
 Keying name bytes lines =
     Reading bytes
-    (λ its image. ParsingScript lines
-    (λ commands. Opening its image (OpensStore its image (Keyed name its image commands))))
+    (λ its image extras. ParsingScript lines
+    (λ commands. Opening its image (OpensStore its image (Keyed name its image extras commands))))
 
 -- a configuration is checked
 abbrev pub formatting : List ℕ → Config → Result Shape ConfigError → Fate
@@ -149,7 +146,7 @@ formatting name its (Err rule) = BadConfiguration rule
 
 -- The fate of a task on a desk, which comes after so many loads.
 abbrev pub IsFate : Option Asked → DeskState → Fate → ℕ → Type 0
-IsFate None desk = WithoutLoad (λ fate. fate ≡ BadWords)
+IsFate None desk = WithoutLoad (λ fate. fate ≡ Image BadWords)
 IsFate (Some (Try commands)) desk = Loading desk commands (λ lines. WithoutLoad (Trying lines))
 IsFate (Some (Format image its)) desk =
     WithoutLoad (λ fate. fate ≡ formatting image its (checked its))
@@ -163,8 +160,8 @@ IsFate (Some (Check image report)) desk =
     Loading desk image (λ bytes. Loading desk report (λ text. WithoutLoad (Checking bytes text)))
 IsFate (Some (Compare first second)) desk =
     Loading desk first
-    (λ bytes. ReadingOn bytes (λ a image. Loading desk second
-    (λ others. WithoutLoad (Reading others (λ b other. Comparing a image b other)))))
+    (λ bytes. ReadingOn bytes (λ a image extras. Loading desk second
+    (λ others. WithoutLoad (Reading others (λ b other more. Comparing a image b other)))))
 IsFate (Some (Keys image script)) desk =
     Loading desk image
     (λ bytes. Loading desk script (λ lines. WithoutLoad (Keying image bytes lines)))

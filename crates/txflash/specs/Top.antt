@@ -1,10 +1,12 @@
 -- What the program answers, what it says and saves, and why.
-use Rattle.std.specs.Prelude.{◌≡◌, ◌≢◌, ◌⊎◌, ℕ, zero, suc, ◌<◌, List, [], ◌∷◌, All, length, take, codes, Option, None, Some, IsSome, Result, Err}
+use Rattle.std.specs.Prelude.{◌≡◌, ◌≢◌, ◌⊎◌, ℕ, zero, suc, ◌<◌, List, [], All, length, take, codes, Option, None, Some, IsSome, Err}
 use Rattle.std.specs.Option.{option_map}
-use Rattle.desk_io.specs.Desk.{Bytes, DeskState, Files, Finds, Rose, Saves, Says, after_answer, after_fault, after_memory, as_before, files_with, with_file, with_said}
+use Rattle.desk_io.specs.Desk.{Bytes, DeskState, Files, Finds, Rose, Saves, after_answer, after_fault, after_memory, as_before, files_with, with_file}
 use Rattle.desk_io.specs.declared.desk.SinkError.{SinkError}
 use Rattle.desk_io.specs.declared.desk.SinkError.TheVariants as sink
-use Rattle.txflash.specs.Fate.{Fate, status, line}
+use Rattle.image_desk.specs.Refusals.{line}
+use Rattle.image_desk.specs.Saying.{Attempts, TextStops, after_text, files_in}
+use Rattle.txflash.specs.Fate.{Fate, status}
 use Rattle.txflash.specs.Gives.{Given, SavedFile, Gives}
 use Rattle.txflash.specs.Steps.{IsFate}
 use Rattle.txflash.specs.Words.{Asked, IsWorkedAfter, files_of, file_of}
@@ -20,15 +22,6 @@ after_loads (suc n) desk = after_answer as_before (after_loads n desk)
 abbrev pub after_save : Option SavedFile → DeskState → DeskState
 after_save None desk = desk
 after_save (Some saved) desk = after_answer (with_file saved.name (Some saved.bytes)) desk
-
--- the desk after a text was said whole; where there is none, nothing is said
-abbrev pub after_text : List ℕ → DeskState → DeskState
-after_text [] desk = desk
-after_text (c ∷ cs) desk = after_answer (with_said (c ∷ cs)) desk
-
--- A line was tried. What came of it decides nothing.
-abbrev pub Attempts : DeskState → DeskState → List ℕ → Type 0
-Attempts old new text = (result : Result (Unit {0}) SinkError) × Says old new text result
 
 -- a fate of a task, how many loads it comes after, and what it gives
 pub record Decision (task : Option Asked) (desk : DeskState) : Type 0 where
@@ -81,10 +74,6 @@ WorkRunsOut task old new =
 abbrev pub FileStops : SinkError → Option SavedFile → DeskState → DeskState → Type 0
 FileStops error None old new = ⊥
 FileStops error (Some file) old new = Saves old new file.name file.bytes (Err error)
-
--- the saying of this text was answered by an error, if there is a text
-abbrev pub TextStops : SinkError → List ℕ → DeskState → DeskState → Type 0
-TextStops error text old new = (text ≢ []) × Says old new text (Err error)
 
 -- the saving of what a fate gives was answered by an error
 abbrev pub SaveStops : SinkError → (task : Option Asked) → DeskState → DeskState → Type 0
@@ -147,10 +136,6 @@ pub record IsExact (task : Option Asked) (old new : DeskState) (answer : ℕ) : 
       (Rose old.faults new.faults → ⊥) → (answer ≡ status fate) ⊎ (answer ≡ 6)
 
 -- ---- which file changes
-
--- the files of a desk, if it tells them
-abbrev pub files_in : DeskState → Option Files
-files_in desk = option_map (λ c. c.files) desk.told
 
 -- these files, but for the one of this name
 abbrev pub Leaves : Option (List ℕ) → Option Files → Option Files → Type 0

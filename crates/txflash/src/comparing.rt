@@ -3,25 +3,26 @@ ghost use Rattle.std.specs.Fmt.{decimal};
 ghost use Rattle.tx_types.specs.Config.{checked, shape_of};
 ghost use Rattle.flash_model.specs.Flash.{IsSteady};
 ghost use Rattle.mem_flash.specs.Memory.{loaded, state_of};
-ghost use Rattle.txflash.specs.Fate.{Same, line};
+ghost use Rattle.image_desk.specs.Refusals.{line};
+ghost use Rattle.txflash.specs.Fate.{Same};
 ghost use Rattle.txflash.specs.Checking.{HaveOneShape};
 ghost use Rattle.array_machine.specs.ArrayState.{page_at};
 ghost use Rattle.array_machine.specs.Read.{ReadsPage};
 ghost use Rattle.lane_scan.specs.Scans.{DifferFirstAt};
 ghost use Rattle.txflash.specs.declared.difference.Difference.TheVariants.{At};
 ghost use Rattle.txflash.specs.Differences.{ComesTo, DiffersAt, FindsFirst, difference_fate};
-ghost use Rattle.txflash.specs.Steps.{Comparing, Reading, ReadsImage};
+ghost use Rattle.txflash.specs.Steps.{Comparing, Reading};
 ghost use Rattle.txflash.specs.Stops.{StopsBy, Works, WorksTo};
 ghost use Rattle.txflash.specs.Words.{Compare};
 
-use crate::devices::{read_device, sound_device};
+use crate::devices::sound_device;
 use crate::difference::Difference;
 use crate::product::{Product, Stop, Text};
 use crate::refusal::Refusal;
-use crate::tasks::fetch;
 use bpcc_commit::Bpcc;
 use desk_io::Desk;
 use flash_model::steady_stays;
+use image_desk::{fetch, read_device};
 use lane_scan::first_difference;
 use mem_flash::MemFlash;
 use record_list::CommitRule;
@@ -54,7 +55,7 @@ fn compared_with<'a>(
 ) -> Result<Product<'a>, Stop<'a>>
     requires check { checked config ≡ Ok (shape_of config) }
     requires ready { flash ≡ loaded (shape_of config) flash.image flash.extras }
-    ensures { WorksTo (Reading others.items (λ b other. Comparing config flash.image b other)) result }
+    ensures { WorksTo (Reading others.items (λ b other more. Comparing config flash.image b other)) result }
 {
     let (second, other) = read_device(alloc, others)?;
     let logical = compared(alloc, config, flash, second, other)?;

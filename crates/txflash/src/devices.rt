@@ -11,8 +11,7 @@ ghost use Rattle.version_index.specs.Images.{IsSoundImage, records_in};
 ghost use Rattle.version_index.specs.Notes.{found_in};
 ghost use Rattle.verdict_report.specs.Report.{report};
 ghost use Rattle.txflash.specs.Runs.{IsRun, blank_image, default_config};
-ghost use Rattle.txflash.specs.Steps.{ReadsImage};
-ghost use Rattle.txflash.specs.Stops.{RefusesDevice, RefusesImage, RefusesLine, StopsBy};
+ghost use Rattle.txflash.specs.Stops.{RefusesDevice, RefusesLine, StopsBy};
 
 use crate::product::Stop;
 use crate::refusal::Refusal;
@@ -20,9 +19,9 @@ use bpcc_commit::Bpcc;
 use cut_replay::{Lines, ServeError, serve};
 use flash_model::steady_stays;
 use host_protocol::{Command, TextError, parse};
-use image_file::{ImageError, take_image};
+use image_desk::ImageRefusal;
 use mem_flash::MemFlash;
-use record_list::{CommitRule, Found};
+use record_list::{Breach, CommitRule, Found};
 use scc_commit::Scc;
 use std::alloc::Global;
 use tx_engine::laws::devices_stand;
@@ -63,19 +62,6 @@ pub fn blank_flash(alloc: Global, config: Config) -> Result<MemFlash, Memory>
     MemFlash::new(alloc, shape)
 }
 
-/// The configuration and the flash of an image file.
-pub fn read_device(alloc: Global, bytes: Vec<u8>) -> Result<(Config, MemFlash), Stop<'static>>
-    ensures read { IfOk result (λ d. ReadsImage bytes.items (Ok (d.0, d.1.image, d.1.extras))) }
-    ensures ready { IfOk result (λ d. d.1 ≡ loaded (shape_of d.0) d.1.image d.1.extras) }
-    ensures err { IfErr result (StopsBy (RefusesImage bytes.items)) }
-{
-    match take_image(alloc, bytes) {
-        Ok(device) => Ok(device),
-        Err(ImageError::Memory) => Err(Stop::Memory),
-        Err(rule) => Err(Stop::Refused(Refusal::BadImage(rule))),
-    }
-}
-
 /// The commands of a file.
 pub fn read_commands(
     alloc: Global,
@@ -106,6 +92,7 @@ pub fn served(
     requires suits { All (Suits config.page_bytes) list.now }
     ensures run { IfOk result (λ s. IsRun config flash.image list.now s.flash.image s.replies) }
     ensures shape { IfOk result (λ s. s.flash.shape ≡ shape_of config) }
+    ensures extras { IfOk result (λ s. s.flash.extras ≡ flash.extras) }
     ensures err { IfErr result (StopsBy (RefusesDevice config flash.image)) }
 {
     match config.protocol {
@@ -127,6 +114,7 @@ fn served_by<R: CommitRule>(
     requires suits { All (Suits config.page_bytes) list.now }
     ensures run { IfOk result (λ s. IsRun config flash.image list.now s.flash.image s.replies) }
     ensures shape { IfOk result (λ s. s.flash.shape ≡ shape_of config) }
+    ensures extras { IfOk result (λ s. s.flash.extras ≡ flash.extras) }
     ensures err { IfErr result (StopsBy (RefusesDevice config flash.image)) }
 {
     let mut replies = Lines::new(alloc);
@@ -134,7 +122,8 @@ fn served_by<R: CommitRule>(
     match done {
         Ok(()) => Ok(ServedFlash { flash, replies }),
         Err(ServeError::Unsound { law, slot }) => {
-            Err(Stop::Refused(Refusal::Unsound { law, slot }))
+            let breach = Breach { law, slot };
+            Err(Stop::Refused(Refusal::Image(ImageRefusal::Unsound(breach))))
         }
         Err(ServeError::Memory) => Err(Stop::Memory),
     }
@@ -226,7 +215,8 @@ fn opened<R: CommitRule>(
     match Device::mount(alloc, flash, config) {
         Ok(device) => Ok(device),
         Err((_, MountError::Unsound { law, slot })) => {
-            Err(Stop::Refused(Refusal::Unsound { law, slot }))
+            let breach = Breach { law, slot };
+            Err(Stop::Refused(Refusal::Image(ImageRefusal::Unsound(breach))))
         }
         Err((_, MountError::Memory)) => Err(Stop::Memory),
         Err((_, MountError::Fault)) => unreachable!(),

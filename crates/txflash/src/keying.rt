@@ -10,16 +10,15 @@ ghost use Rattle.txflash.specs.Steps.{Keying};
 ghost use Rattle.txflash.specs.Stops.{RefusesScript, RefusesStore, StopsBy, Works, WorksTo};
 ghost use Rattle.txflash.specs.Words.{Keys};
 
-use crate::devices::read_device;
 use crate::product::{File, Product, Stop, Text};
 use crate::refusal::Refusal;
-use crate::tasks::fetch;
 use bpcc_commit::Bpcc;
 use desk_io::Desk;
+use image_desk::{ImageRefusal, fetch, read_device};
 use image_file::into_image;
 use mem_flash::MemFlash;
 use page_keys::{KeyCommand, KeyServeError, KeyTextError, key_serve, parse_keys};
-use record_list::CommitRule;
+use record_list::{Breach, CommitRule};
 use scc_commit::Scc;
 use std::alloc::Global;
 use tx_types::{Config, Protocol};
@@ -92,6 +91,7 @@ fn served_keys(
     ensures run { IfOk result (λ s.
         IsKeysRun config flash.image list.now s.flash.image s.replies.items) }
     ensures shape { IfOk result (λ s. s.flash.shape ≡ shape_of config) }
+    ensures extras { IfOk result (λ s. s.flash.extras ≡ flash.extras) }
     ensures err { IfErr result (StopsBy (RefusesStore config flash.image)) }
 {
     match config.protocol {
@@ -114,6 +114,7 @@ fn served_keys_by<R: CommitRule>(
     ensures run { IfOk result (λ s.
         IsKeysRun config flash.image list.now s.flash.image s.replies.items) }
     ensures shape { IfOk result (λ s. s.flash.shape ≡ shape_of config) }
+    ensures extras { IfOk result (λ s. s.flash.extras ≡ flash.extras) }
     ensures err { IfErr result (StopsBy (RefusesStore config flash.image)) }
 {
     let mut replies = Vec::new(alloc);
@@ -121,7 +122,8 @@ fn served_keys_by<R: CommitRule>(
     match done {
         Ok(()) => Ok(KeptKeys { flash, replies }),
         Err(KeyServeError::Unsound { law, slot }) => {
-            Err(Stop::Refused(Refusal::Unsound { law, slot }))
+            let breach = Breach { law, slot };
+            Err(Stop::Refused(Refusal::Image(ImageRefusal::Unsound(breach))))
         }
         Err(KeyServeError::Bucket(page)) => Err(Stop::Refused(Refusal::BadBucket(page))),
         Err(KeyServeError::Memory) => Err(Stop::Memory),

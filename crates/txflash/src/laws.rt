@@ -3,7 +3,7 @@
 ghost use Rattle.std.specs.Prelude.{◌≡◌, ◌<◌, ℕ, Bool, false, List, All, Result, Ok};
 ghost use Rattle.tx_types.specs.declared.config.Config.{Config};
 ghost use Rattle.tx_types.specs.Config.{shape_of};
-ghost use Rattle.flash_model.specs.Flash.{Contents, Extras, no_extras};
+ghost use Rattle.flash_model.specs.Flash.{Contents, Extras};
 ghost use Rattle.flash_model.specs.Operations.{Moment};
 ghost use Rattle.version_index.specs.Images.{IsSoundImage, array_in};
 ghost use Rattle.tx_engine.specs.ArrayState.{idle};
@@ -13,13 +13,13 @@ ghost use Rattle.host_protocol.specs.declared.command.Command.{Command};
 ghost use Rattle.host_protocol.specs.declared.reply.Reply.{Reply};
 ghost use Rattle.image_file.specs.Spelling.{Spells};
 ghost use Rattle.image_file.specs.declared.error.ImageError.{ImageError};
+ghost use Rattle.image_desk.specs.Loading.{ReadsImage};
 ghost use Rattle.cut_replay.specs.Bounds.{AreFew};
 ghost use Rattle.cut_replay.specs.FlashRun.{Point, IsFlashRun, mentions_in};
 ghost use Rattle.cut_replay.specs.FlashRun.{opening_state, last_state};
 ghost use Rattle.cut_replay.specs.Run.{is_arm};
 ghost use Rattle.cut_replay.specs.Unbroken.{UnbrokenRun, AreMaybeSpent, FinishesAreDone};
 ghost use Rattle.txflash.specs.Runs.{IsRun, first_moment, machine_left};
-ghost use Rattle.txflash.specs.Steps.{ReadsImage};
 
 use image_file::spelled_images;
 
@@ -54,10 +54,10 @@ pub fn saved_images()
         (cs : List Command) (text : List ℕ) →
         (run : IsRun its image cs left text) → All (λ c. is_arm c ≡ false) cs →
         array_in its.protocol its.logical left ≡ (machine_left run).pages }
-    ensures read { (its : Config) (left : List Contents) (bytes : List ℕ)
+    ensures read { (its : Config) (left : List Contents) (extras : Extras) (bytes : List ℕ)
         (read : Result (Config × List Contents × Extras) ImageError) →
-        All (λ b. b < 256) bytes → Spells bytes its left → ReadsImage bytes read →
-        read ≡ Ok (its, left, no_extras) }
+        All (λ b. b < 256) bytes → Spells bytes its left extras → ReadsImage bytes read →
+        read ≡ Ok (its, left, extras) }
     ensures again { (its : Config) (image left last : List Contents)
         (cs ds : List Command) (text more : List ℕ) →
         (run : IsRun its image cs left text) → All (λ c. is_arm c ≡ false) cs →

@@ -21,11 +21,17 @@ mod top;
 mod words;
 
 use desk_io::RealDesk;
+use std::alloc::Global;
 use std::env;
 use std::io::ErrorKind;
 use std::process::ExitCode;
 
+/// Bytes of a piece of memory that is taken and given back untouched. It is the greatest that counts for the C
+/// library, its own notes included.
+const FREED_BYTES: usize = (1 << 25) - (1 << 16);
+
 fn main(rt: HostRuntime) -> ExitCode {
+    keep_freed(rt.alloc());
     let args = match env::args(&rt) {
         Ok(args) => args,
         Err(error) => return ExitCode::from(unread(error.kind())),
@@ -38,6 +44,13 @@ fn main(rt: HostRuntime) -> ExitCode {
     }
     let mut desk = RealDesk::new(&rt);
     ExitCode::from(top::top(rt.alloc(), &words, &mut desk))
+}
+
+/// Lets the C library keep memory that is freed: it gives back to the system what is free beyond twice the largest
+/// piece that ever was. A device that is mounted again takes the same tables once more.
+#[inline(never)]
+fn keep_freed(alloc: Global) {
+    let _ = Vec::<u8>::with_capacity(alloc, FREED_BYTES);
 }
 
 /// The status where the words cannot be read: 6 where there is no memory for them, else 1.

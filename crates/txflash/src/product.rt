@@ -1,9 +1,10 @@
 ghost use Rattle.std.specs.Prelude.{◌≡◌};
-ghost use Rattle.txflash.specs.Stops.{bytes_of};
+ghost use Rattle.txflash.specs.Stops.{bytes_of, stop_of};
 ghost use Rattle.txflash.specs.declared.product.Stop.TheVariants as stop;
 
 use crate::refusal::Refusal;
 use cut_replay::Lines;
+use image_desk::ImageStop;
 use std::alloc::AllocError;
 use tx_types::Memory;
 
@@ -49,6 +50,18 @@ pub enum Stop<'a> {
     /// The desk met a fault.
     Fault,
     Memory,
+}
+
+impl<'a> From<ImageStop<'a>> for Stop<'a> {
+    ghost from_gives = { λ stopped e. e ≡ stop_of stopped };
+
+    fn from(stopped: ImageStop<'a>) -> Self {
+        match stopped {
+            ImageStop::Refused(refusal) => Stop::Refused(Refusal::Image(refusal)),
+            ImageStop::Fault => Stop::Fault,
+            ImageStop::Memory => Stop::Memory,
+        }
+    }
 }
 
 impl From<Memory> for Stop<'_> {

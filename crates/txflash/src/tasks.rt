@@ -1,19 +1,21 @@
 ghost use Rattle.std.specs.Prelude.{◌≡◌, ◌≤◌, ◌++◌, Some, IfOk, codes, length};
 ghost use Rattle.std.specs.Fmt.{decimal};
 ghost use Rattle.desk_io.specs.Desk.{DeskState, max_file_bytes};
-ghost use Rattle.txflash.specs.Fate.{Driven, line};
+ghost use Rattle.image_desk.specs.Refusals.{line};
+ghost use Rattle.txflash.specs.Fate.{Driven};
 ghost use Rattle.txflash.specs.Steps.{Explaining, Running, Trying, formatting};
-ghost use Rattle.txflash.specs.Stops.{Fetches, Works, WorksTo};
+ghost use Rattle.txflash.specs.Stops.{Works, WorksTo};
 ghost use Rattle.txflash.specs.Words.{Drive, Explain, Format, Run, Try};
 ghost use Rattle.tx_types.specs.Config.{checked};
 
 use crate::devices::{
-    ServedFlash, blank_flash, default_config, explained, read_commands, read_device, served,
+    ServedFlash, blank_flash, default_config, explained, read_commands, served,
 };
 use crate::product::{File, Product, Stop, Text};
 use crate::refusal::Refusal;
-use desk_io::{Desk, LoadError};
+use desk_io::Desk;
 use drive_gen::{commands, summary};
+use image_desk::{fetch, read_device};
 use image_file::{blank_image, into_image};
 use std::alloc::{AllocError, Global};
 use tx_types::{Config, Protocol};
@@ -54,18 +56,6 @@ pub fn to_explain<'a, D: Desk>(
 {
     let bytes = fetch(image, desk)?;
     reported(alloc, bytes)
-}
-
-/// The bytes of a file.
-pub fn fetch<'a, D: Desk>(name: &'a str, desk: &mut D) -> Result<Vec<u8>, Stop<'a>>
-    ensures { Fetches (D.state desk.old) (D.state desk.new) name.now result }
-{
-    desk.load(name).map_err(|error| match error {
-        LoadError::Missing => Stop::Refused(Refusal::Missing(name)),
-        LoadError::TooLong => Stop::Refused(Refusal::TooLong(name)),
-        LoadError::Failed => Stop::Fault,
-        LoadError::Memory => Stop::Memory,
-    })
 }
 
 /// What a try gives, from the bytes of its commands on.
@@ -123,7 +113,7 @@ pub fn formatted<'a>(alloc: Global, name: &'a str, config: Config) -> Result<Pro
         Ok(shape) => shape,
         Err(rule) => return Err(Stop::Refused(Refusal::BadConfiguration(rule))),
     };
-    let bytes = blank_image(alloc, &config, shape)?;
+    let bytes = blank_image(alloc, &config, shape, 0)?;
     let line = formatted_line(alloc, name, shape.slots())?;
     Ok(Product {
         saved: Some(File { name, bytes }),

@@ -1,7 +1,6 @@
-ghost use Rattle.std.specs.Prelude.{◌≡◌, codes};
+ghost use Rattle.std.specs.Prelude.{◌≡◌};
 ghost use Rattle.desk_io.specs.Desk.{Rose};
-ghost use Rattle.txflash.specs.Fate.{line};
-ghost use Rattle.txflash.specs.Stops.{Delivers, FaultTold, MemoryTold, Speaks, Works, given_of};
+ghost use Rattle.txflash.specs.Stops.{Delivers, Works, given_of};
 ghost use Rattle.txflash.specs.Top.{EndsCall, IsExact, LeavesFiles};
 ghost use Rattle.txflash.specs.Words.{asked_by};
 
@@ -13,6 +12,7 @@ use crate::refusal::Refusal;
 use crate::tasks::{driven, formatted, to_explain, to_run, to_try};
 use crate::words::{Task, asked};
 use desk_io::{Desk, SinkError};
+use image_desk::{ImageRefusal, desk_fault, no_memory, refuse, say};
 use std::alloc::Global;
 
 // What the clauses cite by name.
@@ -42,10 +42,7 @@ fn run<D: Desk>(alloc: Global, words: &[String], desk: &mut D) -> u8
 {
     match work(alloc, words, desk) {
         Ok(product) => deliver(desk, &product),
-        Err(Stop::Refused(refusal)) => match refusal.line(alloc) {
-            Ok(line) => say(desk, line.as_bytes(), refusal.status()),
-            Err(_) => no_memory(desk),
-        },
+        Err(Stop::Refused(refusal)) => refuse(desk, refusal.line(alloc), refusal.status()),
         Err(Stop::Fault) => desk_fault(desk),
         Err(Stop::Memory) => no_memory(desk),
     }
@@ -74,7 +71,7 @@ fn work<'a, D: Desk>(
         Some(Task::Check { image, report }) => to_check(alloc, image, report, desk),
         Some(Task::Compare { first, second }) => to_compare(alloc, first, second, desk),
         Some(Task::Keys { image, script }) => to_keys(alloc, image, script, desk),
-        None => Err(Stop::Refused(Refusal::BadWords)),
+        None => Err(Stop::Refused(Refusal::Image(ImageRefusal::BadWords))),
     }
 }
 
@@ -90,34 +87,4 @@ fn deliver<D: Desk>(desk: &mut D, product: &Product) -> u8
         }
     }
     say(desk, product.text.as_slice(), 0)
-}
-
-/// Says a text, if there is one, and answers the status.
-fn say<D: Desk>(desk: &mut D, text: &[u8], status: u8) -> u8
-    ensures { Speaks (D.state desk.old) (D.state desk.new) text.now status result }
-{
-    if text.is_empty() {
-        return status;
-    }
-    match desk.say(text) {
-        Ok(()) => status,
-        Err(SinkError::Failed) => desk_fault(desk),
-        Err(SinkError::Memory) => no_memory(desk),
-    }
-}
-
-/// Attempts to say that the desk met a fault.
-fn desk_fault<D: Desk>(desk: &mut D) -> u8
-    ensures { FaultTold (D.state desk.old) (D.state desk.new) result }
-{
-    let _ = desk.say(b"desk fault\n");
-    5
-}
-
-/// Attempts to say that there was no memory.
-fn no_memory<D: Desk>(desk: &mut D) -> u8
-    ensures { MemoryTold (D.state desk.old) (D.state desk.new) result }
-{
-    let _ = desk.say(b"no memory\n");
-    6
 }

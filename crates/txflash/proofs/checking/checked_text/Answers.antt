@@ -1,8 +1,12 @@
 use Rattle.std.proofs.Common.{refl, Ok}
 use Rattle.txflash.specs.Fate.{Good}
 use Rattle.txflash.specs.Steps.{Checking, Judging}
-use Rattle.txflash.proofs.Works.{stopped}
+use Rattle.txflash.proofs.Works.{stopped, unread_image}
 use Rattle.txflash.proofs.checking.checked_text.Goals as goal
+
+pub returns-in_err-config : goal.returns-in_err-config
+returns-in_err-config c =
+    unread_image c.args.bytes.items _ c.from_residual.result c.in_err-config.field-0.0 c.from_residual.ensures.1 c.in_err-config.ensures.err
 
 pub returns-in_err-pages : goal.returns-in_err-pages
 returns-in_err-pages c =

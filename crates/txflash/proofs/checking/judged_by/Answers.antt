@@ -3,6 +3,7 @@ use Rattle.txflash.specs.Checking.{ChecksList}
 use Rattle.txflash.specs.Fate.{Good}
 use Rattle.txflash.specs.Steps.{Judging}
 use Rattle.txflash.specs.Stops.{RefusesDevice}
+use Rattle.txflash.specs.declared.product.Stop.TheVariants as stop
 use Rattle.txflash.proofs.Findings.{few_pages, judging, judging_device, leads_err, leads_ok, leads_stop, own_pages, scanned_list}
 use Rattle.txflash.proofs.checking.judged_by.Goals as goal
 
@@ -45,3 +46,8 @@ returns-clause-err g c =
     leads_err (ChecksList its.protocol list its.logical text) (Judging its image text)
     (judging its image text list c.in_ok-device.ensures.sound (c.deref.ensures.value ∙ c.in_ok-found.ensures ∙ c.in_ok-device.ensures.list))
     c.judgement.result c.judgement.ensures.err
+
+pub returns-in_err-found-clause-err : goal.returns-in_err-found-clause-err
+returns-in_err-found-clause-err g c =
+    let judging_of = Judging c.args.config c.args.flash.image c.args.text.now in
+    leads_stop judging_of judging_of (λ fate h. h) c.from_residual-in_err-found.result stop.Memory c.from_residual-in_err-found.ensures.1 tt

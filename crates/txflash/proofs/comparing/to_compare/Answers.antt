@@ -1,9 +1,11 @@
-use Rattle.std.proofs.Common.{inl, inr, [], ◌∷◌, refl, ap, arith, Ok, Err, Some, ◌∙◌}
+use Rattle.std.proofs.Common.{◌≡◌, inl, inr, [], ◌∷◌, refl, ap, arith, Ok, Err, Some, ◌∙◌}
 use Rattle.desk_io.specs.Desk.{Bytes, Missing, TooLong, after_answer, as_before}
 use Rattle.txflash.specs.Steps.{Comparing, Reading}
-use Rattle.txflash.specs.Stops.{RefusesImage}
+use Rattle.image_desk.specs.Loading.{RefusesImage}
+use Rattle.image_desk.specs.Refusals.{ImageFate}
+use Rattle.txflash.specs.Fate.{Fate, Image}
 use Rattle.txflash.specs.Words.{Compare}
-use Rattle.txflash.proofs.Works.{finds_before, found_more, found_none, stopped, unfetched, works}
+use Rattle.txflash.proofs.Works.{finds_before, found_more, found_none, unfetched, unread, works}
 use Rattle.txflash.proofs.comparing.to_compare.Goals as goal
 
 pub returns-in_err-bytes : goal.returns-in_err-bytes
@@ -20,11 +22,12 @@ returns-in_err-config g c =
     let fetched = c.in_ok-bytes.ensures in
     let bytes = c.in_ok-bytes.bytes.items in
     works (Some (Compare c.args.first.now c.args.second.now)) old (g.D.Desk.state c.fetch.new.desk) 1
-    (RefusesImage bytes) c.from_residual-in_err-config.result fetched.1 (inl refl)
+    (λ (fate : Fate). (why : ImageFate) × RefusesImage bytes why × (fate ≡ Image why)) c.from_residual-in_err-config.result fetched.1 (inl refl)
     (found_more old c.args.first.now bytes [] fetched.0 (found_none old))
-    (λ fate h. (Bytes bytes, fetched.0, (0, (Err h.0, h.1, (h.2, refl)), refl)))
-    (stopped (RefusesImage bytes) (RefusesImage bytes) c.from_residual-in_err-config.result c.in_err-config.field-0.0
-    c.from_residual-in_err-config.ensures.1 (λ fate h. h) c.in_err-config.ensures.err)
+    (λ fate h. (Bytes bytes, fetched.0, (0, (Err h.1.0, h.1.1, (h.2 ∙ ap Image h.1.2, refl)), refl)))
+    (unread (RefusesImage bytes) (λ (fate : Fate). (why : ImageFate) × RefusesImage bytes why × (fate ≡ Image why))
+    c.from_residual-in_err-config.result c.in_err-config.field-0.0 c.from_residual-in_err-config.ensures.1 (λ why h. (why, h, refl))
+    c.in_err-config.ensures.err)
 
 pub returns-in_err-others : goal.returns-in_err-others
 returns-in_err-others g c =
@@ -67,7 +70,7 @@ returns g c =
     let others = c.in_ok-others.others.items in
     let found = finds_before old mid second (Bytes others) fetched.1 again.0 in
     works (Some (Compare c.args.first.now second)) old new 2
-    (Reading others (λ b other. Comparing its flash.image b other)) c.compared_with.result (again.1 ∙ ap (after_answer as_before) fetched.1) (inr refl)
+    (Reading others (λ b other more. Comparing its flash.image b other)) c.compared_with.result (again.1 ∙ ap (after_answer as_before) fetched.1) (inr refl)
     (found_more old c.args.first.now bytes (second ∷ []) fetched.0 (found_more old second others [] found (found_none old)))
     (λ fate h. (
       Bytes bytes,

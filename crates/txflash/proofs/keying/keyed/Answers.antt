@@ -3,8 +3,12 @@ use Rattle.txflash.specs.Fate.{Keyed}
 use Rattle.txflash.specs.Steps.{Keying}
 use Rattle.txflash.specs.Stops.{RefusesScript, RefusesStore}
 use Rattle.txflash.proofs.KeyFates.{keying_done, keying_line, keying_store, keys_held}
-use Rattle.txflash.proofs.Works.{stopped}
+use Rattle.txflash.proofs.Works.{stopped, unread_image}
 use Rattle.txflash.proofs.keying.keyed.Goals as goal
+
+pub returns-in_err-config : goal.returns-in_err-config
+returns-in_err-config c =
+    unread_image c.args.bytes.items _ c.from_residual.result c.in_err-config.field-0.0 c.from_residual.ensures.1 c.in_err-config.ensures.err
 
 pub returns-in_err-list : goal.returns-in_err-list
 returns-in_err-list c =
@@ -33,7 +37,7 @@ returns c =
     let list = c.in_ok-list.list.items in
     let run = rw c.deref.ensures.value at c.in_ok-flash.ensures.run in
     let held = keys_held its image list _ _ run in (
-      Keyed c.args.name.now its image list,
+      Keyed c.args.name.now its image c.in_ok-config.flash.extras list,
       keying_done c.args.name.now c.args.bytes.items c.args.lines.now its image
           c.in_ok-config.flash.extras c.in_ok-config.ensures.read list c.in_ok-list.ensures.script
           held.0 held.1,
@@ -43,6 +47,6 @@ returns c =
         saves = refl;
         left = c.in_ok-flash.field-0.flash.image;
         run = run;
-        spelled = c.in_ok-saved.ensures;
+        spelled = rw c.in_ok-flash.ensures.extras at c.in_ok-saved.ensures;
       },
     )

@@ -3,8 +3,12 @@ use Rattle.txflash.specs.Fate.{Ran}
 use Rattle.txflash.specs.Steps.{Running}
 use Rattle.txflash.specs.Stops.{RefusesDevice, RefusesLine}
 use Rattle.txflash.proofs.Parts.{running_device, running_done, running_line}
-use Rattle.txflash.proofs.Works.{stopped}
+use Rattle.txflash.proofs.Works.{stopped, unread_image}
 use Rattle.txflash.proofs.tasks.ran.Goals as goal
+
+pub returns-in_err-config : goal.returns-in_err-config
+returns-in_err-config c =
+    unread_image c.args.bytes.items _ c.from_residual.result c.in_err-config.field-0.0 c.from_residual.ensures.1 c.in_err-config.ensures.err
 
 pub returns-in_err-list : goal.returns-in_err-list
 returns-in_err-list c =
@@ -29,7 +33,7 @@ returns c =
     let image = c.in_ok-config.flash.image in
     let list = c.in_ok-list.list.items in
     let is_run = rw c.deref.ensures.value at c.in_ok-flash.ensures.run in (
-      Ran c.args.name.now its image list,
+      Ran c.args.name.now its image c.in_ok-config.flash.extras list,
       running_done c.args.name.now c.args.bytes.items c.args.lines.now its image c.in_ok-config.flash.extras list c.in_ok-config.ensures.read c.in_ok-list.ensures.file is_run.sound,
       refl,
       record {
@@ -37,6 +41,6 @@ returns c =
         saves = refl;
         left = c.in_ok-flash.field-0.flash.image;
         run = is_run;
-        spelled = c.in_ok-saved.ensures;
+        spelled = rw c.in_ok-flash.ensures.extras at c.in_ok-saved.ensures;
       },
     )

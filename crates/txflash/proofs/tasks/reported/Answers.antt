@@ -3,8 +3,12 @@ use Rattle.txflash.specs.Fate.{Explained}
 use Rattle.txflash.specs.Steps.{Explaining}
 use Rattle.txflash.specs.Stops.{RefusesDevice}
 use Rattle.txflash.proofs.Parts.{explaining_device, explaining_done}
-use Rattle.txflash.proofs.Works.{stopped}
+use Rattle.txflash.proofs.Works.{stopped, unread_image}
 use Rattle.txflash.proofs.tasks.reported.Goals as goal
+
+pub returns-in_err-config : goal.returns-in_err-config
+returns-in_err-config c =
+    unread_image c.args.bytes.items _ c.from_residual.result c.in_err-config.field-0.0 c.from_residual.ensures.1 c.in_err-config.ensures.err
 
 pub returns-in_err-report : goal.returns-in_err-report
 returns-in_err-report c =

@@ -1,0 +1,13 @@
+//! What the programs share that load image files from a desk: how a file is loaded and read, why a call
+//! is refused, and how that is said.
+#![tactic(auto)]
+
+mod loading;
+mod refusal;
+mod saying;
+mod stop;
+
+pub use loading::{fetch, read_device};
+pub use refusal::ImageRefusal;
+pub use saying::{desk_fault, no_memory, refuse, say};
+pub use stop::ImageStop;
