@@ -25,7 +25,7 @@ impl Records {
     pub fn new(alloc: Global, list: &[Found]) -> Result<Records, Memory>
         ensures { IfOk result (λ r. Sorts list.now r.chart) }
     {
-        let chart = Chart::new(alloc, Vec::from_slice(alloc, list)?)?;
+        let chart = Chart::of(alloc, list)?;
         let newest = newest_records(alloc, chart.records())?;
         Ok(Records { chart, newest })
     }
