@@ -10,6 +10,8 @@ MAX_FILE = 134217728
 MAX_SLOTS = 65536
 SPARE = 64
 HEADER = struct.Struct("<8s7I28s")
+EXTRAS = struct.Struct("<2I20s")
+MOST_ALLOWED = 1024
 RECORD = struct.Struct("<4sBBHIIQQQI20s")
 MOST_PAGES = 256
 
@@ -62,9 +64,16 @@ class Slot(NamedTuple):
     cell: bytes
 
 
+class Extras(NamedTuple):
+    """How many blocks may be retired, and how many are."""
+    allowance: int = 0
+    retired: int = 0
+
+
 class Image(NamedTuple):
     config: Config
     slots: List[Slot]
+    extras: Extras = Extras()
 
 
 class Refused(NamedTuple):
@@ -87,29 +96,43 @@ def broken_rule(config: Config) -> Optional[str]:
     return next((word for word, holds in rules if not holds), None)
 
 
-def read_header(data: bytes) -> Union[Config, Refused]:
+def read_extras(magic: bytes, rest: bytes) -> Union[Extras, Refused]:
+    """What the rest of a header says of retired blocks."""
+    if magic == b"TXFLASH1":
+        return Refused("reserved") if any(rest) else Extras()
+    allowance, retired, reserved = EXTRAS.unpack(rest)
+    if any(reserved):
+        return Refused("reserved")
+    if not 1 <= allowance <= MOST_ALLOWED or retired > allowance:
+        return Refused("allowance")
+    return Extras(allowance, retired)
+
+
+def read_header(data: bytes) -> Union[Tuple[Config, Extras], Refused]:
     if len(data) < HEADER.size:
         return Refused("short")
-    magic, *numbers, reserved = HEADER.unpack_from(data)
+    magic, *numbers, rest = HEADER.unpack_from(data)
     config = Config(*numbers)
-    if magic != b"TXFLASH1":
+    if magic not in (b"TXFLASH1", b"TXFLASH2"):
         return Refused("magic")
     if config.protocol not in PROTOCOLS:
         return Refused("protocol")
-    if any(reserved):
-        return Refused("reserved")
+    extras = read_extras(magic, rest)
+    if isinstance(extras, Refused):
+        return extras
     if broken_rule(config):
         return Refused("config")
     if len(data) != config.file_bytes:
         return Refused("length")
-    return config
+    return config, extras
 
 
 def read_image(data: bytes) -> Union[Image, Refused]:
     """The image, or the first rule that is broken."""
-    config = read_header(data)
-    if isinstance(config, Refused):
-        return config
+    header = read_header(data)
+    if isinstance(header, Refused):
+        return header
+    config, extras = header
     states = data[HEADER.size:HEADER.size + config.slots]
     for slot, state in enumerate(states):
         if state not in (BLANK, COMPLETE, DAMAGED):
@@ -119,7 +142,7 @@ def read_image(data: bytes) -> Union[Image, Refused]:
     for slot, (state, cell) in enumerate(slots):
         if state != COMPLETE and cell != empty_cell(config, state):
             return Refused(f"bytes {slot}")
-    return Image(config, slots)
+    return Image(config, slots, extras)
 
 
 def empty_cell(config: Config, state: int) -> bytes:
@@ -127,11 +150,13 @@ def empty_cell(config: Config, state: int) -> bytes:
 
 
 def spell_image(image: Image) -> bytes:
-    return spell_header(image.config) + bytes(it.state for it in image.slots) + b"".join(it.cell for it in image.slots)
+    return spell_header(image.config, image.extras) + bytes(it.state for it in image.slots) + b"".join(it.cell for it in image.slots)
 
 
-def spell_header(config: Config) -> bytes:
-    return HEADER.pack(b"TXFLASH1", *config, bytes(28))
+def spell_header(config: Config, extras: Extras = Extras()) -> bytes:
+    if extras.allowance == 0:
+        return HEADER.pack(b"TXFLASH1", *config, bytes(28))
+    return HEADER.pack(b"TXFLASH2", *config, EXTRAS.pack(*extras, bytes(20)))
 
 
 def blank_image(config: Config) -> Image:

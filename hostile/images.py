@@ -2,7 +2,7 @@
 import random
 from typing import Callable, List, NamedTuple, Optional, Tuple
 
-from image import (BLANK, BPCC, COMPLETE, DAMAGED, HEADER, LAST_VERSION, SCC, SPARE, Config, Image, Record, Slot,
+from image import (BLANK, BPCC, COMPLETE, DAMAGED, EXTRAS, HEADER, LAST_VERSION, MOST_ALLOWED, SCC, SPARE, Config, Image, Record, Slot,
                    blank_image, complete, empty_cell, spell_image)
 from laws import Placed, Records, read_records, scan
 
@@ -296,6 +296,18 @@ def changed_number(draw: Draw) -> bytes:
     return data
 
 
+def second_magic(draw: Draw) -> bytes:
+    """The header says how many blocks may be retired and how many are, sometimes too many or none."""
+    data = spell_image(base_image(draw))
+    numbers = HEADER.unpack_from(data)[1:-1]
+    allowance = draw.choice((0, 1, 2, 515, MOST_ALLOWED, MOST_ALLOWED + 1, draw.randrange(1, MOST_ALLOWED), 2 ** 32 - 1))
+    retired = draw.choice((0, 0, 1, allowance, allowance, (allowance + 1) % 2 ** 32, draw.randrange(allowance + 1)))
+    rest = bytearray(20)
+    if draw.random() < 0.15:
+        rest[draw.randrange(20)] = draw.choice((1, 255))
+    return HEADER.pack(b"TXFLASH2", *numbers, EXTRAS.pack(allowance, retired, bytes(rest))) + data[HEADER.size:]
+
+
 def other_length(draw: Draw) -> bytes:
     data = spell_image(base_image(draw))
     how = draw.random()
@@ -347,6 +359,7 @@ KINDS: List[Tuple[float, str, Callable[[Draw], object]]] = [
     (0.02, "crowded", crowded_image),
     (0.17, "changed bytes", changed_bytes),
     (0.05, "changed number", changed_number),
+    (0.08, "second magic", second_magic),
     (0.05, "other length", other_length),
     (0.028, "last versions", last_versions),
     (0.002, "long walk", long_walk),

@@ -61,6 +61,7 @@ class Served:
         need(left.status == 0, f"the saved image is refused: {left.said[:100]}")
         assert left.image and left.records
         need(left.image.config == old.config, "the saved image has another configuration")
+        need(left.image.extras == old.extras, "the saved image has other retired blocks")
         need(self.counts.calls is None or self.counts.broken is None or
              is_moved(old, left.image, self.counts.programs, self.counts.erases, self.counts.broken),
              "more slots have changed than the programs and erases of `stats` can change")

@@ -273,5 +273,6 @@ def check_keys(data: bytes, script: bytes, status: int, said: str, left: bytes) 
     need(after.status == 0 and after.image is not None, f"the saved image: {after.said}")
     assert after.image and after.records and reading.image
     need(after.image.config == reading.image.config, "another configuration is saved")
+    need(after.image.extras == reading.image.extras, "other retired blocks are saved")
     need(map_of(after.records.array(), after.image.config) in machine.maps, "another map is saved")
     return "status 0"

@@ -305,7 +305,7 @@ def work(job: Job) -> Found:
     return Found(sweeper.counts, sweeper.differ, sweeper.slowest)
 
 
-RULES = ("short", "magic", "protocol", "reserved", "config", "length", "state", "bytes")
+RULES = ("short", "magic", "protocol", "reserved", "allowance", "config", "length", "state", "bytes")
 LAWS = [f"law {law} {protocol}" for protocol, laws in (("scc", (1, 2, 3, 5, 8)), ("bpcc", range(1, 9))) for law in laws]
 
 
