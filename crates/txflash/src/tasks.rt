@@ -8,9 +8,7 @@ ghost use Rattle.txflash.specs.Stops.{Works, WorksTo};
 ghost use Rattle.txflash.specs.Words.{Drive, Explain, Format, Run, Try};
 ghost use Rattle.tx_types.specs.Config.{checked};
 
-use crate::devices::{
-    ServedFlash, blank_flash, default_config, explained, read_commands, served,
-};
+use crate::devices::{ServedFlash, blank_flash, default_config, explained, read_commands, served};
 use crate::product::{File, Product, Stop, Text};
 use crate::refusal::Refusal;
 use desk_io::Desk;
