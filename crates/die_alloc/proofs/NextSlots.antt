@@ -1,14 +1,15 @@
 -- What is known of the slot that is programmed next.
-use Rattle.std.proofs.Common.{◌≡◌, ℕ, ◌+◌, ◌*◌, ◌-◌, ◌/◌, ◌<◌, ◌≤◌, ◌↔◌, inl, inr, Option, Some, None, refl, sym, ◌∙◌, arith}
+use Rattle.std.proofs.Common.{◌≡◌, ℕ, ◌+◌, ◌*◌, ◌-◌, ◌/◌, ◌<◌, ◌≤◌, ◌↔◌, inl, inr, Option, Some, None, refl, sym, ap, ◌∙◌, arith}
 use Rattle.std.specs.List.{range_with_len}
 use Rattle.std.specs.Option.{IsNone, option_or}
-use Rattle.std.proofs.Math.Nat.{mul_comm}
+use Rattle.std.proofs.Math.Nat.{mul_comm, div-eq_of_lt-le}
 use Rattle.std.proofs.lemmas.Bool.{cases_lt}
 use Rattle.std.proofs.lemmas.Nat.{div_below, div-add-mod', mod_below, mul-add-lt, div-mul-add, mod-mul-add}
 use Rattle.list_facts.proofs.Options.{option_or_some, option_or_none}
 use Rattle.tx_types.specs.Config.{IsShape, blocks_of}
 use Rattle.tx_types.specs.declared.config.Shape.{Shape}
-use Rattle.die_alloc.specs.BlockTable.{BlockTable, IsBlockTable, used_of, HasRoom, IsFull, IsFirstFree, block_of_slot}
+use Rattle.flash_model.specs.Operations.{die_of}
+use Rattle.die_alloc.specs.BlockTable.{BlockTable, IsBlockTable, used_of, HasRoom, IsFull, IsFullIn, IsFirstFree, block_of_slot}
 use Rattle.die_alloc.specs.NextSlot.{first_answer, open_block, next_block, first_unused, die_after}
 use Rattle.die_alloc.proofs.FirstAnswers.{first_answer-append, answer_of_one, no_answer}
 use Rattle.die_alloc.proofs.OpenBlocks.{die_lies, open_block_has_room, no_open_block}
@@ -23,6 +24,40 @@ before_cursor t = first_answer (open_block t) (range_with_len 0 t.cursor)
 pub next_block_split : (t : BlockTable) → next_block t ≡ option_or (from_cursor t) (before_cursor t)
 unfolding next_block
 next_block_split t = first_answer-append (open_block t) (range_with_len t.cursor (t.shape.dies - t.cursor)) (range_with_len 0 t.cursor)
+
+-- the open block of a die is one of the table, lies in the die, and has room
+pub record Stands (t : BlockTable) (die block : ℕ) : Type 0 where
+  pub within : block < blocks_of t.shape
+  pub lies : block / t.shape.blocks_per_die ≡ die
+  pub room : HasRoom t block
+
+pub open_block_stands : (t : BlockTable) → IsBlockTable t → (die block : ℕ) → die < t.shape.dies → open_block t die ≡ Some block
+    → Stands t die block
+open_block_stands t h die block below e =
+    let found = open_block_has_room t h die block below e in
+    record {
+      within = omega (arith, found.1, rw h.count at (die_lies t h die below));
+      lies = div-eq_of_lt-le t.shape.blocks_per_die found.0 (omega (arith, found.1));
+      room = found.2;
+    }
+
+-- a die has none exactly where no block of it has room
+pub no_open_block_where_full : (t : BlockTable) → IsBlockTable t → (die : ℕ) → die < t.shape.dies → IsNone (open_block t die) ↔ IsFullIn t die
+no_open_block_where_full t h die below = by_block (open_block t die) refl
+  where
+    by_block : (o : Option ℕ) → open_block t die ≡ o → IsNone o ↔ IsFullIn t die
+    by_block None e = (
+      λ _ block within lies room.
+          let size = t.shape.blocks_per_die in
+          let split = div-add-mod' block size in
+          let rest = mod_below block size (omega (arith, h.numbers.blocks_least)) in
+          let low : die * size ≡ block / size * size = ap (λ d. d * size) (sym lies) in
+          no_open_block t h die block below e (omega (arith, split, low)) (omega (arith, split, rest, low)) room,
+      λ _. refl,
+    )
+    by_block (Some block) e =
+        let stands = open_block_stands t h die block below e in
+        (λ no. cc, λ full. absurd (full block stands.within stands.lies stands.room))
 
 -- the block that is programmed next is one of the table, and has room
 pub next_block_has_room : (t : BlockTable) → IsBlockTable t → (block : ℕ) → next_block t ≡ Some block
@@ -40,9 +75,7 @@ next_block_has_room t h block e =
     ]
   where
     from_die : (die : ℕ) → die < t.shape.dies → open_block t die ≡ Some block → (block < blocks_of t.shape) × HasRoom t block
-    from_die die below e =
-        let found = open_block_has_room t h die block below e in
-        (omega (arith, found.1, rw h.count at (die_lies t h die below)), found.2)
+    from_die die below e = let stands = open_block_stands t h die block below e in (stands.within, stands.room)
 
 -- where there is none, no block has room
 pub no_next_block : (t : BlockTable) → IsBlockTable t → next_block t ≡ None → IsFull t
@@ -86,6 +119,14 @@ first_unused_is_free t h block within room =
       };
       first = rw (lies, place) refl;
     }
+
+-- and lies in the die of its block
+pub die_of-first_unused : (t : BlockTable) → IsBlockTable t → (die block : ℕ) → Stands t die block
+    → die_of t.shape (first_unused t block).0 ≡ die
+die_of-first_unused t h die block stands =
+    ap (λ n. n / t.shape.blocks_per_die)
+    (div-mul-add block t.shape.pages_per_block _ (room_left t h block stands.within stands.room))
+    ∙ stands.lies
 
 -- no block is programmed next exactly where none has room
 pub no_block_where_full : (t : BlockTable) → IsBlockTable t → IsNone (next_block t) ↔ IsFull t

@@ -56,6 +56,11 @@ HasRoom t block = (block_state t block ≡ Clean) ⊎ (block_state t block ≡ P
 abbrev pub IsFull : BlockTable → Type 0
 IsFull t = (block : ℕ) → block < blocks_of t.shape → HasRoom t block → ⊥
 
+-- no block of this die has room
+abbrev pub IsFullIn : BlockTable → ℕ → Type 0
+IsFullIn t die =
+    (block : ℕ) → block < blocks_of t.shape → block / t.shape.blocks_per_die ≡ die → HasRoom t block → ⊥
+
 -- the block that a slot lies in
 abbrev pub block_of_slot : Shape → ℕ → ℕ
 block_of_slot s at = at / s.pages_per_block

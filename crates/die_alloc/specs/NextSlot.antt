@@ -58,6 +58,10 @@ first_unused t block = record { 0 = block * t.shape.pages_per_block + used_of t 
 unfoldable pub next_slot : BlockTable → Option Slot
 next_slot t = option_map (first_unused t) (next_block t)
 
+-- the slot of a die that is programmed next
+unfoldable pub next_slot_in : BlockTable → ℕ → Option Slot
+next_slot_in t die = option_map (first_unused t) (open_block t die)
+
 -- the die after the one that a block lies in, in cyclic order
 abbrev pub die_after : Shape → ℕ → ℕ
 die_after s block = (block / s.blocks_per_die + 1) % s.dies

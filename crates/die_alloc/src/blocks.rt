@@ -1,7 +1,8 @@
 ghost use Rattle.std.specs.Prelude.{◌≡◌, ◌≢◌, ◌-◌, ◌*◌, ◌/◌, ◌%◌, ◌<◌, ◌≤◌, ◌↔◌, IfOk, IfSome, IfNone, IsNone};
 ghost use Rattle.tx_types.specs.Config.{IsShape, slots_of, blocks_of};
-ghost use Rattle.die_alloc.specs.BlockTable.{IsBlockTable, MayHave, block_state, used_of, fresh_table, with_slot, with_use, table_with_spare, HasRoom, IsFree, IsFirstFree, IsFull};
-ghost use Rattle.die_alloc.specs.NextSlot.{next_slot, first_unused, next_block, open_block, die_after, after_next_slot, first_answer};
+ghost use Rattle.flash_model.specs.Operations.{die_of};
+ghost use Rattle.die_alloc.specs.BlockTable.{IsBlockTable, MayHave, block_state, used_of, fresh_table, with_slot, with_use, table_with_spare, HasRoom, IsFree, IsFirstFree, IsFull, IsFullIn};
+ghost use Rattle.die_alloc.specs.NextSlot.{next_slot, next_slot_in, first_unused, next_block, open_block, die_after, after_next_slot, first_answer};
 ghost use Rattle.std.specs.List.{range_with_len};
 
 use crate::block_use::BlockUse;
@@ -77,6 +78,22 @@ impl Blocks {
         Some(at)
     }
 
+    /// The slot of this die that is programmed next. Where each block of the die but the spare is shut there is
+    /// none. The cursor stays, as all else.
+    #[tactic(auto, unfolding(crate::specs::NextSlot::next_slot_in))]
+    pub fn next_slot_in(&mut self, die: u32) -> Option<Slot>
+        requires { die < self.old.shape.dies }
+        ensures slot { result ≡ next_slot_in self.old die }
+        ensures stays { self.new ≡ self.old }
+        ensures free { IfSome result (λ at. IsFirstFree self.new at.0) }
+        ensures die { IfSome result (λ at. die_of self.old.shape at.0 ≡ die) }
+        ensures full { IsNone result ↔ IsFullIn self.old die }
+        ensures table { IsBlockTable self.new }
+    {
+        let block = self.open_block(die)?;
+        Some(self.first_unused(block))
+    }
+
     /// The die after that of a block, in cyclic order.
     fn die_after(&self, block: u32) -> u32
         requires { block < blocks_of self.now.shape }
@@ -129,7 +146,8 @@ impl Blocks {
     /// The block of a die that has room: the lowest of the greatest rank.
     fn open_block(&self, die: u32) -> Option<u32>
         requires { die < self.now.shape.dies }
-        ensures { result ≡ open_block self.now die }
+        ensures block { result ≡ open_block self.now die }
+        ensures table { IsBlockTable self.now }
     {
         let place = self.ranks[die as usize].first_greatest()?;
         Some(die * self.shape.blocks_per_die + place as u32)

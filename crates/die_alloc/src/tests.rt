@@ -3,7 +3,7 @@ ghost use Rattle.std.specs.Prelude.{◌≡◌};
 use super::*;
 use std::test::Fail;
 use tx_types::BlockState::{Clean, Part, Shut, Spare};
-use tx_types::{Block, Shape};
+use tx_types::{Block, Shape, Slot};
 
 /// The next slot, which is used from then on.
 fn take(blocks: &mut Blocks) -> Option<u32>
@@ -38,6 +38,13 @@ fn slots_are_taken_die_after_die(rt: HostRuntime) -> Result<(), Fail> {
     blocks.set(Block(2), Part, 1);
     blocks.set(Block(1), Part, 3);
     blocks.set(Block(4), Shut, 0);
+    // The search in one die takes nothing.
+    let found = [
+        blocks.next_slot_in(0),
+        blocks.next_slot_in(1),
+        blocks.next_slot_in(0),
+    ];
+    assert_eq!(rt; found, [Some(Slot(7)), Some(Slot(20)), Some(Slot(7))]);
     for at in [7, 20, 9, 21, 10, 22, 11, 23, 0] {
         assert_eq!(rt; take(&mut blocks), Some(at));
     }
@@ -64,7 +71,9 @@ fn a_full_table_goes_on_with_another_spare(rt: HostRuntime) -> Result<(), Fail> 
     assert_eq!(rt; taken, [Some(0), Some(4), Some(1), Some(5), Some(2)]);
     assert_eq!(rt; (blocks.state(Block(0)), blocks.used(Block(0))), (Shut, 2));
     assert_eq!(rt; (blocks.state(Block(1)), blocks.used(Block(1))), (Part, 1));
+    assert_eq!(rt; blocks.next_slot_in(1), None);
     assert_eq!(rt; take(&mut blocks), Some(3));
+    assert_eq!(rt; blocks.next_slot_in(0), None);
     assert_eq!(rt; take(&mut blocks), None);
 
     // The last slot was one of die 0, so that the search goes on at die 1.

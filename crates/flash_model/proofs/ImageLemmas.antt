@@ -1,5 +1,5 @@
 -- What operations leave of an image.
-use Rattle.std.proofs.Common.{◌≡◌, ◌≢◌, ◌⊎◌, inl, inr, ℕ, ◌+◌, ◌*◌, ◌/◌, ◌<◌, ◌≤◌, Bool, true, false, List, [], ◌∷◌, ◌++◌, length, set, take, drop, replicate, refl, ap, sym, ◌∙◌, subst, arith}
+use Rattle.std.proofs.Common.{◌≡◌, ◌≢◌, ◌⊎◌, inl, inr, ℕ, suc, ◌+◌, ◌*◌, ◌/◌, ◌<◌, ◌≤◌, Bool, true, false, List, [], ◌∷◌, ◌++◌, length, set, take, drop, replicate, refl, ap, sym, ◌∙◌, subst, arith}
 use Rattle.std.proofs.lemmas.List.{places, length-append, length-take, length-drop, length-replicate, length-set, get_or-set_other}
 use Rattle.std.proofs.lemmas.List.Elements.{All-append, All-take, All-drop, All-replicate, All-set, All-head, All-tail}
 use Rattle.std.proofs.lemmas.Bool.{cases_lt}
@@ -9,8 +9,9 @@ use Rattle.tx_types.specs.declared.config.Shape.{Shape}
 use Rattle.flash_model.specs.declared.outcome.Outcome.{Outcome}
 use Rattle.flash_model.specs.declared.outcome.Outcome.TheVariants as outcome
 use Rattle.flash_model.specs.Flash.{Contents, blank, damaged, complete, slot_at, IsWhole, IsImage}
-use Rattle.flash_model.specs.Operations.{Operation, program, erase, Moment, CanDo, WorksIn, with_block, image_after, image_left, after, MayLeave, Torn}
+use Rattle.flash_model.specs.Operations.{Operation, Load, program, erase, fire, program_of, Moment, CanDo, WorksIn, with_block, load_left, left_each, image_after, image_left, after, MayLeave, Torn}
 use Rattle.flash_model.specs.Moves.{Does, Ends, Moves, StayOff}
+use Rattle.flash_model.proofs.FireLemmas.{slot_at-load, can_first, can_rest}
 
 -- a block's slots end within all slots
 pub block_within : (shape : Shape) (block : ℕ) → block < blocks_of shape
@@ -58,6 +59,22 @@ IsImage-set shape image at contents h whole = record {
   whole = All-set (IsWhole shape.page_bytes) image at contents whole h.whole;
 }
 
+-- programs that are started together leave an image, however each of them ends
+IsImage-load : (shape : Shape) (image : List Contents) (load : Load) (how : Outcome) → IsImage shape image
+    → CanDo shape image (program_of load) → IsImage shape (load_left image load how)
+IsImage-load shape image load outcome.None h can = h
+IsImage-load shape image load outcome.All h can =
+    IsImage-set shape image load.at (complete load.bytes load.spare_area) h (can.1, can.2)
+IsImage-load shape image load outcome.Bad h can = IsImage-set shape image load.at damaged h tt
+
+IsImage-each : (shape : Shape) (image : List Contents) (loads : List Load) (hows : List Outcome) → IsImage shape image
+    → CanDo shape image (fire loads) → IsImage shape (left_each image loads hows)
+IsImage-each shape image [] hows h can = h
+IsImage-each shape image (load ∷ loads) [] h can = h
+IsImage-each shape image (load ∷ loads) (how ∷ hows) h can =
+    IsImage-each shape (load_left image load how) loads hows
+    (IsImage-load shape image load how h (can_first shape image load loads can)) (can_rest shape image load loads how can)
+
 -- an operation leaves an image an image, however it ends
 pub IsImage-left : (shape : Shape) (image : List Contents) (o : Operation) (how : Outcome) → IsImage shape image → CanDo shape image o
     → IsImage shape (image_left shape image o how)
@@ -66,6 +83,8 @@ IsImage-left shape image (program at bytes spare_area) outcome.All h can = IsIma
 IsImage-left shape image (program at bytes spare_area) outcome.Bad h can = IsImage-set shape image at damaged h tt
 IsImage-left shape image (erase block) outcome.All h can = IsImage-with_block shape image h block can blank tt
 IsImage-left shape image (erase block) outcome.Bad h can = IsImage-with_block shape image h block can damaged tt
+IsImage-left shape image (fire loads) outcome.All h can = IsImage-each shape image loads _ h can
+IsImage-left shape image (fire loads) outcome.Bad h can = IsImage-each shape image loads _ h can
 
 pub IsImage-after : (shape : Shape) (image : List Contents) (o : Operation) → IsImage shape image → CanDo shape image o
     → IsImage shape (image_after shape image o)
@@ -76,16 +95,17 @@ IsImage-does shape a b [] h does = subst (λ (m : Moment). IsImage shape m.image
 IsImage-does shape a b (o ∷ rest) h does =
     IsImage-does shape (after shape a o) b rest (IsImage-after shape a.image o h does.0) does.1
 
--- one outcome says what a broken operation left
-left_so : (shape : Shape) (image : List Contents) (o : Operation) (new : List Contents) → MayLeave shape image o new
-    → (how : Outcome) × (new ≡ image_left shape image o how)
-left_so shape image (program at bytes spare_area) new left = left
-left_so shape image (erase block) new left = left
+IsImage-may : (shape : Shape) (image : List Contents) (o : Operation) (new : List Contents) → IsImage shape image
+    → CanDo shape image o → MayLeave shape image o new → IsImage shape new
+IsImage-may shape image (program at bytes spare_area) new h can left =
+    subst (IsImage shape) (sym left.1) (IsImage-left shape image (program at bytes spare_area) left.0 h can)
+IsImage-may shape image (erase block) new h can left =
+    subst (IsImage shape) (sym left.1) (IsImage-left shape image (erase block) left.0 h can)
+IsImage-may shape image (fire loads) new h can left =
+    subst (IsImage shape) (sym left.2) (IsImage-each shape image loads left.0 h can)
 
 IsImage-torn : (shape : Shape) (a b : Moment) (o : Operation) → IsImage shape a.image → CanDo shape a.image o → Torn shape a o b → IsImage shape b.image
-IsImage-torn shape a b o h can torn =
-    let left : (how : Outcome) × (b.image ≡ image_left shape a.image o how) = left_so shape a.image o b.image torn.left in
-    subst (IsImage shape) (sym left.1) (IsImage-left shape a.image o left.0 h can)
+IsImage-torn shape a b o h can torn = IsImage-may shape a.image o b.image h can torn.left
 
 IsImage-ends : (shape : Shape) (a b : Moment) (broken : Bool) → IsImage shape a.image → Ends shape a broken b → IsImage shape b.image
 IsImage-ends shape a b false h same = subst (λ (m : Moment). IsImage shape m.image) (sym same) h
@@ -108,6 +128,17 @@ outside_block per block k other =
       ]
     ]
 
+-- programs that are started together leave the slots of other blocks, however each of them ends
+slot_at-each : (shape : Shape) (image : List Contents) (loads : List Load) (hows : List Outcome) (k : ℕ)
+    → (WorksIn shape (fire loads) (k / shape.pages_per_block) → ⊥) → slot_at (left_each image loads hows) k ≡ slot_at image k
+slot_at-each shape image [] hows k other = refl
+slot_at-each shape image (load ∷ loads) [] k other = refl
+slot_at-each shape image (load ∷ loads) (how ∷ hows) k other =
+    slot_at-each shape (load_left image load how) loads hows k
+    (λ any. other (suc any.0, any.1, omega (arith, any.2), any.3, any.4))
+    ∙ slot_at-load image load how k
+    (λ same. other (0, load, omega arith, refl, ap (λ n. n / shape.pages_per_block) (sym same)))
+
 -- an operation leaves the slots of other blocks, however it ends
 pub slot_at-left : (shape : Shape) (image : List Contents) (o : Operation) (how : Outcome) (k : ℕ) → IsImage shape image
     → CanDo shape image o → (WorksIn shape o (k / shape.pages_per_block) → ⊥) → slot_at (image_left shape image o how) k ≡ slot_at image k
@@ -120,17 +151,26 @@ slot_at-left shape image (erase block) outcome.All k h can other =
     slot_at-with_block_out shape image h block can blank k (outside_block shape.pages_per_block block k (λ same. other (sym same)))
 slot_at-left shape image (erase block) outcome.Bad k h can other =
     slot_at-with_block_out shape image h block can damaged k (outside_block shape.pages_per_block block k (λ same. other (sym same)))
+slot_at-left shape image (fire loads) outcome.All k h can other = slot_at-each shape image loads _ k other
+slot_at-left shape image (fire loads) outcome.Bad k h can other = slot_at-each shape image loads _ k other
 
 pub slot_at-after : (shape : Shape) (image : List Contents) (o : Operation) (k : ℕ) → IsImage shape image
     → CanDo shape image o → (WorksIn shape o (k / shape.pages_per_block) → ⊥) → slot_at (image_after shape image o) k ≡ slot_at image k
 slot_at-after shape image o k h can other = slot_at-left shape image o outcome.All k h can other
 
 -- and so does one that is broken
+slot_at-may : (shape : Shape) (image : List Contents) (o : Operation) (new : List Contents) (k : ℕ) → IsImage shape image
+    → CanDo shape image o → MayLeave shape image o new → (WorksIn shape o (k / shape.pages_per_block) → ⊥) → slot_at new k ≡ slot_at image k
+slot_at-may shape image (program at bytes spare_area) new k h can left other =
+    ap (λ (i : List Contents). slot_at i k) left.1 ∙ slot_at-left shape image (program at bytes spare_area) left.0 k h can other
+slot_at-may shape image (erase block) new k h can left other =
+    ap (λ (i : List Contents). slot_at i k) left.1 ∙ slot_at-left shape image (erase block) left.0 k h can other
+slot_at-may shape image (fire loads) new k h can left other =
+    ap (λ (i : List Contents). slot_at i k) left.2 ∙ slot_at-each shape image loads left.0 k other
+
 pub slot_at-torn : (shape : Shape) (a b : Moment) (o : Operation) (k : ℕ) → IsImage shape a.image → CanDo shape a.image o
     → Torn shape a o b → (WorksIn shape o (k / shape.pages_per_block) → ⊥) → slot_at b.image k ≡ slot_at a.image k
-slot_at-torn shape a b o k h can torn other =
-    let left : (how : Outcome) × (b.image ≡ image_left shape a.image o how) = left_so shape a.image o b.image torn.left in
-    ap (λ (image : List Contents). slot_at image k) left.1 ∙ slot_at-left shape a.image o left.0 k h can other
+slot_at-torn shape a b o k h can torn other = slot_at-may shape a.image o b.image k h can torn.left other
 
 -- operations that stay off a block leave its slots
 pub slot_at-does : (shape : Shape) (a b : Moment) (list : List Operation) (k : ℕ) → IsImage shape a.image → Does shape a list b

@@ -1,13 +1,15 @@
 -- From one moment of a flash to another.
-use Rattle.std.proofs.Common.{◌≡◌, ℕ, Bool, true, false, List, [], ◌∷◌, ◌++◌, Result, Ok, Err, refl, sym, subst, inl, inr}
+use Rattle.std.proofs.Common.{◌≡◌, ℕ, Bool, true, false, List, [], ◌∷◌, ◌++◌, map, Result, Ok, Err, refl, sym, subst, inl, inr, arith}
 use Rattle.std.specs.Result.{is_err}
 use Rattle.tx_types.specs.declared.config.Shape.{Shape}
 use Rattle.flash_model.specs.declared.flash.Broken.{Broken}
 use Rattle.flash_model.specs.declared.flash.Seen.{Seen}
 use Rattle.flash_model.specs.Flash.{FlashState, Contents}
-use Rattle.flash_model.specs.Operations.{Operation, Moment, moment_of, CanDo, after, Done, Torn}
+use Rattle.flash_model.specs.declared.outcome.Outcome.TheVariants as outcome
+use Rattle.flash_model.specs.Operations.{Operation, Load, fire, program_of, Moment, moment_of, CanDo, after, Done, Torn}
 use Rattle.flash_model.specs.Moves.{Does, Ends, Moves, FlashMoves}
 use Rattle.flash_model.specs.Calls.{Reads, Operates}
+use Rattle.flash_model.proofs.FireLemmas.{can_first, can_rest}
 
 -- moments are equal that hold and have counted the same
 pub same_moments : (a b : Moment) → a.image ≡ b.image → a.programs ≡ b.programs → a.erases ≡ b.erases → a ≡ b
@@ -78,8 +80,22 @@ pub FlashMoves-reads : (old new : FlashState) (at : ℕ) (bytes spare_area : Lis
 FlashMoves-reads old new at bytes spare_area result broken reads =
     FlashMoves-nothing old new broken (same_moments (moment_of new) (moment_of old) reads.image reads.programs reads.erases)
 
--- a program or an erase
+-- a program, an erase or a fire
 pub FlashMoves-operates : (old new : FlashState) (o : Operation) (result : Result (Unit {0}) Broken)
     → CanDo old.shape old.image o → Operates old new o result → FlashMoves old new (is_err result)
 FlashMoves-operates old new o (Ok done) can operates = Moves-done old.shape (moment_of old) (moment_of new) o can operates.done
 FlashMoves-operates old new o (Err broken) can operates = Moves-torn old.shape (moment_of old) (moment_of new) o can operates.torn
+
+-- programs that are started together do what they do one after another
+pub Does-fire : (shape : Shape) (m : Moment) (load : Load) (loads : List Load) → CanDo shape m.image (fire (load ∷ loads))
+    → Does shape m (map program_of (load ∷ loads)) (after shape m (fire (load ∷ loads)))
+Does-fire shape m load [] can = (can_first shape m.image load [] can, refl)
+Does-fire shape m load (next ∷ loads) can =
+    let one = after shape m (program_of load) in
+    let same : after shape one (fire (next ∷ loads)) ≡ after shape m (fire (load ∷ next ∷ loads)) =
+    same_moments _ _ refl (omega arith) refl
+    in (
+      can_first shape m.image load (next ∷ loads) can,
+      subst (Does shape one (map program_of (next ∷ loads))) same
+          (Does-fire shape one next loads (can_rest shape m.image load (next ∷ loads) outcome.All can)),
+    )

@@ -79,6 +79,10 @@ pub record Reads (old new : FlashState) (at : ℕ) (bytes spare_area : List ℕ)
   pub erases : new.erases ≡ old.erases
   pub reads : new.reads ≡ (if old.live then counted old.reads else old.reads)
 
+-- the spare area of a slot is read as with the slot's contents, of which nothing is said
+abbrev pub ReadsSpareArea : FlashState → FlashState → ℕ → List ℕ → Result Seen Broken → Type 0
+ReadsSpareArea old new at spare_area result = (bytes : List ℕ) × Reads old new at bytes spare_area result
+
 -- an operation is done, which needs power, or broken, and counts no read
 pub record Operates (old new : FlashState) (o : Operation)
     (result : Result (Unit {0}) Broken) : Type 0 where

@@ -1,5 +1,6 @@
 pub mod Arms
 pub mod Calls
+pub mod Firing
 pub mod Flash
 pub mod Moves
 pub mod Operations

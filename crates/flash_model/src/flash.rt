@@ -2,7 +2,7 @@ ghost use Rattle.std.specs.Prelude.{◌≡◌, ◌<◌, length};
 ghost use Rattle.tx_types.specs.Config.{slots_of, blocks_of};
 ghost use Rattle.flash_model.specs.Flash.{FlashState, IsFlash};
 ghost use Rattle.flash_model.specs.Operations.{CanProgram};
-ghost use Rattle.flash_model.specs.Calls.{Reads, Programs, Erases};
+ghost use Rattle.flash_model.specs.Calls.{Reads, ReadsSpareArea, Programs, Erases};
 
 use tx_types::{Block, Shape, Slot};
 
@@ -54,6 +54,21 @@ pub trait Flash {
         requires exists { at.0 < slots_of (state self.old).shape }
         requires page { length into.old ≡ (state self.old).shape.page_bytes }
         ensures { Reads (state self.old) (state self.new) at.0 into.new spare_area.new result };
+
+    /// Reads a slot's spare area, which is a read like any other. There is room for its contents, for a flash that
+    /// reads all of a slot. What is in it then is not said.
+    fn read_spare_area(
+        &mut self,
+        at: Slot,
+        room: &mut [u8],
+        spare_area: &mut [u8; 64],
+    ) -> Result<Seen, Broken>
+        requires exists { at.0 < slots_of (state self.old).shape }
+        requires page { length room.old ≡ (state self.old).shape.page_bytes }
+        ensures { ReadsSpareArea (state self.old) (state self.new) at.0 spare_area.new result }
+    {
+        self.read(at, room, spare_area)
+    }
 
     /// Programs a slot with contents and a spare area. A broken program leaves the slot blank, or complete
     /// as asked for, or damaged, and all else as it was.

@@ -1,13 +1,15 @@
 //! What holds of the calls of each flash. The functions do nothing: each is there for what it ensures.
-ghost use Rattle.std.specs.Prelude.{◌≡◌, ◌/◌, ℕ, Bool, false, List, Result};
+ghost use Rattle.std.specs.Prelude.{◌≡◌, ◌<◌, ◌/◌, ℕ, suc, Bool, false, List, [], ◌∷◌, ◌++◌, length, map, Option, Result};
 ghost use Rattle.std.specs.Result.{is_err};
 ghost use Rattle.tx_types.specs.declared.config.Shape.{Shape};
 ghost use Rattle.flash_model.specs.declared.flash.Broken.{Broken};
-ghost use Rattle.flash_model.specs.Flash.{FlashState, slot_at, IsImage, IsSteady};
-ghost use Rattle.flash_model.specs.Operations.{Operation, Moment, CanDo, WorksIn, Torn};
+ghost use Rattle.flash_model.specs.declared.outcome.Outcome.{Outcome};
+ghost use Rattle.flash_model.specs.Flash.{FlashState, Contents, slot_at, IsImage, IsSteady};
+ghost use Rattle.flash_model.specs.Operations.{Operation, Load, fire, program_of, Moment, CanDo, WorksIn, die_of, image_left, left_each, after, Torn};
 ghost use Rattle.flash_model.specs.Moves.{Does, Moves, FlashMoves, StayOff};
 ghost use Rattle.flash_model.specs.Calls.{Carries, Operates};
 ghost use Rattle.flash_model.specs.Retiring.{CarriesRetiring};
+ghost use Rattle.flash_model.specs.Firing.{no_loads, loads_in, with_load, AreFreeFrom};
 
 /// A call that was not broken, and then another, keep together what each keeps, and move the flash together.
 pub fn calls_compose()
@@ -17,7 +19,7 @@ pub fn calls_compose()
         FlashMoves a b false → FlashMoves b c broken → FlashMoves a c broken }
 {}
 
-/// A program or an erase moves the flash by one operation, done or broken.
+/// A program, an erase or a fire moves the flash by one operation, done or broken.
 pub fn operations_move()
     ensures { (old new : FlashState) (o : Operation) (result : Result (Unit {0}) Broken) →
         CanDo old.shape old.image o → Operates old new o result →
@@ -57,4 +59,30 @@ pub fn retiring_composes()
         CarriesRetiring a b false → Carries b c broken → CarriesRetiring a c broken }
     ensures steady { (old new : FlashState) (broken : Bool) →
         IsSteady old → CarriesRetiring old new broken → (broken ≡ false) × IsSteady new }
+{}
+
+/// Programs that are started together leave what they leave one after another, each done or broken by itself.
+pub fn fires_are_programs()
+    ensures done { (shape : Shape) (old : Moment) (load : Load) (loads : List Load) →
+        CanDo shape old.image (fire (load ∷ loads)) →
+        Does shape old (map program_of (load ∷ loads)) (after shape old (fire (load ∷ loads))) }
+    ensures first { (shape : Shape) (image : List Contents) (load : Load) (loads : List Load) →
+        CanDo shape image (fire (load ∷ loads)) → CanDo shape image (program_of load) }
+    ensures rest { (shape : Shape) (image : List Contents) (load : Load) (loads : List Load) (how : Outcome) →
+        CanDo shape image (fire (load ∷ loads)) →
+        CanDo shape (image_left shape image (program_of load) how) (fire loads) }
+    ensures left { (shape : Shape) (image : List Contents) (load : Load) (loads : List Load)
+        (how : Outcome) (hows : List Outcome) → left_each image (load ∷ loads) (how ∷ hows)
+        ≡ left_each (image_left shape image (program_of load) how) loads hows }
+{}
+
+/// Programs that are loaded die after die, from empty registers on, stand in the order in which they were loaded.
+pub fn loads_come_in_order()
+    ensures none { (shape : Shape) → (loads_in (no_loads shape) ≡ []) × AreFreeFrom (no_loads shape) 0 }
+    ensures more { (shape : Shape) (registers : List (Option Load)) (load : Load) →
+        die_of shape load.at < length registers → AreFreeFrom registers (die_of shape load.at) →
+        loads_in (with_load shape registers load) ≡ loads_in registers ++ load ∷ [] }
+    ensures behind { (shape : Shape) (registers : List (Option Load)) (load : Load) →
+        AreFreeFrom registers (die_of shape load.at) →
+        AreFreeFrom (with_load shape registers load) (suc (die_of shape load.at)) }
 {}

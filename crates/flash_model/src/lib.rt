@@ -6,9 +6,14 @@ mod flash;
 mod laws;
 mod outcome;
 mod retire;
+mod wide;
 
 pub use arms::{Arms, Power};
 pub use flash::{Broken, Flash, SPARE_BYTES, Seen};
-pub use laws::{calls_compose, images_stay, operations_move, retiring_composes, steady_stays};
+pub use laws::{
+    calls_compose, fires_are_programs, images_stay, loads_come_in_order, operations_move,
+    retiring_composes, steady_stays,
+};
 pub use outcome::{Arm, Outcome};
 pub use retire::{MAX_ALLOWANCE, Retire};
+pub use wide::Wide;

@@ -1,11 +1,11 @@
-/// What a broken program or erase leaves.
+/// What a broken program, erase or retirement leaves.
 #[derive(Clone, Copy, Debug, PartialEq, Eq)]
 pub enum Outcome {
     /// All is as before.
     None,
     /// The whole operation is done.
     All,
-    /// The slot, or each slot of the block, is damaged.
+    /// The slot, or each slot of the block, is damaged. A block that was to be replaced is replaced.
     Bad,
 }
 

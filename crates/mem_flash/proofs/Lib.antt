@@ -3,3 +3,5 @@ pub mod Images
 pub mod Programmed
 pub mod Filled
 mod Kept
+mod Loaded
+mod Fires

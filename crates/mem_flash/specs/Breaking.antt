@@ -1,14 +1,16 @@
 -- When a call of a flash in memory is broken, and what the flash is after each call.
-use Rattle.std.specs.Prelude.{ℕ, ◌-◌, Bool, false, ◌&&◌, ◌||◌, not, nat_le, Option, None, Some, is_none, is_some, unwrap_or, Result, Ok, Err, if◌then◌else◌}
+use Rattle.std.specs.Prelude.{ℕ, ◌-◌, ◌==◌, Bool, false, ◌&&◌, ◌||◌, not, nat_le, length, Option, None, Some, is_none, is_some, unwrap_or, Result, Ok, Err, if◌then◌else◌}
 use Rattle.std.specs.Option.{option_or}
 use Rattle.flash_model.specs.declared.flash.Broken.{Broken}
 use Rattle.flash_model.specs.declared.outcome.Arm.{Arm}
 use Rattle.flash_model.specs.declared.outcome.Outcome.{Outcome}
 use Rattle.flash_model.specs.declared.outcome.Outcome.TheVariants as outcome
-use Rattle.flash_model.specs.Flash.{blank, counted}
-use Rattle.flash_model.specs.Operations.{Operation, with_block, image_left, programs_after, erases_after}
+use Rattle.flash_model.specs.Flash.{blank, counted, counted_by}
+use Rattle.flash_model.specs.Operations.{Operation, with_block, image_left, left_each, programs_after, erases_after}
+use Rattle.flash_model.specs.Firing.{no_loads, loads_in}
 use Rattle.flash_model.specs.Retiring.{one_more}
 use Rattle.mem_flash.specs.Memory.{MemoryState}
+use Rattle.mem_flash.specs.Registers.{outcomes_from}
 use Rattle.mem_flash.specs.declared.armed.Armed.{Armed}
 
 -- an arm with this count comes due at the next call that it counts
@@ -40,8 +42,8 @@ abbrev pub operation_down : Armed → Armed
 operation_down armed =
     record armed { cut = counted_down armed.cut; fault = counted_down armed.fault }
 
--- The outcome with which the next program or erase is broken, none where it will be done. Where a cut and a fault come
--- due the cut decides, and without power all stays as before.
+-- The outcome with which the next program, erase, retirement or fire is broken, none where it will be done. Where a cut and
+-- a fault come due the cut decides, and without power all stays as before.
 abbrev pub broken_by : MemoryState → Option Outcome
 broken_by s = if s.live then option_or (due s.armed.cut) (due s.armed.fault) else Some outcome.None
 
@@ -49,7 +51,7 @@ abbrev pub answered : Option Outcome → Result (Unit {0}) Broken
 answered None = Ok tt
 answered (Some how) = Err (record {})
 
--- the flash once a program or an erase has met the arms, which count while power is on
+-- the flash once a program, an erase, a retirement or a fire has met the arms, which count while power is on
 abbrev pub met : MemoryState → MemoryState
 met s = record s {
   live = s.live && is_none (due s.armed.cut);
@@ -64,6 +66,28 @@ operated s o = record (met s) {
   programs = if is_some (broken_by s) then s.programs else programs_after o s.programs;
   erases = if is_some (broken_by s) then s.erases else erases_after o s.erases;
 }
+
+-- a fire has nothing to do: nothing is loaded, and power is on
+abbrev pub is_idle : MemoryState → Bool
+is_idle s = s.live && (length (loads_in s.registers) == 0)
+
+-- the outcome with which a fire is broken: it meets the arms as one program does, unless it has nothing to do
+abbrev pub fire_broken_by : MemoryState → Option Outcome
+fire_broken_by s = if is_idle s then None else broken_by s
+
+-- the flash once all programs that are loaded were started together, with the outcome that they met
+abbrev pub started : MemoryState → MemoryState
+started s =
+    let loads = loads_in s.registers in
+    record (met s) {
+      image = left_each s.image loads (outcomes_from (unwrap_or (broken_by s) outcome.All) (length loads));
+      programs = if is_some (broken_by s) then s.programs else counted_by (length loads) s.programs;
+      registers = no_loads s.shape;
+    }
+
+-- the flash after a fire
+abbrev pub fired : MemoryState → MemoryState
+fired s = if is_idle s then s else started s
 
 -- the flash with a fresh block in the place of this one
 abbrev pub replaced : MemoryState → ℕ → MemoryState

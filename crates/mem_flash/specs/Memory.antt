@@ -3,9 +3,11 @@ use Rattle.std.specs.Prelude.{ℕ, ◌+◌, Bool, true, List, replicate, Option,
 use Rattle.tx_types.specs.Config.{slots_of}
 use Rattle.tx_types.specs.declared.config.Shape.{Shape}
 use Rattle.flash_model.specs.Flash.{FlashState, Told, Extras, no_extras, Contents, blank}
+use Rattle.flash_model.specs.Operations.{Load}
+use Rattle.flash_model.specs.Firing.{no_loads}
 use Rattle.mem_flash.specs.declared.armed.Armed.{Armed}
 
--- as each flash, what is armed, and what is told of retired blocks
+-- as each flash, what is armed, what is told of retired blocks, and what is loaded in each die
 pub record MemoryState : Type 0 where
   pub shape : Shape
   pub image : List Contents
@@ -16,6 +18,7 @@ pub record MemoryState : Type 0 where
   pub reads : ℕ
   pub armed : Armed
   pub extras : Extras
+  pub registers : List (Option Load)
 
 -- how many breaks an arm will give
 abbrev pub breaks_to_come : {T : Type 0} → Option T → ℕ
@@ -45,7 +48,7 @@ state_of s = record {
   extras = Some s.extras;
 }
 
--- a flash with these slots and extras that is live, has counted nothing, and has nothing armed
+-- a flash with these slots and extras that is live, has counted nothing, and has nothing armed and nothing loaded
 abbrev pub loaded : Shape → List Contents → Extras → MemoryState
 loaded shape image extras = record {
   shape = shape;
@@ -57,6 +60,7 @@ loaded shape image extras = record {
   reads = 0;
   armed = record { cut = None; fault = None; bad_read = None };
   extras = extras;
+  registers = no_loads shape;
 }
 
 -- and no block of which may be retired

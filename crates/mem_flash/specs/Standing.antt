@@ -1,8 +1,8 @@
 -- How a flash in memory is kept.
-use Rattle.std.specs.Prelude.{◌≡◌, ◌≤◌, ◌*◌, length}
+use Rattle.std.specs.Prelude.{◌≤◌, map}
 use Rattle.flash_model.specs.Retiring.{max_allowance}
 use Rattle.mem_flash.specs.Memory.{MemoryState}
-use Rattle.mem_flash.specs.Slots.{cell_bytes}
+use Rattle.mem_flash.specs.Registers.{load_in, AreRegisters}
 use Rattle.mem_flash.specs.declared.memory.MemFlash.TheInside.{Inside}
 
 abbrev pub memory_of : Inside → MemoryState
@@ -16,11 +16,12 @@ memory_of f = record {
   reads = f.reads;
   armed = f.armed;
   extras = record { allowance = f.allowance; retired = f.retired };
+  registers = map load_in f.registers.items;
 }
 
--- There is room for the contents and the spare area of a slot on each die. No more blocks are retired than may be, and no
--- more may be than any flash may allow.
+-- There is a register for each die, with room for a page. No more blocks are retired than may be, and no more may be than
+-- any flash may allow.
 pub record IsKept (f : Inside) : Type 0 where
-  pub room : length f.room.items ≡ f.slots.shape.dies * cell_bytes f.slots.shape.page_bytes
+  pub registers : AreRegisters f.slots.shape f.registers.items
   pub within : f.retired ≤ f.allowance
   pub few : f.allowance ≤ max_allowance

@@ -3,8 +3,8 @@ ghost use Rattle.mem_flash.specs.Breaking.{due, counted_down, comes_due, read_do
 
 use flash_model::{Arm, Outcome};
 
-/// The breaks that are to come. The arms of a cut and of a fault count programs and erases, and that of a bad
-/// read counts reads.
+/// The breaks that are to come. The arms of a cut and of a fault count programs, erases, retirements and fires, and
+/// that of a bad read counts reads.
 #[derive(Clone, Copy, Debug, PartialEq, Eq)]
 pub struct Armed {
     pub cut: Option<Arm>,

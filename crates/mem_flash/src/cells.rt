@@ -57,6 +57,14 @@ pub fn read_cell(cell: &[u8], into: &mut [u8], spare_area: &mut [u8; 64])
     spare_area.copy_from_slice(rest);
 }
 
+/// Copies a slot's spare area out of its bytes, of which a page of so many comes first.
+pub fn read_spare_area(cell: &[u8], page_bytes: usize, spare_area: &mut [u8; 64])
+    requires { length cell.now ≡ page_bytes + spare_bytes }
+    ensures { spare_area.new ≡ drop page_bytes cell.now }
+{
+    spare_area.copy_from_slice(&cell[page_bytes..]);
+}
+
 /// Writes a page of contents and its spare area, from an index of the bytes on.
 pub fn write_cell(cells: &mut [u8], from: usize, bytes: &[u8], spare_area: &[u8; 64])
     requires { from + length bytes.now + spare_bytes ≤ length cells.old }

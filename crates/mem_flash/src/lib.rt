@@ -3,7 +3,9 @@
 
 mod armed;
 mod cells;
+mod firing;
 mod memory;
+mod registers;
 mod slots;
 #[cfg(test)]
 mod tests;

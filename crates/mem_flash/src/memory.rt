@@ -1,11 +1,11 @@
-ghost use Rattle.std.specs.Prelude.{◌≡◌, ◌<◌, ◌≤◌, ◌+◌, ◌*◌, length, drop, Some, true, IfOk, OnErr};
+ghost use Rattle.std.specs.Prelude.{◌≡◌, ◌<◌, ◌≤◌, ◌+◌, ◌*◌, length, drop, Some, true, is_some, IfOk, OnErr};
 ghost use Rattle.std.specs.List.{flat_map};
 ghost use Rattle.std.specs.Result.{is_err};
 ghost use Rattle.tx_types.specs.Config.{IsShape, slots_of, blocks_of};
 ghost use Rattle.tx_types.specs.Limits.{spare_bytes};
 ghost use Rattle.flash_model.specs.Flash.{slot_at, IsFlash};
 ghost use Rattle.flash_model.specs.Operations.{CanProgram, program, erase};
-ghost use Rattle.flash_model.specs.Calls.{Reads, Programs, Erases, seen_of};
+ghost use Rattle.flash_model.specs.Calls.{Carries, Reads, ReadsSpareArea, Programs, Erases, seen_of};
 ghost use Rattle.flash_model.specs.Arms.{TurnsOn, ArmsCut, ArmsFault, ArmsBadRead};
 ghost use Rattle.flash_model.specs.Retiring.{Retires, max_allowance};
 ghost use Rattle.mem_flash.specs.Slots.{cell_bytes, cell_of, image_of, AreFilled};
@@ -14,6 +14,7 @@ ghost use Rattle.mem_flash.specs.Breaking.{broken_by, answered, met, operated, r
 
 use crate::armed::{Armed, count_down, count_read};
 use crate::cells::cell_bytes;
+use crate::registers::{Register, empty_registers};
 use crate::slots::Slots;
 use flash_model::{Arm, Arms, Broken, Flash, Outcome, Power, Retire, Seen};
 use std::alloc::Global;
@@ -23,17 +24,17 @@ use tx_types::{Block, Memory, Shape, Slot};
 /// A flash in memory. Its calls are broken exactly where an arm comes due or power is off.
 #[derive(Debug, Drop)]
 pub struct MemFlash {
-    slots: Slots,
-    live: bool,
+    pub(crate) slots: Slots,
+    pub(crate) live: bool,
     armed: Armed,
-    programs: u64,
+    pub(crate) programs: u64,
     erases: u64,
     /// Reads that were asked for while power was on.
     reads: u64,
     /// Calls that were broken.
     faults: u64,
-    /// Room for a page and a spare area of each die, taken beforehand: no call of a flash takes memory.
-    room: Vec<u8>,
+    /// A register for each die, taken beforehand: no call of a flash takes memory.
+    pub(crate) registers: Vec<Register>,
     /// Blocks that may be retired.
     allowance: u32,
     /// Blocks that are.
@@ -67,7 +68,7 @@ impl MemFlash {
 
     /// A flash of this shape whose slots read this way. `cells` has for each slot its contents and then its
     /// spare area: all 0xff where it is blank, and all 0x00 where it is damaged. Power is on, nothing is
-    /// armed, and no block may be retired.
+    /// armed or loaded, and no block may be retired.
     pub fn from_slots(
         alloc: Global,
         shape: Shape,
@@ -111,7 +112,7 @@ impl MemFlash {
             erases: 0,
             reads: 0,
             faults: 0,
-            room: vec![in alloc; 0; shape.dies as usize * cell_bytes(shape)]?,
+            registers: empty_registers(alloc, shape)?,
             allowance: 0,
             retired: 0,
         })
@@ -172,11 +173,12 @@ impl MemFlash {
         self.faults
     }
 
-    /// Counts a program or an erase. Gives the outcome with which it is broken, if it is.
-    fn meet_arms(&mut self) -> Option<Outcome>
+    /// The arms count a program, an erase, a retirement or a fire. Gives the outcome with which it is broken, if it is.
+    pub(crate) fn meet_arms(&mut self) -> Option<Outcome>
         ensures broken { result ≡ broken_by self.old }
         ensures met { self.new ≡ met self.old }
         ensures later { self.old.faults ≤ self.new.faults }
+        ensures carries { Carries (state_of self.old) (state_of self.new) (is_some result) }
     {
         if !self.live {
             self.faults = self.faults.saturating_add(1);
@@ -254,6 +256,26 @@ impl Flash for MemFlash {
             return Err(Broken);
         }
         Ok(self.slots.read(at, into, spare_area))
+    }
+
+    fn read_spare_area(
+        &mut self,
+        at: Slot,
+        room: &mut [u8],
+        spare_area: &mut [u8; 64],
+    ) -> Result<Seen, Broken>
+        requires exists { at.0 < slots_of self.old.shape }
+        requires page { length room.old ≡ self.old.shape.page_bytes }
+        ensures next { self.new ≡ after_read self.old }
+        ensures answer { is_err result ≡ is_read_broken self.old }
+        ensures kept { OnErr result (spare_area.new ≡ spare_area.old) }
+        ensures reads { ReadsSpareArea (state_of self.old) (state_of self.new) at.0 spare_area.new result }
+    {
+        let _ = room;
+        if self.meet_bad_read() {
+            return Err(Broken);
+        }
+        Ok(self.slots.read_spare_area(at, spare_area))
     }
 
     fn program(&mut self, at: Slot, bytes: &[u8], spare_area: &[u8; 64]) -> Result<(), Broken>

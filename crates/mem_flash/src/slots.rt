@@ -4,11 +4,13 @@ ghost use Rattle.tx_types.specs.Config.{IsShape, slots_of, blocks_of};
 ghost use Rattle.tx_types.specs.Limits.{spare_bytes};
 ghost use Rattle.flash_model.specs.Flash.{complete, slot_at, IsImage};
 ghost use Rattle.flash_model.specs.Operations.{program, erase, image_left};
-ghost use Rattle.flash_model.specs.Calls.{Shows, seen_of};
+ghost use Rattle.flash_model.specs.Calls.{Shows, seen_of, spare_area_of};
 ghost use Rattle.mem_flash.specs.Slots.{cell_of, cell_bytes, contents_of, image_of, overwritten, AreFilled};
 ghost use Rattle.flash_model.specs.declared.flash.Seen.TheVariants as seen;
 
-use crate::cells::{behind, cell_at, cell_bytes, fill_cells, filler, mark, read_cell, write_cell};
+use crate::cells::{
+    behind, cell_at, cell_bytes, fill_cells, filler, mark, read_cell, read_spare_area, write_cell,
+};
 use flash_model::{Outcome, Seen};
 use std::alloc::Global;
 use std::marker::Model;
@@ -112,6 +114,18 @@ impl Slots {
         let at = at.0 as usize;
         let cell = cell_at(&self.bytes, self.head, cell_bytes(self.shape), at);
         read_cell(cell, into, spare_area);
+        self.seen[at]
+    }
+
+    /// Copies a slot's spare area, and tells how the slot reads.
+    pub fn read_spare_area(&self, at: Slot, spare_area: &mut [u8; 64]) -> Seen
+        requires { at.0 < slots_of self.now.shape }
+        ensures how { result ≡ seen_of (slot_at self.now.image at.0) }
+        ensures spare_area { spare_area.new ≡ spare_area_of (slot_at self.now.image at.0) }
+    {
+        let at = at.0 as usize;
+        let cell = cell_at(&self.bytes, self.head, cell_bytes(self.shape), at);
+        read_spare_area(cell, self.shape.page_bytes as usize, spare_area);
         self.seen[at]
     }
 

@@ -6,8 +6,8 @@ use Rattle.die_alloc.specs.Ranks.{AreRanks}
 use Rattle.die_alloc.proofs.RankedBlocks.{no_rank, first_rank, place_in_die, few_blocks, of_die}
 use Rattle.die_alloc.proofs.blocks.Blocks.open_block.Goals as goal
 
-pub returns-in_err-place : goal.returns-in_err-place
-returns-in_err-place c =
+pub returns-in_err-place-clause-block : goal.returns-in_err-place-clause-block
+returns-in_err-place-clause-block c =
     let table = subst IsBlockTable c.self.view_is c.self.invariant.table in
     let ranks = subst (λ t. AreRanks t.shape t.blocks c.self.inside.ranks.items) c.self.view_is c.self.invariant.ranks in
     c.from_residual.ensures ∙ sym (no_rank c.args.self.now table _ ranks c.args.die c.requires
@@ -32,8 +32,8 @@ overflow_add-result c =
     let size = ap (λ t. c.args.die * t.shape.blocks_per_die) c.self.view_is in
     omega (arith, place.1, few, size)
 
-pub returns : goal.returns
-returns c =
+pub returns-clause-block : goal.returns-clause-block
+returns-clause-block c =
     let table = subst IsBlockTable c.self.view_is c.self.invariant.table in
     let ranks = subst (λ t. AreRanks t.shape t.blocks c.self.inside.ranks.items) c.self.view_is c.self.invariant.ranks in
     ap (λ t. Some (c.args.die * t.shape.blocks_per_die + c.in_ok-place.place)) c.self.view_is

@@ -1,0 +1,19 @@
+use Rattle.std.proofs.Common.{List, map, set, Option, ap, ap₂, ◌∙◌}
+use Rattle.std.proofs.lemmas.List.{map-set}
+use Rattle.tx_types.specs.declared.config.Shape.{Shape}
+use Rattle.flash_model.specs.Operations.{Load, die_of}
+use Rattle.mem_flash.specs.Registers.{load_in}
+use Rattle.mem_flash.specs.Standing.{memory_of}
+use Rattle.mem_flash.proofs.firing.MemFlashWide.load.Goals as goal
+
+pub returns : goal.returns
+returns c =
+    let all = c.self.inside.registers.items in
+    let die = c.die_of-die.ensures.die ∙ ap (λ (s : Shape). die_of s c.args.at.0) c.shape.ensures.shape in
+    rw (← c.self.view_is)
+    (record {
+      exact =
+          ap (λ (registers : List (Option Load)). record (memory_of c.self.inside) { registers = registers })
+          (map-set load_in all c.die_of-die.result c.put.new.register
+          ∙ ap₂ (λ k load. set (map load_in all) k load) die c.put.ensures.loaded);
+    })
