@@ -2,6 +2,7 @@ pub mod ArrayState
 pub mod Submit
 pub mod Read
 pub mod Step
+pub mod Batches
 pub mod Collect
 pub mod UnbrokenCalls
 pub mod Run

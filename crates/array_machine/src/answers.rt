@@ -45,6 +45,15 @@ pub enum Progress {
     Done,
 }
 
+/// How far a step of several transactions at once brought them.
+#[derive(Clone, Copy, Debug, PartialEq, Eq)]
+pub struct Moved {
+    /// So many of them went on by one step.
+    pub moved: u32,
+    /// Of these so many are done, and the array has taken their pages.
+    pub finished: u32,
+}
+
 /// Why a transaction did not go on.
 #[derive(Clone, Copy, Debug, PartialEq, Eq)]
 pub enum StepError {

@@ -7,6 +7,6 @@ pub mod laws;
 mod mark;
 
 pub use answers::{
-    Aborted, Collected, Fault, Progress, ReadAnswer, ReadError, StepError, SubmitError,
+    Aborted, Collected, Fault, Moved, Progress, ReadAnswer, ReadError, StepError, SubmitError,
 };
 pub use mark::Mark;
