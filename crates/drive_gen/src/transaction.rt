@@ -43,7 +43,7 @@ fn draw_batch(alloc: Global, config: Config, generator: &mut Generator) -> Resul
 {
     let pages = draw_page_count(config, generator);
     let first = generator.draw(config.logical);
-    let mut batch = Batch::new(alloc, config.page_bytes);
+    let mut batch = Batch::with_room(alloc, config.page_bytes, pages as usize)?;
     for k in 0..pages {
         let page = page_behind(first, k, config.logical);
         batch.add(page, &[generator.draw(256) as u8])?;

@@ -21,12 +21,18 @@ pub fn commands(
     ensures list { IfOk result (λ list. list.items ≡ generated start count config) }
     ensures suits { IfOk result (λ list. All (Suits config.page_bytes) list.items) }
 {
-    let mut list = Vec::new(alloc);
+    let most = most_commands(count, config.logical);
+    let mut list = Vec::with_capacity(alloc, most)?;
     add_fills(alloc, config, &mut list)?;
     add_transactions(alloc, start, count, config, &mut list)?;
     add_reads(config.logical, &mut list)?;
     list.push(Command::Stats)?;
     Ok(list)
+}
+
+/// The most commands that so many transactions on so many pages may have, so that the list is not moved while it grows.
+fn most_commands(count: u32, pages: u32) -> usize {
+    3 * count as usize + 3 * pages as usize + 1
 }
 
 /// Adds a write of every page, each with a first byte of its own.

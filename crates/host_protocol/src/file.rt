@@ -1,4 +1,4 @@
-ghost use Rattle.std.specs.Prelude.{◌≡◌, ◌+◌, ◌≤◌, ◌++◌, ◌⊎◌, ℕ, List, length, sum_by, IfOk, IfErr, OnOk, MatchResult, All};
+ghost use Rattle.std.specs.Prelude.{◌≡◌, ◌+◌, ◌≤◌, ◌++◌, ◌⊎◌, [], ℕ, List, length, sum_by, IfOk, IfErr, OnOk, MatchResult, All};
 ghost use Rattle.std.specs.Option.{option_to_list};
 ghost use Rattle.host_protocol.specs.Commands.{Suits};
 ghost use Rattle.host_protocol.specs.Files.{entries_in, IsFile, IsFirstBad};
@@ -9,6 +9,7 @@ use crate::command::Command;
 use crate::error::TextError;
 use crate::line::line_command;
 use crate::lines::first_line;
+use memchr::memchr_iter;
 use std::alloc::Global;
 use tx_types::Memory;
 
@@ -37,7 +38,7 @@ pub fn parse(alloc: Global, bytes: &[u8], page_bytes: u32) -> Result<Vec<Command
     ensures first { (n : ℕ) → IsFirstBad page_bytes bytes.now n
         → MatchResult result (λ list. ⊥) (λ e. (e ≡ TextError.Line n) ⊎ (e ≡ TextError.Memory)) }
 {
-    let mut commands = Vec::new(alloc);
+    let mut commands = no_commands(alloc, bytes)?;
     let mut entries_left = MAX_ENTRIES;
     let mut number = 0;
     let mut rest = bytes;
@@ -50,6 +51,14 @@ pub fn parse(alloc: Global, bytes: &[u8], page_bytes: u32) -> Result<Vec<Command
         rest = behind;
     }
     Ok(commands)
+}
+
+/// No commands, with room for as many as a file with so many lines may have.
+pub fn no_commands<T>(alloc: Global, bytes: &[u8]) -> Result<Vec<T>, Memory>
+    ensures { IfOk result (λ list. list.items ≡ []) }
+{
+    let lines = memchr_iter(b'\n', bytes).count();
+    Ok(Vec::with_capacity(alloc, MAX_COMMANDS.min(lines.saturating_add(1)))?)
 }
 
 /// Keeps the command of a line, if it has one, and takes its entries from those that are left.

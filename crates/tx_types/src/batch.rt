@@ -1,4 +1,4 @@
-ghost use Rattle.std.specs.Prelude.{◌≡◌, ◌<◌, ◌+◌, ◌*◌, ◌≤◌, ◌↔◌, [], ◌++◌, length, is_none, IsTrue, OnOk, OnErr};
+ghost use Rattle.std.specs.Prelude.{◌≡◌, ◌<◌, ◌+◌, ◌*◌, ◌≤◌, ◌↔◌, [], ◌++◌, length, is_none, IsTrue, IfOk, OnOk, OnErr};
 ghost use Rattle.std.specs.Fork.{slice_chunk};
 ghost use Rattle.tx_types.specs.Batch.{padded, with_entry, with_discard, entry_at, bytes_in};
 
@@ -38,6 +38,18 @@ impl Batch {
             targets: Vec::new(alloc),
             bytes: Vec::new(alloc),
         }
+    }
+
+    /// A batch without entries, for pages of this many bytes, with room for so many entries.
+    pub fn with_room(alloc: Global, page_bytes: u32, entries: usize) -> Result<Batch, Memory>
+        ensures { IfOk result (λ b. b ≡ record { page_bytes = page_bytes; entries = [] }) }
+    {
+        let bytes = entries.checked_mul(page_bytes as usize).ok_or(Memory)?;
+        Ok(Batch {
+            page_bytes,
+            targets: Vec::with_capacity(alloc, entries)?,
+            bytes: Vec::with_capacity(alloc, bytes)?,
+        })
     }
 
     /// Adds an entry at the end, with zeros for the bytes that are missing to a page. Where there is no

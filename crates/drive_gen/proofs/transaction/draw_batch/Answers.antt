@@ -21,8 +21,8 @@ second x a b p q = q ∙ ap next_state (p ∙ state_first x) ∙ state_more x 1 
 
 pub loop-k-init : goal.loop-k-init
 loop-k-init c = record {
-  size = rw c.new-batch.ensures refl;
-  entries = rw c.new-batch.ensures refl;
+  size = rw c.in_ok-batch.ensures refl;
+  entries = rw c.in_ok-batch.ensures refl;
   state = second c.args.generator.now.state c.draw_page_count-pages.new.generator.state c.draw-first.new.self.state c.draw_page_count-pages.ensures.state c.draw-first.ensures.state;
 }
 
