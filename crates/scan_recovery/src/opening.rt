@@ -14,49 +14,53 @@ ghost use Rattle.scan_recovery.specs.Recovered.{IfUnsound, is_read_failure};
 
 use crate::RecoverError;
 use crate::laws::first_breach;
+use crate::scan::Scanned;
 use crate::spare::{chosen_spare, is_blank, slots_in};
 use die_alloc::Blocks;
 use flash_model::Seen;
 use record_chart::{Standing, counts, name_orbits};
 use record_list::{Breach, CommitRule, Found};
 use std::alloc::Global;
+use std::mem::drop;
 use tx_types::{Block, BlockState, Config, Memory, Shape, Slot};
 use version_index::Index;
 
 /// The tables of slots that read so and hold these records, or the first of laws 3 to 9 that the
-/// records break, and the slot that it names. They keep laws 1 and 2.
+/// records break, and the slot that it names. They keep laws 1 and 2. The list is given back before the
+/// tables are made, which may have its place.
 pub fn open_tables<R: CommitRule>(
     alloc: Global,
     config: Config,
     shape: Shape,
-    seen: &[Seen],
-    list: &[Found],
+    scanned: Scanned,
     standing: &Standing,
 ) -> Result<(Index<R>, Blocks), RecoverError>
     requires check { checked config ≡ Ok shape }
     requires rule { config.protocol ≡ R.protocol }
-    requires seen { length seen.now ≡ slots_of shape }
-    requires complete { map (λ f. f.slot.0) list.now ≡ complete_slots seen.now }
-    requires scanned { IsScanned list.now }
-    requires pages { All (PagesExist config.logical) list.now }
-    requires copies { All (CopiesAgree list.now) list.now }
-    requires sorts { Sorts list.now standing.now.list }
+    requires seen { length scanned.seen.items ≡ slots_of shape }
+    requires complete { map (λ f. f.slot.0) scanned.list.items ≡ complete_slots scanned.seen.items }
+    requires scanned { IsScanned scanned.list.items }
+    requires pages { All (PagesExist config.logical) scanned.list.items }
+    requires copies { All (CopiesAgree scanned.list.items) scanned.list.items }
+    requires sorts { Sorts scanned.list.items standing.now.list }
     requires protocol { standing.now.protocol ≡ R.protocol }
     requires logical { standing.now.logical ≡ config.logical }
     ensures sound { OnOk result
-        (IsSoundList R.protocol list.now config.logical
-        × HasRemovable R.protocol list.now config.logical shape
-        × HasCounts list.now) }
+        (IsSoundList R.protocol scanned.list.items config.logical
+        × HasRemovable R.protocol scanned.list.items config.logical shape
+        × HasCounts scanned.list.items) }
     ensures tables { IfOk result (λ opened.
-        IsOpenedFrom config seen.now list.now opened.0 opened.1) }
+        IsOpenedFrom config scanned.seen.items scanned.list.items opened.0 opened.1) }
     ensures unsound { IfErr result (λ e. IfUnsound e
-        (IsBroken R.protocol list.now config.logical shape)) }
+        (IsBroken R.protocol scanned.list.items config.logical shape)) }
     ensures no_fault { is_read_failure result ≡ false }
 {
-    let spare = lawful_spare(alloc, shape, seen, list, standing)?;
-    let mut index = Index::from_standing(alloc, config, seen, list, standing)?;
+    let Scanned { seen, list } = scanned;
+    let spare = lawful_spare(alloc, shape, &seen, &list, standing)?;
+    drop(list);
+    let mut index = Index::from_standing(alloc, config, &seen, standing)?;
     index.set_spare(spare);
-    let blocks = block_table(alloc, shape, seen, spare)?;
+    let blocks = block_table(alloc, shape, &seen, spare)?;
     Ok((index, blocks))
 }
 

@@ -61,14 +61,7 @@ pub fn recover<F: Flash, R: CommitRule>(
 {
     let (scanned, chart) = sound_scan(alloc, flash, config)?;
     let standing = Standing::new(alloc, chart, config.protocol, config.logical)?;
-    open_tables(
-        alloc,
-        config,
-        flash.shape(),
-        &scanned.seen,
-        &scanned.list,
-        &standing,
-    )
+    open_tables(alloc, config, flash.shape(), scanned, &standing)
 }
 
 /// Scans the flash, puts the records in order of their names, and tries laws 1 and 2.

@@ -106,7 +106,7 @@ fn read_note<F: Flash>(
         (λ _. ReadsSome (F.state flash.old) (F.state flash.new) true 1) }
 {
     let mut spare_area = [0; 64];
-    Ok(match flash.read(at, page, &mut spare_area)? {
+    Ok(match flash.read_spare_area(at, page, &mut spare_area)? {
         Seen::Blank => Some(Note::Blank),
         Seen::Damaged => Some(Note::Damaged),
         Seen::Complete => record_in(&spare_area, config).map(Note::Holds),

@@ -60,4 +60,5 @@ pub mod ScanDecided
 pub mod ScanFilled
 pub mod ScanJudged
 pub mod ScanSizes
+pub mod ScanFills
 pub mod WalkSteps

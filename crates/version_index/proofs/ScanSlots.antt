@@ -1,15 +1,14 @@
 -- The slots of a scan hold the numbers of their records.
-use Rattle.std.proofs.Common.{◌≡◌, ℕ, ◌+◌, ◌<◌, ◌≤◌, Bool, true, eqb, List, [], ◌∷◌, ◌++◌, length, map, set, get_or, All, Contains, Some, None, refl, sym, ap, ◌∙◌, subst, subst₂, inl, inr, arith, eq-eqb}
+use Rattle.std.proofs.Common.{◌≡◌, ℕ, ◌+◌, ◌<◌, ◌≤◌, true, eqb, List, length, map, set, get_or, All, Contains, Some, None, refl, sym, ap, ◌∙◌, subst, subst₂, inl, inr, arith, eq-eqb}
 use Rattle.std.specs.Option.{option_map_or}
 use Rattle.std.specs.Prelude.{position}
 use Rattle.std.proofs.Math.ListN.{get_or-map}
 use Rattle.std.proofs.lemmas.Bool.{false≢true, cases_eq, cases_lt, and_from}
-use Rattle.std.proofs.lemmas.List.{length-map, length-append, get_or_push, get_or_append_left, length-set, get_or-set_same, get_or-set_other, get_or_past, ext_get_or}
+use Rattle.std.proofs.lemmas.List.{length-map, length-set, get_or-set_same, get_or-set_other, get_or_past, ext_get_or}
 use Rattle.std.proofs.lemmas.List.Elements.{at_from_Contains, Contains-get_or}
 use Rattle.std.proofs.lemmas.Option.{none-some}
 use Rattle.list_facts.proofs.Membership.{all_from}
-use Rattle.list_facts.proofs.Positions.{position-all, position_some}
-use Rattle.list_facts.proofs.Tests.{find-position, find_stands}
+use Rattle.list_facts.proofs.Positions.{position-all}
 use Rattle.tx_types.specs.Config.{slots_of}
 use Rattle.tx_types.specs.declared.record.Link.{Link}
 use Rattle.tx_types.specs.declared.record.Rec.{Rec}

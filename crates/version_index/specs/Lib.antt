@@ -15,3 +15,4 @@ pub mod Losing
 pub mod Committing
 pub mod Filling
 pub mod Opening
+pub mod Scanned

@@ -44,9 +44,12 @@ fn waits_below(tables: &Tables, number: u32, below: u64) -> bool
     requires { number < slots_of tables.now.shape }
     ensures { IsTrue result ↔ IsWaitingBelow tables.now below number }
 {
+    if tables.waits(number).is_none() {
+        return false;
+    }
     match tables.record(number) {
         None => false,
-        Some(rec) => rec.version < below && tables.waits(number).is_some(),
+        Some(rec) => rec.version < below,
     }
 }
 
@@ -55,9 +58,12 @@ fn waits_for(tables: &Tables, page: u32, below: u64, number: u32) -> bool
     requires { number < slots_of tables.now.shape }
     ensures { IsTrue result ↔ WaitsBelow tables.now page below number }
 {
+    if tables.waits(number) != Some(page) {
+        return false;
+    }
     match tables.record(number) {
         None => false,
-        Some(rec) => rec.next.version < below && tables.waits(number) == Some(page),
+        Some(rec) => rec.next.version < below,
     }
 }
 

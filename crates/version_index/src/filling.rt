@@ -1,11 +1,11 @@
-ghost use Rattle.std.specs.Prelude.{◌≡◌, ◌≤◌, All, Contains, length, map, IfOk, OnOk};
+ghost use Rattle.std.specs.Prelude.{◌≡◌, ◌≤◌, All, List, length, map, IfOk, OnOk};
 ghost use Rattle.tx_types.specs.Config.{slots_of};
 ghost use Rattle.record_chart.specs.Charts.{Sorts};
-ghost use Rattle.slot_tables.specs.Kept.{blank_tables};
 ghost use Rattle.record_list.specs.SoundList.{PagesExist};
 ghost use Rattle.record_list.specs.declared.found.Found.{Found};
-ghost use Rattle.version_index.specs.Filling.{NamesAgree, AreFilled};
-ghost use Rattle.version_index.specs.Notes.{seen_as, found_in, complete_slots};
+ghost use Rattle.version_index.specs.Filling.{AreFilled};
+ghost use Rattle.version_index.specs.Scanned.{CanFill};
+ghost use Rattle.version_index.specs.Notes.{seen_as, found_in};
 ghost use Rattle.version_index.specs.Tables.{notes_in};
 
 use crate::deciding::{decide_current, decide_records};
@@ -18,27 +18,22 @@ use slot_tables::Filling;
 use std::alloc::{AllocError, Global};
 use tx_types::{Memory, Protocol};
 
-/// Fills tables of blank slots with slots that read so and hold these records, in the order of their slots. Of
-/// the records it is known where their pages stand.
+/// Fills tables of blank slots with slots that read so and hold the records of a list, in the order of their slots.
+/// Of the records it is known where their pages stand.
 pub fn fill(
     alloc: Global,
     tables: &mut Filling,
     logical: u32,
     seen: &[Seen],
-    list: &[Found],
     standing: &Standing,
 ) -> Result<(), Memory>
-    requires blank { tables.old ≡ blank_tables tables.old.shape logical }
-    requires seen { length seen.now ≡ slots_of tables.old.shape }
-    requires complete { map (λ f. f.slot.0) list.now ≡ complete_slots seen.now }
+    requires fills { (list : List Found) × CanFill logical seen.now list standing.now.list tables.old }
     requires logical { standing.now.logical ≡ logical }
-    requires agree { NamesAgree standing.now.list }
     requires exist { All (PagesExist logical) standing.now.list }
-    requires listed { (f : Found) → Contains list.now f → Contains standing.now.list f }
-    requires known { (f : Found) → Contains standing.now.list f → Contains list.now f }
     requires few { length standing.now.list ≤ slots_of tables.old.shape }
     ensures reads { OnOk result (map seen_as (notes_in tables.new) ≡ seen.now) }
-    ensures found { OnOk result (found_in (notes_in tables.new) ≡ list.now) }
+    ensures found { (list : List Found) → CanFill logical seen.now list standing.now.list tables.old →
+        OnOk result (found_in (notes_in tables.new) ≡ list) }
     ensures filled { OnOk result
         (AreFilled standing.now.protocol standing.now.list tables.old.shape logical tables.new) }
 {

@@ -1,10 +1,11 @@
-ghost use Rattle.std.specs.Prelude.{◌≡◌, length, map, IfOk, Ok};
+ghost use Rattle.std.specs.Prelude.{◌≡◌, List, length, map, IfOk, Ok};
 ghost use Rattle.tx_types.specs.Config.{checked, shape_of, slots_of};
 ghost use Rattle.record_list.specs.Records.{IsScanned};
+ghost use Rattle.record_list.specs.declared.found.Found.{Found};
 ghost use Rattle.record_list.specs.SoundList.{IsSoundList};
-ghost use Rattle.record_chart.specs.Charts.{Sorts};
 ghost use Rattle.version_index.specs.Notes.{complete_slots};
 ghost use Rattle.version_index.specs.Noted.{IsNoted, IsNotedFrom};
+ghost use Rattle.version_index.specs.Scanned.{AreScanned};
 
 use crate::filling::{fill, standing_of};
 use crate::mentioning::first_mentions;
@@ -57,34 +58,30 @@ impl<R: CommitRule> Index<R> {
         ensures { IfOk result (λ index. IsNotedFrom config seen.now list.now index) }
     {
         let standing = standing_of(alloc, list, config.protocol, config.logical)?;
-        Index::from_standing(alloc, config, seen, list, &standing)
+        Index::from_standing(alloc, config, seen, &standing)
     }
 
     /// The same of records that were put in the order of their names before, where it is known how
-    /// their pages stand.
+    /// their pages stand. The list in the order of the slots is no longer needed.
     pub fn from_standing(
         alloc: Global,
         config: Config,
         seen: &[Seen],
-        list: &[Found],
         standing: &Standing,
     ) -> Result<Index<R>, Memory>
         requires check { checked config ≡ Ok (shape_of config) }
         requires rule { config.protocol ≡ R.protocol }
-        requires seen { length seen.now ≡ slots_of (shape_of config) }
-        requires complete { map (λ f. f.slot.0) list.now ≡ complete_slots seen.now }
-        requires scanned { IsScanned list.now }
-        requires sound { IsSoundList R.protocol list.now config.logical }
-        requires sorts { Sorts list.now standing.now.list }
+        requires scan { (list : List Found) × AreScanned R.protocol config seen.now list standing.now }
         requires protocol { standing.now.protocol ≡ config.protocol }
         requires logical { standing.now.logical ≡ config.logical }
-        ensures { IfOk result (λ index. IsNotedFrom config seen.now list.now index) }
+        ensures { (list : List Found) → AreScanned R.protocol config seen.now list standing.now →
+            IfOk result (λ index. IsNotedFrom config seen.now list index) }
     {
         let Ok(shape) = config.check() else {
             unreachable!();
         };
         let mut filling = Filling::new(alloc, shape, config.logical)?;
-        fill(alloc, &mut filling, config.logical, seen, list, standing)?;
+        fill(alloc, &mut filling, config.logical, seen, standing)?;
         let tables = filling.finish(alloc)?;
         Ok(Index {
             config,

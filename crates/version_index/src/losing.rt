@@ -40,12 +40,12 @@ fn give_up_bare(tables: &mut Tables, number: u32)
     requires { number < slots_of tables.old.shape }
     ensures { tables.new ≡ bared tables.old number }
 {
-    let Some(rec) = tables.record(number) else {
-        return;
-    };
     if let Some(_) = tables.first_copy(number) {
         return;
     }
+    let Some(rec) = tables.record(number) else {
+        return;
+    };
     let_go(tables, number);
     tables.give_up(rec.page, number);
 }

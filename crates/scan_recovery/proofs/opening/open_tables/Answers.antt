@@ -1,24 +1,66 @@
-use Rattle.std.proofs.Common.{sym, ap, ◌∙◌, subst, subst₂}
-use Rattle.tx_types.specs.Config.{IsShape, shape_of, slots_of}
+use Rattle.std.proofs.Common.{◌≡◌, ◌<◌, List, Ok, length, map, sym, ap, ◌∙◌, subst, subst₂, inl, inr}
+use Rattle.tx_types.specs.declared.config.Config.{Config}
+use Rattle.tx_types.specs.declared.config.Protocol.{Protocol}
+use Rattle.tx_types.specs.declared.config.Shape.{Shape}
+use Rattle.tx_types.specs.Config.{IsShape, checked, shape_of, slots_of, blocks_of}
 use Rattle.tx_types.proofs.ConfigLemmas.{checked_config}
+use Rattle.flash_model.specs.declared.flash.Seen.{Seen}
+use Rattle.record_list.specs.declared.found.Found.{Found}
+use Rattle.record_list.specs.Records.{IsScanned}
 use Rattle.record_list.specs.SoundList.{IsSoundList}
+use Rattle.record_chart.specs.Charts.{Sorts}
+use Rattle.record_chart.specs.Standings as standing
 use Rattle.record_list.specs.Written.{HasRemovable}
 use Rattle.die_alloc.specs.Opening.{opening_table}
+use Rattle.version_index.specs.Notes.{complete_slots}
 use Rattle.version_index.specs.Opening.{IsChosenFrom}
+use Rattle.version_index.specs.Scanned.{AreScanned}
 use Rattle.scan_recovery.proofs.opening.open_tables.Goals as goal
+
+-- what is scanned, and known of how it stands
+scanned : {protocol : Protocol} (its : Config) (shape : Shape) (seen : List Seen) (list : List Found) (judged : standing.Judged)
+    → checked its ≡ Ok shape → length seen ≡ slots_of shape → map (λ f. f.slot.0) list ≡ complete_slots seen → IsScanned list → Sorts list judged.list
+    → judged.protocol ≡ protocol → judged.logical ≡ its.logical → IsSoundList judged.protocol list judged.logical → AreScanned protocol its seen list judged
+scanned its shape seen list judged check reads complete slots sorts rule logical sound = record {
+  reads = reads ∙ ap slots_of (checked_config its shape check).1;
+  complete = complete;
+  slots = slots;
+  sound = subst₂ (λ p n. IsSoundList p list n) rule logical sound;
+  sorts = sorts;
+}
 
 pub lawful_spare-requires-clause-shape : goal.lawful_spare-requires-clause-shape
 lawful_spare-requires-clause-shape g c =
     let its = checked_config c.args.config c.args.shape c.requires.check in
     subst IsShape (sym its.1) its.0.shape
 
-pub from_standing-requires-clause-seen : goal.from_standing-requires-clause-seen
-from_standing-requires-clause-seen g c = c.requires.seen ∙ ap slots_of (checked_config c.args.config c.args.shape c.requires.check).1
+pub from_standing-requires-clause-scan : goal.from_standing-requires-clause-scan
+from_standing-requires-clause-scan g c =
+    let seen = c.args.scanned.seen.items in
+    let list = c.args.scanned.list.items in
+    let keeps = rw c.deref-2.ensures.value at c.in_ok-spare.ensures.sound in
+    rw c.deref-3.ensures.value (list, scanned c.args.config c.args.shape seen list c.args.standing.now c.requires.check c.requires.seen c.requires.complete c.requires.scanned c.requires.sorts c.requires.protocol c.requires.logical keeps.0)
+
+pub block_table-requires-clause-shape : goal.block_table-requires-clause-shape
+block_table-requires-clause-shape g c =
+    let its = checked_config c.args.config c.args.shape c.requires.check in
+    subst IsShape (sym its.1) its.0.shape
+
+pub set_spare-requires : goal.set_spare-requires
+set_spare-requires g c =
+    let seen = c.args.scanned.seen.items in
+    let list = c.args.scanned.list.items in
+    let spare = c.in_ok-spare.spare.0 in
+    let keeps = rw c.deref-2.ensures.value at c.in_ok-spare.ensures.sound in
+    let noted = rw c.deref-3.ensures.value at c.in_ok-index.ensures in
+    let is = noted list (scanned c.args.config c.args.shape seen list c.args.standing.now c.requires.check c.requires.seen c.requires.complete c.requires.scanned c.requires.sorts c.requires.protocol c.requires.logical keeps.0) in
+    let below : spare < blocks_of c.args.shape = elim c.in_ok-spare.ensures.spare [ inl high ↦ high.exists | inr high ↦ high.1.exists ] in
+    subst (λ i. spare < blocks_of (shape_of i)) (sym is.config) (subst (λ s. spare < blocks_of s) (checked_config c.args.config c.args.shape c.requires.check).1 below)
 
 pub returns-clause-sound : goal.returns-clause-sound
 returns-clause-sound g c =
-    let list = c.args.list.now in
-    let keeps = c.in_ok-spare.ensures.sound in (
+    let list = c.args.scanned.list.items in
+    let keeps = rw c.deref-2.ensures.value at c.in_ok-spare.ensures.sound in (
       subst₂ (λ p logical. IsSoundList p list logical) c.requires.protocol c.requires.logical keeps.0,
       subst₂ (λ p logical. HasRemovable p list logical c.args.shape) c.requires.protocol c.requires.logical keeps.1,
       keeps.2,
@@ -29,13 +71,19 @@ returns-clause-tables g c =
     let config = c.args.config in
     let standing = c.args.standing.now in
     let spare = c.in_ok-spare.spare.0 in
+    let seen = c.args.scanned.seen.items in
+    let list = c.args.scanned.list.items in
     let same = (checked_config config c.args.shape c.requires.check).1 in
+    let keeps = rw c.deref-2.ensures.value at c.in_ok-spare.ensures.sound in
+    let chosen = rw (c.deref.ensures.value, c.deref-2.ensures.value) at c.in_ok-spare.ensures.spare in
+    let noted = rw c.deref-3.ensures.value at c.in_ok-index.ensures in
+    let table = rw c.deref-4.ensures.value at c.in_ok-blocks.ensures in
     record {
       spare = spare;
-      chosen = subst (λ n. IsChosenFrom config.protocol n (shape_of config) c.args.seen.now c.args.list.now spare) c.requires.logical
-          (subst₂ (λ p s. IsChosenFrom p standing.logical s c.args.seen.now c.args.list.now spare) (c.requires.protocol ∙ sym c.requires.rule) same c.in_ok-spare.ensures.spare);
+      chosen = subst (λ n. IsChosenFrom config.protocol n (shape_of config) seen list spare) c.requires.logical
+          (subst₂ (λ p s. IsChosenFrom p standing.logical s seen list spare) (c.requires.protocol ∙ sym c.requires.rule) same chosen);
       scan = c.in_ok-index.index;
-      scanned = c.in_ok-index.ensures;
+      scanned = noted list (scanned c.args.config c.args.shape seen list c.args.standing.now c.requires.check c.requires.seen c.requires.complete c.requires.scanned c.requires.sorts c.requires.protocol c.requires.logical keeps.0);
       noted_is = c.set_spare.ensures;
-      table_is = c.in_ok-blocks.ensures ∙ ap (λ s. opening_table s c.args.seen.now spare) same;
+      table_is = table ∙ ap (λ s. opening_table s seen spare) same;
     }

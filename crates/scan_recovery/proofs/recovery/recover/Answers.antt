@@ -1,28 +1,27 @@
-use Rattle.std.proofs.Common.{sym, ◌∙◌, subst₂}
+use Rattle.std.proofs.Common.{◌∙◌}
 use Rattle.std.proofs.lemmas.Result.{IfOk-weaker}
-use Rattle.scan_recovery.specs.Scans.{IsScanOf}
 use Rattle.scan_recovery.proofs.OpenedImages.{scan_complete, scan_scanned, scan_pages, copies_agree, opened_image, recovered_sound, recovered_unsound, recovered_reads}
 use Rattle.scan_recovery.proofs.recovery.recover.Goals as goal
 
 pub open_tables-requires-clause-complete : goal.open_tables-requires-clause-complete
 open_tables-requires-clause-complete g c =
-    scan_complete c.args.config.protocol c.args.config.logical (g.F.Flash.state c.args.flash.now).image c.deref.result.now c.deref-2.result.now
-    (subst₂ (IsScanOf c.args.config.protocol c.args.config.logical (g.F.Flash.state c.args.flash.now).image) (sym c.deref.ensures.value) (sym c.deref-2.ensures.value) c.in_ok-scanned.ensures.scan)
+    scan_complete c.args.config.protocol c.args.config.logical (g.F.Flash.state c.args.flash.now).image c.in_ok-scanned.scanned.seen.items c.in_ok-scanned.scanned.list.items
+    c.in_ok-scanned.ensures.scan
 
 pub open_tables-requires-clause-scanned : goal.open_tables-requires-clause-scanned
 open_tables-requires-clause-scanned g c =
-    scan_scanned c.args.config.protocol c.args.config.logical (g.F.Flash.state c.args.flash.now).image c.deref.result.now c.deref-2.result.now
-    (subst₂ (IsScanOf c.args.config.protocol c.args.config.logical (g.F.Flash.state c.args.flash.now).image) (sym c.deref.ensures.value) (sym c.deref-2.ensures.value) c.in_ok-scanned.ensures.scan)
+    scan_scanned c.args.config.protocol c.args.config.logical (g.F.Flash.state c.args.flash.now).image c.in_ok-scanned.scanned.seen.items c.in_ok-scanned.scanned.list.items
+    c.in_ok-scanned.ensures.scan
 
 pub open_tables-requires-clause-pages : goal.open_tables-requires-clause-pages
 open_tables-requires-clause-pages g c =
-    scan_pages c.args.config.protocol c.args.config.logical (g.F.Flash.state c.args.flash.now).image c.deref.result.now c.deref-2.result.now
-    (subst₂ (IsScanOf c.args.config.protocol c.args.config.logical (g.F.Flash.state c.args.flash.now).image) (sym c.deref.ensures.value) (sym c.deref-2.ensures.value) c.in_ok-scanned.ensures.scan)
+    scan_pages c.args.config.protocol c.args.config.logical (g.F.Flash.state c.args.flash.now).image c.in_ok-scanned.scanned.seen.items c.in_ok-scanned.scanned.list.items
+    c.in_ok-scanned.ensures.scan
 
 pub open_tables-requires-clause-copies : goal.open_tables-requires-clause-copies
 open_tables-requires-clause-copies g c =
-    copies_agree c.args.config.protocol c.args.config.logical (g.F.Flash.state c.args.flash.now).image c.deref.result.now c.deref-2.result.now
-    (subst₂ (IsScanOf c.args.config.protocol c.args.config.logical (g.F.Flash.state c.args.flash.now).image) (sym c.deref.ensures.value) (sym c.deref-2.ensures.value) c.in_ok-scanned.ensures.scan)
+    copies_agree c.args.config.protocol c.args.config.logical (g.F.Flash.state c.args.flash.now).image c.in_ok-scanned.scanned.seen.items c.in_ok-scanned.scanned.list.items
+    c.in_ok-scanned.ensures.scan
     c.in_ok-scanned.ensures.copies
 
 pub returns-clause-sound : goal.returns-clause-sound
@@ -30,16 +29,16 @@ returns-clause-sound g c =
     let a = g.F.Flash.state c.args.flash.now in
     let d = g.F.Flash.state c.sound_scan.new.flash in
     recovered_sound c.args.config.protocol g.R.CommitRule.protocol c.requires.rule c.args.config.logical a d c.shape.result
-    (c.shape.ensures.shape ∙ c.in_ok-scanned.ensures.reads.carries.shape) c.deref.result.now c.deref-2.result.now
-    (subst₂ (IsScanOf c.args.config.protocol c.args.config.logical a.image) (sym c.deref.ensures.value) (sym c.deref-2.ensures.value) c.in_ok-scanned.ensures.scan)
+    (c.shape.ensures.shape ∙ c.in_ok-scanned.ensures.reads.carries.shape) c.in_ok-scanned.scanned.seen.items c.in_ok-scanned.scanned.list.items
+    c.in_ok-scanned.ensures.scan
     c.in_ok-scanned.ensures.copies c.open_tables.result c.open_tables.ensures.sound
 
 pub returns-clause-tables : goal.returns-clause-tables
 returns-clause-tables g c =
     let a = g.F.Flash.state c.args.flash.now in
     IfOk-weaker c.open_tables.result _ _
-    (λ opened. opened_image c.args.config a.image c.deref.result.now c.deref-2.result.now
-    (subst₂ (IsScanOf c.args.config.protocol c.args.config.logical a.image) (sym c.deref.ensures.value) (sym c.deref-2.ensures.value) c.in_ok-scanned.ensures.scan) _ _)
+    (λ opened. opened_image c.args.config a.image c.in_ok-scanned.scanned.seen.items c.in_ok-scanned.scanned.list.items
+    c.in_ok-scanned.ensures.scan _ _)
     c.open_tables.ensures.tables
 
 pub returns-clause-unsound : goal.returns-clause-unsound
@@ -47,8 +46,8 @@ returns-clause-unsound g c =
     let a = g.F.Flash.state c.args.flash.now in
     let d = g.F.Flash.state c.sound_scan.new.flash in
     recovered_unsound c.args.config.protocol g.R.CommitRule.protocol c.requires.rule c.args.config.logical a d c.shape.result
-    (c.shape.ensures.shape ∙ c.in_ok-scanned.ensures.reads.carries.shape) c.deref.result.now c.deref-2.result.now
-    (subst₂ (IsScanOf c.args.config.protocol c.args.config.logical a.image) (sym c.deref.ensures.value) (sym c.deref-2.ensures.value) c.in_ok-scanned.ensures.scan)
+    (c.shape.ensures.shape ∙ c.in_ok-scanned.ensures.reads.carries.shape) c.in_ok-scanned.scanned.seen.items c.in_ok-scanned.scanned.list.items
+    c.in_ok-scanned.ensures.scan
     c.in_ok-scanned.ensures.copies c.open_tables.result c.open_tables.ensures.unsound
 
 pub returns-clause-reads : goal.returns-clause-reads
@@ -56,6 +55,6 @@ returns-clause-reads g c =
     let a = g.F.Flash.state c.args.flash.now in
     let d = g.F.Flash.state c.sound_scan.new.flash in
     recovered_reads c.args.config.protocol g.R.CommitRule.protocol c.requires.rule c.args.config.logical a d c.shape.result
-    (c.shape.ensures.shape ∙ c.in_ok-scanned.ensures.reads.carries.shape) c.deref.result.now c.deref-2.result.now
-    (subst₂ (IsScanOf c.args.config.protocol c.args.config.logical a.image) (sym c.deref.ensures.value) (sym c.deref-2.ensures.value) c.in_ok-scanned.ensures.scan)
+    (c.shape.ensures.shape ∙ c.in_ok-scanned.ensures.reads.carries.shape) c.in_ok-scanned.scanned.seen.items c.in_ok-scanned.scanned.list.items
+    c.in_ok-scanned.ensures.scan
     c.in_ok-scanned.ensures.copies c.open_tables.result c.in_ok-scanned.ensures.reads c.open_tables.ensures.unsound c.open_tables.ensures.no_fault

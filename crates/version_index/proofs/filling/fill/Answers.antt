@@ -1,10 +1,10 @@
 -- The slots are used by the numbers of their records, and what is decided of these leaves them.
-use Rattle.std.proofs.Common.{List, [], Contains, length, map, ap, sym, subst, ◌∙◌, arith}
-use Rattle.std.proofs.lemmas.List.{length-map, length-replicate}
+use Rattle.std.proofs.Common.{List, [], length, map, ap, sym, subst, ◌∙◌, arith}
+use Rattle.std.proofs.lemmas.List.{length-replicate}
 use Rattle.tx_types.specs.Config.{slots_of}
 use Rattle.slot_tables.specs.declared.slots.SlotUse.{SlotUse}
 use Rattle.slot_tables.specs.Kept.{Kept}
-use Rattle.version_index.specs.Filling.{NamesAgree, AreNumbered, AreBlankBut, AreUses, AreCurrent, AreDecided}
+use Rattle.version_index.specs.Filling.{NamesAgree, AreNumbered, AreBlankBut, AreCurrent, AreDecided}
 use Rattle.version_index.specs.Notes.{seen_as, found_in}
 use Rattle.version_index.specs.Tables.{notes_in}
 use Rattle.version_index.proofs.ScanFilled.{filled_from}
@@ -12,18 +12,18 @@ use Rattle.version_index.proofs.ScanSlots.{all_held, all_placed, each_below, put
 use Rattle.version_index.proofs.filling.fill.Goals as goal
 
 pub number_records-requires-clause-agree : goal.number_records-requires-clause-agree
-number_records-requires-clause-agree c = subst NamesAgree (sym (c.records.ensures.records ∙ c.chart-chart.ensures)) c.requires.agree
+number_records-requires-clause-agree c = subst NamesAgree (sym (c.records.ensures.records ∙ c.chart-chart.ensures)) c.requires.fills.1.agree
 
 pub used_slots-requires-clause-within : goal.used_slots-requires-clause-within
 used_slots-requires-clause-within c =
     rw (c.records-2.ensures.records ∙ c.chart-chart.ensures)
-    (put_within c.args.standing.now.list c.args.seen.now c.args.list.now c.requires.complete c.requires.known)
+    (put_within c.args.standing.now.list c.args.seen.now c.requires.fills.0 c.requires.fills.1.complete c.requires.fills.1.known)
 
 pub hold_uses-requires-clause-below : goal.hold_uses-requires-clause-below
 hold_uses-requires-clause-below c at =
     let list = c.args.standing.now.list in
     let numbers = c.in_ok-numbers.numbers.items in
-    let scanned = c.args.list.now in
+    let scanned = c.requires.fills.0 in
     let seen = c.args.seen.now in
     let t0 = c.number_records.new.tables in
     let chart = c.chart-chart.ensures in
@@ -32,20 +32,20 @@ hold_uses-requires-clause-below c at =
     let whole = c.in_ok-numbers.ensures.whole ∙ ap length in_chart in
     let uses = c.in_ok-uses.uses.items in
     let put = rw (c.deref.ensures.value, c.records-2.ensures.records ∙ chart) at c.in_ok-uses.ensures in
-    let used = put_used list numbers seen scanned uses c.requires.complete c.requires.listed c.requires.known put in
+    let used = put_used list numbers seen scanned uses c.requires.fills.1.complete c.requires.fills.1.listed c.requires.fills.1.known put in
     let blank = c.in_ok-numbers.ensures.blank in
     let sizes = blank.sizes ∙ sym (ap (λ (k : Kept). slots_of k.shape) blank.rest) in
-    rw c.deref-2.ensures.value (each_below list numbers t0 seen scanned uses numbered whole c.requires.agree sizes used at)
+    rw c.deref-2.ensures.value (each_below list numbers t0 seen scanned uses numbered whole c.requires.fills.1.agree sizes used at)
 
 pub hold_uses-requires-clause-size : goal.hold_uses-requires-clause-size
 hold_uses-requires-clause-size c =
-    ap length c.deref-2.ensures.value ∙ c.in_ok-uses.ensures.size ∙ c.requires.seen ∙ sym (ap (λ (k : Kept). slots_of k.shape) c.in_ok-numbers.ensures.blank.rest)
+    ap length c.deref-2.ensures.value ∙ c.in_ok-uses.ensures.size ∙ c.requires.fills.1.reads ∙ sym (ap (λ (k : Kept). slots_of k.shape) c.in_ok-numbers.ensures.blank.rest)
 
 pub returns-clause-reads : goal.returns-clause-reads
 returns-clause-reads c =
     let list = c.args.standing.now.list in
     let numbers = c.in_ok-numbers.numbers.items in
-    let scanned = c.args.list.now in
+    let scanned = c.requires.fills.0 in
     let seen = c.args.seen.now in
     let t0 = c.number_records.new.tables in
     let chart = c.chart-chart.ensures in
@@ -54,19 +54,19 @@ returns-clause-reads c =
     let whole = c.in_ok-numbers.ensures.whole ∙ ap length in_chart in
     let uses = c.in_ok-uses.uses.items in
     let put = rw (c.deref.ensures.value, c.records-2.ensures.records ∙ chart) at c.in_ok-uses.ensures in
-    let used = put_used list numbers seen scanned uses c.requires.complete c.requires.listed c.requires.known put in
+    let used = put_used list numbers seen scanned uses c.requires.fills.1.complete c.requires.fills.1.listed c.requires.fills.1.known put in
     let t1 = c.hold_uses.new.tables in
     let is = c.hold_uses.ensures ∙ ap (λ (s : List SlotUse). record t0 { slots = s }) c.deref-2.ensures.value in
-    let held = uses_held list numbers t0 t1 seen scanned uses numbered whole c.requires.agree c.requires.listed used is in
+    let held = uses_held list numbers t0 t1 seen scanned uses numbered whole c.requires.fills.1.agree c.requires.fills.1.listed used is in
     let notes = ap notes_in c.decide_records.ensures.rest ∙ ap notes_in c.decide_current.ensures.rest
     ∙ all_held list numbers t0 used.notes t1 (length used.notes) held (omega arith) in
     ap (map seen_as) notes ∙ used.reads
 
 pub returns-clause-found : goal.returns-clause-found
-returns-clause-found c =
+returns-clause-found c own can =
     let list = c.args.standing.now.list in
     let numbers = c.in_ok-numbers.numbers.items in
-    let scanned = c.args.list.now in
+    let scanned = own in
     let seen = c.args.seen.now in
     let t0 = c.number_records.new.tables in
     let chart = c.chart-chart.ensures in
@@ -75,10 +75,10 @@ returns-clause-found c =
     let whole = c.in_ok-numbers.ensures.whole ∙ ap length in_chart in
     let uses = c.in_ok-uses.uses.items in
     let put = rw (c.deref.ensures.value, c.records-2.ensures.records ∙ chart) at c.in_ok-uses.ensures in
-    let used = put_used list numbers seen scanned uses c.requires.complete c.requires.listed c.requires.known put in
+    let used = put_used list numbers seen scanned uses can.complete can.listed can.known put in
     let t1 = c.hold_uses.new.tables in
     let is = c.hold_uses.ensures ∙ ap (λ (s : List SlotUse). record t0 { slots = s }) c.deref-2.ensures.value in
-    let held = uses_held list numbers t0 t1 seen scanned uses numbered whole c.requires.agree c.requires.listed used is in
+    let held = uses_held list numbers t0 t1 seen scanned uses numbered whole can.agree can.listed used is in
     let notes = ap notes_in c.decide_records.ensures.rest ∙ ap notes_in c.decide_current.ensures.rest
     ∙ all_held list numbers t0 used.notes t1 (length used.notes) held (omega arith) in
     ap found_in notes ∙ used.found
@@ -87,7 +87,7 @@ pub returns-clause-filled : goal.returns-clause-filled
 returns-clause-filled c =
     let list = c.args.standing.now.list in
     let numbers = c.in_ok-numbers.numbers.items in
-    let scanned = c.args.list.now in
+    let scanned = c.requires.fills.0 in
     let seen = c.args.seen.now in
     let t0 = c.number_records.new.tables in
     let chart = c.chart-chart.ensures in
@@ -96,16 +96,16 @@ returns-clause-filled c =
     let whole = c.in_ok-numbers.ensures.whole ∙ ap length in_chart in
     let uses = c.in_ok-uses.uses.items in
     let put = rw (c.deref.ensures.value, c.records-2.ensures.records ∙ chart) at c.in_ok-uses.ensures in
-    let used = put_used list numbers seen scanned uses c.requires.complete c.requires.listed c.requires.known put in
+    let used = put_used list numbers seen scanned uses c.requires.fills.1.complete c.requires.fills.1.listed c.requires.fills.1.known put in
     let t1 = c.hold_uses.new.tables in
     let is = c.hold_uses.ensures ∙ ap (λ (s : List SlotUse). record t0 { slots = s }) c.deref-2.ensures.value in
-    let held = uses_held list numbers t0 t1 seen scanned uses numbered whole c.requires.agree c.requires.listed used is in
+    let held = uses_held list numbers t0 t1 seen scanned uses numbered whole c.requires.fills.1.agree c.requires.fills.1.listed used is in
     let k = c.args.tables.now in
     let protocol = c.args.standing.now.protocol in
     let logical = c.args.logical in
     let t2 = c.decide_current.new.tables in
     let t3 = c.decide_records.new.tables in
-    let pages = ap (λ (t : Kept). length t.pages) c.requires.blank ∙ length-replicate logical [] in
+    let pages = ap (λ (t : Kept). length t.pages) c.requires.fills.1.blank ∙ length-replicate logical [] in
     filled_from protocol list k.shape logical numbers t0 t1 t2 t3 (subst (λ n. AreBlankBut k.shape n t0) pages c.in_ok-numbers.ensures.blank)
     whole numbered held.rest (all_placed list numbers t0 used.notes t1 (length used.notes) held (omega arith))
     (subst (λ ns. AreCurrent protocol list ns logical t1 t2) c.deref-3.ensures.value c.decide_current.ensures)

@@ -1,5 +1,5 @@
 -- One record after the other is put where it stands.
-use Rattle.std.proofs.Common.{rules, ◌<◌, length, get_or}
+use Rattle.std.proofs.Common.{◌<◌, length, get_or}
 use Rattle.record_list.specs.Records.{nothing}
 use Rattle.version_index.proofs.ScanSlots.{none_put, put_more}
 use Rattle.version_index.proofs.holding.used_slots.Goals as goal

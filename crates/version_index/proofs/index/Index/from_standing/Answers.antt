@@ -2,33 +2,30 @@ use Rattle.std.proofs.Common.{◌≡◌, ◌≤◌, ◌-◌, ◌*◌, length, ap
 use Rattle.std.specs.Result.{result_unwrap_or}
 use Rattle.std.proofs.Math.Nat.{mul-le-mul_right}
 use Rattle.std.proofs.lemmas.List.{length-map}
-use Rattle.std.proofs.lemmas.List.Sorted.{length_permutation, Contains-permutation, IsPermutation-sym}
+use Rattle.std.proofs.lemmas.List.Sorted.{length_permutation}
 use Rattle.tx_types.specs.Config.{IsShape, shape_of, slots_of, blocks_of}
 use Rattle.record_chart.specs.Charts.{Sorts}
-use Rattle.slot_tables.specs.Kept.{Kept, blank_tables}
+use Rattle.slot_tables.specs.Kept.{Kept}
 use Rattle.version_index.specs.Filling.{AreFilled}
 use Rattle.version_index.specs.Noted.{IsNotedFrom}
 use Rattle.version_index.specs.Tables.{noted_by, AreIndexed}
 use Rattle.std.specs.List.{range_with_len}
 use Rattle.version_index.proofs.Mentions.{mentions_sorted}
 use Rattle.version_index.proofs.NotedChanges.{fresh_noted}
+use Rattle.version_index.proofs.ScanFills.{can_fill}
 use Rattle.version_index.proofs.ScanJudged.{filled_indexed}
-use Rattle.version_index.proofs.ScanSizes.{complete_length, sorted_agree, sorted_exist}
+use Rattle.version_index.proofs.ScanSizes.{complete_length, sorted_exist}
 use Rattle.version_index.proofs.index.Index.from_standing.Goals as goal
-
-pub fill-requires-clause-agree : goal.fill-requires-clause-agree
-fill-requires-clause-agree g c =
-    sorted_agree _ c.args.list.now c.args.standing.now.list c.args.config.logical c.requires.sound c.requires.scanned c.requires.sorts
 
 pub fill-requires-clause-few : goal.fill-requires-clause-few
 fill-requires-clause-few g c =
     let same : c.in-Ok.shape ≡ shape_of c.args.config =
     ap (λ r. result_unwrap_or r (shape_of c.args.config)) (sym c.in-Ok.is ∙ c.check.ensures.exact ∙ c.requires.check) in
     let slots = ap (λ (t : Kept). slots_of t.shape) c.in_ok-filling.ensures ∙ ap slots_of same in
-    let long = length_permutation c.args.list.now c.args.standing.now.list c.requires.sorts.records in
-    let some = sym (length-map c.args.list.now (λ f. f.slot.0)) ∙ ap length c.requires.complete in
+    let long = length_permutation c.requires.scan.0 c.args.standing.now.list c.requires.scan.1.sorts.records in
+    let some = sym (length-map c.requires.scan.0 (λ f. f.slot.0)) ∙ ap length c.requires.scan.1.complete in
     let few = complete_length c.args.seen.now in
-    let seen = c.requires.seen in
+    let seen = c.requires.scan.1.reads in
     omega arith
 
 pub invariant_of-result : goal.invariant_of-result
@@ -39,36 +36,40 @@ invariant_of-result g c =
     let same : c.in-Ok.shape ≡ shape_of its =
     ap (λ r. result_unwrap_or r (shape_of its)) (sym c.in-Ok.is ∙ c.check.ensures.exact ∙ c.requires.check) in
     let shape = ap (λ (u : Kept). u.shape) c.in_ok-filling.ensures ∙ same in
-    let found = c.in_ok-fill.ensures.found in
+    let can = can_fill g.R.CommitRule.protocol its c.in-Ok.shape c.args.seen.now c.requires.scan.0 c.args.standing.now c.in_ok-filling.filling c.in_ok-filling.ensures same c.requires.scan.1 in
+    let found = c.in_ok-fill.ensures.found c.requires.scan.0 can in
     let filled = subst (λ p. AreFilled p c.args.standing.now.list (shape_of its) its.logical t) c.requires.protocol
     (subst (λ s. AreFilled c.args.standing.now.protocol c.args.standing.now.list s its.logical t) shape c.in_ok-fill.ensures.filled) in
-    let noted = fresh_noted _ its c.args.seen.now c.args.list.now (noted_by its m t) c.requires.check c.in-Ok.ensures.bounds c.requires.rule
-    c.requires.seen c.requires.scanned c.requires.sound (record {
+    let noted = fresh_noted _ its c.args.seen.now c.requires.scan.0 (noted_by its m t) c.requires.check c.in-Ok.ensures.bounds c.requires.rule
+    c.requires.scan.1.reads c.requires.scan.1.slots c.requires.scan.1.sound (record {
       config = refl;
       reads = c.in_ok-fill.ensures.reads;
       found = found;
       pins = filled.pins;
       spare = filled.spare;
       mentions = c.in_ok-first_mentions.ensures
-          ∙ mentions_sorted c.args.list.now c.args.standing.now.list c.records.result.now c.requires.sorts (c.records.ensures.records ∙ c.chart.ensures) (range_with_len 0 its.logical);
+          ∙ mentions_sorted c.requires.scan.0 c.args.standing.now.list c.records.result.now c.requires.scan.1.sorts (c.records.ensures.records ∙ c.chart.ensures) (range_with_len 0 its.logical);
     }) in
     subst (λ (k : Kept). AreIndexed g.R.CommitRule.protocol its m k) (sym c.in_ok-tables.ensures)
-    (filled_indexed _ its m t c.args.standing.now.list noted (subst (λ l. Sorts l c.args.standing.now.list) (sym found) c.requires.sorts) filled)
+    (filled_indexed _ its m t c.args.standing.now.list noted (subst (λ l. Sorts l c.args.standing.now.list) (sym found) c.requires.scan.1.sorts) filled)
 
 pub returns : goal.returns
-returns g c =
+returns g c own scan =
     let t : Kept = c.fill.new.tables in
     let its = c.args.config in
     let m = c.in_ok-first_mentions.field-0.items in
+    let same : c.in-Ok.shape ≡ shape_of its =
+    ap (λ r. result_unwrap_or r (shape_of its)) (sym c.in-Ok.is ∙ c.check.ensures.exact ∙ c.requires.check) in
+    let can = can_fill g.R.CommitRule.protocol its c.in-Ok.shape c.args.seen.now own c.args.standing.now c.in_ok-filling.filling c.in_ok-filling.ensures same scan in
     let filled = c.in_ok-fill.ensures.filled in
-    subst (λ (k : Kept). IsNotedFrom its c.args.seen.now c.args.list.now (noted_by its m k)) (sym c.in_ok-tables.ensures) (record {
+    subst (λ (k : Kept). IsNotedFrom its c.args.seen.now own (noted_by its m k)) (sym c.in_ok-tables.ensures) (record {
       config = refl;
       reads = c.in_ok-fill.ensures.reads;
-      found = c.in_ok-fill.ensures.found;
+      found = c.in_ok-fill.ensures.found own can;
       pins = filled.pins;
       spare = filled.spare;
       mentions = c.in_ok-first_mentions.ensures
-          ∙ mentions_sorted c.args.list.now c.args.standing.now.list c.records.result.now c.requires.sorts (c.records.ensures.records ∙ c.chart.ensures) (range_with_len 0 its.logical);
+          ∙ mentions_sorted own c.args.standing.now.list c.records.result.now scan.sorts (c.records.ensures.records ∙ c.chart.ensures) (range_with_len 0 its.logical);
     })
 
 pub new-requires-clause-pages : goal.new-requires-clause-pages
@@ -84,30 +85,17 @@ new-requires-clause-pages g c =
 
 pub fill-requires-clause-exist : goal.fill-requires-clause-exist
 fill-requires-clause-exist g c =
-    sorted_exist _ c.args.list.now c.args.standing.now.list c.args.config.logical c.requires.sound c.requires.scanned c.requires.sorts
-
-pub fill-requires-clause-listed : goal.fill-requires-clause-listed
-fill-requires-clause-listed g c f i = Contains-permutation c.args.list.now c.args.standing.now.list f c.requires.sorts.records i
-
-pub fill-requires-clause-known : goal.fill-requires-clause-known
-fill-requires-clause-known g c f i =
-    let list = c.args.list.now in
-    let sorted = c.args.standing.now.list in
-    Contains-permutation sorted list f (IsPermutation-sym list sorted c.requires.sorts.records) i
-
-pub fill-requires-clause-seen : goal.fill-requires-clause-seen
-fill-requires-clause-seen g c =
-    let same : c.in-Ok.shape ≡ shape_of c.args.config =
-    ap (λ r. result_unwrap_or r (shape_of c.args.config)) (sym c.in-Ok.is ∙ c.check.ensures.exact ∙ c.requires.check) in
-    c.requires.seen ∙ sym (ap (λ (t : Kept). slots_of t.shape) c.in_ok-filling.ensures ∙ ap slots_of same)
-
-pub fill-requires-clause-blank : goal.fill-requires-clause-blank
-fill-requires-clause-blank g c =
-    let is = c.in_ok-filling.ensures in
-    is ∙ ap (λ s. blank_tables s c.args.config.logical) (sym (ap (λ (t : Kept). t.shape) is))
+    sorted_exist _ c.requires.scan.0 c.args.standing.now.list c.args.config.logical c.requires.scan.1.sound c.requires.scan.1.slots c.requires.scan.1.sorts
 
 pub new-requires-clause-shape : goal.new-requires-clause-shape
 new-requires-clause-shape g c =
     let same : c.in-Ok.shape ≡ shape_of c.args.config =
     ap (λ r. result_unwrap_or r (shape_of c.args.config)) (sym c.in-Ok.is ∙ c.check.ensures.exact ∙ c.requires.check) in
     subst IsShape (sym same) c.in-Ok.ensures.bounds.shape
+
+pub fill-requires-clause-fills : goal.fill-requires-clause-fills
+fill-requires-clause-fills g c =
+    let its = c.args.config in
+    let same : c.in-Ok.shape ≡ shape_of its =
+    ap (λ r. result_unwrap_or r (shape_of its)) (sym c.in-Ok.is ∙ c.check.ensures.exact ∙ c.requires.check) in
+    (c.requires.scan.0, can_fill g.R.CommitRule.protocol its c.in-Ok.shape c.args.seen.now c.requires.scan.0 c.args.standing.now c.in_ok-filling.filling c.in_ok-filling.ensures same c.requires.scan.1)

@@ -1,0 +1,22 @@
+use Rattle.version_index.proofs.index.Index.from_scan.Goals as goal
+
+pub from_standing-requires-clause-scan : goal.from_standing-requires-clause-scan
+from_standing-requires-clause-scan g c = (
+  c.args.list.now,
+  record {
+    reads = c.requires.seen;
+    complete = c.requires.complete;
+    slots = c.requires.scanned;
+    sound = c.requires.sound;
+    sorts = c.in_ok-standing.ensures.sorts;
+  },
+)
+
+pub returns : goal.returns
+returns g c = c.from_standing.ensures c.args.list.now (record {
+  reads = c.requires.seen;
+  complete = c.requires.complete;
+  slots = c.requires.scanned;
+  sound = c.requires.sound;
+  sorts = c.in_ok-standing.ensures.sorts;
+})
