@@ -26,7 +26,8 @@ looks_none : (s : FlashState) → Looks s s 0 false
 looks_none s = record { moment = refl; carries = Carries-nothing s; all = refl; some = tt }
 
 -- one read that was done
-pub looks_once : (s s1 : FlashState) (at : ℕ) (bytes spare : List ℕ) (r : Result Seen Broken) (how : Seen) → Reads s s1 at bytes spare r → r ≡ Ok how → Looks s s1 1 false
+pub looks_once : (s s1 : FlashState) (at : ℕ) (bytes spare : List ℕ) (r : Result Seen Broken) (how : Seen) → Reads s s1 at bytes spare r → r ≡ Ok how →
+    Looks s s1 1 false
 looks_once s s1 at bytes spare r how e ok =
     let done : Reads s s1 at bytes spare (Ok how) = subst (Reads s s1 at bytes spare) ok e in
     record {
@@ -41,7 +42,8 @@ one_or_none true n m e = (1, omega arith, e)
 one_or_none false n m e = (0, omega arith, e)
 
 -- and one that was broken
-pub looks_broken : (s s1 : FlashState) (at : ℕ) (bytes spare : List ℕ) (r : Result Seen Broken) (x : Broken) → Reads s s1 at bytes spare r → r ≡ Err x → Looks s s1 1 true
+pub looks_broken : (s s1 : FlashState) (at : ℕ) (bytes spare : List ℕ) (r : Result Seen Broken) (x : Broken) → Reads s s1 at bytes spare r → r ≡ Err x →
+    Looks s s1 1 true
 looks_broken s s1 at bytes spare r x e err =
     let done : Reads s s1 at bytes spare (Err x) = subst (Reads s s1 at bytes spare) err e in
     record {
@@ -125,16 +127,21 @@ module _ (n : Noted) (old now : FlashState) (first at : ℕ) (x y : Bool) (h : R
       ReadSoFar n old c first (at + 1) (x && e) (y && b)
   read_more how is low e b same none =
       let done : Reads now c at bytes spare (Ok how) = subst (Reads now c at bytes spare) is reads in
-      let shows : how ≡ seen_of (slot_at old.image at) = done.done.how_it_reads ∙ ap (λ i. seen_of (slot_at i at)) (ap (λ (m : Moment). m.image) h.looks.moment) in
+      let shows : how ≡ seen_of (slot_at old.image at) = done.done.how_it_reads
+      ∙ ap (λ i. seen_of (slot_at i at)) (ap (λ (m : Moment). m.image) h.looks.moment) in
       let here : first + (at - first) ≡ at = omega arith in
       let next : at - first + 1 ≡ at + 1 - first = omega arith in
       let e_is : e ≡ test_noted n old.image (first + (at - first)) =
-      same ∙ ap (λ q. reads_alike q (seen_as (note_at n.notes at))) shows ∙ alike (note_at n.notes at) (slot_at old.image at) ∙ ap (test_noted n old.image) (sym here) in
-      let b_is : b ≡ test_blank old.image (first + (at - first)) = none ∙ ap reads_blank shows ∙ blank_reads (slot_at old.image at) ∙ ap (test_blank old.image) (sym here) in
+      same ∙ ap (λ q. reads_alike q (seen_as (note_at n.notes at))) shows ∙ alike (note_at n.notes at) (slot_at old.image at)
+      ∙ ap (test_noted n old.image) (sym here) in
+      let b_is : b ≡ test_blank old.image (first + (at - first)) = none ∙ ap reads_blank shows ∙ blank_reads (slot_at old.image at)
+      ∙ ap (test_blank old.image) (sym here) in
       record {
         looks = subst (λ k. Looks old c k false) next (looks_then old now c (at - first) false h.looks (looks_once now c at bytes spare r how reads is));
-        noted = ap₂ (λ p q. p && q) h.noted e_is ∙ sym (range_push (test_noted n old.image) first (at - first)) ∙ ap (λ k. list_all (test_noted n old.image) (range_with_len first k)) next;
-        blanks = ap₂ (λ p q. p && q) h.blanks b_is ∙ sym (range_push (test_blank old.image) first (at - first)) ∙ ap (λ k. list_all (test_blank old.image) (range_with_len first k)) next;
+        noted = ap₂ (λ p q. p && q) h.noted e_is ∙ sym (range_push (test_noted n old.image) first (at - first))
+            ∙ ap (λ k. list_all (test_noted n old.image) (range_with_len first k)) next;
+        blanks = ap₂ (λ p q. p && q) h.blanks b_is ∙ sym (range_push (test_blank old.image) first (at - first))
+            ∙ ap (λ k. list_all (test_blank old.image) (range_with_len first k)) next;
       }
 
 -- all were read
@@ -157,7 +164,8 @@ read_all n old now block at x y pages same =
     })
 
 -- a slot of the block is a slot of the flash
-pub in_block : (n : Noted) (block at pages : ℕ) → block < blocks_of (shape_of n.config) → pages ≡ n.config.pages_per_block → at < block * pages + pages → at < slots_of (shape_of n.config)
+pub in_block : (n : Noted) (block at pages : ℕ) → block < blocks_of (shape_of n.config) → pages ≡ n.config.pages_per_block → at < block * pages + pages →
+    at < slots_of (shape_of n.config)
 in_block n block at pages below same high =
     let within = block_within (shape_of n.config) block below in
     let low : at < block * n.config.pages_per_block + n.config.pages_per_block = subst (λ k. at < block * k + k) same high in

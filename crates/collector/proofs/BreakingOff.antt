@@ -31,7 +31,8 @@ use Rattle.collector.proofs.Looked.{reads_then}
 module _ (p : Protocol) (a : Store) (n : Noted) (s : FlashState) (t : BlockTable) (u : Unsure) (first start at used block : ℕ)
     (h : CopiedSoFar p a n s t u first start at used) (low : first ≤ at)
     (block_is : first ≡ block * a.noted.config.pages_per_block) (spare_is : start ≡ t.spare * a.noted.config.pages_per_block)
-    (high : at < first + a.noted.config.pages_per_block) (apart : block ≢ t.spare) (below : block < blocks_of (shape_of a.noted.config)) (needed : needed_of n at ≡ true) where
+    (high : at < first + a.noted.config.pages_per_block) (apart : block ≢ t.spare) (below : block < blocks_of (shape_of a.noted.config))
+    (needed : needed_of n at ≡ true) where
   abbrev n0 : Noted
   n0 = a.noted
 
@@ -65,7 +66,8 @@ module _ (p : Protocol) (a : Store) (n : Noted) (s : FlashState) (t : BlockTable
         from = at;
         later = later;
         copied = copied_before (moment_of s') (sym read.1) n' stays;
-        reads = λ live. read.2 (h.keeps.carries.lives ∙ live) ∙ ap counted h.reads ∙ reads_then used 1 s0.reads ∙ ap (λ k. reads_after (k + 1) s0.reads) h.count;
+        reads = λ live. read.2 (h.keeps.carries.lives ∙ live) ∙ ap counted h.reads ∙ reads_then used 1 s0.reads
+            ∙ ap (λ k. reads_after (k + 1) s0.reads) h.count;
       })
   copying_broke s' n' u' from to from_is to_is stays (inr torn) =
       let place = to_at p a n s t u first start at used block h low block_is spare_is high apart below in
@@ -78,13 +80,15 @@ module _ (p : Protocol) (a : Store) (n : Noted) (s : FlashState) (t : BlockTable
         torn = subst (λ o. Torn s0.shape (moment_of s) o (moment_of s'))
             (ap (λ k. copy_program n.config.page_bytes s.image k from.0) to_is ∙ ap (copy_program n.config.page_bytes s.image (start + used)) from_is
             ∙ its_program p a n s t u first start at used block h low block_is spare_is high apart below
-            ∙ ap (λ k. copy_program n0.config.page_bytes s0.image k at) (sym (to_is ∙ place)) ∙ ap (copy_program n0.config.page_bytes s0.image to.0) (sym from_is))
+            ∙ ap (λ k. copy_program n0.config.page_bytes s0.image k at) (sym (to_is ∙ place))
+            ∙ ap (copy_program n0.config.page_bytes s0.image to.0) (sym from_is))
             (subst (λ sh. Torn sh (moment_of s) (copy_program n.config.page_bytes s.image to.0 from.0) (moment_of s')) h.keeps.carries.shape torn.1);
         reads = torn.2 ∙ ap counted h.reads ∙ reads_then used 1 s0.reads ∙ ap (λ k. reads_after (k + 1) s0.reads) h.count;
       })
 
 -- a collection of which the spare was made blank
-module _ (p : Protocol) (loss : LossLaw p) (s0 : FlashState) (n0 : Noted) (t : BlockTable) (u0 : Unsure) (rule : n0.config.protocol ≡ p) (m : Matches s0 n0 t u0)
+module _ (p : Protocol) (loss : LossLaw p) (s0 : FlashState) (n0 : Noted) (t : BlockTable) (u0 : Unsure) (rule : n0.config.protocol ≡ p)
+    (m : Matches s0 n0 t u0)
     (s1 : FlashState) (n1 : Noted) (t1 : BlockTable) (block : ℕ) (noted : n1 ≡ erased n0 t.spare) (table : t1 ≡ t) (apart : block ≢ t.spare)
     (shape1 : s1.shape ≡ s0.shape) (cleans : Does s0.shape (moment_of s0) (cleaning n0 s0.image t.spare) (moment_of s1)) (unread : s1.reads ≡ s0.reads) where
   -- its copies are those that follow on making the spare blank
@@ -100,7 +104,8 @@ module _ (p : Protocol) (loss : LossLaw p) (s0 : FlashState) (n0 : Noted) (t : B
             (subst (λ (k : Noted). n2 ≡ copied_from k (t1.spare * k.config.pages_per_block) first) noted c.noted);
       }
 
-  pub copies_broke : s1.live ≡ s0.live → (s2 : FlashState) (n2 : Noted) (u2 : Unsure) → CopiesBreakOff n1 s1 s2 [] t1.spare block n2 u2 → BreaksOff n0 s0 s2 t.spare block n2 u2
+  pub copies_broke : s1.live ≡ s0.live → (s2 : FlashState) (n2 : Noted) (u2 : Unsure) → CopiesBreakOff n1 s1 s2 [] t1.spare block n2 u2 →
+      BreaksOff n0 s0 s2 t.spare block n2 u2
   copies_broke lives s2 n2 unsure.Nothing b = record {
     first = b.first;
     from = b.from;
@@ -142,7 +147,8 @@ module _ (p : Protocol) (loss : LossLaw p) (s0 : FlashState) (n0 : Noted) (t : B
               order = sym (append-nil (needed_slots (erased n0 t.spare) block));
               done = all_copied p loss s0 n0 t u0 rule m s1 n1 t1 block noted table apart shape1 cleans s2 n2 used copied;
               noted = stays
-                  ∙ subst (λ (k : BlockTable). n2 ≡ copied_from (erased n0 t.spare) (k.spare * n0.config.pages_per_block) (needed_slots (erased n0 t.spare) block)) table
+                  ∙ subst (λ (k : BlockTable). n2 ≡ copied_from (erased n0 t.spare) (k.spare * n0.config.pages_per_block)
+                  (needed_slots (erased n0 t.spare) block)) table
                   (subst (λ (k : Noted). n2 ≡ copied_from k (t1.spare * k.config.pages_per_block) (needed_slots k block)) noted copied.noted);
             };
             torn = subst (λ sh. Torn sh (moment_of s2) (erase block) (moment_of s3)) shape2 torn;

@@ -28,7 +28,7 @@ use Rattle.collector.specs.Calls.{Cleans}
 use Rattle.collector.specs.Matches.{Matches}
 use Rattle.collector.specs.Collecting.{is_blank_slot, is_blank_block, is_noted_blank, cleaning}
 use Rattle.collector.specs.Preserves.{KeepsArray}
-use Rattle.collector.specs.Retiring.{KeepsTables}
+use Rattle.collector.specs.Retiring.{KeepsStore}
 use Rattle.collector.specs.Store.{Store, store_of, IsSure}
 use Rattle.collector.proofs.Calm.{noted_as_read}
 use Rattle.collector.proofs.Chains.{HasNoNewRecord-nothing}
@@ -64,7 +64,8 @@ module _ (s : FlashState) (n : Noted) (t : BlockTable) (u : Unsure) (nothing : u
   -- the spare reads blank exactly where it is noted so
   pub blank_as_read : is_blank_block n s.image t.spare ≡ is_noted_blank n t.spare
   blank_as_read =
-      range_same (λ slot. is_blank_slot (slot_at s.image slot)) (λ slot. is_blank (note_at n.notes slot)) (t.spare * n.config.pages_per_block) n.config.pages_per_block
+      range_same (λ slot. is_blank_slot (slot_at s.image slot)) (λ slot. is_blank (note_at n.notes slot)) (t.spare * n.config.pages_per_block)
+      n.config.pages_per_block
       (λ k low high.
       sym (ap is_blank (noted_as_read s n t m k (omega (arith, high, fits, ap slots_of m.shape))) ∙ blank_as_noted n.config.protocol (slot_at s.image k)))
 
@@ -83,7 +84,8 @@ module _ (s : FlashState) (n : Noted) (t : BlockTable) (u : Unsure) (nothing : u
       let each : (k : ℕ) → k < length n.notes → note_at n.notes k ≡ note_at notes' k = λ k within. elim (cases_lt k (t.spare * n.config.pages_per_block)) [
         | inl before ↦ sym (note_at-out sh some n.notes m.noted.slots t.spare below Blank k (inl before))
         | inr from ↦ elim (cases_lt k (t.spare * n.config.pages_per_block + n.config.pages_per_block)) [
-          | inl to ↦ noted_blank (note_at n.notes k) (all_range (λ slot. is_blank (note_at n.notes slot)) (t.spare * n.config.pages_per_block) n.config.pages_per_block e k from to)
+          | inl to ↦ noted_blank (note_at n.notes k)
+              (all_range (λ slot. is_blank (note_at n.notes slot)) (t.spare * n.config.pages_per_block) n.config.pages_per_block e k from to)
               ∙ sym (note_at-in sh some n.notes m.noted.slots t.spare below Blank k from to)
           | inr behind ↦ sym (note_at-out sh some n.notes m.noted.slots t.spare below Blank k (inr behind))
         ]
@@ -104,7 +106,8 @@ module _ (p : Protocol) (loss : LossLaw p) (written_loss : WrittenLossLaw p) (a 
   written_law : WrittenLossLaw a.noted.config.protocol
   written_law = subst WrittenLossLaw (sym k.rule) written_loss
 
-  at_rule : (s' : FlashState) → KeepsArray a.noted.config.protocol a.noted.config.logical a.flash.image s'.image → KeepsArray p a.noted.config.logical a.flash.image s'.image
+  at_rule : (s' : FlashState) → KeepsArray a.noted.config.protocol a.noted.config.logical a.flash.image s'.image →
+      KeepsArray p a.noted.config.logical a.flash.image s'.image
   at_rule s' = subst (λ q. KeepsArray q a.noted.config.logical a.flash.image s'.image) k.rule
 
   -- where the spare is noted blank nothing is done
@@ -126,7 +129,7 @@ module _ (p : Protocol) (loss : LossLaw p) (written_loss : WrittenLossLaw p) (a 
 
   -- what is kept where the spare was made blank
   pub spare_emptied : (s' : FlashState) → Empties a.flash s' a.table.spare (Ok tt) →
-      KeepsTables p a (store_of s' (erased a.noted a.table.spare) a.table a.unsure) false
+      KeepsStore p a (store_of s' (erased a.noted a.table.spare) a.table a.unsure) false
   spare_emptied s' done = record {
     matches = subst (Matches s' (erased a.noted a.table.spare) a.table) (sym k.nothing)
         (spare_erased a.flash s' a.noted a.table matches law written_law done
@@ -141,7 +144,7 @@ module _ (p : Protocol) (loss : LossLaw p) (written_loss : WrittenLossLaw p) (a 
 
   -- and where that was broken
   pub spare_left : (s' : FlashState) (x : Broken) → Empties a.flash s' a.table.spare (Err x) →
-      KeepsTables p a (store_of s' a.noted a.table unsure.SpareErase) true
+      KeepsStore p a (store_of s' a.noted a.table unsure.SpareErase) true
   spare_left s' x broken = record {
     matches = spare_torn a.flash s' a.noted a.table matches law written_law x broken;
     preserves = preserves_same a.noted;
@@ -162,7 +165,8 @@ module _ (p : Protocol) (loss : LossLaw p) (written_loss : WrittenLossLaw p) (a 
     can : CanDo a.flash.shape a.flash.image (erase a.table.spare)
     can = omega (arith, spare_below, ap blocks_of matches.shape)
 
-    pub cleans_erased : (x : Unit {0}) → Erases a.flash s' a.table.spare (Ok x) → Cleans p a (store_of s' (erased a.noted a.table.spare) a.table a.unsure) (Ok tt)
+    pub cleans_erased : (x : Unit {0}) → Erases a.flash s' a.table.spare (Ok x) → Cleans p a (store_of s' (erased a.noted a.table.spare) a.table a.unsure)
+        (Ok tt)
     cleans_erased x e = record {
       keeps = keeps_of p a (store_of s' (erased a.noted a.table.spare) a.table a.unsure) false
           (spare_emptied s' (erases_empties a.flash s' a.table.spare (Ok tt) e))

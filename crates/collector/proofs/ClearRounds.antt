@@ -37,7 +37,8 @@ pub record ClearsSoFar (p : Protocol) (page below : ℕ) (a b : Store) : Type 0 
   pub turns : TreatsInTurn page below a.noted a.table rounds b.noted b.table
   pub costs : CostsAtMost a.noted.config.pages_per_block rounds a.flash b.flash
 
-pub clears_none : (p : Protocol) (page below : ℕ) (a : Store) → IsSure p a → ((names : List Link) × IsNextName a.noted names (record { page = page; version = below })) →
+pub clears_none : (p : Protocol) (page below : ℕ) (a : Store) → IsSure p a →
+    ((names : List Link) × IsNextName a.noted names (record { page = page; version = below })) →
     ClearsSoFar p page below a a
 clears_none p page below a k next = record {
   keeps = keeps_same p a k;
@@ -57,7 +58,8 @@ module _ (p : Protocol) (page below : ℕ) (a b : Store) (so : ClearsSoFar p pag
     cleared = gone;
     turns = record { rounds = so.rounds; most = let low = so.left in omega arith; turns = so.turns };
     broken = tt;
-    costs = CostsAtMost-more a.noted.config.pages_per_block so.rounds (blocks_to_go a.noted page below) a.flash b.flash (let low = so.left in omega arith) so.costs;
+    costs = CostsAtMost-more a.noted.config.pages_per_block so.rounds (blocks_to_go a.noted page below) a.flash b.flash (let low = so.left in omega arith)
+        so.costs;
   }
 
   module _ (block : ℕ) (found : block_to_go b.noted page below ≡ Some block) where
@@ -76,7 +78,8 @@ module _ (p : Protocol) (page below : ℕ) (a b : Store) (so : ClearsSoFar p pag
     some_left : 0 < blocks_to_go b.noted page below
     some_left = some_going b.noted page below block block_exists now
 
-    module _ (c : Store) (per : b.noted.config.pages_per_block ≡ a.noted.config.pages_per_block) (costs : CostsAtMost b.noted.config.pages_per_block 1 b.flash c.flash) where
+    module _ (c : Store) (per : b.noted.config.pages_per_block ≡ a.noted.config.pages_per_block)
+        (costs : CostsAtMost b.noted.config.pages_per_block 1 b.flash c.flash) where
       costs_more : CostsAtMost a.noted.config.pages_per_block (so.rounds + 1) a.flash c.flash
       costs_more =
           CostsAtMost-then a.noted.config.pages_per_block so.rounds 1 a.flash b.flash c.flash so.costs (subst (λ k. CostsAtMost k 1 b.flash c.flash) per costs)
@@ -125,7 +128,8 @@ module _ (p : Protocol) (page below : ℕ) (a b : Store) (so : ClearsSoFar p pag
             let low = spare_within b.flash b.noted b.table calm in
             subst (λ (k : Noted). Leaves b.noted k page below block) (sym is)
             (collected_left b.noted so.keeps.matches.noted page below so.names so.next block b.table.spare low block_exists
-            (preserves b.noted so.keeps.matches.noted law b.table.spare low so.keeps.matches.spared Blank refl) (subst (Preserves b.noted) is t.keeps.preserves)))
+            (preserves b.noted so.keeps.matches.noted law b.table.spare low so.keeps.matches.spared Blank refl)
+            (subst (Preserves b.noted) is t.keeps.preserves)))
       ]
 
       pub round_still : (other : ℕ) → is_going c.noted page below other ≡ true → (is_going b.noted page below other ≡ true) × (other ≢ block)

@@ -51,7 +51,8 @@ module _ (p : Protocol) (a m h : Store) (cleaned : Cleans p a m (Ok tt)) (block 
   pub reads_so : h.flash.reads ≡ reads_after (length (needed_slots (erased a.noted a.table.spare) block.0)) a.flash.reads
   reads_so = c.copied.reads ∙ ap₂ reads_after count cleaned.reads
 
-module _ (p : Protocol) (loss : LossLaw p) (a m : Store) (k : IsSure p a) (cleaned : Cleans p a m (Ok tt)) (block : Block) (exists : block.0 < blocks_of (shape_of a.noted.config))
+module _ (p : Protocol) (loss : LossLaw p) (a m : Store) (k : IsSure p a) (cleaned : Cleans p a m (Ok tt)) (block : Block)
+    (exists : block.0 < blocks_of (shape_of a.noted.config))
     (apart : block.0 ≢ a.table.spare) (unneeded : HasUnneeded m.noted block.0) where
   costs_so_far : (b : Store) (r : Result ℕ Broken) → CopiesNeeded p m b block.0 r → CostsBroken a.noted.config.pages_per_block a.flash b.flash
   costs_so_far b r c = broken_costs a.noted m.noted a.flash m.flash b.flash cleaned.keeps.preserves.config cleaned.programs cleaned.erases (c.costs unneeded)

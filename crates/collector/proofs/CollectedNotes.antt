@@ -62,8 +62,10 @@ copied_no_new n to slots = no_new n (copied_from n to slots) (λ f i.
     at f k is = record { was = found k f.rec; is_in = noted_in n.notes k f.rec (holds_within n.notes k f.rec is) is; same = refl }
 
 -- the records outside a block that is all blank now
-module _ (n : Noted) (some : 0 < n.config.pages_per_block) (long : length n.notes ≡ slots_of (shape_of n.config)) (block : ℕ) (below : block < blocks_of (shape_of n.config)) where
-  pub erased_from : (f : Found) → Contains (found_in (erased n block).notes) f → Contains (found_in n.notes) f × (is_outside (shape_of n.config) block f.slot.0 ≡ true)
+module _ (n : Noted) (some : 0 < n.config.pages_per_block) (long : length n.notes ≡ slots_of (shape_of n.config)) (block : ℕ)
+    (below : block < blocks_of (shape_of n.config)) where
+  pub erased_from : (f : Found) → Contains (found_in (erased n block).notes) f →
+      Contains (found_in n.notes) f × (is_outside (shape_of n.config) block f.slot.0 ≡ true)
   erased_from f i =
       from_filter (λ g. is_outside (shape_of n.config) block g.slot.0) f (found_in n.notes)
       (subst (λ l. Contains l f) (noted_left (shape_of n.config) some n.notes long block below Blank refl) i)
@@ -105,7 +107,8 @@ module _ (n : Noted) (some : 0 < n.config.pages_per_block) (long : length n.note
   full_below : block < blocks_of (shape_of full.config)
   full_below = subst (λ (k : Config). block < blocks_of (shape_of k)) (sym config_same) below
 
-  in_full : (f : Found) → Contains (found_in (collected n spare block).notes) f → Contains (found_in full.notes) f × (is_outside (shape_of full.config) block f.slot.0 ≡ true)
+  in_full : (f : Found) → Contains (found_in (collected n spare block).notes) f →
+      Contains (found_in full.notes) f × (is_outside (shape_of full.config) block f.slot.0 ≡ true)
   in_full f i = erased_from full full_some full_slots block full_below f i
 
   -- it lies outside the block
@@ -118,7 +121,8 @@ module _ (n : Noted) (some : 0 < n.config.pages_per_block) (long : length n.note
       elim (copied_notes (noted_cleaned n spare) first slots f.slot.0) [
         | stays e ↦ (
             let is = sym e ∙ there.1 in
-            let was = erased_from n some long spare spare_below f (noted_in (noted_cleaned n spare).notes f.slot.0 f.rec (holds_within (noted_cleaned n spare).notes f.slot.0 f.rec is) is) in
+            let was = erased_from n some long spare spare_below f
+            (noted_in (noted_cleaned n spare).notes f.slot.0 f.rec (holds_within (noted_cleaned n spare).notes f.slot.0 f.rec is) is) in
             in_place was.0 was.1)
         | copy from j e ↦ (
             let is = sym e ∙ there.1 in

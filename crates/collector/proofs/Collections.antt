@@ -26,7 +26,8 @@ use Rattle.collector.proofs.CopyLists.{copies_same}
 use Rattle.collector.proofs.Homes.{cleaned_needs}
 use Rattle.collector.proofs.NotesLeft.{note_at-in}
 
-module _ (p : Protocol) (loss : LossLaw p) (s0 : FlashState) (n0 : Noted) (t : BlockTable) (u0 : Unsure) (rule : n0.config.protocol ≡ p) (m : Matches s0 n0 t u0) where
+module _ (p : Protocol) (loss : LossLaw p) (s0 : FlashState) (n0 : Noted) (t : BlockTable) (u0 : Unsure) (rule : n0.config.protocol ≡ p)
+    (m : Matches s0 n0 t u0) where
   below : t.spare < blocks_of (shape_of n0.config)
   below = omega (arith, m.table.spare_within, ap blocks_of m.blocks, ap blocks_of m.shape)
 
@@ -54,7 +55,8 @@ module _ (p : Protocol) (loss : LossLaw p) (s0 : FlashState) (n0 : Noted) (t : B
       first : IsNextOfSpare (erased n0 t.spare) t.spare (t.spare * n0.config.pages_per_block)
       first = record {
         within = (let end = block_within (shape_of n0.config) t.spare below in omega (arith, end, some));
-        in_spare = ap (λ k. k / n0.config.pages_per_block) (let zero : t.spare * n0.config.pages_per_block ≡ t.spare * n0.config.pages_per_block + 0 = omega arith in zero)
+        in_spare = ap (λ k. k / n0.config.pages_per_block)
+            (let zero : t.spare * n0.config.pages_per_block ≡ t.spare * n0.config.pages_per_block + 0 = omega arith in zero)
             ∙ div-mul-add t.spare n0.config.pages_per_block 0 some;
         blank_on = λ k from before. note_at-in (shape_of n0.config) some n0.notes m.noted.slots t.spare below Blank k from before;
       }
@@ -103,7 +105,8 @@ module _ (p : Protocol) (loss : LossLaw p) (s0 : FlashState) (n0 : Noted) (t : B
       -- all that is needed was copied
       pub all_copied : Does s0.shape (moment_of s0) (cleaning n0 s0.image t.spare ++ programs slots) (moment_of s2)
       all_copied = copies_follow slots (λ k i. i) (moment_of s2)
-          (subst (λ (k : Noted). Does s1.shape (moment_of s1) (copies n1.config.page_bytes s1.image (t1.spare * n1.config.pages_per_block) (needed_slots k block)) (moment_of s2)) noted
+          (subst (λ (k : Noted). Does s1.shape (moment_of s1)
+          (copies n1.config.page_bytes s1.image (t1.spare * n1.config.pages_per_block) (needed_slots k block)) (moment_of s2)) noted
           copied.programmed)
 
       pub collects : (s3 : FlashState) → block < blocks_of (shape_of n0.config) → s2.shape ≡ s0.shape → (r : Result (Unit {0}) Broken) → Erases s2 s3 block r →
@@ -113,7 +116,8 @@ module _ (p : Protocol) (loss : LossLaw p) (s0 : FlashState) (n0 : Noted) (t : B
           can : CanDo s2.shape s2.image (erase block)
           can = omega (arith, exists, ap blocks_of (shape2 ∙ m.shape))
 
-          by : (q : Result (Unit {0}) Broken) → Erases s2 s3 block q → OnOk q (Does s0.shape (moment_of s0) (collecting n0 s0.image t.spare block) (moment_of s3))
+          by : (q : Result (Unit {0}) Broken) → Erases s2 s3 block q → OnOk q
+              (Does s0.shape (moment_of s0) (collecting n0 s0.image t.spare block) (moment_of s3))
           by (Err x) e = tt
           by (Ok x) e =
               Does-append s0.shape (moment_of s0) (moment_of s2) (moment_of s3) (cleaning n0 s0.image t.spare ++ programs slots) (erase block ∷ []) all_copied

@@ -67,7 +67,8 @@ shown size contents how bytes spare c s =
     ∙ ap (λ b. complete b c.spare) (sym (s.its_page ∙ ap (page_of size) c.is))
     ∙ ap (λ x. complete bytes x) (sym (s.its_spare_area ∙ ap spare_area_of c.is))
 
-module _ (p : Protocol) (copy : CopyLaw p) (written_copy : WrittenCopyLaw p) (a : Store) (k : IsSure p a) (from to : Slot) (asked : CanCopy a.noted a.table from.0 to.0)
+module _ (p : Protocol) (copy : CopyLaw p) (written_copy : WrittenCopyLaw p) (a : Store) (k : IsSure p a) (from to : Slot)
+    (asked : CanCopy a.noted a.table from.0 to.0)
     (s1 : FlashState) (bytes spare : List ℕ) (how : Seen) (done : Reads a.flash s1 from.0 bytes spare (Ok how)) where
   abbrev s : FlashState
   s = a.flash
@@ -147,7 +148,8 @@ module _ (p : Protocol) (copy : CopyLaw p) (written_copy : WrittenCopyLaw p) (a 
   to_apart e = (let k : Holds noted.rec ≡ Blank = sym noted.is ∙ ap (note_at n.notes) e ∙ was in cc)
 
   at_rule : (s2 : FlashState) → KeepsArray n.config.protocol n.config.logical s1.image s2.image → KeepsArray p n.config.logical s.image s2.image
-  at_rule s2 h = subst (λ q. KeepsArray q n.config.logical s.image s2.image) k.rule (subst (λ i. KeepsArray n.config.protocol n.config.logical i s2.image) done.image h)
+  at_rule s2 h = subst (λ q. KeepsArray q n.config.logical s.image s2.image) k.rule
+      (subst (λ i. KeepsArray n.config.protocol n.config.logical i s2.image) done.image h)
 
   moves : (s2 : FlashState) (r : Result (Unit {0}) Broken) → Programs s1 s2 to.0 bytes spare r → FlashMoves s s2 (is_err r)
   moves s2 r e = FlashMoves-then s s1 s2 (is_err r) shape_same (FlashMoves-reads s s1 from.0 bytes spare (Ok how) false done)
@@ -162,7 +164,8 @@ module _ (p : Protocol) (copy : CopyLaw p) (written_copy : WrittenCopyLaw p) (a 
   noted' : IsNoted n.config.protocol (copied n from.0 to.0)
   noted' = copied_noted n.config.protocol n m.noted law from.0 to.0 some next.within was
 
-  pub copy_is_done : (s2 : FlashState) (x : Unit {0}) → Programs s1 s2 to.0 bytes spare (Ok x) → CopiesRecord p a (store_of s2 (copied n from.0 to.0) t a.unsure) from to (Ok tt)
+  pub copy_is_done : (s2 : FlashState) (x : Unit {0}) → Programs s1 s2 to.0 bytes spare (Ok x) →
+      CopiesRecord p a (store_of s2 (copied n from.0 to.0) t a.unsure) from to (Ok tt)
   copy_is_done s2 x e =
       let o = program to.0 bytes spare in
       let can0 : CanDo s.shape s.image o = subst (λ i. CanDo s.shape i o) done.image (subst (λ sh. CanDo sh s1.image o) shape_same can) in
@@ -173,9 +176,13 @@ module _ (p : Protocol) (copy : CopyLaw p) (written_copy : WrittenCopyLaw p) (a 
       record {
         keeps = record {
           matches = subst (Matches s2 (copied n from.0 to.0) t) (sym k.nothing)
-              (copy_done s1 s2 n t m1 written_law from to noted.rec bytes spare exists next.within next.in_spare noted.is was source1 can e.carries.shape e law noted');
-          preserves = copy_preserves n m.noted law from.0 to.0 noted.rec noted.is (omega (arith, exists, m.noted.slots)) (omega (arith, next.within, m.noted.slots)) was noted';
-          array = at_rule s2 (left_done s1 s2 n t m1 written_law from to noted.rec bytes spare exists next.within next.in_spare noted.is was source1 can e.carries.shape e.done.image).array;
+              (copy_done s1 s2 n t m1 written_law from to noted.rec bytes spare exists next.within next.in_spare noted.is was source1 can e.carries.shape e law
+              noted');
+          preserves = copy_preserves n m.noted law from.0 to.0 noted.rec noted.is (omega (arith, exists, m.noted.slots))
+              (omega (arith, next.within, m.noted.slots)) was noted';
+          array = at_rule s2
+              (left_done s1 s2 n t m1 written_law from to noted.rec bytes spare exists next.within next.in_spare noted.is was source1 can e.carries.shape
+              e.done.image).array;
           sure = k.nothing;
           others = λ at rec own. (let q = sym k.nothing ∙ own in cc);
           records = copied_no_new n to.0 (from.0 ∷ []);
@@ -192,13 +199,16 @@ module _ (p : Protocol) (copy : CopyLaw p) (written_copy : WrittenCopyLaw p) (a 
         counts = tt;
       }
 
-  pub copy_breaks : (s2 : FlashState) (x : Broken) → Programs s1 s2 to.0 bytes spare (Err x) → CopiesRecord p a (store_of s2 n t (unsure.Copy from to)) from to (Err x)
+  pub copy_breaks : (s2 : FlashState) (x : Broken) → Programs s1 s2 to.0 bytes spare (Err x) →
+      CopiesRecord p a (store_of s2 n t (unsure.Copy from to)) from to (Err x)
   copy_breaks s2 x e = record {
     keeps = record {
-      matches = copy_torn s1 s2 n t m1 written_law from to noted.rec bytes spare exists next.within next.in_spare noted.is was source1 can e.carries.shape x e to_apart;
+      matches = copy_torn s1 s2 n t m1 written_law from to noted.rec bytes spare exists next.within next.in_spare noted.is was source1 can e.carries.shape x e
+          to_apart;
       preserves = preserves_same n;
       array = at_rule s2
-          (left_torn s1 s2 n t m1 written_law from to noted.rec bytes spare exists next.within next.in_spare noted.is was source1 can e.carries.shape e.torn.left.0 e.torn.left.1).array;
+          (left_torn s1 s2 n t m1 written_law from to noted.rec bytes spare exists next.within next.in_spare noted.is was source1 can e.carries.shape
+          e.torn.left.0 e.torn.left.1).array;
       sure = tt;
       others = λ at rec own. (let q = own in cc);
       records = HasNoNewRecord-nothing n;
@@ -212,7 +222,8 @@ module _ (p : Protocol) (copy : CopyLaw p) (written_copy : WrittenCopyLaw p) (a 
       refl,
       subst (λ o. Torn s.shape (moment_of s) o (moment_of s2)) (sym asks)
           (subst (λ sh. Torn sh (moment_of s) (program to.0 bytes spare) (moment_of s2)) shape_same
-          (subst (λ q. Torn s1.shape q (program to.0 bytes spare) (moment_of s2)) (same_moments (moment_of s1) (moment_of s) done.image done.programs done.erases) e.torn)),
+          (subst (λ q. Torn s1.shape q (program to.0 bytes spare) (moment_of s2)) (same_moments (moment_of s1) (moment_of s) done.image done.programs
+          done.erases) e.torn)),
       reads_once s2 e.reads,
     );
     counts = (e.torn.programs ∙ done.programs, e.torn.erases ∙ done.erases);

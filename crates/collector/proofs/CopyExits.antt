@@ -47,7 +47,8 @@ blank_noted p (complete bytes spare) e = absurd (never (record_of p spare) e)
 
 module _ (s s' : FlashState) (n : Noted) (t : BlockTable) (m : Matches s n t unsure.Nothing) (written_copy : WrittenCopyLaw n.config.protocol)
     (from to : Slot) (rec : Rec) (bytes spare : List ℕ)
-    (from_within : from.0 < slots_of (shape_of n.config)) (to_within : to.0 < slots_of (shape_of n.config)) (in_spare : to.0 / n.config.pages_per_block ≡ t.spare)
+    (from_within : from.0 < slots_of (shape_of n.config)) (to_within : to.0 < slots_of (shape_of n.config))
+    (in_spare : to.0 / n.config.pages_per_block ≡ t.spare)
     (source : note_at n.notes from.0 ≡ Holds rec) (was : note_at n.notes to.0 ≡ Blank) (reads : slot_at s.image from.0 ≡ complete bytes spare)
     (can : CanDo s.shape s.image (program to.0 bytes spare)) (same : s'.shape ≡ s.shape) where
   abbrev p : Protocol
@@ -86,7 +87,8 @@ module _ (s s' : FlashState) (n : Noted) (t : BlockTable) (m : Matches s n t uns
   left_as Q how contents is as_set sound array q =
       let now : s'.image ≡ set s.image to.0 contents = is ∙ as_set in
       record {
-        sound = subst (λ i. IsSoundImage p n.config.logical s'.shape i) (sym now) (subst (λ sh. IsSoundImage p n.config.logical sh (set s.image to.0 contents)) (sym same) sound);
+        sound = subst (λ i. IsSoundImage p n.config.logical s'.shape i) (sym now)
+            (subst (λ sh. IsSoundImage p n.config.logical sh (set s.image to.0 contents)) (sym same) sound);
         flash = subst (λ i. IsImage s'.shape i) (sym is) (subst (λ sh. IsImage sh (image_left s.shape s.image (program to.0 bytes spare) how)) (sym same)
             (IsImage-left s.shape s.image (program to.0 bytes spare) how m.flash can));
         array = subst (λ i. KeepsArray p n.config.logical s.image i) (sym now) array;

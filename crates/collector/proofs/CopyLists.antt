@@ -27,4 +27,5 @@ pub copies_same : (size : ℕ) (a b : List Contents) (to : ℕ) (list : List ℕ
     copies size a to list ≡ copies size b to list
 copies_same size a b to [] h = refl
 copies_same size a b to (x ∷ xs) h =
-    ap₂ (λ o l. o ∷ l) (ap (λ c. program to (page_of size c) (spare_area_of c)) (h x (Contains-first x xs))) (copies_same size a b (to + 1) xs (λ y i. h y (Contains-rest x xs y i)))
+    ap₂ (λ o l. o ∷ l) (ap (λ c. program to (page_of size c) (spare_area_of c)) (h x (Contains-first x xs)))
+    (copies_same size a b (to + 1) xs (λ y i. h y (Contains-rest x xs y i)))

@@ -63,7 +63,8 @@ pub record CopiedSoFar (p : Protocol) (a : Store) (n : Noted) (s : FlashState) (
   pub image : (slot : ℕ) → Away start a.noted.config.pages_per_block slot → slot_at s.image slot ≡ slot_at a.flash.image slot
   pub records : (k : ℕ) → k < used → (rec : Rec) × (note_at n.notes (start + k) ≡ Holds rec)
   pub tail : (slot : ℕ) → start + used ≤ slot → slot < start + a.noted.config.pages_per_block → note_at n.notes slot ≡ Blank
-  pub there : (slot : ℕ) → first ≤ slot → slot < at → needed_of a.noted slot ≡ true → (k : ℕ) × (k < used) × (note_at n.notes (start + k) ≡ note_at a.noted.notes slot)
+  pub there : (slot : ℕ) → first ≤ slot → slot < at → needed_of a.noted slot ≡ true →
+      (k : ℕ) × (k < used) × (note_at n.notes (start + k) ≡ note_at a.noted.notes slot)
 
 -- the slots of one block are away from another block
 pub blocks_away : (per block spare slot : ℕ) → block ≢ spare → block * per ≤ slot → slot < block * per + per → Away (spare * per) per slot
@@ -75,7 +76,8 @@ blocks_away per block spare slot apart low high = elim (cases_order block spare)
 
 -- a slot of a block, by its number, and one of another block
 pub is_inside : (shape : Shape) (block k : ℕ) → k < shape.pages_per_block → is_outside shape block (block * shape.pages_per_block + k) ≡ false
-is_inside shape block k low = ap not (eq-eqb ((block * shape.pages_per_block + k) / shape.pages_per_block) block (div-mul-add block shape.pages_per_block k low))
+is_inside shape block k low = ap not
+    (eq-eqb ((block * shape.pages_per_block + k) / shape.pages_per_block) block (div-mul-add block shape.pages_per_block k low))
 
 pub is_out : (shape : Shape) (block other slot : ℕ) → other ≢ block → slot / shape.pages_per_block ≡ other → is_outside shape block slot ≡ true
 is_out shape block other slot apart at = elim (cases_Bool ((slot / shape.pages_per_block) == block)) [
@@ -223,7 +225,8 @@ module _ (p : Protocol) (a : Store) (n : Noted) (s : FlashState) (t : BlockTable
     pub needed0 : needed_of n0 at ≡ true
     needed0 = sym (h.needs at away) ∙ needed
 
-    module _ (law : CopyLaw n.config.protocol) (n' : Noted) (s' : FlashState) (u' : Unsure) (from_slot to_slot : Slot) (from_is : from_slot.0 ≡ at) (to_is_slot : to_slot.0 ≡ to)
+    module _ (law : CopyLaw n.config.protocol) (n' : Noted) (s' : FlashState) (u' : Unsure) (from_slot to_slot : Slot) (from_is : from_slot.0 ≡ at)
+        (to_is_slot : to_slot.0 ≡ to)
         (copy : CopiesRecord p (store_of s n t u) (store_of s' n' t u') from_slot to_slot (Ok tt)) where
       done : CopyDone n s s' at to
       done = subst (λ k. CopyDone n s s' at k) to_is_slot (subst (λ k. CopyDone n s s' k to_slot.0) from_is copy.done)
@@ -254,7 +257,8 @@ module _ (p : Protocol) (a : Store) (n : Noted) (s : FlashState) (t : BlockTable
       needs_now : (slot : ℕ) → Away start per slot → needed_of n' slot ≡ needed_of n0 slot
       needs_now slot a =
           ap (λ k. needed_of k slot) changed
-          ∙ copy_needs n h.keeps.matches.noted law at to source.rec source.is (omega (arith, at_within, h.keeps.matches.noted.slots)) long was noted' t.spare h.keeps.matches.spare at_out to_in slot (not_to slot a)
+          ∙ copy_needs n h.keeps.matches.noted law at to source.rec source.is (omega (arith, at_within, h.keeps.matches.noted.slots)) long was noted' t.spare
+          h.keeps.matches.spare at_out to_in slot (not_to slot a)
           ∙ h.needs slot a
 
       note_other : (slot : ℕ) → to ≢ slot → note_at n'.notes slot ≡ note_at n.notes slot
@@ -350,20 +354,23 @@ module _ (p : Protocol) (a : Store) (n : Noted) (s : FlashState) (t : BlockTable
       let high : slot < block * pages + pages = subst (λ k. slot < block * k + k) pages_are place.1 in
       let away = subst (λ k. Away k pages slot) (sym spare_is) (blocks_away pages block t.spare slot apart low high) in
       let c = h.there slot (omega (arith, low, block_is)) (omega (arith, high, block_is, end)) (sym (h.needs slot away) ∙ needed) in
-      let below : t.spare < blocks_of (shape_of n.config) = omega (arith, h.keeps.matches.table.spare_within, ap blocks_of h.keeps.matches.blocks, ap blocks_of h.keeps.matches.shape) in
+      let below : t.spare < blocks_of (shape_of n.config) =
+      omega (arith, h.keeps.matches.table.spare_within, ap blocks_of h.keeps.matches.blocks, ap blocks_of h.keeps.matches.shape) in
       let room = block_within (shape_of n.config) t.spare below in
       let lt : c.0 < n.config.pages_per_block = omega (arith, c.1, no_more_slots, pages_are) in
       let its : start + c.0 ≡ t.spare * n.config.pages_per_block + c.0 = ap (λ k. k + c.0) (sym start_is) in (
         start + c.0,
         omega (arith, its, lt, room, h.keeps.matches.noted.slots),
-        is_out (shape_of n.config) block t.spare (start + c.0) (λ e. apart (sym e)) (ap (λ k. k / n.config.pages_per_block) its ∙ div-mul-add t.spare n.config.pages_per_block c.0 lt),
+        is_out (shape_of n.config) block t.spare (start + c.0) (λ e. apart (sym e))
+            (ap (λ k. k / n.config.pages_per_block) its ∙ div-mul-add t.spare n.config.pages_per_block c.0 lt),
         c.2 ∙ sym (h.notes slot away),
       )
 
   pub copied_all : CopiesDone old_noted n old_flash s t.spare block used
   copied_all = record {
     count = count_is;
-    programmed = subst (λ k. Does old_flash.shape (moment_of old_flash) (copies old_noted.config.page_bytes old_flash.image k (needed_slots old_noted block)) (moment_of s)) spare_is
+    programmed = subst (λ k. Does old_flash.shape (moment_of old_flash) (copies old_noted.config.page_bytes old_flash.image k (needed_slots old_noted block))
+        (moment_of s)) spare_is
         (subst (λ l. Does old_flash.shape (moment_of old_flash) (copies old_noted.config.page_bytes old_flash.image start l) (moment_of s)) all_needed h.does);
     noted = h.noted ∙ ap (copied_from old_noted start) all_needed ∙ ap (λ k. copied_from old_noted k (needed_slots old_noted block)) spare_is;
     filled = record {
@@ -371,6 +378,8 @@ module _ (p : Protocol) (a : Store) (n : Noted) (s : FlashState) (t : BlockTable
       records = λ k lt. (let r = h.records k lt in (r.0, ap (λ q. note_at n.notes (q + k)) start_is ∙ r.1));
       tail = λ k from before. ap (λ q. note_at n.notes (q + k)) start_is ∙ h.tail (start + k) (omega (arith, from)) (omega (arith, before, pages_are));
     };
-    spared = spared_by_copies n t.spare block (one_each n.config.protocol (found_in n.notes) n.config.logical (noted_map n.config.protocol n h.keeps.matches.noted)) h.keeps.matches.spare h.keeps.matches.spared has_copy;
+    spared = spared_by_copies n t.spare block
+        (one_each n.config.protocol (found_in n.notes) n.config.logical (noted_map n.config.protocol n h.keeps.matches.noted)) h.keeps.matches.spare
+        h.keeps.matches.spared has_copy;
     reads = h.reads;
   }

@@ -81,7 +81,8 @@ module _ (s : FlashState) (n : Noted) (t : BlockTable) (m : Matches s n t unsure
 
     noted_in : (slot : ℕ) → is_outside s.shape block slot ≡ false → note_at notes' slot ≡ note
     noted_in slot e =
-        let here = inside_block n.config.pages_per_block block slot some_noted (in_it (shape_of n.config) block slot (ap (λ sh. is_outside sh block slot) (sym m.shape) ∙ e)) in
+        let here = inside_block n.config.pages_per_block block slot some_noted
+        (in_it (shape_of n.config) block slot (ap (λ sh. is_outside sh block slot) (sym m.shape) ∙ e)) in
         note_at-in (shape_of n.config) some_noted n.notes m.noted.slots block below note slot here.0 here.1
 
     mirrors : (slot : ℕ) → slot < slots_of s.shape → note_at notes' slot ≡ note_of p (slot_at image' slot)
@@ -159,14 +160,16 @@ module _ (s s' : FlashState) (n : Noted) (t : BlockTable) (m : Matches s n t uns
     flash = flash_as s.image is m.flash;
     array = subst (λ i. KeepsArray n.config.protocol n.config.logical s.image i) (sym is) (record { array = refl; texts = λ name h. refl });
     outside = λ slot e. ap (λ i. slot_at i slot) is;
-    erasing = inl (λ slot within e. noted_as_read s n t m slot (omega (arith, within, ap slots_of m.shape)) ∙ ap (λ i. note_of n.config.protocol (slot_at i slot)) (sym is));
+    erasing = inl (λ slot within e. noted_as_read s n t m slot (omega (arith, within, ap slots_of m.shape)) ∙ ap
+        (λ i. note_of n.config.protocol (slot_at i slot)) (sym is));
   }
   left_torn outcome.All is = record {
     sound = sound_erased is;
     flash = flash_erased is;
     array = array_erased is;
     outside = λ slot e. ap (λ i. slot_at i slot) is ∙ new_out s n t m loss written_loss block below spared blank Blank refl slot e;
-    erasing = inr (inr (λ slot within e. ap (λ i. slot_at i slot) is ∙ new_in s n t m loss written_loss block below spared blank Blank refl slot (in_block slot e)));
+    erasing = inr (inr (λ slot within e. ap (λ i. slot_at i slot) is ∙ new_in s n t m loss written_loss block below spared blank Blank refl slot
+        (in_block slot e)));
   }
   left_torn outcome.Bad is = record {
     sound = sound_as (with_block s.shape s.image block damaged) is (kept_image.1).sound;
@@ -175,7 +178,8 @@ module _ (s s' : FlashState) (n : Noted) (t : BlockTable) (m : Matches s n t uns
     array = subst (λ i. KeepsArray n.config.protocol n.config.logical s.image i) (sym is)
         (array_stays s n t m loss written_loss block below spared damaged kept_image.1);
     outside = λ slot e. ap (λ i. slot_at i slot) is ∙ new_out s n t m loss written_loss block below spared damaged Damaged refl slot e;
-    erasing = inr (inl (λ slot within e. ap (λ i. slot_at i slot) is ∙ new_in s n t m loss written_loss block below spared damaged Damaged refl slot (in_block slot e)));
+    erasing = inr (inl (λ slot within e. ap (λ i. slot_at i slot) is ∙ new_in s n t m loss written_loss block below spared damaged Damaged refl slot
+        (in_block slot e)));
   }
 
 module _ (s s' : FlashState) (n : Noted) (t : BlockTable) (m : Matches s n t unsure.Nothing)
@@ -218,7 +222,8 @@ module _ (s s' : FlashState) (n : Noted) (t : BlockTable) (m : Matches s n t uns
         spare = m.spare;
         sure = λ slot within sure.
             noted_as_read s n t m slot (omega (arith, within, ap slots_of e.shape))
-            ∙ ap (note_of n.config.protocol) (sym (torn.outside slot (not-false (is_outside s.shape t.spare slot) (ap (λ sh. not (is_outside sh t.spare slot)) (sym e.shape) ∙ sure))));
+            ∙ ap (note_of n.config.protocol)
+            (sym (torn.outside slot (not-false (is_outside s.shape t.spare slot) (ap (λ sh. not (is_outside sh t.spare slot)) (sym e.shape) ∙ sure))));
         place = (torn.erasing, λ slot within here. calm_spelled s n t m slot within);
         spared = m.spared;
         victim = tt;
@@ -241,7 +246,8 @@ module _ (s s' : FlashState) (n : Noted) (t : BlockTable) (m : Matches s n t uns
         spare = m.spare;
         sure = λ slot within sure.
             noted_as_read s n t m slot (omega (arith, within, ap slots_of e.shape))
-            ∙ ap (note_of n.config.protocol) (sym (torn.outside slot (not-false (is_outside s.shape block.0 slot) (ap (λ sh. not (is_outside sh block.0 slot)) (sym e.shape) ∙ sure))));
+            ∙ ap (note_of n.config.protocol)
+            (sym (torn.outside slot (not-false (is_outside s.shape block.0 slot) (ap (λ sh. not (is_outside sh block.0 slot)) (sym e.shape) ∙ sure))));
         place = (below, other, torn.erasing, filled, λ slot within here. calm_spelled s n t m slot within);
         spared = m.spared;
         victim = spared;
@@ -262,7 +268,8 @@ module _ (s s' : FlashState) (n : Noted) (t : BlockTable) (m : Matches s n t uns
         flash = flash_erased s s' n t m loss written_loss block below spared e.shape e.done;
         sound = sound_erased s s' n t m loss written_loss block below spared e.shape e.done;
         noted = noted;
-        counts = sure_counts s' (with_spare (erased n block) block) (e.shape ∙ m.shape) (flash_erased s s' n t m loss written_loss block below spared e.shape e.done)
+        counts = sure_counts s' (with_spare (erased n block) block) (e.shape ∙ m.shape)
+            (flash_erased s s' n t m loss written_loss block below spared e.shape e.done)
             (sound_erased s s' n t m loss written_loss block below spared e.shape e.done) noted.slots
             (λ slot within. mirrors_erased s s' n t m loss written_loss block below spared e.shape e.done slot within);
         table = table;

@@ -36,7 +36,8 @@ as_blank Blank h = refl
 as_blank Damaged h = cc
 as_blank (Holds rec) h = cc
 
-holds_reads : (r : Option Rec) (bytes spare : List ℕ) (P : Rec → Type 0) → IsSomeAnd r P → reads_as (option_map_or Holds r Damaged) (complete bytes spare) ≡ true
+holds_reads : (r : Option Rec) (bytes spare : List ℕ) (P : Rec → Type 0) → IsSomeAnd r P →
+    reads_as (option_map_or Holds r Damaged) (complete bytes spare) ≡ true
 holds_reads None bytes spare P h = absurd h
 holds_reads (Some rec) bytes spare P h = refl
 
@@ -52,7 +53,8 @@ module _ (s : FlashState) (n : Noted) (t : BlockTable) (u : Unsure) (m : Matches
   some = (let b = m.noted.bounds.shape.pages_least in omega arith)
 
   -- the slots of the block, as numbers of the range
-  within : (slot : ℕ) → block * n.config.pages_per_block ≤ slot → slot < block * n.config.pages_per_block + n.config.pages_per_block → slot < slots_of (shape_of n.config)
+  within : (slot : ℕ) → block * n.config.pages_per_block ≤ slot → slot < block * n.config.pages_per_block + n.config.pages_per_block →
+      slot < slots_of (shape_of n.config)
   within slot low high = (let b = block_within (shape_of n.config) block below in omega (arith, b, high))
 
   tested : (p : ℕ → Bool) → list_all p (slots_in n block) ≡ true → AllOfBlock n block (λ slot. p slot ≡ true)
@@ -94,7 +96,8 @@ module _ (s : FlashState) (n : Noted) (t : BlockTable) (u : Unsure) (m : Matches
   ]
 
   -- where one does not, and all read blank, they are blank
-  pub blank_all : block_reads_as_noted n s.image block ≡ false → is_blank_block n s.image block ≡ true → AllOfBlock n block (λ slot. slot_at s.image slot ≡ blank)
+  pub blank_all : block_reads_as_noted n s.image block ≡ false → is_blank_block n s.image block ≡ true →
+      AllOfBlock n block (λ slot. slot_at s.image slot ≡ blank)
   blank_all h b = elim (changed h) [
     | inl bad ↦ (
         let k = block * n.config.pages_per_block in
@@ -106,11 +109,13 @@ module _ (s : FlashState) (n : Noted) (t : BlockTable) (u : Unsure) (m : Matches
   ]
 
   -- and else damaged
-  pub damaged_all : block_reads_as_noted n s.image block ≡ false → is_blank_block n s.image block ≡ false → AllOfBlock n block (λ slot. slot_at s.image slot ≡ damaged)
+  pub damaged_all : block_reads_as_noted n s.image block ≡ false → is_blank_block n s.image block ≡ false →
+      AllOfBlock n block (λ slot. slot_at s.image slot ≡ damaged)
   damaged_all h b = elim (changed h) [
     | inl bad ↦ bad
     | inr none ↦ (
-        let all : is_blank_block n s.image block ≡ true = range_all (λ slot. is_blank_slot (slot_at s.image slot)) (block * n.config.pages_per_block) n.config.pages_per_block
+        let all : is_blank_block n s.image block ≡ true = range_all (λ slot. is_blank_slot (slot_at s.image slot)) (block * n.config.pages_per_block)
+        n.config.pages_per_block
         (λ k low high. ap is_blank_slot (none k (within k low high) (here k low high))) in
         absurd (both_ways (is_blank_block n s.image block) b all))
   ]

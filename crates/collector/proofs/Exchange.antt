@@ -65,7 +65,8 @@ module _ (t : BlockTable) (h : IsBlockTable t) (block : ℕ) (below : block < bl
     | inl old ↦ inl (
       eqb-true (block_of_slot t.shape slot) t.spare old,
       (let is = ap (λ (u : BlockUse). u.used) use_old in
-          subst (λ u. u ≤ slot % t.shape.pages_per_block) is (subst (λ b. used_of after b ≤ slot % t.shape.pages_per_block) (eqb-true (block_of_slot t.shape slot) t.spare old) free.unused)),
+          subst (λ u. u ≤ slot % t.shape.pages_per_block) is
+          (subst (λ b. used_of after b ≤ slot % t.shape.pages_per_block) (eqb-true (block_of_slot t.shape slot) t.spare old) free.unused)),
     )
     | inr apart ↦
         (let away = free_away slot free in
@@ -73,7 +74,8 @@ module _ (t : BlockTable) (h : IsBlockTable t) (block : ℕ) (below : block < bl
         inr (record {
           within = free.within;
           room = room_other (block_of_slot t.shape slot) away no_spare free.room;
-          unused = subst (λ u. u ≤ slot % t.shape.pages_per_block) (ap (λ (u : BlockUse). u.used) (use_other (block_of_slot t.shape slot) away no_spare)) free.unused;
+          unused = subst (λ u. u ≤ slot % t.shape.pages_per_block) (ap (λ (u : BlockUse). u.used) (use_other (block_of_slot t.shape slot) away no_spare))
+              free.unused;
         }))
   ]
 

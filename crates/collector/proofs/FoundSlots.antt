@@ -15,7 +15,8 @@ use Rattle.collector.specs.Store.{Store, store_of, IsSure}
 use Rattle.collector.proofs.GoingCounts.{clear_stays}
 use Rattle.collector.proofs.KeepsLemmas.{keeps_same}
 
-moved : (s : FlashState) (n : Noted) (t : BlockTable) → IsBlockTable (after_next_slot t) → Matches s n t unsure.Nothing → Matches s n (after_next_slot t) unsure.Nothing
+moved : (s : FlashState) (n : Noted) (t : BlockTable) → IsBlockTable (after_next_slot t) → Matches s n t unsure.Nothing →
+    Matches s n (after_next_slot t) unsure.Nothing
 moved s n t good m = record {
   shape = m.shape;
   flash = m.flash;
@@ -32,12 +33,14 @@ moved s n t good m = record {
   free = λ slot free. m.free slot (record { within = free.within; room = free.room; unused = free.unused });
 }
 
-pub matches_moved : (s : FlashState) (n : Noted) (t t' : BlockTable) (u : Unsure) → u ≡ unsure.Nothing → Matches s n t u → t' ≡ after_next_slot t → IsBlockTable t' → Matches s n t' u
+pub matches_moved : (s : FlashState) (n : Noted) (t t' : BlockTable) (u : Unsure) → u ≡ unsure.Nothing → Matches s n t u → t' ≡ after_next_slot t →
+    IsBlockTable t' → Matches s n t' u
 matches_moved s n t t' u nothing m is good =
     subst (Matches s n t') (sym nothing)
     (subst (λ (k : BlockTable). Matches s n k unsure.Nothing) (sym is) (moved s n t (subst IsBlockTable is good) (subst (Matches s n t) nothing m)))
 
-keeps_moved : (p : Protocol) (a b : Store) (t : BlockTable) → t ≡ after_next_slot b.table → IsBlockTable t → Keeps p a b false → Keeps p a (store_of b.flash b.noted t b.unsure) false
+keeps_moved : (p : Protocol) (a b : Store) (t : BlockTable) → t ≡ after_next_slot b.table → IsBlockTable t → Keeps p a b false →
+    Keeps p a (store_of b.flash b.noted t b.unsure) false
 keeps_moved p a b t is good h = record {
   matches = matches_moved b.flash b.noted b.table t b.unsure h.sure h.matches is good;
   preserves = h.preserves;
@@ -76,7 +79,8 @@ module _ (p : Protocol) (a : Store) (k : IsSure p a) where
   }
 
   -- or it was done
-  pub found_then : (b : Store) → CollectsMost p a b (Ok true) → (t : BlockTable) → t ≡ after_next_slot b.table → IsBlockTable t → (at : Slot) → next_slot b.table ≡ Some at →
+  pub found_then : (b : Store) → CollectsMost p a b (Ok true) → (t : BlockTable) → t ≡ after_next_slot b.table → IsBlockTable t → (at : Slot) →
+      next_slot b.table ≡ Some at →
       IsFirstFree t at.0 → FindsSlot p a (store_of b.flash b.noted t b.unsure) (Ok at)
   found_then b c t is good at slot free = record {
     keeps = keeps_moved p a b t is good c.keeps;

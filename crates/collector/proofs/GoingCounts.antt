@@ -35,13 +35,16 @@ pub record GoesIn (n : Noted) (page below block : ℕ) (f : Found) : Type 0 wher
 
 pub going_at : (n : Noted) (page below block : ℕ) → is_going n page below block ≡ true → (f : Found) × GoesIn n page below block f
 going_at n page below block h =
-    let any = any_of (λ f. eqb (f.slot.0 / n.config.pages_per_block) block && must_go n.config.protocol (found_in n.notes) n.config.logical page below f.rec) (found_in n.notes) h in
-    let parts = and_parts (eqb (any.0.slot.0 / n.config.pages_per_block) block) (must_go n.config.protocol (found_in n.notes) n.config.logical page below any.0.rec) any.2 in
+    let any = any_of (λ f. eqb (f.slot.0 / n.config.pages_per_block) block && must_go n.config.protocol (found_in n.notes) n.config.logical page below f.rec)
+    (found_in n.notes) h in
+    let parts = and_parts (eqb (any.0.slot.0 / n.config.pages_per_block) block)
+    (must_go n.config.protocol (found_in n.notes) n.config.logical page below any.0.rec) any.2 in
     (any.0, record { is_in = any.1; slot = eqb-true (any.0.slot.0 / n.config.pages_per_block) block parts.0; goes = parts.1 })
 
 pub at_going : (n : Noted) (page below block : ℕ) (f : Found) → GoesIn n page below block f → is_going n page below block ≡ true
 at_going n page below block f g =
-    any_from (λ f. eqb (f.slot.0 / n.config.pages_per_block) block && must_go n.config.protocol (found_in n.notes) n.config.logical page below f.rec) (found_in n.notes) f g.is_in
+    any_from (λ f. eqb (f.slot.0 / n.config.pages_per_block) block && must_go n.config.protocol (found_in n.notes) n.config.logical page below f.rec)
+    (found_in n.notes) f g.is_in
     (and_from (eqb (f.slot.0 / n.config.pages_per_block) block) (must_go n.config.protocol (found_in n.notes) n.config.logical page below f.rec)
     (eq-eqb (f.slot.0 / n.config.pages_per_block) block g.slot) g.goes)
 
@@ -64,7 +67,8 @@ fewer_going n m page below block config within now left =
     let less = count_less (is_going n page below) (is_going m page below) 0 (blocks_of (shape_of n.config)) block
     (λ k low high there. (still_going n m page below block left k there).0) (omega arith) (omega arith) now
     (false_from_ne_true (is_going m page below block) (λ there. (still_going n m page below block left block there).1 refl)) in
-    subst (λ (c : Config). count_by (is_going m page below) (range_with_len 0 (blocks_of (shape_of c))) < count_by (is_going n page below) (range_with_len 0 (blocks_of (shape_of n.config))))
+    subst (λ (c : Config). count_by (is_going m page below) (range_with_len 0 (blocks_of (shape_of c))) < count_by (is_going n page below)
+    (range_with_len 0 (blocks_of (shape_of n.config))))
     (sym config) less
 
 -- whether a record must go hangs on the current version of its page alone
@@ -82,7 +86,8 @@ goes_same n m kept page below r within =
     (ap (λ (c : Config). cur c.protocol (found_in m.notes) c.logical r.page) (sym kept.config) ∙ kept.current r.page within)
 
 -- what need not go before a program need not go afterwards
-pub clear_stays : (n m : Noted) → IsNoted n.config.protocol n → Preserves n m → HasNoNewRecord n m → (page below : ℕ) → block_to_go n page below ≡ None → block_to_go m page below ≡ None
+pub clear_stays : (n m : Noted) → IsNoted n.config.protocol n → Preserves n m → HasNoNewRecord n m → (page below : ℕ) → block_to_go n page below ≡ None →
+    block_to_go m page below ≡ None
 clear_stays n m noted kept fewer page below none = none_going m page below (λ f i.
     let w = was_there n m fewer f i in
     let page_low = (All-contains (PagesExist n.config.logical) (found_in n.notes) w.was (noted.sound Pages) w.is_in).0 in
@@ -130,7 +135,12 @@ module _ (n : Noted) (noted : IsNoted n.config.protocol n) (page below : ℕ) (n
           let out = collected_outside n some noted.slots spare block spare_below within f g.is_in in
           let slot = subst (λ (c : Config). f.slot.0 / c.pages_per_block ≡ b) done.config g.slot in (
             elim (collected_from n some noted.slots spare block spare_below within f g.is_in) [
-              | in_place was away ↦ record { is_in = was; slot = slot; goes = sym (goes_same n (collected n spare block) done page below f.rec (page_of f was)) ∙ g.goes }
+              | in_place was away ↦ record {
+                is_in = was;
+                slot = slot;
+                goes = sym (goes_same n (collected n spare block) done page below f.rec (page_of f was))
+                    ∙ g.goes;
+              }
               | in_copy from was needed ↦ (
                   let before = (erased_from n some noted.slots spare spare_below _ was).0 in
                   let low = page_of _ before in
@@ -148,5 +158,6 @@ module _ (n : Noted) (noted : IsNoted n.config.protocol n) (page below : ℕ) (n
 pub some_going : (n : Noted) (page below block : ℕ) → block < blocks_of (shape_of n.config) → is_going n page below block ≡ true → 0 < blocks_to_go n page below
 unfolding blocks_to_go
 some_going n page below block within now =
-    let less = count_less (is_going n page below) (λ k. false) 0 (blocks_of (shape_of n.config)) block (λ k low high h. absurd (false≢true h)) (omega arith) (omega arith) now refl in
+    let less = count_less (is_going n page below) (λ k. false) 0 (blocks_of (shape_of n.config)) block (λ k low high h. absurd (false≢true h)) (omega arith)
+    (omega arith) now refl in
     omega (arith, less)

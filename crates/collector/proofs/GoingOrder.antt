@@ -62,7 +62,8 @@ module _ (n : Noted) (page below : ℕ) where
           omega (arith, quotients_rise at f.0.slot.0 n.config.pages_per_block some low, same_Some (at / n.config.pages_per_block) block h, f.1.slot)
 
   -- the lowest one is found
-  pub lowest_going : (block : ℕ) → 0 < n.config.pages_per_block → is_going n page below block ≡ true → ((other : ℕ) → is_going n page below other ≡ true → block ≤ other) →
+  pub lowest_going : (block : ℕ) → 0 < n.config.pages_per_block → is_going n page below block ≡ true →
+      ((other : ℕ) → is_going n page below other ≡ true → block ≤ other) →
       block_to_go n page below ≡ Some block
   lowest_going block some going least = by (block_to_go n page below) refl
     where
@@ -79,10 +80,12 @@ module _ (n : Noted) (page below : ℕ) where
   -- and where there is none, none is found
   pub none_goes : ((block : ℕ) → is_going n page below block ≡ true → ⊥) → block_to_go n page below ≡ None
   none_goes none = none_going n page below (λ f i. false_from_ne_true (goes f) (λ go.
-      none (f.slot.0 / n.config.pages_per_block) (at_going n page below (f.slot.0 / n.config.pages_per_block) f (record { is_in = i; slot = refl; goes = go }))))
+      none (f.slot.0 / n.config.pages_per_block)
+      (at_going n page below (f.slot.0 / n.config.pages_per_block) f (record { is_in = i; slot = refl; goes = go }))))
 
 -- the block of a record exists
-pub slot_exists : (n : Noted) → IsNoted n.config.protocol n → (f : Found) → Contains (found_in n.notes) f → f.slot.0 / n.config.pages_per_block < blocks_of (shape_of n.config)
+pub slot_exists : (n : Noted) → IsNoted n.config.protocol n → (f : Found) → Contains (found_in n.notes) f →
+    f.slot.0 / n.config.pages_per_block < blocks_of (shape_of n.config)
 slot_exists n noted f i =
     let per = n.config.pages_per_block in
     let within = (noted_from n.notes f i).0 in
@@ -95,7 +98,8 @@ pub record AreAhead (n : Noted) (page below : ℕ) (blocks : List ℕ) (at : ℕ
   pub exist : (k : ℕ) → k < length blocks → get_or blocks k 0 < blocks_of (shape_of n.config)
   pub ahead : (b : ℕ) → is_going n page below b ≡ true → (k : ℕ) × (at ≤ k) × (k < length blocks) × (get_or blocks k 0 ≡ b)
 
-pub all_ahead : (n : Noted) (page below : ℕ) → IsNoted n.config.protocol n → (blocks : List ℕ) → blocks ≡ going_blocks n page below → AreAhead n page below blocks 0
+pub all_ahead : (n : Noted) (page below : ℕ) → IsNoted n.config.protocol n → (blocks : List ℕ) → blocks ≡ going_blocks n page below →
+    AreAhead n page below blocks 0
 unfolding going_blocks
 all_ahead n page below noted blocks are = subst (λ bs. AreAhead n page below bs 0) (sym are) (record {
   rise = filter_rises (is_going n page below) 0 (blocks_of (shape_of n.config));
@@ -121,7 +125,8 @@ module _ (n : Noted) (page below : ℕ) (blocks : List ℕ) (at : ℕ) (so : Are
   ])
 
   -- once that one holds none any more, and no other does that did not, the others are ahead
-  pub ahead_more : (m : Noted) → m.config ≡ n.config → ((b : ℕ) → is_going m page below b ≡ true → (is_going n page below b ≡ true) × (b ≢ get_or blocks at 0)) →
+  pub ahead_more : (m : Noted) → m.config ≡ n.config →
+      ((b : ℕ) → is_going m page below b ≡ true → (is_going n page below b ≡ true) × (b ≢ get_or blocks at 0)) →
       AreAhead m page below blocks (at + 1)
   ahead_more m config still = record {
     rise = so.rise;
@@ -139,10 +144,12 @@ module _ (n : Noted) (page below : ℕ) (blocks : List ℕ) (at : ℕ) (so : Are
 abbrev pub numbers : List Block → List ℕ
 numbers blocks = map (λ (b : Block). b.0) blocks
 
-numbers_read : (blocks : List Block) (at : ℕ) (block : Block) → at < length blocks → block ≡ get_or blocks at (record { 0 = 0 }) → get_or (numbers blocks) at 0 ≡ block.0
+numbers_read : (blocks : List Block) (at : ℕ) (block : Block) → at < length blocks → block ≡ get_or blocks at (record { 0 = 0 }) →
+    get_or (numbers blocks) at 0 ≡ block.0
 numbers_read blocks at block within is = get_or-map (λ (b : Block). b.0) blocks at (record { 0 = 0 }) 0 within ∙ ap (λ (b : Block). b.0) (sym is)
 
-module _ (n : Noted) (page below : ℕ) (blocks : List Block) (at : ℕ) (so : AreAhead n page below (numbers blocks) at) (block : Block) (within : at < length blocks)
+module _ (n : Noted) (page below : ℕ) (blocks : List Block) (at : ℕ) (so : AreAhead n page below (numbers blocks) at) (block : Block)
+    (within : at < length blocks)
     (is : block ≡ get_or blocks at (record { 0 = 0 })) where
   own : get_or (numbers blocks) at 0 ≡ block.0
   own = numbers_read blocks at block within is
@@ -167,6 +174,7 @@ module _ (n : Noted) (page below : ℕ) (blocks : List Block) (at : ℕ) (so : A
       let old = still b going in (old.0, λ same. old.1 (same ∙ own)))
 
 -- past the last none is left
-pub none_next : (n : Noted) (page below : ℕ) (blocks : List Block) (at : ℕ) → AreAhead n page below (numbers blocks) at → length blocks ≤ at → block_to_go n page below ≡ None
+pub none_next : (n : Noted) (page below : ℕ) (blocks : List Block) (at : ℕ) → AreAhead n page below (numbers blocks) at → length blocks ≤ at →
+    block_to_go n page below ≡ None
 none_next n page below blocks at so end =
     none_ahead n page below (numbers blocks) at so (omega (arith, length-map blocks (λ (b : Block). b.0)))

@@ -77,7 +77,8 @@ module _ (n : Noted) (names : List Link) (name : Link) (next : IsNextName n name
       (All-contains (λ c. All (λ b. c.page ≢ b.page) other.others) names name other.apart next.named) i (sym same))
 
   -- a pinned record that is not current does not mention the page below
-  pin_stays : (f : Found) → Contains list f → IsPinBeside n names (name_of f.rec) → Mentions name.page name.version f.rec → cur n.config.protocol list logical f.rec.page ≢ f.rec.version → ⊥
+  pin_stays : (f : Found) → Contains list f → IsPinBeside n names (name_of f.rec) → Mentions name.page name.version f.rec →
+      cur n.config.protocol list logical f.rec.page ≢ f.rec.version → ⊥
   unfolding current_of
   pin_stays f i (inl current) mentions other = other current
   pin_stays f i (inr (inl own)) mentions other =
@@ -130,7 +131,8 @@ pub going_some : (n : Noted) (page below block : ℕ) → block_to_go n page bel
 unfolding block_to_go
 going_some n page below block e = by (first_slot (goes n page below) (found_in n.notes)) refl e
   where
-    by : (o : Option ℕ) → first_slot (goes n page below) (found_in n.notes) ≡ o → option_map (λ slot. slot / n.config.pages_per_block) o ≡ Some block → GoesFrom n page below block
+    by : (o : Option ℕ) → first_slot (goes n page below) (found_in n.notes) ≡ o → option_map (λ slot. slot / n.config.pages_per_block) o ≡ Some block →
+        GoesFrom n page below block
     by None is h = absurd (none-some block h)
     by (Some at) is h =
         let stands = first_stands (goes n page below) (found_in n.notes) at is in
@@ -164,7 +166,8 @@ going_none n page below e f i = by (first_slot (goes n page below) (found_in n.n
 
 -- and the other way round
 pub none_going : (n : Noted) (page below : ℕ) →
-    ((f : Found) → Contains (found_in n.notes) f → must_go n.config.protocol (found_in n.notes) n.config.logical page below f.rec ≡ false) → block_to_go n page below ≡ None
+    ((f : Found) → Contains (found_in n.notes) f → must_go n.config.protocol (found_in n.notes) n.config.logical page below f.rec ≡ false) →
+    block_to_go n page below ≡ None
 none_going n page below none = by (block_to_go n page below) refl
   where
     by : (o : Option ℕ) → block_to_go n page below ≡ o → o ≡ None

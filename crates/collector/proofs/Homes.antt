@@ -55,7 +55,8 @@ abbrev pub stands_off : Shape → Option ℕ → Link → Found → Bool
 stands_off shape spare name f = has_name name f.rec && is_outside_spare shape spare f.slot.0
 
 -- a name that stands outside the spare has its home there
-pub home_off : (shape : Shape) (spare : Option ℕ) (l : List Found) (name : Link) (at : ℕ) → first_slot (stands_off shape spare name) l ≡ Some at → home shape spare l name ≡ Some at
+pub home_off : (shape : Shape) (spare : Option ℕ) (l : List Found) (name : Link) (at : ℕ) → first_slot (stands_off shape spare name) l ≡ Some at →
+    home shape spare l name ≡ Some at
 home_off shape spare l name at e = ap (λ o. option_or o (first_slot (λ f. has_name name f.rec) l)) e
 
 -- a slot is needed where the record that it holds has its home there and is wanted
@@ -100,7 +101,8 @@ module _ (n : Noted) (noted : IsNoted n.config.protocol n) (law : CopyLaw n.conf
   home_lists name = elim (cases_Bool (has_name name rec)) [
     | inr other ↦ ap₂ option_or (off_same name) (first_inserted (λ f. has_name name f.rec) old more (found to rec) ins other)
     | inl same ↦
-        (let h = first_of (stands_off (shape_of n.config) n.spare name) old (found from rec) (first n noted law from to rec source from_within within was noted')
+        (let h = first_of (stands_off (shape_of n.config) n.spare name) old (found from rec)
+        (first n noted law from to rec source from_within within was noted')
         (and_from (has_name name rec) (is_outside_spare (shape_of n.config) n.spare from) same (off from true outside)) in
         home_off (shape_of n.config) n.spare more name h.0 (off_same name ∙ h.1) ∙ sym (home_off (shape_of n.config) n.spare old name h.0 h.1))
   ]
@@ -121,7 +123,8 @@ module _ (n : Noted) (noted : IsNoted n.config.protocol n) (law : CopyLaw n.conf
       && is_wanted n.config.protocol l n.config.logical (pinned_names n.pins) f.rec in
       let not_here : (to == k) ≡ false = elim (cases_Bool (to == k)) [ inl e ↦ absurd (apart (eqb-true to k e)) | inr e ↦ e ] in
       let fails : test more (found to rec) ≡ false =
-      ap (λ b. b && is_slot k (home (shape_of n.config) n.spare more (name_of rec)) && is_wanted n.config.protocol more n.config.logical (pinned_names n.pins) rec) not_here in
+      ap (λ b. b && is_slot k (home (shape_of n.config) n.spare more (name_of rec))
+      && is_wanted n.config.protocol more n.config.logical (pinned_names n.pins) rec) not_here in
       inserted_any (test more) old more (found to rec) ins
       ∙ ap (λ b. b || list_any (test more) old) fails
       ∙ any_same_in (test more) (test old) old (λ f i.

@@ -11,7 +11,7 @@ use Rattle.flash_model.proofs.RetireLemmas.{CarriesRetiring-carries}
 use Rattle.flash_model.specs.declared.flash.Broken.{Broken}
 use Rattle.collector.specs.Calls.{Keeps}
 use Rattle.collector.specs.Preserves.{KeepsArray}
-use Rattle.collector.specs.Retiring.{KeepsRetiring, KeepsTables}
+use Rattle.collector.specs.Retiring.{KeepsRetiring, KeepsStore}
 use Rattle.collector.specs.Store.{Store, IsSure}
 use Rattle.collector.proofs.Chains.{HasNoNewRecord-nothing, HasNoNewRecord-then}
 use Rattle.collector.proofs.Keeping.{preserves_same, preserves_then, keeps_array_same, keeps_array_then}
@@ -30,7 +30,7 @@ keeps_same p a k = record {
 }
 
 -- what is kept of the tables and of the array, and what a call keeps beside that
-pub tables_of : (p : Protocol) (a b : Store) (broken : Bool) → Keeps p a b broken → KeepsTables p a b broken
+pub tables_of : (p : Protocol) (a b : Store) (broken : Bool) → Keeps p a b broken → KeepsStore p a b broken
 tables_of p a b broken h = record {
   matches = h.matches;
   preserves = h.preserves;
@@ -40,7 +40,7 @@ tables_of p a b broken h = record {
   records = h.records;
 }
 
-pub keeps_of : (p : Protocol) (a b : Store) (broken : Bool) → KeepsTables p a b broken → FlashMoves a.flash b.flash broken →
+pub keeps_of : (p : Protocol) (a b : Store) (broken : Bool) → KeepsStore p a b broken → FlashMoves a.flash b.flash broken →
     Carries a.flash b.flash broken → Keeps p a b broken
 keeps_of p a b broken h moves carries = record {
   matches = h.matches;
@@ -61,7 +61,7 @@ keeps_retiring p a b broken h = record {
 }
 
 -- what both keep, the whole keeps
-pub tables_then : (p : Protocol) (a b c : Store) (broken : Bool) → KeepsTables p a b false → KeepsTables p b c broken → KeepsTables p a c broken
+pub tables_then : (p : Protocol) (a b c : Store) (broken : Bool) → KeepsStore p a b false → KeepsStore p b c broken → KeepsStore p a c broken
 tables_then p a b c broken ab bc = record {
   matches = bc.matches;
   preserves = preserves_then a.noted b.noted c.noted ab.preserves bc.preserves;

@@ -28,19 +28,22 @@ pub none_at_zero : (p : Protocol) (image : List Contents) (name : Link) → name
 none_at_zero p image name zero = text_absent (written_in p image) name (elim (cases_Bool (is_present (records_in p image) name)) [
   | inl there ↦
       (let f = found_named (records_in p image) name there in
-      let low : 1 ≤ f.0.rec.version = (All-contains (λ g. (1 ≤ g.rec.version) × (1 ≤ g.rec.next.version)) (records_in p image) f.0 (records_scanned p image).versions f.1).0 in
+      let low : 1 ≤ f.0.rec.version =
+      (All-contains (λ g. (1 ≤ g.rec.version) × (1 ≤ g.rec.next.version)) (records_in p image) f.0 (records_scanned p image).versions f.1).0 in
       let is : f.0.rec.version ≡ name.version = ap (λ (y : Link). y.version) f.2 in
       absurd (omega arith))
   | inr absent ↦ absent
 ])
 
-module _ (p : Protocol) (s s' : FlashState) (n n' : Noted) (t t' : BlockTable) (u u' : Unsure) (m : Matches s n t u) (m' : Matches s' n' t' u') (rule : n.config.protocol ≡ p)
+module _ (p : Protocol) (s s' : FlashState) (n n' : Noted) (t t' : BlockTable) (u u' : Unsure) (m : Matches s n t u) (m' : Matches s' n' t' u')
+    (rule : n.config.protocol ≡ p)
     (kept : Preserves n n') (keeps : KeepsArray p n.config.logical s.image s'.image) where
   rule' : n'.config.protocol ≡ p
   rule' = ap (λ (c : Config). c.protocol) kept.config ∙ rule
 
   -- a pinned name that is there has its text
-  pub pinned_texts : (name : Link) → Contains (pinned_names n.pins) name → IsThere n name → text_at (written_in p s'.image) name ≡ text_at (written_in p s.image) name
+  pub pinned_texts : (name : Link) → Contains (pinned_names n.pins) name → IsThere n name →
+      text_at (written_in p s'.image) name ≡ text_at (written_in p s.image) name
   pinned_texts name pin there =
       keeps.texts name (subst (λ q. is_present (records_in q s'.image) name ≡ true) rule'
       (pinned_present s' n' t' u' m' name (kept.pinned name pin there) (subst (λ l. Contains (pinned_names l) name) (sym kept.pins) pin)))

@@ -14,11 +14,13 @@ at_version list page version = value_at list (record { page = page; version = ve
 
 -- the array of an image whose current versions are those of the tables
 pub array_is_known : (p : Protocol) (n : Noted) (image : List Contents) → n.config.protocol ≡ p →
-    ((page : ℕ) → page < n.config.logical → current_in p n.config.logical image page ≡ current_of n page) → array_in p n.config.logical image ≡ array_known n image
+    ((page : ℕ) → page < n.config.logical → current_in p n.config.logical image page ≡ current_of n page) →
+    array_in p n.config.logical image ≡ array_known n image
 unfolding array_in array_known current_in at_version
 array_is_known p n image rule current =
     same_range (page_at p (written_in p image) n.config.logical) (page_known n image) n.config.logical
-    (λ page within. ap (at_version (written_in p image) page) (current page within) ∙ ap (λ q. at_version (written_in q image) page (current_of n page)) (sym rule))
+    (λ page within. ap (at_version (written_in p image) page) (current page within)
+    ∙ ap (λ q. at_version (written_in q image) page (current_of n page)) (sym rule))
 
 -- tables with the same current versions know the same array of an image, or of two whose current records say the same
 pub same_known : (n n' : Noted) (image image' : List Contents) → n'.config ≡ n.config →

@@ -72,7 +72,8 @@ noted_read p page_bytes logical list (Holds rec) spelled pages =
 
 -- a record in them has the bytes of its name
 noted_bytes : (p : Protocol) (page_bytes : ℕ) (list : List Written) (note : Note) → ((rec : Rec) → note ≡ Holds rec → CanBeSpelled p rec) →
-    (bytes spare : List ℕ) (rec : Rec) → contents_noted p page_bytes list note ≡ complete bytes spare → record_of p spare ≡ Some rec → bytes ≡ bytes_or_zeros page_bytes list (name_of rec)
+    (bytes spare : List ℕ) (rec : Rec) → contents_noted p page_bytes list note ≡ complete bytes spare → record_of p spare ≡ Some rec →
+    bytes ≡ bytes_or_zeros page_bytes list (name_of rec)
 noted_bytes p page_bytes list Blank spelled bytes spare rec is reads = cc
 noted_bytes p page_bytes list Damaged spelled bytes spare rec is reads = cc
 noted_bytes p page_bytes list (Holds own) spelled bytes spare rec is reads =
@@ -138,7 +139,8 @@ module _ (s : FlashState) (n : Noted) (t : BlockTable) (u : Unsure) (m : Matches
   known_records : records_in p known ≡ found_in n.notes
   known_records = sym (found_in_notes p known) ∙ ap found_in known_notes
 
-  pages : (slot : ℕ) (rec : Rec) → note_at n.notes slot ≡ Holds rec → slot < slots_of s.shape → (rec.page < n.config.logical) × (rec.next.page < n.config.logical)
+  pages : (slot : ℕ) (rec : Rec) → note_at n.notes slot ≡ Holds rec → slot < slots_of s.shape →
+      (rec.page < n.config.logical) × (rec.next.page < n.config.logical)
   pages slot rec holds within =
       All-contains (PagesExist n.config.logical) (found_in n.notes) (found slot rec) (m.noted.sound Pages)
       (noted_in n.notes slot rec (omega (arith, m.noted.slots, ap slots_of m.shape)) holds)
@@ -161,14 +163,17 @@ module _ (s : FlashState) (n : Noted) (t : BlockTable) (u : Unsure) (m : Matches
       let r = is_read p known w i in
       let within : w.slot.0 < slots_of s.shape = (let low = r.within in omega (arith, length_known, m.flash.slots)) in
       r.reads.page
-      ∙ by_slot (λ contents. contents ≡ complete r.reads.bytes r.reads.spare → r.reads.bytes ≡ bytes_or_zeros n.config.page_bytes old (name_of w.rec)) w.slot.0 within
+      ∙ by_slot (λ contents. contents ≡ complete r.reads.bytes r.reads.spare →
+      r.reads.bytes ≡ bytes_or_zeros n.config.page_bytes old (name_of w.rec)) w.slot.0 within
       (λ sure is. old_bytes (written w.slot.0 w.rec r.reads.bytes)
       (read_slot p s.image w.slot.0 r.reads.bytes r.reads.spare w.rec (omega (arith, m.flash.slots)) is r.reads.spells))
-      (λ un is. noted_bytes p n.config.page_bytes old (note_at n.notes w.slot.0) (spelled w.slot.0 within un) r.reads.bytes r.reads.spare w.rec is r.reads.spells)
+      (λ un is. noted_bytes p n.config.page_bytes old (note_at n.notes w.slot.0) (spelled w.slot.0 within un) r.reads.bytes r.reads.spare w.rec is
+      r.reads.spells)
       r.reads.is
 
   known_agree : All (BytesAgree new) new
-  known_agree = all_from (BytesAgree new) new (λ w i. all_from (λ v. v.slot.0 < w.slot.0 → name_of v.rec ≡ name_of w.rec → v.bytes ≡ w.bytes) new (λ v j lt same.
+  known_agree = all_from (BytesAgree new) new (λ w i. all_from (λ v. v.slot.0 < w.slot.0 → name_of v.rec ≡ name_of w.rec → v.bytes ≡ w.bytes) new
+      (λ v j lt same.
       known_bytes v j ∙ ap (bytes_or_zeros n.config.page_bytes old) same ∙ sym (known_bytes w i)))
 
   removable : IsRemovable p (records_in p known) n.config.logical s.shape t.spare

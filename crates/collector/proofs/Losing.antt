@@ -52,7 +52,8 @@ module _ (n : Noted) (noted : IsNoted n.config.protocol n) (law : LossLaw n.conf
   wanted_stays : (f : Found) → Contains old f → is_wanted n.config.protocol old n.config.logical (pinned_names n.pins) f.rec ≡ true →
       is_present fewer (name_of f.rec) ≡ true
   wanted_stays f i w =
-      All-contains (λ f. is_wanted n.config.protocol old n.config.logical (pinned_names n.pins) f.rec ≡ true → is_present (left keep old) (name_of f.rec) ≡ true) old f spared i w
+      All-contains (λ f. is_wanted n.config.protocol old n.config.logical (pinned_names n.pins) f.rec ≡ true →
+      is_present (left keep old) (name_of f.rec) ≡ true) old f spared i w
 
   current_same : (page : ℕ) → page < n.config.logical → current_of (blocked n block note) page ≡ current_of n page
   unfolding current_of
@@ -69,7 +70,8 @@ module _ (n : Noted) (noted : IsNoted n.config.protocol n) (law : LossLaw n.conf
       let f = found_named old (current_name_of n page) there in
       let at_page : f.0.rec.page ≡ page = ap (λ (y : Link). y.page) f.2 in
       let version : f.0.rec.version ≡ cur n.config.protocol old n.config.logical page = ap (λ (y : Link). y.version) f.2 in
-      let current : f.0.rec.version ≡ cur n.config.protocol old n.config.logical f.0.rec.page = version ∙ ap (cur n.config.protocol old n.config.logical) (sym at_page) in
+      let current : f.0.rec.version ≡ cur n.config.protocol old n.config.logical f.0.rec.page = version
+      ∙ ap (cur n.config.protocol old n.config.logical) (sym at_page) in
       subst (λ l. is_present l (current_name_of n page) ≡ true) (sym is_left)
       (subst (λ u. is_present fewer u ≡ true) f.2
       (wanted_stays f.0 f.1 (counted_wanted n.config.protocol old n.config.logical (pinned_names n.pins) f.0.rec (inl current))))
@@ -87,7 +89,8 @@ module _ (n : Noted) (noted : IsNoted n.config.protocol n) (law : LossLaw n.conf
         let f = found_named old name there in
         subst (λ l. is_present l name ≡ true) (sym is_left)
         (subst (λ u. is_present fewer u ≡ true) f.2
-        (wanted_stays f.0 f.1 (pinned_wanted n.config.protocol old n.config.logical (pinned_names n.pins) f.0.rec (subst (Contains (pinned_names n.pins)) (sym f.2) pin))));
+        (wanted_stays f.0 f.1
+        (pinned_wanted n.config.protocol old n.config.logical (pinned_names n.pins) f.0.rec (subst (Contains (pinned_names n.pins)) (sym f.2) pin))));
     present = current_stays;
     held = held_less;
     in_progress = λ names h. subst (λ l. InProgress n.config.protocol l n.config.logical names) (sym is_left) (loses.in_progress names h);
@@ -97,5 +100,6 @@ module _ (n : Noted) (noted : IsNoted n.config.protocol n) (law : LossLaw n.conf
   pub spared_still : CanSpare (blocked n block note) block
   spared_still =
       subst (λ l. IsDispensable n.config.protocol l n.config.logical (pinned_names n.pins) (shape_of n.config) block) (sym is_left)
-      (all_from (λ f. is_wanted n.config.protocol fewer n.config.logical (pinned_names n.pins) f.rec ≡ true → is_present (left keep fewer) (name_of f.rec) ≡ true) fewer
+      (all_from (λ f. is_wanted n.config.protocol fewer n.config.logical (pinned_names n.pins) f.rec ≡ true →
+      is_present (left keep fewer) (name_of f.rec) ≡ true) fewer
       (λ f i w. present_as (left keep fewer) f (name_of f.rec) (left_twice keep old f i) refl))

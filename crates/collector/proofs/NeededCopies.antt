@@ -16,7 +16,8 @@ use Rattle.collector.proofs.KeepsLemmas.{keeps_then}
 
 module _ (p : Protocol) (a : Store) (n : Noted) (s : FlashState) (u : Unsure) (first start at used block : ℕ)
     (h : CopiedSoFar p a n s a.table u first start at used)
-    (block_is : first ≡ block * a.noted.config.pages_per_block) (spare_is : start ≡ a.table.spare * a.noted.config.pages_per_block) (apart : block ≢ a.table.spare) where
+    (block_is : first ≡ block * a.noted.config.pages_per_block) (spare_is : start ≡ a.table.spare * a.noted.config.pages_per_block)
+    (apart : block ≢ a.table.spare) where
   -- all was copied
   pub needed_copied : at ≡ first + a.noted.config.pages_per_block → CopiesNeeded p a (store_of s n a.table u) block (Ok used)
   needed_copied end = record {
@@ -34,7 +35,8 @@ module _ (p : Protocol) (a : Store) (n : Noted) (s : FlashState) (u : Unsure) (f
   needed_broke low high below needed from to from_is to_is s' n' u' x y c = record {
     keeps = keeps_then p a (store_of s n a.table u) (store_of s' n' a.table u') true h.keeps c.keeps;
     copied = tt;
-    broken = copying_broke p a n s a.table u first start at used block h low block_is spare_is high apart below needed s' n' u' from to from_is to_is c.stays c.broken;
+    broken = copying_broke p a n s a.table u first start at used block h low block_is spare_is high apart below needed s' n' u' from to from_is to_is c.stays
+        c.broken;
     costs = λ unneeded.
         copying_costs_torn p a n s a.table u first start at used h (let le = h.within in omega (arith, le, low, high)) s' c.counts;
   }

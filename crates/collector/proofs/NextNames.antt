@@ -52,7 +52,8 @@ module _ (n n' : Noted) (names : List Link) (kept : Preserves n n') where
     | inr gone ↦ gone
   ]
 
-pub next_stays : (n n' : Noted) (names : List Link) (name : Link) → length n.pins ≡ n.config.logical → Preserves n n' → IsNextName n names name → IsNextName n' names name
+pub next_stays : (n n' : Noted) (names : List Link) (name : Link) → length n.pins ≡ n.config.logical → Preserves n n' → IsNextName n names name →
+    IsNextName n' names name
 next_stays n n' names name pages kept h = record {
   in_progress = in_progress_stays n n' names kept names h.in_progress;
   named = h.named;

@@ -16,14 +16,16 @@ use Rattle.version_index.proofs.FoundIn.{found, found_in_programmed}
 use Rattle.version_index.proofs.NotedChanges.{next_write}
 use Rattle.collector.specs.Preserves.{IsThere}
 
-module _ (p : Protocol) (n : Noted) (at : ℕ) (rec : Rec) (noted : IsNoted p n) (exists : at < slots_of (shape_of n.config)) (was : note_at n.notes at ≡ Blank) where
+module _ (p : Protocol) (n : Noted) (at : ℕ) (rec : Rec) (noted : IsNoted p n) (exists : at < slots_of (shape_of n.config))
+    (was : note_at n.notes at ≡ Blank) where
   long : at < length n.notes
   long = omega (arith, noted.slots)
 
   -- a name is there that was there, or is that of the record
   pub names_there : (name : Link) → IsThere (programmed n at rec) name ↔ (IsThere n name ⊎ (name ≡ name_of rec))
   names_there name =
-      let more = inserted_any (λ f. has_name name f.rec) (found_in n.notes) (found_in (programmed n at rec).notes) (found at rec) (found_in_programmed n.notes at rec long was) in (
+      let more = inserted_any (λ f. has_name name f.rec) (found_in n.notes) (found_in (programmed n at rec).notes) (found at rec)
+      (found_in_programmed n.notes at rec long was) in (
         λ there. elim (or_cases (has_name name rec) (is_present (found_in n.notes) name) (sym more ∙ there)) [
           | inl own ↦ inr (sym (has_name_true name rec own))
           | inr old ↦ inl old

@@ -11,7 +11,8 @@ use Rattle.version_index.specs.Notes.{note_at, rec_of, found_in, with_block_note
 use Rattle.version_index.proofs.Blocks.{item_in, item_out, length-with_item}
 use Rattle.version_index.proofs.FoundIn.{found_in_block}
 
-module _ (shape : Shape) (some : 0 < shape.pages_per_block) (notes : List Note) (long : length notes ≡ slots_of shape) (block : ℕ) (below : block < blocks_of shape)
+module _ (shape : Shape) (some : 0 < shape.pages_per_block) (notes : List Note) (long : length notes ≡ slots_of shape) (block : ℕ)
+    (below : block < blocks_of shape)
     (note : Note) where
   fits : block * shape.pages_per_block + shape.pages_per_block ≤ length notes
   fits = omega (arith, long, block_within shape block below)

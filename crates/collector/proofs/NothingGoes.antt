@@ -20,5 +20,6 @@ pub none_goes : (n : Noted) (page below : ℕ) → n.config.protocol ≡ Bpcc �
 unfolding blocks_to_go
 none_goes n page below rule =
     count_none (is_going n page below) (range_with_len 0 (blocks_of (shape_of n.config))) (λ block.
-    list_any_none (λ (f : Found). (f.slot.0 / n.config.pages_per_block == block) && must_go n.config.protocol (found_in n.notes) n.config.logical page below f.rec) (found_in n.notes)
+    list_any_none (λ (f : Found). (f.slot.0 / n.config.pages_per_block == block)
+    && must_go n.config.protocol (found_in n.notes) n.config.logical page below f.rec) (found_in n.notes)
     (λ k d inside. and_right _ _ (ap (λ p. must_go p (found_in n.notes) n.config.logical page below (get_or (found_in n.notes) k d).rec) rule)))

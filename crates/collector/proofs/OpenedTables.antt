@@ -95,7 +95,8 @@ module _ (shape : Shape) (slots : List Seen) (spare : ℕ) where
   use_spare : (block : ℕ) → block ≡ spare → use_in shape slots spare block ≡ record { state = Spare; used = 0 }
   use_spare block e = cond-true (eqb block spare) _ _ (eq-eqb block spare e)
 
-  use_clean : (block : ℕ) → eqb block spare ≡ false → reads_blank_block shape slots block ≡ true → use_in shape slots spare block ≡ record { state = Clean; used = 0 }
+  use_clean : (block : ℕ) → eqb block spare ≡ false → reads_blank_block shape slots block ≡ true →
+      use_in shape slots spare block ≡ record { state = Clean; used = 0 }
   use_clean block other e = cond-false (eqb block spare) _ _ other ∙ cond-true (reads_blank_block shape slots block) _ _ e
 
   use_shut : (block : ℕ) → eqb block spare ≡ false → reads_blank_block shape slots block ≡ false →
@@ -165,7 +166,8 @@ none_pinned pages name pin =
     let none : pinned_at (0 + h.at) (get_or (replicate pages 0) h.at 0) ≡ None = ap (pinned_at (0 + h.at)) (get_or-replicate pages h.at 0 0 within) in
     none-some name (sym none ∙ h.from 0)
 
-module _ (its : Config) (s : FlashState) (check : checked its ≡ Ok s.shape) (whole : IsFlash s) (sound : IsSoundImage its.protocol its.logical s.shape s.image) (spare : ℕ)
+module _ (its : Config) (s : FlashState) (check : checked its ≡ Ok s.shape) (whole : IsFlash s) (sound : IsSoundImage its.protocol its.logical s.shape s.image)
+    (spare : ℕ)
     (chosen : IsChosenFrom its.protocol its.logical (shape_of its) (seen_in s.image) (records_in its.protocol s.image) spare) where
   abbrev sh : Shape
   sh = shape_of its
@@ -227,10 +229,12 @@ module _ (its : Config) (s : FlashState) (check : checked its ≡ Ok s.shape) (w
   ]
 
   removable_spared : IsRemovable its.protocol list its.logical sh spare → (f : Found) → Contains (found_in n.notes) f →
-      is_wanted its.protocol (found_in n.notes) its.logical (pinned_names n.pins) f.rec ≡ true → is_present (left (is_outside sh spare) (found_in n.notes)) (name_of f.rec) ≡ true
+      is_wanted its.protocol (found_in n.notes) its.logical (pinned_names n.pins) f.rec ≡ true →
+      is_present (left (is_outside sh spare) (found_in n.notes)) (name_of f.rec) ≡ true
   removable_spared removable f i w =
       let removable' = subst (λ l. IsRemovable its.protocol l its.logical sh spare) (sym same) removable in
-      let counted = All-contains (λ f. IsCurrent its.protocol (found_in n.notes) its.logical f.rec ⊎ (is_held its.protocol (found_in n.notes) its.logical f.rec ≡ true) →
+      let counted = All-contains
+      (λ f. IsCurrent its.protocol (found_in n.notes) its.logical f.rec ⊎ (is_held its.protocol (found_in n.notes) its.logical f.rec ≡ true) →
       is_present (left (is_outside sh spare) (found_in n.notes)) (name_of f.rec) ≡ true) (found_in n.notes) f removable' i in
       elim (wanted_cases its.protocol (found_in n.notes) its.logical (pinned_names n.pins) f.rec w) [
         | inl current ↦ counted (inl current)
@@ -240,7 +244,8 @@ module _ (its : Config) (s : FlashState) (check : checked its ≡ Ok s.shape) (w
 
   spare_spared : CanSpare n spare
   spare_spared =
-      all_from (λ f. is_wanted its.protocol (found_in n.notes) its.logical (pinned_names n.pins) f.rec ≡ true → is_present (left (is_outside sh spare) (found_in n.notes)) (name_of f.rec) ≡ true) (found_in n.notes)
+      all_from (λ f. is_wanted its.protocol (found_in n.notes) its.logical (pinned_names n.pins) f.rec ≡ true →
+      is_present (left (is_outside sh spare) (found_in n.notes)) (name_of f.rec) ≡ true) (found_in n.notes)
       (λ f i w. elim chosen [
         | inl all_blank ↦ present_as (left (is_outside sh spare) (found_in n.notes)) f (name_of f.rec)
             (in_filter (λ f. is_outside sh spare f.slot.0) f (found_in n.notes) i (blank_apart all_blank.holds f i)) refl

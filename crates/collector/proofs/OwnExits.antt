@@ -25,13 +25,15 @@ use Rattle.collector.proofs.Programming.{programmed_spared}
 use Rattle.collector.proofs.SettledBlocks.{out_of}
 
 -- a free slot lies outside the spare
-pub free_out : (s : FlashState) (n : Noted) (t : BlockTable) (u : Unsure) → Matches s n t u → (slot : ℕ) → IsFree t slot → is_outside (shape_of n.config) t.spare slot ≡ true
+pub free_out : (s : FlashState) (n : Noted) (t : BlockTable) (u : Unsure) → Matches s n t u → (slot : ℕ) → IsFree t slot →
+    is_outside (shape_of n.config) t.spare slot ≡ true
 free_out s n t u m slot free =
     let apart = has_room_not_spare t m.table (block_of_slot t.shape slot) (block_within t m.table slot free.within) free.room in
     out_of (shape_of n.config) t.spare slot (λ e. apart (ap (λ (x : Shape). slot / x.pages_per_block) (m.blocks ∙ m.shape) ∙ e))
 
 -- a slot of a record is noted as it reads
-holds_reads : (p : Protocol) (rec : Rec) (contents : Contents) → CanBeSpelled p rec → (bytes : List ℕ) → contents ≡ complete bytes (spelling p rec) → Holds rec ≡ note_of p contents
+holds_reads : (p : Protocol) (rec : Rec) (contents : Contents) → CanBeSpelled p rec → (bytes : List ℕ) → contents ≡ complete bytes (spelling p rec) →
+    Holds rec ≡ note_of p contents
 holds_reads p rec contents spelled bytes is =
     sym (ap (note_of p) is ∙ ap (λ o. option_map_or Holds o Damaged) (record_of-spelling p rec spelled))
 
@@ -47,10 +49,12 @@ module _ (s : FlashState) (n : Noted) (t : BlockTable) (u : Unsure) (m : Matches
   own_there partial completing rec take spelled bytes reads noted =
       settled_slot s n t (with_slot t at) u m at within only (Holds rec) (programmed n at rec).mentions noted
       (holds_reads n.config.protocol rec (slot_at s.image at) spelled bytes reads) table refl refl (free_with_slot t m.table at free)
-      (programmed_spared n m.noted partial completing at rec (omega (arith, within, m.noted.slots, ap slots_of m.shape)) was t take (free_out s n t u m at free) noted m.spared)
+      (programmed_spared n m.noted partial completing at rec (omega (arith, within, m.noted.slots, ap slots_of m.shape)) was t take (free_out s n t u m at free)
+      noted m.spared)
 
   -- the slot is damaged
   pub own_damaged : slot_at s.image at ≡ damaged → IsNoted n.config.protocol (damaged_at n at) → Matches s (damaged_at n at) (with_slot t at) unsure.Nothing
   own_damaged reads noted =
-      settled_slot s n t (with_slot t at) u m at within only Damaged n.mentions noted (sym (ap (note_of n.config.protocol) reads)) table refl refl (free_with_slot t m.table at free)
+      settled_slot s n t (with_slot t at) u m at within only Damaged n.mentions noted (sym (ap (note_of n.config.protocol) reads)) table refl refl
+      (free_with_slot t m.table at free)
       (damaged_spared n at t.spare (omega (arith, within, m.noted.slots, ap slots_of m.shape)) was m.spared)

@@ -113,10 +113,12 @@ module _ (n : Noted) (noted : IsNoted n.config.protocol n) (partial : PartialWri
       (All-contains (λ name. is_present old name ≡ true → is_present (left keep old) name ≡ true) names (name_of f.rec) take.outside named
       (present_as old f (name_of f.rec) i refl))
 
-  old_out : (f : Found) → Contains old f → CanSpare n t.spare → is_wanted p old n.config.logical (pinned_names n.pins) f.rec ≡ true → is_present (left keep more) (name_of f.rec) ≡ true
+  old_out : (f : Found) → Contains old f → CanSpare n t.spare → is_wanted p old n.config.logical (pinned_names n.pins) f.rec ≡ true →
+      is_present (left keep more) (name_of f.rec) ≡ true
   old_out f i spared w =
       stays_out (name_of f.rec)
-      (All-contains (λ f. is_wanted p old n.config.logical (pinned_names n.pins) f.rec ≡ true → is_present (left keep old) (name_of f.rec) ≡ true) old f spared i w)
+      (All-contains (λ f. is_wanted p old n.config.logical (pinned_names n.pins) f.rec ≡ true → is_present (left keep old) (name_of f.rec) ≡ true) old f spared
+      i w)
 
   page_within : (f : Found) → Contains old f → f.rec.page < n.config.logical
   page_within f i = (All-contains (PagesExist n.config.logical) old f (noted.sound Pages) i).0
@@ -135,8 +137,10 @@ module _ (n : Noted) (noted : IsNoted n.config.protocol n) (partial : PartialWri
       IsCurrent p more n.config.logical f.rec → OfPages names f.rec.page → is_present (left keep more) (name_of f.rec) ≡ true
   current_case kept spared f i current (one name named is) =
       let version : f.rec.version ≡ name.version =
-      current ∙ ap (cur p more n.config.logical) (sym is) ∙ All-contains (λ name. cur p more n.config.logical name.page ≡ name.version) names name kept.committed named in
-      let same : name_of f.rec ≡ name = ap (λ v. record { page = f.rec.page; version = v }) version ∙ ap (λ q. record { page = q; version = name.version }) (sym is) in
+      current ∙ ap (cur p more n.config.logical) (sym is)
+      ∙ All-contains (λ name. cur p more n.config.logical name.page ≡ name.version) names name kept.committed named in
+      let same : name_of f.rec ≡ name = ap (λ v. record { page = f.rec.page; version = v }) version
+      ∙ ap (λ q. record { page = q; version = name.version }) (sym is) in
       own_out f i (subst (Contains names) (sym same) named)
   current_case kept spared f i current (none other) =
       let away = all_from (λ name. name.page ≢ f.rec.page) names other in
@@ -156,7 +160,8 @@ module _ (n : Noted) (noted : IsNoted n.config.protocol n) (partial : PartialWri
   each_out : AreThere more names → CanSpare n t.spare → (f : Found) → Contains old f →
       is_wanted p more n.config.logical (pinned_names n.pins) f.rec ≡ true → is_present (left keep more) (name_of f.rec) ≡ true
   each_out (all there) spared =
-      whole_case (completing old more n.config.logical names (found at rec) noted.sound write (all_from (λ name. is_present more name ≡ true) names there)) spared
+      whole_case (completing old more n.config.logical names (found at rec) noted.sound write (all_from (λ name. is_present more name ≡ true) names there))
+      spared
   each_out (missing name named absent) spared =
       open_case (partial old more n.config.logical names (found at rec) noted.sound write (named.0, name, named.1, named.2, absent)) spared
 

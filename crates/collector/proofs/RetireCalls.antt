@@ -15,7 +15,7 @@ use Rattle.record_list.specs.Changes.{LossLaw}
 use Rattle.version_index.specs.Noted.{Noted}
 use Rattle.collector.specs.declared.unsure.Unsure.{Unsure}
 use Rattle.collector.specs.declared.unsure.Unsure.TheVariants as unsure
-use Rattle.collector.specs.BreakingOff.{BreaksOff, CopiesBreakOff}
+use Rattle.collector.specs.BreakingOff.{CopiesBreakOff}
 use Rattle.collector.specs.Calls.{Cleans, CopiesNeeded, Keeps}
 use Rattle.collector.specs.Collecting.{cleaning, copies, needed_slots, noted_cleaned}
 use Rattle.collector.specs.Looking.{reads_after}
@@ -60,23 +60,6 @@ spare_retired p a b block (Err x) is e = record {
 -- nothing was replaced by a call that broke off before
 none_retired : (p : Protocol) (a b : Store) → Keeps p a b true → RetiresNone a.flash b.flash
 none_retired p a b k = (k.moves, k.carries.extras)
-
--- the spare could not be made blank
-pub retires_unclean : (p : Protocol) (a b : Store) (block : ℕ) (x y : Broken) → block ≢ a.table.spare → Cleans p a b (Err x) → RetiresBlock p a b block (Err y)
-retires_unclean p a b block x y apart c = record {
-  keeps = keeps_retiring p a b true c.keeps;
-  done = tt;
-  noted = tt;
-  reads = tt;
-  broken = (
-    λ spare. absurd (apart spare),
-    λ other. (
-      subst (BreaksOff a.noted a.flash b.flash a.table.spare block b.noted) (sym c.torn.0) (c.broken, c.torn.1),
-      subst (EndsRetiring a.flash b.flash block) (sym c.torn.0) (none_retired p a b c.keeps),
-    ),
-  );
-  stays = c.blocks;
-}
 
 -- where the copies broke off nothing was replaced
 ends_copying : (n : Noted) (s old new : FlashState) (before : List Operation) (spare block : ℕ) (n' : Noted) (u : Unsure) →

@@ -73,7 +73,8 @@ module _ (p : Protocol) (loss : LossLaw p) (a m : Store) (k : IsSure p a) (clean
     unneeded = victim_unneeded m.flash m.noted m.table calm block.0 v
 
     its : IsVictim (noted_cleaned a.noted a.table.spare) a.table block.0
-    its = subst (λ (t : BlockTable). IsVictim (noted_cleaned a.noted a.table.spare) t block.0) cleaned.blocks (subst (λ (n : Noted). IsVictim n m.table block.0) cleaned.noted v)
+    its = subst (λ (t : BlockTable). IsVictim (noted_cleaned a.noted a.table.spare) t block.0) cleaned.blocks
+        (subst (λ (n : Noted). IsVictim n m.table block.0) cleaned.noted v)
 
     collected_so : (b : Store) (r : Result (Unit {0}) Broken) → CollectsClean p m b block r → Collects p a b block.0 r
     collected_so =
@@ -95,7 +96,8 @@ module _ (p : Protocol) (loss : LossLaw p) (a m : Store) (k : IsSure p a) (clean
 
     few : length (needed_slots (noted_cleaned a.noted a.table.spare) block.0) < a.table.shape.pages_per_block
     few =
-        let less : length (needed_slots m.noted block.0) < m.noted.config.pages_per_block = filter_fewer (needed_of m.noted) (block.0 * m.noted.config.pages_per_block) m.noted.config.pages_per_block unneeded in
+        let less : length (needed_slots m.noted block.0) < m.noted.config.pages_per_block = filter_fewer (needed_of m.noted)
+        (block.0 * m.noted.config.pages_per_block) m.noted.config.pages_per_block unneeded in
         subst (λ (x : Shape). length (needed_slots (noted_cleaned a.noted a.table.spare) block.0) < x.pages_per_block) (sym (calm0.blocks ∙ calm0.shape))
         (subst (λ (n : Noted). length (needed_slots n block.0) < n.config.pages_per_block) cleaned.noted less)
 
@@ -113,14 +115,18 @@ module _ (p : Protocol) (loss : LossLaw p) (a m : Store) (k : IsSure p a) (clean
         }
 
 -- where no block has room there is garbage
-pub full_collects : (p : Protocol) (a b : Store) → IsSure p a → IsFull a.table → ((names : List Link) × (name : Link) × IsNextName a.noted names name) → (any : _) →
+pub full_collects : (p : Protocol) (a b : Store) → IsSure p a → IsFull a.table → ((names : List Link) × (name : Link) × IsNextName a.noted names name) →
+    (any : _) →
     CollectsMost p a b (Ok any) → any ≡ true
 full_collects p a b k full next true c = refl
 full_collects p a b k full next false c =
     let calm0 = subst (Matches a.flash a.noted a.table) k.nothing k.matches in
     let blanked : is_noted_blank b.noted b.table.spare ≡ true =
-    ap₂ (λ (n : Noted) (t : BlockTable). is_noted_blank n t.spare) c.done.noted c.done.table ∙ blank_erased a.noted k.matches.noted a.table.spare (spare_within a.flash a.noted a.table calm0) in
+    ap₂ (λ (n : Noted) (t : BlockTable). is_noted_blank n t.spare) c.done.noted c.done.table
+    ∙ blank_erased a.noted k.matches.noted a.table.spare (spare_within a.flash a.noted a.table calm0) in
     let none : HasNoGarbage b.noted b.table =
-    subst (λ (n : Noted). HasNoGarbage n b.table) (sym c.done.noted) (subst (HasNoGarbage (noted_cleaned a.noted a.table.spare)) (sym c.done.table) c.done.none) in
-    absurd (some_garbage b.flash b.noted b.table (subst (Matches b.flash b.noted b.table) c.keeps.sure c.keeps.matches) blanked (subst IsFull (sym c.done.table) full) next.0 next.1
+    subst (λ (n : Noted). HasNoGarbage n b.table) (sym c.done.noted)
+    (subst (HasNoGarbage (noted_cleaned a.noted a.table.spare)) (sym c.done.table) c.done.none) in
+    absurd (some_garbage b.flash b.noted b.table (subst (Matches b.flash b.noted b.table) c.keeps.sure c.keeps.matches) blanked
+    (subst IsFull (sym c.done.table) full) next.0 next.1
     (next_stays a.noted b.noted next.0 next.1 k.matches.noted.pages c.keeps.preserves next.2) none)

@@ -48,7 +48,8 @@ garbage_unneeded n false slot e =
     (or_parts (is_blank (note_at n.notes slot)) (needed_of n slot) (not-true (is_blank (note_at n.notes slot) || needed_of n slot) e)).1
 
 -- the slots of a block that is all blank
-pub blank_erased : (n : Noted) → IsNoted n.config.protocol n → (block : ℕ) → block < blocks_of (shape_of n.config) → is_noted_blank (erased n block) block ≡ true
+pub blank_erased : (n : Noted) → IsNoted n.config.protocol n → (block : ℕ) → block < blocks_of (shape_of n.config) →
+    is_noted_blank (erased n block) block ≡ true
 blank_erased n noted block below =
     range_all (λ slot. is_blank (note_at (erased n block).notes slot)) (block * n.config.pages_per_block) n.config.pages_per_block
     (λ k low high. ap is_blank
@@ -94,7 +95,8 @@ module _ (s : FlashState) (n : Noted) (t : BlockTable) (m : Matches s n t unsure
   pub victim_unneeded : (block : ℕ) → IsVictim n t block → HasUnneeded n block
   victim_unneeded block v =
       let shut = is_shut (block_state t block) in
-      let more : 0 < count_by (is_garbage_at n (shut_or_part (is_shut (block_state t block)))) (range_with_len (block * n.config.pages_per_block) n.config.pages_per_block) =
+      let more : 0 < count_by (is_garbage_at n (shut_or_part (is_shut (block_state t block))))
+      (range_with_len (block * n.config.pages_per_block) n.config.pages_per_block) =
       subst (λ k. 0 < k) (other_garbage n block (is_shut (block_state t block)) (not_its_spare block (victim_apart block v))) v.some in
       let one = count_some (is_garbage_at n (shut_or_part (is_shut (block_state t block)))) (block * n.config.pages_per_block) n.config.pages_per_block more in
       has_unneeded n block one.at (in_range (block * n.config.pages_per_block) n.config.pages_per_block one.at one.low one.high)
@@ -108,11 +110,13 @@ module _ (s : FlashState) (n : Noted) (t : BlockTable) (m : Matches s n t unsure
         (all_range (λ k. is_blank (note_at n.notes k)) (t.spare * n.config.pages_per_block) n.config.pages_per_block blanked slot inside.0 inside.1)
 
     -- a slot outside the spare that is not garbage is needed
-    all_needed : HasNoGarbage n t → (slot : ℕ) → slot < slots_of (shape_of n.config) → is_outside (shape_of n.config) t.spare slot ≡ true → needed_of n slot ≡ true
+    all_needed : HasNoGarbage n t → (slot : ℕ) → slot < slots_of (shape_of n.config) → is_outside (shape_of n.config) t.spare slot ≡ true →
+        needed_of n slot ≡ true
     all_needed none slot within out =
         let per = n.config.pages_per_block in
         let block = slot / n.config.pages_per_block in
-        let below : block < blocks_of (shape_of n.config) = div_below slot per (blocks_of (shape_of n.config)) some (omega (arith, within, mul_comm per (blocks_of (shape_of n.config)))) in
+        let below : block < blocks_of (shape_of n.config) = div_below slot per (blocks_of (shape_of n.config)) some
+        (omega (arith, within, mul_comm per (blocks_of (shape_of n.config)))) in
         let apart = other_block (slot / n.config.pages_per_block) t.spare (eqb (slot / n.config.pages_per_block) t.spare) refl out in
         let shut = shut_where_full t m.table full block (subst (λ (k : Shape). block < blocks_of k) (sym shape_same) below) apart in
         let zero : garbage_of n block true ≡ 0 = ap (λ q. garbage_of n block (is_shut q)) (sym shut) ∙ none block below in
@@ -166,7 +170,8 @@ room_made t h block used few full = by (eqb used 0) refl
     more = ne_eqb used t.shape.pages_per_block (λ e. omega (arith, e, few))
 
     by : (b : Bool) → eqb used 0 ≡ b → ⊥
-    by true e = full t.spare h.spare_within (inl (its_state ∙ ap (λ b. if b then state.Clean else (if eqb used t.shape.pages_per_block then state.Shut else state.Part)) e))
+    by true e = full t.spare h.spare_within
+        (inl (its_state ∙ ap (λ b. if b then state.Clean else (if eqb used t.shape.pages_per_block then state.Shut else state.Part)) e))
     by false e =
         full t.spare h.spare_within
         (inr (its_state ∙ ap₂ (λ b c. if b then state.Clean else (if c then state.Shut else state.Part)) e more))

@@ -2,7 +2,7 @@
 use Rattle.std.proofs.Common.{◌≡◌, ℕ, ◌+◌, ◌≤◌, List, [], ◌∷◌, length, refl, ap, arith}
 use Rattle.tx_types.specs.declared.config.Shape.{Shape}
 use Rattle.flash_model.specs.Flash.{FlashState, Contents}
-use Rattle.flash_model.specs.Operations.{Operation, program, erase, Moment, moment_of, after}
+use Rattle.flash_model.specs.Operations.{Operation, program, erase, fire, Moment, moment_of, after}
 use Rattle.flash_model.specs.Moves.{Does}
 use Rattle.collector.specs.Collecting.{copies}
 
@@ -11,11 +11,13 @@ programs : List Operation → ℕ
 programs [] = 0
 programs (program at bytes spare ∷ rest) = 1 + programs rest
 programs (erase block ∷ rest) = programs rest
+programs (fire loads ∷ rest) = length loads + programs rest
 
 erases : List Operation → ℕ
 erases [] = 0
 erases (program at bytes spare ∷ rest) = erases rest
 erases (erase block ∷ rest) = 1 + erases rest
+erases (fire loads ∷ rest) = erases rest
 
 -- the counts rise by no more than that
 record Counts (a b : Moment) (list : List Operation) : Type 0 where
@@ -36,6 +38,12 @@ counts shape a b (program at bytes spare ∷ rest) does =
     }
 counts shape a b (erase block ∷ rest) does =
     let h = counts shape (after shape a (erase block)) b rest does.1 in
+    record {
+      programmed = (let low = h.programmed in omega arith);
+      erased = (let low = h.erased in omega arith);
+    }
+counts shape a b (fire loads ∷ rest) does =
+    let h = counts shape (after shape a (fire loads)) b rest does.1 in
     record {
       programmed = (let low = h.programmed in omega arith);
       erased = (let low = h.erased in omega arith);

@@ -20,7 +20,8 @@ use Rattle.collector.proofs.SettledExits.{matches_still}
 use Rattle.collector.proofs.SettledImages.{Stands}
 
 -- the one slot could not be read
-pub finds_unread : (a : Store) (s : FlashState) (at : ℕ) (bytes spare : List ℕ) (x y : Broken) → slots_read a.noted a.unsure ≡ 1 → Reads a.flash s at bytes spare (Err x) →
+pub finds_unread : (a : Store) (s : FlashState) (at : ℕ) (bytes spare : List ℕ) (x y : Broken) → slots_read a.noted a.unsure ≡ 1 →
+    Reads a.flash s at bytes spare (Err x) →
     Finds a s a.noted a.table (Err y)
 finds_unread a s at bytes spare x y one reads = record {
   found = tt;
@@ -30,7 +31,8 @@ finds_unread a s at bytes spare x y one reads = record {
 
 module _ (p : Protocol) (a : Store) (page : List ℕ) (can : CanSettle p a page) (s : FlashState) (n : Noted) (t : BlockTable) where
   -- where slots were read, other tables match that are those
-  matches_as : (k : Noted) (m : BlockTable) (u : Unsure) (broken : _) → Looks a.flash s (slots_read a.noted a.unsure) broken → n ≡ k → t ≡ m → Matches a.flash k m u → Matches s n t u
+  matches_as : (k : Noted) (m : BlockTable) (u : Unsure) (broken : _) → Looks a.flash s (slots_read a.noted a.unsure) broken → n ≡ k → t ≡ m →
+      Matches a.flash k m u → Matches s n t u
   matches_as k m u broken looks noted table h =
       subst (λ x. Matches s x t u) (sym noted)
       (subst (λ x. Matches s k x u) (sym table)

@@ -43,7 +43,8 @@ module _ (s : FlashState) (n : Noted) (t : BlockTable) (u : Unsure) (m : Matches
 
   -- a slot outside the block is noted as before
   pub noted_out : (slot : ℕ) → is_outside s.shape block slot ≡ true → note_at notes' slot ≡ note_at n.notes slot
-  noted_out slot e = note_at-out (shape_of n.config) some n.notes m.noted.slots block below note slot (outside_it (shape_of n.config) block slot (as_noted slot ∙ e))
+  noted_out slot e = note_at-out (shape_of n.config) some n.notes m.noted.slots block below note slot
+      (outside_it (shape_of n.config) block slot (as_noted slot ∙ e))
 
   module _ (contents : Contents) (fits : note ≡ note_of n.config.protocol contents) (all : AllOfBlock n block (λ slot. slot_at s.image slot ≡ contents))
       (other : (slot : ℕ) → slot < slots_of s.shape → is_outside s.shape block slot ≡ true → IsNotedAt s.image n slot) where
@@ -87,10 +88,13 @@ settled_spare s n t m loss contents note fits none all noted =
     }
 
 -- a collected block, which is the spare then
-pub settled_victim : (s : FlashState) (n : Noted) (t : BlockTable) (block : Block) (m : Matches s n t (unsure.VictimErase block)) (loss : LossLaw n.config.protocol)
+pub settled_victim : (s : FlashState) (n : Noted) (t : BlockTable) (block : Block) (m : Matches s n t (unsure.VictimErase block))
+    (loss : LossLaw n.config.protocol)
     (contents : Contents) (note : Note) → note ≡ note_of n.config.protocol contents → rec_of note ≡ None →
-    AllOfBlock n block.0 (λ slot. slot_at s.image slot ≡ contents) → (filled : IsFilledTo n t.spare) → block.0 < blocks_of (shape_of n.config) → block.0 ≢ t.spare →
-    IsNoted n.config.protocol (with_spare (blocked n block.0 note) block.0) → IsBlockTable (table_with_spare t block.0) → IsBlockTable (exchanged t block.0 filled.0) →
+    AllOfBlock n block.0 (λ slot. slot_at s.image slot ≡ contents) → (filled : IsFilledTo n t.spare) → block.0 < blocks_of (shape_of n.config) →
+    block.0 ≢ t.spare →
+    IsNoted n.config.protocol (with_spare (blocked n block.0 note) block.0) → IsBlockTable (table_with_spare t block.0) →
+    IsBlockTable (exchanged t block.0 filled.0) →
     Matches s (with_spare (blocked n block.0 note) block.0) (exchanged t block.0 filled.0) unsure.Nothing
 settled_victim s n t block m loss contents note fits none all filled below apart noted mid table =
     let below_table : block.0 < blocks_of t.shape = omega (arith, below, ap blocks_of m.blocks, ap blocks_of m.shape) in

@@ -67,7 +67,8 @@ matches_surely s n t u m place = record {
 
 pub damaged_spared : (n : Noted) (at block : ℕ) → at < length n.notes → note_at n.notes at ≡ Blank → CanSpare n block → CanSpare (damaged_at n at) block
 damaged_spared n at block within was spared =
-    subst (λ l. IsDispensable n.config.protocol l n.config.logical (pinned_names n.pins) (shape_of n.config) block) (sym (found_in_damaged n.notes at within was)) spared
+    subst (λ l. IsDispensable n.config.protocol l n.config.logical (pinned_names n.pins) (shape_of n.config) block)
+    (sym (found_in_damaged n.notes at within was)) spared
 
 -- the one slot that was unsure is noted as it reads
 module _ (s : FlashState) (n : Noted) (t t' : BlockTable) (u : Unsure) (m : Matches s n t u) (at : ℕ) (within : at < slots_of s.shape)
@@ -81,15 +82,18 @@ module _ (s : FlashState) (n : Noted) (t t' : BlockTable) (u : Unsure) (m : Matc
   sure_now slot low = elim (cases_Bool (slot == at)) [
     | inl here ↦ subst (λ k. note_at (set n.notes at note) k ≡ note_of n.config.protocol (slot_at s.image k)) (sym (eqb-true slot at here))
         (get_or-set_same n.notes at note Blank long ∙ reads)
-    | inr other ↦ get_or-set_other n.notes at slot note Blank (eqb-false slot at other) ∙ sure_other slot low (cases_Bool (is_unsure s.shape t.spare u slot)) other
+    | inr other ↦ get_or-set_other n.notes at slot note Blank (eqb-false slot at other)
+        ∙ sure_other slot low (cases_Bool (is_unsure s.shape t.spare u slot)) other
   ]
     where
-      sure_other : (slot : ℕ) → slot < slots_of s.shape → (is_unsure s.shape t.spare u slot ≡ true) ⊎ (is_unsure s.shape t.spare u slot ≡ false) → (slot == at) ≡ false → IsNotedAt s.image n slot
+      sure_other : (slot : ℕ) → slot < slots_of s.shape → (is_unsure s.shape t.spare u slot ≡ true) ⊎ (is_unsure s.shape t.spare u slot ≡ false) →
+          (slot == at) ≡ false → IsNotedAt s.image n slot
       sure_other slot low (inl un) other = absurd (eqb-false slot at other (only slot un))
       sure_other slot low (inr sure) other = m.sure slot low sure
 
   pub settled_slot : IsBlockTable t' → t'.shape ≡ t.shape → t'.spare ≡ t.spare → ((slot : ℕ) → IsFree t' slot → IsFree t slot × (slot ≢ at)) →
-      CanSpare (record n { notes = set n.notes at note; mentions = ms }) t.spare → Matches s (record n { notes = set n.notes at note; mentions = ms }) t' unsure.Nothing
+      CanSpare (record n { notes = set n.notes at note; mentions = ms }) t.spare →
+      Matches s (record n { notes = set n.notes at note; mentions = ms }) t' unsure.Nothing
   settled_slot table shape spare free spared = record {
     shape = m.shape;
     flash = m.flash;
@@ -125,7 +129,8 @@ free_with_slot t h at free slot f = elim (cases_Bool (block_of_slot t.shape slot
   | inl here ↦
       (let block : block_of_slot t.shape slot ≡ block_of_slot t.shape at = eqb-true (block_of_slot t.shape slot) (block_of_slot t.shape at) here in
       let same = use_of-with_slot_same t h at free.within in
-      let used : used_of (with_slot t at) (block_of_slot t.shape slot) ≡ at % t.shape.pages_per_block + 1 = ap (used_of (with_slot t at)) block ∙ ap (λ (x : BlockUse). x.used) same in
+      let used : used_of (with_slot t at) (block_of_slot t.shape slot) ≡ at % t.shape.pages_per_block + 1 = ap (used_of (with_slot t at)) block
+      ∙ ap (λ (x : BlockUse). x.used) same in
       let behind : at % t.shape.pages_per_block + 1 ≤ slot % t.shape.pages_per_block = omega (arith, f.unused, used) in (
         record {
           within = f.within;
@@ -133,6 +138,7 @@ free_with_slot t h at free slot f = elim (cases_Bool (block_of_slot t.shape slot
           unused = (let low : used_of t (block_of_slot t.shape at) ≤ at % t.shape.pages_per_block = free.unused in
               subst (λ b. used_of t b ≤ slot % t.shape.pages_per_block) (sym block) (omega (arith, low, behind)));
         },
-        λ e. (let eq : slot % t.shape.pages_per_block ≡ at % t.shape.pages_per_block = ap (λ k. k % t.shape.pages_per_block) e in absurd (omega (arith, eq, behind))),
+        λ e. (let eq : slot % t.shape.pages_per_block ≡ at % t.shape.pages_per_block = ap (λ k. k % t.shape.pages_per_block) e in absurd
+            (omega (arith, eq, behind))),
       ))
 ]

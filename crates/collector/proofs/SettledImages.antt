@@ -62,7 +62,8 @@ still_blank s n t u m at only was is =
     matches_surely s n t u m (λ slot within un. subst (IsNotedAt s.image n) (sym (only slot un)) (was ∙ ap (note_of n.config.protocol) (sym is)))
 
 -- the slot of an open transaction's record
-module _ (s : FlashState) (n : Noted) (t : BlockTable) (at : Slot) (rec : Rec) (partial : PartialWriteLaw n.config.protocol) (completing : CompletingWriteLaw n.config.protocol)
+module _ (s : FlashState) (n : Noted) (t : BlockTable) (at : Slot) (rec : Rec) (partial : PartialWriteLaw n.config.protocol)
+    (completing : CompletingWriteLaw n.config.protocol)
     (m : Matches s n t (unsure.Own at rec)) (take : CanTakeOwn n t rec) where
   own_within : at.0 < slots_of (shape_of n.config)
   own_within = (let w = (m.place.0).within in omega (arith, w, ap slots_of m.blocks, ap slots_of m.shape))
@@ -90,14 +91,17 @@ module _ (s : FlashState) (n : Noted) (t : BlockTable) (at : Slot) (rec : Rec) (
     preserves = λ no_record. damaged_preserves n at.0 (omega (arith, own_within, m.noted.slots)) m.place.1;
   }
   own_stands (complete bytes spare) is = record {
-    matches = own_there s n t (unsure.Own at rec) m at.0 m.place.0 m.place.1 own_only (slot_table t m.table at.0 m.place.0) partial completing rec take m.place.2
-        (holds bytes spare is).0 (holds bytes spare is).1 (programmed_noted n.config.protocol n m.noted partial completing at.0 rec own_within m.place.1 take.next);
+    matches = own_there s n t (unsure.Own at rec) m at.0 m.place.0 m.place.1 own_only (slot_table t m.table at.0 m.place.0) partial completing rec take
+        m.place.2
+        (holds bytes spare is).0 (holds bytes spare is).1
+        (programmed_noted n.config.protocol n m.noted partial completing at.0 rec own_within m.place.1 take.next);
     config = refl;
     preserves = λ no_record. absurd (no_record refl);
   }
 
 -- the slot of a copy
-module _ (s : FlashState) (n : Noted) (t : BlockTable) (from to : Slot) (law : CopyLaw n.config.protocol) (m : Matches s n t (unsure.Copy from to)) (answer : Settled) where
+module _ (s : FlashState) (n : Noted) (t : BlockTable) (from to : Slot) (law : CopyLaw n.config.protocol) (m : Matches s n t (unsure.Copy from to))
+    (answer : Settled) where
   copy_within : to.0 < slots_of s.shape
   copy_within = omega (arith, m.place.0, ap slots_of m.shape)
 
@@ -135,21 +139,24 @@ module _ (s : FlashState) (n : Noted) (t : BlockTable) (from to : Slot) (law : C
   copied' : IsNoted n.config.protocol (copied n from.0 to.0)
   copied' = copied_noted n.config.protocol n m.noted law from.0 to.0 (subst (λ note. IsSome (rec_of note)) (sym (m.place.4).1) refl) m.place.0 was
 
-  copy_stands : (contents : Contents) → slot_at s.image to.0 ≡ contents → Stands s n (record { noted = copy_settled n from.0 to.0 contents; table = t; answer = answer })
+  copy_stands : (contents : Contents) → slot_at s.image to.0 ≡ contents →
+      Stands s n (record { noted = copy_settled n from.0 to.0 contents; table = t; answer = answer })
   copy_stands blank is = record {
     matches = still_blank s n t (unsure.Copy from to) m to.0 copy_only was is;
     config = refl;
     preserves = λ no_record. preserves_same n;
   }
   copy_stands damaged is = record {
-    matches = settled_slot s n t t (unsure.Copy from to) m to.0 copy_within copy_only Damaged n.mentions (damaged_noted n.config.protocol n m.noted to.0 m.place.0 was)
+    matches = settled_slot s n t t (unsure.Copy from to) m to.0 copy_within copy_only Damaged n.mentions
+        (damaged_noted n.config.protocol n m.noted to.0 m.place.0 was)
         (sym (ap (note_of n.config.protocol) is)) m.table refl refl free_other (damaged_spared n to.0 t.spare long was m.spared);
     config = refl;
     preserves = λ no_record. damaged_preserves n to.0 long was;
   }
   copy_stands (complete bytes spare) is = record {
     matches = settled_slot s n t t (unsure.Copy from to) m to.0 copy_within copy_only (note_at n.notes from.0) n.mentions copied'
-        (m.sure from.0 (omega (arith, m.place.3, ap slots_of m.shape)) (ne_eqb from.0 to.0 apart) ∙ ap (note_of n.config.protocol) (sym (same_there bytes spare is)))
+        (m.sure from.0 (omega (arith, m.place.3, ap slots_of m.shape)) (ne_eqb from.0 to.0 apart)
+        ∙ ap (note_of n.config.protocol) (sym (same_there bytes spare is)))
         m.table refl refl free_other
         (copy_spared n m.noted law from.0 to.0 (m.place.4).0 (m.place.4).1 long_from long was copied' t.spare m.spared);
     config = refl;
@@ -157,8 +164,10 @@ module _ (s : FlashState) (n : Noted) (t : BlockTable) (from to : Slot) (law : C
   }
 
 -- a block reads as it is noted
-still_noted : (s : FlashState) (n : Noted) (t : BlockTable) (u : Unsure) (m : Matches s n t u) (block : ℕ) → block < blocks_of (shape_of n.config) → IsErasing s.image n block →
-    ((slot : ℕ) → is_unsure s.shape t.spare u slot ≡ true → is_outside s.shape block slot ≡ false) → block_reads_as_noted n s.image block ≡ true → Matches s n t unsure.Nothing
+still_noted : (s : FlashState) (n : Noted) (t : BlockTable) (u : Unsure) (m : Matches s n t u) (block : ℕ) → block < blocks_of (shape_of n.config) →
+    IsErasing s.image n block →
+    ((slot : ℕ) → is_unsure s.shape t.spare u slot ≡ true → is_outside s.shape block slot ≡ false) → block_reads_as_noted n s.image block ≡ true →
+    Matches s n t unsure.Nothing
 still_noted s n t u m block below erasing only reads =
     matches_surely s n t u m (λ slot within un.
     noted_all s n t u m block below erasing reads slot (omega (arith, within, ap slots_of m.shape))
@@ -177,12 +186,14 @@ module _ (s : FlashState) (n : Noted) (t : BlockTable) (law : LossLaw n.config.p
   spare_stands true all old_is all_is =
       as_before s n t (still_noted s n t unsure.SpareErase m t.spare spare_below m.place.0 (λ slot un. not-true (is_outside s.shape t.spare slot) un) old_is)
   spare_stands false true old_is all_is = record {
-    matches = settled_spare s n t m law blank Blank refl refl (blank_all s n t unsure.SpareErase m t.spare spare_below m.place.0 old_is all_is) (without_spare Blank refl);
+    matches = settled_spare s n t m law blank Blank refl refl (blank_all s n t unsure.SpareErase m t.spare spare_below m.place.0 old_is all_is)
+        (without_spare Blank refl);
     config = refl;
     preserves = λ no_record. preserves n m.noted law t.spare spare_below m.spared Blank refl;
   }
   spare_stands false false old_is all_is = record {
-    matches = settled_spare s n t m law damaged Damaged refl refl (damaged_all s n t unsure.SpareErase m t.spare spare_below m.place.0 old_is all_is) (without_spare Damaged refl);
+    matches = settled_spare s n t m law damaged Damaged refl refl (damaged_all s n t unsure.SpareErase m t.spare spare_below m.place.0 old_is all_is)
+        (without_spare Damaged refl);
     config = refl;
     preserves = λ no_record. preserves n m.noted law t.spare spare_below m.spared Damaged refl;
   }
@@ -190,7 +201,8 @@ module _ (s : FlashState) (n : Noted) (t : BlockTable) (law : LossLaw n.config.p
 -- the records of a block whose first slots hold them
 filled_held : (n : Noted) (block filled : ℕ) → IsFilledBy n block filled → records_held n block ≡ filled
 filled_held n block filled h =
-    filled_count (λ slot. holds_record (note_at n.notes slot)) (block * n.config.pages_per_block) n.config.pages_per_block filled (let lt = h.within in omega arith)
+    filled_count (λ slot. holds_record (note_at n.notes slot)) (block * n.config.pages_per_block) n.config.pages_per_block filled
+    (let lt = h.within in omega arith)
     (λ k lt. ap holds_record (h.records k lt).1) (λ k low lt. ap holds_record (h.tail k low lt))
 
 -- a block that is blank or lost has the same configuration
@@ -211,7 +223,8 @@ module _ (s : FlashState) (n : Noted) (t : BlockTable) (block : Block) (m : Matc
   few = (let low = m.place.3.1.within in omega (arith, held, low))
 
   module _ (law : LossLaw n.config.protocol) (answer : Settled) where
-    changed : (contents : Contents) (note : Note) → note ≡ note_of n.config.protocol contents → rec_of note ≡ None → AllOfBlock n block.0 (λ slot. slot_at s.image slot ≡ contents) →
+    changed : (contents : Contents) (note : Note) → note ≡ note_of n.config.protocol contents → rec_of note ≡ None →
+        AllOfBlock n block.0 (λ slot. slot_at s.image slot ≡ contents) →
         Stands s n (record { noted = with_spare (blocked n block.0 note) block.0; table = exchanged t block.0 (records_held n t.spare); answer = answer })
     changed contents note fits none all =
         let within : block.0 < blocks_of t.shape = omega (arith, victim_below, ap blocks_of m.blocks, ap blocks_of m.shape) in
@@ -234,24 +247,30 @@ module _ (s : FlashState) (n : Noted) (t : BlockTable) (block : Block) (m : Matc
           answer = answer;
         })
     victim_stands true all old_is all_is =
-        as_before s n t (still_noted s n t (unsure.VictimErase block) m block.0 victim_below m.place.2 (λ slot un. not-true (is_outside s.shape block.0 slot) un) old_is)
-    victim_stands false true old_is all_is = changed blank Blank refl refl (blank_all s n t (unsure.VictimErase block) m block.0 victim_below m.place.2 old_is all_is)
-    victim_stands false false old_is all_is = changed damaged Damaged refl refl (damaged_all s n t (unsure.VictimErase block) m block.0 victim_below m.place.2 old_is all_is)
+        as_before s n t
+        (still_noted s n t (unsure.VictimErase block) m block.0 victim_below m.place.2 (λ slot un. not-true (is_outside s.shape block.0 slot) un) old_is)
+    victim_stands false true old_is all_is = changed blank Blank refl refl
+        (blank_all s n t (unsure.VictimErase block) m block.0 victim_below m.place.2 old_is all_is)
+    victim_stands false false old_is all_is = changed damaged Damaged refl refl
+        (damaged_all s n t (unsure.VictimErase block) m block.0 victim_below m.place.2 old_is all_is)
 
 -- each place
-pub settled_stands : (p : Protocol) → PartialWriteLaw p → CompletingWriteLaw p → CopyLaw p → LossLaw p → (s : FlashState) (n : Noted) (t : BlockTable) (u : Unsure) →
+pub settled_stands : (p : Protocol) → PartialWriteLaw p → CompletingWriteLaw p → CopyLaw p → LossLaw p →
+    (s : FlashState) (n : Noted) (t : BlockTable) (u : Unsure) →
     Matches s n t u → CanTake n t u → n.config.protocol ≡ p → Stands s n (settlement n t s.image u)
 settled_stands p partial completing copy loss s n t unsure.Nothing m take rule = as_before s n t m
 settled_stands p partial completing copy loss s n t (unsure.Own at rec) m take rule =
     own_stands s n t at rec (subst PartialWriteLaw (sym rule) partial) (subst CompletingWriteLaw (sym rule) completing) m take (slot_at s.image at.0) refl
-settled_stands p partial completing copy loss s n t (unsure.Copy from to) m take rule = copy_stands s n t from to (subst CopyLaw (sym rule) copy) m _ (slot_at s.image to.0) refl
+settled_stands p partial completing copy loss s n t (unsure.Copy from to) m take rule = copy_stands s n t from to (subst CopyLaw (sym rule) copy) m
+    _ (slot_at s.image to.0) refl
 settled_stands p partial completing copy loss s n t unsure.SpareErase m take rule =
     spare_stands s n t (subst LossLaw (sym rule) loss) m _ (block_reads_as_noted n s.image t.spare) (is_blank_block n s.image t.spare) refl refl
 settled_stands p partial completing copy loss s n t (unsure.VictimErase block) m take rule =
     victim_stands s n t block m (subst LossLaw (sym rule) loss) _ (block_reads_as_noted n s.image block.0) (is_blank_block n s.image block.0) refl refl
 
 -- the records are those of the image
-pub settled_records : (p : Protocol) (s : FlashState) (n : Noted) (found : Settlement) → Stands s n found → n.config.protocol ≡ p → records_in p s.image ≡ found_in found.noted.notes
+pub settled_records : (p : Protocol) (s : FlashState) (n : Noted) (found : Settlement) → Stands s n found → n.config.protocol ≡ p →
+    records_in p s.image ≡ found_in found.noted.notes
 settled_records p s n found h rule =
     ap (λ q. records_in q s.image) (sym rule ∙ sym (ap (λ (c : Config). c.protocol) h.config)) ∙ sym (same_records s found.noted found.table h.matches)
 

@@ -72,7 +72,8 @@ same_link a b e =
     ∙ ap (λ v. record { page = b.page; version = v }) (eqb-true a.version b.version parts.1)
 
 itself : (a b : Link) → a ≡ b → is_same a b ≡ true
-itself a b e = and_from (a.page == b.page) (a.version == b.version) (eq-eqb a.page b.page (ap (λ (x : Link). x.page) e)) (eq-eqb a.version b.version (ap (λ (x : Link). x.version) e))
+itself a b e = and_from (a.page == b.page) (a.version == b.version) (eq-eqb a.page b.page (ap (λ (x : Link). x.page) e))
+    (eq-eqb a.version b.version (ap (λ (x : Link). x.version) e))
 
 place_low : (vs : List Link) (u : Link) → Contains vs u → place vs u < length vs
 unfolding place
@@ -94,7 +95,8 @@ place_one (v ∷ vs) u w i j e = by (λ x y z. place_one vs u w x y z) (is_same 
     in_rest : (x : Link) → is_same v x ≡ false → Contains (v ∷ vs) x → Contains vs x
     in_rest x other k = elim (Contains-cases v vs x k) [ inl same ↦ absurd (both_ways (is_same v x) other (itself v x same)) | inr r ↦ r ]
 
-    by : (Contains vs u → Contains vs w → place vs u ≡ place vs w → u ≡ w) → (a b : Bool) → is_same v u ≡ a → is_same v w ≡ b → (if a then 0 else place vs u + 1) ≡ (if b then 0 else place vs w + 1) → u ≡ w
+    by : (Contains vs u → Contains vs w → place vs u ≡ place vs w → u ≡ w) → (a b : Bool) → is_same v u ≡ a → is_same v w ≡ b →
+        (if a then 0 else place vs u + 1) ≡ (if b then 0 else place vs w + 1) → u ≡ w
     by next true true x y h = sym (same_link v u x) ∙ same_link v w y
     by next true false x y h = absurd (omega (arith, h))
     by next false true x y h = absurd (omega (arith, h))
@@ -162,7 +164,8 @@ module _ (n : Noted) (spare : ℕ) (h : IsFilled n spare) where
       let there = noted_from n.notes f i in
       home_needed n f.slot.0 (h.needed f.slot.0 (omega (arith, there.0, h.noted.slots)) (out (is_outside (shape_of n.config) spare f.slot.0) refl there.1))
     where
-      out : (b : Bool) → is_outside (shape_of n.config) spare f.slot.0 ≡ b → note_at n.notes f.slot.0 ≡ Holds f.rec → is_outside (shape_of n.config) spare f.slot.0 ≡ true
+      out : (b : Bool) → is_outside (shape_of n.config) spare f.slot.0 ≡ b → note_at n.notes f.slot.0 ≡ Holds f.rec →
+          is_outside (shape_of n.config) spare f.slot.0 ≡ true
       out true e holds = e
       out false e holds = (let none = sym (h.blank f.slot.0 e) ∙ holds in cc)
 
@@ -187,7 +190,8 @@ module _ (n : Noted) (spare : ℕ) (h : IsFilled n spare) where
     where
       current_not : IsCurrent n.config.protocol list logical y.found.rec → ⊥
       current_not c =
-          let is : y.found.rec.version ≡ cur Bpcc list logical y.found.rec.page = subst (λ q. y.found.rec.version ≡ cur q list logical y.found.rec.page) rule c in
+          let is : y.found.rec.version ≡ cur Bpcc list logical y.found.rec.page = subst (λ q. y.found.rec.version ≡ cur q list logical y.found.rec.page) rule
+          c in
           let loose = y.loose in absurd (omega arith)
 
   none_held : (q : Protocol) → n.config.protocol ≡ q → (r : Rec) → is_held q list logical r ≡ true → ⊥
@@ -236,12 +240,20 @@ module _ (n : Noted) (spare : ℕ) (h : IsFilled n spare) where
       by (x.rec.version == cur n.config.protocol list logical x.rec.page) refl
     where
       by : (b : Bool) → (x.rec.version == cur n.config.protocol list logical x.rec.page) ≡ b →
-          ((IsCurrent n.config.protocol list logical x.rec) × ((if x.rec.version == cur n.config.protocol list logical x.rec.page then x.rec.page else logical + place pinned (name_of x.rec)) ≡ x.rec.page))
-          ⊎ (Contains pinned (name_of x.rec) × ((if x.rec.version == cur n.config.protocol list logical x.rec.page then x.rec.page else logical + place pinned (name_of x.rec)) ≡ logical + place pinned (name_of x.rec)))
-      by true e = inl (eqb-true x.rec.version (cur n.config.protocol list logical x.rec.page) e, cond-true (x.rec.version == cur n.config.protocol list logical x.rec.page) x.rec.page (logical + place pinned (name_of x.rec)) e)
+          ((IsCurrent n.config.protocol list logical x.rec)
+          × ((if x.rec.version == cur n.config.protocol list logical x.rec.page then x.rec.page else logical + place pinned (name_of x.rec)) ≡ x.rec.page))
+          ⊎ (Contains pinned (name_of x.rec)
+          × ((if x.rec.version == cur n.config.protocol list logical x.rec.page then x.rec.page else logical + place pinned (name_of x.rec)) ≡ logical + place
+          pinned (name_of x.rec)))
+      by true e = inl (
+        eqb-true x.rec.version (cur n.config.protocol list logical x.rec.page) e,
+        cond-true (x.rec.version == cur n.config.protocol list logical x.rec.page) x.rec.page (logical + place pinned (name_of x.rec)) e,
+      )
       by false e = inr (
         elim x.why [
-          | inl current ↦ absurd (both_ways (x.rec.version == cur n.config.protocol list logical x.rec.page) e (eq-eqb x.rec.version (cur n.config.protocol list logical x.rec.page) current))
+          | inl current ↦ absurd
+              (both_ways (x.rec.version == cur n.config.protocol list logical x.rec.page) e
+              (eq-eqb x.rec.version (cur n.config.protocol list logical x.rec.page) current))
           | inr pin ↦ pin
         ],
         cond-false (x.rec.version == cur n.config.protocol list logical x.rec.page) x.rec.page (logical + place pinned (name_of x.rec)) e,
@@ -267,7 +279,8 @@ module _ (n : Noted) (spare : ℕ) (h : IsFilled n spare) where
       one_slot : name_of x.rec ≡ name_of y.rec → a ≡ b
       one_slot same = same_Some a b (sym x.home ∙ ap (home_of n) same ∙ y.home)
 
-      same_current : x.rec.page ≡ y.rec.page → IsCurrent n.config.protocol list logical x.rec → IsCurrent n.config.protocol list logical y.rec → name_of x.rec ≡ name_of y.rec
+      same_current : x.rec.page ≡ y.rec.page → IsCurrent n.config.protocol list logical x.rec → IsCurrent n.config.protocol list logical y.rec →
+          name_of x.rec ≡ name_of y.rec
       same_current page cx cy =
           ap (λ v. record { page = x.rec.page; version = v }) (cx ∙ ap (cur n.config.protocol list logical) page ∙ sym cy)
           ∙ ap (λ q. record { page = q; version = y.rec.version }) page
@@ -279,7 +292,8 @@ module _ (n : Noted) (spare : ℕ) (h : IsFilled n spare) where
         | inl cx ↦ (let low = page_low slot x in absurd (omega (arith, e, cx.1)))
         | inr px ↦
             (let same = place_one pinned (name_of x.rec) h.absent px.0 h.is_pinned (omega (arith, e, px.1)) in
-            both_ways (is_present list h.absent) h.is_absent (subst (λ u. is_present list u ≡ true) same (present_as list (found slot x.rec) (name_of x.rec) x.is_in refl)))
+            both_ways (is_present list h.absent) h.is_absent
+            (subst (λ u. is_present list u ≡ true) same (present_as list (found slot x.rec) (name_of x.rec) x.is_in refl)))
       ]
 
   number_low : (slot : ℕ) (x : CurrentOrPinned slot) → number (name_of x.rec) < logical + length pinned
@@ -318,7 +332,8 @@ module _ (n : Noted) (spare : ℕ) (h : IsFilled n spare) where
   number_is k x = ap number_of x.holds
 
   numbers_at : (k d : ℕ) → (within : k < count) → get_or numbers k d ≡ number (name_of (held_by k within).rec)
-  numbers_at k d within = get_or-map-range_with_len (λ k. number_of (note_at n.notes (at k))) 0 count k k d within (omega arith) ∙ number_is k (held_by k within)
+  numbers_at k d within = get_or-map-range_with_len (λ k. number_of (note_at n.notes (at k))) 0 count k k d within (omega arith)
+      ∙ number_is k (held_by k within)
 
   long : length numbers ≡ count
   long = length-map (range_with_len 0 count) (λ k. number_of (note_at n.notes (at k))) ∙ length-range_with_len 0 count

@@ -54,8 +54,10 @@ module _ (n : Noted) (spare block : ℕ) (one : IsOneEach (found_in n.notes)) (i
       let named : name_of q.found.rec ≡ name =
       has_name_true name q.found.rec (and_parts (has_name name q.found.rec) (is_outside_spare (shape_of n.config) n.spare q.found.slot.0) q.passes).0 in
       let at_home : home_of n (name_of q.found.rec) ≡ Some first.0 = ap (home_of n) named ∙ home_off (shape_of n.config) n.spare all name first.0 first.1 in
-      let its_wanted = subst (λ r. is_wanted n.config.protocol all n.config.logical (pinned_names n.pins) r ≡ true) (sym (one.same q.found f q.is_in i named)) wanted in
-      let needed : needed_of n q.found.slot.0 ≡ true = subst (λ k. needed_of n k ≡ true) (sym q.its_slot) (home_is_needed n q.found first.0 q.is_in q.its_slot at_home its_wanted) in
+      let its_wanted = subst (λ r. is_wanted n.config.protocol all n.config.logical (pinned_names n.pins) r ≡ true) (sym (one.same q.found f q.is_in i named))
+      wanted in
+      let needed : needed_of n q.found.slot.0 ≡ true = subst (λ k. needed_of n k ≡ true) (sym q.its_slot)
+      (home_is_needed n q.found first.0 q.is_in q.its_slot at_home its_wanted) in
       subst (λ u. is_present (left (is_outside (shape_of n.config) block) all) u ≡ true) named
       (elim (cases_Bool (is_outside (shape_of n.config) block q.found.slot.0)) [
         | inl out ↦ present_as (left (is_outside (shape_of n.config) block) all) q.found (name_of q.found.rec)

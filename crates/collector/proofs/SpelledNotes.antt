@@ -36,5 +36,6 @@ noted_record p rec (complete bytes spare) e = record { bytes = bytes; spare = sp
 pub calm_spelled : (s : FlashState) (n : Noted) (t : BlockTable) → Matches s n t unsure.Nothing → (slot : ℕ) → slot < slots_of (shape_of n.config) →
     (rec : Rec) → note_at n.notes slot ≡ Holds rec → CanBeSpelled n.config.protocol rec
 calm_spelled s n t m slot within rec holds =
-    let reads = noted_record n.config.protocol rec (slot_at s.image slot) (sym holds ∙ noted_as_read s n t m slot (omega (arith, within, ap slots_of m.shape))) in
+    let reads = noted_record n.config.protocol rec (slot_at s.image slot)
+    (sym holds ∙ noted_as_read s n t m slot (omega (arith, within, ap slots_of m.shape))) in
     (record_of-some n.config.protocol reads.spare rec reads.spells).0

@@ -45,7 +45,8 @@ slot_table t h at free =
     let least = h.numbers.pages_least in
     let low : at % t.shape.pages_per_block < t.shape.pages_per_block = mod-lt at (omega arith) in
     let count = at % t.shape.pages_per_block + 1 in
-    use_table t h (block_of_slot t.shape at) (if count == t.shape.pages_per_block then Shut else Part) count within (has_room_not_spare t h (block_of_slot t.shape at) within free.room)
+    use_table t h (block_of_slot t.shape at) (if count == t.shape.pages_per_block then Shut else Part) count within
+    (has_room_not_spare t h (block_of_slot t.shape at) within free.room)
     (no_spare (count == t.shape.pages_per_block)) (may (cases_Bool (count == t.shape.pages_per_block)) low)
   where
     no_spare : (b : Bool) → (if b then Shut else Part) ≢ Spare
@@ -111,7 +112,8 @@ may_open pages used within = by (cases_Bool (used == 0)) (cases_Bool (used == pa
         rw (some, more) ((λ e. cc), (omega (arith, one), omega (arith, within, other)))
 
 -- and the old spare has so many used slots
-pub exchanged_table : (t : BlockTable) → IsBlockTable t → (block : ℕ) → block < blocks_of t.shape → block ≢ t.spare → (used : ℕ) → used ≤ t.shape.pages_per_block →
+pub exchanged_table : (t : BlockTable) → IsBlockTable t → (block : ℕ) → block < blocks_of t.shape → block ≢ t.spare → (used : ℕ) →
+    used ≤ t.shape.pages_per_block →
     IsBlockTable (exchanged t block used)
 exchanged_table t h block within apart used most =
     let may = may_open t.shape.pages_per_block used most in

@@ -27,7 +27,8 @@ use Rattle.collector.proofs.Calm.{noted_as_read, same_records}
 use Rattle.collector.proofs.NeedFacts.{IsHome, home_needed, one_home, found_home}
 
 -- a slot that is not blank and is no garbage is needed
-needed_full : (n : Noted) (shut : Bool) (slot : ℕ) → is_blank (note_at n.notes slot) ≡ false → is_garbage_at n (shut_or_part shut) slot ≡ false → needed_of n slot ≡ true
+needed_full : (n : Noted) (shut : Bool) (slot : ℕ) → is_blank (note_at n.notes slot) ≡ false → is_garbage_at n (shut_or_part shut) slot ≡ false →
+    needed_of n slot ≡ true
 needed_full n shut slot full none =
     needed shut (needed_of n slot) (subst (λ b. is_garbage (shut_or_part shut) b (needed_of n slot) ≡ false) full none)
   where
@@ -37,7 +38,8 @@ needed_full n shut slot full none =
     needed false true e = refl
     needed false false e = cc
 
-module _ (s : FlashState) (n : Noted) (t : BlockTable) (m : Matches s n t unsure.Nothing) (bare : AllOfBlock n t.spare (λ slot. note_at n.notes slot ≡ Blank)) (clear : HasNoGarbage n t) where
+module _ (s : FlashState) (n : Noted) (t : BlockTable) (m : Matches s n t unsure.Nothing) (bare : AllOfBlock n t.spare (λ slot. note_at n.notes slot ≡ Blank))
+    (clear : HasNoGarbage n t) where
   abbrev list : List Found
   list = found_in n.notes
 
@@ -50,7 +52,8 @@ module _ (s : FlashState) (n : Noted) (t : BlockTable) (m : Matches s n t unsure
       (block_within t m.table slot (omega (arith, within, ap slots_of m.blocks, ap slots_of m.shape)))
 
   -- outside the spare, what is not blank is needed
-  needed_outside : (slot : ℕ) → slot < slots_of (shape_of n.config) → slot / n.config.pages_per_block ≢ t.spare → is_blank (note_at n.notes slot) ≡ false → needed_of n slot ≡ true
+  needed_outside : (slot : ℕ) → slot < slots_of (shape_of n.config) → slot / n.config.pages_per_block ≢ t.spare → is_blank (note_at n.notes slot) ≡ false →
+      needed_of n slot ≡ true
   needed_outside slot within apart full =
       let block = slot / n.config.pages_per_block in
       let shut = is_shut (block_state t block) in
@@ -88,7 +91,8 @@ module _ (s : FlashState) (n : Noted) (t : BlockTable) (m : Matches s n t unsure
   one_slot : (f g : Found) → Contains list f → Contains list g → name_of f.rec ≡ name_of g.rec → f.slot.0 ≡ g.slot.0
   one_slot f g i j same =
       one_home n f.slot.0 g.slot.0 (record_home f i) (record_home g j)
-      (ap (λ (x : Found). name_of x.rec) (found_home n m.noted f i (record_home f i)) ∙ same ∙ sym (ap (λ (x : Found). name_of x.rec) (found_home n m.noted g j (record_home g j))))
+      (ap (λ (x : Found). name_of x.rec) (found_home n m.noted f i (record_home f i)) ∙ same
+      ∙ sym (ap (λ (x : Found). name_of x.rec) (found_home n m.noted g j (record_home g j))))
 
   once : AllPairs (λ f g. name_of f.rec ≢ name_of g.rec) list
   once i j d lt within same =
@@ -103,7 +107,8 @@ module _ (s : FlashState) (n : Noted) (t : BlockTable) (m : Matches s n t unsure
       ⊎ ((is_held n.config.protocol list n.config.logical f.rec ≡ true) ⊎ Contains (pinned_names n.pins) (name_of f.rec))
   wanted f i =
       subst (λ (x : Found). IsCurrent n.config.protocol list n.config.logical x.rec
-      ⊎ ((is_held n.config.protocol list n.config.logical x.rec ≡ true) ⊎ Contains (pinned_names n.pins) (name_of x.rec))) (found_home n m.noted f i (record_home f i)) (record_home f i).wanted
+      ⊎ ((is_held n.config.protocol list n.config.logical x.rec ≡ true) ⊎ Contains (pinned_names n.pins) (name_of x.rec))) (found_home n m.noted f i
+      (record_home f i)) (record_home f i).wanted
 
   abbrev WantedIn : List Found → Type 0
   WantedIn l = All (λ f. IsCurrent n.config.protocol l n.config.logical f.rec

@@ -19,7 +19,7 @@ use Rattle.collector.specs.Calls.{CanErase, ErasesVictim}
 use Rattle.collector.specs.Collecting.{exchanged}
 use Rattle.collector.specs.Matches.{Matches}
 use Rattle.collector.specs.Preserves.{Preserves, KeepsArray}
-use Rattle.collector.specs.Retiring.{KeepsTables}
+use Rattle.collector.specs.Retiring.{KeepsStore}
 use Rattle.collector.specs.Store.{Store, store_of, IsSure}
 use Rattle.collector.proofs.Chains.{HasNoNewRecord-nothing}
 use Rattle.collector.proofs.CollectedNotes.{erased_no_new}
@@ -59,7 +59,8 @@ with_spare_preserves n m block h = record {
   in_progress = h.in_progress;
 }
 
-module _ (p : Protocol) (loss : LossLaw p) (written_loss : WrittenLossLaw p) (a : Store) (k : IsSure p a) (b : Block) (used : ℕ) (can : CanErase a.noted a.table b.0 used)
+module _ (p : Protocol) (loss : LossLaw p) (written_loss : WrittenLossLaw p) (a : Store) (k : IsSure p a) (b : Block) (used : ℕ)
+    (can : CanErase a.noted a.table b.0 used)
     (s' : FlashState) where
   m : Matches a.flash a.noted a.table unsure.Nothing
   m = subst (Matches a.flash a.noted a.table) k.nothing k.matches
@@ -84,7 +85,7 @@ module _ (p : Protocol) (loss : LossLaw p) (written_loss : WrittenLossLaw p) (a 
 
   -- what is kept where the block was made blank, and is the spare
   pub victim_emptied : Empties a.flash s' b.0 (Ok tt) → IsBlockTable (table_with_spare a.table b.0) → IsBlockTable (exchanged a.table b.0 used) →
-      KeepsTables p a (store_of s' now (exchanged a.table b.0 used) a.unsure) false
+      KeepsStore p a (store_of s' now (exchanged a.table b.0 used) a.unsure) false
   victim_emptied done between good = record {
     matches = subst (Matches s' now (exchanged a.table b.0 used)) (sym k.nothing)
         (victim_erased a.flash s' a.noted a.table m law written_law b.0 can.exists can.not_spare can.spared (used, can.filled) done
@@ -99,7 +100,7 @@ module _ (p : Protocol) (loss : LossLaw p) (written_loss : WrittenLossLaw p) (a 
   }
 
   -- and where that was broken
-  pub victim_left : (x : Broken) → Empties a.flash s' b.0 (Err x) → KeepsTables p a (store_of s' a.noted a.table (unsure.VictimErase b)) true
+  pub victim_left : (x : Broken) → Empties a.flash s' b.0 (Err x) → KeepsStore p a (store_of s' a.noted a.table (unsure.VictimErase b)) true
   victim_left x broken = record {
     matches = victim_torn a.flash s' a.noted a.table m law written_law b can.exists can.not_spare can.spared (used, can.filled) x broken;
     preserves = preserves_same a.noted;

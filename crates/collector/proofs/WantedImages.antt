@@ -59,13 +59,16 @@ record IsSure (s : FlashState) (n : Noted) (t : BlockTable) (u : Unsure) (name :
   pub sure : is_unsure s.shape t.spare u found.slot.0 ≡ false
 
 -- outside a block that can be spared
-outside_one : (s : FlashState) (n : Noted) (t : BlockTable) (u : Unsure) (m : Matches s n t u) (block : ℕ) → CanSpare n block → (name : Link) → IsThere n name → IsWanted n name →
+outside_one : (s : FlashState) (n : Noted) (t : BlockTable) (u : Unsure) (m : Matches s n t u) (block : ℕ) → CanSpare n block → (name : Link) → IsThere n name →
+    IsWanted n name →
     (f : Found) × Contains (found_in n.notes) f × (name_of f.rec ≡ name) × (not (is_outside s.shape block f.slot.0) ≡ false)
 outside_one s n t u m block spared name there wanted =
     let f = found_named (found_in n.notes) name there in
     let stays = All-contains (λ f. is_wanted n.config.protocol (found_in n.notes) n.config.logical (pinned_names n.pins) f.rec ≡ true →
-    is_present (left (is_outside (shape_of n.config) block) (found_in n.notes)) (name_of f.rec) ≡ true) (found_in n.notes) f.0 spared f.1 (wanted f.0 f.1 f.2) in
-    let g = found_named (left (is_outside (shape_of n.config) block) (found_in n.notes)) name (subst (λ y. is_present (left (is_outside (shape_of n.config) block) (found_in n.notes)) y ≡ true) f.2 stays) in
+    is_present (left (is_outside (shape_of n.config) block) (found_in n.notes)) (name_of f.rec) ≡ true) (found_in n.notes) f.0 spared f.1
+    (wanted f.0 f.1 f.2) in
+    let g = found_named (left (is_outside (shape_of n.config) block) (found_in n.notes)) name
+    (subst (λ y. is_present (left (is_outside (shape_of n.config) block) (found_in n.notes)) y ≡ true) f.2 stays) in
     let parts = from_filter (λ f. is_outside (shape_of n.config) block f.slot.0) g.0 (found_in n.notes) g.1 in
     (g.0, parts.0, g.2, ap not (ap (λ sh. is_outside sh block g.0.slot.0) m.shape ∙ parts.1))
 

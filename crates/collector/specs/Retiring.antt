@@ -38,7 +38,7 @@ retiring_first n image spare block =
 
 -- What stays of the tables and of the array, done or broken. The place that is left unsure is none of an open transaction's
 -- records.
-pub record KeepsTables (p : Protocol) (a b : Store) (broken : Bool) : Type 0 where
+pub record KeepsStore (p : Protocol) (a b : Store) (broken : Bool) : Type 0 where
   pub matches : Matches b.flash b.noted b.table b.unsure
   pub preserves : Preserves a.noted b.noted
   pub array : KeepsArray p a.noted.config.logical a.flash.image b.flash.image
@@ -48,7 +48,7 @@ pub record KeepsTables (p : Protocol) (a b : Store) (broken : Bool) : Type 0 whe
 
 -- what a call keeps that may replace a block
 pub record KeepsRetiring (p : Protocol) (a b : Store) (broken : Bool) : Type 0 where
-  pub tables : KeepsTables p a b broken
+  pub tables : KeepsStore p a b broken
   pub carries : CarriesRetiring a.flash b.flash broken
 
 -- The spare is replaced: it is all blank then. Where that was broken it is not known whether it was.
@@ -90,7 +90,7 @@ EndsRetiring old new block unsure.SpareErase = RetiresNone old new
 EndsRetiring old new block (unsure.VictimErase b) = RetiresTorn old new block
 
 -- Retiring a block breaks off, and this place is unsure then: for the spare in its replacement, and else where collecting the
--- block breaks off, of which the last operation is the replacement.
+-- block breaks off, with the replacement in the place of the last erase.
 abbrev pub RetiringBreaks : Noted → FlashState → FlashState → ℕ → ℕ → Noted → Unsure → Type 0
 RetiringBreaks n old new spare block n' u =
     (block ≡ spare → SpareBreaks n old new spare n' u)

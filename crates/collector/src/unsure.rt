@@ -10,9 +10,10 @@ pub enum Unsure {
     Own { at: Slot, rec: Rec },
     /// The program of a copy of the record in `from`, in a slot of the spare.
     Copy { from: Slot, to: Slot },
-    /// The erase of the spare.
+    /// The erase of the spare, or its replacement where it is retired.
     SpareErase,
-    /// The erase of a collected block, whose needed records were copied to the spare.
+    /// The erase of a collected block, or the replacement of a retired one. Its needed records were copied to the
+    /// spare.
     VictimErase { block: Block },
 }
 

@@ -3,7 +3,7 @@
 use Rattle.std.specs.Prelude.{◌≡◌, ◌⊎◌, ℕ, ◌||◌, Bool, true, false, List, [], ◌∷◌, Any, MatchBool}
 use Rattle.tx_types.specs.declared.config.Config.{Config}
 use Rattle.tx_types.specs.Config.{shape_of}
-use Rattle.flash_model.specs.Operations.{Operation, program, erase, Moment}
+use Rattle.flash_model.specs.Operations.{Operation, program, erase, fire, Moment}
 use Rattle.flash_model.specs.Moves.{Does, Moves}
 use Rattle.record_list.specs.Records.{mention}
 use Rattle.record_list.specs.declared.found.Found.{Found}
@@ -54,6 +54,7 @@ pub record MovesBy (its : Config) (c : Command) (r : Reply) (old new : Moment) :
 abbrev pub IsErase : Operation → Type 0
 IsErase (program at bytes spare) = ⊥
 IsErase (erase block) = Unit {0}
+IsErase (fire loads) = ⊥
 
 -- the operations between were done, and a block was erased
 abbrev pub HasErased : Config → Moment → Moment → Type 0

@@ -38,14 +38,16 @@ entry_found tag o i is =
 
 pub entry_missing : (tag : ℕ) (o : OpenTable) → position (λ o. has_tag tag o.entry) o.all ≡ None → entry_of tag (entries_of o) ≡ None
 entry_missing tag o is =
-    entry_none tag o.all (All-from_get_or (λ (x : Opening). has_tag tag x.entry ≡ false) o.all no_opening (position-all (λ (x : Opening). has_tag tag x.entry) o.all no_opening is))
+    entry_none tag o.all
+    (All-from_get_or (λ (x : Opening). has_tag tag x.entry ≡ false) o.all no_opening (position-all (λ (x : Opening). has_tag tag x.entry) o.all no_opening is))
 
 -- an open transaction, once all settled
 pub entry_settled : (there : Bool) (o o' : OpenTable) (i : ℕ) → entries_of o' ≡ map (settled_entry there) (entries_of o) → i < length o.all →
     (i < length o'.all) × ((opening_at o' i).entry ≡ settled_entry there (opening_at o i).entry)
 entry_settled there o o' i same within =
     let long : length o'.all ≡ length o.all =
-    sym (length-map o'.all (λ (x : Opening). x.entry)) ∙ ap length same ∙ length-map (entries_of o) (settled_entry there) ∙ length-map o.all (λ (x : Opening). x.entry) in
+    sym (length-map o'.all (λ (x : Opening). x.entry)) ∙ ap length same ∙ length-map (entries_of o) (settled_entry there)
+    ∙ length-map o.all (λ (x : Opening). x.entry) in
     let within' : i < length o'.all = omega arith in
     let inside : i < length (entries_of o) = subst (λ n. i < n) (sym (length-map o.all (λ (x : Opening). x.entry))) within in (
       within',
@@ -56,7 +58,8 @@ entry_settled there o o' i same within =
     )
 
 -- it goes
-module _ {F : Type 0} (state : F → FlashState) (S S' : Stored F) (O O' : OpenTable) (i : ℕ) (pins : S' ≡ record S { noted = record S.noted { pins = S'.noted.pins } })
+module _ {F : Type 0} (state : F → FlashState) (S S' : Stored F) (O O' : OpenTable) (i : ℕ)
+    (pins : S' ≡ record S { noted = record S.noted { pins = S'.noted.pins } })
     (gone : O' ≡ record O { all = remove O.all i }) where
   abbrev pub closed : Stored F
   closed = record S { noted = repinned S.noted S'.noted.pins }
@@ -90,7 +93,10 @@ module _ {F : Type 0} (state : F → FlashState) (S S' : Stored F) (O O' : OpenT
   closed_exits = subst (λ (t : Standing F). Exits state (standing_in state S O) t false) (sym closed_is) (record {
     tables = record {
       config = refl;
-      versions = λ page low. inr (current_pins S.noted S'.noted.pins page, ap (λ (ps : List (Option (List ℕ))). page_at ps page) (array_aside S.noted S'.noted.pins (state S.flash).image));
+      versions = λ page low. inr (
+        current_pins S.noted S'.noted.pins page,
+        ap (λ (ps : List (Option (List ℕ))). page_at ps page) (array_aside S.noted S'.noted.pins (state S.flash).image),
+      );
       mentions = λ page low. inl refl;
       names = names_fewer;
     };
@@ -102,7 +108,8 @@ module _ {F : Type 0} (state : F → FlashState) (S S' : Stored F) (O O' : OpenT
   closed_current page = ap (λ (T : Stored F). current_of T.noted page) pins ∙ current_pins S.noted S'.noted.pins page
 
 -- versions that stay after others rose
-pub rises_on : {F : Type 0} (a b c : Standing F) (ws : List PageWrite) → VersionsRise a b ws → ((page : ℕ) → current_of c.noted page ≡ current_of b.noted page) → VersionsRise a c ws
+pub rises_on : {F : Type 0} (a b c : Standing F) (ws : List PageWrite) → VersionsRise a b ws →
+    ((page : ℕ) → current_of c.noted page ≡ current_of b.noted page) → VersionsRise a c ws
 rises_on a b c ws first same = record {
   rises = λ k d h. let up = first.rises k d h in subst (λ v. current_of a.noted (get_or ws k d).page < v) (sym (same (get_or ws k d).page)) up;
   stays = λ page low others. same page ∙ first.stays page low others;
@@ -118,7 +125,8 @@ pub abort_missing : (there : Bool) (old : ArrayState) (tag : ℕ) → entry_of t
 abort_missing there old tag is = subst (λ o. AbortsFor there old old tag o (Err failed.Unknown)) (sym is) (refl, refl)
 
 -- an abort where settling failed
-pub abort_failed : (there : Bool) (old new : ArrayState) (tag : ℕ) (e : Entry) → entry_of tag old.entries ≡ Some e → new ≡ old → AbortsAs there old new tag (Err failed.Fault)
+pub abort_failed : (there : Bool) (old new : ArrayState) (tag : ℕ) (e : Entry) → entry_of tag old.entries ≡ Some e → new ≡ old →
+    AbortsAs there old new tag (Err failed.Fault)
 abort_failed there old new tag e is same = subst (λ o. AbortsFor there old new tag o (Err failed.Fault)) (sym is) same
 
 -- how a settled transaction is given up

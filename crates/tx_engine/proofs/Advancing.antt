@@ -46,21 +46,25 @@ whole_writes Plain ws is = cc
 whole_writes Doubt ws is = cc
 whole_writes Whole ws is = refl
 
-counts_rises : {F : Type 0} (a b : Standing F) (s new : ArrayState) (tag : ℕ) (e : Entry) (p : Progress) → ((page : ℕ) → current_of b.noted page ≡ current_of a.noted page) →
+counts_rises : {F : Type 0} (a b : Standing F) (s new : ArrayState) (tag : ℕ) (e : Entry) (p : Progress) →
+    ((page : ℕ) → current_of b.noted page ≡ current_of a.noted page) →
     Counts s tag e p new → AdvanceRises a b e (Ok p)
 counts_rises a b s new tag e (progress.Wrote done all) same h = none_rise a b same
 counts_rises a b s new tag e progress.Done same h = subst (VersionsRise a b) (sym (whole_writes e.mark e.writes h.0)) (none_rise a b same)
 
-module _ {F : Type 0} (state : F → FlashState) (p : Protocol) (S : Stored F) (O : OpenTable) (i : ℕ) (ready : IsReady state p S O) (within : i < length O.all) where
+module _ {F : Type 0} (state : F → FlashState) (p : Protocol) (S : Stored F) (O : OpenTable) (i : ℕ) (ready : IsReady state p S O)
+    (within : i < length O.all) where
   abbrev o : Opening
   o = opening_at O i
 
-  pub counted_on : is_due o ≡ false → (S' : Stored F) (O' : OpenTable) (done : Progress) → CountsNext state S S' O O' i done → AdvancesTo state S S' O O' i (Ok done)
+  pub counted_on : is_due o ≡ false → (S' : Stored F) (O' : OpenTable) (done : Progress) → CountsNext state S S' O O' i done →
+      AdvancesTo state S S' O O' i (Ok done)
   counted_on due S' O' done k = record {
     stands = k.stands;
     advances = counts_advances (standing_in state S O).machine (standing_in state S' O').machine o.entry.tag o.entry done k.counts;
     exits = k.exits;
-    rises = counts_rises (standing_in state S O) (standing_in state S' O') (standing_in state S O).machine (standing_in state S' O').machine o.entry.tag o.entry done k.versions k.counts;
+    rises = counts_rises (standing_in state S O) (standing_in state S' O') (standing_in state S O).machine (standing_in state S' O').machine o.entry.tag o.entry
+        done k.versions k.counts;
     sure = k.sure;
     limits = k.limits;
     costs = costs_still state (standing_in state S O) (standing_in state S' O') (name_due O i) (ap (λ (T : Stored F). moment_of (state T.flash)) k.stays);
@@ -132,12 +136,14 @@ module _ {F : Type 0} (state : F → FlashState) (p : Protocol) (S : Stored F) (
         first = first_of_own O.all i (from_stands state S O ready.stands).tags within
 
         entries : b.machine.entries ≡ with_entry o.entry.tag (opening_at O1 i).entry a.machine.entries
-        entries = ap entries_of w.next ∙ entries_with O i (with_next o) o.entry.tag first ∙ ap (λ (x : Opening). with_entry o.entry.tag x.entry (entries_of O)) (sym is_next)
+        entries = ap entries_of w.next ∙ entries_with O i (with_next o) o.entry.tag first
+            ∙ ap (λ (x : Opening). with_entry o.entry.tag x.entry (entries_of O)) (sym is_next)
 
         whole : o.entry.done + 1 ≡ length o.entry.writes → (opening_at O1 i).entry ≡ record o.entry { mark = Whole }
         whole last = ap (λ (x : Opening). x.entry) is_next ∙ (next_entry o is_due_at.unnoted).0 last
 
-        same : o.entry.done + 1 ≢ length o.entry.writes → ((opening_at O1 i).entry ≡ o.entry) × (with_entry o.entry.tag o.entry a.machine.entries ≡ a.machine.entries)
+        same : o.entry.done + 1 ≢ length o.entry.writes →
+            ((opening_at O1 i).entry ≡ o.entry) × (with_entry o.entry.tag o.entry a.machine.entries ≡ a.machine.entries)
         same more = (ap (λ (x : Opening). x.entry) is_next ∙ (next_entry o is_due_at.unnoted).1 more, entries_same O i o.entry.tag first)
 
         pub advanced : AdvancesTo state S S2 O O2 i (Ok done)

@@ -45,12 +45,14 @@ put_is (w ∷ ws) old new n takes stays =
     put_is ws (with_page old w.page w.value) new n (All-tail (λ w. new w.page ≡ w.value) w ws takes)
     (λ page within others. elim (cases_eq page w.page) [
       | inl same ↦ ap new same ∙ All-head (λ w. new w.page ≡ w.value) w ws takes ∙ sym (cond-true (page == w.page) w.value (old page) (eq-eqb page w.page same))
-      | inr other ↦ stays page within (All-cons (λ w. w.page ≢ page) w ws (λ e. other (sym e)) others) ∙ sym (cond-false (page == w.page) w.value (old page) (ne_eqb page w.page other))
+      | inr other ↦ stays page within (All-cons (λ w. w.page ≢ page) w ws (λ e. other (sym e)) others)
+          ∙ sym (cond-false (page == w.page) w.value (old page) (ne_eqb page w.page other))
     ])
     ∙ ap (λ pages. put pages ws) (sym (set_page old n w.page w.value))
 
 -- Names and writes of the same pages, place by place
-pub page_of_name : (names : List Link) (ws : List PageWrite) (k : ℕ) → map (λ (name : Link). name.page) names ≡ map (λ (w : PageWrite). w.page) ws → k < length names →
+pub page_of_name : (names : List Link) (ws : List PageWrite) (k : ℕ) → map (λ (name : Link). name.page) names ≡ map (λ (w : PageWrite). w.page) ws →
+    k < length names →
     (get_or names k no_name).page ≡ (get_or ws k no_write).page
 page_of_name names ws k pages within =
     let long : length names ≡ length ws = sym (length-map names (λ (name : Link). name.page)) ∙ ap length pages ∙ length-map ws (λ (w : PageWrite). w.page) in
@@ -58,7 +60,8 @@ page_of_name names ws k pages within =
     ∙ ap (λ ps. get_or ps k 0) pages
     ∙ get_or-map (λ (w : PageWrite). w.page) ws k no_write 0 (omega arith)
 
-pub as_many_names : (names : List Link) (ws : List PageWrite) → map (λ (name : Link). name.page) names ≡ map (λ (w : PageWrite). w.page) ws → length names ≡ length ws
+pub as_many_names : (names : List Link) (ws : List PageWrite) → map (λ (name : Link). name.page) names ≡ map (λ (w : PageWrite). w.page) ws →
+    length names ≡ length ws
 as_many_names names ws pages = sym (length-map names (λ (name : Link). name.page)) ∙ ap length pages ∙ length-map ws (λ (w : PageWrite). w.page)
 
 -- The same where each name of the transaction has the bytes of its write, by place.

@@ -16,7 +16,7 @@ use Rattle.collector.specs.Going.{TreatsAll, TreatsInTurn, blocks_to_go}
 use Rattle.collector.specs.Looking.{reads_after}
 use Rattle.collector.specs.Settling.{slots_read}
 use Rattle.collector.specs.declared.unsure.Unsure.TheVariants as unsure
-use Rattle.tx_engine.specs.Breaking.{WritingBreaks, RoundBreaks}
+use Rattle.tx_engine.specs.Breaking.{BreaksThen, WritingBreaks}
 use Rattle.tx_engine.specs.Settling.{settlement_of}
 use Rattle.tx_engine.specs.OpenTable.{OpenTable}
 use Rattle.tx_engine.specs.Standing.{Standing}
@@ -102,18 +102,20 @@ module _ {F : Type 0} (state : F → FlashState) (S S1 S2 : Stored F) (O O' : Op
     place = place;
   }))
 
--- a collection of a settled device broke off
-pub round_breaks : {F : Type 0} (state : F → FlashState) (S T U : Stored F) (O P : OpenTable) → (state T.flash).shape ≡ (state S.flash).shape →
-    moment_of (state T.flash) ≡ moment_of (state S.flash) → (state T.flash).reads ≡ reads_after (slots_read S.noted S.unsure) (state S.flash).reads →
-    T.noted ≡ (settlement_of state (standing_in state S O)).noted → T.table ≡ (settlement_of state (standing_in state S O)).table →
-    RoomBreaksOff T.noted T.table (state T.flash) (state U.flash) U.noted U.unsure → RoundBreaks state (standing_in state S O) (standing_in state U P)
-round_breaks state S T U O P shape moment reads noted table broken =
-    let found = settlement_of state (standing_in state S O) in
-    record {
-      between = state T.flash;
-      shape = shape;
-      moment = moment;
-      reads = reads;
-      breaks = subst (λ (n : Noted). RoomBreaksOff n found.table (state T.flash) (state U.flash) U.noted U.unsure) noted
-          (subst (λ (t : BlockTable). RoomBreaksOff T.noted t (state T.flash) (state U.flash) U.noted U.unsure) table broken);
-    }
+-- once the place of a device was read something broke off, by the tables that are known then
+module _ {F : Type 0} (state : F → FlashState) (S T : Stored F) (O : OpenTable) (shape : (state T.flash).shape ≡ (state S.flash).shape)
+    (moment : moment_of (state T.flash) ≡ moment_of (state S.flash))
+    (reads : (state T.flash).reads ≡ reads_after (slots_read S.noted S.unsure) (state S.flash).reads)
+    (noted : T.noted ≡ (settlement_of state (standing_in state S O)).noted) (table : T.table ≡ (settlement_of state (standing_in state S O)).table) where
+  pub broke_then : (Broke : FlashState → Noted → BlockTable → Type 0) → Broke (state T.flash) T.noted T.table →
+      BreaksThen state (standing_in state S O)
+      (λ between. Broke between (settlement_of state (standing_in state S O)).noted (settlement_of state (standing_in state S O)).table)
+  broke_then Broke broken =
+      let found = settlement_of state (standing_in state S O) in
+      record {
+        between = state T.flash;
+        shape = shape;
+        moment = moment;
+        reads = reads;
+        breaks = subst (λ (n : Noted). Broke (state T.flash) n found.table) noted (subst (λ (t : BlockTable). Broke (state T.flash) T.noted t) table broken);
+      }

@@ -1,5 +1,5 @@
 -- A device whose garbage was collected once it settled.
-use Rattle.std.proofs.Common.{◌≡◌, ℕ, suc, ◌<◌, Bool, true, false, List, [], ◌∷◌, ◌++◌, length, map, get_or, All, Result, Ok, Err, sym, ◌∙◌, subst, arith}
+use Rattle.std.proofs.Common.{◌≡◌, ℕ, suc, ◌<◌, Bool, true, false, List, [], ◌∷◌, ◌++◌, length, map, get_or, All, sym, ◌∙◌, subst, arith}
 use Rattle.std.proofs.lemmas.Bool.{cond_both}
 use Rattle.std.proofs.lemmas.List.Elements.{All-append, All-nil, All-from_get_or}
 use Rattle.tx_types.specs.Batch.{PageWrite, no_write}
@@ -17,9 +17,7 @@ use Rattle.collector.specs.Store.{Store}
 use Rattle.tx_engine.specs.Collections.{CollectsTables, answer_of}
 use Rattle.array_machine.specs.declared.answers.Collected.{Collected}
 use Rattle.array_machine.specs.declared.answers.Collected.TheVariants.{One, Nothing}
-use Rattle.std.specs.Result.{is_err}
-use Rattle.array_machine.specs.declared.answers.Fault.{Fault}
-use Rattle.tx_engine.specs.Exits.{VersionsRise, SettlesOrNot, CollectRises, settled_writes}
+use Rattle.tx_engine.specs.Exits.{VersionsRise, settled_writes}
 use Rattle.tx_engine.specs.Standing.{Standing, Stands, no_name}
 use Rattle.tx_engine.specs.Step.{doubted}
 use Rattle.tx_engine.specs.OpenTable.{OpenTable, Opening, no_opening, opening_at}
@@ -59,12 +57,14 @@ pub rises_stay : {F : Type 0} (a b c : Standing F) (ws : List PageWrite) → b.c
 rises_stay a b c ws config low first same =
     let inside : (page : ℕ) → page < a.config.logical → page < b.config.logical = λ page within. subst (λ (k : Config). page < k.logical) (sym config) within in
     record {
-      rises = λ k d h. subst (λ v. current_of a.noted (get_or ws k d).page < v) (sym (same (get_or ws k d).page (inside (get_or ws k d).page (low k d h)))) (first.rises k d h);
+      rises = λ k d h. subst (λ v. current_of a.noted (get_or ws k d).page < v) (sym (same (get_or ws k d).page (inside (get_or ws k d).page (low k d h))))
+          (first.rises k d h);
       stays = λ page within others. same page (inside page within) ∙ first.stays page within others;
     }
 
 -- the tables of a flash that was only read before
-pub collects_from : (a b c : FlashState) (n m n' : Noted) (t v t' : BlockTable) (answer : Collected) → moment_of b ≡ moment_of a → b.shape ≡ a.shape → m ≡ n → v ≡ t →
+pub collects_from : (a b c : FlashState) (n m n' : Noted) (t v t' : BlockTable) (answer : Collected) → moment_of b ≡ moment_of a → b.shape ≡ a.shape → m ≡ n →
+    v ≡ t →
     CollectsTables b c m n' v t' answer → CollectsTables a c n n' t t' answer
 collects_from a b c n m n' t v t' answer moment shape noted table h =
     subst (λ k. CollectsTables a c k n' t t' answer) noted (subst (λ w. CollectsTables a c m n' w t' answer) table (go answer h))
@@ -85,10 +85,6 @@ collects_from a b c n m n' t v t' answer moment shape noted table h =
       noted = x.noted;
       table = x.table;
     }
-
-pub collect_rises_err : {F : Type 0} (there : Bool) (old new : Standing F) (r : Result Collected Fault) → is_err r ≡ true → SettlesOrNot there old new → CollectRises there old new r
-collect_rises_err there old new (Ok x) is h = cc
-collect_rises_err there old new (Err x) is h = h
 
 -- what was collected, as the answer says it
 pub collects_tables : (a b : Store) (any : Bool) (answer : Collected) → answer ≡ answer_of any → CollectsIfAny a b any →

@@ -29,7 +29,8 @@ use Rattle.tx_engine.specs.Tables.{standing_in}
 
 -- a record that must go has a block
 going_block : (n : Noted) (page below : ℕ) (slot : ℕ) → IsNoted n.config.protocol n →
-    first_slot (λ f. must_go n.config.protocol (found_in n.notes) n.config.logical page below f.rec) (found_in n.notes) ≡ Some slot → blocks_to_go n page below ≡ 0 → ⊥
+    first_slot (λ f. must_go n.config.protocol (found_in n.notes) n.config.logical page below f.rec) (found_in n.notes) ≡ Some slot →
+    blocks_to_go n page below ≡ 0 → ⊥
 unfolding blocks_to_go
 going_block n page below slot is found none =
     let test = λ (f : Found). must_go n.config.protocol (found_in n.notes) n.config.logical page below f.rec in
@@ -41,7 +42,8 @@ going_block n page below slot is found none =
     let some : 0 < n.config.pages_per_block = (let b = is.bounds.shape.pages_least in omega arith) in
     let below_all : block < blocks = div_below f.slot.0 n.config.pages_per_block blocks some (omega (arith, noted.0, is.slots)) in
     let going : is_going n page below block ≡ true =
-    any_from (λ (g : Found). (g.slot.0 / n.config.pages_per_block == block) && must_go n.config.protocol (found_in n.notes) n.config.logical page below g.rec) (found_in n.notes) f at.is_in
+    any_from (λ (g : Found). (g.slot.0 / n.config.pages_per_block == block) && must_go n.config.protocol (found_in n.notes) n.config.logical page below g.rec)
+    (found_in n.notes) f at.is_in
     (and_from (block == block) (test f) (eq-eqb block block refl) at.passes) in
     let count = λ (x : ℕ). cond (is_going n page below x) 1 0 in
     let long : length (range_with_len 0 blocks) ≡ blocks = length-range_with_len 0 blocks in
@@ -57,7 +59,8 @@ unfolding block_to_go
 none_to_go n page below is none = go (first_slot (λ f. must_go n.config.protocol (found_in n.notes) n.config.logical page below f.rec) (found_in n.notes)) refl
   where
     go : (o : Option ℕ) → first_slot (λ f. must_go n.config.protocol (found_in n.notes) n.config.logical page below f.rec) (found_in n.notes) ≡ o →
-        option_map (λ slot. slot / n.config.pages_per_block) (first_slot (λ f. must_go n.config.protocol (found_in n.notes) n.config.logical page below f.rec) (found_in n.notes)) ≡ None
+        option_map (λ slot. slot / n.config.pages_per_block)
+        (first_slot (λ f. must_go n.config.protocol (found_in n.notes) n.config.logical page below f.rec) (found_in n.notes)) ≡ None
     go None h = ap (option_map (λ slot. slot / n.config.pages_per_block)) h
     go (Some slot) h = absurd (going_block n page below slot is h none)
 
@@ -83,16 +86,19 @@ module _ {F : Type 0} (state : F → FlashState) (S S1 S2 S3 : Stored F) (O O' :
     direct = λ none room. absurd (both_ways broken (idle (none_to_go S.noted name.page name.version noted none)).0 is);
   }
 
-  module _ (first : CostsAtMost pages b (state S.flash) (state S1.flash)) (second : CostsAtMost S1.noted.config.pages_per_block 1 (state S1.flash) (state S2.flash))
+  module _ (first : CostsAtMost pages b (state S.flash) (state S1.flash))
+      (second : CostsAtMost S1.noted.config.pages_per_block 1 (state S1.flash) (state S2.flash))
       (config : S1.noted.config ≡ S.noted.config) where
     both : CostsAtMost pages 1 (state S1.flash) (state S2.flash)
     both = subst (λ (c : _). CostsAtMost c.pages_per_block 1 (state S1.flash) (state S2.flash)) config second
 
     -- no slot was found
-    pub costs_slot : (broken : Bool) → broken ≡ true → (block_to_go S.noted name.page name.version ≡ None → S1 ≡ S) → ((IsFull S1.table → ⊥) → (broken ≡ false) × (S2.flash ≡ S1.flash)) →
+    pub costs_slot : (broken : Bool) → broken ≡ true → (block_to_go S.noted name.page name.version ≡ None → S1 ≡ S) →
+        ((IsFull S1.table → ⊥) → (broken ≡ false) × (S2.flash ≡ S1.flash)) →
         StepCosts state (standing_in state S O) (standing_in state S2 O') name
     costs_slot broken is idle direct = record {
-      programs = let more = one_more (state S.flash).programs b (pages - 1) (state S1.flash).programs (state S2.flash).programs first.programs both.programs in omega arith;
+      programs = let more = one_more (state S.flash).programs b (pages - 1) (state S1.flash).programs (state S2.flash).programs first.programs both.programs in
+          omega arith;
       erases = let f = first.erases in let g = both.erases in omega arith;
       direct = λ none room.
           let same = idle (none_to_go S.noted name.page name.version noted none) in
@@ -100,11 +106,13 @@ module _ {F : Type 0} (state : F → FlashState) (S S1 S2 S3 : Stored F) (O O' :
     }
 
     -- the record was programmed, or its program was broken
-    pub costs_all : (block_to_go S.noted name.page name.version ≡ None → S1 ≡ S) → (broken : Bool) → ((IsFull S1.table → ⊥) → (broken ≡ false) × (S2.flash ≡ S1.flash)) →
+    pub costs_all : (block_to_go S.noted name.page name.version ≡ None → S1 ≡ S) → (broken : Bool) →
+        ((IsFull S1.table → ⊥) → (broken ≡ false) × (S2.flash ≡ S1.flash)) →
         (state S3.flash).programs ≤ (state S2.flash).programs + 1 → (state S3.flash).erases ≡ (state S2.flash).erases →
         StepCosts state (standing_in state S O) (standing_in state S3 O') name
     costs_all idle broken direct programs erases = record {
-      programs = let more = one_more (state S.flash).programs b (pages - 1) (state S1.flash).programs (state S2.flash).programs first.programs both.programs in omega arith;
+      programs = let more = one_more (state S.flash).programs b (pages - 1) (state S1.flash).programs (state S2.flash).programs first.programs both.programs in
+          omega arith;
       erases = let f = first.erases in let g = both.erases in omega arith;
       direct = λ none room.
           let same = idle (none_to_go S.noted name.page name.version noted none) in
@@ -116,7 +124,8 @@ module _ {F : Type 0} (state : F → FlashState) (S S1 S2 S3 : Stored F) (O O' :
     }
 
 -- on the same flash
-pub costs_flash : {F : Type 0} (state : F → FlashState) (a b c : Standing F) (name : Link) → c.flash ≡ b.flash → StepCosts state a b name → StepCosts state a c name
+pub costs_flash : {F : Type 0} (state : F → FlashState) (a b c : Standing F) (name : Link) → c.flash ≡ b.flash → StepCosts state a b name →
+    StepCosts state a c name
 costs_flash state a b c name same h =
     let flash : state c.flash ≡ state b.flash = ap state same in
     let p = ap (λ (s : FlashState). s.programs) flash in
@@ -128,7 +137,8 @@ costs_flash state a b c name same h =
     }
 
 -- where nothing was programmed or erased
-pub costs_still : {F : Type 0} (state : F → FlashState) (a c : Standing F) (name : Link) → moment_of (state c.flash) ≡ moment_of (state a.flash) → StepCosts state a c name
+pub costs_still : {F : Type 0} (state : F → FlashState) (a c : Standing F) (name : Link) → moment_of (state c.flash) ≡ moment_of (state a.flash) →
+    StepCosts state a c name
 costs_still state a c name same =
     let p = ap (λ (m : Moment). m.programs) same in
     let e = ap (λ (m : Moment). m.erases) same in
@@ -139,15 +149,19 @@ costs_still state a c name same =
     }
 
 -- from a device with the same tables and the same moment
-pub costs_from : {F : Type 0} (state : F → FlashState) (a b c : Standing F) (name : Link) → moment_of (state b.flash) ≡ moment_of (state a.flash) → b.config ≡ a.config →
+pub costs_from : {F : Type 0} (state : F → FlashState) (a b c : Standing F) (name : Link) → moment_of (state b.flash) ≡ moment_of (state a.flash) →
+    b.config ≡ a.config →
     b.noted ≡ a.noted → b.table ≡ a.table → StepCosts state b c name → StepCosts state a c name
 costs_from state a b c name moment config noted table h =
     let p = ap (λ (m : Moment). m.programs) moment in
     let e = ap (λ (m : Moment). m.erases) moment in
     record {
-      programs = subst (λ (n : Noted). (state c.flash).programs ≤ (state a.flash).programs + (blocks_to_go n name.page name.version + 1) * (a.config.pages_per_block - 1) + 1) noted
-          (subst (λ (k : Config). (state c.flash).programs ≤ (state a.flash).programs + (blocks_to_go b.noted name.page name.version + 1) * (k.pages_per_block - 1) + 1) config
-          (subst (λ (q : ℕ). (state c.flash).programs ≤ q + (blocks_to_go b.noted name.page name.version + 1) * (b.config.pages_per_block - 1) + 1) p h.programs));
+      programs = subst (λ (n : Noted).
+          (state c.flash).programs ≤ (state a.flash).programs + (blocks_to_go n name.page name.version + 1) * (a.config.pages_per_block - 1) + 1) noted
+          (subst (λ (k : Config).
+          (state c.flash).programs ≤ (state a.flash).programs + (blocks_to_go b.noted name.page name.version + 1) * (k.pages_per_block - 1) + 1) config
+          (subst (λ (q : ℕ). (state c.flash).programs ≤ q + (blocks_to_go b.noted name.page name.version + 1) * (b.config.pages_per_block - 1) + 1) p
+          h.programs));
       erases = subst (λ (n : Noted). (state c.flash).erases ≤ (state a.flash).erases + 2 * (blocks_to_go n name.page name.version + 1)) noted
           (subst (λ (q : ℕ). (state c.flash).erases ≤ q + 2 * (blocks_to_go b.noted name.page name.version + 1)) e h.erases);
       direct = λ none room.

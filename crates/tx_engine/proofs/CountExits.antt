@@ -24,7 +24,8 @@ use Rattle.tx_engine.proofs.OpenList.{first_of_own, with_first}
 use Rattle.tx_engine.proofs.SettledLists.{calm_all, calm_at}
 use Rattle.tx_engine.proofs.WriteAfter.{settled_kept}
 
-module _ {F : Type 0} (state : F → FlashState) (S : Stored F) (O O' : OpenTable) (i : ℕ) (h : Stands state (standing_in state S O)) (sure : S.unsure ≡ unsure.Nothing) (within : i < length O.all)
+module _ {F : Type 0} (state : F → FlashState) (S : Stored F) (O O' : OpenTable) (i : ℕ) (h : Stands state (standing_in state S O))
+    (sure : S.unsure ≡ unsure.Nothing) (within : i < length O.all)
     (plain : (opening_at O i).entry.mark ≡ Plain) (ready : (opening_at O i).entry.done < (opening_at O i).naming.noted_count)
     (opens : O' ≡ with_opening O i (with_done (opening_at O i) ((opening_at O i).entry.done + 1))) where
   abbrev o : Opening
@@ -49,13 +50,23 @@ module _ {F : Type 0} (state : F → FlashState) (S : Stored F) (O O' : OpenTabl
   more_opening = record {
     named = record { pages = named.pages; within = one_left; whole = named.whole; transaction = named.transaction };
     marked = subst (IsAsMarked (state S.flash).image S.noted more.entry o.naming) (sym plain)
-        (record { in_progress = under.in_progress; least = omega (arith, ready); most = omega (arith, under.most); short = under.short; noted = under.noted; texts = under.texts });
+        (record {
+          in_progress = under.in_progress;
+          least = omega (arith, ready);
+          most = omega (arith, under.most);
+          short = under.short;
+          noted = under.noted;
+          texts = under.texts;
+        });
   }
 
   more_calm : (j : ℕ) → j < length (slice_set O.all i more) → IsCalm (get_or (slice_set O.all i more) j no_opening).entry
   more_calm j inside = elim (cases_eq j i) [
-    | inl is ↦ subst (λ (x : Opening). IsCalm x.entry) (sym (get_or-set_same O.all i more no_opening within) ∙ ap (λ a. get_or (slice_set O.all i more) a no_opening) (sym is)) (calm_at O.all kept.doubt i within)
-    | inr other ↦ subst (λ (x : Opening). IsCalm x.entry) (sym (get_or-set_other O.all i j more no_opening other)) (calm_at O.all kept.doubt j (subst (λ len. j < len) (length-set O.all i more) inside))
+    | inl is ↦ subst (λ (x : Opening). IsCalm x.entry)
+        (sym (get_or-set_same O.all i more no_opening within) ∙ ap (λ a. get_or (slice_set O.all i more) a no_opening) (sym is))
+        (calm_at O.all kept.doubt i within)
+    | inr other ↦ subst (λ (x : Opening). IsCalm x.entry) (sym (get_or-set_other O.all i j more no_opening other))
+        (calm_at O.all kept.doubt j (subst (λ len. j < len) (length-set O.all i more) inside))
   ]
 
   parts : HasSameParts o more

@@ -33,7 +33,8 @@ settled_entries there es e c h =
     settled_sure there at.0.mark (ap (λ (y : Entry). y.mark) at.2 ∙ h)
 
 -- an entry that is in doubt in place of the one with a tag is the new one
-replaced_step : (b : Bool) (new x e : Entry) (xs rest : List Entry) → (Contains xs e → ⊥) → (x ≡ e → ⊥) → (Contains rest e → new ≡ e) → Contains (cond b (new ∷ xs) (x ∷ rest)) e → new ≡ e
+replaced_step : (b : Bool) (new x e : Entry) (xs rest : List Entry) → (Contains xs e → ⊥) → (x ≡ e → ⊥) → (Contains rest e → new ≡ e) →
+    Contains (cond b (new ∷ xs) (x ∷ rest)) e → new ≡ e
 replaced_step true new x e xs rest no_tail no_head by c = elim (Contains-cases new xs e c) [ inl same ↦ same | inr i ↦ absurd (no_tail i) ]
 replaced_step false new x e xs rest no_tail no_head by c = elim (Contains-cases x rest e c) [ inl same ↦ absurd (no_head same) | inr i ↦ by i ]
 
@@ -59,7 +60,8 @@ one_doubted : (es : List Entry) (place : ℕ) (e : Entry) → slice_get es place
 one_doubted [] place e is doubt others = cc
 one_doubted (x ∷ xs) zero e is doubt others =
     let same : x ≡ e = cc in
-    let rest : All (λ (f : Entry). is_doubted f.mark ≡ false) xs = λ k d inside. others (suc k) (get_or xs k d) (λ z. suc-ne-zero k z) (slice_get-get_or xs k d inside) in
+    let rest : All (λ (f : Entry). is_doubted f.mark ≡ false) xs = λ k d inside. others (suc k) (get_or xs k d) (λ z. suc-ne-zero k z)
+    (slice_get-get_or xs k d inside) in
     cond-true (is_doubted x.mark) (x.writes ++ doubted xs) (doubted xs) (ap (λ (f : Entry). is_doubted f.mark) same ∙ doubt)
     ∙ ap (λ ws. x.writes ++ ws) (none_doubted xs rest) ∙ append-nil x.writes ∙ ap (λ (f : Entry). f.writes) same
 one_doubted (x ∷ xs) (suc place) e is doubt others =
@@ -80,22 +82,30 @@ the_doubted image n es namings (unsure.Own at rec) own e c h =
 the_doubted image n es namings unsure.Nothing none e c h = absurd (not_doubted e h (All-contains (λ (f : Entry). is_doubted f.mark ≡ false) es e none c))
 the_doubted image n es namings (unsure.Copy from to) none e c h = absurd (not_doubted e h (All-contains (λ (f : Entry). is_doubted f.mark ≡ false) es e none c))
 the_doubted image n es namings unsure.SpareErase none e c h = absurd (not_doubted e h (All-contains (λ (f : Entry). is_doubted f.mark ≡ false) es e none c))
-the_doubted image n es namings (unsure.VictimErase block) none e c h = absurd (not_doubted e h (All-contains (λ (f : Entry). is_doubted f.mark ≡ false) es e none c))
+the_doubted image n es namings (unsure.VictimErase block) none e c h = absurd
+    (not_doubted e h (All-contains (λ (f : Entry). is_doubted f.mark ≡ false) es e none c))
 
 -- The array of an image, where the state is as before the call, or has settled in it
 module _ (Q : Entry → Type 0) (s : ArrayState) (pages : Pages) where
-  as_before : (image : List Contents) (n : Noted) (namings : List Naming) (u : Unsure) → DoubtsAs image n s.entries namings u → StandsFor s pages → CutLeaves Q s (idle pages)
+  as_before : (image : List Contents) (n : Noted) (namings : List Naming) (u : Unsure) → DoubtsAs image n s.entries namings u → StandsFor s pages →
+      CutLeaves Q s (idle pages)
   as_before image n namings u doubt (inl same) = (false, inl same, refl)
-  as_before image n namings u doubt (inr (e, c, h, taken)) = (true, inl (taken ∙ ap (put s.pages) (sym (the_doubted image n s.entries namings u doubt e c h))), refl)
+  as_before image n namings u doubt (inr (e, c, h, taken)) = (
+    true,
+    inl (taken ∙ ap (put s.pages) (sym (the_doubted image n s.entries namings u doubt e c h))),
+    refl,
+  )
 
   as_settled : (there : Bool) → StandsFor (settled there s) pages → CutLeaves Q s (idle pages)
   as_settled there (inl same) = (there, inl same, refl)
   as_settled there (inr (e, c, h, taken)) = absurd (settled_entries there s.entries e c h)
 
-  pub cut_settled : (there : Bool) (new : ArrayState) (image : List Contents) (n : Noted) (namings : List Naming) (u : Unsure) → DoubtsAs image n new.entries namings u → StandsFor new pages →
+  pub cut_settled : (there : Bool) (new : ArrayState) (image : List Contents) (n : Noted) (namings : List Naming) (u : Unsure) →
+      DoubtsAs image n new.entries namings u → StandsFor new pages →
       (new ≡ s) ⊎ (new ≡ settled there s) → CutLeaves Q s (idle pages)
   cut_settled there new image n namings u doubt stands (inl same) =
-      as_before image n namings u (subst (λ (m : ArrayState). DoubtsAs image n m.entries namings u) same doubt) (subst (λ (m : ArrayState). StandsFor m pages) same stands)
+      as_before image n namings u (subst (λ (m : ArrayState). DoubtsAs image n m.entries namings u) same doubt)
+      (subst (λ (m : ArrayState). StandsFor m pages) same stands)
   cut_settled there new image n namings u doubt stands (inr same) = as_settled there (subst (λ (m : ArrayState). StandsFor m pages) same stands)
 
 -- the transaction of the step

@@ -28,7 +28,8 @@ use Rattle.tx_engine.proofs.DevicesStand.{no_record, spare_other}
 use Rattle.collector.specs.Laws.{ImagesStand}
 use Rattle.tx_engine.proofs.Noting.{next_named}
 
-module _ (image : List Contents) (n : Noted) (entries : List Entry) (namings : List Naming) (at : Slot) (rec : Rec) (own : IsOwn image n entries namings at rec) where
+module _ (image : List Contents) (n : Noted) (entries : List Entry) (namings : List Naming) (at : Slot) (rec : Rec)
+    (own : IsOwn image n entries namings at rec) where
   named_at : (name : Link) → Contains own.next.names name → IsNamedAt namings name.page name.version
   named_at name i =
       any_got (λ (x : Naming). Any (λ a. (a.page ≡ name.page) × (a.version ≡ name.version)) x.names) namings own.place own.naming own.is_naming
@@ -40,7 +41,9 @@ module _ (image : List Contents) (n : Noted) (entries : List Entry) (namings : L
       ⊎ ((version : ℕ) × IsNamedAt namings page version × (mention_of (programmed n at.0 rec) page ≤ version))
   raised_named p noted page within =
       let names = next_named n rec own.next in
-      let range = λ (a : Link) (i : Contains own.next.names a). (All-contains (λ a. (a.page < n.config.logical) × (1 ≤ a.version) × (a.version ≤ 2 ^ 62)) own.next.names a own.next.in_progress.begun.transaction.in_range i).0 in
+      let range = λ (a : Link) (i : Contains own.next.names a).
+      (All-contains (λ a. (a.page < n.config.logical) × (1 ≤ a.version) × (a.version ≤ 2 ^ 62)) own.next.names a own.next.in_progress.begun.transaction.in_range
+      i).0 in
       let own_within : rec.page < length n.mentions = omega (arith, range (name_of rec) names.0, noted.mentions) in
       let next_within : rec.next.page < length n.mentions = omega (arith, range rec.next names.1, noted.mentions) in
       let is = raised_at rec n.mentions page own_within next_within in
@@ -73,14 +76,16 @@ module _ (p : Protocol) (laws : ImagesStand p) (s : FlashState) (n : Noted) (t :
   left_alone : (u : Unsure) → Matches s n t u → CanTake n t u → (settlement n t s.image u).answer ≢ settled.Present → MentionsAtMost n namings s.image
   left_alone u m take other page within =
       let keeps = (laws.preserves s n t u m take rule other).0 in
-      inl (subst (λ (ms : List ℕ). mention (records_in n.config.protocol s.image) page ≤ get_or ms page 0) keeps.mentions (at_most u m take keeps.config page within))
+      inl (subst (λ (ms : List ℕ). mention (records_in n.config.protocol s.image) page ≤ get_or ms page 0) keeps.mentions
+      (at_most u m take keeps.config page within))
 
   own_mentions : (at : Slot) (rec : Rec) → Matches s n t (unsure.Own at rec) → CanTakeOwn n t rec → IsOwn s.image n entries namings at rec →
       (c : Contents) → slot_at s.image at.0 ≡ c → MentionsAtMost n namings s.image
   own_mentions at rec m take own blank is = left_alone (unsure.Own at rec) m take (no_record n t s.image at rec blank is refl)
   own_mentions at rec m take own damaged is = left_alone (unsure.Own at rec) m take (no_record n t s.image at rec damaged is refl)
   own_mentions at rec m take own (complete bytes spare) is = λ page within.
-      let there : settlement n t s.image (unsure.Own at rec) ≡ own_settled n t at.0 (λ m. programmed m at.0 rec) (complete bytes spare) = ap (own_settled n t at.0 (λ m. programmed m at.0 rec)) is in
+      let there : settlement n t s.image (unsure.Own at rec) ≡ own_settled n t at.0 (λ m. programmed m at.0 rec) (complete bytes spare) = ap
+      (own_settled n t at.0 (λ m. programmed m at.0 rec)) is in
       let bound = at_most (unsure.Own at rec) m take (ap (λ (f : Settlement). f.noted.config) there) page within in
       let low = subst (λ (f : Settlement). mention (records_in n.config.protocol s.image) page ≤ mention_of f.noted page) there bound in
       elim (raised_named s.image n entries namings at rec own n.config.protocol m.noted page within) [
@@ -98,4 +103,5 @@ module _ (p : Protocol) (laws : ImagesStand p) (s : FlashState) (n : Noted) (t :
 pub device_mentions : {F : Type 0} (state : F → FlashState) (p : Protocol) (laws : ImagesStand p) (s : Standing F) → Stands state s → s.config.protocol ≡ p →
     MentionsAtMost s.noted s.namings (state s.flash).image
 device_mentions state p laws s h rule =
-    mentions_at_most p laws (state s.flash) s.noted s.table (ap (λ (c : _). c.protocol) (sym h.config) ∙ rule) s.machine.entries s.namings s.unsure h.matches (can_take state s h) h.doubt
+    mentions_at_most p laws (state s.flash) s.noted s.table (ap (λ (c : _). c.protocol) (sym h.config) ∙ rule) s.machine.entries s.namings s.unsure h.matches
+    (can_take state s h) h.doubt

@@ -67,7 +67,8 @@ module _ (p : Protocol) (laws : ImagesStand p) (notes : NotedWrites p) (s : Flas
   pub text_there : text_at (written_in n.config.protocol s.image) (name_of rec) ≡ Some (text_with rec bytes)
   text_there = slot_text s n t (unsure.Own at rec) m at.0 bytes rec within m.place.2 (is ∙ spelled_there)
 
-  module _ (entries : List Entry) (namings : List Naming) (each : AllZip (IsOpenAs s.image n) entries namings) (own : IsOwn s.image n entries namings at rec) where
+  module _ (entries : List Entry) (namings : List Naming) (each : AllZip (IsOpenAs s.image n) entries namings)
+      (own : IsOwn s.image n entries namings at rec) where
     open_there : IsOpenAs s.image n own.entry own.naming
     open_there = zip_at (IsOpenAs s.image n) entries namings own.place own.entry own.naming each own.is_entry own.is_naming
 
@@ -83,12 +84,14 @@ module _ (p : Protocol) (laws : ImagesStand p) (notes : NotedWrites p) (s : Flas
         got_within entries own.place own.entry own.is_entry,
         doubt_is own.entry.mark (own.doubt ∙ eq-eqb _ _ last),
         array_there
-            ∙ wholly_array p notes n noted_there rule at.0 rec own.next within m.place.1 s.image own.entry own.naming open_there.named under_there own.its own.written own.named last
+            ∙ wholly_array p notes n noted_there rule at.0 rec own.next within m.place.1 s.image own.entry own.naming open_there.named under_there own.its
+            own.written own.named last
             (text_there ∙ ap Some (own.text bytes spare is))
             ∙ ap (λ ps. put ps own.entry.writes) (sym known),
       )
       | inr more ↦ inl (array_there
-          ∙ partly_array p notes n noted_there rule at.0 rec own.next within m.place.1 s.image own.entry own.naming open_there.named under_there own.its own.written own.named more
+          ∙ partly_array p notes n noted_there rule at.0 rec own.next within m.place.1 s.image own.entry own.naming open_there.named under_there own.its
+          own.written own.named more
           ∙ sym known)
     ]
 
@@ -99,7 +102,8 @@ no_record n t image at rec c is missing there =
     let same = ap (λ k. (own_settled n t at.0 (λ m. programmed m at.0 rec) k).answer) is in
     let both = sym missing ∙ sym same ∙ there in cc
 
-pub spare_other : (b : Bool) (n : Noted) (t : BlockTable) (u : Settlement) → u.answer ≡ settled.Other → (cond b (record { noted = n; table = t; answer = settled.Other }) u).answer ≢ settled.Present
+pub spare_other : (b : Bool) (n : Noted) (t : BlockTable) (u : Settlement) → u.answer ≡ settled.Other →
+    (cond b (record { noted = n; table = t; answer = settled.Other }) u).answer ≢ settled.Present
 spare_other true n t u h e = cc
 spare_other false n t u h e = let both = sym h ∙ e in cc
 
@@ -125,16 +129,19 @@ module _ (p : Protocol) (laws : ImagesStand p) (notes : NotedWrites p) (s : Flas
   stands_for (unsure.VictimErase block) m take doubt = left_alone (unsure.VictimErase block) m take (spare_other _ n t _ refl)
 
 -- the array of the image is the device's, or that with the pages of the transaction in doubt
-pub device_array : {F : Type 0} (state : F → FlashState) (p : Protocol) (laws : ImagesStand p) (notes : NotedWrites p) (s : Standing F) → Stands state s → s.config.protocol ≡ p →
+pub device_array : {F : Type 0} (state : F → FlashState) (p : Protocol) (laws : ImagesStand p) (notes : NotedWrites p) (s : Standing F) → Stands state s →
+    s.config.protocol ≡ p →
     StandsFor s.machine (array_in p s.config.logical (state s.flash).image)
 device_array state p laws notes s h rule =
     let rule_noted : s.noted.config.protocol ≡ p = ap (λ (c : _). c.protocol) (sym h.config) ∙ rule in
     subst (λ (c : _). StandsFor s.machine (array_in p c.logical (state s.flash).image)) (sym h.config)
-    (stands_for p laws notes (state s.flash) s.noted s.table rule_noted s.machine.entries s.namings h.each s.machine.pages h.array s.unsure h.matches (can_take state s h) h.doubt)
+    (stands_for p laws notes (state s.flash) s.noted s.table rule_noted s.machine.entries s.namings h.each s.machine.pages h.array s.unsure h.matches
+    (can_take state s h) h.doubt)
 
 -- the known image has the notes of the tables
 abbrev pub HasNotes : Protocol → Type 0
-HasNotes p = (s : FlashState) (n : Noted) (t : BlockTable) (u : Unsure) → Matches s n t u → n.config.protocol ≡ p → notes_of p (known_image n t.spare u s.image) ≡ n.notes
+HasNotes p = (s : FlashState) (n : Noted) (t : BlockTable) (u : Unsure) → Matches s n t u → n.config.protocol ≡ p →
+    notes_of p (known_image n t.spare u s.image) ≡ n.notes
 
 module _ {F : Type 0} (state : F → FlashState) (p : Protocol) (notes : HasNotes p) (s : Standing F) (h : Stands state s) (rule : s.config.protocol ≡ p) where
   noted_rule : s.noted.config.protocol ≡ p

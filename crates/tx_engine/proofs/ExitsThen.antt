@@ -76,13 +76,17 @@ module _ {F : Type 0} (state : F → FlashState) where
           ]
           | inr first_rose ↦ elim (second.mentions page inside) [
             | inl same ↦ inr (let up = first_rose.0 in omega arith, subst (IsNamedAt a.namings page) (sym same) first_rose.1)
-            | inr rose ↦ inr (let up = rose.0 in let before = first_rose.0 in omega arith, named_before a.namings b.namings page (mention_of c.noted page) first.names rose.1)
+            | inr rose ↦ inr (
+              let up = rose.0 in let before = first_rose.0 in omega arith,
+              named_before a.namings b.namings page (mention_of c.noted page) first.names rose.1,
+            )
           ]
         ];
     names = before_then a.namings b.namings c.namings first.names second.names;
   }
 
-  pub exits_then : (a b c : Standing F) (broken : Bool) → a.config ≡ a.noted.config → b.config ≡ b.noted.config → Exits state a b false → Exits state b c broken → Exits state a c broken
+  pub exits_then : (a b c : Standing F) (broken : Bool) → a.config ≡ a.noted.config → b.config ≡ b.noted.config → Exits state a b false →
+      Exits state b c broken → Exits state a c broken
   exits_then a b c broken config config' first second = record {
     tables = tables_then a b c config config' first.tables second.tables;
     moves = FlashMoves-then (state a.flash) (state b.flash) (state c.flash) broken first.carries.shape first.moves second.moves;
@@ -94,7 +98,8 @@ module _ {F : Type 0} (state : F → FlashState) where
       All (λ w. w.page < a.config.logical) ws → All (λ w. w.page < a.config.logical) vs →
       VersionsTell a b → VersionsTell b c → VersionsRise a b ws → VersionsRise b c vs → VersionsRise a c (ws ++ vs)
   rises_then a b c ws vs config low low' tell tell' first second =
-      let inside : (page : ℕ) → page < a.config.logical → page < b.config.logical = λ page within. subst (λ (k : Config). page < k.logical) (sym config) within in
+      let inside : (page : ℕ) → page < a.config.logical → page < b.config.logical = λ page within. subst (λ (k : Config). page < k.logical)
+      (sym config) within in
       let never : (page : ℕ) → page < a.config.logical → current_of b.noted page ≤ current_of c.noted page = λ page within.
       elim (tell' page (inside page within)) [ inl rose ↦ omega arith | inr same ↦ omega (arith, same.0) ] in
       let before : (page : ℕ) → page < a.config.logical → current_of a.noted page ≤ current_of b.noted page = λ page within.

@@ -34,7 +34,8 @@ SettledCuts F state protocol s =
 pub holds_always : {F : Type 0} (state : F → FlashState) (protocol : Protocol) (s : Standing F) → Stands state s → (rule : s.config.protocol ≡ protocol) →
     IsSoundImage protocol s.config.logical (state s.flash).shape (state s.flash).image →
     StandsFor s.machine (array_in protocol s.config.logical (state s.flash).image) →
-    (s.unsure ≡ unsure.Nothing → (records_in protocol (state s.flash).image ≡ found_in s.noted.notes) × (array_in protocol s.config.logical (state s.flash).image ≡ s.machine.pages)) →
+    (s.unsure ≡ unsure.Nothing → (records_in protocol (state s.flash).image ≡ found_in s.noted.notes) × (array_in protocol s.config.logical
+    (state s.flash).image ≡ s.machine.pages)) →
     MentionsAtMost s.noted s.namings (state s.flash).image → StepCuts F state protocol s → SettledCuts F state protocol s → HoldsAlways state protocol s
 holds_always state protocol s stands rule sound array records mentions step still =
     let shape : (state s.flash).shape ≡ shape_of s.config = stands.matches.shape ∙ ap shape_of (sym stands.config) in
@@ -51,9 +52,11 @@ holds_always state protocol s stands rule sound array records mentions step stil
       its = sym stands.config;
       mentions = mentions;
       beyond = λ page past. none_beyond s.noted s.config.logical page (stands.matches.noted.mentions ∙ ap (λ (c : Config). c.logical) (sym stands.config)) past;
-      step_cut = λ old there tag steps. subst (λ (p : Protocol). CutLeaves (λ e. (e.tag ≡ tag) × IsAtLast e) old (idle (array_in p s.config.logical (state s.flash).image))) its
+      step_cut = λ old there tag steps.
+          subst (λ (p : Protocol). CutLeaves (λ e. (e.tag ≡ tag) × IsAtLast e) old (idle (array_in p s.config.logical (state s.flash).image))) its
           (step (record s { machine = old }) there tag steps);
-      same_cut = subst (λ (p : Protocol). CutLeaves (λ e. ⊥) s.machine (idle (array_in p s.config.logical (state s.flash).image))) its (still s false (inl refl));
+      same_cut = subst (λ (p : Protocol). CutLeaves (λ e. ⊥) s.machine (idle (array_in p s.config.logical (state s.flash).image))) its
+          (still s false (inl refl));
       settled_cut = λ old there is. subst (λ (p : Protocol). CutLeaves (λ e. ⊥) old (idle (array_in p s.config.logical (state s.flash).image))) its
           (still (record s { machine = old }) there (inr is));
     }

@@ -34,13 +34,15 @@ use Rattle.tx_engine.proofs.Arrays.{put_by_names, as_many_names}
 use Rattle.collector.specs.Laws.{NotedWrites}
 
 -- the text that a complete slot has is that of its record
-pub slot_text : (s : FlashState) (n : Noted) (t : BlockTable) (u : Unsure) → Matches s n t u → (at : ℕ) (bytes : List ℕ) (rec : Rec) → at < slots_of (shape_of n.config) →
+pub slot_text : (s : FlashState) (n : Noted) (t : BlockTable) (u : Unsure) → Matches s n t u → (at : ℕ) (bytes : List ℕ) (rec : Rec) →
+    at < slots_of (shape_of n.config) →
     CanBeSpelled n.config.protocol rec → slot_at s.image at ≡ complete bytes (spelling n.config.protocol rec) →
     text_at (written_in n.config.protocol s.image) (name_of rec) ≡ Some (text_with rec bytes)
 slot_text s n t u m at bytes rec within spelled is =
     let inside : at < length s.image = omega (arith, m.flash.slots, ap slots_of m.shape) in
     text_named (written_in n.config.protocol s.image) (written at rec bytes)
-    (one_text n.config.protocol (written_in n.config.protocol s.image) n.config.logical m.sound.written.records (records_scanned n.config.protocol s.image) m.sound.written.bytes)
+    (one_text n.config.protocol (written_in n.config.protocol s.image) n.config.logical m.sound.written.records (records_scanned n.config.protocol s.image)
+    m.sound.written.bytes)
     (read_slot n.config.protocol s.image at bytes (spelling n.config.protocol rec) rec inside is (record_of-spelling n.config.protocol rec spelled))
 
 -- the text of a write is of what it writes
@@ -49,7 +51,8 @@ value_in size None = refl
 value_in size (Some bytes) = refl
 
 -- a page that has its version still is known as before
-pub known_page : (n n' : Noted) (image : List Contents) (page : ℕ) → n'.config ≡ n.config → current_of n' page ≡ current_of n page → page_known n' image page ≡ page_known n image page
+pub known_page : (n n' : Noted) (image : List Contents) (page : ℕ) → n'.config ≡ n.config → current_of n' page ≡ current_of n page →
+    page_known n' image page ≡ page_known n image page
 known_page n n' image page config same =
     ap (λ (c : _). value_at (written_in c.protocol image) (record { page = page; version = current_of n' page })) config
     ∙ ap (λ v. value_at (written_in n.config.protocol image) (record { page = page; version = v })) same
@@ -83,7 +86,8 @@ module _ (p : Protocol) (notes : NotedWrites p) (n : Noted) (is_noted : IsNoted 
   pub absent_then : e.done + 1 ≢ length e.writes → Any (λ a. is_present (found_in new.notes) a ≡ false) x.names
   absent_then more =
       let inside : e.done + 1 < length x.names = omega (arith, named.within, long) in
-      let gone : is_present (found_in new.notes) (name_at x (e.done + 1)) ≡ false = elim (cases_Bool (is_present (found_in new.notes) (name_at x (e.done + 1)))) [
+      let gone : is_present (found_in new.notes) (name_at x (e.done + 1)) ≡ false =
+      elim (cases_Bool (is_present (found_in new.notes) (name_at x (e.done + 1)))) [
         | inr missing ↦ missing
         | inl here ↦ elim ((notes.names n at rec (name_at x (e.done + 1)) is_noted within was).0 here) [
           | inl before ↦ absurd (both_ways _ (under.noted (e.done + 1) inside ∙ le-ltb (e.done + 1) x.noted_count (omega arith)) before)
@@ -131,7 +135,8 @@ module _ (p : Protocol) (notes : NotedWrites p) (n : Noted) (is_noted : IsNoted 
       subst (λ ns. All (λ a. current_of n a.page < a.version) ns) its
       (λ k d inside. subst (λ v. v < (get_or next.names k d).version) (sym (current_old _)) ((wholly last).rises k d inside))
 
-  pub wholly_elsewhere : e.done + 1 ≡ length e.writes → (page : ℕ) → page < n.config.logical → All (λ a. a.page ≢ page) x.names → current_of new page ≡ current_of n page
+  pub wholly_elsewhere : e.done + 1 ≡ length e.writes → (page : ℕ) → page < n.config.logical → All (λ a. a.page ≢ page) x.names →
+      current_of new page ≡ current_of n page
   wholly_elsewhere last page inside others =
       current_new page ∙ (wholly last).elsewhere page inside (subst (λ ns. All (λ a. a.page ≢ page) ns) (sym its) others) ∙ sym (current_old page)
 
@@ -140,7 +145,8 @@ module _ (p : Protocol) (notes : NotedWrites p) (n : Noted) (is_noted : IsNoted 
   known_named a is = ap (λ v. value_at (written_in n.config.protocol image) (record { page = a.page; version = v })) is
 
   -- and the array takes its writes
-  pub wholly_array : e.done + 1 ≡ length e.writes → text_at (written_in n.config.protocol image) (name_of rec) ≡ Some (text_in n.config.page_bytes (write_at e e.done)) →
+  pub wholly_array : e.done + 1 ≡ length e.writes →
+      text_at (written_in n.config.protocol image) (name_of rec) ≡ Some (text_in n.config.page_bytes (write_at e e.done)) →
       array_known new image ≡ put (array_known n image) e.writes
   unfolding array_known
   wholly_array last come =

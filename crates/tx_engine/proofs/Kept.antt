@@ -115,7 +115,8 @@ module _ (s s' : FlashState) (n n' : Noted) (t t' : BlockTable) (u u' : Unsure) 
   -- a transaction under way stays so
   under_way_stays : (e : Entry) (x : Naming) → All (Contains (pinned_names n.pins)) x.names → IsUnderWay s.image n e x → IsUnderWay s'.image n' e x
   under_way_stays e x pins w = record {
-    in_progress = subst (λ (c : Config). InProgress c.protocol (found_in n'.notes) c.logical x.names) (sym keep.config) (keep.in_progress x.names w.in_progress);
+    in_progress = subst (λ (c : Config). InProgress c.protocol (found_in n'.notes) c.logical x.names) (sym keep.config)
+        (keep.in_progress x.names w.in_progress);
     least = w.least;
     most = w.most;
     short = w.short;
@@ -151,7 +152,13 @@ pub own_pinned : (s : FlashState) (n : Noted) (t : BlockTable) (u : Unsure) (o :
     All (Contains (pinned_names n.pins)) (opening_at o i).naming.names
 own_pinned s n t u o k i within j d inside =
     let name = get_or (opening_at o i).naming.names j d in
-    (k.pinned name).1 (i, opening_at o i, within, get_or_default o.all i (opening_at o i) no_opening within, Contains-get_or (opening_at o i).naming.names j d inside)
+    (k.pinned name).1 (
+      i,
+      opening_at o i,
+      within,
+      get_or_default o.all i (opening_at o i) no_opening within,
+      Contains-get_or (opening_at o i).naming.names j d inside,
+    )
 
 -- the openings stay
 pub each_stays : (s s' : FlashState) (n n' : Noted) (t t' : BlockTable) (u u' : Unsure) (o : OpenTable) → ArraysStay n.config.protocol →
@@ -183,8 +190,10 @@ pub record HasSameParts (o new : Opening) : Type 0 where
 pub pages_same : (all all' : List Opening) → map (λ o. o.entry.writes) all' ≡ map (λ o. o.entry.writes) all →
     pending_pages (map (λ o. o.entry) all') ≡ pending_pages (map (λ o. o.entry) all)
 pages_same all all' same =
-    let lengths : (os : List Opening) → sum (map (λ (ws : List PageWrite). length ws) (map (λ (o : Opening). o.entry.writes) os)) ≡ pending_pages (map (λ o. o.entry) os) = λ os.
-    ap sum (map_map (λ (o : Opening). o.entry.writes) (λ (ws : List PageWrite). length ws) os ∙ sym (map_map (λ (o : Opening). o.entry) (λ (e : Entry). length e.writes) os))
+    let lengths : (os : List Opening) → sum (map (λ (ws : List PageWrite). length ws) (map (λ (o : Opening). o.entry.writes) os)) ≡ pending_pages (map
+    (λ o. o.entry) os) = λ os.
+    ap sum (map_map (λ (o : Opening). o.entry.writes) (λ (ws : List PageWrite). length ws) os
+    ∙ sym (map_map (λ (o : Opening). o.entry) (λ (e : Entry). length e.writes) os))
     ∙ sum-map (λ (e : Entry). length e.writes) (map (λ (o : Opening). o.entry) os) in
     sym (lengths all') ∙ ap (λ yss. sum (map (λ (ws : List PageWrite). length ws) yss)) same ∙ lengths all
 
@@ -204,8 +213,10 @@ kept_with s s' n n' t t' u u' o i new k within parts m' config pins others own d
       matches = m';
       each = All-from_get_or (IsOpening s'.image n') (slice_set o.all i new) no_opening (λ j inside.
           elim (cases_eq j i) [
-            | inl is ↦ subst (IsOpening s'.image n') (sym (get_or-set_same o.all i new no_opening within) ∙ ap (λ a. get_or (slice_set o.all i new) a no_opening) (sym is)) own
-            | inr other ↦ subst (IsOpening s'.image n') (sym (get_or-set_other o.all i j new no_opening other)) (others j (subst (λ len. j < len) (length-set o.all i new) inside) other)
+            | inl is ↦ subst (IsOpening s'.image n')
+                (sym (get_or-set_same o.all i new no_opening within) ∙ ap (λ a. get_or (slice_set o.all i new) a no_opening) (sym is)) own
+            | inr other ↦ subst (IsOpening s'.image n') (sym (get_or-set_other o.all i j new no_opening other))
+                (others j (subst (λ len. j < len) (length-set o.all i new) inside) other)
           ]);
       doubt = doubt;
       tags = pairs_from (λ (x : Opening). x.entry.tag) (λ a b. a ≢ b) (slice_set o.all i new)
@@ -215,10 +226,12 @@ kept_with s s' n n' t t' u u' o i new k within parts m' config pins others own d
       few = subst (λ (c : Config). pending_pages (entries_of (with_opening o i new)) ≤ c.pending) (sym config)
           (subst (λ pages. pages ≤ n.config.pending) (sym (pages_same o.all (slice_set o.all i new) writes)) k.few);
       pinned = λ name.
-          let to : Any (λ (x : Opening). Contains x.naming.names name) o.all → Any (λ (x : Opening). Contains x.naming.names name) (slice_set o.all i new) = λ a.
+          let to : Any (λ (x : Opening). Contains x.naming.names name) o.all → Any (λ (x : Opening). Contains x.naming.names name) (slice_set o.all i new) =
+          λ a.
           any_from_map (λ (x : Opening). x.naming.names) (λ x. Contains x name) (slice_set o.all i new) no_opening
           (subst (Any (λ x. Contains x name)) (sym names) (any_to_map (λ (x : Opening). x.naming.names) (λ x. Contains x name) o.all a)) in
-          let from : Any (λ (x : Opening). Contains x.naming.names name) (slice_set o.all i new) → Any (λ (x : Opening). Contains x.naming.names name) o.all = λ a.
+          let from : Any (λ (x : Opening). Contains x.naming.names name) (slice_set o.all i new) → Any (λ (x : Opening). Contains x.naming.names name) o.all =
+          λ a.
           any_from_map (λ (x : Opening). x.naming.names) (λ x. Contains x name) o.all no_opening
           (subst (Any (λ x. Contains x name)) names (any_to_map (λ (x : Opening). x.naming.names) (λ x. Contains x name) (slice_set o.all i new) a)) in (
             λ c. to ((k.pinned name).0 (subst (λ p. Contains (pinned_names p) name) pins c)),

@@ -5,7 +5,7 @@ use Rattle.tx_types.specs.declared.config.Protocol.{Protocol}
 use Rattle.flash_model.specs.Flash.{FlashState}
 use Rattle.collector.specs.Calls.{Keeps}
 use Rattle.collector.specs.Preserves.{KeepsArray}
-use Rattle.collector.specs.Retiring.{KeepsTables}
+use Rattle.collector.specs.Retiring.{KeepsStore}
 use Rattle.collector.proofs.KeepsLemmas.{tables_of}
 use Rattle.collector.specs.declared.unsure.Unsure.TheVariants as unsure
 use Rattle.collector.specs.Known.{array_known}
@@ -21,8 +21,9 @@ use Rattle.tx_engine.proofs.ExitsThen.{before_itself, exits_then}
 use Rattle.collector.proofs.Keeping.{preserves_then}
 use Rattle.collector.specs.Laws.{ArraysStay}
 
-module _ {F : Type 0} (state : F → FlashState) (S S' : Stored F) (O : OpenTable) (broken : Bool) (p : Protocol) (law : ArraysStay p) (rule : S.noted.config.protocol ≡ p)
-    (h : Stands state (standing_in state S O)) (keep : KeepsTables p (store_in state S) (store_in state S') broken) (sure : S.unsure ≡ unsure.Nothing) where
+module _ {F : Type 0} (state : F → FlashState) (S S' : Stored F) (O : OpenTable) (broken : Bool) (p : Protocol) (law : ArraysStay p)
+    (rule : S.noted.config.protocol ≡ p)
+    (h : Stands state (standing_in state S O)) (keep : KeepsStore p (store_in state S) (store_in state S') broken) (sure : S.unsure ≡ unsure.Nothing) where
   kept : IsKept (state S.flash) S.noted S.table S.unsure O
   kept = from_stands state S O h
 
@@ -33,7 +34,8 @@ module _ {F : Type 0} (state : F → FlashState) (S S' : Stored F) (O : OpenTabl
   array = subst (λ q. KeepsArray q S.noted.config.logical (state S.flash).image (state S'.flash).image) (sym rule) keep.array
 
   same_known : array_known S'.noted (state S'.flash).image ≡ array_known S.noted (state S.flash).image
-  same_known = its.array (state S.flash) (state S'.flash) S.noted S'.noted S.table S'.table S.unsure S'.unsure kept.matches keep.matches refl keep.preserves array
+  same_known = its.array (state S.flash) (state S'.flash) S.noted S'.noted S.table S'.table S.unsure S'.unsure kept.matches keep.matches refl keep.preserves
+      array
 
   pub tables_left : LeavesTables state (standing_in state S O) (standing_in state S' O)
   tables_left = record {

@@ -56,7 +56,8 @@ first_some test (g ∷ gs) f i pass none = elim (cases_Bool (test g)) [
   | inl here ↦ none-some g.slot.0 (sym none ∙ ap (option_map (λ (x : Found). x.slot.0)) (cond-true (test g) (Some g) (find test gs) here))
   | inr not_here ↦ elim (Contains-cases g gs f i) [
     | inl same ↦ false≢true (sym not_here ∙ ap test same ∙ pass)
-    | inr later ↦ first_some test gs f later pass (sym (ap (option_map (λ (x : Found). x.slot.0)) (cond-false (test g) (Some g) (find test gs) not_here)) ∙ none)
+    | inr later ↦ first_some test gs f later pass (sym (ap (option_map (λ (x : Found). x.slot.0)) (cond-false (test g) (Some g) (find test gs) not_here))
+        ∙ none)
   ]
 ]
 
@@ -91,7 +92,8 @@ module _ (s : FlashState) (n : Noted) (t : BlockTable) (u : Unsure) (m : Matches
           let has = noted_record n.config.protocol rec (slot_at s.image at) (sym (holds_it (note_at n.notes at) rec e) ∙ m.sure at within sure) in
           let list = written_in n.config.protocol s.image in
           let there = read_slot n.config.protocol s.image at has.bytes has.spare rec (omega (arith, within, m.flash.slots)) has.is has.spells in
-          let one = one_text n.config.protocol list n.config.logical m.sound.written.records (records_scanned n.config.protocol s.image) m.sound.written.bytes in
+          let one = one_text n.config.protocol list n.config.logical m.sound.written.records (records_scanned n.config.protocol s.image)
+          m.sound.written.bytes in
           let flag : rec.discard ≡ false = noted_discard n.config.protocol n m.noted page at rec (holds_it (note_at n.notes at) rec e) h ∙ held in
           record {
             within = within;
@@ -107,14 +109,16 @@ module _ (s : FlashState) (n : Noted) (t : BlockTable) (u : Unsure) (m : Matches
       ap (option_and_then value_of) (text_absent list name (elim (cases_Bool (is_present (records_of list) name)) [
         | inl here ↦
             (let f = found_named (records_of list) name here in
-            let positive = (All-contains (λ f. (1 ≤ f.rec.version) × (1 ≤ f.rec.next.version)) (records_of list) f.0 (records_scanned n.config.protocol s.image).versions f.1).0 in
+            let positive = (All-contains (λ f. (1 ≤ f.rec.version) × (1 ≤ f.rec.next.version)) (records_of list) f.0
+            (records_scanned n.config.protocol s.image).versions f.1).0 in
             let version = ap (λ (x : Link). x.version) f.2 in
             absurd (omega (arith, positive, version, none)))
         | inr gone ↦ gone
       ]))
 
   -- outside a block that can be spared the current record of the page has a slot
-  stays_outside : (block : ℕ) → CanSpare n block → is_present (found_in n.notes) name ≡ true → is_present (left (is_outside (shape_of n.config) block) (found_in n.notes)) name ≡ true
+  stays_outside : (block : ℕ) → CanSpare n block → is_present (found_in n.notes) name ≡ true →
+      is_present (left (is_outside (shape_of n.config) block) (found_in n.notes)) name ≡ true
   unfolding current_of
   stays_outside block spared here =
       let list = found_in n.notes in
@@ -137,7 +141,8 @@ module _ (s : FlashState) (n : Noted) (t : BlockTable) (u : Unsure) (m : Matches
       (first_left (is_outside (shape_of n.config) t.spare) list name outside) e' in
       let h = first_stands (λ f. has_name name f.rec && is_outside (shape_of n.config) t.spare f.slot.0) list at first in
       subst (λ sh. is_outside sh t.spare at ≡ true) (sym m.shape)
-      (subst (λ k. is_outside (shape_of n.config) t.spare k ≡ true) h.its_slot (and_parts (has_name name h.found.rec) (is_outside (shape_of n.config) t.spare h.found.slot.0) h.passes).1)
+      (subst (λ k. is_outside (shape_of n.config) t.spare k ≡ true) h.its_slot
+      (and_parts (has_name name h.found.rec) (is_outside (shape_of n.config) t.spare h.found.slot.0) h.passes).1)
 
   -- a slot that holds a record is not the place of a program
   not_blank : (at place : ℕ) → HoldsName n at name → note_at n.notes place ≡ Blank → eqb at place ≡ false
@@ -168,7 +173,8 @@ module _ (s : FlashState) (n : Noted) (t : BlockTable) (u : Unsure) (m : Matches
   off_outside block at e =
       let h = first_stands (λ f. has_name name f.rec && is_outside (shape_of n.config) block f.slot.0) (found_in n.notes) at e in
       subst (λ sh. is_outside sh block at ≡ true) (sym m.shape)
-      (subst (λ k. is_outside (shape_of n.config) block k ≡ true) h.its_slot (and_parts (has_name name h.found.rec) (is_outside (shape_of n.config) block h.found.slot.0) h.passes).1)
+      (subst (λ k. is_outside (shape_of n.config) block k ≡ true) h.its_slot
+      (and_parts (has_name name h.found.rec) (is_outside (shape_of n.config) block h.found.slot.0) h.passes).1)
 
 -- where no collected block is being erased, the home of a page lies outside the place whose contents are not known
 home_sure : (s : FlashState) (n : Noted) (t : BlockTable) (u : Unsure) (m : Matches s n t u) (page at : ℕ) → HoldsName n at (current_name_of n page) →
@@ -210,7 +216,8 @@ located_off s n t block m page (Some at) lowest held holds = (
 
 -- none of the other places is a block that is being erased
 pub not_victim : (u : Unsure) →
-    (u ≡ unsure.Nothing) ⊎ (((at : Slot) × (rec : Rec) × (u ≡ unsure.Own at rec)) ⊎ (((from : Slot) × (to : Slot) × (u ≡ unsure.Copy from to)) ⊎ (u ≡ unsure.SpareErase))) →
+    (u ≡ unsure.Nothing) ⊎ (((at : Slot) × (rec : Rec) × (u ≡ unsure.Own at rec))
+    ⊎ (((from : Slot) × (to : Slot) × (u ≡ unsure.Copy from to)) ⊎ (u ≡ unsure.SpareErase))) →
     (block : Block) → u ≡ unsure.VictimErase block → ⊥
 not_victim unsure.Nothing known block e = cc
 not_victim (unsure.Own at rec) known block e = cc
@@ -222,7 +229,8 @@ not_victim (unsure.VictimErase b) (inr (inr (inl (from, to, e)))) block is = cc
 not_victim (unsure.VictimErase b) (inr (inr (inr e))) block is = cc
 
 -- where none of them is, the current record is read from its home
-home_current : (n : Noted) (u : Unsure) (page : ℕ) → ((block : Block) → u ≡ unsure.VictimErase block → ⊥) → home_of n (current_name_of n page) ≡ current_place n u page
+home_current : (n : Noted) (u : Unsure) (page : ℕ) → ((block : Block) → u ≡ unsure.VictimErase block → ⊥) →
+    home_of n (current_name_of n page) ≡ current_place n u page
 home_current n unsure.Nothing page other = refl
 home_current n (unsure.Own at rec) page other = refl
 home_current n (unsure.Copy from to) page other = refl

@@ -26,7 +26,8 @@ use Rattle.collector.specs.Laws.{ImagesStand, OpenedTablesMatch}
 
 -- the tables of an image that is read match the flash
 pub opened_matches : OpenedTablesMatch → (its : Config) (s s' : FlashState) (n : Noted) (t : BlockTable) → checked its ≡ Ok s.shape → IsFlash s →
-    IsSoundImage its.protocol its.logical s.shape s.image → IsOpened its s.image n t → s'.shape ≡ s.shape → moment_of s' ≡ moment_of s → Matches s' n t unsure.Nothing
+    IsSoundImage its.protocol its.logical s.shape s.image → IsOpened its s.image n t → s'.shape ≡ s.shape → moment_of s' ≡ moment_of s →
+    Matches s' n t unsure.Nothing
 opened_matches law its s s' n t check whole sound h shape moment =
     subst (λ k. Matches s' n k unsure.Nothing) (sym h.table_is)
     (subst (λ k. Matches s' k (opening_table (shape_of its) (seen_in s.image) h.spare) unsure.Nothing) (sym h.noted_is)
@@ -45,7 +46,8 @@ empty_table config = record {
   all = [];
 }
 
-module _ {F : Type 0} (state : F → FlashState) (p : Protocol) (flash : F) (its : Config) (s : Stored F) (opened : StoresOpened state flash its s) (stored : IsStored state p s) where
+module _ {F : Type 0} (state : F → FlashState) (p : Protocol) (flash : F) (its : Config) (s : Stored F) (opened : StoresOpened state flash its s)
+    (stored : IsStored state p s) where
   its_config : s.noted.config ≡ its
   its_config = ap (λ (n : Noted). n.config) opened.tables.noted_is
 
@@ -81,7 +83,8 @@ module _ {F : Type 0} (state : F → FlashState) (p : Protocol) (flash : F) (its
   opened_mounts laws = record {
     config = its_config;
     machine = ap idle (
-        sym (laws.array (state s.flash) s.noted s.table unsure.Nothing (subst (λ (u : Unsure). Matches (state s.flash) s.noted s.table u) opened.unsure stored.matches) tt stored.rule)
+        sym (laws.array (state s.flash) s.noted s.table unsure.Nothing
+        (subst (λ (u : Unsure). Matches (state s.flash) s.noted s.table u) opened.unsure stored.matches) tt stored.rule)
         ∙ ap (λ q. array_in q s.noted.config.logical (state s.flash).image) (sym stored.rule)
         ∙ ap (λ (c : Config). array_in c.protocol c.logical (state s.flash).image) its_config
         ∙ ap (λ (m : Moment). array_in its.protocol its.logical m.image) opened.moment);

@@ -71,7 +71,8 @@ apart_at all i k apart within inside other = elim (cases_order i k) [
 -- the opening that it makes has the same tag, writes and names
 pub next_parts : (o : Opening) → HasSameParts o (with_next o)
 next_parts o =
-    cond_both (o.naming.noted_count + 1 == length o.entry.writes) (with_mark (with_noted_count o (o.naming.noted_count + 1)) Whole) (with_noted_count o (o.naming.noted_count + 1)) (HasSameParts o)
+    cond_both (o.naming.noted_count + 1 == length o.entry.writes) (with_mark (with_noted_count o (o.naming.noted_count + 1)) Whole)
+    (with_noted_count o (o.naming.noted_count + 1)) (HasSameParts o)
     (λ is. record { tag = refl; writes = refl; names = refl }) (λ is. record { tag = refl; writes = refl; names = refl })
 
 -- names stay where each opening has the names that it had
@@ -79,7 +80,8 @@ pub names_before : (all all' : List Opening) → map (λ (o : Opening). o.naming
     NamedBefore (map (λ o. o.naming) all) (map (λ o. o.naming) all')
 names_before all all' same k d inside =
     let within' : k < length all' = subst (λ len. k < len) (length-map all' (λ (o : Opening). o.naming)) inside in
-    let long : length all' ≡ length all = sym (length-map all' (λ (o : Opening). o.naming.names)) ∙ ap length same ∙ length-map all (λ (o : Opening). o.naming.names) in
+    let long : length all' ≡ length all = sym (length-map all' (λ (o : Opening). o.naming.names)) ∙ ap length same
+    ∙ length-map all (λ (o : Opening). o.naming.names) in
     let within : k < length all = omega arith in
     let old = get_or all k no_opening in
     let names : old.naming.names ≡ (get_or all' k no_opening).naming.names =
@@ -92,7 +94,8 @@ names_before all all' same k d inside =
       names ∙ ap (λ (x : Naming). x.names) (sym (get_or-map (λ (o : Opening). o.naming) all' k no_opening d within')),
     )
 
-module _ (p : Protocol) (notes : NotedWrites p) (n : Noted) (at : ℕ) (rec : Rec) (image image' : List Contents) (o : Opening) (h : IsNextOf p n at rec image' o) where
+module _ (p : Protocol) (notes : NotedWrites p) (n : Noted) (at : ℕ) (rec : Rec) (image image' : List Contents) (o : Opening)
+    (h : IsNextOf p n at rec image' o) where
   abbrev pub after : Noted
   after = programmed n at rec
 
@@ -108,7 +111,8 @@ module _ (p : Protocol) (notes : NotedWrites p) (n : Noted) (at : ℕ) (rec : Re
   pub last_rises : o.entry.done + 1 ≡ length o.entry.writes → All (λ a. current_of n a.page < a.version) o.naming.names
   last_rises last = wholly_rises p notes n h.noted h.rule at rec h.next h.within h.was image' o.entry o.naming h.named h.under h.its h.due h.name last
 
-  pub last_elsewhere : o.entry.done + 1 ≡ length o.entry.writes → (page : ℕ) → page < n.config.logical → All (λ a. a.page ≢ page) o.naming.names → current_of after page ≡ current_of n page
+  pub last_elsewhere : o.entry.done + 1 ≡ length o.entry.writes → (page : ℕ) → page < n.config.logical → All (λ a. a.page ≢ page) o.naming.names →
+      current_of after page ≡ current_of n page
   last_elsewhere last = wholly_elsewhere p notes n h.noted h.rule at rec h.next h.within h.was image' o.entry o.naming h.named h.under h.its h.due h.name last
 
   pub last_array : o.entry.done + 1 ≡ length o.entry.writes → array_known after image' ≡ put (array_known n image') o.entry.writes
@@ -155,7 +159,8 @@ module _ (p : Protocol) (notes : NotedWrites p) (n : Noted) (at : ℕ) (rec : Re
       let within : k < length o.entry.writes = omega arith in
       others k no_write within (sym (page_of_name o.naming.names o.entry.writes k h.named.pages inside) ∙ same))
 
-  pub writes_stay : o.entry.done + 1 ≡ length o.entry.writes → (page : ℕ) → page < n.config.logical → All (λ w. w.page ≢ page) o.entry.writes → current_of after page ≡ current_of n page
+  pub writes_stay : o.entry.done + 1 ≡ length o.entry.writes → (page : ℕ) → page < n.config.logical → All (λ w. w.page ≢ page) o.entry.writes →
+      current_of after page ≡ current_of n page
   writes_stay last page low others = last_elsewhere last page low (names_apart page others)
 
   -- Mentions
@@ -188,13 +193,17 @@ next_kept p notes s s' n t t' u o i at rec k within each calm h m' =
     (opening_at o j).entry (opening_at o j).naming (apart_at o.all i j k.apart within inside other) (each j no_opening inside) in
     let own = next_opening p notes n h.noted h.rule at rec h.next h.within h.was s'.image its h.named h.under h.its h.due h.name h.come h.plain in
     let calm_own : IsCalm (with_next its).entry =
-    cond_both (its.naming.noted_count + 1 == length its.entry.writes) (with_mark (with_noted_count its (its.naming.noted_count + 1)) Whole) (with_noted_count its (its.naming.noted_count + 1))
+    cond_both (its.naming.noted_count + 1 == length its.entry.writes) (with_mark (with_noted_count its (its.naming.noted_count + 1)) Whole)
+    (with_noted_count its (its.naming.noted_count + 1))
     (λ (x : Opening). IsCalm x.entry) (λ is. refl)
     (λ is. ap is_doubted (h.plain (λ last. eqb-false (its.naming.noted_count + 1) (length its.entry.writes) is (ap (λ j. j + 1) h.due ∙ last)))) in
     kept_with s s' n (programmed n at rec) t t' u unsure.Nothing o i (with_next its) k within (next_parts its) m' refl refl others own
     (calm_all (slice_set o.all i (with_next its)) (λ j inside. elim (cases_eq j i) [
-      | inl is ↦ subst (λ (x : Opening). IsCalm x.entry) (sym (get_or-set_same o.all i (with_next its) no_opening within) ∙ ap (λ a. get_or (slice_set o.all i (with_next its)) a no_opening) (sym is)) calm_own
-      | inr other ↦ subst (λ (x : Opening). IsCalm x.entry) (sym (get_or-set_other o.all i j (with_next its) no_opening other)) (calm j (subst (λ len. j < len) (length-set o.all i (with_next its)) inside) other)
+      | inl is ↦ subst (λ (x : Opening). IsCalm x.entry)
+          (sym (get_or-set_same o.all i (with_next its) no_opening within) ∙ ap (λ a. get_or (slice_set o.all i (with_next its)) a no_opening) (sym is))
+          calm_own
+      | inr other ↦ subst (λ (x : Opening). IsCalm x.entry) (sym (get_or-set_other o.all i j (with_next its) no_opening other))
+          (calm j (subst (λ len. j < len) (length-set o.all i (with_next its)) inside) other)
     ]))
 
 -- two names of a transaction at different places have different pages

@@ -58,10 +58,12 @@ nothing_goes n rec h =
     (none_found test (found_in n.notes) (map_none (λ (f : Found). f.slot.0) (find test (found_in n.notes)) (map_none _ _ h)))
 
 -- the current version of its page is below an absent name of a transaction in progress
-pub current_below : (n : Noted) → IsNoted n.config.protocol n → (names : List Link) (name : Link) → InProgress n.config.protocol (found_in n.notes) n.config.logical names →
+pub current_below : (n : Noted) → IsNoted n.config.protocol n → (names : List Link) (name : Link) →
+    InProgress n.config.protocol (found_in n.notes) n.config.logical names →
     Contains names name → is_present (found_in n.notes) name ≡ false → current_of n name.page < name.version
 current_below n is names name going own absent =
-    let range = All-contains (λ (a : Link). (a.page < n.config.logical) × (1 ≤ a.version) × (a.version ≤ 2 ^ 62)) names name going.begun.transaction.in_range own in
+    let range = All-contains (λ (a : Link). (a.page < n.config.logical) × (1 ≤ a.version) × (a.version ≤ 2 ^ 62)) names name going.begun.transaction.in_range
+    own in
     elim (cases_eq (current_of n name.page) 0) [
       | inl none ↦ omega (arith, range.1)
       | inr some ↦ (
@@ -75,10 +77,12 @@ current_below n is names name going own absent =
                       let is_name : q ≡ name = sym also.2 ∙ get_or_default names also.0 q name also.1 ∙ ap (λ k. get_or names k name) same ∙ own.2 in
                       absurd (both_ways (is_present (found_in n.notes) name) absent (subst (λ a. is_present (found_in n.notes) a ≡ true) is_name there)))
                   | inr other ↦ absurd (apart_pages names also.0 own.0 going.begun.transaction.distinct also.1 own.1 other
-                      (ap (λ (a : Link). a.page) (get_or_default names also.0 no_name q also.1 ∙ also.2) ∙ ap (λ (a : Link). a.page) (sym (get_or_default names own.0 no_name name own.1 ∙ own.2))))
+                      (ap (λ (a : Link). a.page) (get_or_default names also.0 no_name q also.1 ∙ also.2)
+                      ∙ ap (λ (a : Link). a.page) (sym (get_or_default names own.0 no_name name own.1 ∙ own.2))))
                 ])
             | inr foreign ↦ (
-                let below = All-contains (λ (g : Found). (Contains names (name_of g.rec) → ⊥) → All (λ (a : Link). mentioned_at a.page g.rec < a.version) names) (found_in n.notes) f.0 going.begun.others f.1
+                let below = All-contains (λ (g : Found). (Contains names (name_of g.rec) → ⊥) → All (λ (a : Link). mentioned_at a.page g.rec < a.version) names)
+                (found_in n.notes) f.0 going.begun.others f.1
                 (λ c. foreign (subst (Contains names) f.2 c)) in
                 let less = All-contains (λ (a : Link). mentioned_at a.page f.0.rec < a.version) names name below own in
                 let part = (mention_parts f.0.rec name less).0 (ap (λ (a : Link). a.page) f.2) in
@@ -87,21 +91,24 @@ current_below n is names name going own absent =
           ])
     ]
 
-is_back : (n : Noted) (p : Protocol) (rec : Rec) → n.config.protocol ≡ p → rec.back ≡ back_version n.config.protocol (found_in n.notes) n.config.logical rec.page →
+is_back : (n : Noted) (p : Protocol) (rec : Rec) → n.config.protocol ≡ p →
+    rec.back ≡ back_version n.config.protocol (found_in n.notes) n.config.logical rec.page →
     current_of n rec.page < rec.version → IsBack p rec.version rec.back
 unfolding current_of
 is_back n Scc rec is back below = back ∙ ap (λ q. back_version q (found_in n.notes) n.config.logical rec.page) is
 is_back n Bpcc rec is back below =
     let now : cur n.config.protocol (found_in n.notes) n.config.logical rec.page ≡ cur Bpcc (found_in n.notes) n.config.logical rec.page =
     ap (λ q. cur q (found_in n.notes) n.config.logical rec.page) is in
-    let its : rec.back ≡ cur Bpcc (found_in n.notes) n.config.logical rec.page = back ∙ ap (λ q. back_version q (found_in n.notes) n.config.logical rec.page) is in
+    let its : rec.back ≡ cur Bpcc (found_in n.notes) n.config.logical rec.page = back
+    ∙ ap (λ q. back_version q (found_in n.notes) n.config.logical rec.page) is in
     omega (arith, below, now, its)
 
 in_flat : (all : List Opening) (name : Link) → Any (λ o. Contains o.naming.names name) all → Contains (flat_map (λ o. o.naming.names) all) name
 in_flat all name any =
     let c = any.4 in
     let its = get_or all any.0 no_opening in
-    let own : Contains its.naming.names name = subst (λ (x : Opening). Contains x.naming.names name) (sym (get_or_default all any.0 no_opening any.1 any.2 ∙ any.3)) c in
+    let own : Contains its.naming.names name = subst (λ (x : Opening). Contains x.naming.names name)
+    (sym (get_or_default all any.0 no_opening any.1 any.2 ∙ any.3)) c in
     go all any.0 any.2 own
   where
     go : (os : List Opening) (j : ℕ) → j < length os → Contains (get_or os j no_opening).naming.names name → Contains (flat_map (λ o. o.naming.names) os) name
@@ -109,7 +116,8 @@ in_flat all name any =
     go (o ∷ os) zero h i = Contains-append_left o.naming.names (flat_map (λ o. o.naming.names) os) name i
     go (o ∷ os) (suc j) h i = Contains-append_right o.naming.names (flat_map (λ o. o.naming.names) os) name (go os j (omega arith) i)
 
-sum_same : (all : List Opening) (f g : Opening → ℕ) → ((j : ℕ) → j < length all → f (get_or all j no_opening) ≡ g (get_or all j no_opening)) → sum_by f all ≡ sum_by g all
+sum_same : (all : List Opening) (f g : Opening → ℕ) → ((j : ℕ) → j < length all → f (get_or all j no_opening) ≡ g (get_or all j no_opening)) →
+    sum_by f all ≡ sum_by g all
 sum_same all f g h = sym (sum-map f all) ∙ ap sum (same all h) ∙ sum-map g all
   where
     same : (os : List Opening) → ((j : ℕ) → j < length os → f (get_or os j no_opening) ≡ g (get_or os j no_opening)) → map f os ≡ map g os
@@ -146,13 +154,16 @@ module _ (s : FlashState) (n : Noted) (t : BlockTable) (o : OpenTable) (i : ℕ)
   beside q pin =
       let any = (k.pinned q).0 pin in
       let its = get_or o.all any.0 no_opening in
-      let own : Contains its.naming.names q = subst (λ (y : Opening). Contains y.naming.names q) (sym (get_or_default o.all any.0 no_opening any.1 any.2 ∙ any.3)) any.4 in
+      let own : Contains its.naming.names q = subst (λ (y : Opening). Contains y.naming.names q)
+      (sym (get_or_default o.all any.0 no_opening any.1 any.2 ∙ any.3)) any.4 in
       elim (cases_eq any.0 i) [
         | inl same ↦ inr (inl (subst (λ j. Contains (get_or o.all j no_opening).naming.names q) same own))
-        | inr other ↦ by_mark its.entry.mark its own (apart_at o.all i any.0 k.apart within any.2 other) (k.each any.0 no_opening any.2).marked (calm_at o.all k.doubt any.0 any.2)
+        | inr other ↦ by_mark its.entry.mark its own (apart_at o.all i any.0 k.apart within any.2 other) (k.each any.0 no_opening any.2).marked
+            (calm_at o.all k.doubt any.0 any.2)
       ]
     where
-      by_mark : (m : Mark) (y : Opening) → Contains y.naming.names q → ShareNoPage x.names y.naming.names → IsAsMarked s.image n y.entry y.naming m → is_doubted m ≡ false →
+      by_mark : (m : Mark) (y : Opening) → Contains y.naming.names q → ShareNoPage x.names y.naming.names → IsAsMarked s.image n y.entry y.naming m →
+          is_doubted m ≡ false →
           IsPinBeside n x.names q
       by_mark Plain y own share w calm = inr (inr (record { others = y.naming.names; in_progress = w.in_progress; apart = share; named = own }))
       by_mark Doubt y own share w calm = cc
@@ -188,7 +199,8 @@ module _ (s : FlashState) (n : Noted) (t : BlockTable) (o : OpenTable) (i : ℕ)
       named = subst (Contains x.names) (sym own) due_has;
       fresh = ap (is_present (found_in n.notes)) own ∙ due_absent;
       asked = asked_at n.config.protocol (found_in n.notes) n.config.logical x.names e.done rec no_name due_named.transaction due_inside own
-          (link ∙ ap (λ len. name_at x (if e.done + 1 == len then 0 else e.done + 1)) (sym (as_many_names x.names e.writes due_named.pages)) ∙ sym (rounded_at x.names e.done no_name due_inside)) back
+          (link ∙ ap (λ len. name_at x (if e.done + 1 == len then 0 else e.done + 1)) (sym (as_many_names x.names e.writes due_named.pages))
+          ∙ sym (rounded_at x.names e.done no_name due_inside)) back
           (counts ∙ sym (as_many_names x.names e.writes due_named.pages));
       clear = nothing_goes n rec clear;
     }
@@ -197,7 +209,8 @@ module _ (s : FlashState) (n : Noted) (t : BlockTable) (o : OpenTable) (i : ℕ)
     next_take clear = record {
       next = next_record clear;
       outside = λ j d inside here.
-          dispensable_pinned n.config.protocol (found_in n.notes) n.config.logical (pinned_names n.pins) (shape_of n.config) t.spare k.matches.spared (get_or x.names j d)
+          dispensable_pinned n.config.protocol (found_in n.notes) n.config.logical (pinned_names n.pins) (shape_of n.config) t.spare k.matches.spared
+          (get_or x.names j d)
           (own_pinned s n t unsure.Nothing o k i within j d inside) here;
     }
 
@@ -205,10 +218,12 @@ module _ (s : FlashState) (n : Noted) (t : BlockTable) (o : OpenTable) (i : ℕ)
     next_can_be_spelled clear =
         let next = next_record clear in
         let bounds = k.matches.noted.bounds in
-        let most : (blocks_of (shape_of n.config) - 1) * n.config.pages_per_block ≤ blocks_of (shape_of n.config) * n.config.pages_per_block = mul-le-mul_right n.config.pages_per_block (omega arith) in
+        let most : (blocks_of (shape_of n.config) - 1) * n.config.pages_per_block ≤ blocks_of (shape_of n.config) * n.config.pages_per_block =
+        mul-le-mul_right n.config.pages_per_block (omega arith) in
         let low : n.config.logical < 2 ^ 32 = omega (arith, bounds.space, bounds.shape.slots_most, most) in
         let spelled = next_spelled n rec next in
-        let range = λ (a : Link) (c : Contains x.names a). All-contains (λ (a : Link). (a.page < n.config.logical) × (1 ≤ a.version) × (a.version ≤ 2 ^ 62)) x.names a due_named.transaction.in_range c in
+        let range = λ (a : Link) (c : Contains x.names a). All-contains (λ (a : Link). (a.page < n.config.logical) × (1 ≤ a.version) × (a.version ≤ 2 ^ 62))
+        x.names a due_named.transaction.in_range c in
         let link_has : Contains x.names rec.next = next_has n rec next in
         record {
           page = omega (arith, spelled.page);

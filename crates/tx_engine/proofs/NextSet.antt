@@ -24,5 +24,7 @@ next_whole o mid new i noted within is more last after =
     ∙ ap₂ (λ (t : OpenTable) (x : Opening). with_opening t i (with_mark x Whole)) is put
     ∙ opening_twice o i (with_noted_count its noted) (with_mark (with_noted_count its noted) Whole)
     ∙ ap (λ n. with_opening o i (with_mark (with_noted_count its n) Whole)) more
-    ∙ ap (with_opening o i) (sym (cond-true (its.naming.noted_count + 1 == length its.entry.writes) (with_mark (with_noted_count its (its.naming.noted_count + 1)) Whole) (with_noted_count its (its.naming.noted_count + 1))
+    ∙ ap (with_opening o i) (sym
+    (cond-true (its.naming.noted_count + 1 == length its.entry.writes) (with_mark (with_noted_count its (its.naming.noted_count + 1)) Whole)
+    (with_noted_count its (its.naming.noted_count + 1))
     (eq-eqb (its.naming.noted_count + 1) (length its.entry.writes) (sym more ∙ last))))

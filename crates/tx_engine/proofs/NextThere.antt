@@ -22,7 +22,8 @@ use Rattle.tx_engine.proofs.Kept.{IsKept}
 use Rattle.tx_engine.proofs.NextRecord.{due_absent}
 use Rattle.tx_engine.proofs.WriteAfter.{settled_kept}
 
-module _ {F : Type 0} (state : F → FlashState) (S : Stored F) (O : OpenTable) (i : ℕ) (h : Stands state (standing_in state S O)) (sure : S.unsure ≡ unsure.Nothing) (within : i < length O.all) where
+module _ {F : Type 0} (state : F → FlashState) (S : Stored F) (O : OpenTable) (i : ℕ) (h : Stands state (standing_in state S O))
+    (sure : S.unsure ≡ unsure.Nothing) (within : i < length O.all) where
   abbrev e : Entry
   e = (opening_at O i).entry
 
@@ -53,7 +54,8 @@ module _ {F : Type 0} (state : F → FlashState) (S : Stored F) (O : OpenTable) 
   ready_there : CountsOn (opening_at O i) → IsThere S.noted name
   ready_there (inl whole) = whole_there whole
   ready_there (inr (plain, behind)) =
-      let under : IsUnderWay (state S.flash).image S.noted e x = subst (IsAsMarked (state S.flash).image S.noted e x) plain (kept.each i no_opening within).marked in
+      let under : IsUnderWay (state S.flash).image S.noted e x = subst (IsAsMarked (state S.flash).image S.noted e x) plain
+      (kept.each i no_opening within).marked in
       under.noted e.done inside ∙ lt-ltb e.done x.noted_count behind
 
   -- what is not due is there, and what is due is not

@@ -65,7 +65,8 @@ cleaned_blank s n t u m slot within in_spare =
     note_at-in (shape_of n.config) some n.notes m.noted.slots t.spare below Blank slot (omega arith) (omega arith)
 
 -- a record of a transaction in progress is the newest of its page
-pub newest_own : (p : Protocol) (l : List Found) (logical : ℕ) (names : List Link) (f : Found) → InProgress p l logical names → Contains l f → Contains names (name_of f.rec) →
+pub newest_own : (p : Protocol) (l : List Found) (logical : ℕ) (names : List Link) (f : Found) → InProgress p l logical names → Contains l f →
+    Contains names (name_of f.rec) →
     f.rec.version ≡ newest l f.rec.page
 newest_own p l logical names f going i own =
     let least = greatest_bound (version_of f.rec.page) l f i in
@@ -86,7 +87,8 @@ newest_own p l logical names f going i own =
                 ∙ ap (λ (a : Link). a.page) (sym (get_or_default names own.0 no_name (name_of f.rec) own.1 ∙ own.2))))
           ])
       | inr foreign ↦ (
-          let below = All-contains (λ (g : Found). (Contains names (name_of g.rec) → ⊥) → All (λ (a : Link). mentioned_at a.page g.rec < a.version) names) l g going.begun.others j foreign in
+          let below = All-contains (λ (g : Found). (Contains names (name_of g.rec) → ⊥) → All (λ (a : Link). mentioned_at a.page g.rec < a.version) names) l g
+          going.begun.others j foreign in
           let less = All-contains (λ (a : Link). mentioned_at a.page g.rec < a.version) names (name_of f.rec) below own in
           let part : g.rec.version < f.rec.version = (mention_parts g.rec (name_of f.rec) less).0 page in
           omega arith)
@@ -99,14 +101,16 @@ whole_current : (n : Noted) (x : Naming) (f : Found) → Contains x.names (name_
 unfolding current_of
 whole_current n x f own all = sym (All-contains (λ (a : Link). current_of n a.page ≡ a.version) x.names (name_of f.rec) all own)
 
-current_marked : (image : List Contents) (n : Noted) (e : Entry) (x : Naming) (m : Mark) (f : Found) → IsAsMarked image n e x m → Contains (found_in n.notes) f → Contains x.names (name_of f.rec) →
+current_marked : (image : List Contents) (n : Noted) (e : Entry) (x : Naming) (m : Mark) (f : Found) → IsAsMarked image n e x m →
+    Contains (found_in n.notes) f → Contains x.names (name_of f.rec) →
     IsCurrent n.config.protocol (found_in n.notes) n.config.logical f.rec ⊎ (f.rec.version ≡ newest (found_in n.notes) f.rec.page)
 current_marked image n e x Plain f w i own = inr (newest_own n.config.protocol (found_in n.notes) n.config.logical x.names f w.in_progress i own)
 current_marked image n e x Doubt f w i own = inr (newest_own n.config.protocol (found_in n.notes) n.config.logical x.names f w.0.in_progress i own)
 current_marked image n e x Whole f w i own = inl (whole_current n x f own w)
 
 -- a pinned record is current, or the newest of a page of an open transaction
-pinned_wanted : (s : FlashState) (n : Noted) (t : BlockTable) (u : Unsure) (o : OpenTable) → IsKept s n t u o → (f : Found) → Contains (found_in n.notes) f → Contains (pinned_names n.pins) (name_of f.rec) →
+pinned_wanted : (s : FlashState) (n : Noted) (t : BlockTable) (u : Unsure) (o : OpenTable) → IsKept s n t u o → (f : Found) → Contains (found_in n.notes) f →
+    Contains (pinned_names n.pins) (name_of f.rec) →
     IsCurrent n.config.protocol (found_in n.notes) n.config.logical f.rec
     ⊎ (Any (λ e. Any (λ w. w.page ≡ f.rec.page) e.writes) (entries_of o) × (f.rec.version ≡ newest (found_in n.notes) f.rec.page))
 pinned_wanted s n t u o k f i pin =
@@ -149,13 +153,16 @@ nothing_left state S S' O tidy settles t u s m table h sure nothing =
     let m' : Matches (state S'.flash) n' S'.table unsure.Nothing = subst (λ v. Matches (state S'.flash) n' S'.table v) sure k.matches in
     let blank : AllOfBlock n' S'.table.spare (λ slot. note_at n'.notes slot ≡ Blank) =
     subst (λ n. AllOfBlock n S'.table.spare (λ slot. note_at n.notes slot ≡ Blank)) (sym nothing.noted)
-    (subst (λ v. AllOfBlock (noted_cleaned S.noted S.table.spare) v (λ slot. note_at (noted_cleaned S.noted S.table.spare).notes slot ≡ Blank)) (ap (λ (b : BlockTable). b.spare) (sym nothing.table))
+    (subst (λ v. AllOfBlock (noted_cleaned S.noted S.table.spare) v (λ slot. note_at (noted_cleaned S.noted S.table.spare).notes slot ≡ Blank))
+    (ap (λ (b : BlockTable). b.spare) (sym nothing.table))
     (subst (λ (b : BlockTable). AllOfBlock (noted_cleaned S.noted b.spare) b.spare (λ slot. note_at (noted_cleaned S.noted b.spare).notes slot ≡ Blank)) table
     (cleaned_blank s S.noted t u m))) in
     let none : HasNoGarbage n' S'.table =
-    subst (λ n. HasNoGarbage n S'.table) (sym nothing.noted) (subst (λ b. HasNoGarbage (noted_cleaned S.noted S.table.spare) b) (sym nothing.table) nothing.none) in
+    subst (λ n. HasNoGarbage n S'.table) (sym nothing.noted)
+    (subst (λ b. HasNoGarbage (noted_cleaned S.noted S.table.spare) b) (sym nothing.table) nothing.none) in
     let is = tidy (state S'.flash) n' S'.table m' blank none in
-    let records : records_in n'.config.protocol (state S'.flash).image ≡ found_in n'.notes = settles.records (state S'.flash) n' S'.table unsure.Nothing m' tt refl in
+    let records : records_in n'.config.protocol (state S'.flash).image ≡ found_in n'.notes = settles.records (state S'.flash) n' S'.table unsure.Nothing m' tt
+    refl in
     record {
       whole = is.whole;
       once = is.once;
@@ -164,7 +171,8 @@ nothing_left state S S' O tidy settles t u s m table h sure nothing =
         | inr (inl held) ↦ inr (inl held)
         | inr (inr pin) ↦ (
             let f = get_or (records_in n'.config.protocol (state S'.flash).image) j d in
-            let there : Contains (found_in n'.notes) f = subst (λ l. Contains l f) records (Contains-get_or (records_in n'.config.protocol (state S'.flash).image) j d inside) in
+            let there : Contains (found_in n'.notes) f = subst (λ l. Contains l f) records
+            (Contains-get_or (records_in n'.config.protocol (state S'.flash).image) j d inside) in
             elim (pinned_wanted (state S'.flash) n' S'.table S'.unsure O k f there pin) [
               | inl current ↦ inl (subst (λ l. IsCurrent n'.config.protocol l n'.config.logical f.rec) (sym records) current)
               | inr own ↦ inr (inr (own.0, subst (λ l. f.rec.version ≡ newest l f.rec.page) (sym records) own.1))
@@ -173,7 +181,8 @@ nothing_left state S S' O tidy settles t u s m table h sure nothing =
     }
 
 -- what a collection ensures where there was nothing to collect
-pub nothing_of : (a b : Store) (any : Bool) (answer : Collected) (r : Result Collected Broken) → answer ≡ answer_of any → r ≡ Ok answer → r ≡ Ok Nothing → CollectsIfAny a b any →
+pub nothing_of : (a b : Store) (any : Bool) (answer : Collected) (r : Result Collected Broken) → answer ≡ answer_of any → r ≡ Ok answer → r ≡ Ok Nothing →
+    CollectsIfAny a b any →
     CollectsNothing a.flash b.flash a.noted b.noted a.table b.table
 nothing_of a b true answer r its is nothing h = absurd (let e = its in let k = is in let l = nothing in cc)
 nothing_of a b false answer r its is nothing h = h

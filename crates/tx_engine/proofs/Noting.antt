@@ -51,7 +51,8 @@ pub raised_mention : (p : Protocol) (n : Noted) (at : ℕ) (rec : Rec) (next : I
     ⊎ ((mention_of n page < mention_of (programmed n at rec) page) × HasName next.names page (mention_of (programmed n at rec) page))
 raised_mention p n at rec next noted page within =
     let names = next_named n rec next in
-    let range = λ (a : Link) (i : Contains next.names a). (All-contains (λ a. (a.page < n.config.logical) × (1 ≤ a.version) × (a.version ≤ 2 ^ 62)) next.names a next.in_progress.begun.transaction.in_range i).0 in
+    let range = λ (a : Link) (i : Contains next.names a).
+    (All-contains (λ a. (a.page < n.config.logical) × (1 ≤ a.version) × (a.version ≤ 2 ^ 62)) next.names a next.in_progress.begun.transaction.in_range i).0 in
     let own_within : rec.page < length n.mentions = omega (arith, range (name_of rec) names.0, noted.mentions) in
     let next_within : rec.next.page < length n.mentions = omega (arith, range rec.next names.1, noted.mentions) in
     let is = raised_at rec n.mentions page own_within next_within in
@@ -64,12 +65,18 @@ raised_mention p n at rec next noted page within =
             let parts = if_positive (rec.next.page == page) rec.next.version (omega arith) in
             let same = eqb-true rec.next.page page parts.0 in
             let now : rec.next.version ≡ mention_of (programmed n at rec) page = omega (arith, is, parts.1) in
-            inr (omega (arith, is, high), subst (HasName next.names page) now (subst (λ q. HasName next.names q rec.next.version) same (has_item next.names rec.next names.1))))
+            inr (
+              omega (arith, is, high),
+              subst (HasName next.names page) now (subst (λ q. HasName next.names q rec.next.version) same (has_item next.names rec.next names.1)),
+            ))
         | inr first ↦ (
             let parts = if_positive (rec.page == page) rec.version (omega arith) in
             let same = eqb-true rec.page page parts.0 in
             let now : rec.version ≡ mention_of (programmed n at rec) page = omega (arith, is, parts.1) in
-            inr (omega (arith, is, high), subst (HasName next.names page) now (subst (λ q. HasName next.names q rec.version) same (has_item next.names (name_of rec) names.0))))
+            inr (
+              omega (arith, is, high),
+              subst (HasName next.names page) now (subst (λ q. HasName next.names q rec.version) same (has_item next.names (name_of rec) names.0)),
+            ))
       ]
     ]
 
@@ -101,7 +108,8 @@ module _ (p : Protocol) (notes : NotedWrites p) (n : Noted) (is_noted : IsNoted 
     apart : (k : ℕ) → k < length y.names → name_at y k ≡ name_of rec → ⊥
     apart k h same = share e.done no_name inside k no_name h (ap (λ (a : Link). a.page) (sym (same ∙ name)))
 
-    goes_on : InProgress n.config.protocol (found_in n.notes) n.config.logical y.names → InProgress n.config.protocol (found_in then.notes) n.config.logical y.names
+    goes_on : InProgress n.config.protocol (found_in n.notes) n.config.logical y.names →
+        InProgress n.config.protocol (found_in then.notes) n.config.logical y.names
     goes_on w = subst (λ q. InProgress q (found_in then.notes) n.config.logical y.names) (sym rule)
         (elim (cases_eq (e.done + 1) (length e.writes)) [
           | inl last ↦ (wholly p notes n is_noted rule at rec next within was image e x named under its there name last).others y.names
@@ -136,20 +144,24 @@ module _ (p : Protocol) (notes : NotedWrites p) (n : Noted) (is_noted : IsNoted 
     other_opening w = record { named = w.named; marked = other_marked f.mark w.named w.marked }
 
   -- The transaction itself, where more records come
-  pub more_under : text_at (written_in n.config.protocol image) (name_of rec) ≡ Some (text_in n.config.page_bytes (write_at e e.done)) → e.done + 1 ≢ length e.writes →
+  pub more_under : text_at (written_in n.config.protocol image) (name_of rec) ≡ Some (text_in n.config.page_bytes (write_at e e.done)) →
+      e.done + 1 ≢ length e.writes →
       IsUnderWay image then e (record x { noted_count = x.noted_count + 1 })
   more_under come more =
       let as_many = long p notes n is_noted rule at rec next within was image e x named under its there name in
       record {
         in_progress = subst (λ q. InProgress q (found_in then.notes) n.config.logical x.names) (sym rule)
-            (subst (InProgress p (found_in then.notes) n.config.logical) its (partly p notes n is_noted rule at rec next within was image e x named under its there name more).in_progress);
+            (subst (InProgress p (found_in then.notes) n.config.logical) its
+            (partly p notes n is_noted rule at rec next within was image e x named under its there name more).in_progress);
         least = omega (arith, there);
         most = omega (arith, there);
         short = omega (arith, there, named.within, as_many, more);
         noted = λ k h. elim (cases_lt k (x.noted_count + 1)) [
-          | inl less ↦ there_then p notes n is_noted rule at rec next within was image e x named under its there name k h (omega (arith, there)) ∙ sym (lt-ltb k (x.noted_count + 1) less)
+          | inl less ↦ there_then p notes n is_noted rule at rec next within was image e x named under its there name k h (omega (arith, there))
+              ∙ sym (lt-ltb k (x.noted_count + 1) less)
           | inr past ↦
-              other_name (name_at x k) (λ same. named.transaction.distinct e.done k no_name (omega (arith, there)) h (ap (λ (a : Link). a.page) (sym (same ∙ name))))
+              other_name (name_at x k)
+              (λ same. named.transaction.distinct e.done k no_name (omega (arith, there)) h (ap (λ (a : Link). a.page) (sym (same ∙ name))))
               ∙ under.noted k h ∙ le-ltb k x.noted_count (omega arith) ∙ sym (le-ltb k (x.noted_count + 1) past)
         ];
         texts = λ k h. elim (cases_lt k x.noted_count) [
@@ -170,7 +182,8 @@ pub next_opening : (p : Protocol) (notes : NotedWrites p) (n : Noted) (is_noted 
     (o.entry.done + 1 ≢ length o.entry.writes → o.entry.mark ≡ Plain) →
     IsOpening image (programmed n at rec) (with_next o)
 next_opening p notes n is_noted rule at rec next within was image o named under its there name come plain =
-    cond_both (o.naming.noted_count + 1 == length o.entry.writes) (with_mark (with_noted_count o (o.naming.noted_count + 1)) Whole) (with_noted_count o (o.naming.noted_count + 1))
+    cond_both (o.naming.noted_count + 1 == length o.entry.writes) (with_mark (with_noted_count o (o.naming.noted_count + 1)) Whole)
+    (with_noted_count o (o.naming.noted_count + 1))
     (IsOpening image (programmed n at rec))
     (λ is.
     let last : o.entry.done + 1 ≡ length o.entry.writes = omega (arith, there, eqb-true (o.naming.noted_count + 1) (length o.entry.writes) is) in
@@ -179,7 +192,8 @@ next_opening p notes n is_noted rule at rec next within was image o named under 
       marked = wholly_current p notes n is_noted rule at rec next within was image o.entry o.naming named under its there name last;
     })
     (λ is.
-    let more : o.entry.done + 1 ≢ length o.entry.writes = λ last. eqb-false (o.naming.noted_count + 1) (length o.entry.writes) is (ap (λ k. k + 1) there ∙ last) in
+    let more : o.entry.done + 1 ≢ length o.entry.writes = λ last. eqb-false (o.naming.noted_count + 1) (length o.entry.writes) is
+    (ap (λ k. k + 1) there ∙ last) in
     record {
       named = record { pages = named.pages; within = named.within; whole = named.whole; transaction = named.transaction };
       marked = subst (IsAsMarked image (programmed n at rec) o.entry (record o.naming { noted_count = o.naming.noted_count + 1 })) (sym (plain more))

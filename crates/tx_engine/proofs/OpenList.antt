@@ -42,7 +42,8 @@ with_first tag [] i new h = absurd (let w = h.within in omega arith)
 with_first tag (o ∷ all) zero new h =
     cond-true (has_tag tag o.entry) (new.entry ∷ map (λ o. o.entry) all) (o.entry ∷ with_entry tag new.entry (map (λ o. o.entry) all)) h.tagged
 with_first tag (o ∷ all) (suc i) new h =
-    cond-false (has_tag tag o.entry) (new.entry ∷ map (λ o. o.entry) all) (o.entry ∷ with_entry tag new.entry (map (λ o. o.entry) all)) (h.before 0 (omega arith))
+    cond-false (has_tag tag o.entry) (new.entry ∷ map (λ o. o.entry) all) (o.entry ∷ with_entry tag new.entry (map (λ o. o.entry) all))
+    (h.before 0 (omega arith))
     ∙ ap (λ es. o.entry ∷ es) (with_first tag all i new (first_rest tag o all i h))
 
 pub without_first : (tag : ℕ) (all : List Opening) (i : ℕ) → IsFirstTagged tag all i →
@@ -71,10 +72,12 @@ first_of_own all i tags within = record {
 }
 
 -- two lists side by side that come from one
-pub each_from : (R : Entry → Naming → Type 0) (all : List Opening) → AllZip R (map (λ o. o.entry) all) (map (λ o. o.naming) all) → All (λ o. R o.entry o.naming) all
+pub each_from : (R : Entry → Naming → Type 0) (all : List Opening) → AllZip R (map (λ o. o.entry) all) (map (λ o. o.naming) all) →
+    All (λ o. R o.entry o.naming) all
 each_from R [] h = All-nil (λ o. R o.entry o.naming)
 each_from R (o ∷ all) h = All-cons (λ o. R o.entry o.naming) o all h.0 (each_from R all h.1)
 
-pub each_to : (R : Entry → Naming → Type 0) (all : List Opening) → All (λ o. R o.entry o.naming) all → AllZip R (map (λ o. o.entry) all) (map (λ o. o.naming) all)
+pub each_to : (R : Entry → Naming → Type 0) (all : List Opening) → All (λ o. R o.entry o.naming) all →
+    AllZip R (map (λ o. o.entry) all) (map (λ o. o.naming) all)
 each_to R [] h = tt
 each_to R (o ∷ all) h = (All-head (λ o. R o.entry o.naming) o all h, each_to R all (All-tail (λ o. R o.entry o.naming) o all h))

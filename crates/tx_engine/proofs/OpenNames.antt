@@ -13,7 +13,8 @@ abbrev pub all_names : OpenTable → List (List Link)
 all_names o = map (λ (x : Opening). x.naming.names) o.all
 
 -- another mark changes none
-pub marked_names : (o o' : OpenTable) (i : ℕ) (its : Mark) → i < length o.all → o' ≡ with_opening o i (with_mark (opening_at o i) its) → all_names o' ≡ all_names o
+pub marked_names : (o o' : OpenTable) (i : ℕ) (its : Mark) → i < length o.all → o' ≡ with_opening o i (with_mark (opening_at o i) its) →
+    all_names o' ≡ all_names o
 marked_names o o' i its within is =
     ap all_names is ∙ map-set_same (λ (x : Opening). x.naming.names) o.all i (with_mark (opening_at o i) its) no_opening refl
 
@@ -25,7 +26,8 @@ noted_names o o' i within is =
 -- so each transaction has the names that it had
 pub names_at : (o o' : OpenTable) (i : ℕ) → all_names o' ≡ all_names o → i < length o.all → (opening_at o' i).naming.names ≡ (opening_at o i).naming.names
 names_at o o' i same within =
-    let long : length o'.all ≡ length o.all = sym (length-map o'.all (λ (x : Opening). x.naming.names)) ∙ ap length same ∙ length-map o.all (λ (x : Opening). x.naming.names) in
+    let long : length o'.all ≡ length o.all = sym (length-map o'.all (λ (x : Opening). x.naming.names)) ∙ ap length same
+    ∙ length-map o.all (λ (x : Opening). x.naming.names) in
     let within' : i < length o'.all = omega arith in
     sym (get_or-map (λ (x : Opening). x.naming.names) o'.all i no_opening [] within')
     ∙ ap (λ ns. get_or ns i []) same

@@ -4,13 +4,15 @@ use Rattle.std.specs.List.{AllZip}
 use Rattle.tx_types.specs.declared.config.Protocol.{Protocol}
 use Rattle.flash_model.specs.declared.flash.Broken.{Broken}
 use Rattle.flash_model.specs.declared.flash.Seen.{Seen}
-use Rattle.flash_model.specs.Calls.{Reads}
+use Rattle.flash_model.specs.Calls.{Carries, Reads}
+use Rattle.flash_model.specs.Operations.{moment_of}
+use Rattle.flash_model.proofs.CallLemmas.{Carries-nothing}
 use Rattle.flash_model.specs.Flash.{FlashState, Contents}
 use Rattle.version_index.specs.Noted.{Noted}
 use Rattle.collector.specs.Known.{page_known, array_known}
 use Rattle.collector.proofs.SettledExits.{matches_still}
 use Rattle.tx_engine.specs.ArrayState.{page_at}
-use Rattle.tx_engine.specs.Read.{ReadsKnown, ReadsPage, ReadsFlash, read_place}
+use Rattle.tx_engine.specs.Read.{ReadsKnown, ReadsPage, ReadsFlash, is_read_fault, read_place}
 use Rattle.array_machine.specs.declared.answers.ReadAnswer.{ReadAnswer}
 use Rattle.array_machine.specs.declared.answers.ReadAnswer.TheVariants as answer
 use Rattle.array_machine.specs.declared.answers.ReadError.{ReadError}
@@ -36,7 +38,8 @@ armed_kept state protocol s flash k stays = record {
 }
 
 -- and one of whose flash a slot was read
-pub read_kept : {F R : Type 0} (state : F → FlashState) (protocol : Protocol) (s : StoreInside F R) (flash : F) (at : ℕ) (bytes spare : List ℕ) (result : Result Seen Broken) →
+pub read_kept : {F R : Type 0} (state : F → FlashState) (protocol : Protocol) (s : StoreInside F R) (flash : F) (at : ℕ) (bytes spare : List ℕ) (result : Result
+    Seen Broken) →
     IsStoreKept state protocol s → Reads (state s.flash) (state flash) at bytes spare result → IsStoreKept state protocol (record s { flash = flash })
 read_kept state protocol s flash at bytes spare result k r = record {
   stored = record {
@@ -57,7 +60,8 @@ standing_same {F} {R} state protocol d x h same shape image =
         config = refl;
         array = refl;
         each = subst (λ im. AllZip (IsOpenAs im d.store.noted) (standing_of state d).machine.entries (standing_of state d).namings) (sym image) h.stands.each;
-        doubt = subst (λ im. DoubtsAs im d.store.noted (standing_of state d).machine.entries (standing_of state d).namings d.store.unsure) (sym image) h.stands.doubt;
+        doubt = subst (λ im. DoubtsAs im d.store.noted (standing_of state d).machine.entries (standing_of state d).namings d.store.unsure)
+            (sym image) h.stands.doubt;
         tags = h.stands.tags;
         apart = h.stands.apart;
         few = h.stands.few;
@@ -72,7 +76,8 @@ standing_same {F} {R} state protocol d x h same shape image =
     subst P (sym same) is
 
 -- the flash after a read is such a one
-pub read_same : {F : Type 0} (state : F → FlashState) (old new : Stored F) (page : ℕ) (before after : List ℕ) (r : Result Bool Broken) → ReadsKnown state old new page before after r →
+pub read_same : {F : Type 0} (state : F → FlashState) (old new : Stored F) (page : ℕ) (before after : List ℕ) (r : Result Bool Broken) →
+    ReadsKnown state old new page before after r →
     ((state new.flash).shape ≡ (state old.flash).shape) × ((state new.flash).image ≡ (state old.flash).image)
 read_same state old new page before after (Ok false) h = (ap (λ f. (state f).shape) h.1, ap (λ f. (state f).image) h.1)
 read_same state old new page before after (Ok true) h = (h.1.4.carries.shape, h.1.4.image)
@@ -89,7 +94,8 @@ answer_to (Ok true) = Ok answer.Page
 answer_to (Ok false) = Ok answer.Blank
 answer_to (Err broken) = Err failed.Fault
 
-pub reads_page : {F : Type 0} (state : F → FlashState) (old new : Stored F) (page : ℕ) (before after : List ℕ) (r : Result Bool Broken) → page < old.noted.config.logical →
+pub reads_page : {F : Type 0} (state : F → FlashState) (old new : Stored F) (page : ℕ) (before after : List ℕ) (r : Result Bool Broken) →
+    page < old.noted.config.logical →
     ReadsKnown state old new page before after r → ReadsPage old.noted.config.logical (array_known old.noted (state old.flash).image) page after (answer_to r)
 reads_page state old new page before after (Ok true) within h = (within, known_at old.noted (state old.flash).image page within ∙ h.0)
 reads_page state old new page before after (Ok false) within h = (within, known_at old.noted (state old.flash).image page within ∙ h.0)
@@ -100,3 +106,12 @@ pub reads_flash : {F : Type 0} (state : F → FlashState) (old new : Stored F) (
 reads_flash state old new page before after (Ok true) h = h.1
 reads_flash state old new page before after (Ok false) h = (h.1, h.2)
 reads_flash state old new page before after (Err broken) h = (h.1.0, h.1.1, h.1.2, broken, h.1.3)
+
+-- such a read leaves the moment, and carries over what a read does
+pub read_carries : {F : Type 0} (state : F → FlashState) (old new : Stored F) (page : ℕ) (before after : List ℕ) (r : Result Bool Broken) →
+    ReadsKnown state old new page before after r →
+    (moment_of (state new.flash) ≡ moment_of (state old.flash)) × Carries (state old.flash) (state new.flash) (is_read_fault (answer_to r))
+read_carries {F} state old new page before after (Ok false) h =
+    (ap (λ f. moment_of (state f)) h.1, subst (λ (f : F). Carries (state old.flash) (state f) false) (sym h.1) (Carries-nothing (state old.flash)))
+read_carries state old new page before after (Ok true) h = let its = h.1.4 in (rw (its.image, its.programs, its.erases) refl, its.carries)
+read_carries state old new page before after (Err broken) h = let its = h.1.3 in (rw (its.image, its.programs, its.erases) refl, its.carries)

@@ -63,7 +63,8 @@ module _ {F : Type 0} (state : F → FlashState) (p : Protocol) (S : Stored F) (
       can_write = record {
         free = free;
         own = next_take (state S.flash) S.noted S.table O i kept due.exists due.plain due.unnoted rec its.named its.next its.back its.counts goes_none;
-        spelled = next_can_be_spelled (state S.flash) S.noted S.table O i kept due.exists due.plain due.unnoted rec its.named its.next its.back its.counts goes_none;
+        spelled = next_can_be_spelled (state S.flash) S.noted S.table O i kept due.exists due.plain due.unnoted rec its.named its.next its.back its.counts
+            goes_none;
         page = subst (λ k. length (bytes_in k (write_at o.entry o.entry.done)) ≡ S.noted.config.page_bytes) (sym size)
             ((due_named (state S.flash) S.noted S.table O i kept due.exists due.plain due.unnoted).whole o.entry.done no_write place.within);
       }
@@ -76,7 +77,8 @@ module _ {F : Type 0} (state : F → FlashState) (p : Protocol) (S : Stored F) (
         its = refl;
         own = its.named;
         free = free;
-        text = subst (λ k. text_with rec (bytes_in k (write_at o.entry o.entry.done)) ≡ text_in S.noted.config.page_bytes (write_at o.entry o.entry.done)) (sym size)
+        text = subst (λ k. text_with rec (bytes_in k (write_at o.entry o.entry.done)) ≡ text_in S.noted.config.page_bytes (write_at o.entry o.entry.done))
+            (sym size)
             (due_text S.noted.config.page_bytes o.entry rec its.discard);
       }
 
@@ -164,8 +166,10 @@ module _ {F : Type 0} (state : F → FlashState) (p : Protocol) (S : Stored F) (
           next = tt;
           sure = tt;
           failed = fails_after state first last new O O' i left (broken_fails state p S2 S3 O i at rec _ asked images law w.matches w.broken O' opens);
-          exits = exits_then state first last new true refl refl left.exits (broken_exits state p S2 S3 O i at rec _ asked images law w.matches w.broken O' opens w.moves w.carries);
-          costs = costs_all state S S1 S2 S3 O O' its_name ready.stands.matches.noted cl.clears.costs fd.finds.costs config1 idle1 false fd.direct w.costs.0 w.costs.1;
+          exits = exits_then state first last new true refl refl left.exits
+              (broken_exits state p S2 S3 O i at rec _ asked images law w.matches w.broken O' opens w.moves w.carries);
+          costs = costs_all state S S1 S2 S3 O O' its_name ready.stands.matches.noted cl.clears.costs fd.finds.costs config1 idle1 false fd.direct w.costs.0
+              w.costs.1;
           writes = tt;
           fresh = tt;
           breaks = record_breaks state S S1 S2 O O' its_name S3 at rec cl.clears.turns fd.slot right.named w.broken.noted w.broken.table w.broken.unsure;
@@ -175,7 +179,8 @@ module _ {F : Type 0} (state : F → FlashState) (p : Protocol) (S : Stored F) (
             O' ≡ with_opening O i (with_next its) → WritesPage state S S3 O O' i (Ok tt)
         page_written w opens =
             let wanted = due_record S.noted.config.page_bytes its.entry its.naming in
-            let written = subst (λ k. WritesStored (store_in state S2) (store_in state S3) at.0 rec (bytes_in k (write_at its.entry its.entry.done))) size w.written in
+            let written = subst (λ k. WritesStored (store_in state S2) (store_in state S3) at.0 rec (bytes_in k (write_at its.entry its.entry.done))) size
+            w.written in
             let matches = fd.left.stands.matches in
             record {
               stands = written_stands state p S2 S3 O i at rec _ asked images law w.matches w.written O' opens;
@@ -184,8 +189,10 @@ module _ {F : Type 0} (state : F → FlashState) (p : Protocol) (S : Stored F) (
               next = opens;
               sure = w.written.unsure;
               failed = tt;
-              exits = exits_then state first last new false refl refl left.exits (written_exits state p S2 S3 O i at rec _ asked images law w.matches w.written O' opens w.moves w.carries);
-              costs = costs_all state S S1 S2 S3 O O' its_name ready.stands.matches.noted cl.clears.costs fd.finds.costs config1 idle1 false fd.direct w.costs.0 w.costs.1;
+              exits = exits_then state first last new false refl refl left.exits
+                  (written_exits state p S2 S3 O i at rec _ asked images law w.matches w.written O' opens w.moves w.carries);
+              costs = costs_all state S S1 S2 S3 O O' its_name ready.stands.matches.noted cl.clears.costs fd.finds.costs config1 idle1 false fd.direct w.costs.0
+                  w.costs.1;
               writes = writes_record state S S1 S2 S3 O O' wanted at rec ready.stands.matches.noted cl.left.kept idle1 false fd.direct
                   left.exits.carries.shape cl.clears.cleared fd.slot right.named right.next right.counts right.discard right.back
                   (free_within (state S2.flash) S2.noted S2.table S2.unsure matches at.0 fd.finds.free) written cl.clears.turns left.exits.moves;

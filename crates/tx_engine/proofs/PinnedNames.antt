@@ -46,7 +46,8 @@ in_more n v vs name h = record {
 in_given : (n : ℕ) (pins : List ℕ) (name : Link) → Contains (given numbered_pin n pins) name → IsPinFrom n pins name
 in_given n [] name h = absurd (Contains-nil name h)
 in_given n (v ∷ vs) name h = elim (cases_eq v 0) [
-  | inl none ↦ in_more n v vs name (in_given (n + 1) vs name (subst (λ o. Contains (cons_option o (given numbered_pin (n + 1) vs)) name) (pinned_none n v none) h))
+  | inl none ↦ in_more n v vs name
+      (in_given (n + 1) vs name (subst (λ o. Contains (cons_option o (given numbered_pin (n + 1) vs)) name) (pinned_none n v none) h))
   | inr some ↦ (let either : (record { page = n; version = v } ≡ name) ⊎ Contains (given numbered_pin (n + 1) vs) name =
       Contains-cases {X = Link} (record { page = n; version = v }) (given numbered_pin (n + 1) vs) name
       (subst (λ o. Contains (cons_option o (given numbered_pin (n + 1) vs)) name) (pinned_some n v some) h) in
@@ -62,7 +63,8 @@ in_given n (v ∷ vs) name h = elim (cases_eq v 0) [
       ])
 ]
 
-to_given : (n : ℕ) (pins : List ℕ) (i : ℕ) → i < length pins → get_or pins i 0 ≢ 0 → Contains (given numbered_pin n pins) (record { page = n + i; version = get_or pins i 0 })
+to_given : (n : ℕ) (pins : List ℕ) (i : ℕ) → i < length pins → get_or pins i 0 ≢ 0 →
+    Contains (given numbered_pin n pins) (record { page = n + i; version = get_or pins i 0 })
 to_given n [] i within some = absurd (omega arith)
 to_given n (v ∷ vs) zero within some =
     subst (λ o. Contains (cons_option o (given numbered_pin (n + 1) vs)) (record { page = n + 0; version = v })) (sym (pinned_some n v some))
@@ -73,9 +75,12 @@ to_given n (v ∷ vs) (suc i) within some =
     let here : Contains (given numbered_pin (n + 1) vs) (record { page = n + suc i; version = get_or vs i 0 }) =
     subst (λ k. Contains (given numbered_pin (n + 1) vs) (record { page = k; version = get_or vs i 0 })) (omega arith) later in
     elim (cases_eq v 0) [
-      | inl none ↦ subst (λ o. Contains (cons_option o (given numbered_pin (n + 1) vs)) (record { page = n + suc i; version = get_or vs i 0 })) (sym (pinned_none n v none)) here
-      | inr there ↦ subst (λ o. Contains (cons_option o (given numbered_pin (n + 1) vs)) (record { page = n + suc i; version = get_or vs i 0 })) (sym (pinned_some n v there))
-          (Contains-rest {X = Link} (record { page = n; version = v }) (given numbered_pin (n + 1) vs) (record { page = n + suc i; version = get_or vs i 0 }) here)
+      | inl none ↦ subst (λ o. Contains (cons_option o (given numbered_pin (n + 1) vs)) (record { page = n + suc i; version = get_or vs i 0 }))
+          (sym (pinned_none n v none)) here
+      | inr there ↦ subst (λ o. Contains (cons_option o (given numbered_pin (n + 1) vs)) (record { page = n + suc i; version = get_or vs i 0 }))
+          (sym (pinned_some n v there))
+          (Contains-rest {X = Link} (record { page = n; version = v }) (given numbered_pin (n + 1) vs) (record { page = n + suc i; version = get_or vs i 0 })
+          here)
     ]
 
 pub pin_of : (pins : List ℕ) (name : Link) → Contains (pinned_names pins) name → IsPin pins name
@@ -170,7 +175,8 @@ pub length_pins : (names : List Link) (pins : List ℕ) → length (with_pins pi
 length_pins [] pins = refl
 length_pins (a ∷ rest) pins = length_pins rest (set pins a.page a.version) ∙ length-set pins a.page a.version
 
-pub other_pin : (names : List Link) (pins : List ℕ) (page : ℕ) → ((a : Link) → Contains names a → a.page ≡ page → ⊥) → get_or (with_pins pins names) page 0 ≡ get_or pins page 0
+pub other_pin : (names : List Link) (pins : List ℕ) (page : ℕ) → ((a : Link) → Contains names a → a.page ≡ page → ⊥) →
+    get_or (with_pins pins names) page 0 ≡ get_or pins page 0
 other_pin [] pins page none = refl
 other_pin (a ∷ rest) pins page none =
     other_pin rest (set pins a.page a.version) page (λ b i. none b (Contains-rest a rest b i))

@@ -51,14 +51,18 @@ pinned_before pins page version name pin =
 
 module _ (n : Noted) (page version : ℕ) where
   -- no record has the name of the new pin, so what can be spared can be spared still
-  pub pinned_spared : is_present (found_in n.notes) (record { page = page; version = version }) ≡ false → (block : ℕ) → CanSpare n block → CanSpare (pinned n page version) block
+  pub pinned_spared : is_present (found_in n.notes) (record { page = page; version = version }) ≡ false → (block : ℕ) → CanSpare n block →
+      CanSpare (pinned n page version) block
   pinned_spared absent block spared =
       let p = n.config.protocol in
       let old = found_in n.notes in
       let keep = is_outside (shape_of n.config) block in
-      let stays : (f : Found) → Contains old f → is_wanted p old n.config.logical (pinned_names n.pins) f.rec ≡ true → is_present (left keep old) (name_of f.rec) ≡ true =
-      λ f i w. All-contains (λ f. is_wanted p old n.config.logical (pinned_names n.pins) f.rec ≡ true → is_present (left keep old) (name_of f.rec) ≡ true) old f spared i w in
-      all_from (λ f. is_wanted p old n.config.logical (pinned_names (set n.pins page version)) f.rec ≡ true → is_present (left keep old) (name_of f.rec) ≡ true) old
+      let stays : (f : Found) → Contains old f → is_wanted p old n.config.logical (pinned_names n.pins) f.rec ≡ true →
+      is_present (left keep old) (name_of f.rec) ≡ true =
+      λ f i w. All-contains (λ f. is_wanted p old n.config.logical (pinned_names n.pins) f.rec ≡ true → is_present (left keep old) (name_of f.rec) ≡ true) old f
+      spared i w in
+      all_from (λ f. is_wanted p old n.config.logical (pinned_names (set n.pins page version)) f.rec ≡ true → is_present (left keep old) (name_of f.rec) ≡ true)
+      old
       (λ f i w. elim (wanted_cases p old n.config.logical (pinned_names (set n.pins page version)) f.rec w) [
         | inl current ↦ stays f i (counted_wanted p old n.config.logical (pinned_names n.pins) f.rec (inl current))
         | inr (inl held) ↦ stays f i (counted_wanted p old n.config.logical (pinned_names n.pins) f.rec (inr held))
@@ -68,7 +72,8 @@ module _ (n : Noted) (page version : ℕ) where
         ]
       ])
 
-  pinned_victim : is_present (found_in n.notes) (record { page = page; version = version }) ≡ false → (u : Unsure) → VictimIsSpared n u → VictimIsSpared (pinned n page version) u
+  pinned_victim : is_present (found_in n.notes) (record { page = page; version = version }) ≡ false → (u : Unsure) → VictimIsSpared n u →
+      VictimIsSpared (pinned n page version) u
   pinned_victim absent unsure.Nothing v = tt
   pinned_victim absent (unsure.Own at rec) v = tt
   pinned_victim absent (unsure.Copy from to) v = tt

@@ -31,8 +31,10 @@ use Rattle.collector.specs.Store.{Store, store_of, IsSure}
 use Rattle.tx_engine.specs.Stored.{CanWrite, WritesOwn}
 use Rattle.tx_engine.proofs.Programs.{free_program, IsWritten, is_written, IsLeft, is_left, left_unsure}
 
-module _ (q : Protocol) (partial : PartialWriteLaw q) (completing : CompletingWriteLaw q) (written_partial : WrittenPartialWriteLaw q) (written_completing : WrittenCompletingWriteLaw q)
-    (a : Store) (k : IsSure q a) (at : Slot) (rec : Rec) (bytes : List ℕ) (asks : CanWrite a at rec bytes) (spare : List ℕ) (spells : spare ≡ spelling a.noted.config.protocol rec)
+module _ (q : Protocol) (partial : PartialWriteLaw q) (completing : CompletingWriteLaw q) (written_partial : WrittenPartialWriteLaw q)
+    (written_completing : WrittenCompletingWriteLaw q)
+    (a : Store) (k : IsSure q a) (at : Slot) (rec : Rec) (bytes : List ℕ) (asks : CanWrite a at rec bytes) (spare : List ℕ)
+    (spells : spare ≡ spelling a.noted.config.protocol rec)
     (s' : FlashState) where
   abbrev s : FlashState
   s = a.flash
@@ -107,7 +109,12 @@ module _ (q : Protocol) (partial : PartialWriteLaw q) (completing : CompletingWr
     done_slot : slot_at s'.image at.0 ≡ complete bytes (spelling n.config.protocol rec)
     done_slot =
         ap (λ i. slot_at i at.0) done_image
-        ∙ get_or-set_same s.image at.0 (complete bytes (spelling n.config.protocol rec)) blank (let w = free.within in omega (arith, w, ap slots_of m.blocks, m.flash.slots))
+        ∙ get_or-set_same s.image at.0 (complete bytes (spelling n.config.protocol rec)) blank (let w = free.within in omega (
+          arith,
+          w,
+          ap slots_of m.blocks,
+          m.flash.slots,
+        ))
 
     as_unsure : Matches s' n t (unsure.Own at rec)
     as_unsure =

@@ -157,7 +157,8 @@ module _ (s : FlashState) (n : Noted) (t : BlockTable) (m : Matches s n t unsure
   pub is_written : ImagePartialLaw p → ImageCompletingLaw p → IsWritten
   is_written partial completing = elim (are_there new names) [
     | all each ↦
-        (let kept = completing n.config.logical s.shape s.image names at.0 bytes rec asks (all_from (λ name. is_present new name ≡ true) names each) (room each) in
+        (let kept = completing n.config.logical s.shape s.image names at.0 bytes rec asks (all_from (λ name. is_present new name ≡ true) names each)
+        (room each) in
         record { sound = kept.sound; stay = kept.old_texts; come = kept.new_text })
     | missing name i absent ↦
         (let kept = partial n.config.logical s.shape s.image names at.0 bytes rec asks (i.0, name, i.1, i.2, absent) in

@@ -48,9 +48,11 @@ pub free_within : (s : FlashState) (n : Noted) (t : BlockTable) (u : Unsure) →
 free_within s n t u m at free = omega (arith, free.free.within, ap slots_of m.blocks, m.flash.slots)
 
 module _ {F : Type 0} (state : F → FlashState) (S S1 S2 S3 : Stored F) (O O' : OpenTable) (asked : DueRecord) (at : Slot) (rec : Rec) where
-  pub writes_record : IsNoted S.noted.config.protocol S.noted → Preserves S.noted S1.noted → (block_to_go S.noted asked.name.page asked.name.version ≡ None → S1 ≡ S) →
+  pub writes_record : IsNoted S.noted.config.protocol S.noted → Preserves S.noted S1.noted →
+      (block_to_go S.noted asked.name.page asked.name.version ≡ None → S1 ≡ S) →
       (broken : Bool) → ((IsFull S1.table → ⊥) → (broken ≡ false) × (S2.flash ≡ S1.flash)) → (state S2.flash).shape ≡ (state S.flash).shape →
-      block_to_go S1.noted asked.name.page asked.name.version ≡ None → TakesSlot S1.noted S1.table S2.noted S2.table at → name_of rec ≡ asked.name → rec.next ≡ asked.link → rec.count ≡ asked.count →
+      block_to_go S1.noted asked.name.page asked.name.version ≡ None → TakesSlot S1.noted S1.table S2.noted S2.table at → name_of rec ≡ asked.name →
+      rec.next ≡ asked.link → rec.count ≡ asked.count →
       rec.discard ≡ asked.text.discard →
       rec.back ≡ back_version S2.noted.config.protocol (found_in S2.noted.notes) S2.noted.config.logical rec.page →
       at.0 < length (state S2.flash).image → WritesStored (store_in state S2) (store_in state S3) at.0 rec asked.text.bytes →
@@ -81,7 +83,8 @@ module _ {F : Type 0} (state : F → FlashState) (S S1 S2 S3 : Stored F) (O O' :
         let same = idle (none_to_go S.noted asked.name.page asked.name.version noted none) in
         let stays = (direct (λ full. room (subst (λ (T : Stored F). IsFull T.table) same full))).1 in
         ap (λ f. moment_of (state f)) (stays ∙ ap (λ (T : Stored F). T.flash) same);
-    does = subst (λ (sh : Shape). Does sh (moment_of (state S2.flash)) (program at.0 asked.text.bytes (spelling S2.noted.config.protocol rec) ∷ []) (moment_of (state S3.flash))) shape w.does;
+    does = subst (λ (sh : Shape). Does sh (moment_of (state S2.flash)) (program at.0 asked.text.bytes (spelling S2.noted.config.protocol rec) ∷ [])
+        (moment_of (state S3.flash))) shape w.does;
     image = ap (λ (image : List Contents). slot_at image at.0) w.image
         ∙ get_or-set_same (state S2.flash).image at.0 (complete asked.text.bytes (spelling S2.noted.config.protocol rec)) blank within;
     noted = w.noted ∙ ap (λ ps. record (programmed S2.noted at.0 rec) { pins = ps }) (ap (λ (n : Noted). n.pins) (sym w.noted));
@@ -89,8 +92,10 @@ module _ {F : Type 0} (state : F → FlashState) (S S1 S2 S3 : Stored F) (O O' :
   }
 
   -- of the names only its own is new
-  pub adds_own : NotedWrites S2.noted.config.protocol → IsNoted S2.noted.config.protocol S2.noted → (u : Unsure) → Matches (state S2.flash) S2.noted S2.table u → IsFirstFree S2.table at.0 →
-      Preserves S.noted S1.noted → Preserves S1.noted S2.noted → name_of rec ≡ asked.name → WritesStored (store_in state S2) (store_in state S3) at.0 rec asked.text.bytes → AddsOnly asked.name S.noted S3.noted
+  pub adds_own : NotedWrites S2.noted.config.protocol → IsNoted S2.noted.config.protocol S2.noted → (u : Unsure) →
+      Matches (state S2.flash) S2.noted S2.table u → IsFirstFree S2.table at.0 →
+      Preserves S.noted S1.noted → Preserves S1.noted S2.noted → name_of rec ≡ asked.name →
+      WritesStored (store_in state S2) (store_in state S3) at.0 rec asked.text.bytes → AddsOnly asked.name S.noted S3.noted
   adds_own notes noted u m free first second named w own here =
       elim ((notes.names S2.noted at.0 rec own noted (omega (arith, free.free.within, ap slots_of m.blocks, ap slots_of m.shape)) (m.free at.0 free.free)).0
       (subst (λ (m : Noted). IsThere m own) w.noted here)) [
@@ -100,7 +105,8 @@ module _ {F : Type 0} (state : F → FlashState) (S S1 S2 S3 : Stored F) (O O' :
 
 -- it is so of what has the same notes and blocks, but for what is pinned
 pub writes_pinned : {F : Type 0} (state : F → FlashState) (known a b : Standing F) (asked : DueRecord) →
-    b.flash ≡ a.flash → b.table ≡ a.table → b.noted ≡ record a.noted { pins = b.noted.pins } → WritesRecord state known a asked → WritesRecord state known b asked
+    b.flash ≡ a.flash → b.table ≡ a.table → b.noted ≡ record a.noted { pins = b.noted.pins } → WritesRecord state known a asked →
+    WritesRecord state known b asked
 writes_pinned state known a b asked flash table noted w = record {
   cleared = w.cleared;
   cleared_table = w.cleared_table;
@@ -121,7 +127,8 @@ writes_pinned state known a b asked flash table noted w = record {
   before = w.before;
   moves = w.moves;
   direct = w.direct;
-  does = subst (λ f. Does (state known.flash).shape w.before (program w.at.0 asked.text.bytes (spelling w.open_noted.config.protocol w.rec) ∷ []) (moment_of (state f))) (sym flash) w.does;
+  does = subst (λ f. Does (state known.flash).shape w.before (program w.at.0 asked.text.bytes (spelling w.open_noted.config.protocol w.rec) ∷ [])
+      (moment_of (state f))) (sym flash) w.does;
   image = ap (λ f. slot_at (state f).image w.at.0) flash ∙ w.image;
   noted = noted ∙ ap (λ (m : Noted). record m { pins = b.noted.pins }) w.noted;
   table = table ∙ w.table;
@@ -155,8 +162,10 @@ writes_from state a b new asked moment shape noted table w = record {
   moves = subst (λ (sh : Shape). Moves sh (moment_of (state a.flash)) false w.before) shape
       (subst (λ (m : Moment). Moves (state b.flash).shape m false w.before) moment w.moves);
   direct = λ none room.
-      w.direct (subst (λ (n : Noted). blocks_to_go n asked.name.page asked.name.version ≡ 0) (sym noted) none) (λ full. room (subst IsFull table full)) ∙ moment;
-  does = subst (λ (sh : Shape). Does sh w.before (program w.at.0 asked.text.bytes (spelling w.open_noted.config.protocol w.rec) ∷ []) (moment_of (state new.flash))) shape w.does;
+      w.direct (subst (λ (n : Noted). blocks_to_go n asked.name.page asked.name.version ≡ 0) (sym noted) none) (λ full. room (subst IsFull table full))
+      ∙ moment;
+  does = subst (λ (sh : Shape). Does sh w.before (program w.at.0 asked.text.bytes (spelling w.open_noted.config.protocol w.rec) ∷ [])
+      (moment_of (state new.flash))) shape w.does;
   image = w.image;
   noted = w.noted;
   table = w.table;

@@ -58,7 +58,8 @@ pub kept_without : (s : FlashState) (n : Noted) (t : BlockTable) (o : OpenTable)
 kept_without s n t o i pins k within gone m' = record {
   matches = m';
   each = all_remove (IsOpening s.image (repinned n pins)) o.all i
-      (All-from_get_or (IsOpening s.image (repinned n pins)) o.all no_opening (λ j inside. open_aside s.image n pins (opening_at o j).entry (opening_at o j).naming (k.each j no_opening inside)));
+      (All-from_get_or (IsOpening s.image (repinned n pins)) o.all no_opening
+      (λ j inside. open_aside s.image n pins (opening_at o j).entry (opening_at o j).naming (k.each j no_opening inside)));
   doubt = All-map IsCalm (λ (x : Opening). x.entry) (remove o.all i)
       (all_remove (λ (x : Opening). IsCalm x.entry) o.all i (All-from_get_or (λ (x : Opening). IsCalm x.entry) o.all no_opening (calm_at o.all k.doubt)));
   tags = all_pairs_remove (λ a b. a.entry.tag ≢ b.entry.tag) o.all i within k.tags;
@@ -80,7 +81,8 @@ kept_without s n t o i pins k within gone m' = record {
         let c = beside.3 in
         let share = apart_at o.all i beside.0 k.apart within beside.1 beside.2 in
         pin_to pins name ((gone name).1 (
-          pin_of n.pins name ((k.pinned name).1 (beside.0, opening_at o beside.0, beside.1, get_or_default o.all beside.0 (opening_at o beside.0) no_opening beside.1, c)),
+          pin_of n.pins name
+              ((k.pinned name).1 (beside.0, opening_at o beside.0, beside.1, get_or_default o.all beside.0 (opening_at o beside.0) no_opening beside.1, c)),
           λ j d inside same. share j d inside c.0 name c.1 (same ∙ ap (λ (b : Link). b.page) (sym c.2)),
         ))),
   );
@@ -142,7 +144,9 @@ module _ {F : Type 0} (state : F → FlashState) (S : Stored F) (O : OpenTable) 
 
   pub closed_stands : (i : ℕ) → i < length O.all → S.unsure ≡ unsure.Nothing → (S' : Stored F) (O' : OpenTable) →
       S' ≡ record S { noted = record S.noted { pins = S'.noted.pins } } → length S'.noted.pins ≡ length S.noted.pins →
-      ((name : Link) → Contains (pinned_names S'.noted.pins) name ↔ (Contains (pinned_names S.noted.pins) name × All (λ (a : Link). a.page ≢ name.page) (opening_at O i).naming.names)) →
+      ((name : Link) →
+      Contains (pinned_names S'.noted.pins) name ↔ (Contains (pinned_names S.noted.pins) name
+      × All (λ (a : Link). a.page ≢ name.page) (opening_at O i).naming.names)) →
       O' ≡ record O { all = remove O.all i } → Stands state (standing_in state S' O')
   closed_stands i within sure S' O' same long gone opens =
       let k = subst (λ u. IsKept (state S.flash) S.noted S.table u O) sure kept in

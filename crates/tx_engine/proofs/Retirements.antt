@@ -1,9 +1,11 @@
 -- A block that was retired once a device had settled: what the whole did to the flash.
-use Rattle.std.proofs.Common.{◌≡◌, ◌⊎◌, ℕ, ◌/◌, ◌<◌, ◌==◌, Bool, false, true, if◌then◌else◌, List, Option, Some, None, Err, refl, sym, ap, ◌∙◌, subst, inl, inr, arith}
+use Rattle.std.proofs.Common.{◌≡◌, ◌⊎◌, ℕ, ◌/◌, ◌<◌, ◌==◌, Bool, false, true, if◌then◌else◌, List, length, Option, Some, None, Ok, Err, refl, sym, ap, ◌∙◌, subst, inl, inr, arith}
 use Rattle.std.specs.Prelude.{nat_lt}
 use Rattle.std.proofs.lemmas.Bool.{cases_eq}
 use Rattle.tx_types.specs.Config.{shape_of, blocks_of}
+use Rattle.tx_types.specs.declared.config.Protocol.{Protocol}
 use Rattle.tx_types.specs.declared.config.Shape.{Shape}
+use Rattle.flash_model.specs.declared.flash.Broken.{Broken}
 use Rattle.flash_model.specs.Flash.{FlashState, Extras, IsFlash, IsImage, blank, slot_at}
 use Rattle.flash_model.specs.Calls.{Carries}
 use Rattle.flash_model.specs.Moves.{Does, FlashMoves}
@@ -19,12 +21,23 @@ use Rattle.die_alloc.specs.BlockTable.{BlockTable}
 use Rattle.collector.specs.declared.unsure.Unsure.{Unsure}
 use Rattle.collector.specs.declared.unsure.Unsure.TheVariants as unsure
 use Rattle.collector.specs.Matches.{AllOfBlock}
-use Rattle.collector.specs.Retiring.{RetiresNone, RetiringBreaks, EndsRetiring, retiring_first}
-use Rattle.tx_engine.specs.Retire.{RetireEnds, RetireExits, is_retire_fault, retire_refusal, worn}
+use Rattle.collector.specs.Going.{IsTreated}
+use Rattle.collector.specs.Looking.{reads_after}
+use Rattle.collector.specs.Preserves.{Preserves}
+use Rattle.collector.specs.Retiring.{RetiresBlock, RetiresNone, RetiringBreaks, EndsRetiring, moved_slots, retiring_first}
+use Rattle.collector.specs.Settling.{Settlement, slots_read}
+use Rattle.tx_engine.specs.OpenTable.{OpenTable}
+use Rattle.tx_engine.specs.DeviceCalls.{RetiresDevice}
+use Rattle.tx_engine.specs.Retire.{AnswersRetire, RetireEnds, RetireExits, RetiresKnown, RetiringFails, is_retire_fault, retire_refusal, worn}
+use Rattle.tx_engine.specs.Settling.{settlement_of}
 use Rattle.tx_engine.specs.Standing.{Standing}
+use Rattle.tx_engine.specs.Stored.{Stored, store_in}
+use Rattle.tx_engine.specs.Tables.{standing_in}
 use Rattle.tx_engine.specs.declared.retire.RetireError.{RetireError}
 use Rattle.tx_engine.specs.declared.retire.RetireError.TheVariants as failed
+use Rattle.tx_engine.proofs.Breaking.{broke_then}
 use Rattle.tx_engine.proofs.ExitsThen.{before_itself}
+use Rattle.tx_engine.proofs.SettleExits.{rises_unread}
 
 -- the flash was only read before
 module _ (a b c : FlashState) (carries : Carries a b false) (moves : FlashMoves a b false) (block : ℕ) where
@@ -125,3 +138,56 @@ refused_exits state s shape extras block e is = record {
     no_cause failed.Range is = refl
     no_cause (failed.Worn allowance) is = refl
     no_cause failed.Fault is = absurd (no_fault shape extras block is)
+
+pub refused : {F : Type 0} (state : F → FlashState) (s : Standing F) (block : ℕ) (e : RetireError) →
+    retire_refusal (state s.flash).shape (state s.flash).extras block ≡ Some e → RetiresDevice state s s block (Err e)
+refused state s block failed.Range is = record {
+  refusal = subst (λ (r : Option RetireError). AnswersRetire r s s (Err failed.Range)) (sym is) (refl, refl);
+  retires = refl;
+  exits = refused_exits state s (state s.flash).shape (state s.flash).extras block failed.Range is;
+  rises = rises_unread s s refl;
+  sure = tt;
+  tables = refl;
+  blank = tt;
+  told = tt;
+}
+refused state s block (failed.Worn allowance) is = record {
+  refusal = subst (λ (r : Option RetireError). AnswersRetire r s s (Err (failed.Worn allowance))) (sym is) (refl, refl);
+  retires = refl;
+  exits = refused_exits state s (state s.flash).shape (state s.flash).extras block (failed.Worn allowance) is;
+  rises = rises_unread s s refl;
+  sure = tt;
+  tables = refl;
+  blank = tt;
+  told = tt;
+}
+refused state s block failed.Fault is = absurd (no_fault (state s.flash).shape (state s.flash).extras block is)
+
+-- The tables are those that were known once the place was read.
+module _ {F : Type 0} (state : F → FlashState) (S T U : Stored F) (O P : OpenTable) (p : Protocol) (block : ℕ)
+    (shape : (state T.flash).shape ≡ (state S.flash).shape) (moment : moment_of (state T.flash) ≡ moment_of (state S.flash))
+    (reads : (state T.flash).reads ≡ reads_after (slots_read S.noted S.unsure) (state S.flash).reads)
+    (noted : T.noted ≡ (settlement_of state (standing_in state S O)).noted) (table : T.table ≡ (settlement_of state (standing_in state S O)).table) where
+  abbrev found : Settlement
+  found = settlement_of state (standing_in state S O)
+
+  pub retired_known : RetiresBlock p (store_in state T) (store_in state U) block (Ok tt) →
+      RetiresKnown state (standing_in state S O) (standing_in state U P) block
+  retired_known r = record {
+    treated = subst (λ (n : Noted). IsTreated n found.table block U.noted U.table) noted
+        (subst (λ (t : BlockTable). IsTreated T.noted t block U.noted U.table) table r.noted);
+    reads = subst (λ (n : Noted). (state U.flash).reads ≡ reads_after (length (moved_slots n found.table.spare block))
+        (reads_after (slots_read S.noted S.unsure) (state S.flash).reads)) noted
+        (subst (λ (t : BlockTable). (state U.flash).reads ≡ reads_after (length (moved_slots T.noted t.spare block))
+        (reads_after (slots_read S.noted S.unsure) (state S.flash).reads)) table
+        (r.reads ∙ ap (reads_after (length (moved_slots T.noted T.table.spare block))) reads));
+  }
+
+  pub retiring_fails : (x : Broken) → RetiresBlock p (store_in state T) (store_in state U) block (Err x) → Preserves T.noted U.noted →
+      RetiringFails state (standing_in state S O) (standing_in state U P) block
+  retiring_fails x r kept = record {
+    breaks = broke_then state S T O shape moment reads noted table
+        (λ between n t. RetiringBreaks n between (state U.flash) t.spare block U.noted U.unsure) r.broken;
+    table = r.stays ∙ table;
+    kept = subst (λ (n : Noted). Preserves n U.noted) noted kept;
+  }

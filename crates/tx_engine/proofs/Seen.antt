@@ -16,7 +16,8 @@ use Rattle.tx_engine.specs.Exits.{ExitsTables, IsNamedAt}
 use Rattle.tx_engine.specs.Standing.{Standing, Naming}
 use Rattle.tx_engine.proofs.ExitsThen.{named_before}
 
-opened_mention : (n : Noted) (list : List Found) (logical page : ℕ) → n.mentions ≡ map (mention list) (range_with_len 0 logical) → page < logical → mention_of n page ≡ mention list page
+opened_mention : (n : Noted) (list : List Found) (logical page : ℕ) → n.mentions ≡ map (mention list) (range_with_len 0 logical) → page < logical →
+    mention_of n page ≡ mention list page
 opened_mention n list logical page is lt =
     ap (λ (x : List ℕ). slice_index x page) is ∙ get_or-map-range_with_len (mention list) 0 logical page page 0 lt (omega arith)
 
@@ -24,7 +25,8 @@ none_named : (page version : ℕ) → IsNamedAt [] page version → ⊥
 none_named page version h = let lt = h.2 in omega arith
 
 -- a device that was just opened, which has its mentions from the records of its image
-pub opened_seen : {F : Type 0} (seen : ℕ → ℕ) (list : List Found) (logical : ℕ) (s : Standing F) → s.noted.mentions ≡ map (mention list) (range_with_len 0 logical) →
+pub opened_seen : {F : Type 0} (seen : ℕ → ℕ) (list : List Found) (logical : ℕ) (s : Standing F) →
+    s.noted.mentions ≡ map (mention list) (range_with_len 0 logical) →
     s.namings ≡ [] → ((page : ℕ) → logical ≤ page → mention_of s.noted page ≡ 0) → ((page : ℕ) → page < logical → mention list page ≤ seen page) → IsSeen seen s
 opened_seen seen list logical s noted none beyond most = record {
   mentions = λ page. elim (cases_lt page logical) [
@@ -53,7 +55,8 @@ exits_seen state protocol old new seen was is exits h = record {
 }
 
 -- and so are those of the image
-pub image_seen : {F : Type 0} (state : F → FlashState) (protocol : Protocol) (seen : ℕ → ℕ) (t : Standing F) (page : ℕ) → HoldsAlways state protocol t → IsSeen seen t → page < t.config.logical →
+pub image_seen : {F : Type 0} (state : F → FlashState) (protocol : Protocol) (seen : ℕ → ℕ) (t : Standing F) (page : ℕ) → HoldsAlways state protocol t →
+    IsSeen seen t → page < t.config.logical →
     mention (records_in t.config.protocol (state t.flash).image) page ≤ seen page
 image_seen state protocol seen t page always h lt =
     let its = always.its in

@@ -1,7 +1,9 @@
 -- A device that settled, by what settling leaves of its tables.
-use Rattle.std.proofs.Common.{◌≡◌, ◌≢◌, ◌⊎◌, ℕ, ◌<◌, Bool, true, false, length, map, All, Option, Some, None, refl, sym, ap, ap₂, ◌∙◌, subst, inl, inr, Err, Ok}
+use Rattle.std.proofs.Common.{◌≡◌, ◌≢◌, ◌⊎◌, ℕ, ◌<◌, Bool, true, false, [], length, map, All, Option, Some, None, refl, sym, ap, ap₂, ◌∙◌, subst, inl, inr, Err, Ok}
 use Rattle.std.specs.Prelude.{position}
+use Rattle.std.proofs.lemmas.List.Elements.{All-nil}
 use Rattle.std.proofs.lemmas.List.Quantifiers.{position-Some}
+use Rattle.tx_types.specs.Batch.{PageWrite}
 use Rattle.tx_types.specs.declared.config.Slot.{Slot}
 use Rattle.tx_types.specs.declared.record.Rec.{Rec}
 use Rattle.flash_model.specs.Flash.{FlashState}
@@ -22,8 +24,8 @@ use Rattle.collector.proofs.SettledExits.{matches_still}
 use Rattle.collector.specs.Preserves.{Preserves}
 use Rattle.tx_engine.specs.ArrayState.{is_doubted, page_at}
 use Rattle.array_machine.specs.declared.mark.Mark.TheVariants.{Plain}
-use Rattle.tx_engine.specs.Exits.{Exits, is_there}
-use Rattle.tx_engine.specs.Standing.{Stands, DoubtsAs}
+use Rattle.tx_engine.specs.Exits.{Exits, SettlesOrNot, VersionsRise, is_there}
+use Rattle.tx_engine.specs.Standing.{Standing, Stands, DoubtsAs}
 use Rattle.tx_engine.specs.OpenTable.{OpenTable, Opening, no_opening, opening_at, entries_of, namings_of, with_opening, with_mark, HasLimitsOf}
 use Rattle.tx_engine.specs.Settling.{with_next, is_writing, IsSettled}
 use Rattle.tx_engine.specs.Stored.{Stored, store_in}
@@ -42,7 +44,8 @@ use Rattle.tx_engine.specs.Calls.{SettlesDevice}
 use Rattle.collector.specs.Laws.{ImagesStand, NotedWrites}
 
 -- the same flash, read
-pub kept_flash : (s s' : FlashState) (n : Noted) (t : BlockTable) (u : Unsure) (o : OpenTable) → s'.shape ≡ s.shape → s'.image ≡ s.image → IsKept s n t u o → IsKept s' n t u o
+pub kept_flash : (s s' : FlashState) (n : Noted) (t : BlockTable) (u : Unsure) (o : OpenTable) → s'.shape ≡ s.shape → s'.image ≡ s.image → IsKept s n t u o →
+    IsKept s' n t u o
 kept_flash s s' n t u o shape image k = record {
   matches = matches_still s s' n t u shape image k.matches;
   each = subst (λ i. All (IsOpening i n) o.all) (sym image) k.each;
@@ -55,10 +58,12 @@ kept_flash s s' n t u o shape image k = record {
 
 module _ {F : Type 0} (state : F → FlashState) (S S' : Stored F) (O O' : OpenTable) where
   -- after a failed read
-  pub failed_stands : Stands state (standing_in state S O) → S' ≡ record S { flash = S'.flash } → O' ≡ O → moment_of (state S'.flash) ≡ moment_of (state S.flash) →
+  pub failed_stands : Stands state (standing_in state S O) → S' ≡ record S { flash = S'.flash } → O' ≡ O →
+      moment_of (state S'.flash) ≡ moment_of (state S.flash) →
       (broken : Bool) → Carries (state S.flash) (state S'.flash) broken → Stands state (standing_in state S' O')
   failed_stands h same opens moment broken carries =
-      let k = kept_flash (state S.flash) (state S'.flash) S.noted S.table S.unsure O carries.shape (ap (λ (m : Moment). m.image) moment) (from_stands state S O h) in
+      let k = kept_flash (state S.flash) (state S'.flash) S.noted S.table S.unsure O carries.shape (ap (λ (m : Moment). m.image) moment)
+      (from_stands state S O h) in
       subst (λ (T : Stored F). Stands state (standing_in state T O')) (sym same)
       (subst (λ (o : OpenTable). Stands state (standing_in state (record S { flash = S'.flash }) o)) (sym opens)
       (to_stands state (record S { flash = S'.flash }) O k))
@@ -67,7 +72,9 @@ module _ {F : Type 0} (state : F → FlashState) (S S' : Stored F) (O O' : OpenT
       standing_in state S' O' ≡ record (standing_in state S O) { flash = S'.flash }
   failed_stays same opens moment =
       ap₂ (λ (T : Stored F) (o : OpenTable). standing_in state T o) same opens
-      ∙ ap (λ image. record (standing_in state (record S { flash = S'.flash }) O) { machine = record { pages = array_known S.noted image; entries = entries_of O } }) (ap (λ (m : Moment). m.image) moment)
+      ∙ ap (λ image. record (standing_in state (record S { flash = S'.flash }) O) {
+        machine = record { pages = array_known S.noted image; entries = entries_of O };
+      }) (ap (λ (m : Moment). m.image) moment)
 
   pub failed_exits : S' ≡ record S { flash = S'.flash } → O' ≡ O → moment_of (state S'.flash) ≡ moment_of (state S.flash) →
       (broken : Bool) → Carries (state S.flash) (state S'.flash) broken → Exits state (standing_in state S O) (standing_in state S' O') broken
@@ -77,7 +84,8 @@ module _ {F : Type 0} (state : F → FlashState) (S S' : Stored F) (O O' : OpenT
       (FlashMoves-nothing (state S.flash) (state S'.flash) broken moment) carries
 
   -- the whole of it
-  pub settle_failed : (x y : Broken) → Stands state (standing_in state S O) → Settles (store_in state S) (store_in state S') (Err x) → S' ≡ record S { flash = S'.flash } →
+  pub settle_failed : (x y : Broken) → Stands state (standing_in state S O) → Settles (store_in state S) (store_in state S') (Err x) →
+      S' ≡ record S { flash = S'.flash } →
       (S.unsure ≡ unsure.Nothing → ⊥) → O' ≡ O → SettlesDevice state S S' O O' (Err y)
   settle_failed x y h its same sure opens = record {
     stands = failed_stands h same opens its.moment true its.carries;
@@ -93,7 +101,8 @@ module _ {F : Type 0} (state : F → FlashState) (S S' : Stored F) (O O' : OpenT
     names = ap (λ (o : OpenTable). map (λ x. x.naming.names) o.all) opens;
   }
 
-  module _ (r : IsSettledAs (state S.flash) S.noted S'.noted S'.table O O') (sure : S'.unsure ≡ unsure.Nothing) (moment : moment_of (state S'.flash) ≡ moment_of (state S.flash))
+  module _ (r : IsSettledAs (state S.flash) S.noted S'.noted S'.table O O') (sure : S'.unsure ≡ unsure.Nothing)
+      (moment : moment_of (state S'.flash) ≡ moment_of (state S.flash))
       (carries : Carries (state S.flash) (state S'.flash) false) where
     same_image : (state S'.flash).image ≡ (state S.flash).image
     same_image = ap (λ (m : Moment). m.image) moment
@@ -115,7 +124,8 @@ module _ {F : Type 0} (state : F → FlashState) (S S' : Stored F) (O O' : OpenT
       tables = record {
         config = r.config;
         versions = λ page low. subst (λ image. (current_of S.noted page < current_of S'.noted page)
-            ⊎ ((current_of S'.noted page ≡ current_of S.noted page) × (page_at (array_known S'.noted image) page ≡ page_at (array_known S.noted (state S.flash).image) page)))
+            ⊎ ((current_of S'.noted page ≡ current_of S.noted page)
+            × (page_at (array_known S'.noted image) page ≡ page_at (array_known S.noted (state S.flash).image) page)))
             (sym same_image) (r.versions page low);
         mentions = r.mentions;
         names = r.names;
@@ -126,7 +136,8 @@ module _ {F : Type 0} (state : F → FlashState) (S S' : Stored F) (O O' : OpenT
 
     -- the whole of it
     pub settle_done : (answer : Settled) → Settles (store_in state S) (store_in state S') (Ok answer) → HasLimitsOf O O' →
-        map (λ o. o.naming.names) O'.all ≡ map (λ o. o.naming.names) O.all → (S.unsure ≡ unsure.Nothing → (S' ≡ S) × (O' ≡ O)) → SettlesDevice state S S' O O' (Ok tt)
+        map (λ o. o.naming.names) O'.all ≡ map (λ o. o.naming.names) O.all → (S.unsure ≡ unsure.Nothing → (S' ≡ S) × (O' ≡ O)) →
+        SettlesDevice state S S' O O' (Ok tt)
     settle_done answer its limits names still = record {
       stands = settled_stands;
       settles = settled_done;
@@ -173,7 +184,8 @@ module _ {F : Type 0} (state : F → FlashState) (S : Stored F) (O : OpenTable) 
     the_own = subst (IsFoundOwn S.noted (state S.flash).image O w) (sym its.noted)
         (present_found (state S.flash) S.noted S.table O settles notes S.unsure w kept writer (sym its.answer ∙ present))
 
-    pub own_settled : (i : ℕ) → w ≡ Some i → (O' : OpenTable) → O' ≡ with_opening O i (with_next (opening_at O i)) → IsSettledAs (state S.flash) S.noted n' t' O O'
+    pub own_settled : (i : ℕ) → w ≡ Some i → (O' : OpenTable) → O' ≡ with_opening O i (with_next (opening_at O i)) →
+        IsSettledAs (state S.flash) S.noted n' t' O O'
     own_settled i is O' next =
         let own = the_own in
         let same : own.place ≡ i = let both = sym own.is_place ∙ is in cc in
@@ -204,7 +216,8 @@ module _ {F : Type 0} (state : F → FlashState) (S : Stored F) (O : OpenTable) 
     law : ArraysStay S.noted.config.protocol
     law = subst ArraysStay (sym rule) arrays
 
-    pub doubt_gone : (i : ℕ) → position (λ o. is_doubted o.entry.mark) O.all ≡ Some i → (O' : OpenTable) → O' ≡ with_opening O i (with_mark (opening_at O i) Plain) →
+    pub doubt_gone : (i : ℕ) → position (λ o. is_doubted o.entry.mark) O.all ≡ Some i → (O' : OpenTable) →
+        O' ≡ with_opening O i (with_mark (opening_at O i) Plain) →
         IsSettledAs (state S.flash) S.noted n' t' O O'
     doubt_gone i is O' next =
         let at = position-Some (λ (o : Opening). is_doubted o.entry.mark) O.all i no_opening is in
@@ -239,3 +252,13 @@ none_doubted state S O h sure i is =
     let at = position-Some (λ (o : Opening). is_doubted o.entry.mark) O.all i no_opening is in
     let calm = calm_at O.all (subst (DoubtsAs (state S.flash).image S.noted (entries_of O) (namings_of O)) sure k.doubt) i at.0 in
     both_ways (is_doubted (opening_at O i).entry.mark) calm at.1
+
+-- where all but the flash stays no version rose, and the state did not settle
+pub rises_unread : {F : Type 0} (old new : Standing F) → new ≡ record old { flash = new.flash } → VersionsRise old new []
+rises_unread old new stays = record {
+  rises = All-nil (λ (w : PageWrite). current_of old.noted w.page < current_of new.noted w.page);
+  stays = λ page low others. ap (λ (s : Standing _). current_of s.noted page) stays;
+}
+
+pub not_settled : {F : Type 0} (there : Bool) (old new : Standing F) → new ≡ record old { flash = new.flash } → SettlesOrNot there old new
+not_settled there old new stays = inl (ap (λ (s : Standing _). s.machine.pages) stays, rises_unread old new stays)

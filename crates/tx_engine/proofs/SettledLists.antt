@@ -65,7 +65,8 @@ settled_at there [] i new within others is = absurd (omega arith)
 settled_at there (o ∷ os) zero new within others is =
     ap₂ (λ f fs. f ∷ fs) (sym is) (settled_calm there (entries_in os) (calm_all os (λ k inside. others (suc k) (omega arith) (λ e. absurd (omega arith)))))
 settled_at there (o ∷ os) (suc i) new within others is =
-    ap₂ (λ f fs. f ∷ fs) (calm_entry there o.entry (others 0 (omega arith) (λ e. absurd (omega arith)))) (settled_at there os i new (omega arith) (beside_rest o os i others) is)
+    ap₂ (λ f fs. f ∷ fs) (calm_entry there o.entry (others 0 (omega arith) (λ e. absurd (omega arith))))
+    (settled_at there os i new (omega arith) (beside_rest o os i others) is)
 
 -- and what it writes is all that is in doubt
 pub doubted_at : (all : List Opening) (i : ℕ) → i < length all → CalmBeside all i → is_doubted (get_or all i no_opening).entry.mark ≡ true →
@@ -76,21 +77,24 @@ doubted_at (o ∷ os) zero within others is =
     ∙ ap (λ ws. o.entry.writes ++ ws) (doubted_calm (entries_in os) (calm_all os (λ k inside. others (suc k) (omega arith) (λ e. absurd (omega arith)))))
     ∙ append-nil o.entry.writes
 doubted_at (o ∷ os) (suc i) within others is =
-    cond-false (is_doubted o.entry.mark) (o.entry.writes ++ doubted (entries_in os)) (doubted (entries_in os)) (others 0 (omega arith) (λ e. absurd (omega arith)))
+    cond-false (is_doubted o.entry.mark) (o.entry.writes ++ doubted (entries_in os)) (doubted (entries_in os))
+    (others 0 (omega arith) (λ e. absurd (omega arith)))
     ∙ doubted_at os i (omega arith) (beside_rest o os i others) is
 
 -- whether the image has another version of the first page of a transaction in doubt
 abbrev pub any_moved : Noted → List Contents → List Opening → Bool
 any_moved n image all = list_any (λ (e, x). is_doubted e.mark && has_moved n image x.names) (zip (entries_in all) (namings_in all))
 
-pub moved_calm : (n : Noted) (image : List Contents) (all : List Opening) → ((k : ℕ) → k < length all → IsCalm (get_or all k no_opening).entry) → any_moved n image all ≡ false
+pub moved_calm : (n : Noted) (image : List Contents) (all : List Opening) → ((k : ℕ) → k < length all → IsCalm (get_or all k no_opening).entry) →
+    any_moved n image all ≡ false
 moved_calm n image [] h = refl
 moved_calm n image (o ∷ os) h =
     or_from (is_doubted o.entry.mark && has_moved n image o.naming.names) (any_moved n image os)
     (and_left (is_doubted o.entry.mark) (has_moved n image o.naming.names) (h 0 (omega arith)))
     (moved_calm n image os (λ k inside. h (suc k) (omega arith)))
 
-pub moved_none : (n : Noted) (image : List Contents) (all : List Opening) → ((k : ℕ) → k < length all → has_moved n image (get_or all k no_opening).naming.names ≡ false) → any_moved n image all ≡ false
+pub moved_none : (n : Noted) (image : List Contents) (all : List Opening) →
+    ((k : ℕ) → k < length all → has_moved n image (get_or all k no_opening).naming.names ≡ false) → any_moved n image all ≡ false
 moved_none n image [] h = refl
 moved_none n image (o ∷ os) h =
     or_from (is_doubted o.entry.mark && has_moved n image o.naming.names) (any_moved n image os)

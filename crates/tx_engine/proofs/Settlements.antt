@@ -170,7 +170,8 @@ module _ (s : FlashState) (n : Noted) (t : BlockTable) (o : OpenTable) (settles 
       }
 
   own_cases : (at : Slot) (rec : Rec) (w : Option ℕ) (c : Contents) → IsKept s n t (unsure.Own at rec) o → w ≡ position (is_writing rec.page) o.all →
-      slot_at s.image at.0 ≡ c → (settlement n t s.image (unsure.Own at rec)).answer ≡ found.Present → IsFoundOwn n s.image o w (settlement n t s.image (unsure.Own at rec)).noted
+      slot_at s.image at.0 ≡ c → (settlement n t s.image (unsure.Own at rec)).answer ≡ found.Present →
+      IsFoundOwn n s.image o w (settlement n t s.image (unsure.Own at rec)).noted
   own_cases at rec w blank k writer is present =
       let same = ap (λ c. (own_settled n t at.0 (λ m. programmed m at.0 rec) c).answer) is in
       let both : found.Missing ≡ found.Present = sym same ∙ present in cc
@@ -179,7 +180,8 @@ module _ (s : FlashState) (n : Noted) (t : BlockTable) (o : OpenTable) (settles 
       let both : found.Missing ≡ found.Present = sym same ∙ present in cc
   own_cases at rec w (complete bytes spare) k writer is present = own_found at rec w bytes spare k writer is
 
-  pub present_found : (u : Unsure) (w : Option ℕ) → IsKept s n t u o → ((at : Slot) (rec : Rec) → u ≡ unsure.Own at rec → w ≡ position (is_writing rec.page) o.all) →
+  pub present_found : (u : Unsure) (w : Option ℕ) → IsKept s n t u o →
+      ((at : Slot) (rec : Rec) → u ≡ unsure.Own at rec → w ≡ position (is_writing rec.page) o.all) →
       (settlement n t s.image u).answer ≡ found.Present → IsFoundOwn n s.image o w (settlement n t s.image u).noted
   present_found unsure.Nothing w k writer present = cc
   present_found (unsure.Own at rec) w k writer present = own_cases at rec w (slot_at s.image at.0) k (writer at rec refl) refl present
@@ -188,7 +190,8 @@ module _ (s : FlashState) (n : Noted) (t : BlockTable) (o : OpenTable) (settles 
   present_found (unsure.VictimErase block) w k writer present = absurd (spare_other _ n t _ refl present)
 
 -- a version that is known once the record is noted, where the image has it
-module _ (s : FlashState) (n : Noted) (t t' : BlockTable) (u : Unsure) (o : OpenTable) (notes : NotedWrites n.config.protocol) (i at : ℕ) (rec : Rec) (k : IsKept s n t u o) (within : i < length o.all)
+module _ (s : FlashState) (n : Noted) (t t' : BlockTable) (u : Unsure) (o : OpenTable) (notes : NotedWrites n.config.protocol) (i at : ℕ) (rec : Rec)
+    (k : IsKept s n t u o) (within : i < length o.all)
     (h : IsNextOf n.config.protocol n at rec s.image (opening_at o i)) (calm : CalmBeside o.all i)
     (doubt : is_doubted (opening_at o i).entry.mark ≡ ((opening_at o i).entry.done + 1 == length (opening_at o i).entry.writes))
     (m' : Matches s (programmed n at rec) t' unsure.Nothing)
@@ -211,23 +214,29 @@ module _ (s : FlashState) (n : Noted) (t t' : BlockTable) (u : Unsure) (o : Open
       (are_moved n s.image its.naming.names own_some (λ j d inside same.
       let up = last_rises n.config.protocol notes n at rec s.image s.image its h last j d inside in
       let is = last_current n.config.protocol notes n at rec s.image s.image its h last j d inside in
-      let both : current_of n (get_or its.naming.names j d).page ≡ (get_or its.naming.names j d).version = sym same ∙ current (get_or its.naming.names j d).page ∙ is in
+      let both : current_of n (get_or its.naming.names j d).page ≡ (get_or its.naming.names j d).version = sym same ∙ current (get_or its.naming.names j d).page
+      ∙ is in
       absurd (omega arith)))
 
   calm_more : its.entry.done + 1 ≢ length its.entry.writes → (j : ℕ) → j < length o.all → IsCalm (get_or o.all j no_opening).entry
   calm_more more j inside = elim (cases_eq j i) [
-    | inl same ↦ subst (λ (x : Opening). IsCalm x.entry) (ap (λ a. get_or o.all a no_opening) (sym same)) (doubt ∙ ne_eqb (its.entry.done + 1) (length its.entry.writes) more)
+    | inl same ↦ subst (λ (x : Opening). IsCalm x.entry) (ap (λ a. get_or o.all a no_opening) (sym same))
+        (doubt ∙ ne_eqb (its.entry.done + 1) (length its.entry.writes) more)
     | inr other ↦ calm j inside other
   ]
 
   next_entry_more : its.entry.done + 1 ≢ length its.entry.writes → (with_next its).entry ≡ its.entry
   next_entry_more more =
-      ap (λ (x : Opening). x.entry) (cond-false (its.naming.noted_count + 1 == length its.entry.writes) (with_mark (with_noted_count its (its.naming.noted_count + 1)) Whole) (with_noted_count its (its.naming.noted_count + 1))
+      ap (λ (x : Opening). x.entry)
+      (cond-false (its.naming.noted_count + 1 == length its.entry.writes) (with_mark (with_noted_count its (its.naming.noted_count + 1)) Whole)
+      (with_noted_count its (its.naming.noted_count + 1))
       (ne_eqb (its.naming.noted_count + 1) (length its.entry.writes) (λ e. more (ap (λ a. a + 1) (sym h.due) ∙ e))))
 
   next_entry_last : its.entry.done + 1 ≡ length its.entry.writes → (with_next its).entry ≡ record its.entry { mark = Whole }
   next_entry_last last =
-      ap (λ (x : Opening). x.entry) (cond-true (its.naming.noted_count + 1 == length its.entry.writes) (with_mark (with_noted_count its (its.naming.noted_count + 1)) Whole) (with_noted_count its (its.naming.noted_count + 1))
+      ap (λ (x : Opening). x.entry)
+      (cond-true (its.naming.noted_count + 1 == length its.entry.writes) (with_mark (with_noted_count its (its.naming.noted_count + 1)) Whole)
+      (with_noted_count its (its.naming.noted_count + 1))
       (eq-eqb (its.naming.noted_count + 1) (length its.entry.writes) (ap (λ a. a + 1) h.due ∙ last)))
 
   doubted_last : its.entry.done + 1 ≡ length its.entry.writes → doubted (entries_in o.all) ≡ its.entry.writes
@@ -243,30 +252,36 @@ module _ (s : FlashState) (n : Noted) (t t' : BlockTable) (u : Unsure) (o : Open
   found_settled = record {
     kept = next_kept n.config.protocol notes s s n t t' u o i at rec k within k.each calm h m';
     machine = elim (cases_eq (its.entry.done + 1) (length its.entry.writes)) [
-      | inl last ↦ settled_there (any_moved n s.image o.all) (array_known n s.image) (array_known now s.image) (entries_in o.all) (entries_in (slice_set o.all i (with_next its)))
+      | inl last ↦ settled_there (any_moved n s.image o.all) (array_known n s.image) (array_known now s.image) (entries_in o.all)
+          (entries_in (slice_set o.all i (with_next its)))
           (is_moved_last last)
           (last_array n.config.protocol notes n at rec s.image s.image its h last ∙ ap (put (array_known n s.image)) (sym (doubted_last last)))
-          (settled_at true o.all i (with_next its) within calm (next_entry_last last ∙ ap (λ m. record its.entry { mark = settled_mark true m }) (sym (mark_doubt last))))
-      | inr more ↦ settled_gone (any_moved n s.image o.all) (array_known n s.image) (array_known now s.image) (entries_in o.all) (entries_in (slice_set o.all i (with_next its)))
+          (settled_at true o.all i (with_next its) within calm
+          (next_entry_last last ∙ ap (λ m. record its.entry { mark = settled_mark true m }) (sym (mark_doubt last))))
+      | inr more ↦ settled_gone (any_moved n s.image o.all) (array_known n s.image) (array_known now s.image) (entries_in o.all)
+          (entries_in (slice_set o.all i (with_next its)))
           (moved_calm n s.image o.all (calm_more more))
           (next_array n.config.protocol notes n at rec s.image s.image its h more)
           (settled_at false o.all i (with_next its) within calm (next_entry_more more ∙ sym (calm_entry false its.entry (calm_more more i within))))
     ];
     rises = elim (cases_eq (its.entry.done + 1) (length its.entry.writes)) [
-      | inl last ↦ subst (All (λ w. current_of n w.page < current_of now w.page)) (sym (writes_there (any_moved n s.image o.all) before its.entry.writes (is_moved_last last) (doubted_last last)))
+      | inl last ↦ subst (All (λ w. current_of n w.page < current_of now w.page))
+          (sym (writes_there (any_moved n s.image o.all) before its.entry.writes (is_moved_last last) (doubted_last last)))
           (writes_rise n.config.protocol notes n at rec s.image s.image its h last)
       | inr more ↦ none_of (λ (w : PageWrite). current_of n w.page < current_of now w.page) (settled_writes (any_moved n s.image o.all) before)
           (writes_gone (any_moved n s.image o.all) before (moved_calm n s.image o.all (calm_more more)))
     ];
     stays = λ page low others. elim (cases_eq (its.entry.done + 1) (length its.entry.writes)) [
       | inl last ↦ writes_stay n.config.protocol notes n at rec s.image s.image its h last page low
-          (subst (All (λ (w : PageWrite). w.page ≢ page)) (writes_there (any_moved n s.image o.all) before its.entry.writes (is_moved_last last) (doubted_last last)) others)
+          (subst (All (λ (w : PageWrite). w.page ≢ page))
+          (writes_there (any_moved n s.image o.all) before its.entry.writes (is_moved_last last) (doubted_last last)) others)
       | inr more ↦ next_stays n.config.protocol notes n at rec s.image s.image its h more page low
     ];
     config = refl;
     versions = next_versions n.config.protocol notes n at rec s.image s.image its h own_stay;
     mentions = next_mentions n.config.protocol notes n at rec s.image s.image its h o.all i within refl;
-    names = names_before o.all (slice_set o.all i (with_next its)) (map-set_same (λ (x : Opening). x.naming.names) o.all i (with_next its) no_opening (next_parts its).names);
+    names = names_before o.all (slice_set o.all i (with_next its))
+        (map-set_same (λ (x : Opening). x.naming.names) o.all i (with_next its) no_opening (next_parts its).names);
   }
 
 -- Nothing that is known of pages changed
@@ -291,7 +306,8 @@ module _ (s : FlashState) (n m : Noted) (t t' : BlockTable) (u : Unsure) (o : Op
       map (λ (x : Opening). x.naming.names) o'.all ≡ map (λ (x : Opening). x.naming.names) o.all → IsSettledAs s n m t' o o'
   left_alone o' k' entries names = record {
     kept = k';
-    machine = settled_gone (any_moved n s.image o.all) (array_known n s.image) (array_known m s.image) (entries_in o.all) (entries_in o'.all) is_gone same_known entries;
+    machine = settled_gone (any_moved n s.image o.all) (array_known n s.image) (array_known m s.image) (entries_in o.all) (entries_in o'.all) is_gone same_known
+        entries;
     rises = none_of (λ (w : PageWrite). current_of n w.page < current_of m w.page) (settled_writes (any_moved n s.image o.all) (machine_in n s.image o.all))
         (writes_gone (any_moved n s.image o.all) (machine_in n s.image o.all) is_gone);
     stays = λ page low others. keep.current page low;
@@ -322,8 +338,10 @@ module _ (s : FlashState) (n m : Noted) (t t' : BlockTable) (u : Unsure) (o : Op
       left_alone (with_opening o i plain)
       (kept_with s s n m t t' u unsure.Nothing o i plain k within parts m' keep.config keep.pins (λ j inside other. each_now j no_opening inside) own
       (calm_all (slice_set o.all i plain) (λ j inside. elim (cases_eq j i) [
-        | inl same ↦ subst (λ (x : Opening). IsCalm x.entry) (sym (get_or-set_same o.all i plain no_opening within) ∙ ap (λ a. get_or (slice_set o.all i plain) a no_opening) (sym same)) refl
-        | inr other ↦ subst (λ (x : Opening). IsCalm x.entry) (sym (get_or-set_other o.all i j plain no_opening other)) (calm j (subst (λ len. j < len) (length-set o.all i plain) inside) other)
+        | inl same ↦ subst (λ (x : Opening). IsCalm x.entry)
+            (sym (get_or-set_same o.all i plain no_opening within) ∙ ap (λ a. get_or (slice_set o.all i plain) a no_opening) (sym same)) refl
+        | inr other ↦ subst (λ (x : Opening). IsCalm x.entry) (sym (get_or-set_other o.all i j plain no_opening other))
+            (calm j (subst (λ len. j < len) (length-set o.all i plain) inside) other)
       ])))
       (settled_at false o.all i plain within calm (ap (λ q. record its.entry { mark = settled_mark false q }) (sym (doubt_is its.entry.mark is))))
       (map-set_same (λ (x : Opening). x.naming.names) o.all i plain no_opening refl)
@@ -342,13 +360,18 @@ module _ (s : FlashState) (n m : Noted) (t t' : BlockTable) (u : Unsure) (o : Op
       (settled_calm false (entries_in o.all) (calm_all o.all calm)) refl
 
 -- which transaction is in doubt
-pub doubted_beside : (image : List Contents) (n : Noted) (o : OpenTable) (u : Unsure) → DoubtsAs image n (entries_of o) (namings_of o) u → (i : ℕ) → i < length o.all →
+pub doubted_beside : (image : List Contents) (n : Noted) (o : OpenTable) (u : Unsure) → DoubtsAs image n (entries_of o) (namings_of o) u → (i : ℕ) →
+    i < length o.all →
     is_doubted (opening_at o i).entry.mark ≡ true → CalmBeside o.all i
 doubted_beside image n o (unsure.Own at rec) own i within is = elim (cases_eq i own.place) [
-  | inl same ↦ λ j inside other. own.others j (opening_at o j).entry (λ e. other (e ∙ sym same)) (slice_get_at (λ (x : Opening). x.entry) o.all j no_opening inside)
-  | inr other ↦ absurd (both_ways (is_doubted (opening_at o i).entry.mark) (own.others i (opening_at o i).entry other (slice_get_at (λ (x : Opening). x.entry) o.all i no_opening within)) is)
+  | inl same ↦ λ j inside other. own.others j (opening_at o j).entry (λ e. other (e ∙ sym same))
+      (slice_get_at (λ (x : Opening). x.entry) o.all j no_opening inside)
+  | inr other ↦ absurd
+      (both_ways (is_doubted (opening_at o i).entry.mark)
+      (own.others i (opening_at o i).entry other (slice_get_at (λ (x : Opening). x.entry) o.all i no_opening within)) is)
 ]
 doubted_beside image n o unsure.Nothing doubt i within is = absurd (both_ways (is_doubted (opening_at o i).entry.mark) (calm_at o.all doubt i within) is)
 doubted_beside image n o (unsure.Copy from to) doubt i within is = absurd (both_ways (is_doubted (opening_at o i).entry.mark) (calm_at o.all doubt i within) is)
 doubted_beside image n o unsure.SpareErase doubt i within is = absurd (both_ways (is_doubted (opening_at o i).entry.mark) (calm_at o.all doubt i within) is)
-doubted_beside image n o (unsure.VictimErase block) doubt i within is = absurd (both_ways (is_doubted (opening_at o i).entry.mark) (calm_at o.all doubt i within) is)
+doubted_beside image n o (unsure.VictimErase block) doubt i within is = absurd
+    (both_ways (is_doubted (opening_at o i).entry.mark) (calm_at o.all doubt i within) is)

@@ -33,7 +33,8 @@ StepsFor there old new tag o result =
 pub step_missing : (there : Bool) (old : ArrayState) (tag : ℕ) → entry_of tag old.entries ≡ None → StepsAs there old old tag (Err failed.Unknown)
 step_missing there old tag is = subst (λ o. StepsFor there old old tag o (Err failed.Unknown)) (sym is) (refl, refl)
 
-pub step_unsettled : (there : Bool) (old new : ArrayState) (tag : ℕ) (e : Entry) → entry_of tag old.entries ≡ Some e → new ≡ old → StepsAs there old new tag (Err failed.Fault)
+pub step_unsettled : (there : Bool) (old new : ArrayState) (tag : ℕ) (e : Entry) → entry_of tag old.entries ≡ Some e → new ≡ old →
+    StepsAs there old new tag (Err failed.Fault)
 step_unsettled there old new tag e is same = subst (λ o. StepsFor there old new tag o (Err failed.Fault)) (sym is) (inl same)
 
 -- what the device gives, once it settled
@@ -42,7 +43,8 @@ given : (old mid new : ArrayState) (tag : ℕ) (f : Entry) (r : Result Progress 
 given old mid new tag f (Ok p) h s ok err = subst (λ s. StepGives old mid tag f s new) (sym (ok p refl)) h
 given old mid new tag f (Err b) h s ok err = subst (λ s. StepGives old mid tag f s new) (sym (err refl)) (inr h)
 
-pub step_settled : (there : Bool) (old mid new : ArrayState) (tag : ℕ) (e f : Entry) (r : Result Progress Broken) (s : Result Progress StepError) → entry_of tag old.entries ≡ Some e →
+pub step_settled : (there : Bool) (old mid new : ArrayState) (tag : ℕ) (e f : Entry) (r : Result Progress Broken) (s : Result Progress StepError) →
+    entry_of tag old.entries ≡ Some e →
     mid ≡ settled there old → f ≡ settled_entry there e → f.tag ≡ tag → Advances mid f.tag f r new →
     ((p : Progress) → r ≡ Ok p → s ≡ Ok p) → (is_err r ≡ true → s ≡ Err failed.Fault) → StepsAs there old new tag s
 step_settled there old mid new tag e f r s found settles is tags h ok err =
@@ -54,13 +56,16 @@ step_settled there old mid new tag e f r s found settles is tags h ok err =
 -- Versions
 pub done_low : (logical : ℕ) (e : Entry) (p : Progress) → All (λ w. w.page < logical) e.writes → All (λ w. w.page < logical) (done_writes (Some e) (Ok p))
 done_low logical e (progress.Wrote done all) h = All-nil (λ (w : PageWrite). w.page < logical)
-done_low logical e progress.Done h = cond_both (is_plain e.mark) e.writes [] (All (λ w. w.page < logical)) (λ is. h) (λ is. All-nil (λ (w : PageWrite). w.page < logical))
+done_low logical e progress.Done h = cond_both (is_plain e.mark) e.writes [] (All (λ w. w.page < logical)) (λ is. h)
+    (λ is. All-nil (λ (w : PageWrite). w.page < logical))
 
 pub broken_pages : (mid new : ArrayState) (tag : ℕ) (f : Entry) (b : Broken) → Advances mid tag f (Err b) new → new.pages ≡ mid.pages
 broken_pages mid new tag f b h = elim h.1 [ inl same ↦ ap (λ (m : ArrayState). m.pages) same | inr doubt ↦ ap (λ (m : ArrayState). m.pages) doubt.1 ]
 
-pub fault_rises : {F : Type 0} (there : Bool) (a b c : Standing F) (tag own : ℕ) (f : Entry) (r : Result Progress Broken) (s : Result Progress StepError) → is_err r ≡ true → s ≡ Err failed.Fault →
-    b.config ≡ a.config → All (λ w. w.page < a.config.logical) (settled_writes there a.machine) → b.machine ≡ settled there a.machine → VersionsRise a b (settled_writes there a.machine) →
+pub fault_rises : {F : Type 0} (there : Bool) (a b c : Standing F) (tag own : ℕ) (f : Entry) (r : Result Progress Broken) (s : Result Progress StepError) →
+    is_err r ≡ true → s ≡ Err failed.Fault →
+    b.config ≡ a.config → All (λ w. w.page < a.config.logical) (settled_writes there a.machine) → b.machine ≡ settled there a.machine →
+    VersionsRise a b (settled_writes there a.machine) →
     Advances b.machine own f r c.machine → AdvanceRises b c f r → StepRises there a c tag s
 fault_rises there a b c tag own f (Ok p) s is fault config low machine first h second = cc
 fault_rises there a b c tag own f (Err x) s is fault config low machine first h second =
@@ -72,12 +77,15 @@ fault_rises there a b c tag own f (Err x) s is fault config low machine first h 
 
 -- The open transaction with a tag
 pub open_found : (tag : ℕ) (all : List Opening) (i : ℕ) → IsFirstTagged tag all i →
-    find (λ (e, x). has_tag tag e) (zip (map (λ o. o.entry) all) (map (λ o. o.naming) all)) ≡ Some ((get_or all i no_opening).entry, (get_or all i no_opening).naming)
+    find (λ (e, x). has_tag tag e) (zip (map (λ o. o.entry) all) (map (λ o. o.naming) all)) ≡ Some
+    ((get_or all i no_opening).entry, (get_or all i no_opening).naming)
 open_found tag [] i h = absurd (let w = h.within in omega arith)
 open_found tag (o ∷ all) zero h =
-    cond-true (has_tag tag o.entry) (Some (o.entry, o.naming)) (find (λ (e, x). has_tag tag e) (zip (map (λ o. o.entry) all) (map (λ o. o.naming) all))) h.tagged
+    cond-true (has_tag tag o.entry) (Some (o.entry, o.naming)) (find (λ (e, x). has_tag tag e) (zip (map (λ o. o.entry) all) (map (λ o. o.naming) all)))
+    h.tagged
 open_found tag (o ∷ all) (suc i) h =
-    cond-false (has_tag tag o.entry) (Some (o.entry, o.naming)) (find (λ (e, x). has_tag tag e) (zip (map (λ o. o.entry) all) (map (λ o. o.naming) all))) (h.before 0 (omega arith))
+    cond-false (has_tag tag o.entry) (Some (o.entry, o.naming)) (find (λ (e, x). has_tag tag e) (zip (map (λ o. o.entry) all) (map (λ o. o.naming) all)))
+    (h.before 0 (omega arith))
     ∙ open_found tag all i (record { within = (let w = h.within in omega arith); tagged = h.tagged; before = λ k less. h.before (suc k) (omega arith) })
 
 -- what holds of it, and of the name that it writes next

@@ -29,7 +29,8 @@ abbrev pub KeepsButPins : {F : Type 0} → Stored F → Stored F → Type 0
 KeepsButPins old new = new ≡ record old { noted = record old.noted { pins = new.noted.pins } }
 
 -- so it has the tables that its settled device has
-pub has_tables : {F : Type 0} (state : F → FlashState) (found : Settlement) (T U : Stored F) (Q : OpenTable) → T.noted ≡ found.noted → T.table ≡ found.table → KeepsButPins T U →
+pub has_tables : {F : Type 0} (state : F → FlashState) (found : Settlement) (T U : Stored F) (Q : OpenTable) → T.noted ≡ found.noted → T.table ≡ found.table →
+    KeepsButPins T U →
     HasTables found (standing_in state U Q)
 has_tables state found T U Q is_noted is_table stays = record {
   noted = ap (λ (s : Stored _). s.noted) stays ∙ ap (λ (n : Noted). record n { pins = U.noted.pins }) is_noted;
@@ -79,10 +80,12 @@ module _ {F : Type 0} (state : F → FlashState) (S T : Stored F) (O P : OpenTab
       costs_from state (with_settlement state (standing_in state S O)) (standing_in state T P) new (name_at x e.done) moment config is_noted is_table
       (subst (StepCosts state (standing_in state T P) new) name_is h)
 
-  pub found_then : (U : Stored F) → (IsThere T.noted (name_at y f.done) → KeepsButPins T U) → IsThere found.noted (name_at x e.done) → moment_of (state U.flash) ≡ moment_of (state S.flash)
+  pub found_then : (U : Stored F) → (IsThere T.noted (name_at y f.done) → KeepsButPins T U) → IsThere found.noted (name_at x e.done) →
+      moment_of (state U.flash) ≡ moment_of (state S.flash)
   found_then U stays here = ap (λ (s : Stored F). moment_of (state s.flash)) (stays (here_then here)) ∙ moment
 
-  pub brings_then : (U : Stored F) (Q : OpenTable) → T.noted.config ≡ S.noted.config → (state T.flash).shape ≡ (state S.flash).shape → (IsThere T.noted (name_at y f.done) → KeepsButPins T U) →
+  pub brings_then : (U : Stored F) (Q : OpenTable) → T.noted.config ≡ S.noted.config → (state T.flash).shape ≡ (state S.flash).shape →
+      (IsThere T.noted (name_at y f.done) → KeepsButPins T U) →
       (state T.flash).reads ≡ reads_after (slots_read S.noted S.unsure) (state S.flash).reads →
       ((IsThere T.noted (name_at y f.done) → ⊥) →
       WritesRecord state (standing_in state T P) (standing_in state U Q) (due_record T.noted.config.page_bytes f y)) →
@@ -95,7 +98,8 @@ module _ {F : Type 0} (state : F → FlashState) (S T : Stored F) (O P : OpenTab
     absent = λ none.
         let w = writes (λ here. none (here_before here)) in
         let due = due_is T.noted.config.page_bytes ∙ ap (λ (k : Config). due_record k.page_bytes e x) config in
-        writes_from state (with_settlement state (standing_in state S O)) (standing_in state T P) (standing_in state U Q) (due_record S.noted.config.page_bytes e x)
+        writes_from state (with_settlement state (standing_in state S O)) (standing_in state T P) (standing_in state U Q)
+        (due_record S.noted.config.page_bytes e x)
         moment shape is_noted is_table (subst (WritesRecord state (standing_in state T P) (standing_in state U Q)) due w);
   }
 
@@ -103,7 +107,8 @@ module _ {F : Type 0} (state : F → FlashState) (S T : Stored F) (O P : OpenTab
       WritingBreaks state (standing_in state T P) (standing_in state U Q) (name_at y f.done) →
       WritingBreaks state (with_settlement state (standing_in state S O)) (standing_in state U Q) (name_at x e.done)
   breaks_then U Q shape w =
-      breaks_from state (with_settlement state (standing_in state S O)) (standing_in state T P) (standing_in state U Q) (name_at x e.done) moment shape is_noted is_table
+      breaks_from state (with_settlement state (standing_in state S O)) (standing_in state T P) (standing_in state U Q) (name_at x e.done) moment shape is_noted
+      is_table
       (subst (WritingBreaks state (standing_in state T P) (standing_in state U Q)) name_is w)
 
   pub notes_then : (n' : Noted) → AddsOnly (name_at y f.done) T.noted n' → AddsOnly (name_at x e.done) found.noted n'

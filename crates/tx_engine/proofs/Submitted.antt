@@ -59,7 +59,8 @@ repinned n pins = record n { pins = pins }
 under_way_aside : (image : List Contents) (n : Noted) (pins : List ℕ) (e : Entry) (x : Naming) → IsUnderWay image n e x → IsUnderWay image (repinned n pins) e x
 under_way_aside image n pins e x u = record { in_progress = u.in_progress; least = u.least; most = u.most; short = u.short; noted = u.noted; texts = u.texts }
 
-marked_aside : (image : List Contents) (n : Noted) (pins : List ℕ) (e : Entry) (x : Naming) (m : Mark) → IsAsMarked image n e x m → IsAsMarked image (repinned n pins) e x m
+marked_aside : (image : List Contents) (n : Noted) (pins : List ℕ) (e : Entry) (x : Naming) (m : Mark) → IsAsMarked image n e x m →
+    IsAsMarked image (repinned n pins) e x m
 unfolding current_of
 marked_aside image n pins e x Plain u = under_way_aside image n pins e x u
 marked_aside image n pins e x Doubt u = (under_way_aside image n pins e x u.0, u.1)
@@ -76,7 +77,8 @@ unfolding array_known current_of
 array_aside n pins image = refl
 
 -- what is in doubt stays so beside one that was just opened
-pub doubt_push : (image : List Contents) (n : Noted) (pins : List ℕ) (entries : List Entry) (namings : List Naming) (e : Entry) (x : Naming) → is_doubted e.mark ≡ false → (u : Unsure) →
+pub doubt_push : (image : List Contents) (n : Noted) (pins : List ℕ) (entries : List Entry) (namings : List Naming) (e : Entry) (x : Naming) →
+    is_doubted e.mark ≡ false → (u : Unsure) →
     DoubtsAs image n entries namings u → DoubtsAs image (repinned n pins) (entries ++ e ∷ []) (namings ++ x ∷ []) u
 doubt_push image n pins entries namings e x plain (unsure.Own at rec) own = record {
   place = own.place;
@@ -106,7 +108,8 @@ same_pages_of : (n : Noted) (ws : List PageWrite) → map (λ (a : Link). a.page
 same_pages_of n [] = refl
 same_pages_of n (w ∷ ws) = ap (λ ps. w.page ∷ ps) (same_pages_of n ws)
 
-distinct_names : (n : Noted) (ws : List PageWrite) → AllPairs (λ (v : PageWrite) (w : PageWrite). v.page ≢ w.page) ws → AllPairs (λ (a : Link) (b : Link). a.page ≢ b.page) (map (next_name n) ws)
+distinct_names : (n : Noted) (ws : List PageWrite) → AllPairs (λ (v : PageWrite) (w : PageWrite). v.page ≢ w.page) ws →
+    AllPairs (λ (a : Link) (b : Link). a.page ≢ b.page) (map (next_name n) ws)
 distinct_names n [] all = λ i j d less below. absurd (omega arith)
 distinct_names n (w ∷ ws) all =
     pairs_cons (λ (a : Link) (b : Link). a.page ≢ b.page) (next_name n w) (map (next_name n) ws)
@@ -115,14 +118,17 @@ distinct_names n (w ∷ ws) all =
     (distinct_names n ws (pairs_tail (λ (v : PageWrite) (u : PageWrite). v.page ≢ u.page) w ws all))
 
 -- a name of an open transaction has the page of one of its writes
-write_of_name : (names : List Link) (ws : List PageWrite) → map (λ (a : Link). a.page) names ≡ map (λ (w : PageWrite). w.page) ws → (a : Link) → Contains names a →
+write_of_name : (names : List Link) (ws : List PageWrite) → map (λ (a : Link). a.page) names ≡ map (λ (w : PageWrite). w.page) ws → (a : Link) →
+    Contains names a →
     (w : PageWrite) × Contains ws w × (w.page ≡ a.page)
 write_of_name names ws pages a i =
     in_map (λ (w : PageWrite). w.page) ws a.page (subst (λ ps. Contains ps a.page) pages (map_in (λ (b : Link). b.page) names a i))
 
-module _ {F : Type 0} (state : F → FlashState) (p : Protocol) (s : Stored F) (t : OpenTable) (stands : Stands state (standing_in state s t)) (rule : s.noted.config.protocol ≡ p)
+module _ {F : Type 0} (state : F → FlashState) (p : Protocol) (s : Stored F) (t : OpenTable) (stands : Stands state (standing_in state s t))
+    (rule : s.noted.config.protocol ≡ p)
     (tag : ℕ) (ws : List PageWrite) (ok : IsAccepted (limits_of s.noted.config) (entries_of t) tag ws)
-    (unspent : All (λ w. mention_of s.noted w.page < 2 ^ 62) ws) (whole : All (λ w. length (bytes_in s.noted.config.page_bytes w) ≡ s.noted.config.page_bytes) ws) where
+    (unspent : All (λ w. mention_of s.noted w.page < 2 ^ 62) ws)
+    (whole : All (λ w. length (bytes_in s.noted.config.page_bytes w) ≡ s.noted.config.page_bytes) ws) where
   abbrev pub n : Noted
   n = s.noted
 
@@ -183,7 +189,8 @@ module _ {F : Type 0} (state : F → FlashState) (p : Protocol) (s : Stored F) (
   }
 
   -- a name of an open transaction and a new one are of two pages
-  apart_open : (e : Entry) (x : Naming) → Contains (entries_of t) e → IsNamed n.config.page_bytes n.config.logical e x → (a b : Link) → Contains x.names a → Contains names b → a.page ≢ b.page
+  apart_open : (e : Entry) (x : Naming) → Contains (entries_of t) e → IsNamed n.config.page_bytes n.config.logical e x → (a b : Link) → Contains x.names a →
+      Contains names b → a.page ≢ b.page
   apart_open e x i named a b j k =
       let v = write_of_name x.names e.writes named.pages a j in
       let w = in_map (next_name n) ws b k in
@@ -260,10 +267,12 @@ module _ {F : Type 0} (state : F → FlashState) (p : Protocol) (s : Stored F) (
     }
 
 -- the writes of the last transaction of a table are whole
-whole_last : (t t' : OpenTable) (o : Opening) → t' ≡ record t { all = t.all ++ o ∷ [] } → IsOpenTable t' → All (λ w. length (bytes_in t.page_bytes w) ≡ t.page_bytes) o.entry.writes
+whole_last : (t t' : OpenTable) (o : Opening) → t' ≡ record t { all = t.all ++ o ∷ [] } → IsOpenTable t' →
+    All (λ w. length (bytes_in t.page_bytes w) ≡ t.page_bytes) o.entry.writes
 whole_last t t' o same kept =
     let is : IsOpenTable (record t { all = t.all ++ o ∷ [] }) = subst IsOpenTable same kept in
-    All-contains (λ (x : Opening). All (λ w. length (bytes_in t.page_bytes w) ≡ t.page_bytes) x.entry.writes) (t.all ++ o ∷ []) o is.whole (Contains-push t.all o)
+    All-contains (λ (x : Opening). All (λ w. length (bytes_in t.page_bytes w) ≡ t.page_bytes) x.entry.writes) (t.all ++ o ∷ []) o is.whole
+    (Contains-push t.all o)
 
 -- The device after a batch that is not refused was opened, with the calls that do it.
 module _ {F R : Type 0} (state : F → FlashState) (p : Protocol) (d : Inside F R) (h : IsStanding state p d) (tag : ℕ) (ws : List PageWrite)
@@ -281,7 +290,8 @@ module _ {F R : Type 0} (state : F → FlashState) (p : Protocol) (d : Inside F 
   pub standing_then : IsStanding {F = F} {R = R} state p (record { store = store; openings = openings })
   standing_then =
       let whole : All (λ w. length (bytes_in d.store.noted.config.page_bytes w) ≡ d.store.noted.config.page_bytes) ws =
-      subst (λ size. All (λ (w : PageWrite). length (bytes_in size w) ≡ size) ws) h.page_bytes (whole_last d.openings openings (begun d.store.noted tag ws) opens kept) in
+      subst (λ size. All (λ (w : PageWrite). length (bytes_in size w) ≡ size) ws) h.page_bytes
+      (whole_last d.openings openings (begun d.store.noted tag ws) opens kept) in
       let is : IsStanding {F = F} {R = R} state p (record { store = new_store; openings = new_table }) = record {
         stands = stands_then state p d.store d.openings h.stands h.rule tag ws ok unspent whole (subst (IsStored state p) pins stored);
         rule = h.rule;

@@ -37,14 +37,16 @@ rises_after a b c ws config low same second = record {
   stays = λ page within others. second.stays page (subst (λ (k : Config). page < k.logical) (sym config) within) others ∙ same page within;
 }
 
-pub written_after : {F : Type 0} (state : F → FlashState) (a b c : Standing F) (e : Entry) → IsLeft state a b false → All (λ w. w.page < a.config.logical) (next_writes e) →
+pub written_after : {F : Type 0} (state : F → FlashState) (a b c : Standing F) (e : Entry) → IsLeft state a b false →
+    All (λ w. w.page < a.config.logical) (next_writes e) →
     WritesNext b c e → WritesNext a c e
 written_after state a b c e left low w = record {
   pages = w.pages ∙ ap (λ m. put m.pages (next_writes e)) left.machine;
   rises = rises_after a b c (next_writes e) left.exits.tables.config low left.versions w.rises;
 }
 
-pub fails_after : {F : Type 0} (state : F → FlashState) (a b c : Standing F) (o o' : OpenTable) (i : ℕ) → IsLeft state a b false → WriteFails b c o o' i → WriteFails a c o o' i
+pub fails_after : {F : Type 0} (state : F → FlashState) (a b c : Standing F) (o o' : OpenTable) (i : ℕ) → IsLeft state a b false → WriteFails b c o o' i →
+    WriteFails a c o o' i
 fails_after state a b c o o' i left w = record {
   pages = w.pages ∙ ap (λ m. m.pages) left.machine;
   rises = rises_after a b c [] left.exits.tables.config (All-nil (λ (w : PageWrite). w.page < a.config.logical)) left.versions w.rises;
@@ -53,10 +55,15 @@ fails_after state a b c o o' i left w = record {
 }
 
 -- room was not made
-pub fails_room : {F : Type 0} (state : F → FlashState) (a b : Standing F) (o : OpenTable) (i : ℕ) (broken : Bool) → IsLeft state a b broken → WriteFails a b o o i
+pub fails_room : {F : Type 0} (state : F → FlashState) (a b : Standing F) (o : OpenTable) (i : ℕ) (broken : Bool) → IsLeft state a b broken →
+    WriteFails a b o o i
 fails_room state a b o i broken left = record {
   pages = ap (λ m. m.pages) left.machine;
-  rises = record { rises = All-nil (λ (w : PageWrite). current_of a.noted w.page < current_of b.noted w.page); stays = λ page within others. left.versions page within };
+  rises = record {
+    rises = All-nil (λ (w : PageWrite). current_of a.noted w.page < current_of b.noted w.page);
+    stays = λ page within others. left.versions page
+        within;
+  };
   kept = left.kept;
   opens = inl refl;
 }

@@ -47,7 +47,8 @@ pub due_text : (size : ℕ) (e : Entry) (rec : Rec) → rec.discard ≡ is_none 
 due_text size e rec flag = ap (λ d. record { discard = d; bytes = bytes_in size (write_at e e.done) }) flag
 
 -- the record of the next page of a transaction, for the first free slot of a block
-pub record IsAsked {F : Type 0} (state : F → FlashState) (p : Protocol) (S : Stored F) (O : OpenTable) (i : ℕ) (at : Slot) (rec : Rec) (bytes : List ℕ) : Type 0 where
+pub record IsAsked {F : Type 0} (state : F → FlashState) (p : Protocol) (S : Stored F) (O : OpenTable) (i : ℕ) (at : Slot) (rec : Rec)
+    (bytes : List ℕ) : Type 0 where
   pub ready : IsReady state p S O
   pub due : IsDueAt O i
   pub next : IsNextRecord S.noted rec
@@ -57,7 +58,8 @@ pub record IsAsked {F : Type 0} (state : F → FlashState) (p : Protocol) (S : S
   pub text : text_with rec bytes ≡ text_in S.noted.config.page_bytes (write_at (opening_at O i).entry (opening_at O i).entry.done)
 
 module _ {F : Type 0} (state : F → FlashState) (p : Protocol) (S S' : Stored F) (O : OpenTable) (i : ℕ) (at : Slot) (rec : Rec) (bytes : List ℕ)
-    (asked : IsAsked state p S O i at rec bytes) (images : ImagesStand p) (law : NotedWrites p) (matches : Matches (state S'.flash) S'.noted S'.table S'.unsure) where
+    (asked : IsAsked state p S O i at rec bytes) (images : ImagesStand p) (law : NotedWrites p)
+    (matches : Matches (state S'.flash) S'.noted S'.table S'.unsure) where
   abbrev within : i < length O.all
   within = asked.due.exists
 
@@ -123,7 +125,8 @@ module _ {F : Type 0} (state : F → FlashState) (p : Protocol) (S S' : Stored F
     then_kept : IsKept new (programmed n at.0 rec) S'.table unsure.Nothing (with_opening O i (with_next o))
     then_kept =
         next_kept n.config.protocol notes old new n S.table S'.table unsure.Nothing O i at.0 rec kept within
-        (All-from_get_or (IsOpening new.image n) O.all no_opening (λ j inside. image_opening n old.image new.image stay (opening_at O j) (kept.each j no_opening inside)))
+        (All-from_get_or (IsOpening new.image n) O.all no_opening
+        (λ j inside. image_opening n old.image new.image stay (opening_at O j) (kept.each j no_opening inside)))
         calm is_next matched
 
     abbrev stored_then : Stored F
@@ -141,7 +144,8 @@ module _ {F : Type 0} (state : F → FlashState) (p : Protocol) (S S' : Stored F
       | inr more ↦
           next_array n.config.protocol notes n at.0 rec old.image new.image o is_next more
           ∙ image_array n old.image new.image stay kept.matches.noted
-          ∙ ap (put (array_known n old.image)) (sym (cond-false (is_at_last o.entry) o.entry.writes [] (ne_eqb (o.entry.done + 1) (length o.entry.writes) more)))
+          ∙ ap (put (array_known n old.image)) (sym
+          (cond-false (is_at_last o.entry) o.entry.writes [] (ne_eqb (o.entry.done + 1) (length o.entry.writes) more)))
     ]
 
     rises_then : VersionsRise (standing_in state S O) (standing_in state stored_then (with_opening O i (with_next o))) (next_writes o.entry)
@@ -168,7 +172,8 @@ module _ {F : Type 0} (state : F → FlashState) (p : Protocol) (S S' : Stored F
       written_stands = subst (Stands state) (sym standing_is) (to_stands state stored_then (with_opening O i (with_next o)) then_kept)
 
       pub written_next : WritesNext (standing_in state S O) (standing_in state S' O') o.entry
-      written_next = subst (λ (t : Standing F). WritesNext (standing_in state S O) t o.entry) (sym standing_is) (record { pages = pages_then; rises = rises_then })
+      written_next = subst (λ (t : Standing F). WritesNext (standing_in state S O) t o.entry) (sym standing_is)
+          (record { pages = pages_then; rises = rises_then })
 
       pub written_exits : FlashMoves old new false → Carries old new false → Exits state (standing_in state S O) (standing_in state S' O') false
       written_exits moves carries = subst (λ (t : Standing F). Exits state (standing_in state S O) t false) (sym standing_is) (record {
@@ -176,7 +181,8 @@ module _ {F : Type 0} (state : F → FlashState) (p : Protocol) (S S' : Stored F
           config = refl;
           versions = next_versions n.config.protocol notes n at.0 rec old.image new.image o is_next stay;
           mentions = next_mentions n.config.protocol notes n at.0 rec old.image new.image o is_next O.all i within refl;
-          names = names_before O.all (slice_set O.all i (with_next o)) (map-set_same (λ (x : Opening). x.naming.names) O.all i (with_next o) no_opening (next_parts o).names);
+          names = names_before O.all (slice_set O.all i (with_next o))
+              (map-set_same (λ (x : Opening). x.naming.names) O.all i (with_next o) no_opening (next_parts o).names);
         };
         moves = moves;
         carries = carries;
@@ -241,7 +247,17 @@ module _ {F : Type 0} (state : F → FlashState) (p : Protocol) (S S' : Stored F
         let under = image_under n old.image new.image still o.entry o.naming (due_under old n S.table O i kept within plain due) in
         let here : IsOpening new.image n doubted = record {
           named = record { pages = named.pages; within = named.within; whole = named.whole; transaction = named.transaction };
-          marked = (record { in_progress = under.in_progress; least = under.least; most = under.most; short = under.short; noted = under.noted; texts = under.texts }, last);
+          marked = (
+            record {
+              in_progress = under.in_progress;
+              least = under.least;
+              most = under.most;
+              short = under.short;
+              noted = under.noted;
+              texts = under.texts;
+            },
+            last,
+          );
         } in
         let own_within : i < length (slice_set O.all i doubted) = subst (λ len. i < len) (sym (length-set O.all i doubted)) within in
         let there = get_or-set_same O.all i doubted no_opening within in

@@ -27,17 +27,20 @@ use Rattle.tx_engine.proofs.Arrays.{at_page}
 use Rattle.tx_engine.proofs.OtherFlash.{known_at}
 
 -- a text is of a page that is not blank where it does not discard it
-has_value : (list : List Written) (name : Link) → is_some (value_at list name) ≡ (is_present (records_of list) name && not (record_named (records_of list) name).discard)
+has_value : (list : List Written) (name : Link) →
+    is_some (value_at list name) ≡ (is_present (records_of list) name && not (record_named (records_of list) name).discard)
 has_value [] name = refl
 has_value (w ∷ ws) name = elim (cases_Bool (has_name name w.rec)) [
   | inl here ↦
       ap (λ o. is_some (option_and_then value_of (option_map text_of o))) (cond-true (has_name name w.rec) (Some w) (find (λ v. has_name name v.rec) ws) here)
       ∙ some_value w.rec.discard w.bytes
-      ∙ sym (ap₂ (λ (b : Bool) (r : Rec). b && not r.discard) (or_left (has_name name w.rec) (is_present (records_of ws) name) here) (cond-true (has_name name w.rec) w.rec (record_named (records_of ws) name) here))
+      ∙ sym (ap₂ (λ (b : Bool) (r : Rec). b && not r.discard) (or_left (has_name name w.rec) (is_present (records_of ws) name) here)
+      (cond-true (has_name name w.rec) w.rec (record_named (records_of ws) name) here))
   | inr other ↦
       ap (λ o. is_some (option_and_then value_of (option_map text_of o))) (cond-false (has_name name w.rec) (Some w) (find (λ v. has_name name v.rec) ws) other)
       ∙ has_value ws name
-      ∙ sym (ap₂ (λ (b : Bool) (r : Rec). b && not r.discard) (ap (λ b. b || is_present (records_of ws) name) other) (cond-false (has_name name w.rec) w.rec (record_named (records_of ws) name) other))
+      ∙ sym (ap₂ (λ (b : Bool) (r : Rec). b && not r.discard) (ap (λ b. b || is_present (records_of ws) name) other)
+      (cond-false (has_name name w.rec) w.rec (record_named (records_of ws) name) other))
 ]
   where
     some_value : (discard : Bool) (bytes : List ℕ) → is_some (value_of (record { discard = discard; bytes = bytes })) ≡ not discard
@@ -70,7 +73,8 @@ module _ (p : Protocol) (s : FlashState) (n : Noted) (t : BlockTable) (u : Unsur
       ∙ image_page p n.config.logical known page within
       ∙ ap (λ v. value_at (written_in p known) (record { page = page; version = v })) (current_known page)
 
-  has_page : (page : ℕ) → page < n.config.logical → is_some (page_known n s.image page) ≡ (is_present (found_in n.notes) (current_name_of n page) && not (discarded_of n page))
+  has_page : (page : ℕ) → page < n.config.logical →
+      is_some (page_known n s.image page) ≡ (is_present (found_in n.notes) (current_name_of n page) && not (discarded_of n page))
   unfolding discarded_of
   has_page page within =
       ap is_some (page_is page within) ∙ has_value (written_in p known) (current_name_of n page)
@@ -121,6 +125,7 @@ module _ (p : Protocol) (s : FlashState) (n : Noted) (t : BlockTable) (u : Unsur
       count_page page within ∙ ap (λ b. count_by is_some (map (page_known n s.image) (range_with_len 0 page)) + cond b 1 0) none
 
 -- and ends with all pages
-pub count_all : (n : Noted) (image : List Contents) → count_by is_some (array_known n image) ≡ count_by is_some (map (page_known n image) (range_with_len 0 n.config.logical))
+pub count_all : (n : Noted) (image : List Contents) →
+    count_by is_some (array_known n image) ≡ count_by is_some (map (page_known n image) (range_with_len 0 n.config.logical))
 unfolding array_known
 count_all n image = refl

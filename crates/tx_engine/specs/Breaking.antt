@@ -56,16 +56,23 @@ StepBreaks state old new tag =
     StaysUnread state old new
     ⊎ IfSome (next_of old tag) (WritingBreaks state (with_settlement state old) new)
 
--- The place was read, each of its slots once. Then, by the tables that are known so, the erase of the spare was broken, or the
--- collection of the block with the most garbage broke off.
-pub record RoundBreaks {F : Type 0} (state : F → FlashState) (old new : Standing F) : Type 0 where
+-- The place was read, each of its slots once. Then this broke off, which speaks of the flash as the reads left it.
+pub record BreaksThen {F : Type 0} (state : F → FlashState) (old : Standing F)
+    (Broke : FlashState → Type 0) : Type 0 where
   pub between : FlashState
   pub shape : between.shape ≡ (state old.flash).shape
   pub moment : moment_of between ≡ moment_of (state old.flash)
   pub reads : between.reads
       ≡ reads_after (slots_read old.noted old.unsure) (state old.flash).reads
-  pub breaks : RoomBreaksOff (settlement_of state old).noted (settlement_of state old).table
-      between (state new.flash) new.noted new.unsure
+  pub breaks : Broke between
+
+-- By the tables that are known once the place was read the erase of the spare was broken, or the collection of the block with the
+-- most garbage broke off.
+abbrev pub RoundBreaks : {F : Type 0} → (F → FlashState) → Standing F → Standing F → Type 0
+RoundBreaks state old new =
+    BreaksThen state old
+    (λ between. RoomBreaksOff (settlement_of state old).noted (settlement_of state old).table
+    between (state new.flash) new.noted new.unsure)
 
 -- a collection that fails: the place could not be read, or what came then broke off
 abbrev pub CollectBreaks : {F : Type 0} → (F → FlashState) → Standing F → Standing F → Type 0

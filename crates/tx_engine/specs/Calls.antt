@@ -1,5 +1,5 @@
 -- What the calls of a device among themselves ask for and do: each has one clause.
-use Rattle.std.specs.Prelude.{◌≡◌, ◌≢◌, ◌↔◌, ℕ, false, None, is_none, List, length, map, remove, All, Contains, Result, Ok, IfOk, OnOk, OnErr}
+use Rattle.std.specs.Prelude.{◌≡◌, ◌≢◌, ◌↔◌, ◌<◌, ℕ, false, None, is_none, List, length, map, remove, All, Contains, Result, Ok, IfOk, OnOk, OnErr}
 use Rattle.std.specs.Result.{is_err}
 use Rattle.tx_types.specs.declared.config.Protocol.{Protocol}
 use Rattle.tx_types.specs.declared.record.Link.{Link}
@@ -19,6 +19,7 @@ use Rattle.collector.specs.Calls.{Clears, FindsSlot}
 use Rattle.collector.specs.Looking.{ReadsAtMost, reads_after}
 use Rattle.collector.specs.Preserves.{IsThere, Preserves}
 use Rattle.collector.specs.Settling.{settlement, slots_read}
+use Rattle.collector.specs.Store.{IsSure, Store}
 use Rattle.array_machine.specs.declared.answers.Collected.{Collected}
 use Rattle.array_machine.specs.declared.answers.Collected.TheVariants as collected
 use Rattle.array_machine.specs.declared.answers.Progress.{Progress}
@@ -26,10 +27,10 @@ use Rattle.tx_engine.specs.Breaking.{WritingBreaks}
 use Rattle.tx_engine.specs.Collections.{CollectsTables, HasNothingToCollect}
 use Rattle.tx_engine.specs.Costs.{StepCosts}
 use Rattle.tx_engine.specs.Exits.{Exits, is_there}
-use Rattle.tx_engine.specs.OpenTable.{OpenTable, HasLimitsOf, entries_of, name_due, opening_at, with_opening}
-use Rattle.tx_engine.specs.Settling.{AddsOnly, Advances, AdvanceRises, Counts, IsLeft, IsSettled, WriteFails, WritesNext, link_place, with_next}
+use Rattle.tx_engine.specs.OpenTable.{OpenTable, HasLimitsOf, HasPlace, IsDueAt, bytes_due, entries_of, name_due, opening_at, with_opening}
+use Rattle.tx_engine.specs.Settling.{AddsOnly, Advances, AdvanceRises, Counts, CountsOn, IsLeft, IsSettled, WriteFails, WritesNext, link_place, with_next}
 use Rattle.tx_engine.specs.Standing.{Stands, name_at, write_at}
-use Rattle.tx_engine.specs.Stored.{Stored, store_in}
+use Rattle.tx_engine.specs.Stored.{Stored, CanWrite, store_in}
 use Rattle.tx_engine.specs.Tables.{standing_in}
 use Rattle.tx_engine.specs.Writing.{TakesSlot, WritesRecord, due_record}
 
@@ -39,6 +40,59 @@ pub record IsReady {F : Type 0} (state : F → FlashState) (p : Protocol) (S : S
   pub stands : Stands state (standing_in state S O)
   pub rule : S.noted.config.protocol ≡ p
   pub sure : S.unsure ≡ unsure.Nothing
+
+-- An open transaction of it may go on: its pages are as long as those of the flash.
+pub record CanAdvance {F : Type 0} (state : F → FlashState) (p : Protocol) (S : Stored F)
+    (O : OpenTable) (i : ℕ) : Type 0 where
+  pub ready : IsReady state p S O
+  pub at : i < length O.all
+  pub size : O.page_bytes ≡ S.noted.config.page_bytes
+
+-- An open transaction of it may be closed.
+pub record CanClose {F : Type 0} (state : F → FlashState) (p : Protocol) (S : Stored F)
+    (O : OpenTable) (i : ℕ) : Type 0 where
+  pub ready : IsReady state p S O
+  pub at : i < length O.all
+
+-- An open transaction of it goes on without the flash.
+pub record CanCount {F : Type 0} (state : F → FlashState) (p : Protocol) (S : Stored F)
+    (O : OpenTable) (i : ℕ) : Type 0 where
+  pub ready : IsReady state p S O
+  pub at : i < length O.all
+  pub counts : CountsOn (opening_at O i)
+
+-- The next page of an open transaction of it is to be written.
+pub record IsReadyFor {F : Type 0} (state : F → FlashState) (p : Protocol) (S : Stored F)
+    (O : OpenTable) (i : ℕ) : Type 0 where
+  pub ready : IsReady state p S O
+  pub due : IsDueAt O i
+
+-- and it is as long as those of the flash
+pub record CanWriteNext {F : Type 0} (state : F → FlashState) (p : Protocol) (S : Stored F)
+    (O : OpenTable) (i : ℕ) : Type 0 where
+  pub ready : IsReady state p S O
+  pub due : IsDueAt O i
+  pub size : O.page_bytes ≡ S.noted.config.page_bytes
+
+-- and no record must go before
+pub record IsClearFor {F : Type 0} (state : F → FlashState) (p : Protocol) (S : Stored F)
+    (O : OpenTable) (i : ℕ) : Type 0 where
+  pub ready : IsReady state p S O
+  pub due : IsDueAt O i
+  pub clear : block_to_go S.noted (name_due O i).page (name_due O i).version ≡ None
+
+-- The next record of an open transaction may be programmed with its page.
+pub record CanProgram (p : Protocol) (a : Store) (O : OpenTable) (i : ℕ) (slot : Slot)
+    (rec : Rec) : Type 0 where
+  pub next : HasPlace O i (opening_at O i).entry.done
+  pub sure : IsSure p a
+  pub can : CanWrite a slot rec (bytes_due O i)
+
+-- The pages of an open transaction, each of which has a name, may be pinned no more.
+pub record CanUnpin (n : Noted) (O : OpenTable) (i : ℕ) : Type 0 where
+  pub at : i < length O.all
+  pub range : All (λ name. name.page < n.config.logical) (opening_at O i).naming.names
+  pub named : length (opening_at O i).naming.names ≡ length (opening_at O i).entry.writes
 
 -- It became known what a broken operation left, and what that makes of the open transactions. After a failed read all is as
 -- before but the count of reads.

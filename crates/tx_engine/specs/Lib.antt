@@ -8,6 +8,7 @@ pub mod Breaking
 pub mod Calls
 pub mod Collections
 pub mod Costs
+pub mod DeviceCalls
 pub mod Exits
 pub mod Naming
 pub mod OpenTable
@@ -19,6 +20,7 @@ pub mod Retire
 pub mod Settling
 pub mod Standing
 pub mod Stored
+pub mod StoreCalls
 pub mod StoreTables
 pub mod Tables
 pub mod Writing

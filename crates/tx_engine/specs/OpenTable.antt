@@ -1,6 +1,7 @@
 -- What is kept of the open transactions, in the order of their opening.
-use Rattle.std.specs.Prelude.{◌≡◌, ℕ, ◌+◌, ◌<◌, ◌≤◌, List, [], length, map, slice_index_or, slice_set, All}
-use Rattle.tx_types.specs.Batch.{PageWrite, bytes_in}
+use Rattle.std.specs.Prelude.{◌≡◌, ◌≢◌, ℕ, ◌+◌, ◌<◌, ◌≤◌, List, [], length, map, slice_index_or, slice_set, All}
+use Rattle.tx_types.specs.Batch.{PageWrite, Writes, bytes_in}
+use Rattle.tx_types.specs.Limits.{max_version}
 use Rattle.tx_types.specs.declared.record.Link.{Link}
 use Rattle.version_index.specs.Noted.{Noted, mention_of}
 use Rattle.tx_engine.specs.ArrayState.{Entry, opening, pending_pages}
@@ -58,6 +59,18 @@ begun n tag writes = record {
   entry = opening tag writes;
   naming = record { names = map (next_name n) writes; noted_count = 0 };
 }
+
+-- A batch may be opened: its pages are as long as those of the table, it has some, and so many may be pending yet. Each
+-- page exists, no open transaction has it, and it has a version left.
+pub record CanOpen (t : OpenTable) (n : Noted) (batch : Writes) : Type 0 where
+  pub pages : batch.page_bytes ≡ t.page_bytes
+  pub some : 0 < length batch.entries
+  pub free : pending_pages (entries_of t) + length batch.entries ≤ t.pending
+  pub each : All (λ o. 0 < length o.entry.writes) t.all
+  pub range : All (λ w. w.page < n.config.logical) batch.entries
+  pub logical : t.logical ≡ n.config.logical
+  pub apart : All (λ w. All (λ e. All (λ v. v.page ≢ w.page) e.writes) (entries_of t)) batch.entries
+  pub unspent : All (λ w. mention_of n w.page < max_version) batch.entries
 
 -- the table with another open transaction at an index
 abbrev pub with_opening : OpenTable → ℕ → Opening → OpenTable

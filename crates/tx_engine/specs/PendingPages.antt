@@ -1,9 +1,11 @@
 -- The pages of an open transaction, and the room for those that may be pending beside them.
-use Rattle.std.specs.Prelude.{◌≡◌, ℕ, ◌+◌, ◌≤◌, List, ◌++◌, [], ◌∷◌, length, map, slice_set, slice_index_or, option_map, Option, None, vec_capacity, All, Vec}
+use Rattle.std.specs.Prelude.{◌≡◌, ℕ, ◌+◌, ◌<◌, ◌≤◌, List, ◌++◌, [], ◌∷◌, length, map, slice_set, slice_index_or, option_map, Option, None, vec_capacity, All, Vec}
 use Rattle.std.specs.declared.alloc.Global.{Global}
 use Rattle.tx_types.specs.Batch.{PageWrite, Writes, bytes_in}
 use Rattle.tx_types.specs.Entries.{value_if}
-use Rattle.version_index.specs.Noted.{Noted}
+use Rattle.tx_types.specs.Limits.{max_version}
+use Rattle.tx_types.specs.declared.config.Config.{Config}
+use Rattle.version_index.specs.Noted.{Noted, mention_of}
 use Rattle.tx_engine.specs.OpenTable.{Opening, next_name}
 use Rattle.tx_engine.specs.Submit.{first_refusal}
 use Rattle.array_machine.specs.declared.answers.SubmitError.{SubmitError}
@@ -43,6 +45,28 @@ pub record IsWhole (page_bytes : ℕ) (p : PendingPage) : Type 0 where
 -- room for so many bytes
 abbrev pub HasRoom : ℕ → Vec ℕ Global → Type 0
 HasRoom size r = length r.items ≡ size
+
+-- room for each page that may be pending
+pub record HasRooms (config : Config) (rooms : Vec (Vec ℕ Global) Global) : Type 0 where
+  pub count : length rooms.items ≡ config.pending
+  pub capacity : config.pending ≤ vec_capacity rooms
+  pub sizes : All (λ r. length r.items ≡ config.page_bytes) rooms.items
+
+-- for each transaction that may be open, an empty list with room for all pages that may be pending
+pub record HasLists (config : Config) (lists : Vec (Vec PendingPage Global) Global) : Type 0 where
+  pub count : length lists.items ≡ config.pending
+  pub capacity : config.pending ≤ vec_capacity lists
+  pub empty : All (λ l. (l.items ≡ []) × (config.pending ≤ vec_capacity l)) lists.items
+
+-- There is room for the pages of a batch: a free room for each, and place in the list. The pages exist, and have a
+-- version left.
+pub record CanHold (n : Noted) (pages : Vec PendingPage Global) (rooms : Vec (Vec ℕ Global) Global)
+    (batch : Writes) : Type 0 where
+  pub room : length batch.entries ≤ length rooms.items
+  pub capacity : length pages.items + length batch.entries ≤ vec_capacity pages
+  pub sizes : All (λ r. length r.items ≡ batch.page_bytes) rooms.items
+  pub range : All (λ w. w.page < n.config.logical) batch.entries
+  pub unspent : All (λ w. mention_of n w.page < max_version) batch.entries
 
 -- the pages of a batch came behind the others, each with its next name, in rooms that were free
 pub record HoldsPages (n : Noted) (old new : Vec PendingPage Global)

@@ -1,18 +1,24 @@
 -- Retiring a block of a device: when it is refused, what it makes of the array, and what it leaves.
-use Rattle.std.specs.Prelude.{◌≡◌, ◌⊎◌, ℕ, ◌<◌, ◌==◌, nat_lt, Bool, true, false, [], Option, None, Some, Result, Ok, Err, if◌then◌else◌}
-use Rattle.tx_types.specs.Config.{blocks_of}
+use Rattle.std.specs.Prelude.{◌≡◌, ◌⊎◌, ℕ, ◌<◌, ◌==◌, nat_lt, Bool, true, false, [], Option, None, Some, IfNone, length, Result, Ok, Err, if◌then◌else◌}
+use Rattle.tx_types.specs.Config.{shape_of, blocks_of}
 use Rattle.tx_types.specs.declared.config.Protocol.{Protocol}
 use Rattle.tx_types.specs.declared.config.Shape.{Shape}
 use Rattle.flash_model.specs.declared.flash.Broken.{Broken}
 use Rattle.flash_model.specs.Flash.{FlashState, Extras}
-use Rattle.flash_model.specs.Retiring.{CarriesRetiring, RetiresAfter, RetiresTorn}
+use Rattle.flash_model.specs.Retiring.{CarriesRetiring, MayRetire, RetiresAfter, RetiresTorn}
 use Rattle.version_index.specs.Noted.{current_of}
+use Rattle.collector.specs.Going.{IsTreated}
+use Rattle.collector.specs.Looking.{reads_after}
 use Rattle.collector.specs.Preserves.{Preserves}
-use Rattle.collector.specs.Retiring.{RetiresBlock, RetiresNone, retiring_first}
+use Rattle.collector.specs.Retiring.{RetiresBlock, RetiresNone, RetiringBreaks, moved_slots, retiring_first}
+use Rattle.collector.specs.Settling.{slots_read}
 use Rattle.tx_engine.specs.ArrayState.{ArrayState}
+use Rattle.collector.specs.declared.unsure.Unsure.TheVariants as unsure
+use Rattle.tx_engine.specs.Breaking.{BreaksThen}
+use Rattle.tx_engine.specs.Calls.{IsReady}
 use Rattle.tx_engine.specs.Exits.{ExitsTables, VersionsRise, SettlesOrNot, settled_writes}
 use Rattle.tx_engine.specs.OpenTable.{OpenTable}
-use Rattle.tx_engine.specs.Settling.{settlement_of}
+use Rattle.tx_engine.specs.Settling.{StaysUnread, settlement_of}
 use Rattle.tx_engine.specs.Standing.{Standing, Stands}
 use Rattle.tx_engine.specs.Step.{settled}
 use Rattle.tx_engine.specs.Stored.{Stored, store_in}
@@ -86,6 +92,35 @@ pub record RetireExits {F : Type 0} (state : F → FlashState) (old new : Standi
   pub ends : RetireEnds state old new block result
   pub carries : CarriesRetiring (state old.flash) (state new.flash) (is_retire_fault result)
 
+-- What retiring a block does to the tables that are known once the place was read, each of its slots once: as where the block is
+-- collected, or erased where it is the spare. Each slot that is copied is read once.
+pub record RetiresKnown {F : Type 0} (state : F → FlashState) (old new : Standing F)
+    (block : ℕ) : Type 0 where
+  pub treated : IsTreated (settlement_of state old).noted (settlement_of state old).table block
+      new.noted new.table
+  pub reads : (state new.flash).reads ≡ reads_after
+      (length (moved_slots (settlement_of state old).noted (settlement_of state old).table.spare block))
+      (reads_after (slots_read old.noted old.unsure) (state old.flash).reads)
+
+-- The place was read, and by the tables that are known then retiring the block broke off. The blocks are as they were known, and
+-- what was noted then is kept.
+pub record RetiringFails {F : Type 0} (state : F → FlashState) (old new : Standing F)
+    (block : ℕ) : Type 0 where
+  pub breaks : BreaksThen state old (λ between.
+      RetiringBreaks (settlement_of state old).noted between (state new.flash)
+      (settlement_of state old).table.spare block new.noted new.unsure)
+  pub table : new.table ≡ (settlement_of state old).table
+  pub kept : Preserves (settlement_of state old).noted new.noted
+
+-- What becomes of the tables. After a fault the place could not be read, or it was read and then retiring the block broke off.
+abbrev pub RetireTables : {F : Type 0} → (F → FlashState) → Standing F → Standing F → ℕ →
+    Result (Unit {0}) RetireError → Type 0
+RetireTables state old new block (Ok done) = RetiresKnown state old new block
+RetireTables state old new block (Err failed.Range) = new ≡ old
+RetireTables state old new block (Err (failed.Worn allowance)) = new ≡ old
+RetireTables state old new block (Err failed.Fault) =
+    StaysUnread state old new ⊎ RetiringFails state old new block
+
 -- What is left of a settled device: it stands for the same array, no version changed, and what is noted is kept.
 pub record LeavesTables {F : Type 0} (state : F → FlashState) (old new : Standing F) : Type 0 where
   pub stands : Stands state new
@@ -94,6 +129,25 @@ pub record LeavesTables {F : Type 0} (state : F → FlashState) (old new : Stand
   pub versions : (page : ℕ) → page < old.config.logical →
       current_of new.noted page ≡ current_of old.noted page
   pub kept : Preserves old.noted new.noted
+
+-- The refusal of a block, if there is one. Where there is none the block exists, and may be retired.
+pub record RefusesRetiring (s : FlashState) (block : ℕ) (result : Option RetireError) : Type 0 where
+  pub refusal : result ≡ retire_refusal s.shape s.extras block
+  pub exists : IfNone result (block < blocks_of s.shape)
+  pub left : IfNone result (MayRetire s)
+
+-- no place is unsure, and a block exists and may be retired
+pub record CanRetire {F : Type 0} (state : F → FlashState) (s : Stored F) (block : ℕ) : Type 0 where
+  pub nothing : s.unsure ≡ unsure.Nothing
+  pub exists : block < blocks_of (shape_of s.noted.config)
+  pub left : MayRetire (state s.flash)
+
+-- a block of a settled device exists and may be retired
+pub record CanRetireSettled {F : Type 0} (state : F → FlashState) (p : Protocol) (S : Stored F)
+    (O : OpenTable) (block : ℕ) : Type 0 where
+  pub ready : IsReady state p S O
+  pub exists : block < blocks_of (shape_of S.noted.config)
+  pub left : MayRetire (state S.flash)
 
 -- A settled device retired a block.
 pub record RetiresSettled {F : Type 0} (state : F → FlashState) (p : Protocol) (S S' : Stored F)

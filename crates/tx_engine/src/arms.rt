@@ -1,5 +1,7 @@
-ghost use Rattle.std.specs.Prelude.{◌≡◌, ◌≤◌};
+ghost use Rattle.std.specs.Prelude.{◌≤◌};
 ghost use Rattle.flash_model.specs.Arms.{ArmsCut, ArmsFault, ArmsBadRead};
+ghost use Rattle.tx_engine.specs.DeviceCalls.{ArmsDevice};
+ghost use Rattle.tx_engine.specs.StoreCalls.{ArmsStored};
 
 use crate::Device;
 use crate::store::Store;
@@ -10,8 +12,8 @@ impl<F: Arms, R: CommitRule> Store<F, R> {
     /// The same call of the flash.
     fn arm_cut(&mut self, count: u32, outcome: Outcome)
         requires { 1 ≤ count }
-        ensures arms { ArmsCut (F.state self.old.flash) (F.state self.new.flash) count outcome }
-        ensures stays { self.new ≡ record self.old { flash = self.new.flash } }
+        ensures { ArmsStored self.old self.new
+            (ArmsCut (F.state self.old.flash) (F.state self.new.flash) count outcome) }
     {
         self.flash.arm_cut(count, outcome);
     }
@@ -19,8 +21,8 @@ impl<F: Arms, R: CommitRule> Store<F, R> {
     /// The same call of the flash.
     fn arm_fault(&mut self, count: u32, outcome: Outcome)
         requires { 1 ≤ count }
-        ensures arms { ArmsFault (F.state self.old.flash) (F.state self.new.flash) count outcome }
-        ensures stays { self.new ≡ record self.old { flash = self.new.flash } }
+        ensures { ArmsStored self.old self.new
+            (ArmsFault (F.state self.old.flash) (F.state self.new.flash) count outcome) }
     {
         self.flash.arm_fault(count, outcome);
     }
@@ -28,8 +30,8 @@ impl<F: Arms, R: CommitRule> Store<F, R> {
     /// The same call of the flash.
     fn arm_bad_read(&mut self, count: u32)
         requires { 1 ≤ count }
-        ensures arms { ArmsBadRead (F.state self.old.flash) (F.state self.new.flash) count }
-        ensures stays { self.new ≡ record self.old { flash = self.new.flash } }
+        ensures { ArmsStored self.old self.new
+            (ArmsBadRead (F.state self.old.flash) (F.state self.new.flash) count) }
     {
         self.flash.arm_bad_read(count);
     }
@@ -39,8 +41,8 @@ impl<F: Arms, R: CommitRule> Device<F, R> {
     /// A program or an erase from now on, the one of this number from 1, will be cut with this outcome.
     pub fn arm_cut(&mut self, count: u32, outcome: Outcome)
         requires { 1 ≤ count }
-        ensures arms { ArmsCut (F.state self.old.flash) (F.state self.new.flash) count outcome }
-        ensures stays { self.new ≡ record self.old { flash = self.new.flash } }
+        ensures { ArmsDevice self.old self.new
+            (ArmsCut (F.state self.old.flash) (F.state self.new.flash) count outcome) }
     {
         self.store.arm_cut(count, outcome);
     }
@@ -48,8 +50,8 @@ impl<F: Arms, R: CommitRule> Device<F, R> {
     /// A program or an erase from now on, the one of this number from 1, will meet a fault with this outcome.
     pub fn arm_fault(&mut self, count: u32, outcome: Outcome)
         requires { 1 ≤ count }
-        ensures arms { ArmsFault (F.state self.old.flash) (F.state self.new.flash) count outcome }
-        ensures stays { self.new ≡ record self.old { flash = self.new.flash } }
+        ensures { ArmsDevice self.old self.new
+            (ArmsFault (F.state self.old.flash) (F.state self.new.flash) count outcome) }
     {
         self.store.arm_fault(count, outcome);
     }
@@ -57,8 +59,8 @@ impl<F: Arms, R: CommitRule> Device<F, R> {
     /// A read from now on, the one of this number from 1, will meet a fault.
     pub fn arm_bad_read(&mut self, count: u32)
         requires { 1 ≤ count }
-        ensures arms { ArmsBadRead (F.state self.old.flash) (F.state self.new.flash) count }
-        ensures stays { self.new ≡ record self.old { flash = self.new.flash } }
+        ensures { ArmsDevice self.old self.new
+            (ArmsBadRead (F.state self.old.flash) (F.state self.new.flash) count) }
     {
         self.store.arm_bad_read(count);
     }

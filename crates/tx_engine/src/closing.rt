@@ -1,6 +1,5 @@
-ghost use Rattle.std.specs.Prelude.{◌≡◌, ◌<◌, length, All};
 ghost use Rattle.tx_engine.specs.OpenTable.{opening_at};
-ghost use Rattle.tx_engine.specs.Calls.{Closes, IsReady, Unpins};
+ghost use Rattle.tx_engine.specs.Calls.{CanClose, CanUnpin, Closes, Unpins};
 
 use crate::openings::Openings;
 use crate::store::Store;
@@ -13,8 +12,7 @@ pub(crate) fn close<F: Flash, R: CommitRule>(
     openings: &mut Openings,
     at: usize,
 )
-    requires ready { IsReady F.state R.protocol store.old openings.old }
-    requires at { at < length openings.old.all }
+    requires { CanClose F.state R.protocol store.old openings.old at }
     ensures { Closes F.state store.old store.new openings.old openings.new at }
 {
     unpin(store, openings, at);
@@ -23,11 +21,7 @@ pub(crate) fn close<F: Flash, R: CommitRule>(
 
 /// The pages of the transaction at an index are pinned no more.
 fn unpin<F: Flash, R: CommitRule>(store: &mut Store<F, R>, openings: &Openings, at: usize)
-    requires at { at < length openings.now.all }
-    requires range { All (λ name. name.page < store.old.noted.config.logical)
-        (opening_at openings.now at).naming.names }
-    requires named { length (opening_at openings.now at).naming.names
-        ≡ length (opening_at openings.now at).entry.writes }
+    requires { CanUnpin store.old.noted openings.now at }
     ensures { Unpins store.old store.new (opening_at openings.now at).naming.names }
 {
     for place in 0..openings.pages(at) {

@@ -1,12 +1,7 @@
-ghost use Rattle.std.specs.Prelude.{◌≡◌, OnOk, OnErr, IfOk, Ok};
-ghost use Rattle.std.specs.Result.{is_err};
-ghost use Rattle.collector.specs.declared.unsure.Unsure.TheVariants as unsure;
-ghost use Rattle.tx_engine.specs.Breaking.{CollectBreaks};
-ghost use Rattle.tx_engine.specs.Collect.{CollectsAs};
-ghost use Rattle.tx_engine.specs.Collections.{CollectsTables, HasNothingToCollect, answer_of};
-ghost use Rattle.tx_engine.specs.Exits.{Exits, CollectRises, is_there};
-ghost use Rattle.tx_engine.specs.Settling.{CollectFails, settlement_of};
+ghost use Rattle.std.specs.Prelude.{◌≡◌};
 ghost use Rattle.tx_engine.specs.Calls.{CollectsSettled, IsReady};
+ghost use Rattle.tx_engine.specs.Collections.{answer_of};
+ghost use Rattle.tx_engine.specs.DeviceCalls.{CollectsDevice};
 
 use crate::Device;
 use crate::openings::Openings;
@@ -22,21 +17,7 @@ impl<F: Flash, R: CommitRule> Device<F, R> {
     /// operation left, and the spare is made blank. After a fault it is not known what a broken
     /// operation left, as before, or that is known and the blocks are kept as they were then.
     pub fn collect(&mut self) -> Result<Collected, Fault>
-        ensures collects { CollectsAs (is_there F.state self.old)
-            self.old.machine self.new.machine result }
-        ensures exits { Exits F.state self.old self.new (is_err result) }
-        ensures rises { CollectRises (is_there F.state self.old) self.old self.new result }
-        ensures sure { OnOk result (self.new.unsure ≡ unsure.Nothing) }
-        // What it did to the tables that are known once the place is settled, and so to the flash.
-        ensures tables { IfOk result (λ answer.
-            let found = settlement_of F.state self.old in
-            CollectsTables (F.state self.old.flash) (F.state self.new.flash)
-            found.noted self.new.noted found.table self.new.table answer) }
-        ensures failed { OnErr result (CollectFails F.state self.old self.new) }
-        ensures breaks { OnErr result (CollectBreaks F.state self.old self.new) }
-        ensures nothing { result ≡ Ok Collected.Nothing →
-            HasNothingToCollect self.old.config.protocol self.old.config.logical
-            (F.state self.new.flash).image self.new.machine.entries }
+        ensures { CollectsDevice F.state self.old self.new result }
     {
         let Ok(()) = settle(&mut self.store, &mut self.openings) else {
             return Err(Fault);

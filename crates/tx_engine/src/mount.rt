@@ -1,6 +1,6 @@
-ghost use Rattle.std.specs.Prelude.{◌≡◌, Ok, IfOk, IfErr};
+ghost use Rattle.std.specs.Prelude.{◌≡◌, Ok};
 ghost use Rattle.tx_types.specs.Config.{checked};
-ghost use Rattle.tx_engine.specs.Opens.{Mounts, FailsToMount, ReadsUnmounted};
+ghost use Rattle.tx_engine.specs.DeviceCalls.{MountsDevice};
 
 use crate::Device;
 use crate::openings::Openings;
@@ -27,9 +27,7 @@ impl<F: Flash, R: CommitRule> Device<F, R> {
     pub fn mount(alloc: Global, flash: F, config: Config) -> Result<Device<F, R>, (F, MountError)>
         requires check { checked config ≡ Ok (F.state flash).shape }
         requires rule { config.protocol ≡ R.protocol }
-        ensures mounted { IfOk result (Mounts F.state flash config) }
-        ensures failed { IfErr result (λ e. FailsToMount F.state flash config e.0 e.1) }
-        ensures reads { IfErr result (λ e. ReadsUnmounted F.state flash config e.0 e.1) }
+        ensures { MountsDevice F.state flash config result }
     {
         collector::laws::images_stand::<R>();
         let store = Store::<F, R>::open(alloc, flash, config)?;

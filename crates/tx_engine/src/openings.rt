@@ -1,11 +1,9 @@
-ghost use Rattle.std.specs.Prelude.{◌≡◌, ◌≢◌, ◌+◌, ◌<◌, ◌≤◌, ◌∷◌, ◌++◌, [], length, remove, position, All, AllPairs, is_none, IfOk};
+ghost use Rattle.std.specs.Prelude.{◌≡◌, ◌+◌, ◌<◌, ◌∷◌, ◌++◌, [], length, remove, position, AllPairs, is_none, IfOk};
 ghost use Rattle.tx_types.specs.Batch.{bytes_in};
 ghost use Rattle.tx_types.specs.Config.{IsConfig};
-ghost use Rattle.tx_types.specs.Limits.{max_version};
 ghost use Rattle.record_list.specs.Transaction.{ShareNoPage};
-ghost use Rattle.version_index.specs.Noted.{mention_of};
 ghost use Rattle.tx_engine.specs.ArrayState.{pending_pages, has_tag, is_doubted};
-ghost use Rattle.tx_engine.specs.OpenTable.{HasPlace, IsOpenTable, opening_at, entries_of, namings_of, begun, with_opening, with_done, with_mark, with_noted_count};
+ghost use Rattle.tx_engine.specs.OpenTable.{CanOpen, HasPlace, IsOpenTable, opening_at, entries_of, namings_of, begun, with_opening, with_done, with_mark, with_noted_count};
 ghost use Rattle.tx_engine.specs.Standing.{name_at, write_at};
 ghost use Rattle.tx_engine.specs.Submit.{first_refusals};
 
@@ -105,15 +103,7 @@ impl Openings {
 
     /// Opens a transaction, with no page written. Each page is named one version above its greatest mention.
     pub fn open<R: CommitRule>(&mut self, tag: u32, batch: &Batch, index: &Index<R>)
-        requires pages { batch.now.page_bytes ≡ self.old.page_bytes }
-        requires some { 0 < length batch.now.entries }
-        requires free { pending_pages (entries_of self.old) + length batch.now.entries ≤ self.old.pending }
-        requires each { All (λ o. 0 < length o.entry.writes) self.old.all }
-        requires range { All (λ w. w.page < index.now.config.logical) batch.now.entries }
-        requires logical { self.old.logical ≡ index.now.config.logical }
-        requires apart { All (λ w. All (λ e. All (λ v. v.page ≢ w.page) e.writes)
-            (entries_of self.old)) batch.now.entries }
-        requires unspent { All (λ w. mention_of index.now w.page < max_version) batch.now.entries }
+        requires { CanOpen self.old index.now batch.now }
         ensures { self.new ≡ record self.old {
           all = self.old.all ++ begun index.now tag batch.now.entries ∷ [];
         } }

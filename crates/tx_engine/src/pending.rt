@@ -1,10 +1,8 @@
-ghost use Rattle.std.specs.Prelude.{◌≡◌, ◌+◌, ◌<◌, ◌≤◌, ◌==◌, List, [], length, position, All, IfOk, vec_capacity};
+ghost use Rattle.std.specs.Prelude.{◌≡◌, ◌+◌, ◌<◌, ◌≤◌, ◌==◌, List, length, position, All, IfOk, vec_capacity};
 ghost use Rattle.tx_types.specs.Config.{IsConfig};
-ghost use Rattle.tx_types.specs.Limits.{max_version};
-ghost use Rattle.version_index.specs.Noted.{mention_of};
 ghost use Rattle.tx_engine.specs.ArrayState.{is_doubted};
 ghost use Rattle.tx_engine.specs.declared.pending.PendingPage.{PendingPage};
-ghost use Rattle.tx_engine.specs.PendingPages.{HoldsPages, FreesPages, with_owner};
+ghost use Rattle.tx_engine.specs.PendingPages.{CanHold, HasLists, HasRooms, HoldsPages, FreesPages, with_owner};
 
 use crate::Mark;
 use record_list::CommitRule;
@@ -37,10 +35,7 @@ pub struct PendingPage {
 /// A page of room for each page that may be pending.
 pub fn rooms(alloc: Global, config: Config) -> Result<Vec<Vec<u8>>, Memory>
     requires { IsConfig config }
-    ensures count { IfOk result (λ rooms. length rooms.items ≡ config.pending) }
-    ensures capacity { IfOk result (λ rooms. config.pending ≤ vec_capacity rooms) }
-    ensures sizes { IfOk result
-        (λ rooms. All (λ r. length r.items ≡ config.page_bytes) rooms.items) }
+    ensures { IfOk result (HasRooms config) }
 {
     let mut rooms = Vec::with_capacity(alloc, config.pending as usize)?;
     for _ in 0..config.pending {
@@ -52,10 +47,7 @@ pub fn rooms(alloc: Global, config: Config) -> Result<Vec<Vec<u8>>, Memory>
 /// For each transaction that may be open, a list in which there is room for the pages of all.
 pub fn page_lists(alloc: Global, config: Config) -> Result<Vec<Vec<PendingPage>>, Memory>
     requires { IsConfig config }
-    ensures count { IfOk result (λ lists. length lists.items ≡ config.pending) }
-    ensures capacity { IfOk result (λ lists. config.pending ≤ vec_capacity lists) }
-    ensures empty { IfOk result (λ lists.
-        All (λ l. (l.items ≡ []) × (config.pending ≤ vec_capacity l)) lists.items) }
+    ensures { IfOk result (HasLists config) }
 {
     let most = config.pending as usize;
     let mut lists = Vec::with_capacity(alloc, most)?;
@@ -104,11 +96,7 @@ pub fn hold_pages<R: CommitRule>(
     batch: &Batch,
     index: &Index<R>,
 )
-    requires room { length batch.now.entries ≤ length rooms.old.items }
-    requires capacity { length pages.old.items + length batch.now.entries ≤ vec_capacity pages.old }
-    requires sizes { All (λ r. length r.items ≡ batch.now.page_bytes) rooms.old.items }
-    requires range { All (λ w. w.page < index.now.config.logical) batch.now.entries }
-    requires unspent { All (λ w. mention_of index.now w.page < max_version) batch.now.entries }
+    requires { CanHold index.now pages.old rooms.old batch.now }
     ensures { (held : List PendingPage)
         × HoldsPages index.now pages.old pages.new rooms.old rooms.new batch.now held }
 {

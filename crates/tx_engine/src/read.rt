@@ -1,7 +1,5 @@
 ghost use Rattle.std.specs.Prelude.{◌≡◌, length};
-ghost use Rattle.flash_model.specs.Operations.{moment_of};
-ghost use Rattle.flash_model.specs.Calls.{Carries};
-ghost use Rattle.tx_engine.specs.Read.{ReadsPage, ReadsFlash, is_read_fault, read_place};
+ghost use Rattle.tx_engine.specs.DeviceCalls.{ReadsDevice};
 
 use crate::Device;
 use array_machine::{ReadAnswer, ReadError};
@@ -15,14 +13,7 @@ impl<F: Flash, R: CommitRule> Device<F, R> {
     /// record's lowest slot outside the block. After a fault the room holds any bytes.
     pub fn read(&mut self, page: u32, into: &mut [u8]) -> Result<ReadAnswer, ReadError>
         requires { length into.old ≡ self.old.config.page_bytes }
-        ensures reads { ReadsPage self.old.config.logical self.old.machine.pages page
-            into.new result }
-        ensures flash { ReadsFlash F.state (read_place self.old.noted self.old.unsure page)
-            self.old.flash self.new.flash into.old into.new result }
-        ensures moment { moment_of (F.state self.new.flash) ≡ moment_of (F.state self.old.flash) }
-        ensures carries { Carries (F.state self.old.flash) (F.state self.new.flash)
-            (is_read_fault result) }
-        ensures stays { self.new ≡ record self.old { flash = self.new.flash } }
+        ensures { ReadsDevice F.state self.old self.new page into.old into.new result }
     {
         if page >= self.store.config().logical {
             return Err(ReadError::Range);

@@ -1,24 +1,15 @@
-ghost use Rattle.std.specs.Prelude.{◌≡◌, ◌<◌, ◌≤◌, ◌+◌, ◌==◌, List, true, false, Ok, Err, Some, None, length, IfOk, IfErr, IfSome, IfNone, OnErr, sum_by};
-ghost use Rattle.std.specs.Result.{is_err};
+ghost use Rattle.std.specs.Prelude.{◌≡◌, ◌<◌, ◌≤◌, Ok, length, IfOk, sum_by, false};
 ghost use Rattle.std.specs.List.{range_with_len};
-ghost use Rattle.std.specs.Option.{option_map};
 ghost use Rattle.tx_types.specs.Config.{checked, shape_of, blocks_of};
-ghost use Rattle.tx_types.specs.declared.record.Link.{Link};
 ghost use Rattle.record_list.specs.Records.{is_present};
 ghost use Rattle.version_index.specs.Notes.{found_in};
-ghost use Rattle.version_index.specs.Noted.{block_to_go, current_of, pinned, unpinned};
-ghost use Rattle.die_alloc.specs.BlockTable.{IsFull};
-ghost use Rattle.die_alloc.specs.NextSlot.{next_slot, after_next_slot};
-ghost use Rattle.collector.specs.declared.unsure.Unsure.{Unsure};
+ghost use Rattle.version_index.specs.Noted.{current_of, pinned, unpinned};
 ghost use Rattle.collector.specs.declared.unsure.Unsure.TheVariants as unsure;
-ghost use Rattle.collector.specs.Calls.{Clears, CollectsMost, FindsSlot};
+ghost use Rattle.collector.specs.Calls.{CollectsMost};
 ghost use Rattle.collector.specs.Matches.{CanTake};
-ghost use Rattle.collector.specs.Settling.{Settles};
-ghost use Rattle.collector.specs.Going.{IsNextName};
-ghost use Rattle.collector.specs.Known.{page_known};
 ghost use Rattle.collector.specs.Victim.{garbage_in};
-ghost use Rattle.tx_engine.specs.Opens.{StoresOpened, FailsToMount, ReadsUnmounted};
-ghost use Rattle.tx_engine.specs.Read.{ReadsKnown, ShowsKnown, read_place};
+ghost use Rattle.tx_engine.specs.Read.{ReadsKnown};
+ghost use Rattle.tx_engine.specs.StoreCalls.{CanClear, CanFind, ClearsStored, FindsStored, OpensStore, PlacesPage, SettlesStored};
 ghost use Rattle.tx_engine.specs.Stored.{CanWrite, IsStored, WritesOwn, store_in};
 
 use crate::MountError;
@@ -64,10 +55,7 @@ impl<F: Flash, R: CommitRule> Store<F, R> {
     pub fn open(alloc: Global, mut flash: F, config: Config) -> Result<Store<F, R>, (F, MountError)>
         requires check { checked config ≡ Ok (F.state flash).shape }
         requires rule { config.protocol ≡ R.protocol }
-        ensures opened { IfOk result (λ s. StoresOpened F.state flash config s) }
-        ensures stored { IfOk result (IsStored F.state R.protocol) }
-        ensures failed { IfErr result (λ e. FailsToMount F.state flash config e.0 e.1) }
-        ensures reads { IfErr result (λ e. ReadsUnmounted F.state flash config e.0 e.1) }
+        ensures { OpensStore F.state R.protocol flash config result }
     {
         laws::opened_tables_match();
         let Ok(room) = page_room(alloc, flash.shape()) else {
@@ -189,12 +177,7 @@ impl<F: Flash, R: CommitRule> Store<F, R> {
     /// is unsure it lies outside that block.
     fn place_of(&self, page: u32) -> Option<Slot>
         requires { page < self.now.noted.config.logical }
-        ensures none { let image = (F.state self.now.flash).image in
-            IfNone result (page_known self.now.noted image page ≡ None) }
-        ensures place { IfSome result (λ at.
-            ShowsKnown (F.state self.now.flash) self.now.noted page at.0) }
-        ensures slot { option_map (λ at. at.0) result
-            ≡ read_place self.now.noted self.now.unsure page }
+        ensures { PlacesPage F.state self.now page result }
     {
         laws::known_images_stand::<R>();
         if self.index.discards(page) {
@@ -212,10 +195,7 @@ impl<F: Flash, R: CommitRule> Store<F, R> {
     /// read all is as before.
     pub fn settle(&mut self) -> Result<Settled, Broken>
         requires own { CanTake self.old.noted self.old.table self.old.unsure }
-        ensures settles { Settles (store_in F.state self.old) (store_in F.state self.new) result }
-        ensures failed { OnErr result (self.new ≡ record self.old { flash = self.new.flash }) }
-        ensures idle { self.old.unsure ≡ unsure.Nothing →
-            (result ≡ Ok Settled.Other) × (self.new ≡ self.old) }
+        ensures { SettlesStored F.state self.old self.new result }
     {
         if self.unsure == Unsure::Nothing {
             return Ok(Settled::Other);
@@ -247,13 +227,8 @@ impl<F: Flash, R: CommitRule> Store<F, R> {
     /// Treats each block that holds a record which must go before the version `below` of a page is
     /// programmed.
     pub fn clear(&mut self, page: u32, below: u64) -> Result<(), Broken>
-        requires nothing { self.old.unsure ≡ unsure.Nothing }
-        requires next { (names : List Link)
-            × IsNextName self.old.noted names (record { page = page; version = below }) }
-        ensures clears { Clears R.protocol (store_in F.state self.old) (store_in F.state self.new)
-            page below result }
-        ensures idle { block_to_go self.old.noted page below ≡ None →
-            (result ≡ Ok tt) × (self.new ≡ self.old) }
+        requires { CanClear self.old (record { page = page; version = below }) }
+        ensures { ClearsStored F.state R.protocol self.old self.new page below result }
     {
         collector::clear(
             &mut self.flash,
@@ -269,14 +244,8 @@ impl<F: Flash, R: CommitRule> Store<F, R> {
 
     /// The slot that is programmed next. Where no block has room one is collected first.
     pub fn free_slot(&mut self) -> Result<Slot, Broken>
-        requires nothing { self.old.unsure ≡ unsure.Nothing }
-        requires next { (names : List Link) × (name : Link)
-            × IsNextName self.old.noted names name }
-        ensures finds { FindsSlot R.protocol (store_in F.state self.old) (store_in F.state self.new)
-            result }
-        ensures direct { (IsFull self.old.table → ⊥) →
-            IfOk result (λ at. Some at ≡ next_slot self.old.table) × (is_err result ≡ false)
-            × (self.new ≡ record self.old { table = after_next_slot self.old.table }) }
+        requires { CanFind self.old }
+        ensures { FindsStored F.state R.protocol self.old self.new result }
     {
         collector::free_slot(
             &mut self.flash,

@@ -1,11 +1,11 @@
 ghost use Rattle.std.specs.Prelude.{◌≡◌, ◌<◌, map, All};
 ghost use Rattle.tx_types.specs.Limits.{max_version};
 ghost use Rattle.version_index.specs.Noted.{mention_of};
-ghost use Rattle.tx_engine.specs.Naming.{is_spent, with_pins, named_after, KeepsTables};
+ghost use Rattle.tx_engine.specs.DeviceCalls.{SubmitsDevice};
+ghost use Rattle.tx_engine.specs.Naming.{is_spent, with_pins};
 ghost use Rattle.tx_engine.specs.OpenTable.{next_name};
-ghost use Rattle.tx_engine.specs.Standing.{limits_of};
 ghost use Rattle.tx_engine.specs.Stored.{IsStored};
-ghost use Rattle.tx_engine.specs.Submit.{Submits, spent_page};
+ghost use Rattle.tx_engine.specs.Submit.{spent_page};
 
 use crate::Device;
 use crate::store::Store;
@@ -58,12 +58,7 @@ impl<F: Flash, R: CommitRule> Device<F, R> {
     /// not touched.
     pub fn submit(&mut self, tag: u32, batch: &Batch) -> Result<(), SubmitError>
         requires { batch.now.page_bytes ≡ self.old.config.page_bytes }
-        ensures submits { Submits (limits_of self.old.config) (is_spent self.old.noted.mentions)
-            self.old.machine self.new.machine tag batch.now.entries result }
-        ensures named { self.new.namings
-            ≡ named_after self.old.noted batch.now.entries result self.old.namings }
-        // All else stays, but for the pins of what is opened.
-        ensures keeps { KeepsTables self.old self.new }
+        ensures { SubmitsDevice self.old self.new tag batch.now.entries result }
     {
         if let Some(refusal) = self.openings.refusal(tag, batch) {
             return Err(refusal);

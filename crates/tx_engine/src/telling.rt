@@ -1,11 +1,8 @@
-ghost use Rattle.std.specs.Prelude.{◌≡◌, ◌<◌, IfOk, count_by, is_some, sum_by};
-ghost use Rattle.std.specs.List.{range_with_len};
-ghost use Rattle.tx_types.specs.Config.{shape_of, blocks_of};
+ghost use Rattle.std.specs.Prelude.{◌≡◌, ◌<◌, IfOk, count_by, is_some};
 ghost use Rattle.version_index.specs.Noted.{current_of};
 ghost use Rattle.version_index.specs.Notes.{found_in};
 ghost use Rattle.collector.specs.Known.{array_known};
-ghost use Rattle.collector.specs.Victim.{garbage_in};
-ghost use Rattle.tx_engine.specs.Collect.{TellsStats};
+ghost use Rattle.tx_engine.specs.DeviceCalls.{TellsDevice};
 ghost use Rattle.tx_engine.specs.Read.{is_written};
 
 use crate::Device;
@@ -51,11 +48,7 @@ impl<F: Flash, R: CommitRule> Device<F, R> {
 
     /// The numbers of the device.
     pub fn stats(&self) -> Stats
-        ensures machine { TellsStats self.now.machine result }
-        ensures programs { result.programs ≡ (F.state self.now.flash).programs }
-        ensures erases { result.erases ≡ (F.state self.now.flash).erases }
-        ensures garbage { result.garbage ≡ sum_by (garbage_in self.now.noted self.now.table)
-            (range_with_len 0 (blocks_of (shape_of self.now.config))) }
+        ensures { TellsDevice F.state self.now result }
     {
         Stats {
             written: self.store.written(),

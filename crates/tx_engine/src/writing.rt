@@ -1,12 +1,10 @@
-ghost use Rattle.std.specs.Prelude.{◌≡◌, ◌<◌, None, if◌then◌else◌};
+ghost use Rattle.std.specs.Prelude.{◌≡◌, ◌<◌, if◌then◌else◌};
 ghost use Rattle.record_list.specs.Transaction.{back_version};
 ghost use Rattle.version_index.specs.Notes.{found_in};
-ghost use Rattle.version_index.specs.Noted.{block_to_go};
-ghost use Rattle.tx_engine.specs.OpenTable.{HasPlace, IsDueAt, bytes_due, name_due, opening_at, with_opening, with_mark};
+ghost use Rattle.tx_engine.specs.OpenTable.{HasPlace, bytes_due, name_due, opening_at, with_opening, with_mark};
 ghost use Rattle.tx_engine.specs.Settling.{is_at_last};
-ghost use Rattle.tx_engine.specs.Stored.{CanWrite, WritesOwn, store_in};
-ghost use Rattle.tx_engine.specs.Calls.{ClearsFor, FindsFor, IsReady, IsRecordDue, WritesPage};
-ghost use Rattle.collector.specs.Store.{IsSure};
+ghost use Rattle.tx_engine.specs.Stored.{WritesOwn, store_in};
+ghost use Rattle.tx_engine.specs.Calls.{CanProgram, CanWriteNext, ClearsFor, FindsFor, IsClearFor, IsReadyFor, IsRecordDue, WritesPage};
 
 use crate::Mark;
 use crate::openings::Openings;
@@ -26,9 +24,7 @@ pub(crate) fn write_next<F: Flash, R: CommitRule>(
     openings: &mut Openings,
     at: usize,
 ) -> Result<(), Broken>
-    requires ready { IsReady F.state R.protocol store.old openings.old }
-    requires due { IsDueAt openings.old at }
-    requires size { openings.old.page_bytes ≡ store.old.noted.config.page_bytes }
+    requires { CanWriteNext F.state R.protocol store.old openings.old at }
     ensures { WritesPage F.state store.old store.new openings.old openings.new at result }
 {
     laws::images_stand::<R>();
@@ -51,8 +47,7 @@ fn clear<F: Flash, R: CommitRule>(
     openings: &Openings,
     at: usize,
 ) -> Result<(), Broken>
-    requires ready { IsReady F.state R.protocol store.old openings.now }
-    requires due { IsDueAt openings.now at }
+    requires { IsReadyFor F.state R.protocol store.old openings.now at }
     ensures { ClearsFor F.state R.protocol store.old store.new openings.now
         (name_due openings.now at) result }
 {
@@ -67,10 +62,7 @@ fn find_slot<F: Flash, R: CommitRule>(
     openings: &Openings,
     at: usize,
 ) -> Result<Slot, Broken>
-    requires ready { IsReady F.state R.protocol store.old openings.now }
-    requires due { IsDueAt openings.now at }
-    requires clear { let name = name_due openings.now at in
-        block_to_go store.old.noted name.page name.version ≡ None }
+    requires { IsClearFor F.state R.protocol store.old openings.now at }
     ensures { FindsFor F.state R.protocol store.old store.new openings.now
         (name_due openings.now at) result }
 {
@@ -118,9 +110,7 @@ fn program<F: Flash, R: CommitRule>(
     slot: Slot,
     rec: Rec,
 ) -> Result<(), Broken>
-    requires next { HasPlace openings.now at (opening_at openings.now at).entry.done }
-    requires sure { IsSure R.protocol (store_in F.state store.old) }
-    requires can { CanWrite (store_in F.state store.old) slot rec (bytes_due openings.now at) }
+    requires { CanProgram R.protocol (store_in F.state store.old) openings.now at slot rec }
     ensures { WritesOwn (store_in F.state store.old) (store_in F.state store.new) slot rec
         (bytes_due openings.now at) result }
 {

@@ -9,5 +9,6 @@ pub exchange-requires-clause-within : goal.exchange-requires-clause-within
 exchange-requires-clause-within g c =
     let low = few _ _ _ c.args.block c.requires.kept.matches in
     let used = c.records_held-used.ensures ∙ ap (records_held c.args.index.now) c.spare.ensures.spare in
-    let same = ap (λ (x : Config). x.pages_per_block) (ap (λ (n : Noted). n.config) c.note_change.ensures ∙ changed_config c.args.index.now c.args.block.0 c.in_ok-reading.reading.blank) in
+    let same = ap (λ (x : Config). x.pages_per_block)
+    (ap (λ (n : Noted). n.config) c.note_change.ensures ∙ changed_config c.args.index.now c.args.block.0 c.in_ok-reading.reading.blank) in
     omega (arith, low, used, same)

@@ -12,5 +12,6 @@ pub returns : goal.returns
 returns g c =
     let laws = g.met.R.CommitRule in
     settles_done g.R.CommitRule.protocol (store_of (g.F.Flash.state c.args.flash.now) c.args.index.now c.args.blocks.now c.args.unsure.now) _ c.requires _ _ _ _
-    (settled_stands g.R.CommitRule.protocol laws.partial_write laws.completing_write laws.copy laws.block_loss _ _ _ _ c.requires.kept.matches c.requires.own c.requires.kept.rule)
+    (settled_stands g.R.CommitRule.protocol laws.partial_write laws.completing_write laws.copy laws.block_loss _ _ _ _ c.requires.kept.matches c.requires.own
+    c.requires.kept.rule)
     c.in_ok-found.ensures

@@ -10,14 +10,17 @@ use Rattle.collector.proofs.cleaning.clean_spare.Goals as goal
 pub returns-then-is_noted_blank : goal.returns-then-is_noted_blank
 returns-then-is_noted_blank g c =
     let laws = g.met.R.CommitRule in
-    cleans_blank g.R.CommitRule.protocol laws.block_loss laws.written_block_loss (store_of (g.F.Flash.state c.args.flash.now) c.args.index.now c.args.blocks.now c.args.unsure.now) c.requires
+    cleans_blank g.R.CommitRule.protocol laws.block_loss laws.written_block_loss
+    (store_of (g.F.Flash.state c.args.flash.now) c.args.index.now c.args.blocks.now c.args.unsure.now) c.requires
     (ap (is_noted_blank c.args.index.now) (sym c.spare-spare.ensures.spare) ∙ sym c.is_noted_blank.ensures ∙ c.if-is_noted_blank.true)
 
 pub returns-in-Err : goal.returns-in-Err
 returns-in-Err g c =
     let laws = g.met.R.CommitRule in
-    cleans_torn g.R.CommitRule.protocol laws.block_loss laws.written_block_loss (store_of (g.F.Flash.state c.args.flash.now) c.args.index.now c.args.blocks.now c.args.unsure.now) c.requires
-    (ap (is_noted_blank c.args.index.now) (sym c.spare-spare.ensures.spare) ∙ sym c.is_noted_blank.ensures ∙ c.if-is_noted_blank.false) (g.F.Flash.state c.erase.new.self) c.in-Err.broken
+    cleans_torn g.R.CommitRule.protocol laws.block_loss laws.written_block_loss
+    (store_of (g.F.Flash.state c.args.flash.now) c.args.index.now c.args.blocks.now c.args.unsure.now) c.requires
+    (ap (is_noted_blank c.args.index.now) (sym c.spare-spare.ensures.spare) ∙ sym c.is_noted_blank.ensures ∙ c.if-is_noted_blank.false)
+    (g.F.Flash.state c.erase.new.self) c.in-Err.broken
     (subst (λ b. Erases (g.F.Flash.state c.args.flash.now) (g.F.Flash.state c.erase.new.self) b (Err c.in-Err.broken)) c.spare-spare.ensures.spare
     (subst (Erases (g.F.Flash.state c.args.flash.now) (g.F.Flash.state c.erase.new.self) _) c.in-Err.is c.erase.ensures))
 

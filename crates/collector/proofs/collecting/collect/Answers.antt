@@ -7,7 +7,8 @@ use Rattle.collector.proofs.collecting.collect.Goals as goal
 
 pub returns-in_err-clean_spare : goal.returns-in_err-clean_spare
 returns-in_err-clean_spare g c =
-    by_err c.from_residual.result (Collects g.R.CommitRule.protocol _ _ c.args.block.0) c.from_residual.ensures.0 (λ y. collects_unclean g.R.CommitRule.protocol _ _ c.args.block.0 _ y c.in_err-clean_spare.ensures)
+    by_err c.from_residual.result (Collects g.R.CommitRule.protocol _ _ c.args.block.0) c.from_residual.ensures.0
+    (λ y. collects_unclean g.R.CommitRule.protocol _ _ c.args.block.0 _ y c.in_err-clean_spare.ensures)
 
 pub collect_clean-requires-clause-sure : goal.collect_clean-requires-clause-sure
 collect_clean-requires-clause-sure g c = sure_then g.R.CommitRule.protocol _ _ c.requires.sure c.in_ok-clean_spare.ensures.keeps
@@ -20,4 +21,5 @@ returns g c =
     let can = c.requires.can in
     let law = g.met.R.CommitRule.block_loss in
     collects_cleaned g.R.CommitRule.protocol law _ _ c.requires.sure c.in_ok-clean_spare.ensures c.args.block can.exists can.not_spare
-    (unneeded_cleaned g.R.CommitRule.protocol law _ _ _ _ c.requires.sure.rule c.requires.sure.matches _ c.args.block.0 c.in_ok-clean_spare.ensures.noted can.unneeded) _ c.collect_clean.result c.collect_clean.ensures
+    (unneeded_cleaned g.R.CommitRule.protocol law _ _ _ _ c.requires.sure.rule c.requires.sure.matches _ c.args.block.0 c.in_ok-clean_spare.ensures.noted
+    can.unneeded) _ c.collect_clean.result c.collect_clean.ensures

@@ -11,8 +11,10 @@ pub returns-in-Err : goal.returns-in-Err
 returns-in-Err g c =
     let laws = g.met.R.CommitRule in
     let s' = g.F.Flash.state c.erase.new.self in
-    victim_breaks g.R.CommitRule.protocol laws.block_loss laws.written_block_loss (store_of (g.F.Flash.state c.args.flash.now) c.args.index.now c.args.blocks.now c.args.unsure.now)
-    c.requires.sure c.args.block c.args.used c.requires.can s' c.in-Err.broken (subst (Erases (g.F.Flash.state c.args.flash.now) s' _) c.in-Err.is c.erase.ensures)
+    victim_breaks g.R.CommitRule.protocol laws.block_loss laws.written_block_loss
+    (store_of (g.F.Flash.state c.args.flash.now) c.args.index.now c.args.blocks.now c.args.unsure.now)
+    c.requires.sure c.args.block c.args.used c.requires.can s' c.in-Err.broken
+    (subst (Erases (g.F.Flash.state c.args.flash.now) s' _) c.in-Err.is c.erase.ensures)
 
 pub returns : goal.returns
 returns g c =
@@ -21,6 +23,10 @@ returns g c =
     let s' = g.F.Flash.state c.erase.new.self in
     subst (λ (n : Noted). ErasesVictim g.R.CommitRule.protocol a (store_of s' n c.exchange.new.blocks c.args.unsure.now) c.args.block c.args.used _)
     (sym (c.exchange.ensures.noted ∙ ap (λ k. with_spare k c.args.block.0) c.note_erased.ensures))
-    (subst (λ (t : BlockTable). ErasesVictim g.R.CommitRule.protocol a (store_of s' (with_spare (erased c.args.index.now c.args.block.0) c.args.block.0) t c.args.unsure.now) c.args.block c.args.used _) (sym c.exchange.ensures.blocks)
-    (victim_done g.R.CommitRule.protocol laws.block_loss laws.written_block_loss a c.requires.sure c.args.block c.args.used c.requires.can s' c.in_default.field-0
-    (subst (Erases (g.F.Flash.state c.args.flash.now) s' _) c.in_default.is c.erase.ensures) c.exchange.ensures.between (subst IsBlockTable c.exchange.ensures.blocks c.exchange.ensures.table)))
+    (subst (λ (t : BlockTable). ErasesVictim g.R.CommitRule.protocol a
+    (store_of s' (with_spare (erased c.args.index.now c.args.block.0) c.args.block.0) t c.args.unsure.now) c.args.block c.args.used _)
+    (sym c.exchange.ensures.blocks)
+    (victim_done g.R.CommitRule.protocol laws.block_loss laws.written_block_loss a c.requires.sure c.args.block c.args.used c.requires.can s'
+    c.in_default.field-0
+    (subst (Erases (g.F.Flash.state c.args.flash.now) s' _) c.in_default.is c.erase.ensures) c.exchange.ensures.between
+    (subst IsBlockTable c.exchange.ensures.blocks c.exchange.ensures.table)))

@@ -9,10 +9,12 @@ use Rattle.collector.proofs.SettledImages.{Stands, settled_stands, settled_recor
 use Rattle.collector.proofs.laws.images_stand.Given as given
 use Rattle.collector.proofs.laws.images_stand.Goals as goal
 
-stands : (g : given.Over) (s : FlashState) (n : Noted) (t : BlockTable) (u : Unsure) → Matches s n t u → CanTake n t u → n.config.protocol ≡ g.R.CommitRule.protocol →
+stands : (g : given.Over) (s : FlashState) (n : Noted) (t : BlockTable) (u : Unsure) → Matches s n t u → CanTake n t u →
+    n.config.protocol ≡ g.R.CommitRule.protocol →
     Stands s n (settlement n t s.image u)
 stands g s n t u m take rule =
-    settled_stands g.R.CommitRule.protocol g.met.R.CommitRule.partial_write g.met.R.CommitRule.completing_write g.met.R.CommitRule.copy g.met.R.CommitRule.block_loss
+    settled_stands g.R.CommitRule.protocol g.met.R.CommitRule.partial_write g.met.R.CommitRule.completing_write g.met.R.CommitRule.copy
+    g.met.R.CommitRule.block_loss
     s n t u m take rule
 
 pub returns : goal.returns

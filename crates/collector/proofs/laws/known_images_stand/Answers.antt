@@ -12,5 +12,6 @@ returns g c = record {
   notes = λ s n t u m rule.
       subst (λ q. notes_of q (known_image n t.spare u s.image) ≡ n.notes) rule (known_notes s n t u m (unsure_spelled s n t u m));
   array = λ s n t u m rule.
-      subst (λ q. array_in q n.config.logical (known_image n t.spare u s.image) ≡ array_known n s.image) rule (known_array s n t u m (unsure_spelled s n t u m));
+      subst (λ q. array_in q n.config.logical (known_image n t.spare u s.image) ≡ array_known n s.image) rule
+      (known_array s n t u m (unsure_spelled s n t u m));
 }

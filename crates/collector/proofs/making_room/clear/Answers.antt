@@ -19,7 +19,8 @@ none_mapped (Some block) e = cc
 
 pub returns-then-is_none-clause-clears : goal.returns-then-is_none-clause-clears
 returns-then-is_none-clause-clears g c =
-    clears_all g.R.CommitRule.protocol c.args.page c.args.below _ _ (clears_none g.R.CommitRule.protocol c.args.page c.args.below _ c.requires.sure c.requires.next)
+    clears_all g.R.CommitRule.protocol c.args.page c.args.below
+    _ _ (clears_none g.R.CommitRule.protocol c.args.page c.args.below _ c.requires.sure c.requires.next)
     (sym c.must_go.ensures ∙ none_mapped c.must_go.result (c.is_none.ensures ∙ ap not c.if-is_none.true))
 
 pub blocks_to_go-requires-clause-room : goal.blocks_to_go-requires-clause-room
@@ -35,19 +36,22 @@ loop-block-init g c = record {
 
 pub is_going-requires-clause-block : goal.is_going-requires-clause-block
 is_going-requires-clause-block g c =
-    next_exists c.loop-block.index c.args.page c.args.below c.deref-block-items.result.now c.loop-block.block-index c.loop-block.invariant.ahead _ c.loop-block-test.true refl
+    next_exists c.loop-block.index c.args.page c.args.below c.deref-block-items.result.now c.loop-block.block-index c.loop-block.invariant.ahead
+    _ c.loop-block-test.true refl
 
 pub treat-requires-clause-sure : goal.treat-requires-clause-sure
 treat-requires-clause-sure g c = sure_then g.R.CommitRule.protocol _ _ c.requires.sure c.loop-block.invariant.so_far.keeps
 
 pub treat-requires-clause-exists : goal.treat-requires-clause-exists
 treat-requires-clause-exists g c =
-    next_exists c.loop-block.index c.args.page c.args.below c.deref-block-items.result.now c.loop-block.block-index c.loop-block.invariant.ahead _ c.loop-block-test.true refl
+    next_exists c.loop-block.index c.args.page c.args.below c.deref-block-items.result.now c.loop-block.block-index c.loop-block.invariant.ahead
+    _ c.loop-block-test.true refl
 
 pub treat-requires-clause-unneeded : goal.treat-requires-clause-unneeded
 treat-requires-clause-unneeded g c =
     λ apart. block_unneeded _ _ _ _ _ c.loop-block.invariant.so_far _
-    (next_found c.loop-block.index c.args.page c.args.below c.deref-block-items.result.now c.loop-block.block-index c.loop-block.invariant.ahead _ c.loop-block-test.true refl
+    (next_found c.loop-block.index c.args.page c.args.below c.deref-block-items.result.now c.loop-block.block-index c.loop-block.invariant.ahead
+    _ c.loop-block-test.true refl
     c.loop-block.invariant.so_far.keeps.matches.noted (sym c.is_going.ensures ∙ c.if-is_going.true))
 
 pub treat-requires-clause-room : goal.treat-requires-clause-room
@@ -63,16 +67,19 @@ loop-block-preserved g c =
       | then-is_going+in_ok-treat w ↦ (
           let going = sym c.is_going.ensures ∙ w.if-is_going.true in
           let block = get_or items l.block-index (record { 0 = 0 }) in
-          let found = next_found l.index c.args.page c.args.below items l.block-index l.invariant.ahead block c.loop-block-test.true refl so.keeps.matches.noted going in
+          let found = next_found l.index c.args.page c.args.below items l.block-index l.invariant.ahead block c.loop-block-test.true refl so.keeps.matches.noted
+          going in
           let e = w.in_ok-treat.ensures in
           rw (w.flash-is, w.index-is, w.blocks-is, w.unsure-is) (record {
             so_far = round_done _ _ _ _ _ so block.0 found g.met.R.CommitRule.block_loss c.requires.sure _ _ e;
-            ahead = next_treated l.index c.args.page c.args.below items l.block-index l.invariant.ahead block c.loop-block-test.true refl w.treat.new.index e.keeps.preserves.config
+            ahead = next_treated l.index c.args.page c.args.below items l.block-index l.invariant.ahead block c.loop-block-test.true refl w.treat.new.index
+                e.keeps.preserves.config
                 (round_still _ _ _ _ _ so block.0 found g.met.R.CommitRule.block_loss c.requires.sure _ _ e);
           }))
       | else-is_going w ↦ rw (w.flash-is, w.index-is, w.blocks-is, w.unsure-is) (record {
         so_far = so;
-        ahead = next_passed l.index c.args.page c.args.below items l.block-index l.invariant.ahead (get_or items l.block-index (record { 0 = 0 })) c.loop-block-test.true refl
+        ahead = next_passed l.index c.args.page c.args.below items l.block-index l.invariant.ahead (get_or items l.block-index (record { 0 = 0 }))
+            c.loop-block-test.true refl
             (sym c.is_going.ensures ∙ w.if-is_going.false);
       })
     ]
@@ -81,13 +88,15 @@ pub returns-in_err-treat-clause-clears : goal.returns-in_err-treat-clause-clears
 returns-in_err-treat-clause-clears g c =
     by_err c.from_residual.result (Clears g.R.CommitRule.protocol _ _ c.args.page c.args.below) c.from_residual.ensures.0 (λ y.
     round_broke _ _ _ _ _ c.loop-block.invariant.so_far _
-    (next_found c.loop-block.index c.args.page c.args.below c.deref-block-items.result.now c.loop-block.block-index c.loop-block.invariant.ahead _ c.loop-block-test.true refl
+    (next_found c.loop-block.index c.args.page c.args.below c.deref-block-items.result.now c.loop-block.block-index c.loop-block.invariant.ahead
+    _ c.loop-block-test.true refl
     c.loop-block.invariant.so_far.keeps.matches.noted (sym c.is_going.ensures ∙ c.if-is_going.true)) _ _ y c.in_err-treat.ensures)
 
 pub returns-clause-clears : goal.returns-clause-clears
 returns-clause-clears g c =
     clears_all _ _ _ _ _ c.loop-block.invariant.so_far
-    (none_next c.loop-block.index c.args.page c.args.below c.deref-block-items.result.now c.loop-block.block-index c.loop-block.invariant.ahead c.loop-block-test.false)
+    (none_next c.loop-block.index c.args.page c.args.below c.deref-block-items.result.now c.loop-block.block-index c.loop-block.invariant.ahead
+    c.loop-block-test.false)
 
 pub returns-clause-idle : goal.returns-clause-idle
 returns-clause-idle g c = λ nothing. absurd (some_mapped c.must_go.result (c.is_none.ensures ∙ ap not c.if-is_none.false) (c.must_go.ensures ∙ nothing))

@@ -5,7 +5,8 @@ use Rattle.collector.proofs.making_room.collect_most.Goals as goal
 
 pub returns-in_err-clean_spare : goal.returns-in_err-clean_spare
 returns-in_err-clean_spare g c =
-    by_err c.from_residual.result (CollectsMost g.R.CommitRule.protocol _ _) c.from_residual.ensures.0 (λ y. most_unclean g.R.CommitRule.protocol _ _ _ y c.in_err-clean_spare.ensures)
+    by_err c.from_residual.result (CollectsMost g.R.CommitRule.protocol _ _) c.from_residual.ensures.0
+    (λ y. most_unclean g.R.CommitRule.protocol _ _ _ y c.in_err-clean_spare.ensures)
 
 pub returns-in_default : goal.returns-in_default
 returns-in_default g c = most_none g.R.CommitRule.protocol g.met.R.CommitRule.block_loss _ _ c.requires.sure c.in_ok-clean_spare.ensures c.in_default.ensures
@@ -23,8 +24,10 @@ collect_clean-requires-clause-blank g c = blank_spare g.R.CommitRule.protocol g.
 pub returns-in_err-collect_clean : goal.returns-in_err-collect_clean
 returns-in_err-collect_clean g c =
     by_err c.from_residual-in_err-collect_clean.result (CollectsMost g.R.CommitRule.protocol _ _) c.from_residual-in_err-collect_clean.ensures.0 (λ y.
-    most_broke g.R.CommitRule.protocol g.met.R.CommitRule.block_loss _ _ c.requires.sure c.in_ok-clean_spare.ensures c.in-Some.chosen c.in-Some.ensures _ _ y c.in_err-collect_clean.ensures)
+    most_broke g.R.CommitRule.protocol g.met.R.CommitRule.block_loss _ _ c.requires.sure c.in_ok-clean_spare.ensures c.in-Some.chosen c.in-Some.ensures _ _ y
+    c.in_err-collect_clean.ensures)
 
 pub returns : goal.returns
 returns g c =
-    most_done g.R.CommitRule.protocol g.met.R.CommitRule.block_loss _ _ c.requires.sure c.in_ok-clean_spare.ensures c.in-Some.chosen c.in-Some.ensures _ _ c.in_ok-collect_clean.ensures
+    most_done g.R.CommitRule.protocol g.met.R.CommitRule.block_loss _ _ c.requires.sure c.in_ok-clean_spare.ensures c.in-Some.chosen c.in-Some.ensures
+    _ _ c.in_ok-collect_clean.ensures

@@ -9,7 +9,8 @@ use Rattle.collector.proofs.making_room.free_slot.Goals as goal
 
 pub returns-in-Some-clause-finds : goal.returns-in-Some-clause-finds
 returns-in-Some-clause-finds g c =
-    found_at_once g.R.CommitRule.protocol _ c.requires.sure _ c.in-Some.ensures.cursor c.in-Some.ensures.table (λ full. (let e = c.in-Some.ensures.full.1 full in cc)) c.in-Some.at c.in-Some.ensures.free
+    found_at_once g.R.CommitRule.protocol _ c.requires.sure _ c.in-Some.ensures.cursor c.in-Some.ensures.table
+    (λ full. (let e = c.in-Some.ensures.full.1 full in cc)) c.in-Some.at c.in-Some.ensures.free
 
 pub returns-in_err-_collected-clause-finds : goal.returns-in_err-_collected-clause-finds
 returns-in_err-_collected-clause-finds g c =
@@ -17,7 +18,8 @@ returns-in_err-_collected-clause-finds g c =
     let a = store_of (g.F.Flash.state c.args.flash.now) c.args.index.now c.args.blocks.now c.args.unsure.now in
     let b = store_of (g.F.Flash.state c.collect_most.new.flash) c.collect_most.new.index c.collect_most.new.blocks c.collect_most.new.unsure in
     let made : CollectsMost p a b (Err c.in_err-_collected.field-0.0) =
-    subst (λ (t : BlockTable). CollectsMost p (store_of (g.F.Flash.state c.args.flash.now) c.args.index.now t c.args.unsure.now) b (Err c.in_err-_collected.field-0.0)) c.in_default.ensures.unchanged c.in_err-_collected.ensures in
+    subst (λ (t : BlockTable). CollectsMost p (store_of (g.F.Flash.state c.args.flash.now) c.args.index.now t c.args.unsure.now) b
+    (Err c.in_err-_collected.field-0.0)) c.in_default.ensures.unchanged c.in_err-_collected.ensures in
     by_err c.from_residual.result (FindsSlot p a b) c.from_residual.ensures.0 (λ y. found_none p a c.requires.sure b _ y made)
 
 pub returns-in_err-_collected-clause-direct : goal.returns-in_err-_collected-clause-direct
@@ -29,7 +31,8 @@ unreachable-requires g c =
     let a = store_of (g.F.Flash.state c.args.flash.now) c.args.index.now c.args.blocks.now c.args.unsure.now in
     let b = store_of (g.F.Flash.state c.collect_most.new.flash) c.collect_most.new.index c.collect_most.new.blocks c.collect_most.new.unsure in
     let made : CollectsMost p a b (Ok c.in_ok-_collected._collected) =
-    subst (λ (t : BlockTable). CollectsMost p (store_of (g.F.Flash.state c.args.flash.now) c.args.index.now t c.args.unsure.now) b (Ok c.in_ok-_collected._collected)) c.in_default.ensures.unchanged c.in_ok-_collected.ensures in
+    subst (λ (t : BlockTable). CollectsMost p (store_of (g.F.Flash.state c.args.flash.now) c.args.index.now t c.args.unsure.now) b
+    (Ok c.in_ok-_collected._collected)) c.in_default.ensures.unchanged c.in_ok-_collected.ensures in
     made.room (full_collects p a b c.requires.sure (c.in_default.ensures.full.0 refl) c.requires.next _ made) (c.in_default-next_slot.ensures.full.0 refl)
 
 pub returns-clause-finds : goal.returns-clause-finds
@@ -38,9 +41,11 @@ returns-clause-finds g c =
     let a = store_of (g.F.Flash.state c.args.flash.now) c.args.index.now c.args.blocks.now c.args.unsure.now in
     let b = store_of (g.F.Flash.state c.collect_most.new.flash) c.collect_most.new.index c.collect_most.new.blocks c.collect_most.new.unsure in
     let made : CollectsMost p a b (Ok c.in_ok-_collected._collected) =
-    subst (λ (t : BlockTable). CollectsMost p (store_of (g.F.Flash.state c.args.flash.now) c.args.index.now t c.args.unsure.now) b (Ok c.in_ok-_collected._collected)) c.in_default.ensures.unchanged c.in_ok-_collected.ensures in
+    subst (λ (t : BlockTable). CollectsMost p (store_of (g.F.Flash.state c.args.flash.now) c.args.index.now t c.args.unsure.now) b
+    (Ok c.in_ok-_collected._collected)) c.in_default.ensures.unchanged c.in_ok-_collected.ensures in
     let any = full_collects p a b c.requires.sure (c.in_default.ensures.full.0 refl) c.requires.next _ made in
-    found_then p a c.requires.sure b (subst (λ x. CollectsMost p a b (Ok x)) any made) _ c.in-Some-next_slot.ensures.cursor c.in-Some-next_slot.ensures.table c.in-Some-next_slot.at (sym c.in-Some-next_slot.ensures.slot) c.in-Some-next_slot.ensures.free
+    found_then p a c.requires.sure b (subst (λ x. CollectsMost p a b (Ok x)) any made) _ c.in-Some-next_slot.ensures.cursor c.in-Some-next_slot.ensures.table
+    c.in-Some-next_slot.at (sym c.in-Some-next_slot.ensures.slot) c.in-Some-next_slot.ensures.free
 
 pub returns-clause-direct : goal.returns-clause-direct
 returns-clause-direct g c = λ room. absurd (room (c.in_default.ensures.full.0 refl))

@@ -1,11 +1,12 @@
 use Rattle.tx_engine.proofs.Removal.{names_low, names_long, closed_stands}
 use Rattle.tx_engine.proofs.closing.close.Goals as goal
 
-pub unpin-requires-clause-range : goal.unpin-requires-clause-range
-unpin-requires-clause-range g c = names_low g.F.Flash.state c.args.store.now c.args.openings.now c.requires.ready.stands c.args.at c.requires.at
-
-pub unpin-requires-clause-named : goal.unpin-requires-clause-named
-unpin-requires-clause-named g c = names_long g.F.Flash.state c.args.store.now c.args.openings.now c.requires.ready.stands c.args.at c.requires.at
+pub unpin-requires : goal.unpin-requires
+unpin-requires g c = record {
+  at = c.requires.at;
+  range = names_low g.F.Flash.state c.args.store.now c.args.openings.now c.requires.ready.stands c.args.at c.requires.at;
+  named = names_long g.F.Flash.state c.args.store.now c.args.openings.now c.requires.ready.stands c.args.at c.requires.at;
+}
 
 pub returns : goal.returns
 returns g c = record {

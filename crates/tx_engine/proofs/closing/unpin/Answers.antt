@@ -17,9 +17,12 @@ loop-place-preserved g c =
     record {
       pins = pins_then c.args.store.now c.loop-place.store c.unpin.new.self c.name.result.page c.loop-place.invariant.pins c.unpin.ensures;
       pages = ap length pins ∙ length-set c.loop-place.store.noted.pins c.name.result.page 0 ∙ c.loop-place.invariant.pages;
-      gone = subst (λ ps. (name : Link) → Contains (pinned_names ps) name ↔ (Contains (pinned_names c.args.store.now.noted.pins) name × ((k : ℕ) → k < c.loop-place.place + 1 → (name_at x k).page ≢ name.page)))
+      gone = subst (λ ps. (name : Link) →
+          Contains (pinned_names ps)
+          name ↔ (Contains (pinned_names c.args.store.now.noted.pins) name × ((k : ℕ) → k < c.loop-place.place + 1 → (name_at x k).page ≢ name.page)))
           (sym pins)
-          (unpin_more c.args.store.now.noted.pins c.loop-place.store.noted.pins (λ k. (name_at x k).page) c.loop-place.place c.name.result.page (ap (λ (a : Link). a.page) c.name.ensures) c.loop-place.invariant.gone);
+          (unpin_more c.args.store.now.noted.pins c.loop-place.store.noted.pins (λ k. (name_at x k).page) c.loop-place.place c.name.result.page
+          (ap (λ (a : Link). a.page) c.name.ensures) c.loop-place.invariant.gone);
     }
 
 pub returns : goal.returns

@@ -13,7 +13,8 @@ pub returns-in_err-any : goal.returns-in_err-any
 returns-in_err-any g c =
     let state = g.F.Flash.state in let S = c.args.store.now in let S' = c.collect.new.self in let O = c.args.openings.now in let h = c.in_err-any.ensures in
     by_err c.from_residual.result (CollectsSettled state S S' O) c.from_residual.ensures.0 (λ y. record {
-      left = left_by state S S' O true g.R.CommitRule.protocol c.arrays_stay.ensures c.requires.ready.rule c.requires.ready.stands h.keeps c.requires.ready.sure;
+      left = left_by state S S' O true g.R.CommitRule.protocol c.arrays_stay.ensures c.requires.ready.rule c.requires.ready.stands h.keeps
+          c.requires.ready.sure;
       tables = tt;
       stays = h.stays;
       broken = h.broken;
@@ -24,7 +25,8 @@ returns-in_err-any g c =
 pub returns : goal.returns
 returns g c =
     let state = g.F.Flash.state in let S = c.args.store.now in let S' = c.collect.new.self in let O = c.args.openings.now in let h = c.in_ok-any.ensures in
-    let left = left_by state S S' O false g.R.CommitRule.protocol c.arrays_stay.ensures c.requires.ready.rule c.requires.ready.stands h.keeps c.requires.ready.sure in
+    let left = left_by state S S' O false g.R.CommitRule.protocol c.arrays_stay.ensures c.requires.ready.rule c.requires.ready.stands h.keeps
+    c.requires.ready.sure in
     record {
       left = left;
       tables = collects_tables (store_in state S) (store_in state S') c.in_ok-any.any c.answer_of.result c.answer_of.ensures h.done;

@@ -3,11 +3,11 @@ use Rattle.tx_engine.specs.ArrayState.{entry_of}
 use Rattle.tx_engine.proofs.CutsLeave.{cut_step, cut_settled}
 use Rattle.tx_engine.proofs.laws.cuts_leave.Goals as goal
 
-pub returns-clause-step : goal.returns-clause-step
-returns-clause-step g c = λ old new there tag stands rule steps.
-    cut_step old.machine new.machine there tag _ _ _ new.namings new.unsure stands.doubt (c.devices_stand.ensures.array new stands rule)
-    (entry_of tag old.machine.entries) refl steps
-
-pub returns-clause-settled : goal.returns-clause-settled
-returns-clause-settled g c = λ old new there stands rule settled.
-    cut_settled (λ e. ⊥) old.machine _ there new.machine _ _ new.namings new.unsure stands.doubt (c.devices_stand.ensures.array new stands rule) settled
+pub returns : goal.returns
+returns g c = record {
+  step = λ old new there tag stands rule steps.
+      cut_step old.machine new.machine there tag _ _ _ new.namings new.unsure stands.doubt (c.devices_stand.ensures.array new stands rule)
+      (entry_of tag old.machine.entries) refl steps;
+  settled = λ old new there stands rule settled.
+      cut_settled (λ e. ⊥) old.machine _ there new.machine _ _ new.namings new.unsure stands.doubt (c.devices_stand.ensures.array new stands rule) settled;
+}

@@ -1,20 +1,26 @@
+use Rattle.std.proofs.Common.{◌≡◌, ap, ◌∙◌, rules, subst, sym}
+use Rattle.tx_types.specs.declared.config.Config.{Config}
+use Rattle.version_index.specs.Images.{IsSoundImage, array_in}
+use Rattle.collector.specs.Known.{known_image}
 use Rattle.tx_engine.proofs.DevicesStand.{device_array, known_records, known_versions}
 use Rattle.tx_engine.proofs.DeviceMentions.{device_mentions}
 use Rattle.tx_engine.proofs.laws.devices_stand.Goals as goal
 
-pub returns-clause-array : goal.returns-clause-array
-returns-clause-array g c =
-    device_array g.F.Flash.state g.R.CommitRule.protocol
-    c.images_stand.ensures
-    c.noted_writes.ensures
-
-pub returns-clause-mentions : goal.returns-clause-mentions
-returns-clause-mentions g c =
-    device_mentions g.F.Flash.state g.R.CommitRule.protocol
-    c.images_stand.ensures
-
-pub returns-clause-known_records : goal.returns-clause-known_records
-returns-clause-known_records g c = known_records g.F.Flash.state g.R.CommitRule.protocol c.known_images_stand.ensures.notes
-
-pub returns-clause-known_versions : goal.returns-clause-known_versions
-returns-clause-known_versions g c = λ s page h rule. known_versions g.F.Flash.state g.R.CommitRule.protocol c.known_images_stand.ensures.notes s h rule page
+pub returns : goal.returns
+returns g c = record {
+  sound = λ s stands rule. search rules;
+  known = λ s stands rule.
+      let state = g.F.Flash.state in let p = g.R.CommitRule.protocol in
+      let image = known_image s.noted s.table.spare s.unsure (state s.flash).image in
+      let noted : s.noted.config.protocol ≡ p = ap (λ (k : Config). k.protocol) (sym stands.config) ∙ rule in (
+        subst (λ (k : Config). IsSoundImage p k.logical (state s.flash).shape image) (sym stands.config)
+            (c.known_images_stand.ensures.sound (state s.flash) s.noted s.table s.unsure stands.matches noted),
+        subst (λ (k : Config). array_in p k.logical image ≡ s.machine.pages) (sym stands.config)
+            (c.known_images_stand.ensures.array (state s.flash) s.noted s.table s.unsure stands.matches noted ∙ sym stands.array),
+      );
+  known_records = known_records g.F.Flash.state g.R.CommitRule.protocol c.known_images_stand.ensures.notes;
+  known_versions = λ s page h rule. known_versions g.F.Flash.state g.R.CommitRule.protocol c.known_images_stand.ensures.notes s h rule page;
+  array = device_array g.F.Flash.state g.R.CommitRule.protocol c.images_stand.ensures c.noted_writes.ensures;
+  records = λ s stands rule sure. search rules;
+  mentions = device_mentions g.F.Flash.state g.R.CommitRule.protocol c.images_stand.ensures;
+}

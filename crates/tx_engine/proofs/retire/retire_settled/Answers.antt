@@ -1,6 +1,9 @@
 use Rattle.tx_engine.proofs.Leaving.{tables_left}
 use Rattle.tx_engine.proofs.retire.retire_settled.Goals as goal
 
+pub retire-requires : goal.retire-requires
+retire-requires g c = record { nothing = c.requires.ready.sure; exists = c.requires.exists; left = c.requires.left }
+
 pub returns : goal.returns
 returns g c =
     let h = c.retire.ensures in

@@ -58,7 +58,8 @@ returns-in-Some g c =
     (λ none. absurd (let both = (c.in_ok-found.ensures.idle none).0 in let is = c.in-Present.is in cc))
 
 pub returns-in_default : goal.returns-in_default
-returns-in_default g c = absurd (own_none g.F.Flash.state c.args.store.now c.args.openings.now c.requires.stands g.R.CommitRule.protocol c.requires.rule c.images_stand.ensures
+returns-in_default g c = absurd
+    (own_none g.F.Flash.state c.args.store.now c.args.openings.now c.requires.stands g.R.CommitRule.protocol c.requires.rule c.images_stand.ensures
     c.settle.new.self.noted c.settle.new.self.table c.in_ok-found.found c.in_ok-found.ensures.settles.found c.noted_writes.ensures
     c.writer-writer.result c.writer-writer.ensures c.in-Present.is c.in_default.is)
 
@@ -76,7 +77,8 @@ returns-in-Some-doubtful g c =
       logical = ap (λ (o : OpenTable). o.logical) c.set_mark.ensures;
       pending = ap (λ (o : OpenTable). o.pending) c.set_mark.ensures;
     })
-    (marked_names O O' c.in-Some-doubtful.at Plain (position-Some (λ (o : Opening). is_doubted o.entry.mark) O.all c.in-Some-doubtful.at no_opening there).0 c.set_mark.ensures)
+    (marked_names O O' c.in-Some-doubtful.at Plain (position-Some (λ (o : Opening). is_doubted o.entry.mark) O.all c.in-Some-doubtful.at no_opening there).0
+    c.set_mark.ensures)
     (λ none. absurd (none_doubted g.F.Flash.state S O c.requires.stands none c.in-Some-doubtful.at there))
 
 pub returns-in_default-doubtful : goal.returns-in_default-doubtful

@@ -16,4 +16,5 @@ returns-then-name-page c =
 
 pub returns : goal.returns
 returns c =
-    sym (position-none (is_writing c.args.page) c.args.openings.now.all no_opening (λ k less. c.loop-at.invariant k (omega (arith, c.count-at-end.ensures.count))))
+    sym (position-none (is_writing c.args.page) c.args.openings.now.all no_opening
+    (λ k less. c.loop-at.invariant k (omega (arith, c.count-at-end.ensures.count))))

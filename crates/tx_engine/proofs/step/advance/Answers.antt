@@ -5,18 +5,27 @@ use Rattle.tx_engine.proofs.AdvanceExits.{not_due_ready}
 use Rattle.tx_engine.proofs.Advancing.{is_due_at, counted_on, advance_breaks, counts_then, exists_then, ready_then, advanced}
 use Rattle.tx_engine.proofs.step.advance.Goals as goal
 
-pub count_next-requires-clause-counts : goal.count_next-requires-clause-counts
-count_next-requires-clause-counts g c =
-    not_due_ready g.F.Flash.state c.args.store.now c.args.openings.now c.args.at c.requires.ready.stands c.requires.ready.sure c.requires.at (sym c.is_due.ensures ∙ c.if-not-is_due.true)
+pub count_next-requires : goal.count_next-requires
+count_next-requires g c = record {
+  ready = c.requires.ready;
+  at = c.requires.at;
+  counts = not_due_ready g.F.Flash.state c.args.store.now c.args.openings.now c.args.at c.requires.ready.stands c.requires.ready.sure c.requires.at
+      (sym c.is_due.ensures ∙ c.if-not-is_due.true);
+}
 
 pub returns-then-not-is_due : goal.returns-then-not-is_due
 returns-then-not-is_due g c =
-    counted_on g.F.Flash.state g.R.CommitRule.protocol c.args.store.now c.args.openings.now c.args.at c.requires.ready c.requires.at (sym c.is_due.ensures ∙ c.if-not-is_due.true)
+    counted_on g.F.Flash.state g.R.CommitRule.protocol c.args.store.now c.args.openings.now c.args.at c.requires.ready c.requires.at
+    (sym c.is_due.ensures ∙ c.if-not-is_due.true)
     c.count_next.new.store c.count_next.new.openings c.count_next.result c.count_next.ensures
 
-pub write_next-requires-clause-due : goal.write_next-requires-clause-due
-write_next-requires-clause-due g c =
-    is_due_at g.F.Flash.state g.R.CommitRule.protocol c.args.store.now c.args.openings.now c.args.at c.requires.ready c.requires.at (sym c.is_due.ensures ∙ c.if-not-is_due.false)
+pub write_next-requires : goal.write_next-requires
+write_next-requires g c = record {
+  ready = c.requires.ready;
+  due = is_due_at g.F.Flash.state g.R.CommitRule.protocol c.args.store.now c.args.openings.now c.args.at c.requires.ready c.requires.at
+      (sym c.is_due.ensures ∙ c.if-not-is_due.false);
+  size = c.requires.size;
+}
 
 pub returns-in_err-write_next : goal.returns-in_err-write_next
 returns-in_err-write_next g c =
@@ -25,22 +34,22 @@ returns-in_err-write_next g c =
     advance_breaks g.F.Flash.state g.R.CommitRule.protocol S O c.args.at c.requires.ready c.requires.at (sym c.is_due.ensures ∙ c.if-not-is_due.false)
     c.write_next.new.store c.write_next.new.openings _ y c.in_err-write_next.ensures)
 
-pub count_next-requires-2-clause-ready : goal.count_next-requires-2-clause-ready
-count_next-requires-2-clause-ready g c =
-    ready_then g.F.Flash.state g.R.CommitRule.protocol c.args.store.now c.args.openings.now c.args.at c.requires.ready c.requires.at (sym c.is_due.ensures ∙ c.if-not-is_due.false)
-    c.write_next.new.store c.write_next.new.openings c.in_ok-write_next.ensures
-
-pub count_next-requires-2-clause-at : goal.count_next-requires-2-clause-at
-count_next-requires-2-clause-at g c =
-    exists_then g.F.Flash.state g.R.CommitRule.protocol c.args.store.now c.args.openings.now c.args.at c.requires.ready c.requires.at (sym c.is_due.ensures ∙ c.if-not-is_due.false)
-    c.write_next.new.store c.write_next.new.openings c.in_ok-write_next.ensures
-
-pub count_next-requires-2-clause-counts : goal.count_next-requires-2-clause-counts
-count_next-requires-2-clause-counts g c =
-    counts_then g.F.Flash.state g.R.CommitRule.protocol c.args.store.now c.args.openings.now c.args.at c.requires.ready c.requires.at (sym c.is_due.ensures ∙ c.if-not-is_due.false)
-    c.write_next.new.store c.write_next.new.openings c.in_ok-write_next.ensures
+pub count_next-requires-2 : goal.count_next-requires-2
+count_next-requires-2 g c = record {
+  ready = ready_then g.F.Flash.state g.R.CommitRule.protocol c.args.store.now c.args.openings.now c.args.at c.requires.ready c.requires.at
+      (sym c.is_due.ensures ∙ c.if-not-is_due.false)
+      c.write_next.new.store c.write_next.new.openings c.in_ok-write_next.ensures;
+  at = exists_then g.F.Flash.state g.R.CommitRule.protocol c.args.store.now c.args.openings.now c.args.at c.requires.ready c.requires.at
+      (sym c.is_due.ensures ∙ c.if-not-is_due.false)
+      c.write_next.new.store c.write_next.new.openings c.in_ok-write_next.ensures;
+  counts = counts_then g.F.Flash.state g.R.CommitRule.protocol c.args.store.now c.args.openings.now c.args.at c.requires.ready c.requires.at
+      (sym c.is_due.ensures ∙ c.if-not-is_due.false)
+      c.write_next.new.store c.write_next.new.openings c.in_ok-write_next.ensures;
+}
 
 pub returns : goal.returns
 returns g c =
-    advanced g.F.Flash.state g.R.CommitRule.protocol c.args.store.now c.args.openings.now c.args.at c.requires.ready c.requires.at (sym c.is_due.ensures ∙ c.if-not-is_due.false)
-    c.write_next.new.store c.write_next.new.openings c.in_ok-write_next.ensures c.count_next-2.new.store c.count_next-2.new.openings c.count_next-2.result c.count_next-2.ensures
+    advanced g.F.Flash.state g.R.CommitRule.protocol c.args.store.now c.args.openings.now c.args.at c.requires.ready c.requires.at
+    (sym c.is_due.ensures ∙ c.if-not-is_due.false)
+    c.write_next.new.store c.write_next.new.openings c.in_ok-write_next.ensures c.count_next-2.new.store c.count_next-2.new.openings c.count_next-2.result
+    c.count_next-2.ensures

@@ -8,8 +8,12 @@ use Rattle.tx_engine.proofs.step.count_next.Goals as goal
 
 pub overflow_add-done : goal.overflow_add-done
 overflow_add-done g c =
-    let known = ((from_stands g.F.Flash.state c.args.store.now c.args.openings.now c.requires.ready.stands).each c.args.at no_opening c.requires.at).named.within in
+    let known = ((from_stands g.F.Flash.state c.args.store.now c.args.openings.now c.requires.ready.stands).each c.args.at no_opening
+    c.requires.at).named.within in
     omega (arith, known, c.done-done.ensures, c.pages-all.ensures, c.pages-all.type_inv)
+
+pub close-requires : goal.close-requires
+close-requires g c = record { ready = c.requires.ready; at = c.requires.at }
 
 pub returns-in-Whole : goal.returns-in-Whole
 returns-in-Whole g c =
@@ -40,9 +44,12 @@ returns-in-Plain g c =
     let opens : c.set_done.new.self ≡ with_opening O c.args.at (with_done (opening_at O c.args.at) ((opening_at O c.args.at).entry.done + 1)) =
     c.set_done.ensures ∙ ap (λ k. with_opening O c.args.at (with_done (opening_at O c.args.at) (k + 1))) c.done-done.ensures in
     record {
-      stands = counted_stands state c.args.store.now O c.set_done.new.self c.args.at c.requires.ready.stands c.requires.ready.sure c.requires.at ready.0 ready.1 opens;
-      counts = counted_machine state c.args.store.now O c.set_done.new.self c.args.at c.requires.ready.stands c.requires.ready.sure c.requires.at ready.0 ready.1 opens _ _ (ap (λ k. k + 1) c.done-done.ensures) c.pages-all.ensures;
-      exits = counted_exits state c.args.store.now O c.set_done.new.self c.args.at c.requires.ready.stands c.requires.ready.sure c.requires.at ready.0 ready.1 opens;
+      stands = counted_stands state c.args.store.now O c.set_done.new.self c.args.at c.requires.ready.stands c.requires.ready.sure c.requires.at ready.0 ready.1
+          opens;
+      counts = counted_machine state c.args.store.now O c.set_done.new.self c.args.at c.requires.ready.stands c.requires.ready.sure c.requires.at ready.0
+          ready.1 opens _ _ (ap (λ k. k + 1) c.done-done.ensures) c.pages-all.ensures;
+      exits = counted_exits state c.args.store.now O c.set_done.new.self c.args.at c.requires.ready.stands c.requires.ready.sure c.requires.at ready.0 ready.1
+          opens;
       versions = λ page. refl;
       stays = refl;
       sure = c.requires.ready.sure;

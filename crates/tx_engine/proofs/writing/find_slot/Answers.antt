@@ -6,10 +6,12 @@ use Rattle.tx_engine.proofs.RecordWrites.{finds_slot}
 use Rattle.tx_engine.specs.OpenTable.{name_due}
 use Rattle.tx_engine.proofs.writing.find_slot.Goals as goal
 
-pub free_slot-requires-clause-next : goal.free_slot-requires-clause-next
-free_slot-requires-clause-next g c =
-    let next = next_of_due g.F.Flash.state g.R.CommitRule.protocol c.args.store.now c.args.openings.now c.args.at c.requires.ready c.requires.due in
-    (next.0, name_due c.args.openings.now c.args.at, next.1)
+pub free_slot-requires : goal.free_slot-requires
+free_slot-requires g c = record {
+  nothing = c.requires.ready.sure;
+  next = (let next = next_of_due g.F.Flash.state g.R.CommitRule.protocol c.args.store.now c.args.openings.now c.args.at c.requires.ready c.requires.due in
+      (next.0, name_due c.args.openings.now c.args.at, next.1));
+}
 
 pub returns : goal.returns
 returns g c =

@@ -18,4 +18,5 @@ pub returns : goal.returns
 returns g c =
     let O = c.args.openings.now in
     let is = c.bytes.ensures ∙ ap (λ k. bytes_in O.page_bytes (write_at (opening_at O c.args.at).entry k)) c.done.ensures in
-    subst (λ (b : List ℕ). WritesOwn (store_in g.F.Flash.state c.args.store.now) (store_in g.F.Flash.state c.write.new.self) c.args.slot c.args.rec b c.write.result) is c.write.ensures
+    subst (λ (b : List ℕ). WritesOwn (store_in g.F.Flash.state c.args.store.now) (store_in g.F.Flash.state c.write.new.self) c.args.slot c.args.rec b
+    c.write.result) is c.write.ensures

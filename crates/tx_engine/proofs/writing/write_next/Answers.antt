@@ -5,55 +5,67 @@ use Rattle.tx_engine.proofs.PageWrites.{place, page_low, can_write, clearing_bre
 use Rattle.tx_engine.specs.OpenTable.{opening_at}
 use Rattle.tx_engine.proofs.writing.write_next.Goals as goal
 
+pub clear-requires : goal.clear-requires
+clear-requires g c = record { ready = c.requires.ready; due = c.requires.due }
+
 pub returns-in_err-clear : goal.returns-in_err-clear
 returns-in_err-clear g c =
     let S = c.args.store.now in let O = c.args.openings.now in
     by_err c.from_residual.result (WritesPage g.F.Flash.state S c.clear.new.store O O c.args.at) c.from_residual.ensures.0 (λ y.
     clearing_breaks g.F.Flash.state g.R.CommitRule.protocol S O c.args.at c.requires.ready c.requires.due c.clear.new.store _ y c.in_err-clear.ensures)
 
-pub find_slot-requires-clause-ready : goal.find_slot-requires-clause-ready
-find_slot-requires-clause-ready g c =
-    ready_cleared g.F.Flash.state g.R.CommitRule.protocol c.args.store.now c.args.openings.now c.args.at c.requires.ready c.requires.due c.clear.new.store c.in_ok-clear.ensures
+pub find_slot-requires : goal.find_slot-requires
+find_slot-requires g c = record {
+  ready = ready_cleared g.F.Flash.state g.R.CommitRule.protocol c.args.store.now c.args.openings.now c.args.at c.requires.ready c.requires.due c.clear.new.store
+      c.in_ok-clear.ensures;
+  due = c.requires.due;
+  clear = c.in_ok-clear.ensures.clears.cleared;
+}
 
 pub returns-in_err-slot : goal.returns-in_err-slot
 returns-in_err-slot g c =
     let S = c.args.store.now in let O = c.args.openings.now in
     by_err c.from_residual-in_err-slot.result (WritesPage g.F.Flash.state S c.find_slot.new.store O O c.args.at) c.from_residual-in_err-slot.ensures.0 (λ y.
-    slot_breaks g.F.Flash.state g.R.CommitRule.protocol S O c.args.at c.requires.ready c.requires.due c.clear.new.store c.in_ok-clear.ensures c.find_slot.new.store _ y c.in_err-slot.ensures)
+    slot_breaks g.F.Flash.state g.R.CommitRule.protocol S O c.args.at c.requires.ready c.requires.due c.clear.new.store c.in_ok-clear.ensures
+    c.find_slot.new.store _ y c.in_err-slot.ensures)
 
 pub next_record-rec-requires-clause-next : goal.next_record-rec-requires-clause-next
-next_record-rec-requires-clause-next g c = place g.F.Flash.state g.R.CommitRule.protocol c.args.store.now c.args.openings.now c.args.at c.requires.ready c.requires.due
+next_record-rec-requires-clause-next g c = place g.F.Flash.state g.R.CommitRule.protocol c.args.store.now c.args.openings.now c.args.at c.requires.ready
+    c.requires.due
 
 pub next_record-rec-requires-clause-page : goal.next_record-rec-requires-clause-page
 next_record-rec-requires-clause-page g c =
     let p = g.R.CommitRule.protocol in let S = c.args.store.now in let O = c.args.openings.now in
     page_low g.F.Flash.state p c.find_slot.new.store O c.args.at
-    (ready_found g.F.Flash.state p S O c.args.at c.requires.ready c.requires.due c.clear.new.store c.in_ok-clear.ensures c.find_slot.new.store c.in_ok-slot.slot c.in_ok-slot.ensures c.requires.size) c.requires.due
+    (ready_found g.F.Flash.state p S O c.args.at c.requires.ready c.requires.due c.clear.new.store c.in_ok-clear.ensures c.find_slot.new.store c.in_ok-slot.slot
+    c.in_ok-slot.ensures c.requires.size) c.requires.due
 
-pub program-requires-clause-next : goal.program-requires-clause-next
-program-requires-clause-next g c = place g.F.Flash.state g.R.CommitRule.protocol c.args.store.now c.args.openings.now c.args.at c.requires.ready c.requires.due
-
-pub program-requires-clause-sure : goal.program-requires-clause-sure
-program-requires-clause-sure g c =
-    let ready = ready_found g.F.Flash.state g.R.CommitRule.protocol c.args.store.now c.args.openings.now c.args.at c.requires.ready c.requires.due c.clear.new.store c.in_ok-clear.ensures
-    c.find_slot.new.store c.in_ok-slot.slot c.in_ok-slot.ensures c.requires.size in
-    record { matches = ready.stands.matches; rule = ready.rule; nothing = ready.sure }
-
-pub program-requires-clause-can : goal.program-requires-clause-can
-program-requires-clause-can g c =
-    let state = g.F.Flash.state in let p = g.R.CommitRule.protocol in let S = c.args.store.now in let O = c.args.openings.now in let S2 = c.find_slot.new.store in
-    can_write state p S2 O c.args.at
-    (ready_found state p S O c.args.at c.requires.ready c.requires.due c.clear.new.store c.in_ok-clear.ensures S2 c.in_ok-slot.slot c.in_ok-slot.ensures c.requires.size) c.requires.due
-    c.next_record-rec.result c.next_record-rec.ensures c.in_ok-slot.ensures.clear c.in_ok-slot.slot c.in_ok-slot.ensures.finds.free
-    (size_found state p S O c.args.at c.requires.ready c.requires.due c.clear.new.store c.in_ok-clear.ensures S2 c.in_ok-slot.slot c.in_ok-slot.ensures c.requires.size)
+pub program-requires : goal.program-requires
+program-requires g c = record {
+  next = place g.F.Flash.state g.R.CommitRule.protocol c.args.store.now c.args.openings.now c.args.at c.requires.ready c.requires.due;
+  sure = (let ready = ready_found g.F.Flash.state g.R.CommitRule.protocol c.args.store.now c.args.openings.now c.args.at c.requires.ready c.requires.due
+      c.clear.new.store c.in_ok-clear.ensures
+      c.find_slot.new.store c.in_ok-slot.slot c.in_ok-slot.ensures c.requires.size in
+      record { matches = ready.stands.matches; rule = ready.rule; nothing = ready.sure });
+  can = (let state = g.F.Flash.state in let p = g.R.CommitRule.protocol in let S = c.args.store.now in let O = c.args.openings.now in let S2 =
+      c.find_slot.new.store in
+      can_write state p S2 O c.args.at
+      (ready_found state p S O c.args.at c.requires.ready c.requires.due c.clear.new.store c.in_ok-clear.ensures S2 c.in_ok-slot.slot c.in_ok-slot.ensures
+      c.requires.size) c.requires.due
+      c.next_record-rec.result c.next_record-rec.ensures c.in_ok-slot.ensures.clear c.in_ok-slot.slot c.in_ok-slot.ensures.finds.free
+      (size_found state p S O c.args.at c.requires.ready c.requires.due c.clear.new.store c.in_ok-clear.ensures S2 c.in_ok-slot.slot c.in_ok-slot.ensures
+      c.requires.size));
+}
 
 pub doubt_last-requires : goal.doubt_last-requires
 doubt_last-requires g c = place g.F.Flash.state g.R.CommitRule.protocol c.args.store.now c.args.openings.now c.args.at c.requires.ready c.requires.due
 
 pub returns-in-Err : goal.returns-in-Err
 returns-in-Err g c =
-    program_breaks g.F.Flash.state g.R.CommitRule.protocol c.args.store.now c.args.openings.now c.args.at c.requires.ready c.requires.due c.clear.new.store c.in_ok-clear.ensures
-    c.find_slot.new.store c.in_ok-slot.slot c.in_ok-slot.ensures c.requires.size c.next_record-rec.result c.next_record-rec.ensures c.images_stand.ensures c.noted_writes.ensures
+    program_breaks g.F.Flash.state g.R.CommitRule.protocol c.args.store.now c.args.openings.now c.args.at c.requires.ready c.requires.due c.clear.new.store
+    c.in_ok-clear.ensures
+    c.find_slot.new.store c.in_ok-slot.slot c.in_ok-slot.ensures c.requires.size c.next_record-rec.result c.next_record-rec.ensures c.images_stand.ensures
+    c.noted_writes.ensures
     c.program.new.store c.doubt_last.new.openings c.in-Err.broken c.in-Err.ensures c.doubt_last.ensures
 
 pub note_next-requires-clause-short : goal.note_next-requires-clause-short
@@ -63,6 +75,8 @@ note_next-requires-clause-short g c =
 
 pub returns : goal.returns
 returns g c =
-    page_written g.F.Flash.state g.R.CommitRule.protocol c.args.store.now c.args.openings.now c.args.at c.requires.ready c.requires.due c.clear.new.store c.in_ok-clear.ensures
-    c.find_slot.new.store c.in_ok-slot.slot c.in_ok-slot.ensures c.requires.size c.next_record-rec.result c.next_record-rec.ensures c.images_stand.ensures c.noted_writes.ensures
+    page_written g.F.Flash.state g.R.CommitRule.protocol c.args.store.now c.args.openings.now c.args.at c.requires.ready c.requires.due c.clear.new.store
+    c.in_ok-clear.ensures
+    c.find_slot.new.store c.in_ok-slot.slot c.in_ok-slot.ensures c.requires.size c.next_record-rec.result c.next_record-rec.ensures c.images_stand.ensures
+    c.noted_writes.ensures
     c.program.new.store c.note_next.new.openings c.in_default.ensures c.note_next.ensures

@@ -1,86 +1,130 @@
-use Rattle.std.proofs.Common.{◌≡◌, true, false, Ok, Err, sym, ap, ◌∙◌, subst, refl, inr, arith}
+use Rattle.std.proofs.Common.{◌≡◌, ◌<◌, true, false, Option, Ok, Err, sym, ap, ◌∙◌, subst, refl, inl, inr, arith}
+use Rattle.std.specs.Prelude.{IsSomeAnd}
+use Rattle.std.specs.Option.{option_map}
 use Rattle.tx_types.specs.Config.{shape_of, blocks_of}
 use Rattle.tx_types.specs.declared.config.Config.{Config}
-use Rattle.flash_model.proofs.RetireLemmas.{CarriesRetiring-then}
-use Rattle.tx_engine.specs.Exits.{VersionsRise, SettlesOrNot, is_there, settled_writes}
-use Rattle.tx_engine.specs.Retire.{RetireExits}
+use Rattle.tx_types.specs.declared.config.Shape.{Shape}
+use Rattle.flash_model.specs.Flash.{Extras}
+use Rattle.flash_model.specs.Retiring.{one_more}
+use Rattle.flash_model.proofs.RetireLemmas.{CarriesRetiring-carries, CarriesRetiring-then}
+use Rattle.tx_engine.specs.DeviceCalls.{RetiresDevice}
+use Rattle.tx_engine.specs.Exits.{is_there, settled_writes}
+use Rattle.tx_engine.specs.Retire.{AnswersRetire}
 use Rattle.tx_engine.specs.Standing.{Standing}
 use Rattle.tx_engine.specs.Tables.{standing_in}
+use Rattle.tx_engine.specs.declared.retire.RetireError.{RetireError}
 use Rattle.tx_engine.specs.declared.retire.RetireError.TheVariants.{Fault}
 use Rattle.tx_engine.proofs.Collecting.{settled_low, rises_stay}
 use Rattle.tx_engine.proofs.ExitsThen.{tables_then}
-use Rattle.tx_engine.proofs.Retirements.{broke_after, refused_exits, retired_after, retired_blank, retiring_broke}
+use Rattle.tx_engine.proofs.Retirements.{broke_after, refused, retired_after, retired_blank, retired_known, retiring_broke, retiring_fails}
+use Rattle.tx_engine.proofs.SettleExits.{failed_machine, failed_stays, not_settled}
 use Rattle.tx_engine.proofs.device.Device.retire.Goals as goal
 
-pub returns-in-Some-clause-exits : goal.returns-in-Some-clause-exits
-returns-in-Some-clause-exits g c =
-    let its = g.F.Flash.state c.self.inside.store.flash in
-    refused_exits g.F.Flash.state c.args.self.now its.shape its.extras c.args.block.0 c.in-Some.refusal (sym c.in-Some.ensures.refusal)
-
-pub returns-in_default-retire_settled-clause-exits : goal.returns-in_default-retire_settled-clause-exits
-returns-in_default-retire_settled-clause-exits g c =
+pub returns-in-Some : goal.returns-in-Some
+returns-in-Some g c =
     let state = g.F.Flash.state in
-    let old = standing_in state c.self.inside.store c.self.inside.openings in
-    let mid = standing_in state c.settle.new.store c.settle.new.openings in
-    let new = standing_in state c.retire_settled.new.store c.settle.new.openings in
-    let first = c.in-Ok.ensures.exits in
-    let then = c.in_default-retire_settled.ensures in
-    subst (λ (s : Standing _). RetireExits state s new c.args.block.0 (Err Fault)) c.self.view_is (record {
-      tables = tables_then state old mid new refl refl first.tables then.left.tables;
-      ends = broke_after (state old.flash) (state mid.flash) (state new.flash) first.carries first.moves c.args.block.0
-          (retiring_broke _ _ _ _ _ _ _ then.retires.broken);
-      carries = CarriesRetiring-then (state old.flash) (state mid.flash) (state new.flash) true first.carries then.retires.keeps.carries;
+    subst (λ (s : Standing _). RetiresDevice state s s c.args.block.0 (Err c.in-Some.refusal)) c.self.view_is
+    (refused state (standing_in state c.self.inside.store c.self.inside.openings) c.args.block.0 c.in-Some.refusal (sym c.in-Some.ensures.refusal))
+
+pub retire_settled-requires : goal.retire_settled-requires
+retire_settled-requires g c =
+    let settles = c.in-Ok.ensures in
+    record {
+      ready = record {
+        stands = settles.stands;
+        rule = ap (λ (k : Config). k.protocol) settles.exits.tables.config ∙ c.self.invariant.rule;
+        sure = settles.settles.sure;
+      };
+      exists = subst (λ (sh : Shape). c.args.block.0 < blocks_of sh) (sym settles.exits.carries.shape ∙ settles.stands.matches.shape)
+          c.in_default.ensures.exists;
+      left = subst (λ (o : Option Extras). IsSomeAnd o (λ extras. extras.retired < extras.allowance)) (sym settles.exits.carries.extras)
+          c.in_default.ensures.left;
+    }
+
+pub returns-in_default-settle : goal.returns-in_default-settle
+returns-in_default-settle g c =
+    let state = g.F.Flash.state in
+    let S = c.self.inside.store in let O = c.self.inside.openings in
+    let old = standing_in state S O in
+    let new = standing_in state c.settle.new.store c.settle.new.openings in
+    let its = c.in_default-settle.ensures in
+    let stays = failed_stays state S c.settle.new.store O c.settle.new.openings its.failed.0 its.failed.1 c.settle.ensures.moment in
+    subst (λ (s : Standing _). RetiresDevice state s new c.args.block.0 (Err Fault)) c.self.view_is
+    (record {
+      refusal = subst (λ (r : Option RetireError). AnswersRetire r old new (Err Fault)) c.in_default.ensures.refusal tt;
+      retires = inl (failed_machine state S c.settle.new.store O c.settle.new.openings its.failed.0 its.failed.1 c.settle.ensures.moment);
+      exits = record {
+        tables = its.exits.tables;
+        ends = inl (its.exits.moves, its.exits.carries.extras);
+        carries = CarriesRetiring-carries (state S.flash) (state new.flash) true its.exits.carries;
+      };
+      rises = not_settled (is_there state old) old new stays;
+      sure = tt;
+      tables = inl (record { stays = stays; moment = c.settle.ensures.moment; reads = its.first_failed });
+      blank = tt;
+      told = tt;
     })
 
-pub returns-in_default-retire_settled-clause-rises : goal.returns-in_default-retire_settled-clause-rises
-returns-in_default-retire_settled-clause-rises g c =
+pub returns-in_default-retire_settled : goal.returns-in_default-retire_settled
+returns-in_default-retire_settled g c =
     let state = g.F.Flash.state in
-    let old = standing_in state c.self.inside.store c.self.inside.openings in
-    let mid = standing_in state c.settle.new.store c.settle.new.openings in
-    let new = standing_in state c.retire_settled.new.store c.settle.new.openings in
+    let S = c.self.inside.store in let O = c.self.inside.openings in
+    let S1 = c.settle.new.store in let O1 = c.settle.new.openings in let S2 = c.retire_settled.new.store in
+    let old = standing_in state S O in
+    let mid = standing_in state S1 O1 in
+    let new = standing_in state S2 O1 in
     let there = is_there state old in
-    let then = c.in_default-retire_settled.ensures in
-    subst (λ (s : Standing _). SettlesOrNot (is_there state s) s new) c.self.view_is
-    (inr (
-      ap (λ m. m.pages) (then.left.machine ∙ c.in-Ok.ensures.settles.machine),
-      rises_stay old mid new (settled_writes there old.machine) c.in-Ok.ensures.exits.tables.config
-          (settled_low state c.self.inside.store c.self.inside.openings there c.self.invariant.stands) c.in-Ok.ensures.settles.rises then.left.versions,
-    ))
-
-pub returns-clause-exits : goal.returns-clause-exits
-returns-clause-exits g c =
-    let state = g.F.Flash.state in
-    let old = standing_in state c.self.inside.store c.self.inside.openings in
-    let mid = standing_in state c.settle.new.store c.settle.new.openings in
-    let new = standing_in state c.retire_settled.new.store c.settle.new.openings in
-    let first = c.in-Ok.ensures.exits in
-    let then = c.in-Ok-retire_settled.ensures in
-    subst (λ (s : Standing _). RetireExits state s new c.args.block.0 (Ok tt)) c.self.view_is (record {
-      tables = tables_then state old mid new refl refl first.tables then.left.tables;
-      ends = retired_after (state old.flash) (state mid.flash) (state new.flash) first.carries first.moves c.args.block.0 c.settle.ensures.moment
-          _ mid.noted _ mid.table c.in-Ok.ensures.tables.0 c.in-Ok.ensures.tables.1 then.retires.done;
-      carries = CarriesRetiring-then (state old.flash) (state mid.flash) (state new.flash) false first.carries then.retires.keeps.carries;
+    let settles = c.in-Ok.ensures in let its = c.in_default-retire_settled.ensures in
+    subst (λ (s : Standing _). RetiresDevice state s new c.args.block.0 (Err Fault)) c.self.view_is
+    (record {
+      refusal = subst (λ (r : Option RetireError). AnswersRetire r old new (Err Fault)) c.in_default.ensures.refusal tt;
+      retires = inr (its.left.machine ∙ settles.settles.machine);
+      exits = record {
+        tables = tables_then state old mid new refl refl settles.exits.tables its.left.tables;
+        ends = broke_after (state old.flash) (state mid.flash) (state new.flash) settles.exits.carries settles.exits.moves c.args.block.0
+            (retiring_broke _ _ _ _ _ _ _ its.retires.broken);
+        carries = CarriesRetiring-then (state old.flash) (state mid.flash) (state new.flash) true settles.exits.carries its.retires.keeps.carries;
+      };
+      rises = inr (
+        ap (λ m. m.pages) (its.left.machine ∙ settles.settles.machine),
+        rises_stay old mid new (settled_writes there old.machine) settles.exits.tables.config (settled_low state S O there c.self.invariant.stands)
+            settles.settles.rises its.left.versions,
+      );
+      sure = tt;
+      tables = inr (retiring_fails state S S1 S2 O O1 _ c.args.block.0 settles.exits.carries.shape c.settle.ensures.moment settles.reads
+          settles.tables.0 settles.tables.1 _ its.retires its.left.kept);
+      blank = tt;
+      told = tt;
     })
 
-pub returns-clause-rises : goal.returns-clause-rises
-returns-clause-rises g c =
+pub returns : goal.returns
+returns g c =
     let state = g.F.Flash.state in
-    let old = standing_in state c.self.inside.store c.self.inside.openings in
-    let mid = standing_in state c.settle.new.store c.settle.new.openings in
-    let new = standing_in state c.retire_settled.new.store c.settle.new.openings in
+    let S = c.self.inside.store in let O = c.self.inside.openings in
+    let S1 = c.settle.new.store in let O1 = c.settle.new.openings in let S2 = c.retire_settled.new.store in
+    let old = standing_in state S O in
+    let mid = standing_in state S1 O1 in
+    let new = standing_in state S2 O1 in
     let there = is_there state old in
-    subst (λ (s : Standing _). VersionsRise s new (settled_writes (is_there state s) s.machine)) c.self.view_is
-    (rises_stay old mid new (settled_writes there old.machine) c.in-Ok.ensures.exits.tables.config
-    (settled_low state c.self.inside.store c.self.inside.openings there c.self.invariant.stands) c.in-Ok.ensures.settles.rises
-    c.in-Ok-retire_settled.ensures.left.versions)
-
-pub returns-clause-blank : goal.returns-clause-blank
-returns-clause-blank g c =
-    let mid = c.settle.new.store in
-    let new = c.retire_settled.new.store in
-    let matches = c.in-Ok.ensures.stands.matches in
-    let then = c.in-Ok-retire_settled.ensures in
-    let config : new.noted.config ≡ mid.noted.config = then.left.tables.config in
-    retired_blank (g.F.Flash.state mid.flash) (g.F.Flash.state new.flash) new.noted _ c.args.block.0 matches.flash
-    (matches.shape ∙ ap (λ (k : Config). shape_of k) (sym config))
-    (omega (arith, c.in_default.ensures.exists, ap blocks_of c.in-Ok.ensures.exits.carries.shape)) then.retires.done
+    let settles = c.in-Ok.ensures in let its = c.in-Ok-retire_settled.ensures in let done = its.retires.done in
+    let config : new.noted.config ≡ mid.noted.config = its.left.tables.config in
+    subst (λ (s : Standing _). RetiresDevice state s new c.args.block.0 (Ok tt)) c.self.view_is
+    (record {
+      refusal = subst (λ (r : Option RetireError). AnswersRetire r old new (Ok tt)) c.in_default.ensures.refusal tt;
+      retires = its.left.machine ∙ settles.settles.machine;
+      exits = record {
+        tables = tables_then state old mid new refl refl settles.exits.tables its.left.tables;
+        ends = retired_after (state old.flash) (state mid.flash) (state new.flash) settles.exits.carries settles.exits.moves c.args.block.0
+            c.settle.ensures.moment _ mid.noted _ mid.table settles.tables.0 settles.tables.1 done;
+        carries = CarriesRetiring-then (state old.flash) (state mid.flash) (state new.flash) false settles.exits.carries its.retires.keeps.carries;
+      };
+      rises = rises_stay old mid new (settled_writes there old.machine) settles.exits.tables.config (settled_low state S O there c.self.invariant.stands)
+          settles.settles.rises its.left.versions;
+      sure = its.retires.keeps.tables.sure;
+      tables = retired_known state S S1 S2 O O1 _ c.args.block.0 settles.exits.carries.shape c.settle.ensures.moment settles.reads
+          settles.tables.0 settles.tables.1 its.retires;
+      blank = retired_blank (state mid.flash) (state new.flash) new.noted _ c.args.block.0 settles.stands.matches.flash
+          (settles.stands.matches.shape ∙ ap (λ (k : Config). shape_of k) (sym config))
+          (omega (arith, c.in_default.ensures.exists, ap blocks_of settles.exits.carries.shape)) done;
+      told = done.replaced.extras ∙ ap (option_map one_more) (done.carries.extras ∙ settles.exits.carries.extras);
+    })

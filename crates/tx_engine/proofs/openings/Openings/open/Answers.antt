@@ -1,7 +1,7 @@
 use Rattle.std.proofs.Common.{◌≡◌, ◌<◌, ◌++◌, ◌∷◌, [], Some, All, length, refl, sym, ap, ap₂, ◌∙◌, subst, arith}
 use Rattle.array_machine.specs.declared.mark.Mark.TheVariants.{Plain}
 use Rattle.std.specs.Vec.{with_items}
-use Rattle.tx_engine.specs.PendingPages.{with_owner}
+use Rattle.tx_engine.specs.PendingPages.{HasRoom, with_owner}
 use Rattle.tx_engine.proofs.OpenChanges.{IsTakenIn, refilled, list_empty, list_left, pages_low, kept_after_opening, table_after_opening}
 use Rattle.tx_engine.proofs.OpenPages.{pages_of_openings}
 use Rattle.tx_engine.proofs.Owners.{length-with_owner}
@@ -14,11 +14,21 @@ unwrap-pages-requires g c =
     let some = list_left c.self.inside c.self.invariant (omega (arith, c.requires.some)) in
     c.pop.ensures.variant.1 (omega arith)
 
-pub hold_pages-requires-clause-room : goal.hold_pages-requires-clause-room
-hold_pages-requires-clause-room g c =
+pub hold_pages-requires : goal.hold_pages-requires
+hold_pages-requires g c =
     let free = rw (← c.self.view_is) at c.requires.free in
     let count = pages_of_openings c.self.inside.all.items in
-    omega (arith, c.self.invariant.rooms)
+    let popped : c.self.inside.lists.items ≡ c.pop.new.self.items ++ c.unwrap-pages.result ∷ [] = rw c.unwrap-pages.ensures at c.pop.ensures.items in
+    let list = list_empty c.self.inside c.pop.new.self.items c.unwrap-pages.result c.self.invariant popped in
+    let empty = ap length list.0 in
+    let wide = list.1 in
+    record {
+      room = omega (arith, c.self.invariant.rooms, free, count);
+      capacity = omega (arith, empty, wide, free, count);
+      sizes = subst (λ k. All (HasRoom k) c.self.inside.rooms.items) (sym (rw (← c.self.view_is) at c.requires.pages)) c.self.invariant.sizes;
+      range = c.requires.range;
+      unspent = c.requires.unspent;
+    }
 
 pub set_owner-requires : goal.set_owner-requires
 set_owner-requires g c =

@@ -1,4 +1,4 @@
-use Rattle.std.proofs.Common.{ap, ◌∙◌, sym}
+use Rattle.std.proofs.Common.{ap, ◌∙◌, sym, refl}
 use Rattle.tx_types.specs.declared.config.Config.{Config}
 use Rattle.tx_engine.proofs.StoreCalls.{as_long}
 use Rattle.tx_engine.proofs.store.Store.clear.Goals as goal
@@ -23,5 +23,8 @@ invariant_of-self g c =
       room = as_long c.self.inside.room c.clear.new.room _ (k.room ∙ ap (λ (x : Config). x.page_bytes) (sym same));
     }
 
-pub returns-clause-clears : goal.returns-clause-clears
-returns-clause-clears g c = rw (← c.self.view_is) c.clear.ensures.clears
+pub returns : goal.returns
+returns g c = rw (← c.self.view_is) (record {
+  clears = c.clear.ensures.clears;
+  idle = λ none. let d = c.clear.ensures.idle none in (d.0, rw (d.1, d.2, d.3, d.4) refl);
+})

@@ -13,10 +13,15 @@ loop-at-preserved g c =
     let m = c.self.invariant.stored.matches in
     let slots = ap slots_of m.shape in
     let within : c.loop-at.at < length c.args.self.now.noted.notes =
-    rw (← c.self.view_is) (let a = c.loop-at-test.true in let b = m.noted.slots in let d = c.slots-slots.ensures in let e = ap slots_of c.shape.ensures.shape in omega (arith, slots)) in
+    rw (← c.self.view_is)
+    (let a = c.loop-at-test.true in let b = m.noted.slots in let d = c.slots-slots.ensures in let e = ap slots_of
+    c.shape.ensures.shape in omega (arith, slots)) in
     elim c.match-rec.branch [
       | in-Some+in_ok-push w ↦
-          (ap (λ v. v.items) w.list-is ∙ w.in_ok-push.ensures.items ∙ with_record c.args.self.now.noted.notes c.loop-at.at within c.loop-at.list.items c.loop-at.invariant w.in-Some.rec (rw (← c.self.view_is) (sym c.rec.ensures ∙ w.in-Some.is)))
+          (ap (λ v. v.items) w.list-is ∙ w.in_ok-push.ensures.items
+          ∙ with_record c.args.self.now.noted.notes c.loop-at.at within c.loop-at.list.items c.loop-at.invariant w.in-Some.rec (rw (← c.self.view_is)
+          (sym c.rec.ensures ∙ w.in-Some.is)))
       | in_default w ↦
-          (ap (λ v. v.items) w.list-is ∙ without_record c.args.self.now.noted.notes c.loop-at.at within c.loop-at.list.items c.loop-at.invariant (rw (← c.self.view_is) (sym c.rec.ensures ∙ w.in_default.is)))
+          (ap (λ v. v.items) w.list-is ∙ without_record c.args.self.now.noted.notes c.loop-at.at within c.loop-at.list.items c.loop-at.invariant (rw
+          (← c.self.view_is) (sym c.rec.ensures ∙ w.in_default.is)))
     ]

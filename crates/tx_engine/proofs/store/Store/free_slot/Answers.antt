@@ -22,9 +22,8 @@ invariant_of-self g c =
       room = as_long c.self.inside.room c.free_slot.new.room _ (k.room ∙ ap (λ (x : Config). x.page_bytes) (sym same));
     }
 
-pub returns-clause-finds : goal.returns-clause-finds
-returns-clause-finds g c = rw (← c.self.view_is) c.free_slot.ensures.finds
-
-pub returns-clause-direct : goal.returns-clause-direct
-returns-clause-direct g c =
-    rw (← c.self.view_is) (λ room. let d = c.free_slot.ensures.direct room in (d.0, d.2, rw (d.3, d.4, d.1, d.5) refl))
+pub returns : goal.returns
+returns g c = rw (← c.self.view_is) (record {
+  finds = c.free_slot.ensures.finds;
+  direct = λ room. let d = c.free_slot.ensures.direct room in (d.0, d.2, rw (d.3, d.4, d.1, d.5) refl);
+})

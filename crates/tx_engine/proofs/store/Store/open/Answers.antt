@@ -1,4 +1,4 @@
-use Rattle.std.proofs.Common.{sym, ap, ◌∙◌, subst}
+use Rattle.std.proofs.Common.{sym, ap, ◌∙◌, rules, subst}
 use Rattle.tx_types.specs.declared.config.Shape.{Shape}
 use Rattle.version_index.specs.Images.{IsSoundImage}
 use Rattle.version_index.specs.Noted.{Noted}
@@ -8,8 +8,10 @@ use Rattle.tx_engine.proofs.store.Store.open.Goals as goal
 pub invariant_of-result : goal.invariant_of-result
 invariant_of-result g c =
     let opened = c.in-Ok-recover.ensures in
-    let matches = opened_matches c.opened_tables_match.ensures c.args.config (g.F.Flash.state c.args.flash) (g.F.Flash.state c.recover.new.flash) c.in-Ok-recover.index c.in-Ok-recover.blocks c.requires.check c.shape.ensures.whole
-    (subst (λ q. IsSoundImage q c.args.config.logical (g.F.Flash.state c.args.flash).shape (g.F.Flash.state c.args.flash).image) (sym c.requires.rule) opened.sound)
+    let matches = opened_matches c.opened_tables_match.ensures c.args.config (g.F.Flash.state c.args.flash) (g.F.Flash.state c.recover.new.flash)
+    c.in-Ok-recover.index c.in-Ok-recover.blocks c.requires.check c.shape.ensures.whole
+    (subst (λ q. IsSoundImage q c.args.config.logical (g.F.Flash.state c.args.flash).shape (g.F.Flash.state c.args.flash).image)
+    (sym c.requires.rule) opened.sound)
     opened.tables opened.carries.shape opened.moment in
     record {
       stored = record {
@@ -19,12 +21,19 @@ invariant_of-result g c =
       room = c.in-Ok.ensures ∙ ap (λ (s : Shape). s.page_bytes) (c.shape.ensures.shape ∙ sym opened.carries.shape ∙ matches.shape);
     }
 
-pub returns-in-Ok-recover-clause-stored : goal.returns-in-Ok-recover-clause-stored
-returns-in-Ok-recover-clause-stored g c =
+pub returns-in-Ok-recover : goal.returns-in-Ok-recover
+returns-in-Ok-recover g c =
     let opened = c.in-Ok-recover.ensures in
     record {
-      matches = opened_matches c.opened_tables_match.ensures c.args.config (g.F.Flash.state c.args.flash) (g.F.Flash.state c.recover.new.flash) c.in-Ok-recover.index c.in-Ok-recover.blocks c.requires.check c.shape.ensures.whole
-          (subst (λ q. IsSoundImage q c.args.config.logical (g.F.Flash.state c.args.flash).shape (g.F.Flash.state c.args.flash).image) (sym c.requires.rule) opened.sound)
-          opened.tables opened.carries.shape opened.moment;
-      rule = ap (λ (n : Noted). n.config.protocol) opened.tables.noted_is ∙ c.requires.rule;
+      opened = search rules;
+      stored = record {
+        matches = opened_matches c.opened_tables_match.ensures c.args.config (g.F.Flash.state c.args.flash) (g.F.Flash.state c.recover.new.flash)
+            c.in-Ok-recover.index c.in-Ok-recover.blocks c.requires.check c.shape.ensures.whole
+            (subst (λ q. IsSoundImage q c.args.config.logical (g.F.Flash.state c.args.flash).shape (g.F.Flash.state c.args.flash).image)
+            (sym c.requires.rule) opened.sound)
+            opened.tables opened.carries.shape opened.moment;
+        rule = ap (λ (n : Noted). n.config.protocol) opened.tables.noted_is ∙ c.requires.rule;
+      };
+      failed = tt;
+      reads = tt;
     }

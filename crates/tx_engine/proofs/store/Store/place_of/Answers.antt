@@ -28,12 +28,14 @@ returns-in-VictimErase g c =
     let d = c.self.inside in
     let m = subst (Matches s d.index d.blocks) c.in-VictimErase.is c.self.invariant.stored.matches in
     let held : discarded_of d.index c.args.page ≡ false = sym c.if-discards.ensures in
-    let off = located_off s d.index d.blocks c.in-VictimErase.block m c.args.page c.locate_off.result c.locate_off.ensures.lowest held c.locate_off.ensures.holds in
+    let off = located_off s d.index d.blocks c.in-VictimErase.block m c.args.page c.locate_off.result c.locate_off.ensures.lowest held
+    c.locate_off.ensures.holds in
     rw (← c.self.view_is) (record {
       none = off.0;
       place = off.1;
       slot = off_place d.index d.unsure c.args.page (option_map (λ at. at.0) c.locate_off.result) held
-          (subst (λ u. option_map (λ at. at.0) c.locate_off.result ≡ current_place d.index u c.args.page) (sym c.in-VictimErase.is) c.locate_off.ensures.lowest);
+          (subst (λ u. option_map (λ at. at.0) c.locate_off.result ≡ current_place d.index u c.args.page)
+          (sym c.in-VictimErase.is) c.locate_off.ensures.lowest);
     })
 
 pub returns-in-Nothing : goal.returns-in-Nothing

@@ -22,5 +22,9 @@ invariant_of-self g c =
       room = as_long c.self.inside.room c.settle.new.room _ (k.room ∙ ap (λ (x : Config). x.page_bytes) (sym same));
     }
 
-pub returns-clause-settles : goal.returns-clause-settles
-returns-clause-settles g c = rw (← c.self.view_is) c.settle.ensures
+pub returns : goal.returns
+returns g c = record {
+  settles = rw (← c.self.view_is) c.settle.ensures;
+  failed = search rules;
+  idle = search rules;
+}

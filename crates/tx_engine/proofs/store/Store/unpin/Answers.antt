@@ -7,7 +7,8 @@ invariant_of-self g c =
     let k = c.self.invariant in
     rw c.unpin.ensures (record {
       stored = record {
-        matches = unpinned_matches c.self.inside.index c.args.page 0 (g.F.Flash.state c.self.inside.flash) c.self.inside.blocks c.self.inside.unsure refl k.stored.matches;
+        matches = unpinned_matches c.self.inside.index c.args.page 0 (g.F.Flash.state c.self.inside.flash) c.self.inside.blocks c.self.inside.unsure refl
+            k.stored.matches;
         rule = k.stored.rule;
       };
       room = k.room;
