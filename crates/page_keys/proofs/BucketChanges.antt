@@ -8,7 +8,7 @@ use Rattle.std.specs.FinMap.Entries as sorted
 use Rattle.tx_types.specs.declared.config.Config.{Config}
 use Rattle.page_keys.specs.Buckets.{IsEntry, HoldsEntries, IsBucketOf}
 use Rattle.page_keys.specs.Entries.{with_pair, changed}
-use Rattle.page_keys.specs.KeyMaps.{KeyMap, Pair, key_order, after, part, is_in, of_page}
+use Rattle.page_keys.specs.KeyMaps.{KeyMap, Pair, key_order, after, part, of_page}
 use Rattle.page_keys.specs.Puts.{IsKeyChange}
 use Rattle.page_keys.specs.declared.changes.Change.{Change}
 use Rattle.page_keys.proofs.Parts.{entries_change}

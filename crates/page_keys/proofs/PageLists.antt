@@ -1,12 +1,14 @@
 -- The pages of changes, in ascending order.
-use Rattle.std.proofs.Common.{◌≡◌, ℕ, zero, suc, ◌+◌, ◌<◌, ◌≤◌, Bool, true, false, ◌||◌, cond, if◌then◌else◌, List, [], ◌∷◌, ◌++◌, length, take, get_or, filter, ◌==◌, nat_lt, inl, inr, refl, sym, ap, ◌∙◌, arith, length-append}
+use Rattle.std.proofs.Common.{◌≡◌, ℕ, zero, suc, ◌+◌, ◌<◌, ◌≤◌, Bool, true, false, ◌||◌, cond, if◌then◌else◌, List, [], ◌∷◌, ◌++◌, length, take, drop, get_or, filter, ◌==◌, nat_lt, inl, inr, refl, sym, ap, ◌∙◌, arith, length-append, append_assoc}
 use Rattle.std.specs.BTreeSet.{insert_key}
 use Rattle.std.specs.Ordering.{match_ordering, nat_cmp}
 use Rattle.std.specs.declared.cmp.Ordering.TheVariants.{Less, Equal, Greater}
 use Rattle.std.specs.List.{list_any, range_with_len}
 use Rattle.std.proofs.lemmas.Bool.{cases_lt}
 use Rattle.std.proofs.lemmas.Bool.Decides.{nat_tests}
-use Rattle.std.proofs.lemmas.List.{take_more}
+use Rattle.std.specs.List.{insert}
+use Rattle.std.proofs.Math.Seq.{drop-cons, drop-length, take-length}
+use Rattle.std.proofs.lemmas.List.{take_more, take-append-drop}
 use Rattle.list_facts.proofs.Ranges.{filter_taken, filter_passed}
 use Rattle.std.proofs.lemmas.List.Folds.{list_any-append}
 use Rattle.page_keys.specs.KeyMaps.{is_in, is_touched, pages_of, bucket_of}
@@ -26,6 +28,49 @@ inserted_page page (q ∷ qs) =
     by_tests true same later = refl
     by_tests false true later = refl
     by_tests false false later = ap (λ (l : List ℕ). q ∷ l) later
+
+-- a page among others, of which those before a place are below it
+module _ (page : ℕ) (qs : List ℕ) (i : ℕ)
+    (from : with_page page qs ≡ take i qs ++ with_page page (drop i qs)) where
+  module _ (q : ℕ) (within : i < length qs) (is : q ≡ get_or qs i q) where
+    here : drop i qs ≡ q ∷ drop (suc i) qs
+    here = drop-cons qs i q within ∙ ap (λ k. k ∷ drop (suc i) qs) (sym is)
+
+    at_place : (l : List ℕ) → with_page page (q ∷ drop (suc i) qs) ≡ l → with_page page qs ≡ take i qs ++ l
+    at_place l one =
+        from ∙ ap (λ (r : List ℕ). take i qs ++ with_page page r) here
+        ∙ ap (λ (r : List ℕ). take i qs ++ r) one
+
+    pub page_past : q < page → with_page page qs ≡ take (i + 1) qs ++ with_page page (drop (i + 1) qs)
+    page_past below =
+        let less : nat_lt page q ≡ false = grind (arith, nat_tests) in
+        let same : (page == q) ≡ false = grind (arith, nat_tests) in
+        let later : suc i ≡ i + 1 = omega arith in
+        at_place (q ∷ with_page page (drop (suc i) qs)) (rw (less, same) refl)
+        ∙ ap (λ k. take i qs ++ q ∷ with_page page (drop k qs)) later
+        ∙ sym (append_assoc (take i qs) (q ∷ []) (with_page page (drop (i + 1) qs)))
+        ∙ ap (λ (l : List ℕ). l ++ with_page page (drop (i + 1) qs))
+        (sym (take_more qs i q within ∙ ap (λ k. take i qs ++ k ∷ []) (sym is)))
+
+    pub page_here : q ≡ page → qs ≡ with_page page qs
+    page_here found =
+        let less : nat_lt page q ≡ false = grind (arith, nat_tests) in
+        let same : (page == q) ≡ true = grind (arith, nat_tests) in
+        sym (at_place (q ∷ drop (suc i) qs) (rw (less, same) refl)
+        ∙ ap (λ (l : List ℕ). take i qs ++ l) (sym here) ∙ take-append-drop i qs)
+
+    pub page_before : page < q → insert qs i page ≡ with_page page qs
+    page_before above =
+        let less : nat_lt page q ≡ true = grind (arith, nat_tests) in
+        sym (at_place (page ∷ q ∷ drop (suc i) qs) (rw less refl)
+        ∙ ap (λ (l : List ℕ). take i qs ++ page ∷ l) (sym here))
+
+  pub page_last : length qs ≤ i → i ≤ length qs → qs ++ page ∷ [] ≡ with_page page qs
+  page_last least most =
+      let end : i ≡ length qs = omega arith in
+      sym (from ∙ ap (λ k. take k qs ++ with_page page (drop k qs)) end
+      ∙ ap (λ (l : List ℕ). l ++ with_page page (drop (length qs) qs)) (take-length qs)
+      ∙ ap (λ (l : List ℕ). qs ++ with_page page l) (drop-length qs))
 
 -- with this page too
 abbrev or_page : (ℕ → Bool) → ℕ → ℕ → Bool

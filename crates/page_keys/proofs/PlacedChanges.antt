@@ -1,9 +1,8 @@
 -- Changes in ascending order of their pages.
-use Rattle.std.proofs.Common.{◌≡◌, ℕ, ◌<◌, ◌≤◌, Bool, true, false, not, ◌&&◌, ◌==◌, nat_lt, cond, List, [], ◌∷◌, zero, suc, ◌-◌, take, drop, filter, map, length, get_or, inl, inr, refl, sym, ap, ◌∙◌, arith, leb, ltb-true, ltb-false, leb-true, leb-false}
+use Rattle.std.proofs.Common.{◌≡◌, ℕ, ◌<◌, ◌≤◌, Bool, true, false, not, ◌&&◌, ◌==◌, nat_lt, cond, List, [], ◌∷◌, zero, suc, ◌-◌, take, drop, filter, length, get_or, inl, inr, refl, sym, ap, ◌∙◌, arith, leb, ltb-true, ltb-false, leb-true, leb-false}
 use Rattle.std.specs.List.{slice_range}
-use Rattle.std.specs.List.Sorted.{IsNonDecreasingBy, IsStableByKey, IsPartitionPoint, ties}
+use Rattle.std.specs.List.Sorted.{IsStableByKey, IsPartitionPoint, ties}
 use Rattle.std.specs.Ordering.{is_lt, nat_cmp}
-use denote.Ref.{Bor}
 use Rattle.std.specs.declared.cmp.Ordering.TheVariants.{Less, Equal, Greater}
 use Rattle.std.proofs.lemmas.Bool.{cases_lt, cond-true, cond-false}
 use Rattle.std.proofs.lemmas.Bool.Decides.{nat_tests}

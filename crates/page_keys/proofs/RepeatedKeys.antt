@@ -1,5 +1,5 @@
 -- Looking for the first key that stood earlier, change by change.
-use Rattle.std.proofs.Common.{◌≡◌, ℕ, suc, ◌+◌, ◌<◌, Bool, true, false, not, ◌||◌, cond, List, [], ◌∷◌, ◌++◌, length, take, drop, get_or, Option, Some, refl, sym, ap, ◌∙◌, arith, length-take}
+use Rattle.std.proofs.Common.{◌≡◌, ℕ, suc, ◌+◌, ◌<◌, Bool, true, false, ◌||◌, cond, List, [], ◌∷◌, ◌++◌, length, take, drop, get_or, Some, refl, sym, ap, ◌∙◌, arith, length-take}
 use Rattle.std.specs.List.{list_any}
 use Rattle.std.specs.Ordering.{is_eq, nat_cmp}
 use Rattle.std.specs.Cmp.Lexicographic.{slice_cmp}
@@ -9,7 +9,6 @@ use Rattle.std.proofs.lemmas.List.{take_more}
 use Rattle.std.proofs.lemmas.List.Folds.{list_any-append}
 use Rattle.std.proofs.lemmas.Map.Text.{is_eq-slice_cmp}
 use Rattle.page_keys.specs.Puts.{has_key, repeated}
-use Rattle.page_keys.specs.declared.answers.PutError.{PutError}
 use Rattle.page_keys.specs.declared.answers.PutError.TheVariants as refused
 use Rattle.page_keys.specs.declared.changes.Change.{Change}
 

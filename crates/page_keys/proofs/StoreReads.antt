@@ -78,14 +78,6 @@ module _ {F : Type 0} (s t : Standing F) (room : List ℕ) (logical page : ℕ)
       (subst (λ k. IsBucket s.config.page_bytes k page room) its
       (subst (λ k. IsBucket k logical page room) size h))
 
-  pub bucket_of_read : (pairs : List Pair) → IsBucketOf (length room) logical page room pairs →
-      IsBucketOf s.config.page_bytes s.config.logical page
-      (shown s.config.page_bytes (page_at s.machine.pages page)) pairs
-  bucket_of_read pairs h =
-      subst (λ (b : List ℕ). IsBucketOf s.config.page_bytes s.config.logical page b pairs) here
-      (subst (λ k. IsBucketOf s.config.page_bytes k page room pairs) its
-      (subst (λ k. IsBucketOf k logical page room pairs) size h))
-
   pub bucket_back : IsBucket s.config.page_bytes s.config.logical page
       (shown s.config.page_bytes (page_at s.machine.pages page)) →
       IsBucket (length room) logical page room
@@ -93,6 +85,19 @@ module _ {F : Type 0} (s t : Standing F) (room : List ℕ) (logical page : ℕ)
       subst (λ k. IsBucket k logical page room) (sym size)
       (subst (λ k. IsBucket s.config.page_bytes k page room) (sym its)
       (subst (λ (b : List ℕ). IsBucket s.config.page_bytes s.config.logical page b) (sym here) h))
+
+-- the entries that were read of a page of a store are a bucket's
+pub entries_read : {F : Type 0} (s : Standing F) (page : ℕ) (room : List ℕ) (read : List Pair) → HasKeys s →
+    page < s.config.logical → room ≡ shown s.config.page_bytes (page_at s.machine.pages page) →
+    length room ≡ s.config.page_bytes →
+    ((pairs : List Pair) → HoldsEntries (length room) room pairs → read ≡ pairs) →
+    IsBucketOf s.config.page_bytes s.config.logical page
+    (shown s.config.page_bytes (page_at s.machine.pages page)) read
+entries_read s page room read keys exists same size all =
+    let found = keys.buckets page exists in
+    let its = all found.0 (holds_read s.config.page_bytes _ room found.0 same size found.1.holds) in
+    subst (IsBucketOf s.config.page_bytes s.config.logical page
+    (shown s.config.page_bytes (page_at s.machine.pages page))) (sym its) found.1
 
 pub is_over_by : (p q n r : ℕ) → p ≡ q → p / 32 < r → r ≤ n → nat_lt q (32 * n) ≡ true
 is_over_by p q n r same more least =

@@ -37,14 +37,14 @@ fn change(entries: &mut Vec<Entry>, change: &Change) -> Result<(), Memory>
     let key = change.key.as_slice();
     match place(entries, key) {
         Ok(at) => match &change.value {
-            Some(value) => entries[at] = (Short::new(key), Short::new(value.as_slice())),
+            Some(value) => entries[at] = (change.key.copied(), value.copied()),
             None => {
                 let _ = entries.remove(at);
             }
         },
         Err(at) => {
             if let Some(value) = &change.value {
-                entries.insert(at, (Short::new(key), Short::new(value.as_slice())))?;
+                entries.insert(at, (change.key.copied(), value.copied()))?;
             }
         }
     }

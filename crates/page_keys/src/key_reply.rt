@@ -1,11 +1,10 @@
-ghost use Rattle.std.specs.Prelude.{◌≡◌, ◌++◌, ◌∷◌, [], IfOk, OnOk, OnErr};
-ghost use Rattle.std.specs.String.{string_bytes};
-ghost use Rattle.page_keys.specs.KeyReplies.{key_text, value_word};
+ghost use Rattle.std.specs.Prelude.{◌≡◌, ◌<◌, ◌≤◌, ◌+◌, ◌++◌, ◌∷◌, [], length, vec_len, vec_capacity, OnOk, OnErr};
+ghost use Rattle.page_keys.specs.KeyReplies.{key_text};
 ghost use Rattle.host_protocol.specs.Replies.{line_of};
 ghost use Rattle.hex.specs.Hex.{encode_lower};
 
-use crate::short::Short;
-use std::alloc::{AllocError, Global};
+use crate::short::{MAX_SHORT, Short};
+use host_protocol::add_line;
 use tx_types::Memory;
 
 /// The answer to a command of a key script.
@@ -35,40 +34,22 @@ pub enum KeyReply {
     RefusedSpent(u32),
 }
 
+/// The most bytes of a key or a value in digits, with a space before it.
+const WORD_BYTES: usize = 1 + 2 * MAX_SHORT;
+
 /// Appends the line of the reply with its line feed. After `Memory` the bytes are as before.
-pub fn key_reply_text(alloc: Global, reply: &KeyReply, out: &mut Vec<u8>) -> Result<(), Memory>
+pub fn key_reply_text(reply: &KeyReply, out: &mut Vec<u8>) -> Result<(), Memory>
     ensures ok { OnOk result (out.new.items ≡ out.old.items ++ key_text reply.now) }
     ensures err { OnErr result (out.new.items ≡ out.old.items) }
 {
     match reply {
-        KeyReply::Value(key, value) => {
-            let line = value_line(alloc, key, value)?;
-            append(line.as_bytes(), out)
-        }
-        KeyReply::Absent(key) => {
-            let line = keyed_line(alloc, "absent", key)?;
-            append(line.as_bytes(), out)
-        }
-        KeyReply::RefusedRepeated(key) => {
-            let line = keyed_line(alloc, "refused repeated", key)?;
-            append(line.as_bytes(), out)
-        }
-        KeyReply::Stored(changes) => {
-            let line = format!(in alloc; "stored {changes}\n")?;
-            append(line.as_bytes(), out)
-        }
-        KeyReply::RefusedWide(pages) => {
-            let line = format!(in alloc; "refused wide {pages}\n")?;
-            append(line.as_bytes(), out)
-        }
-        KeyReply::RefusedBucket(page) => {
-            let line = format!(in alloc; "refused bucket {page}\n")?;
-            append(line.as_bytes(), out)
-        }
-        KeyReply::RefusedSpent(page) => {
-            let line = format!(in alloc; "refused spent {page}\n")?;
-            append(line.as_bytes(), out)
-        }
+        KeyReply::Value(key, value) => add_value(key, value, out),
+        KeyReply::Absent(key) => add_key(b"absent", key, out),
+        KeyReply::RefusedRepeated(key) => add_key(b"refused repeated", key, out),
+        KeyReply::Stored(changes) => add_line(b"stored", &[*changes], out),
+        KeyReply::RefusedWide(pages) => add_line(b"refused wide", &[*pages], out),
+        KeyReply::RefusedBucket(page) => add_line(b"refused bucket", &[*page], out),
+        KeyReply::RefusedSpent(page) => add_line(b"refused spent", &[*page], out),
         KeyReply::Armed => append(b"armed\n", out),
         KeyReply::Cut => append(b"cut\n", out),
         KeyReply::Fault => append(b"fault\n", out),
@@ -85,30 +66,49 @@ fn append(bytes: &[u8], out: &mut Vec<u8>) -> Result<(), Memory>
     Ok(())
 }
 
-/// The line of a key and its value.
-fn value_line(alloc: Global, key: &Short, value: &Short) -> Result<String, AllocError>
-    ensures { IfOk result (λ l. string_bytes l ≡ key_text (KeyReply.Value key.now value.now)) }
+/// Appends the line of a key and its value.
+fn add_value(key: &Short, value: &Short, out: &mut Vec<u8>) -> Result<(), Memory>
+    ensures ok { OnOk result
+        (out.new.items ≡ out.old.items ++ key_text (KeyReply.Value key.now value.now)) }
+    ensures err { OnErr result (out.new.items ≡ out.old.items) }
 {
-    let key = hex::encode(alloc, key.as_slice())?;
-    let value = digits_of(alloc, value)?;
-    format!(in alloc; "value {key} {value}\n")
-}
-
-/// The digits of a value, or a dash where it is empty.
-fn digits_of(alloc: Global, value: &Short) -> Result<String, AllocError>
-    ensures { IfOk result (λ text. string_bytes text ≡ value_word value.now) }
-{
+    out.reserve(b"value".len() + 2 * WORD_BYTES + 1)?;
+    out.extend_from_slice(b"value").unwrap();
+    add_digits(key.as_slice(), out);
     if value.as_slice().is_empty() {
-        format!(in alloc; "-")
+        out.extend_from_slice(b" -").unwrap();
     } else {
-        hex::encode(alloc, value.as_slice())
+        add_digits(value.as_slice(), out);
     }
+    out.push_reserved(b'\n');
+    Ok(())
 }
 
-/// The line of some words and a key.
-fn keyed_line(alloc: Global, words: &str, key: &Short) -> Result<String, AllocError>
-    ensures { IfOk result (λ l. string_bytes l ≡ line_of (words.now ∷ encode_lower key.now ∷ [])) }
+/// Appends the line of some words and a key.
+fn add_key(words: &[u8], key: &Short, out: &mut Vec<u8>) -> Result<(), Memory>
+    requires { length words.now < 100 }
+    ensures ok { OnOk result
+        (out.new.items ≡ out.old.items ++ line_of (words.now ∷ encode_lower key.now ∷ [])) }
+    ensures err { OnErr result (out.new.items ≡ out.old.items) }
 {
-    let key = hex::encode(alloc, key.as_slice())?;
-    format!(in alloc; "{words} {key}\n")
+    out.reserve(words.len() + WORD_BYTES + 1)?;
+    out.extend_from_slice(words).unwrap();
+    add_digits(key.as_slice(), out);
+    out.push_reserved(b'\n');
+    Ok(())
+}
+
+/// Appends a space and the digits of a key or a value, for which there is room.
+fn add_digits(bytes: &[u8], out: &mut Vec<u8>)
+    requires few { length bytes.now ≤ MAX_SHORT }
+    requires room { vec_len out.old + WORD_BYTES ≤ vec_capacity out.old }
+    ensures items { out.new.items ≡ out.old.items ++ 32 ∷ encode_lower bytes.now }
+    ensures len { vec_len out.new ≤ vec_len out.old + WORD_BYTES }
+    ensures capacity { vec_capacity out.old ≤ vec_capacity out.new }
+{
+    let mut room = [0; 2 * MAX_SHORT];
+    let digits = &mut room[..2 * bytes.len()];
+    hex::encode_to_slice(bytes, digits).unwrap();
+    out.push_reserved(b' ');
+    out.extend_from_slice(digits).unwrap();
 }

@@ -127,7 +127,7 @@ fn serve_all<F: Power + Arms, R: CommitRule>(
     for command in list {
         match serve_one(alloc, config, &mut session, command) {
             Ok(reply) => {
-                if key_reply_text(alloc, &reply, out).is_err() {
+                if key_reply_text(&reply, out).is_err() {
                     return (session.into_flash(), Err(KeyServeError::Memory));
                 }
             }

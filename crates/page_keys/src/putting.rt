@@ -1,4 +1,4 @@
-ghost use Rattle.std.specs.Prelude.{◌≡◌, List, ◌<◌, ◌≤◌, ◌+◌, ◌^◌, [], None, Some, true, length, IfOk, IfErr, OnErr};
+ghost use Rattle.std.specs.Prelude.{◌≡◌, List, ◌<◌, ◌≤◌, ◌+◌, ◌^◌, [], None, Some, true, length, IfOk, IfErr, OnOk};
 ghost use Rattle.tx_engine.specs.ArrayState.{page_at};
 ghost use Rattle.page_keys.specs.Groups.{changes_of};
 ghost use Rattle.page_keys.specs.KeyMaps.{KeyMap, of_page, pages_of};
@@ -11,34 +11,51 @@ ghost use Rattle.page_keys.specs.Putting.{is_put_fault, is_failed, HasNewBytes, 
 
 use crate::answers::PutError;
 use crate::changes::Change;
-use crate::entries::{merge, write};
+use crate::entries::{Entry, merge, write};
 use crate::grouping::{Placed, by_page, count_values, of_page};
 use crate::pages::read_page;
-use crate::reading::{ENTRY_BYTES, read};
+use crate::reading::{ENTRY_BYTES, entries_in};
 use flash_model::Flash;
 use record_list::CommitRule;
 use std::alloc::Global;
 use tx_engine::{Device, held_always};
 use tx_types::Batch;
 
-/// The bytes of the entries of a page after its changes of a put, whose keys differ. The page is read once, unless the values
-/// that are put alone do not fit in it.
-fn rewritten<F: Flash, R: CommitRule>(
-    alloc: Global,
+/// Room for the entries of a page and for their bytes, which each page of a put uses in turn.
+#[derive(Drop)]
+pub(crate) struct Scratch {
+    entries: Vec<Entry>,
+    bytes: Vec<u8>,
+}
+
+impl Scratch {
+    /// Without memory of its own yet.
+    pub fn new(alloc: Global) -> Scratch {
+        Scratch {
+            entries: Vec::new(alloc),
+            bytes: Vec::new(alloc),
+        }
+    }
+}
+
+/// Writes to the scratch the bytes of the entries of a page after its changes of a put, whose keys differ. The page is
+/// read once, unless the values that are put alone do not fit in it.
+fn rewrite<F: Flash, R: CommitRule>(
     device: &mut Device<F, R>,
     room: &mut [u8],
+    scratch: &mut Scratch,
     page: u32,
     changes: &[Placed<'_>],
-) -> Result<Vec<u8>, PutError>
+) -> Result<(), PutError>
     requires keys { HasKeys device.old }
     requires valid { AllByRecursion IsKeyChange (changes_of changes.now) }
     requires room { length room.old ≡ device.old.config.page_bytes }
     requires exists { page < device.old.config.logical }
-    ensures bytes { IfOk result (λ v. (m : KeyMap) (cs : List Change) →
+    ensures bytes { OnOk result ((m : KeyMap) (cs : List Change) →
         of_page device.old.config.logical page cs ≡ changes_of changes.now →
         ShowsMap device.old.config device.old.machine.pages m →
-        HasNewBytes device.old.config m cs page v.items) }
-    ensures within { IfOk result (λ v. length v.items ≤ device.old.config.page_bytes) }
+        HasNewBytes device.old.config m cs page scratch.new.bytes.items) }
+    ensures within { OnOk result (length scratch.new.bytes.items ≤ device.old.config.page_bytes) }
     ensures refused { IfErr result (λ e. (m : KeyMap) (cs : List Change) →
         of_page device.old.config.logical page cs ≡ changes_of changes.now →
         repeated [] cs ≡ None → ShowsMap device.old.config device.old.machine.pages m →
@@ -46,23 +63,22 @@ fn rewritten<F: Flash, R: CommitRule>(
     ensures reads { OnlyReads F.state device.old device.new (is_failed result) }
     ensures once { (F.state device.new.flash).reads ≤ (F.state device.old.flash).reads + 1 }
 {
+    let Scratch { entries, bytes } = scratch;
     let config = held_always(device);
     let most = config.page_bytes as usize / ENTRY_BYTES;
     if count_values(changes) > most {
         return Err(PutError::Bucket(page));
     }
     read_page(device, room, page)?;
-    let mut entries = Vec::new(alloc);
-    if !read(room, config.logical, page, &mut entries)? {
-        unreachable!();
-    }
-    merge(&mut entries, changes)?;
+    entries.clear();
+    entries_in(room, entries)?;
+    merge(entries, changes)?;
     if entries.len() > most {
         return Err(PutError::Bucket(page));
     }
-    let mut bytes = Vec::new(alloc);
-    write(&entries, &mut bytes)?;
-    Ok(bytes)
+    bytes.clear();
+    write(entries, bytes)?;
+    Ok(())
 }
 
 /// What a put writes of the pages of its keys, which differ. Each of them is read, once.
@@ -70,6 +86,7 @@ pub(crate) fn rewritten_all<F: Flash, R: CommitRule>(
     alloc: Global,
     device: &mut Device<F, R>,
     room: &mut [u8],
+    scratch: &mut Scratch,
     pages: &[u32],
     changes: &[Change],
 ) -> Result<Batch, PutError>
@@ -93,8 +110,8 @@ pub(crate) fn rewritten_all<F: Flash, R: CommitRule>(
     let placed = by_page(alloc, config.logical, changes)?;
     let mut batch = Batch::new(alloc, config.page_bytes);
     for page in pages {
-        let bytes = rewritten(alloc, device, room, *page, of_page(&placed, *page))?;
-        batch.add(*page, &bytes)?;
+        rewrite(device, room, scratch, *page, of_page(&placed, *page))?;
+        batch.add(*page, &scratch.bytes)?;
     }
     Ok(batch)
 }

@@ -1,4 +1,4 @@
-ghost use Rattle.std.specs.Prelude.{◌≡◌, ◌≢◌, ◌<◌, ◌≤◌, ◌++◌, ◌∷◌, ℕ, List, [], Ok, Some, true, false, length, take, drop, IfSome, IfNone, IsTrue, MatchOption};
+ghost use Rattle.std.specs.Prelude.{◌≡◌, ◌≢◌, ◌<◌, ◌≤◌, ◌++◌, ◌∷◌, ℕ, List, [], Ok, Some, true, false, length, take, drop, IfSome, IfNone, IsTrue, MatchOption, OnOk};
 ghost use Rattle.page_keys.specs.KeyMaps.{Pair, is_ascending, value_of};
 ghost use Rattle.page_keys.specs.Buckets.{entry_bytes, IsEntry, IsBucketOf, IsBucket, HoldsEntries};
 ghost use Rattle.page_keys.specs.Entries.{GivesValue};
@@ -65,6 +65,31 @@ pub(crate) fn read(
         rest = behind;
     }
     Ok(all_zero(rest))
+}
+
+/// The entry that these bytes are, which are one.
+fn known_entry(bytes: &[u8]) -> Entry
+    requires { (e : Pair) × IsEntry e × (bytes.now ≡ entry_bytes e) }
+    ensures { (e : Pair) → IsEntry e → bytes.now ≡ entry_bytes e → result ≡ e }
+{
+    let (key, value) = bytes.split_at(FIELD_BYTES);
+    (Short::of_field(key), Short::of_field(value))
+}
+
+/// Reads the entries of a page that is a bucket.
+pub(crate) fn entries_in(bytes: &[u8], into: &mut Vec<Entry>) -> Result<(), Memory>
+    requires bucket { (pairs : List Pair) × HoldsEntries (length bytes.now) bytes.now pairs }
+    requires empty { into.old.items ≡ [] }
+    ensures { OnOk result ((pairs : List Pair) →
+        HoldsEntries (length bytes.now) bytes.now pairs → into.new.items ≡ pairs) }
+{
+    let mut rest = bytes;
+    'entries: while rest.len() >= ENTRY_BYTES && rest[0] != 0 {
+        let (entry, behind) = rest.split_at(ENTRY_BYTES);
+        into.push(known_entry(entry))?;
+        rest = behind;
+    }
+    Ok(())
 }
 
 /// The number of bytes of a key's value in a bucket, which are copied; the bytes behind them stay.

@@ -1,5 +1,6 @@
-ghost use Rattle.std.specs.Prelude.{◌≡◌, ◌<◌, ◌≤◌, ◌^◌, ◌⊎◌, [], Some, None, length, IfOk, IfErr};
+ghost use Rattle.std.specs.Prelude.{◌≡◌, ◌<◌, ◌≤◌, ◌^◌, ◌⊎◌, [], Some, None, length, IfOk, IfErr, OnOk};
 ghost use Rattle.page_keys.specs.KeyMaps.{is_touched, pages_of};
+ghost use Rattle.page_keys.specs.Pages.{with_page};
 ghost use Rattle.page_keys.specs.Puts.{early_refusal};
 
 use crate::answers::PutError;
@@ -9,6 +10,9 @@ use crate::repeats::first_repeated;
 use std::alloc::Global;
 use std::collections::BTreeSet;
 use tx_types::{Config, Memory};
+
+/// Up to this many changes their pages are listed without a set.
+const FEW: usize = 16;
 
 /// The pages of the keys of a put, in ascending order, unless its changes alone are refused. `Memory` comes only where they
 /// are not.
@@ -38,14 +42,47 @@ pub(crate) fn checked(
     if count > config.pending {
         return Err(PutError::Wide(count));
     }
-    Ok(listed(alloc, &pages?)?)
+    Ok(pages?)
 }
 
-/// The pages of the keys of changes.
-fn pages(alloc: Global, logical: u32, changes: &[Change]) -> Result<BTreeSet<u32>, Memory>
+/// The pages of the keys of changes, in ascending order.
+fn pages(alloc: Global, logical: u32, changes: &[Change]) -> Result<Vec<u32>, Memory>
     requires { 0 < logical }
-    ensures pages { IfOk result (λ s. s.keys ≡ pages_of logical changes.now) }
-    ensures few { IfOk result (λ s. length s.keys ≤ logical) }
+    ensures pages { IfOk result (λ v. v.items ≡ pages_of logical changes.now) }
+    ensures few { IfOk result (λ v. length v.items ≤ logical) }
+{
+    if changes.len() > FEW {
+        return Ok(listed(alloc, &page_set(alloc, logical, changes)?)?);
+    }
+    let mut pages = Vec::new(alloc);
+    for change in changes {
+        add_page(&mut pages, bucket(change.key.as_slice(), logical))?;
+    }
+    Ok(pages)
+}
+
+/// Adds a page among pages in ascending order, unless it is there.
+fn add_page(pages: &mut Vec<u32>, page: u32) -> Result<(), Memory>
+    ensures { OnOk result (pages.new.items ≡ with_page page pages.old.items) }
+{
+    for i in 0..pages.len() {
+        let found = pages[i];
+        if found == page {
+            return Ok(());
+        }
+        if page < found {
+            pages.insert(i, page)?;
+            return Ok(());
+        }
+    }
+    pages.push(page)?;
+    Ok(())
+}
+
+/// The set of the pages of the keys of changes.
+fn page_set(alloc: Global, logical: u32, changes: &[Change]) -> Result<BTreeSet<u32>, Memory>
+    requires { 0 < logical }
+    ensures { IfOk result (λ s. s.keys ≡ pages_of logical changes.now) }
 {
     let mut pages = BTreeSet::new(alloc);
     for change in changes {

@@ -7,7 +7,7 @@ ghost use Rattle.page_keys.specs.declared.command.KeyCommand.{KeyCommand};
 use crate::command::KeyCommand;
 use crate::key_line::key_line;
 use crate::script_error::KeyTextError;
-use host_protocol::{MAX_FILE_BYTES, first_line};
+use host_protocol::{MAX_FILE_BYTES, first_line, no_commands};
 use std::alloc::Global;
 use tx_types::Memory;
 
@@ -26,7 +26,7 @@ pub fn parse_keys(alloc: Global, bytes: &[u8]) -> Result<Vec<KeyCommand>, KeyTex
     ensures first { (n : ℕ) → IsFirstBadScriptLine bytes.now n → MatchResult result
         (λ list. ⊥) (λ e. (e ≡ KeyTextError.Line n) ⊎ (e ≡ KeyTextError.Memory)) }
 {
-    let mut commands = Vec::new(alloc);
+    let mut commands = no_commands(alloc, bytes)?;
     let mut number = 0;
     let mut rest = bytes;
     while let Some((line, behind)) = first_line(rest) {

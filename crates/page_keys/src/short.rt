@@ -62,6 +62,29 @@ impl Short {
         Some(Short::new(used))
     }
 
+    /// What a field of an entry holds that holds something.
+    pub(crate) fn of_field(field: &[u8]) -> Short
+        requires { (s : List ℕ) × (length s ≤ MAX_SHORT) × (field.now ≡ padded_short s) }
+        ensures { (s : List ℕ) → length s ≤ MAX_SHORT → field.now ≡ padded_short s → result ≡ s }
+    {
+        let mut room = [0; 15];
+        room.copy_from_slice(&field[1..]);
+        Short {
+            len: field[0],
+            room,
+        }
+    }
+
+    /// The same bytes.
+    pub(crate) fn copied(&self) -> Short
+        ensures { result ≡ self.now }
+    {
+        Short {
+            len: self.len,
+            room: self.room,
+        }
+    }
+
     /// Appends the field of an entry that holds it.
     pub(crate) fn write(&self, out: &mut Vec<u8>) -> Result<(), Memory>
         ensures ok { OnOk result (out.new.items ≡ out.old.items ++ padded_short self.now) }
@@ -82,10 +105,13 @@ impl Short {
     }
 }
 
-/// Whether all bytes are zero.
-#[tactic(auto, using(crate::proofs::Zeros::all_zeros))]
+/// Whether all bytes are zero. Each of them is looked at, which takes less time than to stop at the first other one.
 pub(crate) fn all_zero(bytes: &[u8]) -> bool
     ensures { IsTrue result ↔ (bytes.now ≡ replicate (length bytes.now) 0) }
 {
-    bytes.iter().all(|b| *b == 0)
+    let mut zero = true;
+    for byte in bytes {
+        zero &= *byte == 0;
+    }
+    zero
 }

@@ -21,7 +21,7 @@ use crate::answers::{KeyError, PutError};
 use crate::changes::Changes;
 use crate::hashing::bucket;
 use crate::pages::{check_all, read_page};
-use crate::putting::rewritten_all;
+use crate::putting::{Scratch, rewritten_all};
 use crate::reading::value_in;
 use crate::refusals::checked;
 use crate::short::MAX_SHORT;
@@ -40,6 +40,7 @@ pub struct KeyStore<F: Flash, R: CommitRule> {
     pub(crate) device: Device<F, R>,
     /// Room for a page.
     pub(crate) room: Vec<u8>,
+    pub(crate) scratch: Scratch,
     /// Whether a call met a fault.
     pub(crate) broken: bool,
 }
@@ -79,6 +80,7 @@ impl<F: Flash, R: CommitRule> KeyStore<F, R> {
                 alloc,
                 device,
                 room,
+                scratch: Scratch::new(alloc),
                 broken: false,
             }),
             Err(e) => Err((device, e)),
@@ -125,7 +127,14 @@ impl<F: Flash, R: CommitRule> KeyStore<F, R> {
         let config = held_always(&self.device);
         let list = changes.as_slice();
         let pages = checked(self.alloc, config, list)?;
-        match rewritten_all(self.alloc, &mut self.device, &mut self.room, &pages, list) {
+        match rewritten_all(
+            self.alloc,
+            &mut self.device,
+            &mut self.room,
+            &mut self.scratch,
+            &pages,
+            list,
+        ) {
             Ok(batch) => self.write(&batch),
             Err(e) => {
                 self.broken = e.is_fault();

@@ -22,13 +22,13 @@ if_err : {X E : Type 0} (r : Result X E) (P Q : E → Type 0) → IsErrAnd r P �
 if_err (Ok x) P Q h f = tt
 if_err (Err e) P Q h f = f e h
 
-pub rewritten-requires-clause-keys : goal.rewritten-requires-clause-keys
-rewritten-requires-clause-keys g c =
+pub rewrite-requires-clause-keys : goal.rewrite-requires-clause-keys
+rewrite-requires-clause-keys g c =
     keeps_keys c.args.device.now c.loop-page.device c.loop-page.invariant.reads.stays
     c.requires.keys
 
-pub rewritten-requires-clause-exists : goal.rewritten-requires-clause-exists
-rewritten-requires-clause-exists g c =
+pub rewrite-requires-clause-exists : goal.rewrite-requires-clause-exists
+rewrite-requires-clause-exists g c =
     let same = ap (λ (s : Standing g.row.F.Denot). s.config.logical)
     c.loop-page.invariant.reads.stays in
     subst (λ k. get_or c.args.pages.now c.loop-page.page-index 0 < k) (sym same)
@@ -39,8 +39,8 @@ pub of_page-requires : goal.of_page-requires
 of_page-requires g c =
     subst (IsNonDecreasingBy page_in) (sym c.deref.ensures.value) c.in_ok-placed.ensures.ascends
 
-pub rewritten-requires-clause-valid : goal.rewritten-requires-clause-valid
-rewritten-requires-clause-valid g c =
+pub rewrite-requires-clause-valid : goal.rewrite-requires-clause-valid
+rewrite-requires-clause-valid g c =
     let p = get_or c.args.pages.now c.loop-page.page-index 0 in
     let logical = c.loop-page.device.config.logical in
     subst (AllByRecursion IsKeyChange) (group_is c.held_always-config.result.logical c.loop-page.device.config.logical
@@ -56,21 +56,21 @@ add-requires g c =
     let same = ap (λ (s : Standing g.row.F.Denot). s.config.page_bytes)
     c.loop-page.invariant.reads.stays in
     let size = ap length c.deref-in-loop-page.ensures.value in
-    omega (arith, size, c.in_ok-bytes.ensures.within, same, c.loop-page.invariant.size)
+    omega (arith, size, c.in_ok-rewrite.ensures.within, same, c.loop-page.invariant.size)
 
-pub returns-in_err-bytes-clause-refused : goal.returns-in_err-bytes-clause-refused
-returns-in_err-bytes-clause-refused g c =
+pub returns-in_err-rewrite-clause-refused : goal.returns-in_err-rewrite-clause-refused
+returns-in_err-rewrite-clause-refused g c =
     let i = c.loop-page.invariant in
     let s = c.args.device.now in
     let t = c.loop-page.device in
-    let e = c.in_err-bytes.field-0.0 in
+    let e = c.in_err-rewrite.field-0.0 in
     let F : PutError → Type 0 = λ x. (m : KeyMap) → ShowsMap s.config s.machine.pages m →
     IsFull s.config m c.args.changes.now x in
     let one : F e = λ m shows.
     is_full s.config m c.args.changes.now c.args.pages.now c.loop-page.page-index
     c.requires.pages (i.writes m shows).1 c.loop-page-test.true e
     (much_back s t i.reads.stays m c.args.changes.now _ e
-    (c.in_err-bytes.ensures.refused m c.args.changes.now (group_is c.held_always-config.result.logical c.loop-page.device.config.logical
+    (c.in_err-rewrite.ensures.refused m c.args.changes.now (group_is c.held_always-config.result.logical c.loop-page.device.config.logical
     (get_or c.args.pages.now c.loop-page.page-index 0) c.args.changes.now
     c.in_ok-placed.placed.items c.deref.result.now c.of_page.result.now
     (ap (λ (x : Standing g.row.F.Denot). x.config.logical) c.loop-page.invariant.reads.stays
@@ -78,7 +78,7 @@ returns-in_err-bytes-clause-refused g c =
     c.in_ok-placed.ensures c.deref.ensures.value c.of_page.ensures)
     c.requires.differ
     (shows_there s t i.reads.stays m shows))) in
-    if_err c.from_residual-in_err-bytes.result _ F c.from_residual-in_err-bytes.ensures.1 (λ x is. subst F (sym is) one)
+    if_err c.from_residual-in_err-rewrite.result _ F c.from_residual-in_err-rewrite.ensures.1 (λ x is. subst F (sym is) one)
 
 pub loop-page-preserved : goal.loop-page-preserved
 loop-page-preserved g c =
@@ -89,13 +89,13 @@ loop-page-preserved g c =
     let added = c.in_ok-add.ensures.ok in
     record {
       size = ap (λ (b : Writes). b.page_bytes) added ∙ i.size;
-      reads = reads_then g.F.Flash.state s t c.rewritten.new.device false i.reads
-          c.in_ok-bytes.ensures.reads;
-      count = omega (arith, i.count, c.in_ok-bytes.ensures.once);
+      reads = reads_then g.F.Flash.state s t c.rewrite.new.device false i.reads
+          c.in_ok-rewrite.ensures.reads;
+      count = omega (arith, i.count, c.in_ok-rewrite.ensures.once);
       writes = λ m shows.
           let before = i.writes m shows in
           let made = bytes_back s t i.reads.stays m c.args.changes.now p _
-          (c.in_ok-bytes.ensures.bytes m c.args.changes.now (group_is c.held_always-config.result.logical c.loop-page.device.config.logical
+          (c.in_ok-rewrite.ensures.bytes m c.args.changes.now (group_is c.held_always-config.result.logical c.loop-page.device.config.logical
           (get_or c.args.pages.now c.loop-page.page-index 0) c.args.changes.now
           c.in_ok-placed.placed.items c.deref.result.now c.of_page.result.now
           (ap (λ (x : Standing g.row.F.Denot). x.config.logical) c.loop-page.invariant.reads.stays

@@ -3,4 +3,4 @@ use Rattle.page_keys.specs.KeyMaps.{pages_of}
 use Rattle.page_keys.proofs.refusals.pages.Given as goal
 
 abbrev pub invariant-loop-change : goal.invariant-loop-change
-invariant-loop-change l = l.pages.keys ≡ pages_of l.logical (take l.change-index l.changes)
+invariant-loop-change l = l.pages.items ≡ pages_of l.logical (take l.change-index l.changes)

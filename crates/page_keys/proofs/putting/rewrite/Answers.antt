@@ -1,6 +1,5 @@
-use Rattle.std.proofs.Common.{◌≡◌, ℕ, List, ◌++◌, length, flat_map, Bool, Result, Ok, refl, ap, sym, subst, ◌∙◌, arith}
+use Rattle.std.proofs.Common.{ℕ, List, ◌++◌, length, flat_map, refl, ap, sym, subst, ◌∙◌, arith}
 use Rattle.tx_types.specs.declared.config.Config.{Config}
-use Rattle.tx_types.specs.declared.memory.Memory.{Memory}
 use Rattle.std.specs.List.{AllByRecursion}
 use Rattle.page_keys.specs.Puts.{IsKeyChange}
 use Rattle.std.specs.Prelude.{count_by}
@@ -10,20 +9,22 @@ use Rattle.page_keys.specs.Entries.{changed}
 use Rattle.page_keys.proofs.BucketChanges.{merged_are, each_after, each_changed}
 use Rattle.page_keys.proofs.Inserts.{puts_most}
 use Rattle.page_keys.proofs.EntriesLeft.{length_entries}
-use Rattle.page_keys.proofs.StoreReads.{bucket_back, bucket_of_read, is_over_by, is_more, is_within}
-use Rattle.page_keys.proofs.putting.rewritten.Goals as goal
+use Rattle.page_keys.proofs.StoreReads.{entries_read, holds_read, is_over_by, is_more, is_within}
+use Rattle.page_keys.proofs.putting.rewrite.Goals as goal
 
-okay : (b d : Bool) → b ≡ d → let left : Result Bool Memory = Ok b in left ≡ Ok d
-okay b d same = ap (λ (x : Bool). let r : Result Bool Memory = Ok x in r) same
+pub entries_in-requires-clause-bucket : goal.entries_in-requires-clause-bucket
+entries_in-requires-clause-bucket g c =
+    let found = c.requires.keys.buckets c.args.page c.requires.exists in (
+      found.0,
+      holds_read c.args.device.now.config.page_bytes _ c.read_page.new.room found.0
+          c.in_ok-read_page.ensures.shown (c.read_page.auto.room ∙ c.requires.room) found.1.holds,
+    )
 
-pub unreachable-requires : goal.unreachable-requires
-unreachable-requires g c =
-    let s = c.args.device.now in
-    c.in_ok-read.ensures.no (okay _ _ c.if-not-branch.true)
-    (bucket_back s s c.read_page.new.room c.held_always-config.result.logical c.args.page refl
-    c.in_ok-read_page.ensures.shown (c.read_page.auto.room ∙ c.requires.room)
-    (ap (λ (x : Config). x.logical) c.held_always-config.ensures.config)
-    (c.requires.keys.buckets c.args.page c.requires.exists))
+pub merge-requires : goal.merge-requires
+merge-requires g c =
+    (entries_read c.args.device.now c.args.page c.read_page.new.room c.entries_in.new.into.items
+    c.requires.keys c.requires.exists c.in_ok-read_page.ensures.shown
+    (c.read_page.auto.room ∙ c.requires.room) c.in_ok-entries_in.ensures).its.ascend
 
 -- values that do not fit alone
 pub returns-then-count_values-most-clause-refused :
@@ -42,13 +43,12 @@ pub returns-then-len-most-clause-refused : goal.returns-then-len-most-clause-ref
 returns-then-len-most-clause-refused g c m cs same differ shows =
     let s = c.args.device.now in
     let config = c.held_always-config.ensures.config in
-    let is = bucket_of_read s s c.read_page.new.room c.held_always-config.result.logical
-    c.args.page refl c.in_ok-read_page.ensures.shown
-    (c.read_page.auto.room ∙ c.requires.room) (ap (λ (x : Config). x.logical) config)
-    c.read.new.into.items (c.in_ok-read.ensures.yes (okay _ _ c.if-not-branch.false)) in
-    let made = c.in_ok-merge.ensures ∙ ap (changed c.read.new.into.items) (sym same) in
+    let is = entries_read s c.args.page c.read_page.new.room c.entries_in.new.into.items
+    c.requires.keys c.requires.exists c.in_ok-read_page.ensures.shown
+    (c.read_page.auto.room ∙ c.requires.room) c.in_ok-entries_in.ensures in
+    let made = c.in_ok-merge.ensures ∙ ap (changed c.entries_in.new.into.items) (sym same) in
     let merged = merged_are s.config m cs c.args.page _
-    (shows c.args.page c.requires.exists) c.read.new.into.items c.merge.new.entries.items is
+    (shows c.args.page c.requires.exists) c.entries_in.new.into.items c.merge.new.entries.items is
     made in (
       refl,
       is_more c.held_always-config.result.page_bytes s.config.page_bytes _ c.len.result
@@ -60,19 +60,18 @@ pub returns-clause-bytes : goal.returns-clause-bytes
 returns-clause-bytes g c m cs same shows =
     let s = c.args.device.now in
     let config = c.held_always-config.ensures.config in
-    let is = bucket_of_read s s c.read_page.new.room c.held_always-config.result.logical
-    c.args.page refl c.in_ok-read_page.ensures.shown
-    (c.read_page.auto.room ∙ c.requires.room) (ap (λ (x : Config). x.logical) config)
-    c.read.new.into.items (c.in_ok-read.ensures.yes (okay _ _ c.if-not-branch.false)) in
-    let made = c.in_ok-merge.ensures ∙ ap (changed c.read.new.into.items) (sym same) in
+    let is = entries_read s c.args.page c.read_page.new.room c.entries_in.new.into.items
+    c.requires.keys c.requires.exists c.in_ok-read_page.ensures.shown
+    (c.read_page.auto.room ∙ c.requires.room) c.in_ok-entries_in.ensures in
+    let made = c.in_ok-merge.ensures ∙ ap (changed c.entries_in.new.into.items) (sym same) in
     let here = shows c.args.page c.requires.exists in
     let merged = merged_are s.config m cs c.args.page _ here
-    c.read.new.into.items c.merge.new.entries.items is made in
+    c.entries_in.new.into.items c.merge.new.entries.items is made in
     let few = is_within c.held_always-config.result.page_bytes s.config.page_bytes _ c.len.result
     (ap (λ (x : Config). x.page_bytes) config) c.if-len-most.false
     (c.len.ensures ∙ c.merge.new.entries.ok.0 ∙ ap length merged) in
     let bytes = c.in_ok-write.ensures
-    ∙ ap (λ (l : List ℕ). l ++ flat_map entry_bytes c.deref.result.now) c.new-bytes.ensures.items
+    ∙ ap (λ (l : List ℕ). l ++ flat_map entry_bytes c.deref.result.now) c.clear-2.ensures.items
     ∙ ap (flat_map entry_bytes) (c.deref.ensures.value ∙ merged) in
     let each = each_after s.config m cs c.args.page _ here
     (subst (AllByRecursion IsKeyChange) (sym same) c.requires.valid) in
@@ -87,17 +86,16 @@ pub returns-clause-within : goal.returns-clause-within
 returns-clause-within g c =
     let s = c.args.device.now in
     let config = c.held_always-config.ensures.config in
-    let is = bucket_of_read s s c.read_page.new.room c.held_always-config.result.logical
-    c.args.page refl c.in_ok-read_page.ensures.shown
-    (c.read_page.auto.room ∙ c.requires.room) (ap (λ (x : Config). x.logical) config)
-    c.read.new.into.items (c.in_ok-read.ensures.yes (okay _ _ c.if-not-branch.false)) in
+    let is = entries_read s c.args.page c.read_page.new.room c.entries_in.new.into.items
+    c.requires.keys c.requires.exists c.in_ok-read_page.ensures.shown
+    (c.read_page.auto.room ∙ c.requires.room) c.in_ok-entries_in.ensures in
     let each = subst (AllByRecursion IsEntry) (sym c.in_ok-merge.ensures)
-    (each_changed c.read.new.into.items _ c.requires.valid is.holds.each) in
+    (each_changed c.entries_in.new.into.items _ c.requires.valid is.holds.each) in
     let few = is_within c.held_always-config.result.page_bytes s.config.page_bytes _ c.len.result
     (ap (λ (x : Config). x.page_bytes) config) c.if-len-most.false
     (c.len.ensures ∙ c.merge.new.entries.ok.0) in
     let bytes = c.in_ok-write.ensures
-    ∙ ap (λ (l : List ℕ). l ++ flat_map entry_bytes c.deref.result.now) c.new-bytes.ensures.items
+    ∙ ap (λ (l : List ℕ). l ++ flat_map entry_bytes c.deref.result.now) c.clear-2.ensures.items
     ∙ ap (flat_map entry_bytes) c.deref.ensures.value in
     let size = ap length bytes ∙ length_entries _ each in
     omega (arith, size, few.0)

@@ -1,0 +1,13 @@
+use Rattle.std.proofs.Common.{◌≡◌, ◌++◌, ℕ, length, List}
+use Rattle.page_keys.specs.KeyMaps.{Pair}
+use Rattle.page_keys.specs.Buckets.{HoldsEntries}
+use Rattle.page_keys.proofs.EntriesLeft.{IsLeft}
+use Rattle.page_keys.proofs.reading.entries_in.Given as goal
+
+abbrev pub decreases-entries : goal.decreases-entries
+decreases-entries l = length l.rest
+
+abbrev pub invariant-entries : goal.invariant-entries
+invariant-entries l =
+    (all : List Pair) → HoldsEntries (length l.bytes) l.bytes all →
+    (more : List Pair) × (n : ℕ) × IsLeft l.rest more n × (all ≡ l.into.items ++ more)

@@ -1,0 +1,6 @@
+use Rattle.std.proofs.Common.{◌≡◌, take}
+use Rattle.page_keys.specs.KeyMaps.{pages_of}
+use Rattle.page_keys.proofs.refusals.page_set.Given as goal
+
+abbrev pub invariant-loop-change : goal.invariant-loop-change
+invariant-loop-change l = l.pages.keys ≡ pages_of l.logical (take l.change-index l.changes)
