@@ -1,31 +1,29 @@
 -- The picture of records in order of their names is that of the list.
-use Rattle.std.proofs.Common.{◌≡◌, ℕ, zero, suc, ◌==◌, ◌||◌, ◌&&◌, nat_lt, cond, List, [], ◌∷◌, ◌++◌, sym, Bool, map, codes, ap, ap₂, ◌∙◌, refl, append_assoc}
+use Rattle.std.proofs.Common.{◌≡◌, ℕ, ◌==◌, ◌&&◌, nat_lt, List, ◌++◌, sym, Bool, map, ap, ap₂, ◌∙◌, refl, append_assoc}
 use mathlib.Core.Path.{fun_ext}
 use Rattle.std.specs.List.{flat_map, list_any, range_with_len}
 use Rattle.std.proofs.lemmas.List.Sorted.{list_any-IsPermutation}
-use Rattle.tx_types.specs.declared.record.Link.{Link}
 use Rattle.tx_types.specs.declared.record.Rec.{Rec}
 use Rattle.tx_types.specs.declared.config.Config.{Config}
 use Rattle.tx_types.specs.declared.config.Protocol.{Protocol}
 use Rattle.tx_types.specs.Config.{shape_of}
 use Rattle.tx_types.specs.declared.config.Protocol.TheVariants.{Scc, Bpcc}
 use Rattle.record_list.specs.declared.found.Found.{Found}
-use Rattle.record_list.specs.declared.found.Why.{Why}
-use Rattle.record_list.specs.Records.{is_same}
-use Rattle.record_list.specs.Verdict.{newest_name, is_committed, link_of, straddles, why}
+use Rattle.record_list.specs.Verdict.{straddles}
 use Rattle.record_list.specs.Current.{answers_for, is_held}
 use Rattle.record_chart.specs.Charts.{Sorts}
-use Rattle.record_chart.proofs.Alike.{newest_alike, newest_name_alike, link_alike, why_alike, cur_alike, responsible_alike}
+use Rattle.record_chart.proofs.Alike.{cur_alike, responsible_alike}
 use Rattle.version_index.specs.declared.note.Note.{Note}
 use Rattle.version_index.specs.declared.note.Note.TheVariants as note
 use Rattle.version_index.specs.Notes.{found_in}
 use Rattle.flash_picture.specs.declared.cell.Cell.{Cell}
 use Rattle.flash_picture.specs.declared.cell.Cell.TheVariants.{Holds}
 use Rattle.flash_picture.specs.declared.marks.Marks.{Marks}
-use Rattle.flash_picture.specs.Cells.{cell_of, name_word, rank_by}
+use Rattle.flash_picture.specs.Cells.{cell_of, rank_by}
 use Rattle.flash_picture.specs.Map.{map_text}
 use Rattle.flash_picture.specs.Picture.{breach_line, cells_of, heading, picture}
-use Rattle.flash_picture.specs.Walks.{chain, chain_text, end_text, ends_at, story_text, walk_line, walks_text}
+use Rattle.flash_picture.specs.Walks.{end_of, walk_line, walks_text}
+use Rattle.flash_picture.proofs.Shown.{end_alike, line_alike}
 
 module _ (list sorted : List Found) (is : Sorts list sorted) where
   held_alike : (protocol : Protocol) (logical : ℕ) (r : Rec) → is_held protocol sorted logical r ≡ is_held protocol list logical r
@@ -44,34 +42,10 @@ module _ (list sorted : List Found) (is : Sorts list sorted) where
   cell_alike protocol logical (note.Holds rec) =
       ap₂ (λ c h. Holds rec (rank_by c rec.version) h) (cur_alike list sorted is protocol logical rec.page) (held_alike protocol logical rec)
 
-  end_alike : (start link : Link) → ends_at sorted start link ≡ ends_at list start link
-  end_alike start link =
-      ap (λ n. nat_lt n link.version || nat_lt link.version n || is_same link start) (newest_alike list sorted is link.page)
-
-  chain_alike : (start : Link) (more : ℕ) (link : Link) → chain sorted start more link ≡ chain list start more link
-  unfolding chain
-  chain_alike start zero link = refl
-  chain_alike start (suc more) link =
-      ap₂ (λ b rest. codes " -> " ++ name_word link ++ cond b [] rest) (end_alike start link)
-      (chain_alike start more (link_of sorted link) ∙ ap (chain list start more) (link_alike list sorted is link))
-
-  chain_text_alike : (start : Link) → chain_text sorted start ≡ chain_text list start
-  chain_text_alike start =
-      ap (λ rest. codes "walk " ++ name_word start ++ rest)
-      (chain_alike start 16 (link_of sorted start) ∙ ap (chain list start 16) (link_alike list sorted is start))
-
-  pub story_alike : (page : ℕ) (w : Why) → story_text sorted page w ≡ story_text list page w
-  story_alike page w =
-      ap (λ t. t ++ end_text w)
-      (chain_text_alike (newest_name sorted page) ∙ ap (chain_text list) (newest_name_alike list sorted is page))
-
-  line_alike : (page : ℕ) (w : Why) → walk_line sorted page w ≡ walk_line list page w
-  line_alike page w = ap (λ t. cond (is_committed w) [] (t ++ 10 ∷ [])) (story_alike page w)
-
   pub walks_alike : (protocol : Protocol) (logical : ℕ) → walks_text protocol sorted logical ≡ walks_text protocol list logical
   walks_alike protocol logical =
-      ap (λ f. flat_map f (range_with_len 0 logical))
-      (fun_ext (λ page. line_alike page (why protocol sorted logical page) ∙ ap (walk_line list page) (why_alike list sorted is protocol logical page)))
+      ap (λ f. flat_map f (range_with_len 0 logical)) (fun_ext (λ page. line_alike list sorted is logical page (end_of protocol sorted logical page)
+      ∙ ap (walk_line list logical page) (end_alike list sorted is protocol logical page)))
 
   pub cells_alike : (its : Config) (notes : List Note) → list ≡ found_in notes →
       map (cell_of its.protocol sorted its.logical) notes ≡ cells_of its notes

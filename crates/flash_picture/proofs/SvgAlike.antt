@@ -1,15 +1,12 @@
 -- The picture in SVG of records in order of their names is that of the list.
-use Rattle.std.proofs.Common.{◌≡◌, ℕ, not, cond, filter, length, Option, List, [], ◌++◌, map, codes, refl, ap, ap₂, ◌∙◌}
+use Rattle.std.proofs.Common.{◌≡◌, ℕ, zero, suc, ◌+◌, List, ◌++◌, map, codes, refl, ap, ap₂, ◌∙◌}
 use mathlib.Core.Path.{fun_ext}
 use Rattle.std.specs.List.{flat_map, range_with_len}
 use Rattle.tx_types.specs.declared.config.Config.{Config}
 use Rattle.tx_types.specs.declared.config.Protocol.{Protocol}
 use Rattle.tx_types.specs.Config.{shape_of, slots_of}
-use Rattle.record_list.specs.declared.found.Breach.{Breach}
 use Rattle.record_list.specs.declared.found.Found.{Found}
-use Rattle.record_list.specs.Verdict.{is_committed, why}
 use Rattle.record_chart.specs.Charts.{Sorts}
-use Rattle.record_chart.proofs.Alike.{why_alike}
 use Rattle.version_index.specs.declared.note.Note.{Note}
 use Rattle.version_index.specs.Notes.{found_in}
 use Rattle.flash_picture.specs.declared.cell.Cell.{Cell}
@@ -17,16 +14,18 @@ use Rattle.flash_picture.specs.declared.cell.Cell.TheVariants.{Blank, Damaged, H
 use Rattle.flash_picture.specs.declared.grid.Grid.{Grid}
 use Rattle.flash_picture.specs.declared.marks.Marks.{Marks}
 use Rattle.flash_picture.specs.Cells.{cell_at, cell_of, slot_text}
-use Rattle.flash_picture.specs.Grid.{bottom, height}
-use Rattle.flash_picture.specs.Pieces.{attribute, next_line}
-use Rattle.flash_picture.specs.Svg.{above, arrow_to, arrows_svg, breach_svg, drawing, first_slot, grid_of, lines_svg, map_svg, svg, target, uncommitted, walk_row, walks_svg}
-use Rattle.flash_picture.proofs.Alike.{cells_alike, story_alike}
+use Rattle.flash_picture.specs.Grid.{height}
+use Rattle.flash_picture.specs.Svg.{above, arrow_to, arrows_svg, drawing, first_slot, grid_of, lines_svg, map_svg, svg, target, walk_rows, walk_takes, walks_svg, walks_take}
+use Rattle.flash_picture.specs.Walks.{end_of}
+use Rattle.flash_picture.proofs.Alike.{cells_alike}
+use Rattle.flash_picture.proofs.Shown.{end_alike, rows_alike, takes_alike}
 
 module _ (list sorted : List Found) (is : Sorts list sorted) where
-  uncommitted_alike : (protocol : Protocol) (logical : ℕ) → uncommitted protocol sorted logical ≡ uncommitted protocol list logical
-  uncommitted_alike protocol logical =
-      ap (λ f. length (filter f (range_with_len 0 logical)))
-      (fun_ext (λ page. ap (λ w. not (is_committed w)) (why_alike list sorted is protocol logical page)))
+  take_alike : (protocol : Protocol) (logical pages : ℕ) → walks_take protocol sorted logical pages ≡ walks_take protocol list logical pages
+  take_alike protocol logical zero = refl
+  take_alike protocol logical (suc pages) =
+      ap₂ (λ a b. a + b) (take_alike protocol logical pages)
+      (takes_alike list sorted is logical pages (end_of protocol sorted logical pages) ∙ ap (walk_takes list logical pages) (end_alike list sorted is protocol logical pages))
 
   target_alike : (cell : Cell) → target sorted cell ≡ target list cell
   target_alike Blank = refl
@@ -40,25 +39,18 @@ module _ (list sorted : List Found) (is : Sorts list sorted) where
 
   walks_alike : (protocol : Protocol) (logical : ℕ) → walks_svg protocol sorted logical ≡ walks_svg protocol list logical
   walks_alike protocol logical =
-      ap (λ f. flat_map f (range_with_len 0 logical))
-      (fun_ext (λ page. ap (walk_row sorted page) (why_alike list sorted is protocol logical page)
-      ∙ ap (λ t. cond (is_committed (why protocol list logical page)) [] (next_line (codes "walk") t))
-      (story_alike list sorted is page (why protocol list logical page))))
-
-  lines_alike : (grid : Grid) (protocol : Protocol) (logical : ℕ) (breach : Option Breach) →
-      lines_svg grid protocol sorted logical breach ≡ lines_svg grid protocol list logical breach
-  lines_alike grid protocol logical breach =
-      ap (λ w. codes "<text" ++ attribute (codes "y") (bottom grid) ++ codes ">" ++ w ++ breach_svg breach ++ codes "</text>\n")
-      (walks_alike protocol logical)
+      ap (λ f. flat_map f (range_with_len 0 logical)) (fun_ext (λ page. rows_alike list sorted is logical page (end_of protocol sorted logical page)
+      ∙ ap (walk_rows list logical page) (end_alike list sorted is protocol logical page)))
 
   pub drawing_alike : (its : Config) (grid : Grid) (cells : List Cell) (marks : Marks) →
       drawing its grid sorted cells marks ≡ drawing its grid list cells marks
   drawing_alike its grid cells marks =
-      let lines = lines_svg grid its.protocol sorted its.logical marks.breach in
+      let lines = lines_svg grid (walks_svg its.protocol sorted its.logical) marks.breach in
       ap (λ n. above its (height grid n) ++ map_svg grid cells marks ++ arrows_svg grid sorted cells marks ++ lines ++ codes "</svg>\n")
-      (uncommitted_alike its.protocol its.logical)
-      ∙ ap₂ (λ a l. above its (height grid (uncommitted its.protocol list its.logical)) ++ map_svg grid cells marks ++ a ++ l ++ codes "</svg>\n")
-      (arrows_alike grid cells marks) (lines_alike grid its.protocol its.logical marks.breach)
+      (take_alike its.protocol its.logical its.logical)
+      ∙ ap₂ (λ a w. above its (height grid (walks_take its.protocol list its.logical its.logical)) ++ map_svg grid cells marks ++ a
+      ++ lines_svg grid w marks.breach ++ codes "</svg>\n")
+      (arrows_alike grid cells marks) (walks_alike its.protocol its.logical)
 
 -- a picture that is drawn of the records in order of their names
 pub svg_drawn : (its : Config) (notes : List Note) (marks : Marks) (sorted : List Found) (cells : List Cell) (grid : Grid) (old new : List ℕ) →

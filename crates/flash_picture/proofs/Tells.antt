@@ -6,19 +6,27 @@ use Rattle.std.proofs.lemmas.Bool.{cases_Bool, cases_lt, cond-true, cond-false, 
 use Rattle.std.proofs.lemmas.Bool.Decides.{eqb_tells}
 use Rattle.list_facts.proofs.Membership.{Contains-nil, Contains-here, Contains-rest, Contains-cases, Contains-one}
 use Rattle.std.proofs.lemmas.List.Elements.{Contains-append_left, Contains-append_right, Contains-append_cases}
+use Rattle.std.proofs.Math.ListN.{get_or-map}
 use Rattle.tx_types.specs.declared.config.Block.{Block}
+use Rattle.tx_types.specs.declared.config.Config.{Config}
 use Rattle.tx_types.specs.declared.config.Protocol.{Protocol}
 use Rattle.tx_types.specs.declared.record.Link.{Link}
 use Rattle.tx_types.specs.declared.record.Rec.{Rec}
+use Rattle.record_list.specs.declared.found.Breach.{Breach}
 use Rattle.record_list.specs.declared.found.Found.{Found}
+use Rattle.version_index.specs.declared.note.Note.{Note}
+use Rattle.version_index.specs.declared.note.Note.TheVariants as note
+use Rattle.version_index.specs.Notes.{found_in, note_at}
 use Rattle.record_list.specs.Current.{cur, is_held}
 use Rattle.flash_picture.specs.declared.cell.Rank.{Rank}
 use Rattle.flash_picture.specs.declared.cell.Rank.TheVariants.{Current, Loose, Stale}
-use Rattle.flash_picture.specs.declared.cell.Cell.TheVariants.{Holds}
+use Rattle.flash_picture.specs.declared.cell.Cell.{Cell}
+use Rattle.flash_picture.specs.declared.cell.Cell.TheVariants.{Blank, Damaged, Holds}
 use Rattle.flash_picture.specs.declared.marks.Marks.{Marks}
-use Rattle.flash_picture.specs.Cells.{cell_words, name_word, rank_by, rank_word, word_if}
+use Rattle.flash_picture.specs.Cells.{cell_at, cell_of, cell_words, is_named, name_word, rank_by, rank_word, word_if}
 use Rattle.flash_picture.specs.Map.{is_spare}
-use Rattle.flash_picture.specs.Laws.{CellTells, LabelTells}
+use Rattle.flash_picture.specs.Picture.{cells_of}
+use Rattle.flash_picture.specs.Laws.{CellTells, IsNamed, LabelTells, WordsTell}
 
 -- a name is no word without a dot
 has_dot : (xs ys : List ℕ) → list_any (λ b. b == 46) (xs ++ 46 ∷ ys) ≡ true
@@ -193,3 +201,54 @@ label_spare (Some spare) block = elim (eqb_tells spare.0 block) [
 
 pub label_tells : (marks : Marks) (block : ℕ) → LabelTells marks block
 label_tells marks block = label_spare marks.spare block
+
+-- ---- the words of any slot
+
+is_mark : (breach : Option Breach) (slot : ℕ) → (is_named breach slot ≡ true) ↔ IsNamed breach slot
+is_mark None slot = (λ e. absurd (false≢true e), λ (b, e, at). absurd cc)
+is_mark (Some b) slot = elim (eqb_tells b.slot.0 slot) [
+  | inl h ↦ (λ _. (b, refl, h.1), λ _. h.0)
+  | inr h ↦ (
+    λ e. absurd (false≢true (sym h.0 ∙ e)),
+    λ (other, e, at). absurd (h.1 (ap (λ (o : Option Breach). elim o [ Some x ↦ x.slot.0 | None ↦ slot ]) e ∙ at)),
+  )
+]
+
+-- no word of a cell is a `!`
+other : (n : ℕ) (word : List ℕ) → nat_lt 33 n ≡ true → head word ≡ n → word ≡ codes "!" → ⊥
+other n word far first e =
+    let k : n ≡ 33 = sym first ∙ ap head e in
+    let l : 33 < n = ltb-true 33 n far in
+    absurd (omega arith)
+
+no_mark : (cell : Cell) → Contains (cell_words cell) (codes "!") → ⊥
+no_mark Blank c = other 98 (codes "blank") refl refl (Contains-one (codes "blank") (codes "!") c)
+no_mark Damaged c = other 100 (codes "damaged") refl refl (Contains-one (codes "damaged") (codes "!") c)
+no_mark (Holds r rank held) c = no_rank rank (only_rank r rank held (codes "!") refl (λ e. absurd (omega arith)) (λ e. absurd (omega arith)) c)
+  where
+    no_rank : (rank : Rank) → rank_word rank ≡ codes "!" → ⊥
+    no_rank Current e = other 99 (codes "current") refl refl e
+    no_rank Loose e = other 108 (codes "loose") refl refl e
+    no_rank Stale e = other 115 (codes "stale") refl refl e
+
+-- the cell of a slot is that of what is noted of it
+pub cell_noted : (its : Config) (notes : List Note) (slot : ℕ) →
+    cell_at (cells_of its notes) slot ≡ cell_of its.protocol (found_in notes) its.logical (note_at notes slot)
+cell_noted its notes slot = get_or-map (cell_of its.protocol (found_in notes) its.logical) notes slot note.Blank
+
+pub words_tell : (its : Config) (notes : List Note) (marks : Marks) (slot : ℕ) → WordsTell its notes marks slot
+words_tell its notes marks slot =
+    let cell = cell_at (cells_of its notes) slot in
+    let there = is_named marks.breach slot in
+    record {
+      blank = λ e. ap cell_words (cell_noted its notes slot ∙ ap (cell_of its.protocol (found_in notes) its.logical) e);
+      damaged = λ e. ap cell_words (cell_noted its notes slot ∙ ap (cell_of its.protocol (found_in notes) its.logical) e);
+      mark = (
+        λ c. (is_mark marks.breach slot).0 (elim (Contains-append_cases (cell_words cell) (word_if there (codes "!")) (codes "!") c) [
+          | inl d ↦ absurd (no_mark cell d)
+          | inr d ↦ (in_flag there (codes "!") (codes "!") d).0
+        ]),
+        λ named. Contains-append_right (cell_words cell) (word_if there (codes "!")) (codes "!")
+            (of_flag there (codes "!") ((is_mark marks.breach slot).1 named)),
+      );
+    }

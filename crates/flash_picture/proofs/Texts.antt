@@ -1,16 +1,12 @@
 -- Texts that grow, and words with spaces between them.
-use Rattle.std.proofs.Common.{◌≡◌, ℕ, suc, ◌+◌, ◌-◌, ◌<◌, ◌≤◌, List, [], ◌∷◌, ◌++◌, cond, true, false, sym, ap, ◌∙◌, arith, append-nil, append_assoc, codes}
+use Rattle.std.proofs.Common.{◌≡◌, ℕ, ◌+◌, List, [], ◌∷◌, ◌++◌, sym, ap, ◌∙◌, append-nil, append_assoc, codes}
 use Rattle.std.specs.List.{flat_map, join_with_byte, range_with_len}
 use Rattle.std.proofs.lemmas.List.Concat.{flat_map-append}
 use Rattle.list_facts.proofs.Ranges.{flat_more}
-use Rattle.tx_types.specs.declared.record.Link.{Link}
-use Rattle.record_list.specs.declared.found.Found.{Found}
 use Rattle.record_list.specs.Records.{name_of}
-use Rattle.record_list.specs.Verdict.{link_of}
 use Rattle.flash_picture.specs.declared.cell.Cell.{Cell}
 use Rattle.flash_picture.specs.declared.cell.Cell.TheVariants.{Blank, Damaged, Holds}
 use Rattle.flash_picture.specs.Cells.{after_spaces, cell_words, name_word, rank_word, word_if}
-use Rattle.flash_picture.specs.Walks.{chain, ends_at}
 
 -- words with a space between each two are the first, and the others with a space before each
 pub joined : (word : List ℕ) (words : List (List ℕ)) → join_with_byte 32 (word ∷ words) ≡ word ++ after_spaces words
@@ -40,26 +36,3 @@ pub text_more : (f : ℕ → List ℕ) (k : ℕ) (old text new : List ℕ) → t
     new ≡ old ++ flat_map f (range_with_len 0 (k + 1))
 text_more f k old text new before after =
     after ∙ ap (λ t. t ++ f k) before ∙ append_assoc old (flat_map f (range_with_len 0 k)) (f k) ∙ ap (λ t. old ++ t) (sym (flat_more f k))
-
--- a chain with one link less to come
-pub chain_ends : (list : List Found) (start link : Link) (turn : ℕ) → turn < 16 → ends_at list start link ≡ true →
-    chain list start (16 - turn) link ≡ codes " -> " ++ name_word link
-unfolding chain
-chain_ends list start link turn h e =
-    let left : 16 - turn ≡ suc (16 - (turn + 1)) = omega arith in
-    ap (λ n. chain list start n link) left
-    ∙ ap (λ b. codes " -> " ++ name_word link ++ cond b [] (chain list start (16 - (turn + 1)) (link_of list link))) e
-    ∙ ap (λ t. codes " -> " ++ t) (append-nil (name_word link))
-
-pub chain_goes : (list : List Found) (start link : Link) (turn : ℕ) → turn < 16 → ends_at list start link ≡ false →
-    chain list start (16 - turn) link ≡ (codes " -> " ++ name_word link) ++ chain list start (16 - (turn + 1)) (link_of list link)
-unfolding chain
-chain_goes list start link turn h e =
-    let left : 16 - turn ≡ suc (16 - (turn + 1)) = omega arith in
-    ap (λ n. chain list start n link) left
-    ∙ ap (λ b. codes " -> " ++ name_word link ++ cond b [] (chain list start (16 - (turn + 1)) (link_of list link))) e
-
--- no link to come
-pub chain_done : (list : List Found) (start link : Link) (turn : ℕ) → 16 ≤ turn → chain list start (16 - turn) link ≡ codes " .."
-unfolding chain
-chain_done list start link turn h = let none : 16 - turn ≡ 0 = omega arith in ap (λ n. chain list start n link) none

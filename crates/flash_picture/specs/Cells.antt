@@ -1,23 +1,19 @@
 -- What a cell of a picture says of its slot.
-use Rattle.std.specs.Prelude.{ℕ, ◌==◌, Bool, false, ◌&&◌, nat_lt, if◌then◌else◌, List, [], ◌∷◌, ◌++◌, map, slice_index_or, Option, Some, None, codes}
-use Rattle.std.specs.List.{filter, flat_map, join_with_byte}
+use Rattle.std.specs.Prelude.{ℕ, ◌==◌, Bool, false, nat_lt, if◌then◌else◌, List, [], ◌∷◌, ◌++◌, slice_index_or, Option, Some, None, codes}
+use Rattle.std.specs.List.{flat_map, join_with_byte}
 use Rattle.std.specs.Fmt.{decimal}
 use Rattle.tx_types.specs.declared.config.Protocol.{Protocol}
-use Rattle.tx_types.specs.declared.config.Protocol.TheVariants.{Scc, Bpcc}
 use Rattle.tx_types.specs.declared.record.Link.{Link}
-use Rattle.tx_types.specs.declared.record.Rec.{Rec}
 use Rattle.record_list.specs.declared.found.Breach.{Breach}
 use Rattle.record_list.specs.declared.found.Found.{Found}
 use Rattle.record_list.specs.Records.{name_of}
-use Rattle.record_list.specs.Verdict.{straddles}
-use Rattle.record_list.specs.Current.{cur, is_held, is_loose, responsible}
+use Rattle.record_list.specs.Current.{cur, is_held}
 use Rattle.version_index.specs.declared.note.Note.{Note}
 use Rattle.version_index.specs.declared.note.Note.TheVariants as note
 use Rattle.flash_picture.specs.declared.cell.Cell.{Cell}
 use Rattle.flash_picture.specs.declared.cell.Cell.TheVariants.{Blank, Damaged, Holds}
 use Rattle.flash_picture.specs.declared.cell.Rank.{Rank}
 use Rattle.flash_picture.specs.declared.cell.Rank.TheVariants.{Current, Loose, Stale}
-use Rattle.flash_picture.specs.declared.asks.Ask.{Ask}
 use Rattle.flash_picture.specs.declared.marks.Marks.{Marks}
 
 -- what a record of this version is where this version is the current one of its page
@@ -67,28 +63,11 @@ is_named (Some breach) slot = breach.slot.0 == slot
 abbrev pub cell_at : List Cell → ℕ → Cell
 cell_at cells slot = slice_index_or cells slot Blank
 
--- the text of a slot: its words with a space between each two, the last a `!` where a broken law names it
+-- the words of a slot: those of its cell, and a `!` where a broken law names it
+abbrev pub slot_words : List Cell → Marks → ℕ → List (List ℕ)
+slot_words cells marks slot =
+    cell_words (cell_at cells slot) ++ word_if (is_named marks.breach slot) (codes "!")
+
+-- the text of a slot: its words with a space between each two
 unfoldable pub slot_text : List Cell → Marks → ℕ → List ℕ
-slot_text cells marks slot =
-    join_with_byte 32
-    (cell_words (cell_at cells slot) ++ word_if (is_named marks.breach slot) (codes "!"))
-
--- what a loose record asks: whether a record straddles its link, and has the version that answers for it
-abbrev pub ask_of : List Found → ℕ → Found → Ask
-ask_of list logical f =
-    record { link = f.rec.next; answer = responsible Bpcc list logical f.rec.next }
-
--- what those of some records ask that are loose
-abbrev pub asks_among : List Found → ℕ → List Found → List Ask
-asks_among list logical some =
-    map (ask_of list logical) (filter (λ f. is_loose Bpcc list logical f.rec) some)
-
--- what all loose records ask; under Simple Cyclic Commit none does
-abbrev pub asks_of : Protocol → List Found → ℕ → List Ask
-asks_of Scc list logical = []
-asks_of Bpcc list logical = asks_among list logical list
-
--- whether a record is what is asked for
-abbrev pub meets : Rec → Ask → Bool
-meets r ask =
-    (r.page == ask.link.page) && straddles r ask.link.version && (r.version == ask.answer)
+slot_text cells marks slot = join_with_byte 32 (slot_words cells marks slot)

@@ -5,9 +5,9 @@ use Rattle.tx_types.specs.Config.{IsShape, blocks_of}
 use Rattle.flash_picture.specs.declared.grid.Grid.{Grid}
 use Rattle.flash_picture.specs.declared.grid.Spot.{Spot}
 
--- no cell has more columns than the longest text of a slot
+-- a cell is drawn as wide as so many columns of text at most: the longest text of a slot of an image has no more
 abbrev pub most_columns : ℕ
-most_columns = 56
+most_columns = 53
 
 -- the grid of a flash
 pub record IsGrid (grid : Grid) : Type 0 where
@@ -51,6 +51,6 @@ spot_of grid slot =
 abbrev pub bottom : Grid → ℕ
 bottom grid = top_of_block grid (blocks_of grid.shape)
 
--- the height of a picture with so many walks
+-- the height of a picture with so many lines of walks
 abbrev pub height : Grid → ℕ → ℕ
-height grid walks = bottom grid + 20 * (walks + 2)
+height grid lines = bottom grid + 20 * (lines + 2)

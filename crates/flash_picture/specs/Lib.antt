@@ -1,4 +1,5 @@
 pub mod Cells
+pub mod Held
 pub mod Map
 pub mod Walks
 pub mod Picture

@@ -1,5 +1,5 @@
 -- The picture of a flash in SVG.
-use Rattle.std.specs.Prelude.{ℕ, ◌+◌, ◌*◌, min, Bool, not, if◌then◌else◌, Option, Some, None, List, [], ◌∷◌, ◌++◌, length, filter, codes}
+use Rattle.std.specs.Prelude.{ℕ, zero, suc, ◌+◌, ◌*◌, min, nat_lt, if◌then◌else◌, Option, Some, None, List, [], ◌∷◌, ◌++◌, length, filter, codes}
 use Rattle.std.specs.List.{flat_map, join_with_byte, range_with_len}
 use Rattle.std.specs.Fmt.{decimal}
 use Rattle.tx_types.specs.declared.config.Config.{Config}
@@ -10,9 +10,8 @@ use Rattle.tx_types.specs.declared.record.Link.{Link}
 use Rattle.tx_types.specs.Config.{blocks_of, shape_of, slots_of}
 use Rattle.record_list.specs.declared.found.Breach.{Breach}
 use Rattle.record_list.specs.declared.found.Found.{Found}
-use Rattle.record_list.specs.declared.found.Why.{Why}
 use Rattle.record_list.specs.Records.{has_name}
-use Rattle.record_list.specs.Verdict.{is_committed, why}
+use Rattle.record_list.specs.Verdict.{newest_name}
 use Rattle.version_index.specs.declared.note.Note.{Note}
 use Rattle.version_index.specs.Notes.{found_in}
 use Rattle.flash_picture.specs.declared.cell.Cell.{Cell}
@@ -25,7 +24,9 @@ use Rattle.flash_picture.specs.Grid.{bottom, cell_width, height, most_columns, s
 use Rattle.flash_picture.specs.Map.{label_words, widest}
 use Rattle.flash_picture.specs.Picture.{breach_line, cells_of, heading}
 use Rattle.flash_picture.specs.Pieces.{attribute, beside, curve, group, next_line, rectangle, title, words_at}
-use Rattle.flash_picture.specs.Walks.{story_text}
+use Rattle.flash_picture.specs.declared.walk.End.{End}
+use Rattle.flash_picture.specs.declared.walk.Step.{Step}
+use Rattle.flash_picture.specs.Walks.{end_of, end_text, start_text, step_text, steps_of}
 
 -- ---- above the map
 
@@ -71,7 +72,7 @@ legend =
     ++ entry (codes "loose") 308 34 (codes "loose: above the current version")
     ++ entry (codes "stale") 608 34 (codes "stale: below the current version")
     ++ entry (codes "held") 908 34 (codes "held: a loose record needs it")
-    ++ entry (codes "discard") 8 56 (codes "discard: its page has no contents")
+    ++ entry (codes "discard") 8 56 (codes "discard: written to empty its page")
     ++ entry (codes "damaged") 308 56 (codes "damaged: nothing that can be read")
     ++ entry (codes "!") 608 56 (codes "!: a broken law names the slot")
     ++ link_entry
@@ -152,35 +153,75 @@ arrows_svg grid list cells marks =
 
 -- ---- below the map
 
--- whether the newest version of a page does not count
-abbrev pub is_uncommitted : Protocol → List Found → ℕ → ℕ → Bool
-is_uncommitted protocol list logical page = not (is_committed (why protocol list logical page))
+-- of so many columns a line of a walk is full
+abbrev pub full_columns : ℕ
+full_columns = 120
 
--- how many pages have such a version
-abbrev pub uncommitted : Protocol → List Found → ℕ → ℕ
-uncommitted protocol list logical =
-    length (filter (is_uncommitted protocol list logical) (range_with_len 0 logical))
+-- what ends a line of a walk, and begins the next one
+abbrev pub row_break : List ℕ
+row_break = codes "</tspan>\n<tspan class='walk' x='40' dy='20'>"
 
--- the line of a page, by what decides the verdict on its newest version; nothing where that counts
-abbrev pub walk_row : List Found → ℕ → Why → List ℕ
-walk_row list page why = if is_committed why then [] else next_line (codes "walk") (story_text list page why)
+-- a step behind so many columns: it stands in the next line where they are more than a full line has
+abbrev pub step_row : ℕ → Step → List ℕ
+step_row columns step = (if nat_lt full_columns columns then row_break else []) ++ step_text step
+
+-- the columns of its line, with it
+abbrev pub columns_with : ℕ → Step → ℕ
+columns_with columns step =
+    (if nat_lt full_columns columns then 0 else columns) + length (step_text step)
+
+-- how many lines it begins
+abbrev pub rows_begun : ℕ → ℕ
+rows_begun columns = if nat_lt full_columns columns then 1 else 0
+
+-- steps behind so many columns, and how many lines they begin
+abbrev pub steps_rows : ℕ → List Step → List ℕ
+steps_rows columns [] = []
+steps_rows columns (step ∷ steps) = step_row columns step ++ steps_rows (columns_with columns step) steps
+
+abbrev pub steps_begin : ℕ → List Step → ℕ
+steps_begin columns [] = 0
+steps_begin columns (step ∷ steps) = rows_begun columns + steps_begin (columns_with columns step) steps
+
+-- a walk from a record, in lines, and how many these are
+abbrev pub rows_text : Link → List Step → End → List ℕ
+rows_text start steps end =
+    next_line (codes "walk") (start_text start ++ steps_rows (length (start_text start)) steps ++ end_text end)
+
+abbrev pub rows_taken : Link → List Step → ℕ
+rows_taken start steps = suc (steps_begin (length (start_text start)) steps)
+
+-- the same of the walk of a page that ends so; nothing where its newest version counts
+abbrev pub walk_rows : List Found → ℕ → ℕ → Option End → List ℕ
+walk_rows list logical page None = []
+walk_rows list logical page (Some end) = rows_text (newest_name list page) (steps_of list logical page) end
+
+abbrev pub walk_takes : List Found → ℕ → ℕ → Option End → ℕ
+walk_takes list logical page None = 0
+walk_takes list logical page (Some end) = rows_taken (newest_name list page) (steps_of list logical page)
 
 abbrev pub walk_svg : Protocol → List Found → ℕ → ℕ → List ℕ
-walk_svg protocol list logical page = walk_row list page (why protocol list logical page)
+walk_svg protocol list logical page = walk_rows list logical page (end_of protocol list logical page)
+
+abbrev pub walks_svg : Protocol → List Found → ℕ → List ℕ
+walks_svg protocol list logical = flat_map (walk_svg protocol list logical) (range_with_len 0 logical)
+
+-- how many lines the walks of the first pages are
+abbrev pub walks_take : Protocol → List Found → ℕ → ℕ → ℕ
+walks_take protocol list logical zero = 0
+walks_take protocol list logical (suc pages) =
+    walks_take protocol list logical pages + walk_takes list logical pages (end_of protocol list logical pages)
 
 -- the law that is broken
 abbrev pub breach_svg : Option Breach → List ℕ
 breach_svg None = []
 breach_svg (Some breach) = next_line (codes "unsound") (breach_line (Some breach))
 
-abbrev pub walks_svg : Protocol → List Found → ℕ → List ℕ
-walks_svg protocol list logical = flat_map (walk_svg protocol list logical) (range_with_len 0 logical)
-
--- the lines below the map
-abbrev pub lines_svg : Grid → Protocol → List Found → ℕ → Option Breach → List ℕ
-lines_svg grid protocol list logical breach =
-    codes "<text" ++ attribute (codes "y") (bottom grid) ++ codes ">"
-    ++ walks_svg protocol list logical ++ breach_svg breach ++ codes "</text>\n"
+-- the lines below the map: those of walks, and of the law that is broken
+abbrev pub lines_svg : Grid → List ℕ → Option Breach → List ℕ
+lines_svg grid walks breach =
+    codes "<text" ++ attribute (codes "y") (bottom grid) ++ codes ">" ++ walks ++ breach_svg breach
+    ++ codes "</text>\n"
 
 -- ---- the whole
 
@@ -192,8 +233,8 @@ grid_of shape cells marks =
 -- the picture of records with these cells
 abbrev pub drawing : Config → Grid → List Found → List Cell → Marks → List ℕ
 drawing its grid list cells marks =
-    above its (height grid (uncommitted its.protocol list its.logical)) ++ map_svg grid cells marks
-    ++ arrows_svg grid list cells marks ++ lines_svg grid its.protocol list its.logical marks.breach
+    above its (height grid (walks_take its.protocol list its.logical its.logical)) ++ map_svg grid cells marks
+    ++ arrows_svg grid list cells marks ++ lines_svg grid (walks_svg its.protocol list its.logical) marks.breach
     ++ codes "</svg>\n"
 
 -- the picture in SVG of a device whose slots are noted so

@@ -1,55 +1,106 @@
 -- The walks that decide that the newest version of a page does not count, each as a chain of arrows.
-use Rattle.std.specs.Prelude.{ℕ, zero, suc, Bool, ◌||◌, if◌then◌else◌, List, [], ◌∷◌, ◌++◌, codes}
+use Rattle.std.specs.Prelude.{ℕ, zero, suc, ◌||◌, nat_lt, if◌then◌else◌, List, [], ◌∷◌, ◌++◌, length, map, take, Option, None, Some, codes}
 use Rattle.std.specs.List.{flat_map, range_with_len}
 use Rattle.std.specs.Fmt.{decimal}
 use Rattle.tx_types.specs.declared.config.Protocol.{Protocol}
 use Rattle.tx_types.specs.declared.record.Link.{Link}
 use Rattle.record_list.specs.declared.found.Found.{Found}
 use Rattle.record_list.specs.declared.found.Why.{Why}
-use Rattle.record_list.specs.declared.found.Why.TheVariants.{Cycle, Passed, Absent, Straddled}
-use Rattle.record_list.specs.Records.{is_same}
-use Rattle.record_list.specs.Verdict.{newest_name, link_of, is_ahead, is_behind, is_committed, why}
+use Rattle.record_list.specs.declared.found.Why.TheVariants as reason
+use Rattle.record_list.specs.Records.{is_same, record_at}
+use Rattle.record_list.specs.Verdict.{newest_name, link_of, is_ahead, is_behind, why}
+use Rattle.record_chart.specs.declared.orbit.Orbit.{Orbit}
+use Rattle.record_chart.specs.declared.orbit.Orbit.TheVariants.{Ends, Round, Aside}
+use Rattle.verdict_report.specs.Walks.{links_of}
+use Rattle.flash_picture.specs.declared.walk.End.{End}
+use Rattle.flash_picture.specs.declared.walk.End.TheVariants.{Absent, Straddled, TooLong}
+use Rattle.flash_picture.specs.declared.walk.Step.{Step}
+use Rattle.flash_picture.specs.declared.walk.Step.TheVariants.{To, Dots}
 use Rattle.flash_picture.specs.Cells.{name_word}
 
--- whether a walk from the record `start` ends at this link
-abbrev pub ends_at : List Found → Link → Link → Bool
-ends_at list start link = is_ahead list link || is_behind list link || is_same link start
+-- ---- the link at which a walk leaves the newest records
 
--- how many links of a walk are shown at most
+-- a link, where it is to a version above, or below, the newest of its page
+abbrev pub leaving : List Found → Link → Option Link
+leaving list link = if is_ahead list link || is_behind list link then Some link else None
+
+-- the link at which a walk from the record `start` leaves the newest records, that has come to this link and looks at
+-- so many links yet; nothing where it leaves them at none of these
+abbrev pub left_from : List Found → Link → ℕ → Link → Option Link
+left_from list start zero link = None
+left_from list start (suc turns) link =
+    if is_ahead list link || is_behind list link then Some link
+    else if is_same link start then None
+    else left_from list start turns (link_of list link)
+
+-- that of the walk from the newest record of a page
+abbrev pub left_at : List Found → ℕ → ℕ → Option Link
+left_at list logical page =
+    left_from list (newest_name list page) (suc logical) (link_of list (newest_name list page))
+
+-- the same from the orbit of the place of that record
+abbrev pub left_by : List Found → ℕ → Orbit → Option Link
+left_by list logical (Ends after at) =
+    if nat_lt logical after then None else leaving list (record_at list at).next
+left_by list logical (Round turns) = None
+left_by list logical Aside = None
+
+-- ---- what is shown of a walk
+
+-- how many of its first links
 abbrev pub most_links : ℕ
 most_links = 16
 
--- the links of a walk from the record `start` that has come to this one, as many as are shown yet; two dots
--- stand for the others
-unfoldable pub chain : List Found → Link → ℕ → Link → List ℕ
-chain list start zero link = codes " .."
-chain list start (suc more) link =
-    codes " -> " ++ name_word link
-    ++ (if ends_at list start link then [] else chain list start more (link_of list link))
+-- two dots, and the last link, if there is one
+abbrev pub last_steps : Option Link → List Step
+last_steps None = Dots ∷ []
+last_steps (Some link) = Dots ∷ To link ∷ []
 
--- what a walk ends in
-abbrev pub end_text : Why → List ℕ
-end_text Cycle = codes " cycle"
-end_text Passed = codes " passed"
+-- the steps over these links, where the walk leaves the newest records at this one: all links, or the first ones, two
+-- dots for the others, and the one at which it leaves them
+abbrev pub steps_over : List Link → Option Link → List Step
+steps_over links last =
+    map To (take most_links links) ++ (if nat_lt most_links (length links) then last_steps last else [])
+
+-- the steps of the walk from the newest record of a page
+abbrev pub steps_of : List Found → ℕ → ℕ → List Step
+steps_of list logical page = steps_over (links_of list logical page) (left_at list logical page)
+
+-- how a walk ends, by what decides the verdict and by where it leaves the newest records; nothing where the newest
+-- version counts
+abbrev pub end_by : Why → Option Link → Option End
+end_by reason.Cycle last = None
+end_by reason.Passed last = None
+end_by reason.Absent None = Some TooLong
+end_by reason.Absent (Some link) = Some Absent
+end_by (reason.Straddled version) last = Some (Straddled version)
+
+-- how the walk from the newest record of a page ends
+abbrev pub end_of : Protocol → List Found → ℕ → ℕ → Option End
+end_of protocol list logical page = end_by (why protocol list logical page) (left_at list logical page)
+
+-- ---- its text
+
+abbrev pub step_text : Step → List ℕ
+step_text (To link) = codes " -> " ++ name_word link
+step_text Dots = codes " .."
+
+abbrev pub end_text : End → List ℕ
 end_text Absent = codes " absent"
 end_text (Straddled version) = codes " straddled by " ++ decimal version
+end_text TooLong = codes " too long"
 
--- the walk from the newest record of a page
-abbrev pub chain_text : List Found → Link → List ℕ
-chain_text list start =
-    codes "walk " ++ name_word start ++ chain list start most_links (link_of list start)
+abbrev pub start_text : Link → List ℕ
+start_text start = codes "walk " ++ name_word start
 
--- the walk from the newest record of a page, with what it ends in
-abbrev pub story_text : List Found → ℕ → Why → List ℕ
-story_text list page why = chain_text list (newest_name list page) ++ end_text why
-
--- the line of a page, by what decides the verdict on its newest version, which does not count; nothing where it
--- does
-abbrev pub walk_line : List Found → ℕ → Why → List ℕ
-walk_line list page why = if is_committed why then [] else story_text list page why ++ 10 ∷ []
+-- the line of a page whose walk ends so; nothing where its newest version counts
+abbrev pub walk_line : List Found → ℕ → ℕ → Option End → List ℕ
+walk_line list logical page None = []
+walk_line list logical page (Some end) =
+    start_text (newest_name list page) ++ flat_map step_text (steps_of list logical page) ++ end_text end ++ 10 ∷ []
 
 abbrev pub walk_text : Protocol → List Found → ℕ → ℕ → List ℕ
-walk_text protocol list logical page = walk_line list page (why protocol list logical page)
+walk_text protocol list logical page = walk_line list logical page (end_of protocol list logical page)
 
 abbrev pub walks_text : Protocol → List Found → ℕ → List ℕ
 walks_text protocol list logical =

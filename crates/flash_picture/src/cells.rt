@@ -1,7 +1,8 @@
 ghost use Rattle.std.specs.Prelude.{◌≡◌, map, IfOk};
-ghost use Rattle.flash_picture.specs.Cells.{asks_of, cell_of};
+ghost use Rattle.flash_picture.specs.Cells.{cell_of};
+ghost use Rattle.flash_picture.specs.Held.{AreAsked};
 
-use crate::asks::{Ask, asks, is_held};
+use crate::asked::{asked_versions, is_held};
 use crate::cell::{Cell, Rank};
 use record_chart::Standing;
 use std::alloc::Global;
@@ -13,17 +14,17 @@ pub fn cells(alloc: Global, standing: &Standing, notes: &[Note]) -> Result<Vec<C
     ensures { let s = standing.now in
         IfOk result (λ cells. cells.items ≡ map (cell_of s.protocol s.list s.logical) notes.now) }
 {
-    let asks = asks(alloc, standing)?;
+    let asked = asked_versions(alloc, standing)?;
     let mut cells = Vec::with_capacity(alloc, notes.len())?;
     for note in notes {
-        cells.push(cell(standing, &asks, *note))?;
+        cells.push(cell(standing, &asked, *note))?;
     }
     Ok(cells)
 }
 
 /// The cell of a slot of which this is noted.
-fn cell(standing: &Standing, asks: &[Ask], note: Note) -> Cell
-    requires { let s = standing.now in asks.now ≡ asks_of s.protocol s.list s.logical }
+fn cell(standing: &Standing, asked: &[u64], note: Note) -> Cell
+    requires { AreAsked standing.now standing.now.list asked.now }
     ensures { let s = standing.now in result ≡ cell_of s.protocol s.list s.logical note }
 {
     match note {
@@ -32,7 +33,7 @@ fn cell(standing: &Standing, asks: &[Ask], note: Note) -> Cell
         Note::Holds(rec) => Cell::Holds {
             rec,
             rank: Rank::of(standing.current(rec.page), rec.version),
-            held: is_held(standing, asks, rec),
+            held: is_held(standing, asked, rec),
         },
     }
 }

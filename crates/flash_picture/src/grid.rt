@@ -88,12 +88,13 @@ impl Grid {
         self.top_of_block(self.shape.blocks())
     }
 
-    /// The height of a picture with so many walks.
-    pub fn height(self, walks: u32) -> u64
-        requires { IsGrid self }
-        ensures { result ≡ height self walks }
+    /// The height of a picture with so many lines of walks.
+    pub fn height(self, lines: u64) -> u64
+        requires grid { IsGrid self }
+        requires few { lines < 2 ^ 40 }
+        ensures { result ≡ height self lines }
     {
-        self.bottom() + 20 * (u64::from(walks) + 2)
+        self.bottom() + 20 * (lines + 2)
     }
 
     /// Where the cell of this number in a block stands.

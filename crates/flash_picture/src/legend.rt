@@ -60,7 +60,7 @@ pub fn write_legend(text: &mut Vec<u8>) -> Result<(), AllocError>
         b"discard",
         8,
         56,
-        b"discard: its page has no contents",
+        b"discard: written to empty its page",
         text,
     )?;
     write_entry(

@@ -2,7 +2,7 @@
 //! newest version does not count.
 #![tactic(auto)]
 
-mod asks;
+mod asked;
 mod cell;
 mod cells;
 mod grid;
@@ -24,4 +24,4 @@ pub use cell::{Cell, Rank};
 pub use marks::Marks;
 pub use picture::draw;
 pub use svg::draw_svg;
-pub use theorems::{cells_tell, labels_tell, svg_tells};
+pub use theorems::{cells_tell, labels_tell, svg_tells, walks_tell, words_tell};

@@ -27,8 +27,9 @@ use version_index::Note;
 /// loose record, `discard` where it has no contents, and `!` where a broken law names the slot. Cells are as
 /// wide as the widest, and a row goes on in the next line where 80 columns are too few. Then comes a line for
 /// each page whose newest version does not count: `walk PAGE.VERSION -> LINK -> .. END`, with the links that
-/// the walk from that record takes, at most 16, and END is `absent` or `straddled by V`. Last comes
-/// `unsound law N slot S`, where a law is broken.
+/// the walk from that record takes: of more than 16 the first 16, two dots, and the last. END is `absent` or
+/// `straddled by V`, by the last link, or `too long` where the walk takes more links than there are pages, as it
+/// may in an image that is not sound. Last comes `unsound law N slot S`, where a law is broken.
 pub fn draw(
     alloc: Global,
     config: Config,
@@ -73,7 +74,13 @@ fn write_picture(
         marks,
     };
     map.write(alloc, text)?;
-    write_walks(standing.chart(), config.protocol, config.logical, text)?;
+    write_walks(
+        alloc,
+        standing.chart(),
+        config.protocol,
+        config.logical,
+        text,
+    )?;
     write_breach(marks.breach, text)?;
     Ok(())
 }

@@ -10,7 +10,7 @@ use crate::map::Map;
 use crate::marks::Marks;
 use crate::picture::{charted, shape, write_heading};
 use crate::pieces::{add_attribute, open_words};
-use crate::svg_lines::{uncommitted, write_breach, write_walks};
+use crate::svg_lines::{write_breach, write_walks};
 use crate::svg_map::Plan;
 use crate::text::add;
 use record_chart::{Chart, Standing};
@@ -18,8 +18,8 @@ use std::alloc::{AllocError, Global};
 use tx_types::{Config, Memory};
 use version_index::Note;
 
-/// No cell has more columns than the longest text of a slot.
-const MOST_COLUMNS: usize = 56;
+/// The columns of text that a cell is wide at most: the longest text of a slot of an image has no more.
+const MOST_COLUMNS: usize = 53;
 
 /// Appends the same picture in SVG.
 pub fn draw_svg(
@@ -65,8 +65,7 @@ fn write_svg(
         marks,
     };
     let grid = grid(alloc, &map)?;
-    write_drawing(config, &Plan { map, grid }, standing.chart(), text)?;
-    Ok(())
+    write_drawing(alloc, config, &Plan { map, grid }, standing.chart(), text)
 }
 
 /// How the cells of a map stand.
@@ -85,21 +84,23 @@ fn grid(alloc: Global, map: &Map<'_>) -> Result<Grid, Memory>
 
 /// Appends the picture of records with these cells.
 fn write_drawing(
+    alloc: Global,
     config: Config,
     plan: &Plan<'_>,
     chart: &Chart,
     text: &mut Vec<u8>,
-) -> Result<(), AllocError>
+) -> Result<(), Memory>
     requires { IsGrid plan.now.grid }
     ensures { let p = plan.now in OnOk result (text.new.items ≡ text.old.items
         ++ drawing config p.grid chart.now p.map.cells.now p.map.marks) }
 {
-    let walks = uncommitted(chart, config.protocol, config.logical);
-    write_above(config, plan.grid.height(walks), text)?;
+    let mut walks = Vec::new(alloc);
+    let lines = write_walks(alloc, chart, config.protocol, config.logical, &mut walks)?;
+    write_above(config, plan.grid.height(lines), text)?;
     plan.write(text)?;
     plan.write_arrows(chart, text)?;
-    write_lines(config, plan, chart, text)?;
-    add(b"</svg>\n", text)
+    write_lines(plan, &walks, text)?;
+    Ok(add(b"</svg>\n", text)?)
 }
 
 /// Appends what stands above the map of a picture of this height.
@@ -114,21 +115,16 @@ fn write_above(config: Config, height: u64, text: &mut Vec<u8>) -> Result<(), Al
     write_legend(text)
 }
 
-/// Appends the lines below the map.
-fn write_lines(
-    config: Config,
-    plan: &Plan<'_>,
-    chart: &Chart,
-    text: &mut Vec<u8>,
-) -> Result<(), AllocError>
+/// Appends the lines below the map, with these of walks.
+fn write_lines(plan: &Plan<'_>, walks: &[u8], text: &mut Vec<u8>) -> Result<(), AllocError>
     requires { IsGrid plan.now.grid }
     ensures { let p = plan.now in OnOk result (text.new.items ≡ text.old.items
-        ++ lines_svg p.grid config.protocol chart.now config.logical p.map.marks.breach) }
+        ++ lines_svg p.grid walks.now p.map.marks.breach) }
 {
     add(b"<text", text)?;
     add_attribute(b"y", plan.grid.bottom(), text)?;
     add(b">", text)?;
-    write_walks(chart, config.protocol, config.logical, text)?;
+    add(walks, text)?;
     write_breach(plan.map.marks.breach, text)?;
     add(b"</text>\n", text)
 }

@@ -1,65 +1,125 @@
 //! The lines below the map of a picture in SVG.
-ghost use Rattle.std.specs.Prelude.{◌≡◌, ◌++◌, OnOk, codes};
-ghost use Rattle.flash_picture.specs.Svg.{breach_svg, is_uncommitted, uncommitted, walk_row, walks_svg};
+ghost use Rattle.std.specs.Prelude.{◌≡◌, ◌+◌, ◌*◌, ◌≤◌, ◌++◌, IfOk, OnOk, codes, length};
+ghost use Rattle.flash_picture.specs.Svg.{breach_svg, columns_with, rows_begun, rows_taken, rows_text, step_row, steps_begin, steps_rows, walk_rows, walk_takes, walks_svg, walks_take};
+ghost use Rattle.flash_picture.specs.Walks.{step_text};
 
 use crate::picture::write_law;
 use crate::text::add;
-use crate::walk::write_story;
+use crate::walk::{End, Step, newest_name, steps, write_start};
 use record_chart::Chart;
-use record_list::{Breach, Verdict, Why};
-use std::alloc::AllocError;
-use tx_types::Protocol;
+use record_list::Breach;
+use std::alloc::{AllocError, Global};
+use tx_types::{Link, Memory, Protocol};
 
-/// How many pages have a newest version that does not count.
-pub fn uncommitted(chart: &Chart, protocol: Protocol, logical: u32) -> u32
-    ensures { result ≡ uncommitted protocol chart.now logical }
-{
-    let mut count = 0;
-    for page in 0..logical {
-        if is_uncommitted(chart, protocol, logical, page) {
-            count += 1;
-        }
-    }
-    count
-}
+/// Of so many columns a line of a walk is full: a step behind more stands in the next line.
+const FULL_COLUMNS: usize = 120;
 
-/// Whether the newest version of a page does not count.
-fn is_uncommitted(chart: &Chart, protocol: Protocol, logical: u32, page: u32) -> bool
-    ensures { result ≡ is_uncommitted protocol chart.now logical page }
-{
-    match chart.why(protocol, logical, page).verdict() {
-        Verdict::Committed => false,
-        Verdict::Uncommitted => true,
-    }
-}
-
-/// Appends the walks of all pages whose newest version does not count.
+/// Appends the walks of all pages whose newest version does not count, and answers how many lines they are.
 pub fn write_walks(
+    alloc: Global,
     chart: &Chart,
     protocol: Protocol,
     logical: u32,
     text: &mut Vec<u8>,
-) -> Result<(), AllocError>
-    ensures { OnOk result (text.new.items ≡ text.old.items ++ walks_svg protocol chart.now logical) }
+) -> Result<u64, Memory>
+    ensures text { OnOk result (text.new.items ≡ text.old.items ++ walks_svg protocol chart.now logical) }
+    ensures lines { IfOk result (λ lines. lines ≡ walks_take protocol chart.now logical logical) }
+    ensures few { IfOk result (λ lines. lines ≤ 19 * logical) }
 {
+    let mut lines = 0;
     for page in 0..logical {
-        write_walk(chart, page, chart.why(protocol, logical, page), text)?;
+        let end = End::of_page(chart, protocol, logical, page);
+        lines += write_walk(alloc, chart, logical, page, end, text)?;
     }
-    Ok(())
+    Ok(lines)
 }
 
-/// Appends the walk of a page whose newest version does not count, by what decides that.
-fn write_walk(chart: &Chart, page: u32, why: Why, text: &mut Vec<u8>) -> Result<(), AllocError>
-    ensures { OnOk result (text.new.items ≡ text.old.items ++ walk_row chart.now page why) }
+/// Appends the walk of a page that ends so, if its newest version does not count, and answers how many lines it is.
+fn write_walk(
+    alloc: Global,
+    chart: &Chart,
+    logical: u32,
+    page: u32,
+    end: Option<End>,
+    text: &mut Vec<u8>,
+) -> Result<u64, Memory>
+    ensures text { OnOk result (text.new.items ≡ text.old.items ++ walk_rows chart.now logical page end) }
+    ensures lines { IfOk result (λ lines. lines ≡ walk_takes chart.now logical page end) }
+    ensures few { IfOk result (λ lines. lines ≤ 19) }
 {
-    match why.verdict() {
-        Verdict::Committed => Ok(()),
-        Verdict::Uncommitted => {
-            open_line(b"walk", text)?;
-            write_story(chart, page, why, text)?;
-            add(b"</tspan>\n", text)
+    match end {
+        None => Ok(0),
+        Some(end) => {
+            let steps = steps(alloc, chart, logical, page)?;
+            Ok(write_rows(newest_name(chart, page), &steps, end, text)?)
         }
     }
+}
+
+/// Appends a walk from a record, and answers how many lines it is.
+fn write_rows(start: Link, steps: &[Step], end: End, text: &mut Vec<u8>) -> Result<u64, AllocError>
+    ensures text { OnOk result (text.new.items ≡ text.old.items ++ rows_text start steps.now end) }
+    ensures lines { IfOk result (λ lines. lines ≡ rows_taken start steps.now) }
+    ensures few { IfOk result (λ lines. lines ≤ length steps.now + 1) }
+{
+    open_line(b"walk", text)?;
+    let from = text.len();
+    write_start(start, text)?;
+    let begun = write_steps(steps, text.len() - from, text)?;
+    end.write(text)?;
+    add(b"</tspan>\n", text)?;
+    Ok(begun + 1)
+}
+
+/// Appends steps behind so many columns of a line, and answers how many lines they begin.
+fn write_steps(steps: &[Step], first: usize, text: &mut Vec<u8>) -> Result<u64, AllocError>
+    requires { first ≤ length text.old.items }
+    ensures text { OnOk result (text.new.items ≡ text.old.items ++ steps_rows first steps.now) }
+    ensures lines { IfOk result (λ lines. lines ≡ steps_begin first steps.now) }
+    ensures few { IfOk result (λ lines. lines ≤ length steps.now) }
+{
+    let mut columns = first;
+    let mut begun = 0;
+    for step in steps {
+        begun += rows_begun(columns);
+        columns = write_step(*step, columns, text)?;
+    }
+    Ok(begun)
+}
+
+/// How many lines a step begins behind so many columns.
+fn rows_begun(columns: usize) -> u64
+    ensures rows { result ≡ rows_begun columns }
+    ensures few { result ≤ 1 }
+{
+    if columns > FULL_COLUMNS { 1 } else { 0 }
+}
+
+/// Appends a step behind so many columns of a line, and answers how many the line has with it.
+fn write_step(step: Step, columns: usize, text: &mut Vec<u8>) -> Result<usize, AllocError>
+    requires { columns ≤ length text.old.items }
+    ensures text { OnOk result (text.new.items ≡ text.old.items ++ step_row columns step) }
+    ensures columns { IfOk result (λ all. all ≡ columns_with columns step) }
+    ensures within { IfOk result (λ all. all ≤ length text.new.items) }
+{
+    if columns > FULL_COLUMNS {
+        add(b"</tspan>\n<tspan class='walk' x='40' dy='20'>", text)?;
+        write_behind(step, 0, text)
+    } else {
+        write_behind(step, columns, text)
+    }
+}
+
+/// The same in this line.
+fn write_behind(step: Step, columns: usize, text: &mut Vec<u8>) -> Result<usize, AllocError>
+    requires { columns ≤ length text.old.items }
+    ensures text { OnOk result (text.new.items ≡ text.old.items ++ step_text step) }
+    ensures columns { IfOk result (λ all. all ≡ columns + length (step_text step)) }
+    ensures within { IfOk result (λ all. all ≤ length text.new.items) }
+{
+    let from = text.len() - columns;
+    step.write(text)?;
+    Ok(text.len() - from)
 }
 
 /// Appends the law that is broken, if one is.

@@ -159,3 +159,109 @@ fn draws_in_svg(rt: HostRuntime) -> Result<(), Fail> {
     assert_eq!(rt; paths, 3);
     Ok(())
 }
+
+/// What stands in the pictures below, as text and in SVG: of a walk of more than sixteen links the first ones and the
+/// last, and in SVG the rest of a long line in the next one.
+const LONG: [&[u8]; 3] = [
+    b" -> 15.1 -> 16.1 .. -> 18.1 absent\nwalk 1.1 -> 2.1 ",
+    b" -> 16.1 -> 17.1 .. -> 18.1 absent\nwalk 2.1 -> 3.1 ",
+    b" -> 16.1 -> 17.1 -> 18.1 absent\nwalk 3.1 -> 4.1 ",
+];
+
+const LONG_SVG: [&[u8]; 2] = [
+    b" -> 16.1</tspan>\n<tspan class='walk' x='40' dy='20'> .. -> 18.1 absent</tspan>\n",
+    b"height='1028'",
+];
+
+/// A device of 64 slots, for twenty pages.
+fn wide_device() -> Config
+    ensures check { checked result ≡ Ok (shape_of result) }
+    ensures slots { slots_of (shape_of result) ≡ 64 }
+{
+    Config {
+        protocol: Protocol::Scc,
+        page_bytes: 16,
+        pages_per_block: 16,
+        blocks_per_die: 4,
+        dies: 1,
+        logical: 20,
+        pending: 1,
+    }
+}
+
+#[test]
+fn draws_long_walks(rt: HostRuntime) -> Result<(), Fail> {
+    // each page but the last was written with the next one
+    let mut notes = [Note::Blank; 64];
+    for page in 0..18 {
+        notes[page as usize] = rec((page, 1), (page + 1, 1), 0);
+    }
+    let marks = Marks {
+        spare: Some(Block(3)),
+        breach: None,
+    };
+    let mut out = Vec::new(rt.alloc());
+    assert!(rt; draw(rt.alloc(), wide_device(), &notes, marks, &mut out).is_ok());
+    for piece in LONG {
+        assert!(rt; out.windows(piece.len()).any(|part| part == piece));
+    }
+    let mut svg = Vec::new(rt.alloc());
+    assert!(rt; draw_svg(rt.alloc(), wide_device(), &notes, marks, &mut svg).is_ok());
+    for piece in LONG_SVG {
+        assert!(rt; svg.windows(piece.len()).any(|part| part == piece));
+    }
+    Ok(())
+}
+
+#[test]
+fn draws_a_ring_that_a_walk_comes_to(rt: HostRuntime) -> Result<(), Fail> {
+    // two records link to the one of page 1, which links to itself
+    let notes = [
+        rec((0, 1), (1, 1), 0),
+        rec((1, 1), (1, 1), 0),
+        Note::Blank,
+        Note::Blank,
+        Note::Blank,
+        Note::Blank,
+        Note::Blank,
+        Note::Blank,
+    ];
+    let marks = Marks {
+        spare: None,
+        breach: Some(Breach {
+            law: 3,
+            slot: Slot(1),
+        }),
+    };
+    let end = "walk 0.1 -> 1.1 -> 1.1 -> 1.1 -> 1.1 too long\nunsound law 3 slot 1\n";
+    let said = picture(rt.alloc(), Protocol::Scc, &notes, marks)?;
+    assert!(rt; said.ends_with(end.as_bytes()));
+    Ok(())
+}
+
+#[test]
+fn finds_held_records_among_namesakes(rt: HostRuntime) -> Result<(), Fail> {
+    // of two records of one name, as unsound images have them, the one straddles the link of a loose record
+    let notes = [
+        rec((0, 1), (1, 1), 0),
+        rec((1, 2), (1, 2), 1),
+        rec((1, 2), (1, 2), 0),
+        rec((1, 3), (1, 3), 2),
+        Note::Blank,
+        Note::Blank,
+        Note::Blank,
+        Note::Blank,
+    ];
+    let marks = Marks {
+        spare: None,
+        breach: Some(Breach {
+            law: 2,
+            slot: Slot(2),
+        }),
+    };
+    let want = "block 0    |0.1 loose       |1.2 stale       |\n\
+         block 1    |1.2 stale held !|1.3 current     |\n";
+    let said = picture(rt.alloc(), Protocol::Bpcc, &notes, marks)?;
+    assert!(rt; said.windows(want.len()).any(|part| part == want.as_bytes()));
+    Ok(())
+}

@@ -1,15 +1,13 @@
 //! What holds of all pictures. The functions do nothing: each is there for what it ensures.
-ghost use Rattle.std.specs.Prelude.{◌≡◌, ℕ, ◌<◌, List};
+ghost use Rattle.std.specs.Prelude.{ℕ, ◌<◌, List};
 ghost use Rattle.tx_types.specs.declared.config.Config.{Config};
 ghost use Rattle.tx_types.specs.declared.config.Protocol.{Protocol};
 ghost use Rattle.tx_types.specs.declared.record.Rec.{Rec};
 ghost use Rattle.tx_types.specs.Config.{blocks_of, shape_of, slots_of};
 ghost use Rattle.version_index.specs.declared.note.Note.{Note};
-ghost use Rattle.version_index.specs.declared.note.Note.TheVariants as note;
-ghost use Rattle.version_index.specs.Notes.{note_at};
 ghost use Rattle.record_list.specs.declared.found.Found.{Found};
 ghost use Rattle.flash_picture.specs.declared.marks.Marks.{Marks};
-ghost use Rattle.flash_picture.specs.Laws.{CellTells, LabelTells, SvgCellTells, SvgLabelTells};
+ghost use Rattle.flash_picture.specs.Laws.{ArrowTells, CellTells, LabelTells, SvgCellTells, SvgLabelTells, SvgWalkTells, WalkSays, WalkTells, WordsTell};
 
 /// A cell says current, loose, stale, held or discard exactly where its record is so, whatever else its slot says.
 pub fn cells_tell()
@@ -22,12 +20,32 @@ pub fn labels_tell()
     ensures { (marks : Marks) (block : ℕ) → LabelTells marks block }
 {}
 
-/// In a picture in SVG the cell of a slot that holds a record has the words of which `cells_tell` speaks, and the
-/// row of a block the label of which `labels_tell` does.
+/// A slot without a record has one word, `blank` or `damaged`; and any slot has a `!` besides exactly where a broken
+/// law names it.
+pub fn words_tell()
+    ensures { (its : Config) (notes : List Note) (marks : Marks) (slot : ℕ) →
+        WordsTell its notes marks slot }
+{}
+
+/// The walk of a page is drawn exactly where its newest version does not count, over the links of the walk that decides
+/// this, and it ends in the words for what its last link shows.
+pub fn walks_tell()
+    ensures tells { (protocol : Protocol) (list : List Found) (logical page : ℕ) →
+        WalkTells protocol list logical page }
+    ensures says { (protocol : Protocol) (list : List Found) (logical page : ℕ) →
+        WalkSays protocol list logical page }
+{}
+
+/// A picture in SVG has the cell of each slot, with the words of which `cells_tell` and `words_tell` speak, the label of
+/// each block, of which `labels_tell` does, and the lines of each walk, of which `walks_tell` does. An arrow leads from
+/// the cell of a record to that of the lowest slot which holds the record of its link, and there is no other arrow.
 pub fn svg_tells()
-    ensures cells { (its : Config) (notes : List Note) (marks : Marks) (slot : ℕ) (r : Rec) →
-        slot < slots_of (shape_of its) → note_at notes slot ≡ note.Holds r →
-        SvgCellTells its notes marks slot r }
+    ensures cells { (its : Config) (notes : List Note) (marks : Marks) (slot : ℕ) →
+        slot < slots_of (shape_of its) → SvgCellTells its notes marks slot }
     ensures labels { (its : Config) (notes : List Note) (marks : Marks) (block : ℕ) →
         block < blocks_of (shape_of its) → SvgLabelTells its notes marks block }
+    ensures walks { (its : Config) (notes : List Note) (marks : Marks) (page : ℕ) →
+        page < its.logical → SvgWalkTells its notes marks page }
+    ensures arrows { (its : Config) (notes : List Note) (marks : Marks) (slot : ℕ) →
+        slot < slots_of (shape_of its) → ArrowTells its notes marks slot }
 {}

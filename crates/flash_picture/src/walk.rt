@@ -1,56 +1,190 @@
-ghost use Rattle.std.specs.Prelude.{◌≡◌, ◌++◌, OnOk, codes};
-ghost use Rattle.record_list.specs.Verdict.{newest_name};
-ghost use Rattle.flash_picture.specs.Cells.{name_word};
-ghost use Rattle.flash_picture.specs.Walks.{chain, chain_text, end_text, ends_at, story_text, walk_line, walks_text};
+//! The walks that decide that the newest version of a page does not count: which links of them are shown, and how
+//! they end.
+ghost use Rattle.std.specs.Prelude.{◌≡◌, suc, ◌<◌, ◌≤◌, ◌++◌, IfOk, IfSome, OnOk, length};
+ghost use Rattle.std.specs.List.{flat_map};
+ghost use Rattle.record_list.specs.Verdict.{link_of, newest_name};
+ghost use Rattle.record_chart.specs.Charts.{EndsBelow};
+ghost use Rattle.verdict_report.specs.Walks.{is_end, walk_links};
+ghost use Rattle.flash_picture.specs.Walks.{end_by, end_of, end_text, last_steps, leaving, left_at, left_by, start_text, step_text, steps_of, steps_over, walk_line, walks_text};
 
-use crate::text::{add_name, add_number};
-use record_chart::Chart;
-use record_list::{Verdict, Why};
-use std::alloc::AllocError;
-use tx_types::{Link, Protocol};
+use crate::text::{add, add_name, add_number};
+use record_chart::{Chart, Orbit};
+use record_list::Why;
+use std::alloc::{AllocError, Global};
+use tx_types::{Link, Memory, Protocol};
 
-/// How many links of a walk are shown at most.
+/// How many links of a walk are shown before its last one.
 const MOST_LINKS: u32 = 16;
 
-/// Appends a line for each page whose newest version does not count.
-pub fn write_walks(
-    chart: &Chart,
-    protocol: Protocol,
-    logical: u32,
-    text: &mut Vec<u8>,
-) -> Result<(), AllocError>
-    ensures { OnOk result (text.new.items
-        ≡ text.old.items ++ walks_text protocol chart.now logical) }
-{
-    for page in 0..logical {
-        write_walk(chart, page, chart.why(protocol, logical, page), text)?;
-    }
-    Ok(())
+/// A step that is shown of a walk.
+#[derive(Clone, Copy, Debug, PartialEq, Eq)]
+pub enum Step {
+    /// To the record that a link names.
+    To(Link),
+    /// Over links that are not shown.
+    Dots,
 }
 
-/// Appends the line of a page whose newest version does not count, by what decides that.
-fn write_walk(chart: &Chart, page: u32, why: Why, text: &mut Vec<u8>) -> Result<(), AllocError>
-    ensures { OnOk result (text.new.items ≡ text.old.items ++ walk_line chart.now page why) }
-{
-    match why.verdict() {
-        Verdict::Committed => Ok(()),
-        Verdict::Uncommitted => {
-            write_story(chart, page, why, text)?;
-            text.extend_from_slice(b"\n")
+/// How a walk ends that begins at a version which does not count.
+#[derive(Clone, Copy, Debug, PartialEq, Eq)]
+pub enum End {
+    /// No record has the version of its last link, or a later one.
+    Absent,
+    /// The record of this version straddles its last link.
+    Straddled(u64),
+    /// It takes more links than there are pages.
+    TooLong,
+}
+
+impl Step {
+    /// Appends a step.
+    pub fn write(self, text: &mut Vec<u8>) -> Result<(), AllocError>
+        ensures { OnOk result (text.new.items ≡ text.old.items ++ step_text self) }
+    {
+        match self {
+            Step::To(link) => {
+                text.extend_from_slice(b" -> ")?;
+                add_name(link, text)
+            }
+            Step::Dots => text.extend_from_slice(b" .."),
         }
     }
 }
 
-/// Appends the walk from the newest record of a page, with what it ends in.
-pub fn write_story(chart: &Chart, page: u32, why: Why, text: &mut Vec<u8>) -> Result<(), AllocError>
-    ensures { OnOk result (text.new.items ≡ text.old.items ++ story_text chart.now page why) }
+impl End {
+    /// How the walk from the newest record of a page ends; nothing where its version counts.
+    pub fn of_page(chart: &Chart, protocol: Protocol, logical: u32, page: u32) -> Option<End>
+        ensures { result ≡ end_of protocol chart.now logical page }
+    {
+        end_by(
+            chart.why(protocol, logical, page),
+            left_at(chart, logical, page),
+        )
+    }
+
+    /// Appends how a walk ends.
+    pub fn write(self, text: &mut Vec<u8>) -> Result<(), AllocError>
+        ensures { OnOk result (text.new.items ≡ text.old.items ++ end_text self) }
+    {
+        match self {
+            End::Absent => text.extend_from_slice(b" absent"),
+            End::Straddled(version) => {
+                text.extend_from_slice(b" straddled by ")?;
+                add_number(version, text)
+            }
+            End::TooLong => text.extend_from_slice(b" too long"),
+        }
+    }
+}
+
+/// How a walk ends, by what decides the verdict and by where it leaves the newest records.
+fn end_by(why: Why, last: Option<Link>) -> Option<End>
+    ensures { result ≡ end_by why last }
 {
-    write_chain(chart, newest_name(chart, page), text)?;
-    write_end(why, text)
+    match (why, last) {
+        (Why::Cycle, _) => None,
+        (Why::Passed, _) => None,
+        (Why::Absent, None) => Some(End::TooLong),
+        (Why::Absent, Some(_)) => Some(End::Absent),
+        (Why::Straddled(version), _) => Some(End::Straddled(version)),
+    }
+}
+
+/// The link at which the walk from the newest record of a page leaves the newest records, if it does.
+fn left_at(chart: &Chart, logical: u32, page: u32) -> Option<Link>
+    ensures { result ≡ left_at chart.now logical page }
+{
+    match chart.orbit(page) {
+        Some(orbit) => left_by(chart, logical, orbit),
+        None => None,
+    }
+}
+
+/// The same from the orbit of the place of that record.
+fn left_by(chart: &Chart, logical: u32, orbit: Orbit) -> Option<Link>
+    requires { EndsBelow (length chart.now) orbit }
+    ensures { result ≡ left_by chart.now logical orbit }
+{
+    match orbit {
+        Orbit::Ends { after, at } => {
+            if after > logical {
+                None
+            } else {
+                leaving(chart, chart.records()[at as usize].rec.next)
+            }
+        }
+        Orbit::Round { .. } => None,
+        Orbit::Aside => None,
+    }
+}
+
+/// A link, where it is to a version above, or below, the newest of its page.
+fn leaving(chart: &Chart, link: Link) -> Option<Link>
+    ensures { result ≡ leaving chart.now link }
+{
+    if link.version != chart.newest(link.page) {
+        Some(link)
+    } else {
+        None
+    }
+}
+
+/// The steps that are shown of the walk from the newest record of a page.
+pub fn steps(alloc: Global, chart: &Chart, logical: u32, page: u32) -> Result<Vec<Step>, Memory>
+    ensures steps { IfOk result (λ steps. steps.items ≡ steps_of chart.now logical page) }
+    ensures few { IfOk result (λ steps. length steps.items ≤ 18) }
+{
+    let start = newest_name(chart, page);
+    steps_from(alloc, chart, logical, start, left_at(chart, logical, page))
+}
+
+/// The same from a record, where the walk leaves the newest records at this link.
+fn steps_from(
+    alloc: Global,
+    chart: &Chart,
+    logical: u32,
+    start: Link,
+    last: Option<Link>,
+) -> Result<Vec<Step>, Memory>
+    ensures steps { let list = chart.now in IfOk result (λ steps. steps.items
+        ≡ steps_over (walk_links list start (suc logical) (link_of list start)) last) }
+    ensures few { IfOk result (λ steps. length steps.items ≤ 18) }
+{
+    let mut steps = Vec::with_capacity(alloc, 18)?;
+    let mut link = chart.link_of(start);
+    for _turn in 0..logical.saturating_add(1).min(MOST_LINKS) {
+        steps.push(Step::To(link))?;
+        if is_end(chart, start, link) {
+            return Ok(steps);
+        }
+        link = chart.link_of(link);
+    }
+    if logical >= MOST_LINKS {
+        push_last(last, &mut steps)?;
+    }
+    Ok(steps)
+}
+
+/// Adds what stands for the links that are not shown, and the last one, if there is one.
+fn push_last(last: Option<Link>, steps: &mut Vec<Step>) -> Result<(), Memory>
+    ensures { OnOk result (steps.new.items ≡ steps.old.items ++ last_steps last) }
+{
+    steps.push(Step::Dots)?;
+    if let Some(link) = last {
+        steps.push(Step::To(link))?;
+    }
+    Ok(())
+}
+
+/// Whether a walk from the record `start` ends at this link.
+fn is_end(chart: &Chart, start: Link, link: Link) -> bool
+    ensures { result ≡ is_end chart.now start link }
+{
+    link.version != chart.newest(link.page) || link == start
 }
 
 /// The name of the newest record of a page.
-fn newest_name(chart: &Chart, page: u32) -> Link
+pub fn newest_name(chart: &Chart, page: u32) -> Link
     ensures { result ≡ newest_name chart.now page }
 {
     Link {
@@ -59,68 +193,61 @@ fn newest_name(chart: &Chart, page: u32) -> Link
     }
 }
 
-/// Appends the walk from a record.
-fn write_chain(chart: &Chart, start: Link, text: &mut Vec<u8>) -> Result<(), AllocError>
-    ensures { OnOk result (text.new.items ≡ text.old.items ++ chain_text chart.now start) }
+/// Appends a line for each page whose newest version does not count.
+pub fn write_walks(
+    alloc: Global,
+    chart: &Chart,
+    protocol: Protocol,
+    logical: u32,
+    text: &mut Vec<u8>,
+) -> Result<(), Memory>
+    ensures { OnOk result (text.new.items
+        ≡ text.old.items ++ walks_text protocol chart.now logical) }
+{
+    for page in 0..logical {
+        let end = End::of_page(chart, protocol, logical, page);
+        write_walk(alloc, chart, logical, page, end, text)?;
+    }
+    Ok(())
+}
+
+/// Appends the line of a page whose walk ends so, if its newest version does not count.
+fn write_walk(
+    alloc: Global,
+    chart: &Chart,
+    logical: u32,
+    page: u32,
+    end: Option<End>,
+    text: &mut Vec<u8>,
+) -> Result<(), Memory>
+    ensures { OnOk result (text.new.items ≡ text.old.items ++ walk_line chart.now logical page end) }
+{
+    match end {
+        None => Ok(()),
+        Some(end) => {
+            let steps = steps(alloc, chart, logical, page)?;
+            write_start(newest_name(chart, page), text)?;
+            write_steps(&steps, text)?;
+            end.write(text)?;
+            Ok(add(b"\n", text)?)
+        }
+    }
+}
+
+/// Appends the record at which a walk begins.
+pub fn write_start(start: Link, text: &mut Vec<u8>) -> Result<(), AllocError>
+    ensures { OnOk result (text.new.items ≡ text.old.items ++ start_text start) }
 {
     text.extend_from_slice(b"walk ")?;
-    add_name(start, text)?;
-    write_links(chart, start, chart.link_of(start), text)
+    add_name(start, text)
 }
 
-/// Appends the links of a walk from the record `start` that has come to this one.
-fn write_links(
-    chart: &Chart,
-    start: Link,
-    first: Link,
-    text: &mut Vec<u8>,
-) -> Result<(), AllocError>
-    ensures { OnOk result (text.new.items ≡ text.old.items ++ chain chart.now start 16 first) }
+/// Appends steps.
+fn write_steps(steps: &[Step], text: &mut Vec<u8>) -> Result<(), AllocError>
+    ensures { OnOk result (text.new.items ≡ text.old.items ++ flat_map step_text steps.now) }
 {
-    let mut link = first;
-    for _turn in 0..MOST_LINKS {
-        write_link(link, text)?;
-        if ends_at(chart, start, link) {
-            return Ok(());
-        }
-        link = chart.link_of(link);
+    for step in steps {
+        step.write(text)?;
     }
-    write_dots(text)
-}
-
-/// Appends what stands for the links that are not shown.
-fn write_dots(text: &mut Vec<u8>) -> Result<(), AllocError>
-    ensures { OnOk result (text.new.items ≡ text.old.items ++ codes " ..") }
-{
-    text.extend_from_slice(b" ..")
-}
-
-/// Appends a link, with an arrow before it.
-fn write_link(link: Link, text: &mut Vec<u8>) -> Result<(), AllocError>
-    ensures { OnOk result (text.new.items ≡ text.old.items ++ (codes " -> " ++ name_word link)) }
-{
-    text.extend_from_slice(b" -> ")?;
-    add_name(link, text)
-}
-
-/// Whether a walk from the record `start` ends at this link.
-fn ends_at(chart: &Chart, start: Link, link: Link) -> bool
-    ensures { result ≡ ends_at chart.now start link }
-{
-    link.version != chart.newest(link.page) || link == start
-}
-
-/// Appends what a walk ends in.
-fn write_end(why: Why, text: &mut Vec<u8>) -> Result<(), AllocError>
-    ensures { OnOk result (text.new.items ≡ text.old.items ++ end_text why) }
-{
-    match why {
-        Why::Cycle => text.extend_from_slice(b" cycle"),
-        Why::Passed => text.extend_from_slice(b" passed"),
-        Why::Absent => text.extend_from_slice(b" absent"),
-        Why::Straddled(version) => {
-            text.extend_from_slice(b" straddled by ")?;
-            add_number(version, text)
-        }
-    }
+    Ok(())
 }

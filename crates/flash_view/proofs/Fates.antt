@@ -58,4 +58,4 @@ pub fetched : (a : Asked) (old new : DeskState) (bytes : List ℕ) (result : Res
 fetched a old new bytes (Ok text) finds after (fate, comes, done, said) none = ((fate, (found.Bytes bytes, finds, comes), done, said), after)
 fetched a old new bytes (Err (stop.Refused refusal)) finds after none why = ((found.Bytes bytes, finds, why), after)
 fetched a old new bytes (Err stop.Fault) finds after none fault = absurd fault
-fetched a old new bytes (Err stop.Memory) finds after none starved = inr after
+fetched a old new bytes (Err stop.Memory) finds after none starved = inr (bytes, finds, after)

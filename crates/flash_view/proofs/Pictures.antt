@@ -7,12 +7,13 @@ use Rattle.tx_types.specs.declared.config.Config.{Config}
 use Rattle.tx_types.specs.declared.record.Rec.{Rec}
 use Rattle.tx_types.specs.Config.{shape_of}
 use Rattle.flash_model.specs.Flash.{Contents, Extras, blank}
+use Rattle.record_list.specs.declared.found.Breach.{Breach}
 use Rattle.record_list.specs.Current.{IsCurrent, IsLoose, IsStale, is_held}
-use Rattle.version_index.specs.Images.{IsSoundImage, records_in}
+use Rattle.version_index.specs.Images.{IsLeastImageBreach, IsSoundImage, records_in}
 use Rattle.version_index.specs.Notes.{found_in, note_at, note_of, notes_of}
 use Rattle.version_index.specs.declared.note.Note.TheVariants as note
 use Rattle.version_index.proofs.NotedImages.{found_in_notes}
-use Rattle.version_index.proofs.OneBreach.{sound_unbroken}
+use Rattle.version_index.proofs.OneBreach.{breach_one, sound_unbroken}
 use Rattle.version_index.specs.Opening.{IsChosenSpare, IsHighest}
 use Rattle.image_file.specs.declared.error.ImageError.{ImageError}
 use Rattle.image_file.specs.Rules.{reading}
@@ -22,10 +23,11 @@ use Rattle.flash_picture.specs.declared.marks.Marks.{Marks}
 use Rattle.flash_picture.specs.Cells.{cell_at, cell_of, cell_words}
 use Rattle.flash_picture.specs.declared.cell.Cell.{Cell}
 use Rattle.flash_picture.specs.Picture.{cells_of}
-use Rattle.flash_picture.proofs.Tells.{cell_tells, label_tells}
+use Rattle.flash_picture.proofs.Tells.{cell_tells, label_tells, words_tell}
 use Rattle.flash_view.specs.Asked.{Asked}
 use Rattle.flash_view.specs.Fate.{Fate, AfterLoad, AfterReading, Drawn, IsFate, IsOpening, Refused, fate_of, marks_of}
-use Rattle.flash_view.specs.Laws.{CellSays, HoldsRecord, RowsTell, SlotTells}
+use Rattle.flash_picture.specs.Laws.{IsNamed}
+use Rattle.flash_view.specs.Laws.{BareSlotTells, BreachTells, CellSays, HoldsRecord, RowsTell, SlotTells}
 use Rattle.flash_view.specs.declared.words.Form.{Form}
 use Rattle.flash_view.specs.declared.opening.Opening.{Opening}
 use Rattle.flash_view.specs.declared.opening.Opening.TheVariants as opening
@@ -83,8 +85,12 @@ opening_rows its image (opening.Sound block) (_, chosen) sound = record {
     λ says. subst (λ (n : ℕ). IsChosenSpare its image n) (marked other ((label_tells (marks_of (opening.Sound block)) other).0 says)) chosen,
     λ k. (label_tells (marks_of (opening.Sound block)) other).1 (ap (λ n. Some (record { 0 = n })) (one_spare its image block.0 other chosen k)),
   );
+  mark = λ slot says. unnamed slot ((words_tell its (notes_of its.protocol image) (marks_of (opening.Sound block)) slot).mark.0 says);
 }
   where
+    unnamed : (slot : ℕ) → IsNamed None slot → ⊥
+    unnamed slot (b, none, at) = cc
+
     marked : (other : ℕ) → Some block ≡ Some (record { 0 = other }) → block.0 ≡ other
     marked other e = ap (λ (o : Option Block). elim o [ Some b ↦ b.0 | None ↦ other ]) e
 opening_rows its image (opening.Unsound breach) broken sound = absurd (sound_unbroken its.protocol its.logical (shape_of its) image breach sound broken)
@@ -94,6 +100,42 @@ pub rows_tell : (task : Option Asked) (desk : DeskState) (form : Form) (its : Co
 rows_tell task desk form its image marks fate sound =
     let drawn : IsOfOpening (Drawn form its image marks) = drawn_so task desk (Drawn form its image marks) fate in
     subst (λ m. RowsTell its image m) (sym drawn.2) (opening_rows its image drawn.0 drawn.1 sound)
+
+-- ---- a law that is broken
+
+opening_breach : (its : Config) (image : List Contents) (opened : Opening) → IsOpening its image opened → (breach : Breach) →
+    IsLeastImageBreach its.protocol its.logical (shape_of its) image breach → BreachTells its image (marks_of opened) breach
+opening_breach its image (opening.Sound block) (sound, chosen) breach broken =
+    absurd (sound_unbroken its.protocol its.logical (shape_of its) image breach sound broken)
+opening_breach its image (opening.Unsound first) is breach broken =
+    let marks = marks_of (opening.Unsound first) in
+    let words = words_tell its (notes_of its.protocol image) marks in
+    record {
+      label = λ block says. no_spare (record { 0 = block }) ((label_tells marks block).0 says);
+      mark = λ slot. (
+        λ says. (let named = (words slot).mark.0 says in sym slot_is ∙ same_slot named.0 named.1 slot ∙ named.2),
+        λ e. (words slot).mark.1 (first, refl, slot_is ∙ e),
+      );
+      line = ap Some one;
+    }
+  where
+    one : first ≡ breach
+    one = breach_one its.protocol its.logical (shape_of its) image first breach is broken
+
+    slot_is : first.slot.0 ≡ breach.slot.0
+    slot_is = ap (λ (b : Breach). b.slot.0) one
+
+    same_slot : (b : Breach) → Some first ≡ Some b → (slot : ℕ) → first.slot.0 ≡ b.slot.0
+    same_slot b e slot = ap (λ (o : Option Breach). elim o [ Some x ↦ x.slot.0 | None ↦ slot ]) e
+
+    no_spare : (spare : Block) → None ≡ Some spare → ⊥
+    no_spare spare e = cc
+
+pub breach_tells : (task : Option Asked) (desk : DeskState) (form : Form) (its : Config) (image : List Contents) (marks : Marks) (breach : Breach) →
+    IsFate task desk (Drawn form its image marks) → IsLeastImageBreach its.protocol its.logical (shape_of its) image breach → BreachTells its image marks breach
+breach_tells task desk form its image marks breach fate broken =
+    let drawn : IsOfOpening (Drawn form its image marks) = drawn_so task desk (Drawn form its image marks) fate in
+    subst (λ m. BreachTells its image m breach) (sym drawn.2) (opening_breach its image drawn.0 drawn.1 breach broken)
 
 -- ---- the cells
 
@@ -126,3 +168,11 @@ slots_tell its image slot r holds =
         (Contains (cell_words (cell_of its.protocol (records_in its.protocol image) its.logical (note.Holds r))) word ↔ P) →
         CellSays its image slot word ↔ P
     says word P tells = subst (λ (cell : Cell). Contains (cell_words cell) word ↔ P) (cell_is its image slot r holds) tells
+
+-- ---- the slots without a record
+
+pub bare_tells : (its : Config) (image : List Contents) (slot : ℕ) → BareSlotTells its image slot
+bare_tells its image slot =
+    let words = words_tell its (notes_of its.protocol image) (record { spare = None; breach = None }) slot in
+    let note_is = get_or-map (note_of its.protocol) image slot blank in
+    record { blank = λ e. words.blank (note_is ∙ e); damaged = λ e. words.damaged (note_is ∙ e) }

@@ -1,8 +1,6 @@
 //! The program: it draws the flash of an image file, as text or in SVG.
 #![tactic(auto)]
 
-ghost use Rattle.std.specs.Prelude.{◌≡◌, ◌⊎◌, ◌↔◌};
-
 mod drawing;
 mod laws;
 mod opening;
@@ -12,8 +10,8 @@ mod top;
 mod words;
 
 use desk_io::RealDesk;
+use image_desk::unread;
 use std::env;
-use std::io::ErrorKind;
 use std::process::ExitCode;
 
 fn main(rt: HostRuntime) -> ExitCode {
@@ -29,15 +27,4 @@ fn main(rt: HostRuntime) -> ExitCode {
     }
     let mut desk = RealDesk::new(&rt);
     ExitCode::from(top::top(rt.alloc(), &words, &mut desk))
-}
-
-/// The status where the words cannot be read: 6 where there is no memory for them, else 1.
-fn unread(kind: ErrorKind) -> u8
-    ensures memory { (result ≡ 6) ↔ (kind ≡ ErrorKind.OutOfMemory) }
-    ensures other { (result ≡ 6) ⊎ (result ≡ 1) }
-{
-    match kind {
-        ErrorKind::OutOfMemory => 6,
-        _ => 1,
-    }
 }

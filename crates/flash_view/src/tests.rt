@@ -1,6 +1,8 @@
 //! Calls of the program on desks in memory: words, and what is to be said of them.
+mod starved;
+
 use crate::top::top;
-use desk_io::{MAX_FILE_BYTES, MemDesk};
+use desk_io::{Desk, MAX_FILE_BYTES, MemDesk};
 use std::alloc::Global;
 use std::test::Fail;
 
@@ -155,7 +157,7 @@ const SVGS: [(&[&str], &str); 3] = [
 ];
 
 /// The status of a call with these words.
-fn call(alloc: Global, words: &[&str], desk: &mut MemDesk) -> Result<u8, Fail> {
+fn call<D: Desk>(alloc: Global, words: &[&str], desk: &mut D) -> Result<u8, Fail> {
     let mut all = Vec::new(alloc);
     for word in words {
         all.push(String::from_str(alloc, word)?)?;

@@ -1,4 +1,5 @@
 ghost use Rattle.std.specs.Prelude.{◌≡◌, Some};
+ghost use Rattle.desk_io.specs.Desk.{Rose};
 ghost use Rattle.image_desk.specs.Saying.{files_in};
 ghost use Rattle.flash_view.specs.Asked.{asked_by, asked_of};
 ghost use Rattle.flash_view.specs.Top.{EndsCall, Works};
@@ -15,7 +16,15 @@ use std::alloc::Global;
 /// changes.
 pub fn top<D: Desk>(alloc: Global, words: &[String], desk: &mut D) -> u8
     ensures ends { EndsCall (asked_by words.now) (D.state desk.old) (D.state desk.new) result }
+    ensures fault { result ≡ 5 → Rose (D.state desk.old).faults (D.state desk.new).faults }
     ensures files { files_in (D.state desk.new) ≡ files_in (D.state desk.old) }
+{
+    run(alloc, words, desk)
+}
+
+/// The same, by how it ends.
+fn run<D: Desk>(alloc: Global, words: &[String], desk: &mut D) -> u8
+    ensures { EndsCall (asked_by words.now) (D.state desk.old) (D.state desk.new) result }
 {
     match work(alloc, words, desk) {
         Ok(text) => say(desk, &text, 0),

@@ -1,13 +1,15 @@
 //! What the programs share that load image files from a desk: how a file is loaded and read, why a call
-//! is refused, and how that is said.
+//! is refused, and how that is said; and the status where the words cannot be read.
 #![tactic(auto)]
 
 mod loading;
 mod refusal;
 mod saying;
 mod stop;
+mod words;
 
 pub use loading::{fetch, read_device};
 pub use refusal::ImageRefusal;
 pub use saying::{desk_fault, no_memory, refuse, say};
 pub use stop::ImageStop;
+pub use words::unread;

@@ -1,21 +1,22 @@
-use Rattle.std.proofs.lemmas.Result.{on_ok_weaker}
 use Rattle.std.proofs.Common.{◌∙◌, ◌++◌, ap}
 use Rattle.flash_picture.specs.Grid.{height}
-use Rattle.flash_picture.specs.Svg.{above}
+use Rattle.flash_picture.specs.Svg.{above, lines_svg, walks_svg}
 use Rattle.flash_picture.proofs.Texts.{then}
 use Rattle.flash_picture.proofs.svg.write_drawing.Goals as goal
 
 pub returns : goal.returns
 returns c =
-    let first = c.in_ok-write_above.ensures
-    ∙ ap (λ n. c.args.text.now.items ++ above c.args.config n) (c.height.ensures ∙ ap (height c.args.plan.now.grid) c.uncommitted-walks.ensures) in
     let old = c.args.text.now.items in
-    on_ok_weaker c.add.result
-    (λ end. then old _ _ _ _
+    let its = c.args.config in
+    let plan = c.args.plan.now in
+    let first = c.in_ok-write_above.ensures
+    ∙ ap (λ n. old ++ above its n) (c.height.ensures ∙ ap (height plan.grid) c.in_ok-lines.ensures.lines) in
+    let walks = c.deref.ensures.value ∙ c.in_ok-lines.ensures.text ∙ ap (λ t. t ++ walks_svg its.protocol c.args.chart.now its.logical) c.new-walks.ensures.items in
+    let last = c.in_ok-write_lines.ensures ∙ ap (λ w. c.write_arrows.new.text.items ++ lines_svg plan.grid w plan.map.marks.breach) walks in
+    then old _ _ _ _
     (then old _ _ _ _
     (then old _ _ _ _
     (then old _ _ _ _ first c.in_ok-write.ensures)
     c.in_ok-write_arrows.ensures)
-    c.in_ok-write_lines.ensures)
-    end)
-    c.add.ensures
+    last)
+    c.in_ok-add.ensures

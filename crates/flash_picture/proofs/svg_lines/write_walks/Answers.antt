@@ -1,10 +1,16 @@
-use Rattle.std.proofs.Common.{◌∙◌, ◌++◌, ap}
-use Rattle.flash_picture.specs.Svg.{walk_row, walk_svg}
+use Rattle.std.proofs.Common.{◌∙◌, ◌+◌, ◌++◌, add-one, ap, ap₂, arith, sym}
+use Rattle.flash_picture.specs.Svg.{walk_rows, walk_svg, walk_takes, walks_take}
 use Rattle.flash_picture.proofs.Texts.{text_more}
 use Rattle.flash_picture.proofs.svg_lines.write_walks.Goals as goal
 
 pub loop-page-preserved : goal.loop-page-preserved
 loop-page-preserved c =
-    text_more (walk_svg c.args.protocol c.args.chart.now c.args.logical) c.loop-page.page c.args.text.now.items c.loop-page.text.items _
-    c.loop-page.invariant
-    (c.in_ok-write_walk.ensures ∙ ap (λ w. c.loop-page.text.items ++ walk_row c.args.chart.now c.loop-page.page w) c.why.ensures)
+    let list = c.args.chart.now in
+    let logical = c.args.logical in
+    let page = c.loop-page.page in (
+      text_more (walk_svg c.args.protocol list logical) page c.args.text.now.items c.loop-page.text.items _ c.loop-page.invariant.0
+          (c.in_ok-lines.ensures.text ∙ ap (λ e. c.loop-page.text.items ++ walk_rows list logical page e) c.of_page-end.ensures),
+      ap₂ (λ a b. a + b) c.loop-page.invariant.1 (c.in_ok-lines.ensures.lines ∙ ap (walk_takes list logical page) c.of_page-end.ensures)
+          ∙ ap (walks_take c.args.protocol list logical) (sym (add-one page)),
+      omega (arith, c.in_ok-lines.ensures.few, c.loop-page.invariant.2),
+    )

@@ -1,8 +1,9 @@
-use Rattle.std.proofs.Common.{◌≡◌, ◌++◌}
+use Rattle.std.proofs.Common.{◌≡◌, ◌≤◌, ◌*◌, ◌++◌}
 use Rattle.std.specs.List.{flat_map, range_with_len}
-use Rattle.flash_picture.specs.Svg.{walk_svg}
+use Rattle.flash_picture.specs.Svg.{walk_svg, walks_take}
 use Rattle.flash_picture.proofs.svg_lines.write_walks.Given as goal
 
 abbrev pub invariant-loop-page : goal.invariant-loop-page
 invariant-loop-page l =
-    l.text.items ≡ l.initial.text.items ++ flat_map (walk_svg l.protocol l.chart l.logical) (range_with_len 0 l.page)
+    (l.text.items ≡ l.initial.text.items ++ flat_map (walk_svg l.protocol l.chart l.logical) (range_with_len 0 l.page))
+    × (l.lines ≡ walks_take l.protocol l.chart l.logical l.page) × (l.lines ≤ 19 * l.page)

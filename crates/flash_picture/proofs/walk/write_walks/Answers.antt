@@ -7,4 +7,4 @@ pub loop-page-preserved : goal.loop-page-preserved
 loop-page-preserved c =
     text_more (walk_text c.args.protocol c.args.chart.now c.args.logical) c.loop-page.page c.args.text.now.items c.loop-page.text.items _
     c.loop-page.invariant
-    (c.in_ok-write_walk.ensures ∙ ap (λ w. c.loop-page.text.items ++ walk_line c.args.chart.now c.loop-page.page w) c.why.ensures)
+    (c.in_ok-write_walk.ensures ∙ ap (λ e. c.loop-page.text.items ++ walk_line c.args.chart.now c.args.logical c.loop-page.page e) c.of_page-end.ensures)

@@ -1,0 +1,13 @@
+use Rattle.std.proofs.Common.{◌∙◌}
+use Rattle.record_chart.proofs.WalkOrbits.{ends_below}
+use Rattle.flash_picture.proofs.Leaving.{left_none, left_some}
+use Rattle.flash_picture.proofs.walk.left_at.Goals as goal
+
+pub left_by-requires : goal.left_by-requires
+left_by-requires c = ends_below c.args.chart.now c.args.page c.in-Some.orbit c.in-Some.ensures
+
+pub returns-in-Some : goal.returns-in-Some
+returns-in-Some c = c.left_by.ensures ∙ left_some c.args.chart.now c.args.logical c.args.page c.in-Some.orbit c.in-Some.ensures
+
+pub returns-in-None : goal.returns-in-None
+returns-in-None c = left_none c.args.chart.now c.args.logical c.args.page c.in-None.ensures

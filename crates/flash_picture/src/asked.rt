@@ -1,0 +1,94 @@
+//! Which records are responsible for loose ones. Each loose record asks for the name of one; and a record of that
+//! name is responsible where its back version is below a link of those that ask.
+ghost use Rattle.std.specs.Prelude.{◌≡◌, ◌<◌, Some, IfOk, IfSome, length};
+ghost use Rattle.record_list.specs.Current.{is_held};
+ghost use Rattle.flash_picture.specs.Held.{AreAsked, asked_in_bpcc, asked_name, place_named, raised};
+
+use record_chart::Standing;
+use std::alloc::Global;
+use tx_types::{Link, Memory, Protocol, Rec};
+
+/// For the first record of each name the greatest version at which a loose record links that asks for the name,
+/// 0 where none does. Under Simple Cyclic Commit none does.
+pub fn asked_versions(alloc: Global, standing: &Standing) -> Result<Vec<u64>, Memory>
+    ensures { IfOk result (λ asked. AreAsked standing.now standing.now.list asked.items) }
+{
+    let records = standing.chart().records();
+    let mut asked = vec![in alloc; 0; records.len()]?;
+    for at in 0..records.len() {
+        ask(standing, records[at].rec, &mut asked);
+    }
+    Ok(asked)
+}
+
+/// Notes what a record asks for.
+fn ask(standing: &Standing, rec: Rec, asked: &mut Vec<u64>)
+    requires { length asked.old.items ≡ length standing.now.list }
+    ensures { let s = standing.now in asked.new.items ≡ raised
+        (place_named s.list (asked_name s.protocol s.list s.logical rec)) rec.next.version asked.old.items }
+{
+    if let Some(place) = place_named(standing, asked_name(standing, rec)) {
+        raise(place, rec.next.version, asked);
+    }
+}
+
+/// The name of the record that is responsible for a loose one, if there is one; nothing for any other record.
+fn asked_name(standing: &Standing, rec: Rec) -> Option<Link>
+    ensures { let s = standing.now in result ≡ asked_name s.protocol s.list s.logical rec }
+{
+    match standing.protocol() {
+        Protocol::Scc => None,
+        Protocol::Bpcc => asked_in_bpcc(standing, rec),
+    }
+}
+
+/// The same under Back Pointer Cyclic Commit.
+fn asked_in_bpcc(standing: &Standing, rec: Rec) -> Option<Link>
+    requires { standing.now.protocol ≡ Protocol.Bpcc }
+    ensures { let s = standing.now in result ≡ asked_in_bpcc s.list s.logical rec }
+{
+    let version = standing.responsible(rec.next);
+    if standing.is_loose(rec) && rec.next.version < version {
+        Some(Link {
+            page: rec.next.page,
+            version,
+        })
+    } else {
+        None
+    }
+}
+
+/// The place of the first record of a name, if there is a name and a record.
+fn place_named(standing: &Standing, name: Option<Link>) -> Option<u32>
+    ensures place { result ≡ place_named standing.now.list name }
+    ensures within { IfSome result (λ place. place < length standing.now.list) }
+{
+    match name {
+        Some(name) => standing.chart().find(name),
+        None => None,
+    }
+}
+
+/// Raises the number of a place to this one.
+fn raise(place: u32, version: u64, asked: &mut Vec<u64>)
+    requires { place < length asked.old.items }
+    ensures { asked.new.items ≡ raised (Some place) version asked.old.items }
+{
+    let at = place as usize;
+    asked[at] = asked[at].max(version);
+}
+
+/// Whether a record is responsible for a loose one, by what those ask for.
+pub fn is_held(standing: &Standing, asked: &[u64], rec: Rec) -> bool
+    requires { AreAsked standing.now standing.now.list asked.now }
+    ensures { let s = standing.now in result ≡ is_held s.protocol s.list s.logical rec }
+{
+    let name = Link {
+        page: rec.page,
+        version: rec.version,
+    };
+    match standing.chart().find(name) {
+        Some(place) => rec.back < asked[place as usize],
+        None => false,
+    }
+}
