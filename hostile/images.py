@@ -2,8 +2,8 @@
 import random
 from typing import Callable, List, NamedTuple, Optional, Tuple
 
-from image import (BLANK, BPCC, COMPLETE, DAMAGED, EXTRAS, HEADER, LAST_VERSION, MOST_ALLOWED, SCC, SPARE, Config, Image, Record, Slot,
-                   blank_image, complete, empty_cell, spell_image)
+from image import (BLANK, BPCC, COMPLETE, DAMAGED, EXTRAS, HEADER, LAST_VERSION, MOST_ALLOWED, SCC, SPARE, Config,
+                   Extras, Image, Record, Slot, blank_image, complete, empty_cell, spell_header, spell_image)
 from laws import Placed, Records, read_records, scan
 
 Draw = random.Random
@@ -306,6 +306,14 @@ def second_magic(draw: Draw) -> bytes:
     if draw.random() < 0.15:
         rest[draw.randrange(20)] = draw.choice((1, 255))
     return HEADER.pack(b"TXFLASH2", *numbers, EXTRAS.pack(allowance, retired, bytes(rest))) + data[HEADER.size:]
+
+
+def retiring_image(draw: Draw) -> bytes:
+    """A sound image of which a few blocks may be retired, and none, a few or all of those are."""
+    data = sound_image(draw)
+    allowance = draw.choice((0, 1, 2, 3, MOST_ALLOWED))
+    retired = draw.choice((0, allowance, draw.randrange(allowance + 1)))
+    return spell_header(Config(*HEADER.unpack_from(data)[1:-1]), Extras(allowance, retired)) + data[HEADER.size:]
 
 
 def other_length(draw: Draw) -> bytes:

@@ -148,6 +148,38 @@ def check_run(reading: Reading, before: bytes, commands: Optional[bytes], name: 
     return split_replies(ended.said.decode("ascii"), parsed)
 
 
+def refused_block(reading: Reading, block: int) -> Optional[Reading]:
+    """Why a `retire` of this block is refused, if it is."""
+    if reading.status:
+        return reading
+    assert reading.image
+    config, extras = reading.image.config, reading.image.extras
+    if block >= config.blocks_per_die * config.dies:
+        return Reading(14, f"refused block {block}\n", None, None)
+    return Reading(14, f"refused worn {extras.allowance}\n", None, None) if extras.retired == extras.allowance else None
+
+
+def check_retire(reading: Reading, before: bytes, block: int, ended: Ended, after: Optional[bytes]) -> str:
+    """Answers what came of it, in two words."""
+    check_end(ended)
+    refused = refused_block(reading, block)
+    if refused:
+        check_said(ended, refused.status, refused.said)
+        need(before == after, "the image has changed")
+        return " ".join(refused.said.split()[:2])
+    check_said(ended, 0, f"retired {block}\n")
+    left = read(after or b"", "")
+    need(left.status == 0, f"the saved image is refused: {left.said[:100]}")
+    assert reading.image and reading.records and left.image and left.records
+    config, extras = reading.image.config, reading.image.extras
+    need(left.image.config == config, "the saved image has another configuration")
+    need(left.image.extras == extras._replace(retired=extras.retired + 1), "the saved image has other retired blocks")
+    need(left.records.array() == reading.records.array(), "the saved image has another array")
+    slots = left.image.slots[block * config.pages_per_block:(block + 1) * config.pages_per_block]
+    need(all(it.state == BLANK for it in slots), "the block is not blank")
+    return "one block"
+
+
 def check_try(commands: bytes, name: str, ended: Ended) -> List[str]:
     check_end(ended)
     if len(commands) > MAX_FILE:

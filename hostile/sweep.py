@@ -1,12 +1,13 @@
 #!/usr/bin/env python3
 """Sweeps the built program with hostile images and commands, and compares each run with what the documents say.
 
-    sweep.py EXE [--images N] [--commands N] [--findings N] [--keys N] [--words N] [--seed S] [--processes N] [--keep FOLDER]
-                 [--room FOLDER] [--edges] [--kills N] [--disk] [--allocations]
+    sweep.py EXE [--images N] [--commands N] [--findings N] [--keys N] [--retirements N] [--words N] [--seed S]
+                 [--processes N] [--keep FOLDER] [--room FOLDER] [--edges] [--kills N] [--disk] [--allocations]
 
 N images are given to `explain` and `run`, N command files to `try` and `run`, N images with a report or with another
-image to `check` and `compare`, N images and key scripts to `keys`, and N lists of words to the program. Each run that differs has a line, its files are kept, and the status is 1. The README beside this says what is compared, and
-what the last four do."""
+image to `check` and `compare`, N images and key scripts to `keys`, N images to `retire`, and N lists of words to the
+program. Each run that differs has a line, its files are kept, and the status is 1. The README beside this says what is
+compared, and what the last four do."""
 import argparse
 import collections
 import multiprocessing
@@ -29,7 +30,7 @@ import keys as drawn_keys
 import kills
 import words as drawn_words
 from image import DEFAULT, PROTOCOLS, blank_image, spell_image
-from judge import Wrong, check_end, check_explain, check_run, check_said, check_try, need
+from judge import Wrong, check_end, check_explain, check_retire, check_run, check_said, check_try, need
 from laws import Reading, read
 from program import Ended, Program
 
@@ -46,6 +47,7 @@ class Job(NamedTuple):
     commands: int
     findings: int
     keys: int
+    retirements: int
     words: int
     stops: bool
     room: str
@@ -213,6 +215,24 @@ class Sweeper:
         except Wrong as wrong:
             self.told("keys", number, str(wrong), ["old/" + IMAGE, COMMANDS])
 
+    def retirement(self, number: int) -> None:
+        """A block of an image, of which it may have no such block, or may not retire it."""
+        draw = random.Random(f"{self.job.seed} retirement {number}")
+        any_kind = draw.random() < 0.3
+        data = drawn_images.draw_image(self.job.seed, number).data if any_kind else drawn_images.retiring_image(draw)
+        reading = read(data, IMAGE)
+        blocks = reading.image.config.blocks_per_die * reading.image.config.dies if reading.image else 8
+        block = draw.choice((*(draw.randrange(blocks) for _ in range(8)), blocks, blocks + 1, 2 ** 32 - 1))
+        write_file("old/" + IMAGE, data)
+        write_file(IMAGE, data)
+        remove(COMMANDS)
+        try:
+            ended = self.run(["retire", IMAGE, str(block)])
+            self.counts[f"retire {check_retire(reading, data, block, ended, read_file(IMAGE))}"] += 1
+            need_files(False)
+        except Wrong as wrong:
+            self.told("retirement", number, f"block {block}: {wrong}", ["old/" + IMAGE])
+
     def word_list(self, number: int) -> None:
         draw = random.Random(f"{self.job.seed} words {number}")
         how = draw.random()
@@ -295,7 +315,7 @@ def work(job: Job) -> Found:
     try:
         for work_of, most in ((sweeper.image, job.images), (sweeper.command_file, job.commands),
                               (sweeper.finding, job.findings), (sweeper.key_script, job.keys),
-                              (sweeper.word_list, job.words)):
+                              (sweeper.retirement, job.retirements), (sweeper.word_list, job.words)):
             for number in range(job.first, most, job.step):
                 if not (job.stops and sweeper.differ):
                     work_of(number)
@@ -317,8 +337,8 @@ def rare(counts: Counter[str]) -> List[str]:
 def sweep(args: argparse.Namespace) -> int:
     begun = time.monotonic()
     program = os.path.abspath(args.program)
-    jobs = [Job(program, args.seed, it, args.processes, args.images, args.commands, args.findings, args.keys, args.words,
-                args.stop, args.room, os.path.abspath(args.keep)) for it in range(args.processes)]
+    jobs = [Job(program, args.seed, it, args.processes, args.images, args.commands, args.findings, args.keys,
+                args.retirements, args.words, args.stop, args.room, os.path.abspath(args.keep)) for it in range(args.processes)]
     with multiprocessing.Pool(args.processes) as pool:
         found = pool.map(work, jobs, 1)
     counts: Counter[str] = sum((it.counts for it in found), collections.Counter())
@@ -330,7 +350,8 @@ def sweep(args: argparse.Namespace) -> int:
         print(f"sweep: met fewer than {WANTED} times: {', '.join(seldom)}")
     seconds = time.monotonic() - begun
     print(f"sweep: seed {args.seed}: {args.images} images, {args.commands} command files, {args.findings} "
-          f"findings, {args.keys} key scripts, {args.words} lists of words, {counts['runs']} runs in {seconds:.0f} s, the slowest {slowest:.2f} s: {differ} differ", flush=True)
+          f"findings, {args.keys} key scripts, {args.retirements} retirements, {args.words} lists of words, "
+          f"{counts['runs']} runs in {seconds:.0f} s, the slowest {slowest:.2f} s: {differ} differ", flush=True)
     faults = 0
     if args.edges:
         faults += edges.try_edges(Program(program), args.room)
@@ -350,6 +371,7 @@ def main() -> int:
     parser.add_argument("--commands", type=int, default=1000)
     parser.add_argument("--findings", type=int, default=0)
     parser.add_argument("--keys", type=int, default=0)
+    parser.add_argument("--retirements", type=int, default=0)
     parser.add_argument("--words", type=int, default=0)
     parser.add_argument("--seed", type=int, default=1)
     parser.add_argument("--processes", type=int, default=2)

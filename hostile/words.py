@@ -6,7 +6,7 @@ import random
 from typing import List, NamedTuple, Optional
 
 from grammar import read_number
-from image import BPCC, DEFAULT, SCC, Config, blank_image, broken_rule, spell_image
+from image import BPCC, DEFAULT, MOST_ALLOWED, SCC, Config, Extras, blank_image, broken_rule, spell_image
 
 Draw = random.Random
 MAX_COUNT, MAX_START = 100000, 2 ** 64 - 1
@@ -25,17 +25,18 @@ BAD_WORDS = Wanted(1, "bad words\n")
 
 def wanted_format(words: List[str]) -> Wanted:
     """What `format IMAGE ..` must do; `words` are those behind `format`."""
-    if len(words) != 8 or not words[0] or words[1] not in PROTOCOLS:
+    if len(words) not in (8, 9) or not words[0] or words[1] not in PROTOCOLS:
         return BAD_WORDS
     numbers = [read_number(it.encode()) for it in words[2:]]
     found = [it for it in numbers if it is not None]
-    if len(found) != 6:
+    if len(found) != len(numbers):
         return BAD_WORDS
-    config = Config(PROTOCOLS[words[1]], *found)
-    rule = broken_rule(config)
+    config, allowance = Config(PROTOCOLS[words[1]], *found[:6]), sum(found[6:])
+    rule = broken_rule(config) or ("allowance" if allowance > MOST_ALLOWED else None)
     if rule:
         return Wanted(8, f"bad configuration: {rule}\n")
-    return Wanted(0, f"formatted {words[0]} {config.slots}\n", spell_image(blank_image(config)))
+    image = blank_image(config)._replace(extras=Extras(allowance))
+    return Wanted(0, f"formatted {words[0]} {config.slots}\n", spell_image(image))
 
 
 def near(draw: Draw, value: int, edges: List[int]) -> int:
@@ -51,7 +52,8 @@ def draw_format(draw: Draw, image: str) -> List[str]:
     room = max(2, pages * (blocks * dies - 1) - 1)
     pending = near(draw, draw.randint(1, min(room, 8)), [0, 256, 257])
     logical = near(draw, draw.choice((max(1, room - pending), 1)), [0, 1, 65536, 2 ** 32 - 1])
-    words = [draw.choice(("scc", "bpcc")), *map(str, (page, pages, blocks, dies, logical, pending))]
+    more = [near(draw, draw.choice((0, 1, 5, MOST_ALLOWED)), [MOST_ALLOWED + 1, 2 ** 32 - 1])] * draw.choice((0, 0, 1))
+    words = [draw.choice(("scc", "bpcc")), *map(str, (page, pages, blocks, dies, logical, pending, *more))]
     return [image, *spoiled(draw, words)]
 
 
@@ -145,6 +147,8 @@ OTHERS = (
     ["explain", ""], ["explain", "d.img", "d.img"], ["format"], ["drive"], [" try", "c.txt"], ["run", "c.txt"],
     ["save"], ["check"], ["check", "d.img"], ["check", "", "d.img"], ["check", "d.img", "d.img", "d.img"], ["compare"],
     ["compare", "d.img"], ["compare", "d.img", ""], ["compare", "d.img", "d.img", "d.img"], ["Compare", "d.img", "d.img"],
+    ["retire"], ["retire", "d.img"], ["retire", "", "0"], ["retire", "d.img", "0", "0"], ["retire", "d.img", "x"],
+    ["retire", "d.img", "4294967296"], ["retire", "d.img", "00000000000"],
 )
 
 

@@ -4,4 +4,5 @@ mod calls;
 mod doubts;
 mod flashes;
 mod full;
+mod retired;
 mod rows;

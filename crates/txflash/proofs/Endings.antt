@@ -1,5 +1,5 @@
 -- How a call of the program ends, and what follows for its status and the files.
-use Rattle.std.proofs.Common.{◌≡◌, ◌≢◌, ◌⊎◌, inl, inr, ℕ, zero, suc, List, [], ◌∷◌, length, take, Option, None, Some, Result, Ok, Err, refl, ap, sym, subst, ◌∙◌, arith}
+use Rattle.std.proofs.Common.{◌≡◌, ◌≢◌, ◌⊎◌, inl, inr, ℕ, zero, suc, List, Option, None, Some, Result, Ok, Err, refl, ap, sym, subst, ◌∙◌, arith}
 use Rattle.std.specs.Prelude.{IfOk, String, string_bytes}
 use Rattle.std.specs.Global.{Global}
 use Rattle.std.specs.declared.alloc.AllocError.{AllocError}
@@ -7,7 +7,7 @@ use Rattle.std.specs.Option.{option_map}
 use Rattle.desk_io.specs.Desk.{DeskContents, DeskState, Files, Rose, as_before, called, counted, files_with, with_file}
 use Rattle.desk_io.specs.declared.desk.SinkError.TheVariants as sink
 use Rattle.image_desk.specs.Refusals.{image_refused}
-use Rattle.image_desk.specs.Saying.{MemoryTold, Refuses, Speaks, after_text, files_in}
+use Rattle.image_desk.specs.Saying.{MemoryTold, Refuses, Speaks, files_in}
 use Rattle.image_desk.proofs.Refusing as done
 use Rattle.image_desk.proofs.Spoken.{faults_tried, files_asked, files_said, files_text, same_files}
 use Rattle.txflash.specs.Fate.{Fate, status, refusal_line}
@@ -15,7 +15,7 @@ use Rattle.txflash.specs.Gives.{Given, SavedFile, Gives}
 use Rattle.txflash.specs.Steps.{IsFate}
 use Rattle.txflash.specs.Stops.{Comes, Delivers, refused}
 use Rattle.txflash.specs.Top.{Decision, EndsCall, Decided, Faulted, Starved, IsExact, IsFaulted, Leaves, LeavesFiles, CallFails, FileStops, RunsOutOfMemory, TellsFate, after_loads, after_save, after_loading, after_saving}
-use Rattle.txflash.specs.Words.{Asked, file_of, files_of}
+use Rattle.txflash.specs.Words.{Asked, file_of}
 use Rattle.txflash.specs.declared.refusal.Refusal.{Refusal}
 use Rattle.txflash.specs.declared.refusal.Refusal.TheVariants as refusal
 use Rattle.txflash.proofs.OneFate.{one_fate}
@@ -203,6 +203,9 @@ refusal_gives : (r : Refusal) (text : List ℕ) → text ≡ refusal_line (refus
 refusal_gives (refusal.BadLine n) text e = record { saves_nothing = refl; said = e }
 refusal_gives (refusal.Image why) text e = record { saves_nothing = refl; said = e }
 refusal_gives (refusal.BadConfiguration rule) text e = record { saves_nothing = refl; said = e }
+refusal_gives refusal.BadAllowance text e = record { saves_nothing = refl; said = e }
+refusal_gives (refusal.NoBlock block) text e = record { saves_nothing = refl; said = e }
+refusal_gives (refusal.Worn allowance) text e = record { saves_nothing = refl; said = e }
 refusal_gives (refusal.WrongLine k) text e = record { saves_nothing = refl; said = e }
 refusal_gives (refusal.BadBucket page) text e = record { saves_nothing = refl; said = e }
 refusal_gives refusal.DifferShape text e = record { saves_nothing = refl; said = e }
@@ -232,6 +235,9 @@ ends_unsaid task old mid new r answer (loads, is, at) told =
     }
 
     never_done : (r : Refusal) → status (refused r) ≢ 0
+    never_done refusal.BadAllowance e = absurd (omega arith)
+    never_done (refusal.NoBlock block) e = absurd (omega arith)
+    never_done (refusal.Worn allowance) e = absurd (omega arith)
     never_done (refusal.WrongLine k) e = absurd (omega arith)
     never_done (refusal.BadBucket page) e = absurd (omega arith)
     never_done refusal.DifferShape e = absurd (omega arith)

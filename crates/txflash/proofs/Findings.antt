@@ -183,7 +183,7 @@ pub leads_err : (P Q : Fate → Type 0) → ((fate : Fate) → P fate → Q fate
 leads_err P Q leads (Ok n) h = h
 leads_err P Q leads (Err e) h = stops_by P Q leads e h
 
-pub leads_stop : (P Q : Fate → Type 0) → ((fate : Fate) → P fate → Q fate) → (result : Result ℕ Stop) (e : Stop) →
+pub leads_stop : {T : Type 0} → (P Q : Fate → Type 0) → ((fate : Fate) → P fate → Q fate) → (result : Result T Stop) (e : Stop) →
     IsErrAnd result (λ x. x ≡ e) → StopsBy P e → IfErr result (StopsBy Q)
 leads_stop P Q leads (Ok n) e same h = absurd same
 leads_stop P Q leads (Err x) e same h = stops_by P Q leads x (rw same h)

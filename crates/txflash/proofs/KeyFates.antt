@@ -22,7 +22,6 @@ use Rattle.image_desk.specs.Loading.{ReadsImage}
 use Rattle.image_desk.specs.Refusals.{Unsound}
 use Rattle.txflash.specs.Fate.{Fate, BadBucket, BadLine, Image, Keyed}
 use Rattle.txflash.specs.KeyWork.{AfterBuckets, AfterScript, HoldsKeys, IsKeysRun, OpensStore, ParsesScript, ParsingScript}
-use Rattle.txflash.specs.Runs.{first_moment}
 use Rattle.txflash.specs.Steps.{Keying}
 use Rattle.txflash.specs.Stops.{RefusesScript, RefusesStore}
 use Rattle.txflash.proofs.RunLemmas.{starts}

@@ -10,3 +10,4 @@ pub mod Endings
 pub mod Copies
 pub mod ArrayRuns
 pub mod KeyFates
+pub mod Retirements

@@ -11,9 +11,9 @@ use Rattle.image_file.specs.declared.error.ImageError.{ImageError}
 use Rattle.desk_io.specs.Desk as found
 use Rattle.desk_io.specs.Desk.{DeskContents, DeskState, FileFound, file_at, file_found}
 use Rattle.txflash.specs.Fate.{Fate}
-use Rattle.txflash.specs.Steps.{AfterLoad, AfterOpening, AfterParsing, AfterReading, AfterOpened, Opening, ReadingOn, Judging, Comparing, Keying, Explaining, IsFate, Loading, OpensAndServes, Opens, Parses, Parsing, Reading, Running, Trying, WithoutLoad}
+use Rattle.txflash.specs.Steps.{AfterLoad, AfterOpening, AfterParsing, AfterReading, AfterOpened, Opening, ReadingOn, Judging, Comparing, Keying, Explaining, IsFate, Loading, OpensAndServes, Opens, Parses, Parsing, Reading, Retiring, Running, Trying, WithoutLoad}
 use Rattle.txflash.specs.Top.{TellsFate}
-use Rattle.txflash.specs.Words.{Asked, Try, Format, Run, Explain, Drive, Check, Compare, Keys}
+use Rattle.txflash.specs.Words.{Asked, Try, Format, Run, Explain, Drive, Check, Compare, Keys, Retire}
 use Rattle.txflash.specs.Checking.{check_fate, comparison_fate}
 use Rattle.txflash.proofs.KeyFates.{one_parsing_script, one_store}
 use Rattle.txflash.proofs.OneFinding.{one_check, one_comparison}
@@ -125,11 +125,15 @@ one_keys name bytes lines =
     one_reading bytes _
     (λ its image extras. one_parsing_script lines _ (λ cs. one_opened_on its image _ (one_store its image _)))
 
+one_retirement : (name bytes : List ℕ) (block : ℕ) (a b : Fate) → Retiring name bytes block a → Retiring name bytes block b → a ≡ b
+one_retirement name bytes block =
+    one_reading bytes _ (λ its image extras. one_opened_on its image _ (λ a b h k. h ∙ sym k))
+
 -- where the desk tells what it hangs on, the fate of a task is the only one
 pub one_fate : (task : Option Asked) (desk : DeskState) (a b : Fate) (m n : ℕ) → TellsFate task desk →
     IsFate task desk a m → IsFate task desk b n → a ≡ b
 one_fate None desk a b m n tells h k = h.0 ∙ sym k.0
-one_fate (Some (Format image its)) desk a b m n tells h k = h.0 ∙ sym k.0
+one_fate (Some (Format image its allowance)) desk a b m n tells h k = h.0 ∙ sym k.0
 one_fate (Some (Drive start count protocol)) desk a b m n tells h k = h.0 ∙ sym k.0
 one_fate (Some (Try commands)) desk a b m n (inl none) h k = absurd (cc)
 one_fate (Some (Try commands)) desk a b m n (inr tells) h k =
@@ -137,6 +141,9 @@ one_fate (Some (Try commands)) desk a b m n (inr tells) h k =
 one_fate (Some (Explain image)) desk a b m n (inl none) h k = absurd (cc)
 one_fate (Some (Explain image)) desk a b m n (inr tells) h k =
     one_loading desk image _ tells (λ bytes a b m n h k. one_explanation bytes a b h.0 k.0) a b m n h k
+one_fate (Some (Retire image block)) desk a b m n (inl none) h k = absurd (cc)
+one_fate (Some (Retire image block)) desk a b m n (inr tells) h k =
+    one_loading desk image _ tells (λ bytes a b m n h k. one_retirement image bytes block a b h.0 k.0) a b m n h k
 one_fate (Some (Run image commands)) desk a b m n (inl none) h k = absurd (cc)
 one_fate (Some (Run image commands)) desk a b m n (inr tells) h k =
     one_loading desk image _ tells

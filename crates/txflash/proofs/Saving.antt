@@ -1,11 +1,12 @@
 -- Which file the fate of a task saves.
-use Rattle.std.proofs.Common.{◌≡◌, ◌⊎◌, inl, inr, ℕ, List, Option, None, Some, Result, Ok, Err, refl, ap, arith}
+use Rattle.std.proofs.Common.{◌≡◌, ◌⊎◌, inl, inr, ℕ, ◌==◌, nat_lt, Bool, true, false, List, Option, None, Some, Result, Ok, Err, refl, ap, arith, if◌then◌else◌, unwrap_or}
 use Rattle.std.specs.Option.{option_map}
 use Rattle.tx_types.specs.declared.config.Config.{Config}
 use Rattle.tx_types.specs.declared.config.ConfigError.{ConfigError}
 use Rattle.tx_types.specs.declared.config.Shape.{Shape}
-use Rattle.tx_types.specs.Config.{checked}
+use Rattle.tx_types.specs.Config.{blocks_of, checked, shape_of}
 use Rattle.flash_model.specs.Flash.{Contents, Extras}
+use Rattle.flash_model.specs.Retiring.{max_allowance}
 use Rattle.record_list.specs.declared.found.Breach.{Breach}
 use Rattle.host_protocol.specs.declared.command.Command.{Command}
 use Rattle.image_file.specs.declared.error.ImageError.{ImageError}
@@ -13,25 +14,29 @@ use Rattle.desk_io.specs.Desk as found
 use Rattle.desk_io.specs.Desk.{DeskState, FileFound}
 use Rattle.image_desk.specs.Refusals.{Missing, TooLong, BadImage, Unsound}
 use Rattle.image_desk.proofs.Refusing.{never_fault}
-use Rattle.txflash.specs.Fate.{Fate, Tried, Formatted, Ran, Explained, Driven, Keyed, Good, WrongLine, Same, DifferShape, DifferBlank, DifferAt, Image, BadLine, BadBucket, BadConfiguration, status}
+use Rattle.txflash.specs.Fate.{Fate, Tried, Formatted, Ran, Explained, Driven, Keyed, Retired, RefusedBlock, RefusedWorn, Good, WrongLine, Same, DifferShape, DifferBlank, DifferAt, Image, BadLine, BadBucket, BadConfiguration, BadAllowance, status}
 use Rattle.txflash.specs.Gives.{Given, Gives}
-use Rattle.txflash.specs.Steps.{AfterLoad, AfterOpening, AfterParsing, AfterReading, AfterOpened, Opening, ReadingOn, Checking, Comparing, Keying, Explaining, IsFate, Loading, OpensAndServes, Parsing, Reading, Running, Trying, formatting, WithoutLoad}
-use Rattle.txflash.specs.Words.{Asked, Try, Format, Run, Explain, Drive, Check, Compare, Keys, file_of}
+use Rattle.txflash.specs.Steps.{AfterLoad, AfterOpening, AfterParsing, AfterReading, AfterOpened, Opening, ReadingOn, Checking, Comparing, Keying, Explaining, IsFate, Loading, OpensAndServes, Parsing, Reading, Retiring, Running, Trying, formatting, WithoutLoad}
+use Rattle.txflash.specs.Words.{Asked, Try, Format, Run, Explain, Drive, Check, Compare, Keys, Retire, file_of}
 use Rattle.txflash.proofs.KeyFates.{script_all, store_all}
 use Rattle.txflash.specs.Checking.{check_fate, Comparison, OneArray, Shapes, BlankAt, ByteAt, comparison_fate}
 
 -- the file that a fate saves
 abbrev pub saver : Fate → Option (List ℕ)
-saver (Formatted name its) = Some name
+saver (Formatted name its allowance) = Some name
 saver (Ran name its image extras commands) = Some name
 saver (Keyed name its image extras commands) = Some name
+saver (Retired name its image extras block) = Some name
 saver _ = None
 
 pub gives_saves : (fate : Fate) (p : Given) → Gives fate p → option_map (λ file. file.name) p.saved ≡ saver fate
 gives_saves (Tried commands) p h = ap (option_map (λ file. file.name)) h.saves_nothing
-gives_saves (Formatted name its) p h = ap (option_map (λ file. file.name)) h.saves
+gives_saves (Formatted name its allowance) p h = ap (option_map (λ file. file.name)) h.saves
 gives_saves (Ran name its image extras commands) p h = ap (option_map (λ file. file.name)) h.saves
 gives_saves (Keyed name its image extras commands) p h = ap (option_map (λ file. file.name)) h.saves
+gives_saves (Retired name its image extras block) p h = ap (option_map (λ file. file.name)) h.saves
+gives_saves (RefusedBlock block) p h = ap (option_map (λ file. file.name)) h.saves_nothing
+gives_saves (RefusedWorn allowance) p h = ap (option_map (λ file. file.name)) h.saves_nothing
 gives_saves (Explained its image) p h = ap (option_map (λ file. file.name)) h.saves_nothing
 gives_saves (Driven start count protocol) p h = ap (option_map (λ file. file.name)) h.saves_nothing
 gives_saves (Good pages) p h = ap (option_map (λ file. file.name)) h.saves_nothing
@@ -44,12 +49,16 @@ gives_saves (BadLine n) p h = ap (option_map (λ file. file.name)) h.saves_nothi
 gives_saves (Image why) p h = ap (option_map (λ file. file.name)) h.saves_nothing
 gives_saves (BadBucket page) p h = ap (option_map (λ file. file.name)) h.saves_nothing
 gives_saves (BadConfiguration rule) p h = ap (option_map (λ file. file.name)) h.saves_nothing
+gives_saves BadAllowance p h = ap (option_map (λ file. file.name)) h.saves_nothing
 
 -- a refusal saves none
 pub refusal_saves : (fate : Fate) → (status fate ≡ 0 → ⊥) → saver fate ≡ None
-refusal_saves (Formatted name its) refused = absurd (refused refl)
+refusal_saves (Formatted name its allowance) refused = absurd (refused refl)
 refusal_saves (Ran name its image extras commands) refused = absurd (refused refl)
 refusal_saves (Keyed name its image extras commands) refused = absurd (refused refl)
+refusal_saves (Retired name its image extras block) refused = absurd (refused refl)
+refusal_saves (RefusedBlock block) refused = refl
+refusal_saves (RefusedWorn allowance) refused = refl
 refusal_saves (Tried commands) refused = refl
 refusal_saves (Explained its image) refused = refl
 refusal_saves (Driven start count protocol) refused = refl
@@ -63,13 +72,17 @@ refusal_saves (BadLine n) refused = refl
 refusal_saves (Image why) refused = refl
 refusal_saves (BadBucket page) refused = refl
 refusal_saves (BadConfiguration rule) refused = refl
+refusal_saves BadAllowance refused = refl
 
 -- no fate has status 5
 pub never_five : (fate : Fate) → 5 ≡ status fate → ⊥
 never_five (Tried commands) e = absurd (omega arith)
-never_five (Formatted name its) e = absurd (omega arith)
+never_five (Formatted name its allowance) e = absurd (omega arith)
 never_five (Ran name its image extras commands) e = absurd (omega arith)
 never_five (Keyed name its image extras commands) e = absurd (omega arith)
+never_five (Retired name its image extras block) e = absurd (omega arith)
+never_five (RefusedBlock block) e = absurd (omega arith)
+never_five (RefusedWorn allowance) e = absurd (omega arith)
 never_five (Explained its image) e = absurd (omega arith)
 never_five (Driven start count protocol) e = absurd (omega arith)
 never_five (Good pages) e = absurd (omega arith)
@@ -82,6 +95,7 @@ never_five (BadLine n) e = absurd (omega arith)
 never_five (Image why) e = never_fault why e
 never_five (BadBucket page) e = absurd (omega arith)
 never_five (BadConfiguration rule) e = absurd (omega arith)
+never_five BadAllowance e = absurd (omega arith)
 
 -- ---- what holds of each fate to which a step may lead
 
@@ -186,19 +200,40 @@ keys_saves name bytes lines =
     (λ cs. opened_all (SavesAtMost (Some name)) its image _ (λ b. inl refl)
     (store_all (SavesAtMost (Some name)) its image _ (inr refl) (λ page. inl refl))))
 
-format_saves : (name : List ℕ) (its : Config) (check : Result Shape ConfigError) → SavesAtMost (Some name) (formatting name its check)
-format_saves name its (Ok shape) = inr refl
-format_saves name its (Err rule) = inl refl
+retire_saves : (name bytes : List ℕ) (block : ℕ) (fate : Fate) → Retiring name bytes block fate → SavesAtMost (Some name) fate
+retire_saves name bytes block =
+    reading_all (SavesAtMost (Some name)) bytes _ (λ rule. inl refl)
+    (λ its image extras. opened_all (SavesAtMost (Some name)) its image _ (λ b. inl refl)
+    (λ fate h. rw h (at_most (nat_lt block (blocks_of (shape_of its))) (extras.retired == extras.allowance) its image extras)))
+  where
+    at_most : (low worn : Bool) (its : Config) (image : List Contents) (extras : Extras) →
+        SavesAtMost (Some name)
+        (unwrap_or (if low then (if worn then Some (RefusedWorn extras.allowance) else None) else Some (RefusedBlock block))
+        (Retired name its image extras block))
+    at_most true true its image extras = inl refl
+    at_most true false its image extras = inr refl
+    at_most false worn its image extras = inl refl
+
+format_saves : (name : List ℕ) (its : Config) (allowance : ℕ) (check : Result Shape ConfigError) →
+    SavesAtMost (Some name) (formatting name its allowance check)
+format_saves name its allowance (Ok shape) = by_allowance (nat_lt max_allowance allowance)
+  where
+    by_allowance : (over : Bool) → SavesAtMost (Some name) (if over then BadAllowance else Formatted name its allowance)
+    by_allowance true = inl refl
+    by_allowance false = inr refl
+format_saves name its allowance (Err rule) = inl refl
 
 -- it saves no other file than that of the task
 pub fate_saves : (task : Option Asked) (desk : DeskState) (fate : Fate) (loads : ℕ) → IsFate task desk fate loads → SavesAtMost (file_of task) fate
 fate_saves None desk fate loads h = rw h.0 (inl refl)
-fate_saves (Some (Format image its)) desk fate loads h = rw h.0 (format_saves image its (checked its))
+fate_saves (Some (Format image its allowance)) desk fate loads h = rw h.0 (format_saves image its allowance (checked its))
 fate_saves (Some (Drive start count protocol)) desk fate loads h = rw h.0 (inl refl)
 fate_saves (Some (Try commands)) desk fate loads h =
     loading_all (SavesAtMost None) desk commands _ (inl refl) (inl refl) (λ lines fate more h. try_saves lines fate h.0) fate loads h
 fate_saves (Some (Explain image)) desk fate loads h =
     loading_all (SavesAtMost None) desk image _ (inl refl) (inl refl) (λ bytes fate more h. explanation_saves bytes fate h.0) fate loads h
+fate_saves (Some (Retire image block)) desk fate loads h =
+    loading_all (SavesAtMost (Some image)) desk image _ (inl refl) (inl refl) (λ bytes fate more h. retire_saves image bytes block fate h.0) fate loads h
 fate_saves (Some (Keys image script)) desk fate loads h =
     loading_all (SavesAtMost (Some image)) desk image _ (inl refl) (inl refl)
     (λ bytes. loading_all (SavesAtMost (Some image)) desk script _ (inl refl) (inl refl)

@@ -14,13 +14,17 @@ use Rattle.image_desk.specs.Refusals.{ImageFate, image_line, image_status, line}
 -- a device is its configuration and what its flash holds; what a call for an image file is refused for is so in each program
 pub data Fate : Type 0 where
   Tried : (commands : List Command) → Fate
-  Formatted : (name : List ℕ) → (config : Config) → Fate
+  Formatted : (name : List ℕ) → (config : Config) → (allowance : ℕ) → Fate
   Ran : (name : List ℕ) → (config : Config) → (image : List Contents) → (extras : Extras) →
       (commands : List Command) → Fate
   Explained : (config : Config) → (image : List Contents) → Fate
   Driven : (start count : ℕ) → (protocol : Protocol) → Fate
   Keyed : (name : List ℕ) → (config : Config) → (image : List Contents) → (extras : Extras) →
       (commands : List KeyCommand) → Fate
+  Retired : (name : List ℕ) → (config : Config) → (image : List Contents) → (extras : Extras) →
+      (block : ℕ) → Fate
+  RefusedBlock : (block : ℕ) → Fate
+  RefusedWorn : (allowance : ℕ) → Fate
   Good : (pages : ℕ) → Fate
   WrongLine : (k : ℕ) → Fate
   Same : (logical : ℕ) → Fate
@@ -31,14 +35,18 @@ pub data Fate : Type 0 where
   BadLine : (n : ℕ) → Fate
   BadBucket : (page : ℕ) → Fate
   BadConfiguration : (rule : ConfigError) → Fate
+  BadAllowance : Fate
 
 abbrev pub status : Fate → ℕ
 status (Tried commands) = 0
-status (Formatted name config) = 0
+status (Formatted name config allowance) = 0
 status (Ran name config image extras commands) = 0
 status (Explained config image) = 0
 status (Driven start count protocol) = 0
 status (Keyed name config image extras commands) = 0
+status (Retired name config image extras block) = 0
+status (RefusedBlock block) = 14
+status (RefusedWorn allowance) = 14
 status (Good pages) = 0
 status (WrongLine k) = 12
 status (Same logical) = 0
@@ -49,6 +57,7 @@ status (Image why) = image_status why
 status (BadLine n) = 4
 status (BadBucket page) = 11
 status (BadConfiguration rule) = 8
+status BadAllowance = 8
 
 -- the word for a rule of a configuration
 abbrev pub config_word : ConfigError → List ℕ
@@ -67,6 +76,9 @@ refusal_line (Image why) = image_line why
 refusal_line (BadLine n) = line (codes "bad line " ++ decimal n)
 refusal_line (BadBucket page) = line (codes "bad bucket " ++ decimal page)
 refusal_line (BadConfiguration rule) = line (codes "bad configuration: " ++ config_word rule)
+refusal_line BadAllowance = line (codes "bad configuration: allowance")
+refusal_line (RefusedBlock block) = line (codes "refused block " ++ decimal block)
+refusal_line (RefusedWorn allowance) = line (codes "refused worn " ++ decimal allowance)
 refusal_line (Good pages) = line (codes "good " ++ decimal pages)
 refusal_line (WrongLine k) = line (codes "wrong line " ++ decimal k)
 refusal_line (Same logical) = line (codes "same " ++ decimal logical)

@@ -5,7 +5,8 @@ use Rattle.tx_types.specs.declared.config.Config.{Config}
 use Rattle.tx_types.specs.declared.config.Protocol.{Protocol}
 use Rattle.tx_types.specs.declared.config.Protocol.TheVariants.{Scc}
 use Rattle.tx_types.specs.Config.{shape_of, slots_of}
-use Rattle.flash_model.specs.Flash.{Contents, Extras, no_extras}
+use Rattle.flash_model.specs.Flash.{Contents, Extras}
+use Rattle.flash_model.specs.Retiring.{one_more}
 use Rattle.version_index.specs.Images.{IsSoundImage, records_in}
 use Rattle.verdict_report.specs.Report.{report}
 use Rattle.host_protocol.specs.declared.command.Command.{Command}
@@ -14,8 +15,9 @@ use Rattle.drive_gen.specs.Work.{generated}
 use Rattle.drive_gen.specs.Summary.{summary_line}
 use Rattle.page_keys.specs.declared.command.KeyCommand.{KeyCommand}
 use Rattle.image_desk.specs.Refusals.{line}
-use Rattle.txflash.specs.Fate.{Fate, Tried, Formatted, Ran, Explained, Driven, Keyed, refusal_line}
+use Rattle.txflash.specs.Fate.{Fate, Tried, Formatted, Ran, Explained, Driven, Keyed, Retired, refusal_line}
 use Rattle.txflash.specs.KeyWork.{IsKeysRun}
+use Rattle.txflash.specs.Retirements.{EmptiesBlock, new_extras}
 use Rattle.txflash.specs.Runs.{IsRun, default_config, blank_image}
 
 -- a file's name and its bytes
@@ -34,11 +36,11 @@ pub record IsTried (commands : List Command) (p : Given) : Type 0 where
   pub left : List Contents
   pub run : IsRun (default_config Scc) (blank_image (default_config Scc)) commands left p.text
 
--- the file of a blank image, and a line with the number of its slots
-pub record IsFormatted (name : List ℕ) (its : Config) (p : Given) : Type 0 where
+-- the file of a blank image, of which so many blocks may be retired and none is, and a line with the number of its slots
+pub record IsFormatted (name : List ℕ) (its : Config) (allowance : ℕ) (p : Given) : Type 0 where
   pub bytes : List ℕ
   pub saves : p.saved ≡ Some (record { name = name; bytes = bytes })
-  pub spelled : Spells bytes its (blank_image its) no_extras
+  pub spelled : Spells bytes its (blank_image its) (new_extras allowance)
   pub said : p.text
       ≡ line (codes "formatted " ++ name ++ codes " " ++ decimal (slots_of (shape_of its)))
 
@@ -80,6 +82,17 @@ pub record IsKeyed (name : List ℕ) (its : Config) (image : List Contents) (ext
   pub run : IsKeysRun its image commands left p.text
   pub spelled : Spells bytes its left extras
 
+-- the file of the image in which a block was retired, under the same configuration and with one block more retired, and a
+-- line that names the block
+pub record IsRetired (name : List ℕ) (its : Config) (image : List Contents) (extras : Extras)
+    (block : ℕ) (p : Given) : Type 0 where
+  pub bytes : List ℕ
+  pub saves : p.saved ≡ Some (record { name = name; bytes = bytes })
+  pub left : List Contents
+  pub empties : EmptiesBlock its image block left
+  pub spelled : Spells bytes its left (one_more extras)
+  pub said : p.text ≡ line (codes "retired " ++ decimal block)
+
 -- a line, and no file: what was found, or a refusal
 pub record IsRefused (text : List ℕ) (p : Given) : Type 0 where
   pub saves_nothing : p.saved ≡ None
@@ -88,9 +101,10 @@ pub record IsRefused (text : List ℕ) (p : Given) : Type 0 where
 -- what a fate gives
 abbrev pub Gives : Fate → Given → Type 0
 Gives (Tried commands) p = IsTried commands p
-Gives (Formatted name its) p = IsFormatted name its p
+Gives (Formatted name its allowance) p = IsFormatted name its allowance p
 Gives (Ran name its image extras commands) p = IsRan name its image extras commands p
 Gives (Explained its image) p = IsExplained its image p
 Gives (Driven start count protocol) p = IsDriven start count protocol p
 Gives (Keyed name its image extras commands) p = IsKeyed name its image extras commands p
+Gives (Retired name its image extras block) p = IsRetired name its image extras block p
 Gives refused p = IsRefused (refusal_line refused) p

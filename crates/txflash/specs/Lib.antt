@@ -1,6 +1,7 @@
 pub mod Numbers
 pub mod Words
 pub mod Fate
+pub mod Retirements
 pub mod Runs
 pub mod KeyWork
 pub mod Gives

@@ -1,11 +1,12 @@
 -- The steps of the work, what each comes to, and so the fate of a task. The first step that fails
 -- decides.
-use Rattle.std.specs.Prelude.{◌≡◌, ℕ, ◌+◌, List, Option, None, Some, Result, Ok, Err}
+use Rattle.std.specs.Prelude.{◌≡◌, ℕ, ◌+◌, nat_lt, List, Option, None, Some, Result, Ok, Err, if◌then◌else◌, unwrap_or}
 use Rattle.tx_types.specs.declared.config.Config.{Config}
 use Rattle.tx_types.specs.declared.config.ConfigError.{ConfigError}
 use Rattle.tx_types.specs.declared.config.Shape.{Shape}
 use Rattle.tx_types.specs.Config.{checked, shape_of}
 use Rattle.flash_model.specs.Flash.{Contents, Extras}
+use Rattle.flash_model.specs.Retiring.{max_allowance}
 use Rattle.record_list.specs.declared.found.Breach.{Breach}
 use Rattle.version_index.specs.Images.{IsSoundImage, IsLeastImageBreach}
 use Rattle.host_protocol.specs.Files.{IsFile, IsFirstBad}
@@ -16,9 +17,10 @@ use Rattle.desk_io.specs.Desk.{DeskState, FileFound, Finds}
 use Rattle.tx_types.specs.declared.config.Protocol.TheVariants.{Scc}
 use Rattle.image_desk.specs.Loading.{ReadsImage}
 use Rattle.image_desk.specs.Refusals.{BadWords, Missing, TooLong, BadImage, Unsound}
-use Rattle.txflash.specs.Fate.{Fate, Tried, Formatted, Ran, Explained, Driven, Keyed, Image, BadLine, BadConfiguration}
+use Rattle.txflash.specs.Fate.{Fate, Tried, Formatted, Ran, Explained, Driven, Keyed, Retired, Image, BadLine, BadConfiguration, BadAllowance}
+use Rattle.txflash.specs.Retirements.{block_refusal}
 use Rattle.txflash.specs.Runs.{default_config}
-use Rattle.txflash.specs.Words.{Asked, Try, Format, Run, Explain, Drive, Check, Compare, Keys}
+use Rattle.txflash.specs.Words.{Asked, Try, Format, Run, Explain, Drive, Check, Compare, Keys, Retire}
 use Rattle.txflash.specs.KeyWork.{ParsingScript, OpensStore}
 use Rattle.txflash.specs.Checking.{Checks, check_fate, Comparison, Compares, comparison_fate}
 
@@ -139,17 +141,24 @@ Keying name bytes lines =
     (λ its image extras. ParsingScript lines
     (λ commands. Opening its image (OpensStore its image (Keyed name its image extras commands))))
 
--- a configuration is checked
-abbrev pub formatting : List ℕ → Config → Result Shape ConfigError → Fate
-formatting name its (Ok shape) = Formatted name its
-formatting name its (Err rule) = BadConfiguration rule
+abbrev pub Retiring : List ℕ → List ℕ → ℕ → Fate → Type 0
+Retiring name bytes block =
+    Reading bytes
+    (λ its image extras. Opening its image
+    (λ fate. fate ≡ unwrap_or (block_refusal its extras block) (Retired name its image extras block)))
+
+-- a configuration is checked, and then how many blocks may be retired
+abbrev pub formatting : List ℕ → Config → ℕ → Result Shape ConfigError → Fate
+formatting name its allowance (Ok shape) =
+    if nat_lt max_allowance allowance then BadAllowance else Formatted name its allowance
+formatting name its allowance (Err rule) = BadConfiguration rule
 
 -- The fate of a task on a desk, which comes after so many loads.
 abbrev pub IsFate : Option Asked → DeskState → Fate → ℕ → Type 0
 IsFate None desk = WithoutLoad (λ fate. fate ≡ Image BadWords)
 IsFate (Some (Try commands)) desk = Loading desk commands (λ lines. WithoutLoad (Trying lines))
-IsFate (Some (Format image its)) desk =
-    WithoutLoad (λ fate. fate ≡ formatting image its (checked its))
+IsFate (Some (Format image its allowance)) desk =
+    WithoutLoad (λ fate. fate ≡ formatting image its allowance (checked its))
 IsFate (Some (Run image commands)) desk =
     Loading desk image
     (λ bytes. Loading desk commands (λ lines. WithoutLoad (Running image bytes lines)))
@@ -165,3 +174,5 @@ IsFate (Some (Compare first second)) desk =
 IsFate (Some (Keys image script)) desk =
     Loading desk image
     (λ bytes. Loading desk script (λ lines. WithoutLoad (Keying image bytes lines)))
+IsFate (Some (Retire image block)) desk =
+    Loading desk image (λ bytes. WithoutLoad (Retiring image bytes block))

@@ -1,8 +1,8 @@
 -- How the steps of the work end, and how the work stops before its end.
-use Rattle.std.specs.Prelude.{◌≡◌, ◌⊎◌, ℕ, List, Option, Result, Ok, Err}
+use Rattle.std.specs.Prelude.{◌≡◌, ◌⊎◌, ℕ, List, Option, Some, Result, Ok, Err}
 use Rattle.std.specs.Option.{option_map}
 use Rattle.tx_types.specs.declared.config.Config.{Config}
-use Rattle.flash_model.specs.Flash.{Contents}
+use Rattle.flash_model.specs.Flash.{Contents, Extras}
 use Rattle.record_list.specs.declared.found.Breach.{Breach}
 use Rattle.desk_io.specs.Desk.{DeskState}
 use Rattle.desk_io.specs.declared.desk.SinkError.TheVariants as sink
@@ -10,9 +10,10 @@ use Rattle.image_desk.specs.Refusals.{Unsound, image_refused}
 use Rattle.image_desk.specs.Saying.{FaultTold, MemoryTold, Speaks}
 use Rattle.image_desk.specs.declared.stop.ImageStop.{ImageStop}
 use Rattle.image_desk.specs.declared.stop.ImageStop.TheVariants as image
-use Rattle.txflash.specs.Fate.{Fate, Image, BadLine, BadBucket, BadConfiguration, WrongLine, DifferShape, DifferBlank, DifferAt, status}
+use Rattle.txflash.specs.Fate.{Fate, Image, BadLine, BadBucket, BadConfiguration, BadAllowance, RefusedBlock, RefusedWorn, WrongLine, DifferShape, DifferBlank, DifferAt, status}
 use Rattle.txflash.specs.Gives.{Given, SavedFile, Gives}
 use Rattle.txflash.specs.KeyWork.{HoldsKeys, ParsesScript}
+use Rattle.txflash.specs.Retirements.{block_refusal}
 use Rattle.txflash.specs.Steps.{IsFate, Parses, Opens}
 use Rattle.txflash.specs.Top.{LoadFails, WorkRunsOut, FileStops, after_loads, after_save}
 use Rattle.txflash.specs.Words.{Asked}
@@ -31,6 +32,9 @@ refused (refusal.Image why) = Image (image_refused why)
 refused (refusal.BadLine n) = BadLine n
 refused (refusal.BadBucket page) = BadBucket page
 refused (refusal.BadConfiguration rule) = BadConfiguration rule
+refused refusal.BadAllowance = BadAllowance
+refused (refusal.NoBlock block) = RefusedBlock block
+refused (refusal.Worn allowance) = RefusedWorn allowance
 refused (refusal.WrongLine k) = WrongLine k
 refused refusal.DifferShape = DifferShape
 refused (refusal.DifferBlank page) = DifferBlank page
@@ -73,6 +77,12 @@ RefusesStore its image fate =
     RefusesDevice its image fate
     ⊎ (Opens its image (Ok tt)
     × ((page : ℕ) × HoldsKeys its image (Err page) × (fate ≡ BadBucket page)))
+
+-- the image of a device breaks this law first, or it is sound and the block is refused so
+abbrev pub RefusesRetirement : Config → List Contents → Extras → ℕ → Fate → Type 0
+RefusesRetirement its image extras block fate =
+    RefusesDevice its image fate
+    ⊎ (Opens its image (Ok tt) × (block_refusal its extras block ≡ Some fate))
 
 -- a step that asks nothing of the desk is refused so, or memory runs out
 abbrev pub StopsBy : (Fate → Type 0) → Stop → Type 0

@@ -13,16 +13,18 @@ use Rattle.txflash.specs.declared.words.Task.TheVariants as task
 
 -- A task of the program, with the names of its files: to try commands on a fresh device, to write a
 -- blank image, to run commands on an image, to report on an image, to drive a fresh device by
--- commands that are drawn, to check a report on an image, to compare the arrays of two images.
+-- commands that are drawn, to check a report on an image, to compare the arrays of two images, to serve a key script on an
+-- image, to retire a block of an image.
 pub data Asked : Type 0 where
   Try : (commands : List ℕ) → Asked
-  Format : (image : List ℕ) → (config : Config) → Asked
+  Format : (image : List ℕ) → (config : Config) → (allowance : ℕ) → Asked
   Run : (image commands : List ℕ) → Asked
   Explain : (image : List ℕ) → Asked
   Drive : (start count : ℕ) → (protocol : Protocol) → Asked
   Check : (image report : List ℕ) → Asked
   Compare : (first second : List ℕ) → Asked
   Keys : (image script : List ℕ) → Asked
+  Retire : (image : List ℕ) → (block : ℕ) → Asked
 
 -- a file's name has at least one byte
 abbrev pub file_name : List ℕ → Option (List ℕ)
@@ -33,22 +35,31 @@ protocol_of_word word =
     if bytes_eq word (codes "scc") then Some Scc else if bytes_eq word (codes "bpcc") then Some Bpcc
     else None
 
--- six numbers, which are those of a configuration in their order
-abbrev pub config_of : Protocol → List (List ℕ) → Option Config
-config_of protocol (page ∷ pages ∷ blocks ∷ dies ∷ logical ∷ pending ∷ []) =
+-- six numbers, which are those of a configuration in their order, and the words behind them
+abbrev pub config_of : Protocol → List (List ℕ) → Option (Config × List (List ℕ))
+config_of protocol (page ∷ pages ∷ blocks ∷ dies ∷ logical ∷ pending ∷ more) =
     option_and_then (λ page. option_and_then (λ pages. option_and_then (λ blocks.
-    option_and_then (λ dies. option_and_then (λ logical. option_map (λ pending. record {
-      protocol = protocol;
-      page_bytes = page;
-      pages_per_block = pages;
-      blocks_per_die = blocks;
-      dies = dies;
-      logical = logical;
-      pending = pending;
-    })
+    option_and_then (λ dies. option_and_then (λ logical. option_map (λ pending. (
+      record {
+        protocol = protocol;
+        page_bytes = page;
+        pages_per_block = pages;
+        blocks_per_die = blocks;
+        dies = dies;
+        logical = logical;
+        pending = pending;
+      },
+      more,
+    ))
     (number_of pending)) (number_of logical)) (number_of dies)) (number_of blocks))
     (number_of pages)) (number_of page)
 config_of protocol _ = None
+
+-- how many blocks may be retired: a number, or none where there is no word
+abbrev pub allowance_of : List (List ℕ) → Option ℕ
+allowance_of [] = Some 0
+allowance_of (allowance ∷ []) = number_of allowance
+allowance_of _ = None
 
 -- ---- the words behind the first one
 
@@ -59,7 +70,9 @@ try_of _ = None
 abbrev pub format_of : List (List ℕ) → Option Asked
 format_of (image ∷ protocol ∷ numbers) =
     option_and_then
-    (λ image. option_and_then (λ protocol. option_map (Format image) (config_of protocol numbers))
+    (λ image. option_and_then
+    (λ protocol. option_and_then (λ read. option_map (Format image read.0) (allowance_of read.1))
+    (config_of protocol numbers))
     (protocol_of_word protocol))
     (file_name image)
 format_of _ = None
@@ -96,6 +109,11 @@ keys_of (image ∷ script ∷ []) =
     option_and_then (λ image. option_map (Keys image) (file_name script)) (file_name image)
 keys_of _ = None
 
+abbrev pub retire_of : List (List ℕ) → Option Asked
+retire_of (image ∷ block ∷ []) =
+    option_and_then (λ image. option_map (Retire image) (number_of block)) (file_name image)
+retire_of _ = None
+
 -- the task that the words behind this verb ask for
 abbrev pub behind : List ℕ → List (List ℕ) → Option Asked
 behind verb words =
@@ -107,6 +125,7 @@ behind verb words =
     else if bytes_eq verb (codes "check") then check_of words
     else if bytes_eq verb (codes "compare") then compare_of words
     else if bytes_eq verb (codes "keys") then keys_of words
+    else if bytes_eq verb (codes "retire") then retire_of words
     else None
 
 -- the table of words: no other words are in it
@@ -121,13 +140,14 @@ asked_by words = asked (map string_bytes words)
 abbrev pub files_of : Option Asked → List (List ℕ)
 files_of None = []
 files_of (Some (Try commands)) = commands ∷ []
-files_of (Some (Format image config)) = []
+files_of (Some (Format image config allowance)) = []
 files_of (Some (Run image commands)) = image ∷ commands ∷ []
 files_of (Some (Explain image)) = image ∷ []
 files_of (Some (Drive start count protocol)) = []
 files_of (Some (Check image report)) = image ∷ report ∷ []
 files_of (Some (Compare first second)) = first ∷ second ∷ []
 files_of (Some (Keys image script)) = image ∷ script ∷ []
+files_of (Some (Retire image block)) = image ∷ []
 
 -- so many loads come before a step of the work that asks nothing of the desk: all of a task's, and the first of
 -- a comparison, which reads each image when it is loaded
@@ -137,18 +157,20 @@ IsWorkedAfter task loads = loads ≡ length (files_of task)
 
 -- the file that a task saves
 abbrev pub file_of : Option Asked → Option (List ℕ)
-file_of (Some (Format image config)) = Some image
+file_of (Some (Format image config allowance)) = Some image
 file_of (Some (Run image commands)) = Some image
 file_of (Some (Keys image script)) = Some image
+file_of (Some (Retire image block)) = Some image
 file_of _ = None
 
 -- the task that a value of the program stands for
 abbrev pub asked_of : Task → Asked
 asked_of (task.Try commands) = Try commands.now
-asked_of (task.Format image config) = Format image.now config
+asked_of (task.Format image config allowance) = Format image.now config allowance
 asked_of (task.Run image commands) = Run image.now commands.now
 asked_of (task.Explain image) = Explain image.now
 asked_of (task.Drive start count protocol) = Drive start count protocol
 asked_of (task.Check image report) = Check image.now report.now
 asked_of (task.Compare first second) = Compare first.now second.now
 asked_of (task.Keys image script) = Keys image.now script.now
+asked_of (task.Retire image block) = Retire image.now block.0

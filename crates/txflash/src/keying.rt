@@ -12,6 +12,7 @@ ghost use Rattle.txflash.specs.Words.{Keys};
 
 use crate::product::{File, Product, Stop, Text};
 use crate::refusal::Refusal;
+use crate::tasks::leave;
 use bpcc_commit::Bpcc;
 use desk_io::Desk;
 use image_desk::{ImageRefusal, fetch, read_device};
@@ -57,6 +58,7 @@ fn keyed<'a>(
     let (config, flash) = read_device(alloc, bytes)?;
     let list = read_script(alloc, lines)?;
     let KeptKeys { flash, replies } = served_keys(alloc, flash, config, &list)?;
+    leave(list);
     let saved = into_image(alloc, &config, flash)?;
     Ok(Product {
         saved: Some(File { name, bytes: saved }),

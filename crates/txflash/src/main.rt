@@ -2,8 +2,6 @@
 //! the replies.
 #![tactic(auto)]
 
-ghost use Rattle.std.specs.Prelude.{◌≡◌, ◌⊎◌, ◌↔◌};
-
 mod checking;
 mod comparing;
 mod devices;
@@ -14,6 +12,7 @@ mod laws;
 mod numbers;
 mod product;
 mod refusal;
+mod retiring;
 mod tasks;
 #[cfg(test)]
 mod tests;
@@ -21,9 +20,9 @@ mod top;
 mod words;
 
 use desk_io::RealDesk;
+use image_desk::unread;
 use std::alloc::Global;
 use std::env;
-use std::io::ErrorKind;
 use std::process::ExitCode;
 
 /// Bytes of a piece of memory that is taken and given back untouched. It is the greatest that counts for the C
@@ -51,15 +50,4 @@ fn main(rt: HostRuntime) -> ExitCode {
 #[inline(never)]
 fn keep_freed(alloc: Global) {
     let _ = Vec::<u8>::with_capacity(alloc, FREED_BYTES);
-}
-
-/// The status where the words cannot be read: 6 where there is no memory for them, else 1.
-fn unread(kind: ErrorKind) -> u8
-    ensures memory { (result ≡ 6) ↔ (kind ≡ ErrorKind.OutOfMemory) }
-    ensures other { (result ≡ 6) ⊎ (result ≡ 1) }
-{
-    match kind {
-        ErrorKind::OutOfMemory => 6,
-        _ => 1,
-    }
 }

@@ -20,6 +20,12 @@ pub enum Refusal<'a> {
     BadBucket(u32),
     /// The numbers are not those of a device: the first rule that they break.
     BadConfiguration(ConfigError),
+    /// More blocks are to be retired than a device may allow.
+    BadAllowance,
+    /// There is no such block.
+    NoBlock(u32),
+    /// As many blocks were retired as may be, which is this many.
+    Worn(u32),
     /// The text is not the report on the image: the first line, from 1, in which the two differ.
     WrongLine(u32),
     /// Two devices have not as many pages of as many bytes.
@@ -38,10 +44,11 @@ impl Refusal<'_> {
         match self {
             Refusal::Image(refusal) => refusal.status(),
             Refusal::BadLine(_) => 4,
-            Refusal::BadConfiguration(_) => 8,
+            Refusal::BadConfiguration(_) | Refusal::BadAllowance => 8,
             Refusal::BadBucket(_) => 11,
             Refusal::WrongLine(_) => 12,
             Refusal::DifferShape | Refusal::DifferBlank(_) | Refusal::DifferAt { .. } => 13,
+            Refusal::NoBlock(_) | Refusal::Worn(_) => 14,
         }
     }
 
@@ -57,6 +64,9 @@ impl Refusal<'_> {
                 let word = config_word(*rule);
                 format!(in alloc; "bad configuration: {word}\n")
             }
+            Refusal::BadAllowance => String::from_str(alloc, "bad configuration: allowance\n"),
+            Refusal::NoBlock(block) => format!(in alloc; "refused block {block}\n"),
+            Refusal::Worn(allowance) => format!(in alloc; "refused worn {allowance}\n"),
             Refusal::WrongLine(k) => format!(in alloc; "wrong line {k}\n"),
             Refusal::DifferShape => String::from_str(alloc, "differ shape\n"),
             Refusal::DifferBlank(page) => blank_line(alloc, *page),

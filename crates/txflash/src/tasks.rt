@@ -13,9 +13,11 @@ use crate::product::{File, Product, Stop, Text};
 use crate::refusal::Refusal;
 use desk_io::Desk;
 use drive_gen::{commands, summary};
+use flash_model::MAX_ALLOWANCE;
 use image_desk::{fetch, read_device};
 use image_file::{blank_image, into_image};
 use std::alloc::{AllocError, Global};
+use std::mem::forget;
 use tx_types::{Config, Protocol};
 
 /// Serves the commands of a file on a fresh device.
@@ -65,6 +67,7 @@ fn tried<'a>(alloc: Global, lines: &[u8]) -> Result<Product<'a>, Stop<'a>>
     let list = read_commands(alloc, lines, config.page_bytes)?;
     let flash = blank_flash(alloc, config)?;
     let ServedFlash { replies, .. } = served(alloc, flash, config, &list)?;
+    leave(list);
     Ok(Product {
         saved: None,
         text: Text::Replies(replies),
@@ -84,6 +87,7 @@ fn ran<'a>(
     let (config, flash) = read_device(alloc, bytes)?;
     let list = read_commands(alloc, lines, config.page_bytes)?;
     let ServedFlash { flash, replies } = served(alloc, flash, config, &list)?;
+    leave(list);
     let saved = into_image(alloc, &config, flash)?;
     Ok(Product {
         saved: Some(File { name, bytes: saved }),
@@ -103,15 +107,23 @@ fn reported<'a>(alloc: Global, bytes: Vec<u8>) -> Result<Product<'a>, Stop<'a>>
     })
 }
 
-/// The image of a blank device, and a line that says so.
-pub fn formatted<'a>(alloc: Global, name: &'a str, config: Config) -> Result<Product<'a>, Stop<'a>>
-    ensures { WorksTo (λ fate. fate ≡ formatting name.now config (checked config)) result }
+/// The image of a blank device, so many blocks of which may be retired, and a line that says so.
+pub fn formatted<'a>(
+    alloc: Global,
+    name: &'a str,
+    config: Config,
+    allowance: u32,
+) -> Result<Product<'a>, Stop<'a>>
+    ensures { WorksTo (λ fate. fate ≡ formatting name.now config allowance (checked config)) result }
 {
     let shape = match config.check() {
         Ok(shape) => shape,
         Err(rule) => return Err(Stop::Refused(Refusal::BadConfiguration(rule))),
     };
-    let bytes = blank_image(alloc, &config, shape, 0)?;
+    if allowance > MAX_ALLOWANCE {
+        return Err(Stop::Refused(Refusal::BadAllowance));
+    }
+    let bytes = blank_image(alloc, &config, shape, allowance)?;
     let line = formatted_line(alloc, name, shape.slots())?;
     Ok(Product {
         saved: Some(File { name, bytes }),
@@ -151,8 +163,15 @@ pub fn driven<'a>(
         replies.as_slice(),
         &mut line,
     )?;
+    leave(list);
     Ok(Product {
         saved: None,
         text: Text::Other(line),
     })
+}
+
+/// Leaves the memory of commands to the end of the program, which is near: to give that of each command back would
+/// take longer than to make them, and nothing is to be put there.
+pub fn leave<T: Drop>(list: Vec<T>) {
+    forget(list);
 }

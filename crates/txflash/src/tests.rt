@@ -10,6 +10,7 @@ mod images;
 mod keys;
 mod manual;
 mod moves;
+mod retired;
 mod rows;
 mod starved;
 mod worlds;

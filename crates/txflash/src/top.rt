@@ -9,6 +9,7 @@ use crate::comparing::to_compare;
 use crate::keying::to_keys;
 use crate::product::{Product, Stop};
 use crate::refusal::Refusal;
+use crate::retiring::to_retire;
 use crate::tasks::{driven, formatted, to_explain, to_run, to_try};
 use crate::words::{Task, asked};
 use desk_io::{Desk, SinkError};
@@ -26,7 +27,8 @@ const _: () = prove!(crate::numbers::MAX_DRAWS == 100000);
 /// in the table, 2 for a file that is missing, 3 for bytes that are no image file, 4 for a line that
 /// is no command, 5 for a fault of the desk, 6 for want of memory, 7 for an image that is not sound,
 /// 8 for numbers of no device, 9 for a file that is too long, 11 for an image of which a page is no bucket
-/// of keys, 12 for a text that is not the report on an image, and 13 for images of different arrays.
+/// of keys, 12 for a text that is not the report on an image, 13 for images of different arrays, and 14 for a
+/// block that is not there or that nothing is left to replace.
 pub fn top<D: Desk>(alloc: Global, words: &[String], desk: &mut D) -> u8
     ensures ends { EndsCall (asked_by words.now) (D.state desk.old) (D.state desk.new) result }
     ensures exact { IsExact (asked_by words.now) (D.state desk.old) (D.state desk.new) result }
@@ -58,7 +60,13 @@ fn work<'a, D: Desk>(
 {
     match asked(words) {
         Some(Task::Try { commands }) => to_try(alloc, commands, desk),
-        Some(Task::Format { image, config }) => formatted(alloc, image, config),
+        Some(
+            Task::Format {
+                image,
+                config,
+                allowance,
+            },
+        ) => formatted(alloc, image, config, allowance),
         Some(Task::Run { image, commands }) => to_run(alloc, image, commands, desk),
         Some(Task::Explain { image }) => to_explain(alloc, image, desk),
         Some(
@@ -71,6 +79,7 @@ fn work<'a, D: Desk>(
         Some(Task::Check { image, report }) => to_check(alloc, image, report, desk),
         Some(Task::Compare { first, second }) => to_compare(alloc, first, second, desk),
         Some(Task::Keys { image, script }) => to_keys(alloc, image, script, desk),
+        Some(Task::Retire { image, block }) => to_retire(alloc, image, block, desk),
         None => Err(Stop::Refused(Refusal::Image(ImageRefusal::BadWords))),
     }
 }

@@ -1,12 +1,12 @@
 ghost use Rattle.std.specs.Prelude.{◌≡◌, map, string_bytes};
 ghost use Rattle.std.specs.Option.{option_map};
-ghost use Rattle.txflash.specs.Words.{asked_by, asked_of, config_of, file_name, protocol_of_word};
-ghost use Rattle.txflash.specs.Words.{check_of, compare_of, keys_of};
+ghost use Rattle.txflash.specs.Words.{allowance_of, asked_by, asked_of, config_of, file_name, protocol_of_word};
+ghost use Rattle.txflash.specs.Words.{check_of, compare_of, keys_of, retire_of};
 ghost use Rattle.txflash.specs.Words.{drive_of, explain_of, format_of, run_of, try_of};
 
 use crate::numbers::{draws, wide_number};
 use host_protocol::number;
-use tx_types::{Config, Protocol};
+use tx_types::{Block, Config, Protocol};
 
 /// What the program is asked for.
 #[derive(Clone, Copy, Debug)]
@@ -15,10 +15,11 @@ pub enum Task<'a> {
     Try {
         commands: &'a str,
     },
-    /// To save the image of a blank device of this configuration.
+    /// To save the image of a blank device of this configuration, so many blocks of which may be retired.
     Format {
         image: &'a str,
         config: Config,
+        allowance: u32,
     },
     /// To serve the commands of a file on the device of an image file, and to save that.
     Run {
@@ -50,6 +51,11 @@ pub enum Task<'a> {
         image: &'a str,
         script: &'a str,
     },
+    /// To retire a block of the device of an image file, and to save that.
+    Retire {
+        image: &'a str,
+        block: Block,
+    },
 }
 
 /// The task that the words ask for, if they are in the table.
@@ -66,6 +72,7 @@ pub fn asked(words: &[String]) -> Option<Task<'_>>
         "check" => asked_to_check(rest),
         "compare" => asked_to_compare(rest),
         "keys" => asked_for_keys(rest),
+        "retire" => asked_to_retire(rest),
         _ => None,
     }
 }
@@ -88,8 +95,12 @@ fn asked_to_format(words: &[String]) -> Option<Task<'_>>
         return None;
     };
     let image = name(image)?;
-    let config = config(protocol_named(protocol)?, numbers)?;
-    Some(Task::Format { image, config })
+    let (config, more) = config(protocol_named(protocol)?, numbers)?;
+    Some(Task::Format {
+        image,
+        config,
+        allowance: allowance(more)?,
+    })
 }
 
 fn asked_to_run(words: &[String]) -> Option<Task<'_>>
@@ -164,6 +175,18 @@ fn asked_for_keys(words: &[String]) -> Option<Task<'_>>
     })
 }
 
+fn asked_to_retire(words: &[String]) -> Option<Task<'_>>
+    ensures { option_map asked_of result ≡ retire_of (map string_bytes words.now) }
+{
+    let [image, block] = words else {
+        return None;
+    };
+    Some(Task::Retire {
+        image: name(image)?,
+        block: Block(number(block.as_bytes())?),
+    })
+}
+
 /// The name of a file, which has at least one byte.
 fn name(word: &str) -> Option<&str>
     ensures { option_map (λ n. n.now) result ≡ file_name word.now }
@@ -182,14 +205,15 @@ fn protocol_named(word: &str) -> Option<Protocol>
     }
 }
 
-/// The configuration of this protocol with these six numbers.
-fn config(protocol: Protocol, numbers: &[String]) -> Option<Config>
-    ensures { result ≡ config_of protocol (map string_bytes numbers.now) }
+/// The configuration of this protocol with the six numbers that stand first, and the words behind them.
+fn config(protocol: Protocol, numbers: &[String]) -> Option<(Config, &[String])>
+    ensures { option_map (λ read. (read.0, map string_bytes read.1.now)) result
+        ≡ config_of protocol (map string_bytes numbers.now) }
 {
-    let [page, pages, blocks, dies, logical, pending] = numbers else {
+    let [page, pages, blocks, dies, logical, pending, more @ ..] = numbers else {
         return None;
     };
-    Some(Config {
+    let config = Config {
         protocol,
         page_bytes: number(page.as_bytes())?,
         pages_per_block: number(pages.as_bytes())?,
@@ -197,5 +221,17 @@ fn config(protocol: Protocol, numbers: &[String]) -> Option<Config>
         dies: number(dies.as_bytes())?,
         logical: number(logical.as_bytes())?,
         pending: number(pending.as_bytes())?,
-    })
+    };
+    Some((config, more))
+}
+
+/// How many blocks may be retired: a number, or none where there is no word.
+fn allowance(words: &[String]) -> Option<u32>
+    ensures { result ≡ allowance_of (map string_bytes words.now) }
+{
+    match words {
+        [] => Some(0),
+        [allowance] => number(allowance.as_bytes()),
+        _ => None,
+    }
 }

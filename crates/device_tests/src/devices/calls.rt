@@ -3,13 +3,13 @@
 use array_machine::{
     Aborted, Collected, Fault, Progress, ReadAnswer, ReadError, StepError, SubmitError,
 };
-use flash_model::{Arms, Flash, Outcome, Power};
+use flash_model::{Arms, Flash, Outcome, Power, Retire};
 use record_list::CommitRule;
 use std::alloc::Global;
 use std::process::Abort;
 use std::test::Fail;
-use tx_engine::Device;
-use tx_types::{Batch, Config};
+use tx_engine::{Device, RetireError};
+use tx_types::{Batch, Block, Config};
 
 /// What is asked of a device.
 #[derive(Clone, Copy, Debug)]
@@ -22,6 +22,8 @@ pub enum Call {
     Finish(u32),
     Abort(u32),
     Collect,
+    /// Retires a block.
+    Retire(u32),
     Read(u32),
     /// The numbers of the device.
     Stats,
@@ -159,6 +161,20 @@ fn collect_text<F: Flash, R: CommitRule>(
     }
 }
 
+/// What retiring a block answered.
+fn retire_text<F: Flash, R: CommitRule>(
+    alloc: Global,
+    device: &Device<F, R>,
+    answer: Result<(), RetireError>,
+) -> Result<String, Fail> {
+    Ok(match answer {
+        Ok(()) => String::from_str(alloc, "retired")?,
+        Err(RetireError::Range) => String::from_str(alloc, "range")?,
+        Err(RetireError::Worn(allowance)) => format!(in alloc; "worn {allowance}")?,
+        Err(RetireError::Fault) => String::from_str(alloc, broken(device))?,
+    })
+}
+
 /// The numbers of a device.
 fn stats_text<F: Flash, R: CommitRule>(
     alloc: Global,
@@ -191,7 +207,7 @@ fn found_text<F: Flash, R: CommitRule>(
 }
 
 /// Makes a call that works on the flash or tells of the device, and gives its answer.
-fn answer<F: Flash, R: CommitRule>(
+fn answer<F: Retire, R: CommitRule>(
     rt: &impl Abort,
     alloc: Global,
     device: &mut Device<F, R>,
@@ -217,6 +233,10 @@ fn answer<F: Flash, R: CommitRule>(
         Call::Collect => {
             let answer = device.collect();
             Ok(String::from_str(alloc, collect_text(device, answer))?)
+        }
+        Call::Retire(block) => {
+            let answer = device.retire(Block(block));
+            retire_text(alloc, device, answer)
         }
         Call::Read(page) => match read(rt, alloc, device, page)? {
             Ok(None) => Ok(String::from_str(alloc, "blank")?),
@@ -250,7 +270,7 @@ fn arm<F: Arms, R: CommitRule>(rt: &impl Abort, device: &mut Device<F, R>, call:
 }
 
 /// The answers to calls, one behind the other. After a power cut the device is mounted again.
-pub fn served<F: Arms + Power + Drop, R: CommitRule>(
+pub fn served<F: Arms + Power + Retire + Drop, R: CommitRule>(
     rt: &impl Abort,
     alloc: Global,
     device: Device<F, R>,

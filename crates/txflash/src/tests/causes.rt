@@ -24,7 +24,7 @@ const CALLS: &str = "\
     1;bad words;explain ''\n\
     1;bad words;explain d.img d.img\n\
     1;bad words;format n.img scc 16 4 4 2 20\n\
-    1;bad words;format n.img scc 16 4 4 2 20 7 7\n\
+    1;bad words;format n.img scc 16 4 4 2 20 7 7 7\n\
     1;bad words;format '' scc 16 4 4 2 20 7\n\
     1;bad words;format n.img SCC 16 4 4 2 20 7\n\
     1;bad words;format n.img scc +16 4 4 2 20 7\n\

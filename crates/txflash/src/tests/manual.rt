@@ -4,7 +4,7 @@ use super::{call, desk, words};
 use std::test::Fail;
 
 /// The files of commands.
-const FILES: [(&str, &str); 12] = [
+const FILES: [(&str, &str); 14] = [
     (
         "examples/first.txt",
         "\
@@ -168,6 +168,22 @@ get 616e6e61
 get 62656e
 put 62656e=~
 get 62656e
+",
+    ),
+    (
+        "examples/retired-1.txt",
+        "\
+# A page is written to block 0.
+write 1 0=41
+finish 1
+",
+    ),
+    (
+        "examples/retired-2.txt",
+        "\
+# The page is what it was, in another block.
+read 0
+stats
 ",
     ),
 ];
@@ -420,6 +436,46 @@ fn the_manual_checks_and_compares(rt: HostRuntime) -> Result<(), Fail> {
     let last = words(alloc, "run disk.img examples/session-4.txt")?;
     assert_eq!(rt; call(alloc, &last, &mut desk)?, 0);
     for (line, status, said) in FOUND {
+        let before = desk.said().len();
+        assert_eq!(rt; call(alloc, &words(alloc, line)?, &mut desk)?, status);
+        assert_eq!(rt; desk.said().get(before..), Some(said.as_bytes()));
+    }
+    Ok(())
+}
+
+/// What is said where a block is retired, and then no more may be: words, the status and the text.
+const RETIRED: [(&str, u8, &str); 6] = [
+    (
+        "format worn.img scc 16 4 4 2 20 7 1",
+        0,
+        "formatted worn.img 32\n",
+    ),
+    (
+        "run worn.img examples/retired-1.txt",
+        0,
+        "open 1 1\ndone 1\n",
+    ),
+    ("retire worn.img 0", 0, "retired 0\n"),
+    (
+        "run worn.img examples/retired-2.txt",
+        0,
+        "\
+page 0 41000000000000000000000000000000
+stats written 1 open 0 pending 0 programs 0 erases 0 garbage 3
+",
+    ),
+    ("retire worn.img 1", 14, "refused worn 1\n"),
+    ("retire worn.img 8", 14, "refused block 8\n"),
+];
+
+#[test]
+fn the_manual_retires_a_block(rt: HostRuntime) -> Result<(), Fail> {
+    let alloc = rt.alloc();
+    let mut desk = desk(alloc);
+    for (name, text) in FILES {
+        desk.put_file(name, text.as_bytes())?;
+    }
+    for (line, status, said) in RETIRED {
         let before = desk.said().len();
         assert_eq!(rt; call(alloc, &words(alloc, line)?, &mut desk)?, status);
         assert_eq!(rt; desk.said().get(before..), Some(said.as_bytes()));

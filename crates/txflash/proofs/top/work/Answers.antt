@@ -1,8 +1,21 @@
 use Rattle.std.proofs.Common.{◌≡◌, refl, arith, Some}
+use Rattle.tx_types.specs.Config.{checked}
 use Rattle.txflash.specs.Fate.{Fate, Driven}
-use Rattle.txflash.specs.Words.{Drive}
+use Rattle.txflash.specs.Steps.{formatting}
+use Rattle.txflash.specs.Words.{Drive, Format}
 use Rattle.txflash.proofs.Works.{found_none, works}
 use Rattle.txflash.proofs.top.work.Goals as goal
+
+pub returns-in-Some-Format : goal.returns-in-Some-Format
+returns-in-Some-Format g c =
+    let asks = rw c.in-Some-Format.field-0-is at c.in-Some-Format.ensures in
+    let image = c.in-Some-Format.image.now in
+    let its = c.in-Some-Format.config in
+    let allowance = c.in-Some-Format.allowance in
+    let desk = g.D.Desk.state c.args.desk.now in
+    let done = works (Some (Format image its allowance)) desk desk 0 (λ (fate : Fate). fate ≡ formatting image its allowance (checked its))
+    c.formatted.result refl (omega arith) (found_none desk) (λ fate h. (h, refl)) c.formatted.ensures in
+    rw (← asks) done
 
 pub returns-in-Some-Drive : goal.returns-in-Some-Drive
 returns-in-Some-Drive g c =
