@@ -16,10 +16,11 @@ IDENTIFIER = re.compile(r"[^\W\d][\w'-]*(?:₁|₂|₃)?")
 
 HEAD = """# Clauses and their lemmas
 
-Where the proof of a clause is. This file is written by `docs/clauses.py`, and `docs/clauses.py --check` says whether it is true.
-A function's answers stand in `crates/CRATE/proofs`, in a folder with its path. For each clause that they prove, where the function
-returns, this names the lemmas that they cite, and the files where these stand. A field of a clause that is a record is named behind
-its clause. A clause without a row is proved by the prover's own search, or needs no lemma.
+Where the proof of a clause is. This file is written by `docs/clauses.py`, and `docs/clauses.py --check` says whether it
+is true. A function's answers stand in `crates/CRATE/proofs`, in a folder with its path. For each clause that they prove,
+where the function returns, this names the lemmas that they cite, and the files where these stand. A field of a clause
+that is a record is named behind its clause. A clause without a row is proved by the prover's own search, or needs no
+lemma.
 """
 
 
