@@ -17,10 +17,12 @@ IDENTIFIER = re.compile(r"[^\W\d][\w'-]*(?:₁|₂|₃)?")
 HEAD = """# Clauses and their lemmas
 
 Where the proof of a clause is. This file is written by `docs/clauses.py`, and `docs/clauses.py --check` says whether it
-is true. A function's answers stand in `crates/CRATE/proofs`, in a folder with its path. For each clause that they prove,
-where the function returns, this names the lemmas that they cite, and the files where these stand. A field of a clause
-that is a record is named behind its clause. A clause without a row is proved by the prover's own search, or needs no
-lemma.
+is true. A function's answers stand in `crates/CRATE/proofs`, in a folder with its path: those of `Device::step` are
+`crates/tx_engine/proofs/device/Device/step/Answers.antt`. For each clause that they prove this names the lemmas that they
+cite, and the files where these stand, in the same `proofs` where no crate is named. A field of a clause that is a record
+is named behind its clause, or alone where the function has one clause. `invariant` is that of a type, `ensures` a clause
+without a name, and `loops and conditions` are what else is shown: invariants of loops, and what the calls of the function
+ask for. What the prover's own search finds has no row, nor has what an answer shows by the clauses of its calls alone.
 """
 
 
@@ -38,40 +40,53 @@ def imports(text):
     return found
 
 
-def answers(text):
-    """The goals that are answered where the function returns, each with the text of its answer."""
-    pieces = re.split(r'^(?=pub |[^\s-][\w-]* : )', text, flags=re.M)
-    for piece in pieces:
-        head = re.match(r'pub (returns[\w-]*) : goal\.\1\n', piece)
+def declarations(text):
+    """The declarations of an answers file, each with the text of its body."""
+    found = {}
+    for piece in re.split(r'^(?=(?:pub )?[^\s-][^\s:]* : )', text, flags=re.M):
+        head = re.match(r'(?:pub )?([^\s:]+) : [^\n]*', piece)
         if head:
-            yield head.group(1), piece[head.end():]
+            found[head.group(1)] = piece
+    return found
+
+
+def lets(body):
+    """The names that an answer gives to parts of it, each with its text."""
+    found = {}
+    for name, piece in re.findall(r'let ([\w-]+)(?: :[^=]*?)? =(.*?)(?:\sin\b)', body, re.S):
+        found[name] = piece
+    return found
 
 
 def fields(body):
     """The fields of the record that an answer gives, if it gives one, with their texts."""
-    start = re.search(r'\(?record \{\n( +)(\w+) = ', body)
+    given = re.sub(r'let [\w-]+(?: :[^=]*?)? =.*?\sin\b', '', body, flags=re.S)
+    start = re.search(r'\(?record \{\n( +)(\w+) = ', given)
     if not start:
         return []
     indent = start.group(1)
-    rest = body[start.start(1):]
     found = []
-    for piece in re.split(r'^(?=%s\w+ = )' % indent, rest, flags=re.M):
+    for piece in re.split(r'^(?=%s\w+ = )' % indent, given[start.start(1):], flags=re.M):
         name = re.match(r'%s(\w+) = ' % indent, piece)
         if name:
             found.append((name.group(1), piece[name.end():]))
     return found
 
 
-def cited(body, lemmas):
-    """The lemmas that a text names, in the order in which they come."""
+def cited(body, lemmas, parts, seen=()):
+    """The lemmas that a text names, itself or by parts that it names, in the order in which they come."""
     names = []
     for name in IDENTIFIER.findall(body):
-        if name in lemmas and name not in names:
-            names.append(name)
+        more = [name] if name in lemmas else []
+        if name in parts and name not in seen:
+            more = cited(parts[name], lemmas, parts, seen + (name,))
+        names += [lemma for lemma in more if lemma not in names]
     return names
 
 
 def clause_of(goal):
+    if goal.startswith('invariant_of'):
+        return 'invariant'
     return goal.split('-clause-')[1] if '-clause-' in goal else ''
 
 
@@ -80,15 +95,23 @@ def rows_of(path, crate):
     text = path.read_text()
     lemmas = imports(text)
     function = '::'.join(path.parent.relative_to(ROOT / 'crates' / crate / 'proofs').parts)
+    declared = declarations(text)
+    goals = {name: body for name, body in declared.items() if 'goal.%s' % name in body}
+    own = {name: body for name, body in declared.items() if name not in goals}
     rows = {}
-    for goal, body in answers(text):
-        clause = clause_of(goal)
-        parts = fields(body)
-        named = [('%s.%s' % (clause, name) if clause else name, piece) for name, piece in parts]
-        for name, piece in named or [(clause or 'ensures', body)]:
+    for goal, body in goals.items():
+        parts = {**own, **lets(body)}
+        if goal.startswith(('returns', 'invariant_of')):
+            clause = clause_of(goal)
+            given = fields(body) if clause != 'invariant' else []
+            named = [('%s.%s' % (clause, name) if clause else name, piece) for name, piece in given]
+            named = named or [(clause or 'ensures', body)]
+        else:
+            named = [('loops and conditions', body)]
+        for name, piece in named:
             known = rows.setdefault(name, [])
-            known += [lemma for lemma in cited(piece, lemmas) if lemma not in known]
-    for name, names in rows.items():
+            known += [lemma for lemma in cited(piece, lemmas, parts) if lemma not in known]
+    for name, names in sorted(rows.items(), key=lambda row: row[0] == 'loops and conditions'):
         if names:
             files = sorted({lemmas[lemma] for lemma in names})
             yield function, name, names, files
