@@ -56,19 +56,28 @@ fn a_full_device_is_rewritten(rt: HostRuntime) -> Result<(), Fail> {
     Ok(())
 }
 
+/// The flash that a mount gives back which met a fault.
+fn given_back(rt: &impl Abort, alloc: Global, flash: MemFlash) -> Result<MemFlash, Fail> {
+    assert_eq!(rt; SIMPLE.check(), Ok(flash.shape()));
+    match Device::<MemFlash, Scc>::mount(alloc, flash, SIMPLE) {
+        Err((flash, MountError::Fault)) => Ok(flash),
+        _ => Err(Fail::new("the fault did not come")),
+    }
+}
+
+/// A flash with one page, of which the second read from now on fails.
+fn failing(rt: &impl Abort, alloc: Global) -> Result<MemFlash, Fail> {
+    let mut device = mounted::<MemFlash, Scc>(rt, alloc, blank(alloc, SIMPLE)?, SIMPLE)?;
+    fill(rt, alloc, &mut device, 3, 5)?;
+    device.arm_bad_read(2);
+    Ok(device.close())
+}
+
 /// A mount that meets a fault gives the flash back, which is mounted then.
 #[test]
 fn a_flash_comes_back_from_a_fault(rt: HostRuntime) -> Result<(), Fail> {
     let alloc = rt.alloc();
-    let mut device = mounted::<MemFlash, Scc>(&rt, alloc, blank(alloc, SIMPLE)?, SIMPLE)?;
-    fill(&rt, alloc, &mut device, 3, 5)?;
-    device.arm_bad_read(2);
-    let flash = device.close();
-    assert_eq!(rt; SIMPLE.check(), Ok(flash.shape()));
-    let Err((flash, MountError::Fault)) = Device::<MemFlash, Scc>::mount(alloc, flash, SIMPLE)
-    else {
-        return Err(Fail::new("the fault did not come"));
-    };
+    let flash = given_back(&rt, alloc, failing(&rt, alloc)?)?;
     let device = mounted::<MemFlash, Scc>(&rt, alloc, flash, SIMPLE)?;
     assert_eq!(rt;
         served(&rt, alloc, device, &[Read(3), Stats])?.as_str(),
