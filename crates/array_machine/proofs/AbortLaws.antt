@@ -2,7 +2,7 @@
 use Rattle.std.proofs.Common.{◌≡◌, ◌≢◌, ℕ, ◌+◌, ◌≤◌, ◌==◌, Bool, true, false, cond, List, [], ◌∷◌, ◌++◌, length, All}
 use Rattle.std.proofs.Common.{Option, Some, None, Result, Ok, Err, refl, sym, ap, ◌∙◌, subst, inl, inr, arith}
 use Rattle.std.proofs.Common.{eqb-true}
-use Rattle.std.specs.Prelude.{MatchOption, count_by}
+use Rattle.std.specs.Prelude.{MatchOption, count_by, take}
 use Rattle.std.proofs.lemmas.Bool.{cases_Bool}
 use Rattle.std.proofs.lemmas.List.Elements.{All-nil, All-head, All-tail, All-contains}
 use Rattle.std.proofs.lemmas.List.Sums.{sum_by-append}
@@ -11,17 +11,19 @@ use Rattle.list_facts.proofs.Tests.{none_counted}
 use Rattle.tx_types.specs.Batch.{PageWrite}
 use Rattle.array_machine.specs.ArrayState.{ArrayState, Entry, Pages, entry_of, has_tag, idle, opening, page_at, put}
 use Rattle.array_machine.specs.ArrayState.{with_entry, without}
+use Rattle.array_machine.specs.Batches.{GoInTurn, StepsAll}
 use Rattle.array_machine.specs.Collect.{Collects}
 use Rattle.array_machine.specs.Promises.{HasOneOf, opens_tag}
 use Rattle.array_machine.specs.Run.{Run, RunState, Serves, DoesCommand, Finishes, HasSame, IsConsistent, seen_after}
 use Rattle.array_machine.specs.Run.{submit_reply, abort_reply}
-use Rattle.array_machine.specs.Step.{Steps, StepGives, Aborts, AbortGives, settled, settled_entry}
+use Rattle.array_machine.specs.Step.{Steps, StepGives, GoesOn, Aborts, AbortGives, settled, settled_entry}
 use Rattle.array_machine.specs.Submit.{Limits, answer, opened, refusal, first_refusals, spent_page}
 use Rattle.array_machine.specs.declared.mark.Mark.TheVariants.{Doubt, Whole}
 use Rattle.array_machine.specs.declared.answers.Aborted.{Aborted}
 use Rattle.array_machine.specs.declared.answers.Aborted.TheVariants as aborted
 use Rattle.array_machine.specs.declared.answers.Collected.{Collected}
 use Rattle.array_machine.specs.declared.answers.Fault.{Fault}
+use Rattle.array_machine.specs.declared.answers.Moved.{Moved}
 use Rattle.array_machine.specs.declared.answers.Progress.{Progress}
 use Rattle.array_machine.specs.declared.answers.Progress.TheVariants as progress
 use Rattle.array_machine.specs.declared.answers.StepError.{StepError}
@@ -37,7 +39,7 @@ use Rattle.array_machine.proofs.Clinging.{count_with, other_pushed, settled_plai
 use Rattle.array_machine.proofs.Accepting.{accepted}
 use Rattle.array_machine.proofs.Apart.{same_then}
 use Rattle.array_machine.proofs.Atomic.{IsSized, serves_sized, done_of, no_first}
-use Rattle.array_machine.proofs.Changes.{Goes, goes_consistent, goes_settled, step_goes}
+use Rattle.array_machine.proofs.Changes.{Goes, goes_consistent, goes_settled, goes_on, step_goes}
 use Rattle.array_machine.proofs.Finishes.{found_is_in, settled_found}
 use Rattle.array_machine.proofs.UnbrokenCalls.{tagged}
 use Rattle.array_machine.proofs.Ways.{each_way}
@@ -97,6 +99,27 @@ follow_with tag own e new s has t writes plain = record {
 
 -- ---- a step
 
+goes_on_follows : (tag : ℕ) (s new : ArrayState) (own : ℕ) (e : Entry) (p : Progress) → entry_of own s.entries ≡ Some e → GoesOn s own e p new →
+    Follows tag s new
+goes_on_follows tag s new own e (progress.Wrote done all) found h =
+    subst (λ x. Follows tag s x) (sym h.4)
+    (follow_with tag own e (record e { done = e.done + 1 }) s found (tagged own s.entries e found) refl (λ whole. (let plain = h.0 in cc)))
+goes_on_follows tag s new own e progress.Done found (inl h) = subst (λ x. Follows tag s x) (sym h.1) (follow_without tag own s)
+goes_on_follows tag s new own e progress.Done found (inr h) = subst (λ x. Follows tag s x) (sym h.2) (follow_taken tag own e s found)
+
+-- several go on, in turn
+turn_follows : (tag : ℕ) (es : List Entry) (ps : List Progress) (s new : ArrayState) → GoInTurn s es ps new → Follows tag s new
+turn_follows tag [] [] s new h = follow_same tag s new h
+turn_follows tag [] (p ∷ ps) s new h = absurd h
+turn_follows tag (e ∷ es) [] s new h = absurd h
+turn_follows tag (e ∷ es) (p ∷ ps) s new h =
+    follow_then tag s h.1.0 new (goes_on s h.1.0 e.tag e p h.0 h.1.1) (goes_on_follows tag s h.1.0 e.tag e p h.0 h.1.1)
+    (turn_follows tag es ps h.1.0 new h.1.2)
+
+step_all_follows : (tag : ℕ) (old new : ArrayState) (answer : Moved) → StepsAll old new answer → Follows tag old new
+step_all_follows tag old new answer (there, h) =
+    follow_on tag there old new new refl (turn_follows tag (take answer.moved (settled there old).entries) h.each (settled there old) new h.go)
+
 module _ (tag : ℕ) (there : Bool) (s new : ArrayState) (own : ℕ) (e : Entry)
     (found : entry_of own (settled there s).entries ≡ Some (settled_entry there e)) where
   its_tag : has_tag own (settled_entry there e) ≡ true
@@ -104,12 +127,8 @@ module _ (tag : ℕ) (there : Bool) (s new : ArrayState) (own : ℕ) (e : Entry)
 
   gives_follows : (result : Result Progress StepError) →
       StepGives s (settled there s) own (settled_entry there e) result new → Follows tag s new
-  gives_follows (Ok (progress.Wrote done all)) h =
-      follow_on tag there s new _ h.4
-      (follow_with tag own (settled_entry there e) (record (settled_entry there e) { done = e.done + 1 })
-      (settled there s) found its_tag refl (λ whole. (let plain = h.0 in cc)))
-  gives_follows (Ok progress.Done) (inl h) = follow_on tag there s new _ h.1 (follow_without tag own (settled there s))
-  gives_follows (Ok progress.Done) (inr h) = follow_on tag there s new _ h.2 (follow_taken tag own (settled_entry there e) (settled there s) found)
+  gives_follows (Ok progress) h =
+      follow_on tag there s new new refl (goes_on_follows tag (settled there s) new own (settled_entry there e) progress found h)
   gives_follows (Err failed.Unknown) h = absurd h
   gives_follows (Err failed.Fault) (inl same) = follow_same tag s new same
   gives_follows (Err failed.Fault) (inr h) = elim h.1 [
@@ -237,6 +256,7 @@ does_follow tag limits spent (command.Step own) old r new h = by_any tag r old n
 does_follow tag limits spent (command.Finish own) old r new h = by_any tag r old new (finish_follows tag h.0 old new own h.1 h.2)
 does_follow tag limits spent (command.Abort own) old r new h = by_any tag r old new
     (abort_follows_as tag (entry_of own old.entries) h.1.0 old new own h.0 refl h.1.1)
+does_follow tag limits spent command.StepAll old r new h = by_any tag r old new (step_all_follows tag old new h.0 h.1)
 does_follow tag limits spent command.Collect old r new h = by_any tag r old new (collect_follows tag old new h.0 h.1)
 does_follow tag limits spent command.Stats old r new h = by_any tag r old new (follow_same tag old new h.3)
 does_follow tag limits spent command.Explain old r new h = by_any tag r old new (follow_same tag old new h.1)
@@ -251,7 +271,7 @@ serves_follow tag limits spent c old r new serves =
     (λ h. by_any tag r old.machine new.machine (follow_same tag old.machine new.machine (ap (λ (s : RunState). s.machine) h.1)))
     (λ h. by_any tag r old.machine new.machine (follow_same tag old.machine new.machine (ap (λ (s : RunState). s.machine) h.2)))
     (λ h. does_follow tag limits spent c old.machine r new.machine h.0)
-    (λ h. by_any tag r old.machine new.machine (follow_none tag old.machine new.machine h.2.2))
+    (λ h. by_any tag r old.machine new.machine (follow_none tag old.machine new.machine h.1.2))
 
 -- ---- a run
 

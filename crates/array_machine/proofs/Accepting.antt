@@ -1,5 +1,6 @@
 -- What is so of a batch that is not refused.
-use Rattle.std.proofs.Common.{◌≡◌, ◌≢◌, ℕ, ◌-◌, ◌<◌, ◌≤◌, Bool, true, false, cond, List, [], ◌∷◌, ◌++◌, length, find, All, AllPairs, Option, Some, None, refl, sym, ap, ◌∙◌, inl, inr, arith, nat_lt, nat_le, ltb-true, leb-true, Contains}
+use Rattle.std.proofs.Common.{◌≡◌, ◌≢◌, ℕ, ◌-◌, ◌<◌, ◌≤◌, Bool, true, false, cond, List, [], ◌∷◌, ◌++◌, length, find, All, AllPairs, Option, Some, None, refl}
+use Rattle.std.proofs.Common.{sym, ap, ◌∙◌, inl, inr, arith, nat_lt, nat_le, ltb-true, leb-true, Contains}
 use Rattle.std.specs.Prelude.{option_map}
 use Rattle.std.specs.List.{list_any}
 use Rattle.std.proofs.lemmas.Bool.{eqb-false}
@@ -10,7 +11,8 @@ use Rattle.list_facts.proofs.Options.{map_none}
 use Rattle.list_facts.proofs.Tests.{any_none, none_parts, none_found}
 use Rattle.tx_types.specs.Batch.{PageWrite}
 use Rattle.array_machine.specs.ArrayState.{Entry, has_tag, pending_pages}
-use Rattle.array_machine.specs.Submit.{Limits, is_of, is_owner, or_else, first_refusal, empty, range, repeated, tag_used, overlap, free_of, spent_page, first_refusals}
+use Rattle.array_machine.specs.Submit.{Limits, is_of, is_owner, or_else, first_refusal, empty, range, repeated, tag_used, overlap, free_of, spent_page}
+use Rattle.array_machine.specs.Submit.{first_refusals}
 use Rattle.array_machine.specs.declared.answers.SubmitError.{SubmitError}
 use Rattle.array_machine.specs.declared.answers.SubmitError.TheVariants as refused
 
@@ -73,7 +75,8 @@ none_owned entries ws h =
     (All-contains (λ w. option_map (λ e. refused.Overlap w.page e.tag) (find (is_owner w.page) entries) ≡ None) ws w refusals i) in
     eqb-false v.page w.page (any_none (is_of w.page) e.writes (none_found (is_owner w.page) entries none e j) v k))))
 
-pub accepted : (limits : Limits) (entries : List Entry) (tag : ℕ) (ws : List PageWrite) → first_refusals limits entries tag ws ≡ None → IsAccepted limits entries tag ws
+pub accepted : (limits : Limits) (entries : List Entry) (tag : ℕ) (ws : List PageWrite) → first_refusals limits entries tag ws ≡ None →
+    IsAccepted limits entries tag ws
 accepted limits entries tag ws h =
     let first = both_none (empty ws) _ h in
     let second = both_none (range limits.logical ws) _ first.1 in
@@ -90,7 +93,8 @@ accepted limits entries tag ws h =
       unused = all_from (λ e. e.tag ≢ tag) entries (λ e i.
           eqb-false e.tag tag (any_none (has_tag tag) entries (none_cond (list_any (has_tag tag) entries) refused.Tag fourth.0) e i));
       unowned = none_owned entries ws fifth.0;
-      room = leb-true (length ws) (limits.pending - pending_pages entries) (cond_none (nat_le (length ws) (free_of limits.pending entries)) (refused.Full (free_of limits.pending entries)) fifth.1);
+      room = leb-true (length ws) (limits.pending - pending_pages entries) (cond_none (nat_le (length ws) (free_of limits.pending entries))
+          (refused.Full (free_of limits.pending entries)) fifth.1);
     }
 
 -- and of one whose pages have versions left

@@ -1,5 +1,6 @@
 -- Open transactions that write no page twice, and what the array has of each when it takes one.
-use Rattle.std.proofs.Common.{◌≡◌, ◌≢◌, ◌⊎◌, ℕ, Bool, true, false, cond, List, [], ◌∷◌, ◌++◌, length, All, AllPairs, Some, refl, sym, ap, ◌∙◌, subst, inl, inr, Contains}
+use Rattle.std.proofs.Common.{◌≡◌, ◌≢◌, ◌⊎◌, ℕ, Bool, true, false, cond, List, [], ◌∷◌, ◌++◌, length, All, AllPairs, Some, refl, sym, ap, ◌∙◌, subst, inl, inr}
+use Rattle.std.proofs.Common.{Contains}
 use Rattle.std.proofs.lemmas.List.Elements.{All-nil, All-cons, All-head, All-tail, All-map, All-contains}
 use Rattle.list_facts.proofs.Membership.{all_from, Contains-cases, Contains-nil}
 use Rattle.list_facts.proofs.Pairs.{in_order, pairs_head, pairs_tail}
@@ -10,7 +11,8 @@ use Rattle.array_machine.specs.declared.mark.Mark.{Mark}
 use Rattle.array_machine.specs.declared.mark.Mark.TheVariants.{Plain, Doubt, Whole}
 use Rattle.array_machine.specs.Run.{Avoid, AllAvoid, EntriesAreApart, HasWhole, HasSame, IsConsistent}
 use Rattle.array_machine.proofs.Finishes.{found_is_in}
-use Rattle.array_machine.proofs.Taking.{AreWithin, ArePart, put_length, put_other, put_has, put_append, doubted_avoid, within_kept, part_same, part_less, part_all}
+use Rattle.array_machine.proofs.Taking.{AreWithin, ArePart, put_length, put_other, put_has, put_append, doubted_avoid, within_kept, part_same, part_less}
+use Rattle.array_machine.proofs.Taking.{part_all}
 
 pub share_back : (a b : Entry) → EntriesAreApart a b → EntriesAreApart b a
 share_back a b h =
@@ -65,12 +67,14 @@ beside_then old new es fs e long part h = record {
   each = part_all (SameOrApart e) fs es part h.each;
 }
 
-pub beside_taken : (pages : Pages) (es : List Entry) (e : Entry) → IsBeside pages es e → (ws : List PageWrite) → SameOrApart e ws → WholeOrSame pages (put pages ws) e
+pub beside_taken : (pages : Pages) (es : List Entry) (e : Entry) → IsBeside pages es e → (ws : List PageWrite) → SameOrApart e ws →
+    WholeOrSame pages (put pages ws) e
 beside_taken pages es e h ws (inl same) = inl (subst (λ vs. HasWhole (put pages vs) e) (sym same) (put_has e.writes pages h.distinct h.within))
 beside_taken pages es e h ws (inr share) = inr (other_same pages e ws share)
 
 beside_first : (x e : Entry) (es : List Entry) (pages : Pages) (b : Bool) → IsBeside pages (x ∷ es) e →
-    ((p : Pages) → length p ≡ length pages → WholeOrSame p (put p (doubted es)) e) → WholeOrSame pages (put pages (cond b (x.writes ++ doubted es) (doubted es))) e
+    ((p : Pages) → length p ≡ length pages → WholeOrSame p (put p (doubted es)) e) →
+    WholeOrSame pages (put pages (cond b (x.writes ++ doubted es) (doubted es))) e
 beside_first x e es pages true h rest =
     rw (put_append x.writes (doubted es) pages)
     (whole_or_then pages (put pages x.writes) (put (put pages x.writes) (doubted es)) e
@@ -80,7 +84,8 @@ beside_first x e es pages false h rest = rest pages refl
 beside_doubted : (es : List Entry) (pages : Pages) (e : Entry) → IsBeside pages es e → WholeOrSame pages (put pages (doubted es)) e
 beside_doubted [] pages e h = inr (λ k d lt. refl)
 beside_doubted (x ∷ es) pages e h =
-    beside_first x e es pages (is_doubted x.mark) h (λ p long. beside_doubted es p e (beside_then pages p (x ∷ es) es e long (part_less x es es (part_same es)) h))
+    beside_first x e es pages (is_doubted x.mark) h (λ p long. beside_doubted es p e
+    (beside_then pages p (x ∷ es) es e long (part_less x es es (part_same es)) h))
 
 pub beside_settled : (there : Bool) (s : ArrayState) (e : Entry) → IsBeside s.pages s.entries e → WholeOrSame s.pages (settled there s).pages e
 beside_settled true s e h = beside_doubted s.entries s.pages e h
@@ -122,18 +127,21 @@ well_tail : (x : Entry) (es : List Entry) (old new : Pages) → length new ≡ l
 well_tail x es old new long h = record {
   distinct = All-tail (λ e. AllPairs (λ v w. v.page ≢ w.page) e.writes) x es h.distinct;
   apart = pairs_tail EntriesAreApart x es h.apart;
-  within = all_from (λ e. AreWithin new e.writes) es (λ e i. within_kept old new e.writes long (All-contains (λ e. AreWithin old e.writes) es e (All-tail (λ e. AreWithin old e.writes) x es h.within) i));
+  within = all_from (λ e. AreWithin new e.writes) es (λ e i. within_kept old new e.writes long
+      (All-contains (λ e. AreWithin old e.writes) es e (All-tail (λ e. AreWithin old e.writes) x es h.within) i));
 }
 
 -- with the first of them, and then the others
-first_doubted : (x : Entry) (es : List Entry) (pages : Pages) (b : Bool) → is_doubted x.mark ≡ b → AreWell (x ∷ es) pages → AsDoubted pages (put pages (cond b (x.writes ++ doubted es) (doubted es))) x
+first_doubted : (x : Entry) (es : List Entry) (pages : Pages) (b : Bool) → is_doubted x.mark ≡ b → AreWell (x ∷ es) pages →
+    AsDoubted pages (put pages (cond b (x.writes ++ doubted es) (doubted es))) x
 first_doubted x es pages b is h =
     let others : All (λ e. EntriesAreApart x e) es = all_from (λ e. EntriesAreApart x e) es (λ e i. pairs_head EntriesAreApart x es e h.apart i) in
     by b is others
   where
     by : (b : Bool) → is_doubted x.mark ≡ b → All (λ e. EntriesAreApart x e) es → AsDoubted pages (put pages (cond b (x.writes ++ doubted es) (doubted es))) x
     by true is others =
-        let taken = put_has x.writes pages (All-head (λ e. AllPairs (λ v w. v.page ≢ w.page) e.writes) x es h.distinct) (All-head (λ e. AreWithin pages e.writes) x es h.within) in
+        let taken = put_has x.writes pages (All-head (λ e. AllPairs (λ v w. v.page ≢ w.page) e.writes) x es h.distinct)
+        (All-head (λ e. AreWithin pages e.writes) x es h.within) in
         inl (
           is,
           subst (λ (p : Pages). HasWhole p x) (sym (put_append x.writes (doubted es) pages))
@@ -141,7 +149,8 @@ first_doubted x es pages b is h =
         )
     by false is others = inr (is, doubted_same x es pages others)
 
-later_doubted : (x e : Entry) (es : List Entry) (pages : Pages) (b : Bool) → EntriesAreApart e x → ((p : Pages) → length p ≡ length pages → AsDoubted p (put p (doubted es)) e) →
+later_doubted : (x e : Entry) (es : List Entry) (pages : Pages) (b : Bool) → EntriesAreApart e x →
+    ((p : Pages) → length p ≡ length pages → AsDoubted p (put p (doubted es)) e) →
     AsDoubted pages (put pages (cond b (x.writes ++ doubted es) (doubted es))) e
 later_doubted x e es pages true share rest =
     rw (put_append x.writes (doubted es) pages)
@@ -165,14 +174,16 @@ well : (s : ArrayState) → IsConsistent s → AreWell s.entries s.pages
 well s ok = record { distinct = ok.distinct; apart = ok.apart; within = ok.within }
 
 -- one that is not in doubt is not taken
-pub settled_sure_same : (there : Bool) (s : ArrayState) (e : Entry) → IsConsistent s → Contains s.entries e → is_doubted e.mark ≡ false → HasSame s.pages (settled there s).pages e
+pub settled_sure_same : (there : Bool) (s : ArrayState) (e : Entry) → IsConsistent s → Contains s.entries e → is_doubted e.mark ≡ false →
+    HasSame s.pages (settled there s).pages e
 settled_sure_same true s e ok i sure = elim (each_doubted s.entries s.pages e (well s ok) i) [
   | inl whole ↦ (let both = sym sure ∙ whole.0 in cc)
   | inr same ↦ same.1
 ]
 settled_sure_same false s e ok i sure = λ k d lt. refl
 
-settled_whole_at : (there : Bool) (s : ArrayState) (e : Entry) (m : Mark) → e.mark ≡ m → IsConsistent s → Contains s.entries e → settled_mark there m ≡ Whole → HasWhole (settled there s).pages e
+settled_whole_at : (there : Bool) (s : ArrayState) (e : Entry) (m : Mark) → e.mark ≡ m → IsConsistent s → Contains s.entries e → settled_mark there m ≡ Whole →
+    HasWhole (settled there s).pages e
 settled_whole_at there s e Plain is ok i h = cc
 settled_whole_at true s e Doubt is ok i h = elim (each_doubted s.entries s.pages e (well s ok) i) [
   | inl whole ↦ whole.1
@@ -205,7 +216,8 @@ all_with P tag new (e ∷ es) its h = elim (has_tag tag e) as (λ b. All P (cond
 ]
 
 -- those beside the one with a tag write none of its pages
-goes_step : (tag : ℕ) (x e : Entry) (es : List Entry) (b : Bool) → AllPairs EntriesAreApart (x ∷ es) → (entry_of tag es ≡ Some e → All (λ f. EntriesAreApart e f) (without tag es)) →
+goes_step : (tag : ℕ) (x e : Entry) (es : List Entry) (b : Bool) → AllPairs EntriesAreApart (x ∷ es) →
+    (entry_of tag es ≡ Some e → All (λ f. EntriesAreApart e f) (without tag es)) →
     cond b (Some x) (entry_of tag es) ≡ Some e → All (λ f. EntriesAreApart e f) (cond b es (x ∷ without tag es))
 goes_step tag x e es true apart rest h =
     let is : x ≡ e = cc in
@@ -213,9 +225,11 @@ goes_step tag x e es true apart rest h =
 goes_step tag x e es false apart rest h =
     All-cons (λ f. EntriesAreApart e f) x (without tag es) (share_back x e (pairs_head EntriesAreApart x es e apart (found_is_in tag es e h))) (rest h)
 
-without_share : (tag : ℕ) (es : List Entry) (e : Entry) → AllPairs EntriesAreApart es → entry_of tag es ≡ Some e → All (λ f. EntriesAreApart e f) (without tag es)
+without_share : (tag : ℕ) (es : List Entry) (e : Entry) → AllPairs EntriesAreApart es → entry_of tag es ≡ Some e →
+    All (λ f. EntriesAreApart e f) (without tag es)
 without_share tag [] e apart h = All-nil (λ (f : Entry). EntriesAreApart e f)
 without_share tag (x ∷ es) e apart h = goes_step tag x e es (has_tag tag x) apart (without_share tag es e (pairs_tail EntriesAreApart x es apart)) h
 
-pub without_avoids : (tag : ℕ) (es : List Entry) (e : Entry) → AllPairs EntriesAreApart es → entry_of tag es ≡ Some e → All (λ w. AllAvoid w.page (without tag es)) e.writes
+pub without_avoids : (tag : ℕ) (es : List Entry) (e : Entry) → AllPairs EntriesAreApart es → entry_of tag es ≡ Some e →
+    All (λ w. AllAvoid w.page (without tag es)) e.writes
 without_avoids tag es e apart h = others_avoid e (without tag es) (without_share tag es e apart h)

@@ -1,16 +1,20 @@
 -- What a command changes in the array: what settling takes, and all pages of one transaction or none.
-use Rattle.std.proofs.Common.{◌≡◌, ℕ, Bool, false, List, [], ◌∷◌, Option, Some, None, Result, Ok, Err, refl, sym, ap, ◌∙◌, inl, inr, All, eqb-true}
+use Rattle.std.proofs.Common.{◌≡◌, ℕ, Bool, false, List, [], ◌∷◌, Option, Some, None, Result, Ok, Err, refl, sym, ap, ◌∙◌, subst, inl, inr, take, All, Contains}
+use Rattle.std.proofs.Common.{eqb-true}
 use Rattle.std.specs.Prelude.{MatchOption}
+use Rattle.std.proofs.lemmas.List.{take-map}
 use Rattle.std.proofs.lemmas.List.Elements.{All-head, All-tail}
 use Rattle.tx_types.specs.Batch.{PageWrite}
 use Rattle.array_machine.specs.ArrayState.{ArrayState, Entry, Pages, entry_of, is_doubted}
+use Rattle.array_machine.specs.Batches.{GoInTurn, MayTakeEach, StepsAll}
 use Rattle.array_machine.specs.Collect.{Collects}
-use Rattle.array_machine.specs.Step.{Steps, StepGives, AbortGives, IsAtLast, doubted, settled, settled_entry}
+use Rattle.array_machine.specs.Step.{Steps, StepGives, GoesOn, AbortGives, IsAtLast, doubted, settled, settled_entry}
 use Rattle.array_machine.specs.Submit.{Limits, opened, refusal}
 use Rattle.array_machine.specs.declared.answers.Aborted.{Aborted}
 use Rattle.array_machine.specs.declared.answers.Aborted.TheVariants as aborted
 use Rattle.array_machine.specs.declared.answers.Collected.{Collected}
 use Rattle.array_machine.specs.declared.answers.Fault.{Fault}
+use Rattle.array_machine.specs.declared.answers.Moved.{Moved}
 use Rattle.array_machine.specs.declared.answers.Progress.{Progress}
 use Rattle.array_machine.specs.declared.answers.Progress.TheVariants as progress
 use Rattle.array_machine.specs.declared.answers.StepError.{StepError}
@@ -21,9 +25,10 @@ use Rattle.host_protocol.specs.declared.command.Command.{Command}
 use Rattle.host_protocol.specs.declared.command.Command.TheVariants as command
 use Rattle.host_protocol.specs.declared.reply.Reply.{Reply}
 use Rattle.host_protocol.specs.declared.reply.Reply.TheVariants as reply
-use Rattle.array_machine.specs.Run.{RunState, Serves, DoesCommand, MayComplete, Finishes, ChangesAtOnce, IsDoneOrCut, step_reply}
+use Rattle.array_machine.specs.Run.{RunState, Serves, DoesCommand, MayComplete, MayLose, LosesOpen, Finishes, ChangesAtOnce, Completes, moved_reply, step_reply}
 use Rattle.array_machine.proofs.Finishes.{Comes, comes_before, found_writes, found_is_in, settled_sure}
 use Rattle.array_machine.proofs.Ways.{each_way}
+use Rattle.array_machine.proofs.Each.{each_weaker, each_front, each_unsettled, takes_none, takes_weaker, takes_idle}
 
 comes_same : (Q : Entry → Type 0) (old new : ArrayState) → new ≡ old → Comes Q old new.pages
 comes_same Q old new same = (false, inl (ap (λ (s : ArrayState). s.pages) same))
@@ -74,9 +79,11 @@ abbrev IsFinished : ℕ → Result Progress StepError → Entry → Type 0
 IsFinished tag result e = (e.tag ≡ tag) × (result ≡ Ok progress.Done)
 
 last_comes : (old new : ArrayState) (tag : ℕ) (result : Result Progress StepError) → Steps old new tag result → Comes (IsFinished tag result) old new.pages
-last_comes old new tag result h = comes_weaker (IsCompleted tag result) (IsFinished tag result) old new.pages (λ e k. (k.0, k.2)) (step_comes old new tag result h)
+last_comes old new tag result h = comes_weaker (IsCompleted tag result) (IsFinished tag result) old new.pages (λ e k. (k.0, k.2))
+    (step_comes old new tag result h)
 
-finish_comes : (mids : List ArrayState) (old new : ArrayState) (tag : ℕ) (result : Result Progress StepError) → Finishes old mids new tag result → Comes (IsFinished tag result) old new.pages
+finish_comes : (mids : List ArrayState) (old new : ArrayState) (tag : ℕ) (result : Result Progress StepError) → Finishes old mids new tag result →
+    Comes (IsFinished tag result) old new.pages
 finish_comes [] old new tag (Ok (progress.Wrote done all)) h = absurd h
 finish_comes [] old new tag (Ok progress.Done) h = last_comes old new tag (Ok progress.Done) h
 finish_comes [] old new tag (Err e) h = last_comes old new tag (Err e) h
@@ -87,7 +94,8 @@ finish_comes (mid ∷ mids) old new tag result h =
 -- ---- the other commands
 
 abort_comes_as : (Q : Entry → Type 0) (o : Option Entry) (there : Bool) (old new : ArrayState) (tag : ℕ) (result : Result Aborted StepError) →
-    MatchOption o ((result ≡ Err failed.Unknown) × (new ≡ old)) (λ e. AbortGives old (settled there old) tag (settled_entry there e) result new) → Comes Q old new.pages
+    MatchOption o ((result ≡ Err failed.Unknown) × (new ≡ old)) (λ e. AbortGives old (settled there old) tag (settled_entry there e) result new) →
+    Comes Q old new.pages
 abort_comes_as Q None there old new tag result h = comes_same Q old new h.1
 abort_comes_as Q (Some e) there old new tag (Ok aborted.Gone) h = comes_settled Q there old new (ap (λ (s : ArrayState). s.pages) h.1)
 abort_comes_as Q (Some e) there old new tag (Ok aborted.Late) h = comes_settled Q there old new (ap (λ (s : ArrayState). s.pages) h.1)
@@ -101,40 +109,92 @@ collect_comes Q old new (Err fault) h = elim h.1 [
   | inr settles ↦ comes_settled Q h.0 old new (ap (λ (s : ArrayState). s.pages) settles)
 ]
 
-opened_comes : (Q : Entry → Type 0) (o : Option SubmitError) (tag : ℕ) (ws : List PageWrite) (s new : ArrayState) → new ≡ opened o tag ws s → Comes Q s new.pages
+opened_comes : (Q : Entry → Type 0) (o : Option SubmitError) (tag : ℕ) (ws : List PageWrite) (s new : ArrayState) → new ≡ opened o tag ws s →
+    Comes Q s new.pages
 opened_comes Q None tag ws s new is = (false, inl (ap (λ (s : ArrayState). s.pages) is))
 opened_comes Q (Some e) tag ws s new is = comes_same Q s new is
 
+-- ---- several at once
+
+turn_takes : (es : List Entry) (ps : List Progress) (s new : ArrayState) → GoInTurn s es ps new → MayTakeEach s.pages IsAtLast es new.pages
+turn_takes [] [] s new h = ap (λ (s : ArrayState). s.pages) h
+turn_takes [] (p ∷ ps) s new h = absurd h
+turn_takes (e ∷ es) [] s new h = absurd h
+turn_takes (e ∷ es) (p ∷ ps) s new (found, (mid, goes, h)) = turned p goes (turn_takes es ps mid new h)
+  where
+    turned : (p : Progress) → GoesOn s e.tag e p mid → MayTakeEach mid.pages IsAtLast es new.pages → MayTakeEach s.pages IsAtLast (e ∷ es) new.pages
+    turned (progress.Wrote done all) goes rest =
+        inl (subst (λ (pages : Pages). MayTakeEach pages IsAtLast es new.pages) (ap (λ (s : ArrayState). s.pages) goes.4) rest)
+    turned progress.Done (inl whole) rest =
+        inl (subst (λ (pages : Pages). MayTakeEach pages IsAtLast es new.pages) (ap (λ (s : ArrayState). s.pages) whole.1) rest)
+    turned progress.Done (inr last) rest =
+        inr (last.1, subst (λ (pages : Pages). MayTakeEach pages IsAtLast es new.pages) (ap (λ (s : ArrayState). s.pages) last.2) rest)
+
+step_all_comes : (old new : ArrayState) (answer : Moved) → StepsAll old new answer → ChangesAtOnce command.StepAll (moved_reply answer) old new
+step_all_comes old new answer (there, h) =
+    let mid = settled there old in
+    let first = take answer.moved old.entries in
+    let all = turn_takes (take answer.moved mid.entries) h.each mid new h.go in
+    let before : MayTakeEach mid.pages IsAtLast first new.pages = each_unsettled IsAtLast there first mid.pages new.pages (λ e last. last)
+    (subst (λ (es : List Entry). MayTakeEach mid.pages IsAtLast es new.pages) (take-map (settled_entry there) answer.moved old.entries) all) in
+    let Q : Entry → Type 0 = λ e. IsAtLast e × Contains first e in (
+      there,
+      each_front Q answer.moved old.entries mid.pages new.pages
+          (each_weaker IsAtLast Q first mid.pages new.pages (λ e i last. (last, i)) before),
+    )
+
 -- ---- a command
 
-abbrev IsTakenBy : Command → Reply → Entry → Type 0
-IsTakenBy c r e = MayComplete c e × IsDoneOrCut r e.tag
+-- what is taken is completed, by the reply
+by_reply : (c : Command) (old : ArrayState) (r : Reply) (e : Entry) → r ≡ reply.Done e.tag → MayComplete c e → Completes c old r e
+by_reply c old r e is may = subst (λ q. Completes c old q e) (sym is) (may, refl)
 
-does_comes : (limits : Limits) (spent : ℕ → Bool) (c : Command) (old : ArrayState) (r : Reply) (new : ArrayState) → DoesCommand limits spent c old r new → Comes (IsTakenBy c r) old new.pages
-does_comes limits spent (command.Read page) old r new h = comes_same _ old new h.4
-does_comes limits spent (command.Write tag batch) old r new h = opened_comes _ (refusal limits spent old.entries tag batch.entries) tag batch.entries old new h.1.opens
-does_comes limits spent (command.Step tag) old r new h =
-    comes_weaker (IsCompleted tag h.0) (IsTakenBy (command.Step tag) r) old new.pages
-    (λ e k. ((k.0, k.1), inl (h.2 ∙ ap (step_reply tag) k.2 ∙ ap reply.Done (sym k.0)))) (step_comes old new tag h.0 h.1)
-does_comes limits spent (command.Finish tag) old r new h =
-    comes_weaker (IsFinished tag h.1) (IsTakenBy (command.Finish tag) r) old new.pages
-    (λ e k. (k.0, inl (h.3 ∙ ap (step_reply tag) k.1 ∙ ap reply.Done (sym k.0)))) (finish_comes h.0 old new tag h.1 h.2)
-does_comes limits spent (command.Abort tag) old r new h = abort_comes_as _ (entry_of tag old.entries) h.1.0 old new tag h.0 h.1.1
-does_comes limits spent command.Collect old r new h = collect_comes _ old new h.0 h.1
-does_comes limits spent command.Stats old r new h = comes_same _ old new h.3
-does_comes limits spent command.Explain old r new h = comes_same _ old new h.1
-does_comes limits spent (command.Cut count what) old r new h = absurd h
-does_comes limits spent (command.Fault count what) old r new h = absurd h
-does_comes limits spent (command.BadRead count) old r new h = absurd h
+does_at_once : (limits : Limits) (spent : ℕ → Bool) (c : Command) (old : ArrayState) (r : Reply) (new : ArrayState) →
+    DoesCommand limits spent c old r new → ChangesAtOnce c r old new
+does_at_once limits spent (command.Read page) old r new h = comes_same _ old new h.4
+does_at_once limits spent (command.Write tag batch) old r new h =
+    opened_comes _ (refusal limits spent old.entries tag batch.entries) tag batch.entries old new h.1.opens
+does_at_once limits spent (command.Step tag) old r new h =
+    comes_weaker (IsCompleted tag h.0) (Completes (command.Step tag) old r) old new.pages
+    (λ e k. by_reply (command.Step tag) old r e (h.2 ∙ ap (step_reply tag) k.2 ∙ ap reply.Done (sym k.0)) (k.0, k.1)) (step_comes old new tag h.0 h.1)
+does_at_once limits spent (command.Finish tag) old r new h =
+    comes_weaker (IsFinished tag h.1) (Completes (command.Finish tag) old r) old new.pages
+    (λ e k. by_reply (command.Finish tag) old r e (h.3 ∙ ap (step_reply tag) k.1 ∙ ap reply.Done (sym k.0)) k.0) (finish_comes h.0 old new tag h.1 h.2)
+does_at_once limits spent (command.Abort tag) old r new h = abort_comes_as _ (entry_of tag old.entries) h.1.0 old new tag h.0 h.1.1
+does_at_once limits spent command.StepAll old r new h =
+    subst (λ q. ChangesAtOnce command.StepAll q old new) (sym h.2) (step_all_comes old new h.0 h.1)
+does_at_once limits spent command.Collect old r new h = collect_comes _ old new h.0 h.1
+does_at_once limits spent command.Stats old r new h = comes_same _ old new h.3
+does_at_once limits spent command.Explain old r new h = comes_same _ old new h.1
+does_at_once limits spent (command.Cut count what) old r new h = absurd h
+does_at_once limits spent (command.Fault count what) old r new h = absurd h
+does_at_once limits spent (command.BadRead count) old r new h = absurd h
 
-machine_comes : (Q : Entry → Type 0) (old new : RunState) → new ≡ old → Comes Q old.machine new.machine.pages
-machine_comes Q old new same = comes_same Q old.machine new.machine (ap (λ (s : RunState). s.machine) same)
+-- nothing changes
+same_at_once : (c : Command) (r : Reply) (old new : RunState) → new ≡ old → ChangesAtOnce c r old.machine new.machine
+same_at_once c r old new same =
+    subst (λ (s : RunState). ChangesAtOnce c r old.machine s.machine) (sym same) (
+      false,
+      takes_none c (Completes c old.machine r) old.machine.entries old.machine.pages,
+    )
+
+-- what is open is lost
+lost_completes : (c : Command) (old : ArrayState) (pages : Pages) (r : Reply) (e : Entry) → MayLose c pages r → MayComplete c e → Completes c old r e
+lost_completes c old pages r e (inl cut) may = subst (λ q. Completes c old q e) (sym cut.0) may
+lost_completes c old pages r e (inr drops) may = subst (λ q. Completes c old q e) (sym drops.0) may
+
+lost_at_once : (c : Command) (old : RunState) (r : Reply) (new : RunState) → LosesOpen c old r new → ChangesAtOnce c r old.machine new.machine
+lost_at_once c old r new (may, (there, takes, none)) = (
+  there,
+  takes_weaker c (MayComplete c) (Completes c old.machine r) old.machine.entries (settled there old.machine).pages new.machine.pages
+      (λ e i completes. lost_completes c old.machine old.machine.pages r e may completes) takes,
+)
 
 pub serves_at_once : (limits : Limits) (spent : ℕ → Bool) (c : Command) (old : RunState) (r : Reply) (new : RunState) → Serves limits spent c old r new →
     ChangesAtOnce c r old.machine new.machine
 serves_at_once limits spent c old r new serves =
-    each_way limits spent c old r new serves (λ h. machine_comes _ old new h.1) (λ h. machine_comes _ old new h.2) (λ h. does_comes limits spent c old.machine r new.machine h.0)
-    (λ h. comes_weaker (MayComplete c) (IsTakenBy c r) old.machine new.machine.pages (λ e k. (k, inr h.0)) (h.2.0, h.2.1))
+    each_way limits spent c old r new serves (λ h. same_at_once c r old new h.1) (λ h. same_at_once c r old new h.2)
+    (λ h. does_at_once limits spent c old.machine r new.machine h.0) (lost_at_once c old r new)
 
 -- where nothing is in doubt, nothing is taken by settling
 none_doubted : (es : List Entry) → All (λ e. is_doubted e.mark ≡ false) es → doubted es ≡ []
@@ -144,11 +204,9 @@ none_doubted (e ∷ es) h =
     (none_doubted es (All-tail (λ (e : Entry). is_doubted e.mark ≡ false) e es h))
 
 pub serves_stays : (limits : Limits) (spent : ℕ → Bool) (c : Command) (old : RunState) (r : Reply) (new : RunState) → Serves limits spent c old r new →
-    All (λ e. is_doubted e.mark ≡ false) old.machine.entries → ((tag : ℕ) → IsDoneOrCut r tag → ⊥) → new.machine.pages ≡ old.machine.pages
+    All (λ e. is_doubted e.mark ≡ false) old.machine.entries →
+    ((e : Entry) → Contains old.machine.entries e → Completes c old.machine r e → ⊥) → new.machine.pages ≡ old.machine.pages
 serves_stays limits spent c old r new serves sure other =
     let h = serves_at_once limits spent c old r new serves in
-    let same = settled_sure h.0 old.machine (none_doubted old.machine.entries sure) in
-    elim h.1 [
-      | inl settles ↦ settles ∙ same
-      | inr took ↦ absurd (other took.0.tag took.1.1.1)
-    ]
+    takes_idle c (Completes c old.machine r) old.machine.entries (settled h.0 old.machine).pages new.machine.pages other h.1
+    ∙ settled_sure h.0 old.machine (none_doubted old.machine.entries sure)

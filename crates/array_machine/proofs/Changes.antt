@@ -1,5 +1,7 @@
 -- What a command changes in the array, and which transactions it leaves open.
-use Rattle.std.proofs.Common.{◌≡◌, ◌≢◌, ◌⊎◌, ℕ, Bool, true, false, cond, List, [], ◌∷◌, length, zip, All, AllPairs, Option, Some, None, Result, Ok, Err, refl, sym, ap, ◌∙◌, subst, inl, inr}
+use Rattle.std.proofs.Common.{◌≡◌, ◌≢◌, ◌⊎◌, ℕ, ◌+◌, Bool, true, false, cond, List, [], ◌∷◌, length, take, zip, All, AllPairs, Option, Some, None, Result, Ok}
+use Rattle.std.proofs.Common.{Err, refl}
+use Rattle.std.proofs.Common.{sym, ap, ◌∙◌, subst, inl, inr}
 use Rattle.std.specs.Prelude.{MatchOption}
 use Rattle.std.proofs.lemmas.List.Elements.{All-nil, All-head, All-tail, All-push, All-contains}
 use Rattle.list_facts.proofs.Membership.{all_from}
@@ -7,13 +9,15 @@ use Rattle.tx_types.specs.Batch.{PageWrite, Writes}
 use Rattle.array_machine.specs.ArrayState.{ArrayState, Entry, Pages, entry_of, opening, page_at, put, with_entry, without}
 use Rattle.array_machine.specs.Collect.{Collects}
 use Rattle.array_machine.specs.ArrayState.{StandsFor}
-use Rattle.array_machine.specs.Step.{Steps, StepGives, AbortGives, CutLeaves, settled, settled_entry}
+use Rattle.array_machine.specs.Batches.{GoInTurn, StepsAll}
+use Rattle.array_machine.specs.Step.{Steps, StepGives, AbortGives, GoesOn, settled, settled_entry}
 use Rattle.array_machine.specs.Submit.{Limits, answer, opened, refusal}
-use Rattle.array_machine.specs.declared.mark.Mark.TheVariants.{Whole}
+use Rattle.array_machine.specs.declared.mark.Mark.TheVariants.{Doubt, Whole}
 use Rattle.array_machine.specs.declared.answers.Aborted.{Aborted}
 use Rattle.array_machine.specs.declared.answers.Aborted.TheVariants as aborted
 use Rattle.array_machine.specs.declared.answers.Collected.{Collected}
 use Rattle.array_machine.specs.declared.answers.Fault.{Fault}
+use Rattle.array_machine.specs.declared.answers.Moved.{Moved}
 use Rattle.array_machine.specs.declared.answers.Progress.{Progress}
 use Rattle.array_machine.specs.declared.answers.Progress.TheVariants as progress
 use Rattle.array_machine.specs.declared.answers.StepError.{StepError}
@@ -22,11 +26,15 @@ use Rattle.array_machine.specs.declared.answers.SubmitError.{SubmitError}
 use Rattle.host_protocol.specs.declared.command.Command.{Command}
 use Rattle.host_protocol.specs.declared.command.Command.TheVariants as command
 use Rattle.host_protocol.specs.declared.reply.Reply.{Reply}
-use Rattle.array_machine.specs.Run.{Run, RunState, Serves, DoesCommand, NotDone, IsCut, MayComplete, Finishes, is_opened, Avoid, AllAvoid, NoneOpens, HasWhole, IsConsistent, writes_in, opened_by, seen_after, submit_reply}
+use Rattle.array_machine.specs.Run.{Run, RunState, Serves, DoesCommand, NotDone, LosesOpen, CutLeavesOf, MayComplete, Finishes, is_opened, Avoid, AllAvoid}
+use Rattle.array_machine.specs.Run.{NoneOpens, HasWhole, IsConsistent, writes_in, opened_by, seen_after, submit_reply}
 use Rattle.array_machine.proofs.Finishes.{found_is_in, settled_found}
 use Rattle.array_machine.proofs.Ways.{each_way}
-use Rattle.array_machine.proofs.Apart.{WholeOrSame, SameOrApart, IsBeside, whole_same, whole_or_then, beside_then, beside_taken, beside_settled, beside_in, settled_whole, all_without, all_with}
-use Rattle.array_machine.proofs.Taking.{put_length, put_other, settled_other, settled_length, ArePart, part_none, part_same, part_then, part_settled, part_without, part_with, part_all, part_pairs, AreWithin, within_kept}
+use Rattle.array_machine.proofs.Each.{takes_other, takes_long, takes_atomic}
+use Rattle.array_machine.proofs.Apart.{WholeOrSame, SameOrApart, IsBeside, whole_same, whole_or_then, beside_then, beside_taken, beside_settled, beside_in}
+use Rattle.array_machine.proofs.Apart.{settled_whole, all_without, all_with}
+use Rattle.array_machine.proofs.Taking.{put_length, put_other, settled_other, settled_length, ArePart, part_none, part_same, part_then, part_settled}
+use Rattle.array_machine.proofs.Taking.{part_without, part_with, part_all, part_pairs, AreWithin, within_kept}
 
 -- No transaction is opened, and the array has as many pages as before and what the whole ones write. A page that no open
 -- transaction writes stays, and of each open one the array has all, or at all its pages what it had.
@@ -48,7 +56,14 @@ goes_consistent old new h ok = record {
 }
 
 pub goes_nowhere : (old new : ArrayState) → new ≡ old → Goes old new
-goes_nowhere old new same = rw same (record { part = part_same old.entries; stays = λ page h. refl; long = refl; whole = λ ok. ok.whole; atomic = λ e h. inr (λ k d lt. refl) })
+goes_nowhere old new same = rw same (record {
+  part = part_same old.entries;
+  stays = λ page h. refl;
+  long = refl;
+  whole = λ ok. ok.whole;
+  atomic =
+      λ e h. inr (λ k d lt. refl);
+})
 
 pub goes_then : (old mid new : ArrayState) → Goes old mid → Goes mid new → Goes old new
 goes_then old mid new h k = record {
@@ -74,7 +89,8 @@ abbrev WholeIsThere : ArrayState → Entry → Type 0
 WholeIsThere s e = e.mark ≡ Whole → HasWhole s.pages e
 
 -- the array stays, and some transactions
-goes_open : (s : ArrayState) (es : List Entry) → ArePart es s.entries → (All (WholeIsThere s) s.entries → All (WholeIsThere s) es) → Goes s (record s { entries = es })
+goes_open : (s : ArrayState) (es : List Entry) → ArePart es s.entries → (All (WholeIsThere s) s.entries → All (WholeIsThere s) es) →
+    Goes s (record s { entries = es })
 goes_open s es part whole = record { part = part; stays = λ page h. refl; long = refl; whole = λ ok. whole ok.whole; atomic = λ e b. inr (λ k d lt. refl) }
 
 pub goes_without : (s : ArrayState) (tag : ℕ) → Goes s (record s { entries = without tag s.entries })
@@ -85,7 +101,8 @@ whole_kept old new e (inl whole) h = whole
 whole_kept old new e (inr same) h = whole_same old new e h same
 
 -- the array takes the transaction with a tag
-pub goes_taken : (s : ArrayState) (tag : ℕ) (e : Entry) → entry_of tag s.entries ≡ Some e → Goes s (record { pages = put s.pages e.writes; entries = without tag s.entries })
+pub goes_taken : (s : ArrayState) (tag : ℕ) (e : Entry) → entry_of tag s.entries ≡ Some e →
+    Goes s (record { pages = put s.pages e.writes; entries = without tag s.entries })
 goes_taken s tag e found = record {
   part = part_without tag s.entries;
   stays = λ page h. put_other page e.writes s.pages (All-contains (λ (x : Entry). Avoid page x.writes) s.entries e h (found_is_in tag s.entries e found));
@@ -98,31 +115,52 @@ goes_taken s tag e found = record {
 }
   where
     takes : (x : Entry) → IsBeside s.pages s.entries x → WholeOrSame s.pages (put s.pages e.writes) x
-    takes x b = beside_taken s.pages s.entries x b e.writes (All-contains (λ (f : Entry). SameOrApart x f.writes) s.entries e b.each (found_is_in tag s.entries e found))
+    takes x b = beside_taken s.pages s.entries x b e.writes (All-contains (λ (f : Entry). SameOrApart x f.writes) s.entries e b.each
+        (found_is_in tag s.entries e found))
 
 goes_to : (old mid new : ArrayState) → new ≡ mid → Goes old mid → Goes old new
 goes_to old mid new same h = rw same h
 
 -- ---- a step
 
+-- a transaction goes on
+marked_goes : (s : ArrayState) (tag : ℕ) (e f : Entry) → entry_of tag s.entries ≡ Some e → f.writes ≡ e.writes → f.mark ≢ Whole →
+    Goes s (record s { entries = with_entry tag f s.entries })
+marked_goes s tag e f found same plain =
+    goes_open s _ (part_with tag f e s.entries same found) (all_with (WholeIsThere s) tag f s.entries (λ whole. absurd (plain whole)))
+
+pub goes_on : (s new : ArrayState) (tag : ℕ) (e : Entry) (progress : Progress) → entry_of tag s.entries ≡ Some e → GoesOn s tag e progress new → Goes s new
+goes_on s new tag e (progress.Wrote done all) found h =
+    goes_to s _ new h.4 (marked_goes s tag e (record e { done = e.done + 1 }) found refl (λ whole. (let plain = h.0 in cc)))
+goes_on s new tag e progress.Done found (inl h) = goes_to s _ new h.1 (goes_without s tag)
+goes_on s new tag e progress.Done found (inr h) = goes_to s _ new h.2 (goes_taken s tag e found)
+
+-- several go on, in turn
+pub turn_goes : (es : List Entry) (ps : List Progress) (s new : ArrayState) → GoInTurn s es ps new → Goes s new
+turn_goes [] [] s new h = goes_nowhere s new h
+turn_goes [] (p ∷ ps) s new h = absurd h
+turn_goes (e ∷ es) [] s new h = absurd h
+turn_goes (e ∷ es) (p ∷ ps) s new h =
+    goes_then s h.1.0 new (goes_on s h.1.0 e.tag e p h.0 h.1.1) (turn_goes es ps h.1.0 new h.1.2)
+
+step_all_goes : (old new : ArrayState) (answer : Moved) → StepsAll old new answer → Goes old new
+step_all_goes old new answer (there, h) =
+    goes_then old (settled there old) new (goes_settled there old) (turn_goes (take answer.moved (settled there old).entries) h.each
+    (settled there old) new h.go)
+
 module _ (there : Bool) (s new : ArrayState) (tag : ℕ) (e : Entry) (found : entry_of tag (settled there s).entries ≡ Some (settled_entry there e)) where
   then_goes : (mid : ArrayState) → new ≡ mid → Goes (settled there s) mid → Goes s new
   then_goes mid same goes = goes_then s (settled there s) new (goes_settled there s) (goes_to (settled there s) mid new same goes)
 
-  marked_goes : (f : Entry) → f.writes ≡ e.writes → f.mark ≢ Whole → new ≡ record (settled there s) { entries = with_entry tag f (settled there s).entries } → Goes s new
-  marked_goes f same plain is = then_goes _ is
-      (goes_open (settled there s) _ (part_with tag f (settled_entry there e) (settled there s).entries same found)
-      (all_with (WholeIsThere (settled there s)) tag f (settled there s).entries (λ whole. absurd (plain whole))))
-
   gives_goes : (result : Result Progress StepError) → StepGives s (settled there s) tag (settled_entry there e) result new → Goes s new
-  gives_goes (Ok (progress.Wrote done all)) h = marked_goes _ refl (λ whole. (let plain = h.0 in cc)) h.4
-  gives_goes (Ok progress.Done) (inl h) = then_goes _ h.1 (goes_without (settled there s) tag)
-  gives_goes (Ok progress.Done) (inr h) = then_goes _ h.2 (goes_taken (settled there s) tag (settled_entry there e) found)
+  gives_goes (Ok progress) h = then_goes new refl (goes_on (settled there s) new tag (settled_entry there e) progress found h)
   gives_goes (Err failed.Unknown) h = absurd h
   gives_goes (Err failed.Fault) (inl same) = goes_nowhere s new same
   gives_goes (Err failed.Fault) (inr h) = elim h.1 [
     | inl same ↦ then_goes (settled there s) same (goes_nowhere (settled there s) (settled there s) refl)
-    | inr doubt ↦ marked_goes _ refl (λ whole. cc) doubt.1
+    | inr doubt ↦
+        then_goes _ doubt.1
+        (marked_goes (settled there s) tag (settled_entry there e) (record (settled_entry there e) { mark = Doubt }) found refl (λ whole. cc))
   ]
 
   abort_goes : (result : Result Aborted StepError) → AbortGives s (settled there s) tag (settled_entry there e) result new → Goes s new
@@ -161,12 +199,14 @@ abbrev pub is_write : Command → Bool
 is_write (command.Write tag batch) = true
 is_write _ = false
 
-does_goes : (limits : Limits) (spent : ℕ → Bool) (c : Command) (old : ArrayState) (r : Reply) (new : ArrayState) → is_write c ≡ false → DoesCommand limits spent c old r new → Goes old new
+does_goes : (limits : Limits) (spent : ℕ → Bool) (c : Command) (old : ArrayState) (r : Reply) (new : ArrayState) → is_write c ≡ false →
+    DoesCommand limits spent c old r new → Goes old new
 does_goes limits spent (command.Read page) old r new other h = goes_nowhere old new h.4
 does_goes limits spent (command.Write tag batch) old r new other h = cc
 does_goes limits spent (command.Step tag) old r new other h = step_goes old new tag h.0 h.1
 does_goes limits spent (command.Finish tag) old r new other h = finish_goes h.0 old new tag h.1 h.2
 does_goes limits spent (command.Abort tag) old r new other h = abort_goes_as (entry_of tag old.entries) h.1.0 old new tag h.0 refl h.1.1
+does_goes limits spent command.StepAll old r new other h = step_all_goes old new h.0 h.1
 does_goes limits spent command.Collect old r new other h = collect_goes old new h.0 h.1
 does_goes limits spent command.Stats old r new other h = goes_nowhere old new h.3
 does_goes limits spent command.Explain old r new other h = goes_nowhere old new h.1
@@ -174,41 +214,30 @@ does_goes limits spent (command.Cut count what) old r new other h = absurd h
 does_goes limits spent (command.Fault count what) old r new other h = absurd h
 does_goes limits spent (command.BadRead count) old r new other h = absurd h
 
-pub cut_goes : (Q : Entry → Type 0) (old new : ArrayState) → CutLeaves Q old new → Goes old new
-cut_goes Q old new (there, takes, none) = record {
-  part = rw none (part_none old.entries);
-  stays = λ page h. elim takes [
-    | inl same ↦ ap (λ pages. page_at pages page) same ∙ settled_other there page old h
-    | inr took ↦
-        ap (λ pages. page_at pages page) took.2
-        ∙ put_other page took.0.writes (settled there old).pages (All-contains (λ (x : Entry). Avoid page x.writes) old.entries took.0 h took.1.0)
-        ∙ settled_other there page old h
-  ];
-  long = elim takes [
-    | inl same ↦ ap length same ∙ settled_length there old
-    | inr took ↦ ap length took.2 ∙ put_length took.0.writes (settled there old).pages ∙ settled_length there old
-  ];
-  whole = λ ok. rw none (All-nil (λ (e : Entry). e.mark ≡ Whole → HasWhole new.pages e));
-  atomic = λ e b.
-      let mid = settled there old in
-      let first = beside_settled there old e b in
-      elim takes [
-        | inl same ↦ rw same first
-        | inr took ↦
-            rw took.2 (whole_or_then old.pages mid.pages (put mid.pages took.0.writes) e first
-            (beside_taken mid.pages old.entries e (beside_then old.pages mid.pages old.entries old.entries e (settled_length there old) (part_same old.entries) b)
-            took.0.writes (All-contains (λ (f : Entry). SameOrApart e f.writes) old.entries took.0 b.each took.1.0)))
-      ];
-}
+pub lost_goes : (c : Command) (old new : ArrayState) → CutLeavesOf c old new → Goes old new
+lost_goes c old new (there, takes, none) =
+    let mid = settled there old in
+    record {
+      part = rw none (part_none old.entries);
+      stays = λ page h. takes_other c (MayComplete c) page old.entries mid.pages new.pages h takes ∙ settled_other there page old h;
+      long = takes_long c (MayComplete c) old.entries mid.pages new.pages takes ∙ settled_length there old;
+      whole = λ ok. rw none (All-nil (λ (e : Entry). e.mark ≡ Whole → HasWhole new.pages e));
+      atomic = λ e b.
+          whole_or_then old.pages mid.pages new.pages e (beside_settled there old e b)
+          (takes_atomic c (MayComplete c) old.entries e mid.pages new.pages
+          (beside_then old.pages mid.pages old.entries old.entries e (settled_length there old) (part_same old.entries) b) takes);
+    }
 
 machine_same : (old new : RunState) → new ≡ old → Goes old.machine new.machine
 machine_same old new same = goes_nowhere old.machine new.machine (ap (λ (s : RunState). s.machine) same)
 
 -- of a command that opens nothing
-serves_go : (limits : Limits) (spent : ℕ → Bool) (c : Command) (old : RunState) (r : Reply) (new : RunState) → is_write c ≡ false → Serves limits spent c old r new → Goes old.machine new.machine
+serves_go : (limits : Limits) (spent : ℕ → Bool) (c : Command) (old : RunState) (r : Reply) (new : RunState) → is_write c ≡ false →
+    Serves limits spent c old r new → Goes old.machine new.machine
 serves_go limits spent c old r new other serves =
-    each_way limits spent c old r new serves (λ h. machine_same old new h.1) (λ h. machine_same old new h.2) (λ h. does_goes limits spent c old.machine r new.machine other h.0)
-    (λ h. cut_goes (MayComplete c) old.machine new.machine h.2)
+    each_way limits spent c old r new serves (λ h. machine_same old new h.1) (λ h. machine_same old new h.2)
+    (λ h. does_goes limits spent c old.machine r new.machine other h.0)
+    (λ h. lost_goes c old.machine new.machine h.1)
 
 -- the pages that it does not write stay, and no transaction comes to write them
 record Stay (page : ℕ) (old new : ArrayState) : Type 0 where
@@ -231,8 +260,10 @@ pub record Opens (limits : Limits) (spent : ℕ → Bool) (c : Command) (r : Rep
   pub told : opened_by c r ≡ writes_in c
   pub opens : new ≡ opened None tag (writes_in c) old
 
-submitted_changes : (limits : Limits) (spent : ℕ → Bool) (tag : ℕ) (batch : Writes) (old : ArrayState) (r : Reply) (new : ArrayState) (result : Result (Unit {0}) SubmitError) (o : Option SubmitError) →
-    refusal limits spent old.entries tag batch.entries ≡ o → result ≡ answer o → r ≡ submit_reply tag (length batch.entries) result → new ≡ opened o tag batch.entries old →
+submitted_changes : (limits : Limits) (spent : ℕ → Bool) (tag : ℕ) (batch : Writes) (old : ArrayState) (r : Reply) (new : ArrayState)
+    (result : Result (Unit {0}) SubmitError) (o : Option SubmitError) →
+    refusal limits spent old.entries tag batch.entries ≡ o → result ≡ answer o → r ≡ submit_reply tag (length batch.entries) result →
+    new ≡ opened o tag batch.entries old →
     Goes old new ⊎ Opens limits spent (command.Write tag batch) r old new
 submitted_changes limits spent tag batch old r new result None fine answers told opens =
     let is : is_opened r ≡ true = ap is_opened (told ∙ ap (submit_reply tag (length batch.entries)) answers) in
@@ -240,12 +271,14 @@ submitted_changes limits spent tag batch old r new result None fine answers told
 submitted_changes limits spent tag batch old r new result (Some e) fine answers told opens = inl (goes_nowhere old new opens)
 
 written_changes : (limits : Limits) (spent : ℕ → Bool) (tag : ℕ) (batch : Writes) (old : RunState) (r : Reply) (new : RunState) →
-    (NotDone old r new ⊎ ((DoesCommand limits spent (command.Write tag batch) old.machine r new.machine × (new.up ≡ true)) ⊎ IsCut (command.Write tag batch) old r new)) →
+    (NotDone old r new ⊎ ((DoesCommand limits spent (command.Write tag batch) old.machine r new.machine × (new.up ≡ true)) ⊎
+    LosesOpen (command.Write tag batch) old r new)) →
     Goes old.machine new.machine ⊎ Opens limits spent (command.Write tag batch) r old.machine new.machine
 written_changes limits spent tag batch old r new (inl h) = inl (machine_same old new h.2)
 written_changes limits spent tag batch old r new (inr (inl h)) =
-    submitted_changes limits spent tag batch old.machine r new.machine h.0.0 (refusal limits spent old.machine.entries tag batch.entries) refl h.0.1.answers h.0.2 h.0.1.opens
-written_changes limits spent tag batch old r new (inr (inr h)) = absurd h.1
+    submitted_changes limits spent tag batch old.machine r new.machine h.0.0 (refusal limits spent old.machine.entries tag batch.entries) refl h.0.1.answers
+    h.0.2 h.0.1.opens
+written_changes limits spent tag batch old r new (inr (inr h)) = elim h.0 [ inl cut ↦ absurd cut.1 | inr drops ↦ (let no = drops.1 in cc) ]
 
 pub serves_changes : (limits : Limits) (spent : ℕ → Bool) (c : Command) (old : RunState) (r : Reply) (new : RunState) → Serves limits spent c old r new →
     Goes old.machine new.machine ⊎ Opens limits spent c r old.machine new.machine
@@ -278,7 +311,8 @@ run_stay limits seen old (c ∷ cs) (r ∷ rs) new page run h none =
     let rest = run_stay limits (seen_after seen c r) run.0 cs rs new page run.4 first.avoid (none_later page c cs r rs none) in
     record { same = rest.same ∙ first.same; avoid = rest.avoid }
 
-pub run_stays : (limits : Limits) (seen : ℕ → ℕ) (old : RunState) (cs : List Command) (rs : List Reply) (new : RunState) (page : ℕ) → Run limits seen old cs rs new →
+pub run_stays : (limits : Limits) (seen : ℕ → ℕ) (old : RunState) (cs : List Command) (rs : List Reply) (new : RunState) (page : ℕ) →
+    Run limits seen old cs rs new →
     AllAvoid page old.machine.entries → NoneOpens page cs rs → page_at new.machine.pages page ≡ page_at old.machine.pages page
 run_stays limits seen old cs rs new page run h none = (run_stay limits seen old cs rs new page run h none).same
 
@@ -288,7 +322,8 @@ stands_same page s pages h (inl same) = ap (λ p. page_at p page) same
 stands_same page s pages h (inr (e, has, doubt, took)) =
     ap (λ p. page_at p page) took ∙ put_other page e.writes s.pages (All-contains (λ (x : Entry). Avoid page x.writes) s.entries e h has)
 
-pub run_stands : (limits : Limits) (seen : ℕ → ℕ) (old : RunState) (cs : List Command) (rs : List Reply) (new : RunState) (page : ℕ) (pages : Pages) → Run limits seen old cs rs new →
+pub run_stands : (limits : Limits) (seen : ℕ → ℕ) (old : RunState) (cs : List Command) (rs : List Reply) (new : RunState) (page : ℕ) (pages : Pages) →
+    Run limits seen old cs rs new →
     AllAvoid page old.machine.entries → NoneOpens page cs rs → StandsFor new.machine pages → page_at pages page ≡ page_at old.machine.pages page
 run_stands limits seen old cs rs new page pages run h none stands =
     let stay = run_stay limits seen old cs rs new page run h none in stands_same page new.machine pages stay.avoid stands ∙ stay.same

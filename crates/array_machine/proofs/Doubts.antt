@@ -2,7 +2,8 @@
 use Rattle.std.proofs.Common.{◌≡◌, ◌⊎◌, ℕ, ◌+◌, ◌≤◌, Bool, true, false, cond, List, [], ◌∷◌, ◌++◌, map, All, Contains}
 use Rattle.std.proofs.Common.{Option, Some, None, Result, Ok, Err, refl, sym, ap, ◌∙◌, subst, inl, inr, arith}
 use Rattle.std.proofs.Common.{eqb-true}
-use Rattle.std.specs.Prelude.{MatchOption, count_by}
+use Rattle.std.specs.Prelude.{MatchOption, count_by, take}
+use Rattle.std.proofs.lemmas.List.Elements.{All-take}
 use Rattle.std.proofs.lemmas.List.Elements.{All-nil, All-head, All-tail, All-push, All-contains, All-map}
 use Rattle.std.proofs.lemmas.List.Sums.{sum_by-cons, sum_by-append}
 use Rattle.list_facts.proofs.Membership.{all_from}
@@ -10,8 +11,9 @@ use Rattle.list_facts.proofs.Tests.{none_counted}
 use Rattle.tx_types.specs.Batch.{PageWrite}
 use Rattle.array_machine.specs.ArrayState.{ArrayState, Entry, Pages, entry_of, has_tag, idle, is_doubted, opening}
 use Rattle.array_machine.specs.ArrayState.{with_entry, without}
+use Rattle.array_machine.specs.Batches.{GoInTurn, StepsAll}
 use Rattle.array_machine.specs.Collect.{Collects}
-use Rattle.array_machine.specs.Step.{Steps, StepGives, AbortGives, IsAtLast, settled, settled_entry}
+use Rattle.array_machine.specs.Step.{Steps, StepGives, GoesOn, AbortGives, IsAtLast, settled, settled_entry}
 use Rattle.array_machine.specs.Submit.{Limits, opened, refusal}
 use Rattle.array_machine.specs.Promises.{HasOneDoubt, WritesOf}
 use Rattle.array_machine.specs.Run.{Run, RunState, Serves, DoesCommand, Finishes, seen_after, step_reply}
@@ -20,6 +22,7 @@ use Rattle.array_machine.specs.declared.answers.Aborted.{Aborted}
 use Rattle.array_machine.specs.declared.answers.Aborted.TheVariants as aborted
 use Rattle.array_machine.specs.declared.answers.Collected.{Collected}
 use Rattle.array_machine.specs.declared.answers.Fault.{Fault}
+use Rattle.array_machine.specs.declared.answers.Moved.{Moved}
 use Rattle.array_machine.specs.declared.answers.Progress.{Progress}
 use Rattle.array_machine.specs.declared.answers.Progress.TheVariants as progress
 use Rattle.array_machine.specs.declared.answers.StepError.{StepError}
@@ -169,6 +172,29 @@ finish_doubts [] old new tag (Err e) h = step_doubts old new tag (Err e) h
 finish_doubts (mid ∷ mids) old new tag result h =
     by_then (FailedAt tag result) old mid new (wrote_doubts old mid tag h.0 h.1 (FailedAt tag result) h.2) (finish_doubts mids mid new tag result h.3)
 
+-- ---- several at once
+
+goes_on_sure : (s new : ArrayState) (e : Entry) (p : Progress) → All IsSure s.entries → IsSure e → GoesOn s e.tag e p new → All IsSure new.entries
+goes_on_sure s new e (progress.Wrote done all) sure its h =
+    subst (λ (x : ArrayState). All IsSure x.entries) (sym h.4) (all_with IsSure e.tag (record e { done = e.done + 1 }) s.entries its sure)
+goes_on_sure s new e progress.Done sure its (inl h) =
+    subst (λ (x : ArrayState). All IsSure x.entries) (sym h.1) (all_without IsSure e.tag s.entries sure)
+goes_on_sure s new e progress.Done sure its (inr h) =
+    subst (λ (x : ArrayState). All IsSure x.entries) (sym h.2) (all_without IsSure e.tag s.entries sure)
+
+turn_sure : (es : List Entry) (ps : List Progress) (s new : ArrayState) → All IsSure s.entries → All IsSure es → GoInTurn s es ps new → All IsSure new.entries
+turn_sure [] [] s new sure each h = subst (λ (x : ArrayState). All IsSure x.entries) (sym h) sure
+turn_sure [] (p ∷ ps) s new sure each h = absurd h
+turn_sure (e ∷ es) [] s new sure each h = absurd h
+turn_sure (e ∷ es) (p ∷ ps) s new sure each h =
+    turn_sure es ps h.1.0 new (goes_on_sure s h.1.0 e p sure (All-head IsSure e es each) h.1.1) (All-tail IsSure e es each) h.1.2
+
+step_all_doubts : (Q : Entry → Type 0) (old new : ArrayState) (answer : Moved) → StepsAll old new answer → DoubtsBy Q old new
+step_all_doubts Q old new answer (there, h) =
+    let sure = settled_all there old.entries in
+    by_sure Q old new (turn_sure (take answer.moved (settled there old).entries) h.each (settled there old) new sure
+    (All-take IsSure answer.moved (settled there old).entries sure) h.go)
+
 -- ---- the other commands
 
 abort_doubts_as : (Q : Entry → Type 0) (o : Option Entry) (there : Bool) (old new : ArrayState) (tag : ℕ)
@@ -218,6 +244,7 @@ does_doubts limits spent (command.Finish tag) old r new h =
     by_weaker (FailedAt tag h.1) (CameOf (command.Finish tag) r) old new
     (λ e k. (h.3 ∙ ap (step_reply tag) k.2, sym k.0, k.1)) (finish_doubts h.0 old new tag h.1 h.2)
 does_doubts limits spent (command.Abort tag) old r new h = abort_doubts_as _ (entry_of tag old.entries) h.1.0 old new tag h.0 h.1.1
+does_doubts limits spent command.StepAll old r new h = step_all_doubts _ old new h.0 h.1
 does_doubts limits spent command.Collect old r new h = collect_doubts _ old new h.0 h.1
 does_doubts limits spent command.Stats old r new h = by_same _ old new h.3
 does_doubts limits spent command.Explain old r new h = by_same _ old new h.1
@@ -234,7 +261,7 @@ serves_doubts : (limits : Limits) (spent : ℕ → Bool) (c : Command) (old : Ru
 serves_doubts limits spent c old r new serves =
     each_way limits spent c old r new serves (λ h. machine_doubts _ old new h.1) (λ h. machine_doubts _ old new h.2)
     (λ h. does_doubts limits spent c old.machine r new.machine h.0)
-    (λ h. by_sure _ old.machine new.machine (subst (λ (es : List Entry). All IsSure es) (sym h.2.2) (All-nil IsSure)))
+    (λ h. by_sure _ old.machine new.machine (subst (λ (es : List Entry). All IsSure es) (sym h.1.2) (All-nil IsSure)))
 
 pub doubt_arises : (limits : Limits) (spent : ℕ → Bool) (c : Command) (old : RunState) (r : Reply) (new : RunState) (e : Entry) →
     Serves limits spent c old r new →

@@ -1,5 +1,6 @@
 -- Going on with a transaction up to its end.
-use Rattle.std.proofs.Common.{◌≡◌, ◌≢◌, ◌⊎◌, ℕ, ◌+◌, ◌-◌, ◌<◌, ◌≤◌, max, Bool, true, false, cond, List, [], ◌∷◌, length, map, Contains, Option, Some, None, Result, Ok, Err, refl, sym, ap, ap₂, ◌∙◌, subst, inl, inr, arith}
+use Rattle.std.proofs.Common.{◌≡◌, ◌≢◌, ◌⊎◌, ℕ, ◌+◌, ◌-◌, ◌<◌, ◌≤◌, max, Bool, true, false, cond, List, [], ◌∷◌, length, map, Contains, Option, Some, None}
+use Rattle.std.proofs.Common.{Result, Ok, Err, refl, sym, ap, ap₂, ◌∙◌, subst, inl, inr, arith}
 use Rattle.std.specs.Prelude.{MatchOption}
 use Rattle.list_facts.proofs.Tests.{find_stands}
 use Rattle.list_facts.proofs.Membership.{Contains-cases, Contains-first, Contains-nil, Contains-rest, in_map}
@@ -23,21 +24,25 @@ pub record Writes (there : Bool) (old new : ArrayState) (tag : ℕ) (e : Entry) 
   pub more : e.done + 1 < length e.writes
   pub new_is : new ≡ record (settled there old) { entries = with_entry tag (record (settled_entry there e) { done = e.done + 1 }) (settled there old).entries }
 
-pub found_writes : (o : Option Entry) (there : Bool) (old new : ArrayState) (tag done all : ℕ) (result : Result Progress StepError) → entry_of tag old.entries ≡ o → result ≡ Ok (progress.Wrote done all) →
-    MatchOption o ((result ≡ Err failed.Unknown) × (new ≡ old)) (λ e. StepGives old (settled there old) tag (settled_entry there e) result new) → (e : Entry) × Writes there old new tag e
+pub found_writes : (o : Option Entry) (there : Bool) (old new : ArrayState) (tag done all : ℕ) (result : Result Progress StepError) →
+    entry_of tag old.entries ≡ o → result ≡ Ok (progress.Wrote done all) →
+    MatchOption o ((result ≡ Err failed.Unknown) × (new ≡ old)) (λ e. StepGives old (settled there old) tag (settled_entry there e) result new) → (e : Entry) ×
+    Writes there old new tag e
 found_writes None there old new tag done all result found is h = cc
 found_writes (Some e) there old new tag done all result found is h =
     let goes = subst (λ (x : Result Progress StepError). StepGives old (settled there old) tag (settled_entry there e) x new) is h in
     (e, record { found = found; plain = goes.0; more = goes.1; new_is = goes.4 })
 
 -- the step of a reply
-pub told_wrote : (own tag done all : ℕ) (result : Result Progress StepError) → reply.Wrote own done all ≡ step_reply tag result → result ≡ Ok (progress.Wrote done all)
+pub told_wrote : (own tag done all : ℕ) (result : Result Progress StepError) → reply.Wrote own done all ≡ step_reply tag result →
+    result ≡ Ok (progress.Wrote done all)
 told_wrote own tag done all (Ok (progress.Wrote d a)) h = cc
 told_wrote own tag done all (Ok progress.Done) h = cc
 told_wrote own tag done all (Err failed.Unknown) h = cc
 told_wrote own tag done all (Err failed.Fault) h = cc
 
-pub step_writes : (old new : ArrayState) (own tag done all : ℕ) (result : Result Progress StepError) → Steps old new tag result → reply.Wrote own done all ≡ step_reply tag result →
+pub step_writes : (old new : ArrayState) (own tag done all : ℕ) (result : Result Progress StepError) → Steps old new tag result →
+    reply.Wrote own done all ≡ step_reply tag result →
     (there : Bool) × (e : Entry) × Writes there old new tag e
 step_writes old new own tag done all result steps told =
     let w = found_writes (entry_of tag old.entries) steps.0 old new tag done all result refl (told_wrote own tag done all result told) steps.1 in
@@ -50,7 +55,8 @@ settled_step : (there : Bool) (tag : ℕ) (x e : Entry) (es : List Entry) (b : B
 settled_step there tag x e es true is rest h = let same : x ≡ e = cc in ap (λ y. Some (settled_entry there y)) same
 settled_step there tag x e es false is rest h = rest h
 
-pub settled_found : (there : Bool) (tag : ℕ) (e : Entry) (es : List Entry) → entry_of tag es ≡ Some e → entry_of tag (map (settled_entry there) es) ≡ Some (settled_entry there e)
+pub settled_found : (there : Bool) (tag : ℕ) (e : Entry) (es : List Entry) → entry_of tag es ≡ Some e →
+    entry_of tag (map (settled_entry there) es) ≡ Some (settled_entry there e)
 settled_found there tag e [] h = cc
 settled_found there tag e (x ∷ es) h = settled_step there tag x e es (has_tag tag x) refl (settled_found there tag e es) h
 
@@ -81,12 +87,14 @@ sure_settled : (there : Bool) (es : List Entry) → doubted (map (settled_entry 
 sure_settled there [] = refl
 sure_settled there (e ∷ es) = rw (sure_mark there e.mark) (sure_settled there es)
 
-sure_with : (there : Bool) (tag : ℕ) (new : Entry) (es : List Entry) → is_doubted new.mark ≡ false → doubted (with_entry tag new (map (settled_entry there) es)) ≡ []
+sure_with : (there : Bool) (tag : ℕ) (new : Entry) (es : List Entry) → is_doubted new.mark ≡ false →
+    doubted (with_entry tag new (map (settled_entry there) es)) ≡ []
 sure_with there tag new [] is = refl
-sure_with there tag new (e ∷ es) is = elim (has_tag tag e) as (λ b. doubted (cond b (new ∷ map (settled_entry there) es) (settled_entry there e ∷ with_entry tag new (map (settled_entry there) es))) ≡ []) [
-  | true ↦ rw is (sure_settled there es)
-  | false ↦ rw (sure_mark there e.mark) (sure_with there tag new es is)
-]
+sure_with there tag new (e ∷ es) is = elim (has_tag tag e) as (λ b. doubted (cond b (new ∷ map (settled_entry there) es)
+    (settled_entry there e ∷ with_entry tag new (map (settled_entry there) es))) ≡ []) [
+      | true ↦ rw is (sure_settled there es)
+      | false ↦ rw (sure_mark there e.mark) (sure_with there tag new es is)
+    ]
 
 pub settled_sure : (there : Bool) (s : ArrayState) → doubted s.entries ≡ [] → (settled there s).pages ≡ s.pages
 settled_sure true s is = ap (put s.pages) is
@@ -104,8 +112,10 @@ settled_from there es e c =
     let at = in_map (settled_entry there) es e c in
     (at.0, at.1, ap (λ (y : Entry). y.tag) at.2, ap (λ (y : Entry). y.writes) at.2)
 
-with_step : (there : Bool) (tag : ℕ) (new x e : Entry) (es : List Entry) (b : Bool) → (Contains (with_entry tag new (map (settled_entry there) es)) e → (new ≡ e) ⊎ IsFrom es e) →
-    Contains (cond b (new ∷ map (settled_entry there) es) (settled_entry there x ∷ with_entry tag new (map (settled_entry there) es))) e → (new ≡ e) ⊎ IsFrom (x ∷ es) e
+with_step : (there : Bool) (tag : ℕ) (new x e : Entry) (es : List Entry) (b : Bool) →
+    (Contains (with_entry tag new (map (settled_entry there) es)) e → (new ≡ e) ⊎ IsFrom es e) →
+    Contains (cond b (new ∷ map (settled_entry there) es) (settled_entry there x ∷ with_entry tag new (map (settled_entry there) es))) e → (new ≡ e) ⊎
+    IsFrom (x ∷ es) e
 with_step there tag new x e es true rest c = elim (Contains-cases new (map (settled_entry there) es) e c) [
   | inl same ↦ inl same
   | inr i ↦ inr (from_more x es e (settled_from there es e i))
@@ -115,7 +125,8 @@ with_step there tag new x e es false rest c = elim (Contains-cases (settled_entr
   | inr i ↦ elim (rest i) [ inl same ↦ inl same | inr from ↦ inr (from_more x es e from) ]
 ]
 
-with_from : (there : Bool) (tag : ℕ) (new e : Entry) (es : List Entry) → Contains (with_entry tag new (map (settled_entry there) es)) e → (new ≡ e) ⊎ IsFrom es e
+with_from : (there : Bool) (tag : ℕ) (new e : Entry) (es : List Entry) → Contains (with_entry tag new (map (settled_entry there) es)) e → (new ≡ e) ⊎
+    IsFrom es e
 with_from there tag new e [] i = absurd (Contains-nil e i)
 with_from there tag new e (x ∷ es) i =
     with_step there tag new x e es (has_tag tag x) (λ j. with_from there tag new e es j) i
@@ -123,7 +134,8 @@ with_from there tag new e (x ∷ es) i =
 pub found_is_in : (tag : ℕ) (es : List Entry) (e : Entry) → entry_of tag es ≡ Some e → Contains es e
 found_is_in tag es e h = (find_stands (has_tag tag) es e h).0
 
-from_mid : (there : Bool) (old mid : ArrayState) (tag : ℕ) (e other : Entry) → Writes there old mid tag e → Contains mid.entries other → IsFrom old.entries other
+from_mid : (there : Bool) (old mid : ArrayState) (tag : ℕ) (e other : Entry) → Writes there old mid tag e → Contains mid.entries other →
+    IsFrom old.entries other
 from_mid there old mid tag e other w i =
     let next : Entry = record (settled_entry there e) { done = e.done + 1 } in
     elim (with_from there tag next other old.entries (subst (λ (s : ArrayState). Contains s.entries other) w.new_is i)) [
@@ -156,7 +168,8 @@ comes_before Q there old mid pages tag e w h =
 abbrev pub IsOf : ℕ → Entry → Type 0
 IsOf tag e = e.tag ≡ tag
 
-pub cut_before : (there : Bool) (old mid new : ArrayState) (tag : ℕ) (e : Entry) → Writes there old mid tag e → CutLeaves (IsOf tag) mid new → CutLeaves (IsOf tag) old new
+pub cut_before : (there : Bool) (old mid new : ArrayState) (tag : ℕ) (e : Entry) → Writes there old mid tag e → CutLeaves (IsOf tag) mid new →
+    CutLeaves (IsOf tag) old new
 cut_before there old mid new tag e w h =
     let before = comes_before (λ t. t ≡ tag) there old mid new.pages tag e w (h.0, h.1) in (before.0, before.1, h.2)
 
@@ -164,14 +177,16 @@ cut_before there old mid new tag e w h =
 pub at_last : (tag : ℕ) (old new : ArrayState) → CutLeaves (λ e. (e.tag ≡ tag) × IsAtLast e) old new → CutLeaves (IsOf tag) old new
 at_last tag old new h = (h.0, elim h.1 [ inl same ↦ inl same | inr took ↦ inr (took.0, (took.1.0, took.1.1.0), took.2) ], h.2)
 
-pub ends : (old new : ArrayState) (tag : ℕ) (r : Reply) (result : Result Progress StepError) → ((own done all : ℕ) → r ≢ reply.Wrote own done all) → r ≡ step_reply tag result → Steps old new tag result →
+pub ends : (old new : ArrayState) (tag : ℕ) (r : Reply) (result : Result Progress StepError) → ((own done all : ℕ) → r ≢ reply.Wrote own done all) →
+    r ≡ step_reply tag result → Steps old new tag result →
     Finishes old [] new tag result
 ends old new tag r (Ok (progress.Wrote done all)) last told steps = absurd (last tag done all told)
 ends old new tag r (Ok progress.Done) last told steps = steps
 ends old new tag r (Err e) last told steps = steps
 
 -- So there are no more steps than pages left, and at least one.
-pub steps_left : (old : ArrayState) (mids : List ArrayState) (new : ArrayState) (tag : ℕ) (result : Result Progress StepError) → Finishes old mids new tag result →
+pub steps_left : (old : ArrayState) (mids : List ArrayState) (new : ArrayState) (tag : ℕ) (result : Result Progress StepError) →
+    Finishes old mids new tag result →
     length mids + 1 ≤ max 1 (pages_left tag old)
 steps_left old [] new tag result h = omega arith
 steps_left old (mid ∷ mids) new tag result h =

@@ -1,10 +1,10 @@
 -- Commands that leave the array.
-use Rattle.std.proofs.Common.{◌≡◌, ℕ, Bool, List, Option, Some, None, ap}
+use Rattle.std.proofs.Common.{◌≡◌, ℕ, Bool, List, Option, Some, None, ap, subst, inl, inr}
 use Rattle.tx_types.specs.Batch.{PageWrite}
-use Rattle.array_machine.specs.ArrayState.{ArrayState}
+use Rattle.array_machine.specs.ArrayState.{ArrayState, Pages}
 use Rattle.array_machine.specs.Submit.{Limits, opened, refusal}
 use Rattle.array_machine.specs.Promises.{LeavesArray, LeavesState}
-use Rattle.array_machine.specs.Run.{RunState, Serves, DoesCommand, IsCut}
+use Rattle.array_machine.specs.Run.{RunState, Serves, DoesCommand, MayLose}
 use Rattle.array_machine.specs.declared.answers.SubmitError.{SubmitError}
 use Rattle.host_protocol.specs.declared.command.Command.{Command}
 use Rattle.host_protocol.specs.declared.command.Command.TheVariants as command
@@ -23,6 +23,7 @@ does_leave limits spent (command.Write tag batch) old r new leaves h = absurd le
 does_leave limits spent (command.Step tag) old r new leaves h = absurd leaves
 does_leave limits spent (command.Finish tag) old r new leaves h = absurd leaves
 does_leave limits spent (command.Abort tag) old r new leaves h = absurd leaves
+does_leave limits spent command.StepAll old r new leaves h = absurd leaves
 does_leave limits spent command.Collect old r new leaves h = absurd leaves
 does_leave limits spent command.Stats old r new leaves h = h.3
 does_leave limits spent command.Explain old r new leaves h = h.1
@@ -30,19 +31,21 @@ does_leave limits spent (command.Cut count what) old r new leaves h = absurd h
 does_leave limits spent (command.Fault count what) old r new leaves h = absurd h
 does_leave limits spent (command.BadRead count) old r new leaves h = absurd h
 
--- power is not cut in such a command
-never_cut : (c : Command) (old : RunState) (r : Reply) (new : RunState) → LeavesArray c r → IsCut c old r new → ⊥
-never_cut (command.Read page) old r new leaves h = leaves h.0
-never_cut (command.Write tag batch) old r new leaves h = h.1
-never_cut (command.Step tag) old r new leaves h = leaves
-never_cut (command.Finish tag) old r new leaves h = leaves
-never_cut (command.Abort tag) old r new leaves h = leaves
-never_cut command.Collect old r new leaves h = leaves
-never_cut command.Stats old r new leaves h = h.1
-never_cut command.Explain old r new leaves h = h.1
-never_cut (command.Cut count what) old r new leaves h = h.1
-never_cut (command.Fault count what) old r new leaves h = h.1
-never_cut (command.BadRead count) old r new leaves h = h.1
+-- such a command loses nothing that is open
+never_lost : (c : Command) (pages : Pages) (r : Reply) → LeavesArray c r → MayLose c pages r → ⊥
+never_lost (command.Read page) pages r leaves (inl h) = leaves h.0
+never_lost (command.Write tag batch) pages r leaves (inl h) = h.1
+never_lost (command.Step tag) pages r leaves (inl h) = leaves
+never_lost (command.Finish tag) pages r leaves (inl h) = leaves
+never_lost (command.Abort tag) pages r leaves (inl h) = leaves
+never_lost command.StepAll pages r leaves (inl h) = leaves
+never_lost command.Collect pages r leaves (inl h) = leaves
+never_lost command.Stats pages r leaves (inl h) = h.1
+never_lost command.Explain pages r leaves (inl h) = h.1
+never_lost (command.Cut count what) pages r leaves (inl h) = h.1
+never_lost (command.Fault count what) pages r leaves (inl h) = h.1
+never_lost (command.BadRead count) pages r leaves (inl h) = h.1
+never_lost c pages r leaves (inr h) = subst (λ d. LeavesArray d r) h.1 leaves
 
 state_array : (c : Command) (r : Reply) → LeavesState c r → LeavesArray c r
 state_array (command.Write tag batch) r h = tt
@@ -52,7 +55,7 @@ pub state_left : (limits : Limits) (spent : ℕ → Bool) (c : Command) (old : R
     LeavesState c r → Serves limits spent c old r new → new.machine ≡ old.machine
 state_left limits spent c old r new leaves serves =
     each_way limits spent c old r new serves (λ h. ap (λ (s : RunState). s.machine) h.1) (λ h. ap (λ (s : RunState). s.machine) h.2)
-    (λ h. does_leave limits spent c old.machine r new.machine leaves h.0) (λ h. absurd (never_cut c old r new (state_array c r leaves) h))
+    (λ h. does_leave limits spent c old.machine r new.machine leaves h.0) (λ h. absurd (never_lost c old.machine.pages r (state_array c r leaves) h.0))
 
 pub array_left : (limits : Limits) (spent : ℕ → Bool) (c : Command) (old : RunState) (r : Reply) (new : RunState) →
     LeavesArray c r → Serves limits spent c old r new →
@@ -60,5 +63,6 @@ pub array_left : (limits : Limits) (spent : ℕ → Bool) (c : Command) (old : R
 array_left limits spent (command.Write tag batch) old r new leaves serves =
     each_way limits spent (command.Write tag batch) old r new serves (λ h. ap (λ (s : RunState). s.machine.pages) h.1)
     (λ h. ap (λ (s : RunState). s.machine.pages) h.2)
-    (λ h. opened_leaves (refusal limits spent old.machine.entries tag batch.entries) tag batch.entries old.machine new.machine h.0.1.opens) (λ h. absurd h.1)
+    (λ h. opened_leaves (refusal limits spent old.machine.entries tag batch.entries) tag batch.entries old.machine new.machine h.0.1.opens)
+    (λ h. absurd (never_lost (command.Write tag batch) old.machine.pages r tt h.0))
 array_left limits spent c old r new leaves serves = ap (λ (s : ArrayState). s.pages) (state_left limits spent c old r new leaves serves)

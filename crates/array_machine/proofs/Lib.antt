@@ -4,6 +4,7 @@ pub mod Finishes
 pub mod Ways
 pub mod Taking
 pub mod Apart
+pub mod Each
 pub mod Changes
 pub mod AtOnce
 pub mod Atomic
@@ -14,3 +15,4 @@ pub mod Doubts
 pub mod Leaving
 pub mod Clinging
 pub mod AbortLaws
+pub mod BatchLaws

@@ -1,5 +1,5 @@
 -- Runs in which no break was to come.
-use Rattle.std.proofs.Common.{◌≡◌, ℕ, ◌≤◌, Bool, false, List, [], ◌∷◌, length, take, get_or, Option, Some, None, refl, arith}
+use Rattle.std.proofs.Common.{◌≡◌, ℕ, ◌≤◌, false, List, [], ◌∷◌, length, take, get_or, Option, Some, None, refl, arith}
 use Rattle.std.specs.Prelude.{All, count_by, IsSome}
 use Rattle.std.proofs.lemmas.List.{take_all}
 use Rattle.std.proofs.lemmas.List.Elements.{All-take}
@@ -13,7 +13,7 @@ use Rattle.host_protocol.specs.declared.reply.Reply.{Reply}
 use Rattle.host_protocol.specs.declared.reply.Reply.TheVariants as reply
 use Rattle.array_machine.specs.Run.{is_arm, is_break, step_reply}
 use Rattle.array_machine.specs.Breaks.{AreFew, is_cut, is_fault, arms_cut, arms_fault}
-use Rattle.array_machine.specs.Unbroken.{UnbrokenRun, FinishesAreDone, state_after}
+use Rattle.array_machine.specs.Unbroken.{Handed, UnbrokenRun, FinishesAreDone, state_after}
 
 no_arm_cut : (c : Command) → is_arm c ≡ false → arms_cut c ≡ false
 no_arm_cut (command.Cut count what) h = cc
@@ -27,6 +27,7 @@ no_arm_fault _ h = refl
 no_break : (r : Reply) → is_cut r ≡ false → is_fault r ≡ false → is_break r ≡ false
 no_break reply.Cut cut fault = cc
 no_break reply.Fault cut fault = cc
+no_break reply.Dropped cut fault = cc
 no_break _ cut fault = refl
 
 no_breaks : (rs : List Reply) → All (λ r. is_cut r ≡ false) rs → All (λ r. is_fault r ≡ false) rs → All (λ r. is_break r ≡ false) rs
@@ -49,11 +50,11 @@ finish_done : (tag : ℕ) (o : Option Entry) (r : Reply) → r ≡ step_reply ta
 finish_done tag None r h some = cc
 finish_done tag (Some e) r h some = h
 
-pub finishes_done : (limits : Limits) (spents : List (ℕ → Bool)) (old : ArrayState) (cs : List Command) (rs : List Reply) (new : ArrayState) →
-    UnbrokenRun limits spents old cs rs new → FinishesAreDone limits spents old cs rs
+pub finishes_done : (limits : Limits) (hands : List Handed) (old : ArrayState) (cs : List Command) (rs : List Reply) (new : ArrayState) →
+    UnbrokenRun limits hands old cs rs new → FinishesAreDone limits hands old cs rs
 finishes_done limits [] old cs rs new run = tt
-finishes_done limits (spent ∷ spents) old [] rs new run = tt
-finishes_done limits (spent ∷ spents) old (c ∷ cs) [] new run = tt
-finishes_done limits (spent ∷ spents) old (command.Finish tag ∷ cs) (r ∷ rs) new run =
-    (finish_done tag (entry_of tag old.entries) r run.0, finishes_done limits spents (state_after limits spent (command.Finish tag) old) cs rs new run.1)
-finishes_done limits (spent ∷ spents) old (c ∷ cs) (r ∷ rs) new run = (tt, finishes_done limits spents (state_after limits spent c old) cs rs new run.1)
+finishes_done limits (handed ∷ hands) old [] rs new run = tt
+finishes_done limits (handed ∷ hands) old (c ∷ cs) [] new run = tt
+finishes_done limits (handed ∷ hands) old (command.Finish tag ∷ cs) (r ∷ rs) new run =
+    (finish_done tag (entry_of tag old.entries) r run.0, finishes_done limits hands (state_after limits handed (command.Finish tag) old) cs rs new run.1)
+finishes_done limits (handed ∷ hands) old (c ∷ cs) (r ∷ rs) new run = (tt, finishes_done limits hands (state_after limits handed c old) cs rs new run.1)

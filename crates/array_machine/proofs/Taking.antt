@@ -1,5 +1,6 @@
 -- What the array takes, and which transactions stay open.
-use Rattle.std.proofs.Common.{◌≡◌, ◌≢◌, ◌⊎◌, ℕ, ◌<◌, Bool, true, false, cond, List, [], ◌∷◌, ◌++◌, length, map, All, AllPairs, Some, None, refl, sym, ap, ◌∙◌, subst, inl, inr, arith}
+use Rattle.std.proofs.Common.{◌≡◌, ◌≢◌, ◌⊎◌, ℕ, ◌<◌, Bool, true, false, cond, List, [], ◌∷◌, ◌++◌, length, map, All, AllPairs, Some, None, refl, sym, ap, ◌∙◌}
+use Rattle.std.proofs.Common.{subst, inl, inr, arith}
 use Rattle.std.proofs.lemmas.List.{length-set, get_or-set_same, get_or-set_other}
 use Rattle.std.proofs.lemmas.List.Elements.{All-nil, All-cons, All-head, All-tail, All-append, All-contains}
 use Rattle.list_facts.proofs.Membership.{all_from}
@@ -28,7 +29,8 @@ pub within_kept : (old new : Pages) (ws : List PageWrite) → length new ≡ len
 within_kept old new ws long h = λ k d lt. (let at = h k d lt in omega arith)
 
 -- it has them all
-pub put_has : (ws : List PageWrite) (pages : Pages) → AllPairs (λ v w. v.page ≢ w.page) ws → AreWithin pages ws → All (λ w. page_at (put pages ws) w.page ≡ w.value) ws
+pub put_has : (ws : List PageWrite) (pages : Pages) → AllPairs (λ v w. v.page ≢ w.page) ws → AreWithin pages ws →
+    All (λ w. page_at (put pages ws) w.page ≡ w.value) ws
 put_has [] pages distinct within = All-nil (λ w. page_at pages w.page ≡ w.value)
 put_has (w ∷ ws) pages distinct within =
     let R = λ (v : PageWrite) (w : PageWrite). v.page ≢ w.page in
@@ -113,7 +115,8 @@ pub part_all : (P : List PageWrite → Type 0) (ns os : List Entry) → ArePart 
 part_all P ns [] h all = rw h (All-nil (λ (e : Entry). P e.writes))
 part_all P [] (o ∷ os) h all = All-nil (λ (e : Entry). P e.writes)
 part_all P (n ∷ ns) (o ∷ os) (inl h) all =
-    All-cons (λ (e : Entry). P e.writes) n ns (subst P (sym h.0) (All-head (λ (e : Entry). P e.writes) o os all)) (part_all P ns os h.1 (All-tail (λ (e : Entry). P e.writes) o os all))
+    All-cons (λ (e : Entry). P e.writes) n ns (subst P (sym h.0) (All-head (λ (e : Entry). P e.writes) o os all))
+    (part_all P ns os h.1 (All-tail (λ (e : Entry). P e.writes) o os all))
 part_all P (n ∷ ns) (o ∷ os) (inr h) all = part_all P (n ∷ ns) os h (All-tail (λ (e : Entry). P e.writes) o os all)
 
 pub part_pairs : (ns os : List Entry) → ArePart ns os → AllPairs EntriesAreApart os → AllPairs EntriesAreApart ns
@@ -121,7 +124,9 @@ part_pairs ns [] h all = rw h all
 part_pairs [] (o ∷ os) h all = λ i j d less below. absurd (omega arith)
 part_pairs (n ∷ ns) (o ∷ os) (inl h) all =
     let from : All (λ e. All (λ w. Avoid w.page e.writes) n.writes) os =
-    all_from (λ e. All (λ w. Avoid w.page e.writes) n.writes) os (λ e i. subst (λ (ws : List PageWrite). All (λ w. Avoid w.page e.writes) ws) (sym h.0) (pairs_head EntriesAreApart o os e all i)) in
+    all_from (λ e. All (λ w. Avoid w.page e.writes) n.writes) os (λ e i. subst (λ (ws : List PageWrite). All (λ w. Avoid w.page e.writes) ws) (sym h.0)
+    (pairs_head EntriesAreApart o os e all i)) in
     let kept = part_all (λ vs. All (λ w. Avoid w.page vs) n.writes) ns os h.1 from in
-    pairs_cons EntriesAreApart n ns (λ e i. All-contains (λ (e : Entry). EntriesAreApart n e) ns e kept i) (part_pairs ns os h.1 (pairs_tail EntriesAreApart o os all))
+    pairs_cons EntriesAreApart n ns (λ e i. All-contains (λ (e : Entry). EntriesAreApart n e) ns e kept i)
+    (part_pairs ns os h.1 (pairs_tail EntriesAreApart o os all))
 part_pairs (n ∷ ns) (o ∷ os) (inr h) all = part_pairs (n ∷ ns) os h (pairs_tail EntriesAreApart o os all)

@@ -1,16 +1,21 @@
 -- Where nothing is in doubt and nothing fails, the calls of the array machine are functions.
-use Rattle.std.proofs.Common.{◌≡◌, ◌≢◌, ℕ, ◌+◌, Bool, true, false, cond, List, [], ◌∷◌, length, map, Option, Some, None, Result, Ok, Err, refl, sym, ap, ap₂, ◌∙◌, subst, inl, inr, arith}
-use Rattle.std.specs.Prelude.{MatchOption, All, IfSome}
+use Rattle.std.proofs.Common.{◌≡◌, ◌≢◌, ℕ, ◌+◌, Bool, true, false, cond, List, [], ◌∷◌, length, map, Option, Some, None, Result, Ok, Err, refl, sym, ap, ap₂}
+use Rattle.std.proofs.Common.{◌∙◌, subst, inl, inr, arith}
+use Rattle.std.specs.Prelude.{MatchOption, All, IfSome, count_by, not, take}
 use Rattle.std.proofs.lemmas.Bool.{cases_Bool}
 use Rattle.std.proofs.lemmas.Bool.Decides.{nat_tests}
-use Rattle.std.proofs.lemmas.List.Elements.{All-cons, All-head, All-tail}
+use Rattle.std.proofs.lemmas.List.Elements.{All-cons, All-head, All-tail, All-take}
+use Rattle.std.proofs.lemmas.List.Sums.{sum_by-cons}
 use Rattle.array_machine.specs.ArrayState.{ArrayState, Entry, entry_of, has_tag, put, with_entry, without}
 use Rattle.array_machine.specs.declared.mark.Mark.{Mark}
 use Rattle.array_machine.specs.declared.mark.Mark.TheVariants.{Plain, Doubt, Whole}
+use Rattle.array_machine.specs.Batches.{GoInTurn, StepsAll, is_done}
 use Rattle.array_machine.specs.Step.{settled, settled_mark, settled_entry, doubted, StepGives, Steps, AbortGives, Aborts}
-use Rattle.array_machine.specs.UnbrokenCalls.{AllPlain, has_more, taken, step_answer, stepped, finish_answer, finished, abort_answer, aborted_from}
+use Rattle.array_machine.specs.UnbrokenCalls.{AllPlain, has_more, is_ending, taken, step_answer, stepped, stepped_each, finish_answer, finished, abort_answer}
+use Rattle.array_machine.specs.UnbrokenCalls.{aborted_from}
 use Rattle.array_machine.specs.declared.answers.Aborted.{Aborted}
 use Rattle.array_machine.specs.declared.answers.Aborted.TheVariants as aborted
+use Rattle.array_machine.specs.declared.answers.Moved.{Moved}
 use Rattle.array_machine.specs.declared.answers.Progress.{Progress}
 use Rattle.array_machine.specs.declared.answers.Progress.TheVariants as progress
 use Rattle.array_machine.specs.declared.answers.StepError.{StepError}
@@ -64,7 +69,8 @@ without_plain tag (e ∷ es) h =
     let rest = All-tail IsPlain e es h in
     without_step (has_tag tag e) e es (without tag es) (All-head IsPlain e es h) rest (without_plain tag es rest)
 
-with_step : (b : Bool) (new e : Entry) (es rest : List Entry) → IsPlain new → IsPlain e → All IsPlain es → All IsPlain rest → All IsPlain (cond b (new ∷ es) (e ∷ rest))
+with_step : (b : Bool) (new e : Entry) (es rest : List Entry) → IsPlain new → IsPlain e → All IsPlain es → All IsPlain rest →
+    All IsPlain (cond b (new ∷ es) (e ∷ rest))
 with_step true new e es rest n h k l = All-cons IsPlain new es n k
 with_step false new e es rest n h k l = All-cons IsPlain e rest h l
 
@@ -124,6 +130,44 @@ pub step_fine : (old new : ArrayState) (tag : ℕ) (result : Result Progress Ste
 step_fine old new tag result plain h fine =
     found_fine h.0 old new tag (entry_of tag old.entries) result plain (found_plain tag old.entries plain) h.1 fine
 
+-- Several at once
+abbrev ends : Result Progress StepError → Bool
+ends (Ok p) = is_done p
+ends (Err e) = false
+
+answer_ends : (e : Entry) → ends (step_answer (Some e)) ≡ is_ending e
+answer_ends e = elim (has_more e) as (λ b. ends (cond b (Ok (progress.Wrote (e.done + 1) (length e.writes))) (Ok progress.Done)) ≡ not b) [
+  | true ↦ refl
+  | false ↦ refl
+]
+
+pub record TurnsFine (s : ArrayState) (es : List Entry) (ps : List Progress) (new : ArrayState) : Type 0 where
+  pub state : new ≡ stepped_each es s
+  pub gone : count_by is_done ps ≡ count_by is_ending es
+  pub plain : AllPlain new
+
+turn_fine : (es : List Entry) (ps : List Progress) (s new : ArrayState) → AllPlain s → All IsPlain es → GoInTurn s es ps new → TurnsFine s es ps new
+turn_fine [] [] s new plain each h = record { state = h; gone = refl; plain = subst AllPlain (sym h) plain }
+turn_fine [] (p ∷ ps) s new plain each h = absurd h
+turn_fine (e ∷ es) [] s new plain each h = absurd h
+turn_fine (e ∷ es) (p ∷ ps) s new plain each (found, (mid, goes, h)) =
+    let one = gives_fine s mid e.tag e (Ok p) plain (All-head IsPlain e es each) goes (λ no. cc) in
+    let rest = turn_fine es ps mid new one.2 (All-tail IsPlain e es each) h in
+    let is : is_done p ≡ is_ending e = ap ends one.0 ∙ answer_ends e in
+    record {
+      state = rest.state ∙ ap (stepped_each es) one.1;
+      gone = sum_by-cons (λ x. cond (is_done x) 1 0) p ps ∙ ap₂ (λ (b : Bool) n. cond b 1 0 + n) is rest.gone
+          ∙ sym (sum_by-cons (λ x. cond (is_ending x) 1 0) e es);
+      plain = rest.plain;
+    }
+
+pub step_all_fine : (old new : ArrayState) (answer : Moved) → AllPlain old → StepsAll old new answer →
+    (answer.finished ≡ count_by is_ending (take answer.moved old.entries)) × (new ≡ stepped_each (take answer.moved old.entries) old) × AllPlain new
+step_all_fine old new answer plain (there, h) =
+    let go = subst (λ (s : ArrayState). GoInTurn s (take answer.moved s.entries) h.each new) (settled_same there old plain) h.go in
+    let fine = turn_fine (take answer.moved old.entries) h.each old new plain (All-take IsPlain answer.moved old.entries plain) go in
+    (h.finished ∙ fine.gone, fine.state, fine.plain)
+
 -- An abort
 abort_gives : (old new : ArrayState) (tag : ℕ) (e : Entry) (result : Result Aborted StepError) → AllPlain old → IsPlain e →
     AbortGives old old tag e result new → result ≢ Err failed.Fault →
@@ -148,7 +192,8 @@ abort_fine old new tag result plain h fine =
     abort_found h.0 old new tag (entry_of tag old.entries) result plain (found_plain tag old.entries plain) h.1 fine
 
 -- A transaction that wrote one page more
-tagged_step : (tag : ℕ) (x e : Entry) (r : Option Entry) (b : Bool) → has_tag tag x ≡ b → (r ≡ Some e → has_tag tag e ≡ true) → cond b (Some x) r ≡ Some e → has_tag tag e ≡ true
+tagged_step : (tag : ℕ) (x e : Entry) (r : Option Entry) (b : Bool) → has_tag tag x ≡ b → (r ≡ Some e → has_tag tag e ≡ true) → cond b (Some x) r ≡ Some e →
+    has_tag tag e ≡ true
 tagged_step tag x e r true is rest h = let same : x ≡ e = cc in ap (has_tag tag) (sym same) ∙ is
 tagged_step tag x e r false is rest h = rest h
 
@@ -176,14 +221,16 @@ goes_again tag new [] t = refl
 goes_again tag new (x ∷ xs) t = goes_step tag new x xs (has_tag tag x) refl t (goes_again tag new xs t)
 
 -- The last of the steps
-last_done : (o : Option Entry) (tag : ℕ) (s : ArrayState) → Ok progress.Done ≡ step_answer o → (Ok progress.Done ≡ finish_answer o) × (stepped o tag s ≡ finished o tag s)
+last_done : (o : Option Entry) (tag : ℕ) (s : ArrayState) → Ok progress.Done ≡ step_answer o → (Ok progress.Done ≡ finish_answer o) ×
+    (stepped o tag s ≡ finished o tag s)
 last_done None tag s h = cc
 last_done (Some e) tag s h = elim (cases_Bool (has_more e)) [
   | inl more ↦ (let is : step_answer (Some e) ≡ Ok (progress.Wrote (e.done + 1) (length e.writes)) = rw more refl in let both = h ∙ is in cc)
   | inr last ↦ (refl, rw last refl)
 ]
 
-last_unknown : (o : Option Entry) (tag : ℕ) (s : ArrayState) → Err failed.Unknown ≡ step_answer o → (Err failed.Unknown ≡ finish_answer o) × (stepped o tag s ≡ finished o tag s)
+last_unknown : (o : Option Entry) (tag : ℕ) (s : ArrayState) → Err failed.Unknown ≡ step_answer o → (Err failed.Unknown ≡ finish_answer o) ×
+    (stepped o tag s ≡ finished o tag s)
 last_unknown None tag s h = (refl, refl)
 last_unknown (Some e) tag s h = elim (cases_Bool (has_more e)) [
   | inl more ↦ (let is : step_answer (Some e) ≡ Ok (progress.Wrote (e.done + 1) (length e.writes)) = rw more refl in let both = h ∙ is in cc)
@@ -191,7 +238,8 @@ last_unknown (Some e) tag s h = elim (cases_Bool (has_more e)) [
 ]
 
 -- the last of them leaves what all of them leave
-pub last_finishes : (old new : ArrayState) (tag : ℕ) (result : Result Progress StepError) → AllPlain old → Steps old new tag result → result ≢ Err failed.Fault →
+pub last_finishes : (old new : ArrayState) (tag : ℕ) (result : Result Progress StepError) → AllPlain old → Steps old new tag result →
+    result ≢ Err failed.Fault →
     ((done : ℕ) → (all : ℕ) → result ≢ Ok (progress.Wrote done all)) →
     (result ≡ finish_answer (entry_of tag old.entries)) × (new ≡ finished (entry_of tag old.entries) tag old) × AllPlain new
 last_finishes old new tag (Ok (progress.Wrote done all)) plain h fine ended = absurd (ended done all refl)

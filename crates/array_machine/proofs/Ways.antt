@@ -5,18 +5,20 @@ use Rattle.array_machine.specs.Submit.{Limits}
 use Rattle.host_protocol.specs.declared.command.Command.{Command}
 use Rattle.host_protocol.specs.declared.reply.Reply.{Reply}
 use Rattle.host_protocol.specs.declared.reply.Reply.TheVariants as reply
-use Rattle.array_machine.specs.Run.{RunState, Serves, DoesCommand, NotDone, IsCut, is_arm}
+use Rattle.array_machine.specs.Run.{RunState, Serves, DoesCommand, NotDone, LosesOpen, is_arm}
 
--- An arm is set, the command is not done, it is done, or power is cut.
+-- An arm is set, the command is not done, it is done, or what was open is lost.
 pub each_way : {X : Type 0} (limits : Limits) (spent : ℕ → Bool) (c : Command) (old : RunState) (r : Reply) (new : RunState) → Serves limits spent c old r new →
-    ((r ≡ reply.Armed) × (new ≡ old) → X) → (NotDone old r new → X) → (DoesCommand limits spent c old.machine r new.machine × (new.up ≡ true) → X) → (IsCut c old r new → X) → X
-each_way {X} limits spent c old r new serves armed kept does cut = matched (is_arm c) serves
+    ((r ≡ reply.Armed) × (new ≡ old) → X) → (NotDone old r new → X) → (DoesCommand limits spent c old.machine r new.machine × (new.up ≡ true) → X) →
+    (LosesOpen c old r new → X) → X
+each_way {X} limits spent c old r new serves armed kept does lost = matched (is_arm c) serves
   where
-    served : NotDone old r new ⊎ ((DoesCommand limits spent c old.machine r new.machine × (new.up ≡ true)) ⊎ IsCut c old r new) → X
+    served : NotDone old r new ⊎ ((DoesCommand limits spent c old.machine r new.machine × (new.up ≡ true)) ⊎ LosesOpen c old r new) → X
     served (inl h) = kept h
     served (inr (inl h)) = does h
-    served (inr (inr h)) = cut h
+    served (inr (inr h)) = lost h
 
-    matched : (b : Bool) → MatchBool b ((r ≡ reply.Armed) × (new ≡ old)) (NotDone old r new ⊎ ((DoesCommand limits spent c old.machine r new.machine × (new.up ≡ true)) ⊎ IsCut c old r new)) → X
+    matched : (b : Bool) → MatchBool b ((r ≡ reply.Armed) × (new ≡ old)) (NotDone old r new ⊎
+        ((DoesCommand limits spent c old.machine r new.machine × (new.up ≡ true)) ⊎ LosesOpen c old r new)) → X
     matched true h = armed h
     matched false h = served h

@@ -1,5 +1,6 @@
 -- The array machine: pages, and transactions that are open. It knows nothing of slots, links or tables.
-use Rattle.std.specs.Prelude.{◌≡◌, ◌⊎◌, ℕ, ◌==◌, Bool, true, false, List, [], ◌∷◌, length, sum_by, find, slice_set, Contains, slice_index_or, Option, None, Some, if◌then◌else◌}
+use Rattle.std.specs.Prelude.{◌≡◌, ◌⊎◌, ℕ, ◌==◌, Bool, true, false, List, [], ◌∷◌, length, sum_by, find, slice_set, Contains, slice_index_or, Option, None}
+use Rattle.std.specs.Prelude.{if◌then◌else◌}
 use Rattle.tx_types.specs.Batch.{PageWrite}
 use Rattle.array_machine.specs.declared.mark.Mark.{Mark}
 use Rattle.array_machine.specs.declared.mark.Mark.TheVariants.{Plain, Doubt, Whole}

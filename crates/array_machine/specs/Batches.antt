@@ -1,6 +1,6 @@
 -- Going on with several transactions at once, and what is left of them where that met a fault or a power cut.
-use Rattle.std.specs.Prelude.{◌≡◌, ◌⊎◌, ◌↔◌, ◌≤◌, Bool, true, false, List, [], ◌∷◌, length, take, count_by}
-use Rattle.array_machine.specs.ArrayState.{ArrayState, Entry, Pages, put}
+use Rattle.std.specs.Prelude.{◌≡◌, ◌⊎◌, ◌↔◌, ◌≤◌, Bool, true, false, List, [], ◌∷◌, length, take, count_by, Some}
+use Rattle.array_machine.specs.ArrayState.{ArrayState, Entry, Pages, entry_of, put}
 use Rattle.array_machine.specs.Step.{settled, IsAtLast, GoesOn}
 use Rattle.array_machine.specs.declared.answers.Moved.{Moved}
 use Rattle.array_machine.specs.declared.answers.Progress.{Progress}
@@ -11,11 +11,12 @@ abbrev pub is_done : Progress → Bool
 is_done (progress.Wrote done all) = false
 is_done progress.Done = true
 
--- these transactions each go on by one step, in turn, and come so far
+-- these open transactions each go on by one step, in turn, with these answers
 abbrev pub GoInTurn : ArrayState → List Entry → List Progress → ArrayState → Type 0
 GoInTurn old [] [] new = new ≡ old
 GoInTurn old (e ∷ es) (p ∷ ps) new =
-    (mid : ArrayState) × GoesOn old e.tag e p mid × GoInTurn mid es ps new
+    (entry_of e.tag old.entries ≡ Some e)
+    × ((mid : ArrayState) × GoesOn old e.tag e p mid × GoInTurn mid es ps new)
 GoInTurn old _ _ new = ⊥
 
 -- The state settles, and so many of the open transactions, the first ones in the order of their opening, each go on by
@@ -38,8 +39,8 @@ MayTakeEach old Q [] new = new ≡ old
 MayTakeEach old Q (e ∷ es) new =
     MayTakeEach old Q es new ⊎ (Q e × MayTakeEach (put old e.writes) Q es new)
 
--- What is left where going on with several transactions met a fault, or power was cut: no transaction is open. What was
--- in doubt may have been there, and then each transaction at its last page by itself.
+-- What is left where going on with several transactions met a fault, or power was cut: no transaction is open. What was in
+-- doubt was there or not, and then each transaction at its last page was taken or not, by itself.
 abbrev pub CutLeavesEach : ArrayState → ArrayState → Type 0
 CutLeavesEach old new =
     (there : Bool) × MayTakeEach (settled there old).pages IsAtLast old.entries new.pages

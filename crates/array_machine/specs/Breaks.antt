@@ -1,4 +1,4 @@
--- Which replies tell of a cut or a fault, and which commands arm one.
+-- Which replies tell of a cut or a fault, after which nothing is open, and which commands arm one.
 use Rattle.std.specs.Prelude.{ℕ, ◌+◌, ◌≤◌, Bool, true, false, List, take, count_by}
 use Rattle.host_protocol.specs.declared.command.Command.{Command}
 use Rattle.host_protocol.specs.declared.command.Command.TheVariants as command
@@ -11,7 +11,14 @@ is_cut _ = false
 
 abbrev pub is_fault : Reply → Bool
 is_fault reply.Fault = true
+is_fault reply.Dropped = true
 is_fault _ = false
+
+-- nothing is open any more
+abbrev pub is_lost : Reply → Bool
+is_lost reply.Cut = true
+is_lost reply.Dropped = true
+is_lost _ = false
 
 abbrev pub arms_cut : Command → Bool
 arms_cut (command.Cut count what) = true

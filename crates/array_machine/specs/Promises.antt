@@ -33,6 +33,7 @@ LeavesArray (command.Write tag batch) r = Unit {0}
 LeavesArray (command.Step tag) r = ⊥
 LeavesArray (command.Finish tag) r = ⊥
 LeavesArray (command.Abort tag) r = ⊥
+LeavesArray command.StepAll r = ⊥
 LeavesArray command.Collect r = ⊥
 LeavesArray command.Stats r = Unit {0}
 LeavesArray command.Explain r = Unit {0}

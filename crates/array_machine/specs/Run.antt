@@ -1,5 +1,6 @@
 -- What a list of commands does on the array machine, and the replies that it may give.
-use Rattle.std.specs.Prelude.{◌≡◌, ◌≢◌, ◌⊎◌, ℕ, ◌+◌, ◌-◌, ◌<◌, ◌≤◌, Bool, true, false, List, [], ◌∷◌, length, count_by, All, AllPairs, Contains, Option, None, Some, IsSome, Result, Ok, Err, MatchBool, zip, if◌then◌else◌}
+use Rattle.std.specs.Prelude.{◌≡◌, ◌≢◌, ◌⊎◌, ℕ, ◌+◌, ◌-◌, ◌<◌, ◌≤◌, Bool, true, false, List, [], ◌∷◌, length, count_by, All, AllPairs, Contains, Option, None}
+use Rattle.std.specs.Prelude.{Some, IsSome, Result, Ok, Err, MatchBool, take, zip, if◌then◌else◌}
 use Rattle.tx_types.specs.Batch.{PageWrite}
 use Rattle.tx_types.specs.Limits.{max_version}
 use Rattle.tx_types.specs.declared.stats.Stats.{Stats}
@@ -7,7 +8,8 @@ use Rattle.array_machine.specs.ArrayState.{ArrayState, Entry, Pages, entry_of, p
 use Rattle.array_machine.specs.Collect.{Collects, TellsStats}
 use Rattle.array_machine.specs.Read.{ReadsPage}
 use Rattle.array_machine.specs.Submit.{Limits, Submits, is_of}
-use Rattle.array_machine.specs.Step.{Steps, Aborts, IsAtLast, MayTake, CutLeaves, settled}
+use Rattle.array_machine.specs.Step.{Steps, Aborts, IsAtLast, MayTake, settled}
+use Rattle.array_machine.specs.Batches.{StepsAll, MayTakeEach}
 use Rattle.array_machine.specs.declared.mark.Mark.TheVariants.{Whole}
 use Rattle.array_machine.specs.declared.answers.ReadAnswer.{ReadAnswer}
 use Rattle.array_machine.specs.declared.answers.ReadAnswer.TheVariants as answer
@@ -24,6 +26,7 @@ use Rattle.array_machine.specs.declared.answers.Aborted.TheVariants as aborted
 use Rattle.array_machine.specs.declared.answers.Collected.{Collected}
 use Rattle.array_machine.specs.declared.answers.Collected.TheVariants as collected
 use Rattle.array_machine.specs.declared.answers.Fault.{Fault}
+use Rattle.array_machine.specs.declared.answers.Moved.{Moved}
 use Rattle.host_protocol.specs.declared.command.Command.{Command}
 use Rattle.host_protocol.specs.declared.command.Command.TheVariants as command
 use Rattle.host_protocol.specs.declared.reply.Reply.{Reply}
@@ -89,6 +92,10 @@ collect_reply (Ok collected.One) = reply.Collected
 collect_reply (Ok collected.Nothing) = reply.Nothing
 collect_reply (Err fault) = reply.Fault
 
+-- the reply of going on with several transactions at once
+abbrev pub moved_reply : Moved → Reply
+moved_reply answer = reply.Moved answer.moved answer.finished
+
 abbrev pub TellsReport : Reply → Type 0
 TellsReport r = (text : List ℕ) × (r ≡ reply.Report text)
 
@@ -110,6 +117,8 @@ DoesCommand limits spent (command.Finish tag) old r new =
     × Finishes old mids new tag result × (r ≡ step_reply tag result)
 DoesCommand limits spent (command.Abort tag) old r new =
     (result : Result Aborted StepError) × Aborts old new tag result × (r ≡ abort_reply tag result)
+DoesCommand limits spent command.StepAll old r new =
+    (answer : Moved) × StepsAll old new answer × (r ≡ moved_reply answer)
 DoesCommand limits spent command.Collect old r new =
     (result : Result Collected Fault) × Collects old new result × (r ≡ collect_reply result)
 DoesCommand limits spent command.Stats old r new =
@@ -126,6 +135,7 @@ MayBeCut pages (command.Write tag batch) = ⊥
 MayBeCut pages (command.Step tag) = Unit {0}
 MayBeCut pages (command.Finish tag) = Unit {0}
 MayBeCut pages (command.Abort tag) = Unit {0}
+MayBeCut pages command.StepAll = Unit {0}
 MayBeCut pages command.Collect = Unit {0}
 MayBeCut pages command.Stats = ⊥
 MayBeCut pages command.Explain = ⊥
@@ -137,6 +147,7 @@ MayBeCut pages (command.BadRead count) = ⊥
 abbrev pub MayComplete : Command → Entry → Type 0
 MayComplete (command.Step tag) e = (e.tag ≡ tag) × IsAtLast e
 MayComplete (command.Finish tag) e = e.tag ≡ tag
+MayComplete command.StepAll e = IsAtLast e
 MayComplete _ e = ⊥
 
 -- an arm is set for a break to come
@@ -159,11 +170,28 @@ IsClosedUnmounted s = s.up ≡ false → s.machine.entries ≡ []
 abbrev pub NotDone : RunState → Reply → RunState → Type 0
 NotDone old r new = (old.up ≡ false) × ((r ≡ reply.Fault) ⊎ (r ≡ reply.Cut)) × (new ≡ old)
 
--- power was cut while the command was done
-abbrev pub IsCut : Command → RunState → Reply → RunState → Type 0
-IsCut c old r new =
-    (r ≡ reply.Cut) × MayBeCut old.machine.pages c
-    × CutLeaves (MayComplete c) old.machine new.machine
+-- the array with the pages of one of these transactions that is of this kind, or of none; of several at once each is
+-- taken or not, by itself
+abbrev pub TakesOf : Command → (Entry → Type 0) → List Entry → Pages → Pages → Type 0
+TakesOf command.StepAll Q es old new = MayTakeEach old Q es new
+TakesOf c Q es old new = MayTake old (λ e. Contains es e × Q e) new
+
+-- What is left where power was cut while the command was done, or it dropped its transactions: no
+-- transaction is open. What was in doubt was there or not, and then the array took what the command
+-- may complete, or not.
+abbrev pub CutLeavesOf : Command → ArrayState → ArrayState → Type 0
+CutLeavesOf c old new =
+    (there : Bool)
+    × TakesOf c (MayComplete c) old.entries (settled there old).pages new.pages
+    × (new.entries ≡ [])
+
+-- power was cut while the command was done, or several transactions went on at once and met a fault
+abbrev pub MayLose : Command → Pages → Reply → Type 0
+MayLose c pages r =
+    ((r ≡ reply.Cut) × MayBeCut pages c) ⊎ ((r ≡ reply.Dropped) × (c ≡ command.StepAll))
+
+abbrev pub LosesOpen : Command → RunState → Reply → RunState → Type 0
+LosesOpen c old r new = MayLose c old.machine.pages r × CutLeavesOf c old.machine new.machine
 
 -- a command, its reply, and the state that it leaves
 abbrev pub Serves : Limits → (ℕ → Bool) → Command → RunState → Reply → RunState → Type 0
@@ -171,7 +199,7 @@ Serves limits spent c old r new =
     MatchBool (is_arm c) ((r ≡ reply.Armed) × (new ≡ old))
     (NotDone old r new
     ⊎ ((DoesCommand limits spent c old.machine r new.machine × (new.up ≡ true))
-    ⊎ IsCut c old r new))
+    ⊎ LosesOpen c old r new))
 
 abbrev pub is_opened : Reply → Bool
 is_opened (reply.Opened tag pages) = true
@@ -217,24 +245,40 @@ pub record IsConsistent (s : ArrayState) : Type 0 where
   pub within : All (λ e. All (λ w. w.page < length s.pages) e.writes) s.entries
   pub whole : All (λ e. e.mark ≡ Whole → HasWhole s.pages e) s.entries
 
--- the reply acknowledges the transaction with this tag
-abbrev pub Acknowledges : Command → Reply → ℕ → Type 0
-Acknowledges (command.Step own) r tag = (own ≡ tag) × (r ≡ reply.Done tag)
-Acknowledges (command.Finish own) r tag = (own ≡ tag) × (r ≡ reply.Done tag)
-Acknowledges (command.Abort own) r tag = (own ≡ tag) × (r ≡ reply.Late tag)
-Acknowledges _ r tag = ⊥
+-- of the transactions that went on, this one was at its last page or whole
+abbrev pub IsFinishedBy : ArrayState → Reply → Entry → Type 0
+IsFinishedBy old (reply.Moved moved finished) e =
+    Contains (take moved old.entries) e × (IsAtLast e ⊎ (e.mark ≡ Whole))
+IsFinishedBy old _ e = ⊥
 
--- the reply says that this transaction is done, or that power was cut
-abbrev pub IsDoneOrCut : Reply → ℕ → Type 0
-IsDoneOrCut r tag = (r ≡ reply.Done tag) ⊎ (r ≡ reply.Cut)
+-- the reply acknowledges this open transaction
+abbrev pub Acknowledges : Command → ArrayState → Reply → Entry → Type 0
+Acknowledges (command.Step own) old r e =
+    (entry_of own old.entries ≡ Some e) × (r ≡ reply.Done own)
+Acknowledges (command.Finish own) old r e =
+    (entry_of own old.entries ≡ Some e) × (r ≡ reply.Done own)
+Acknowledges (command.Abort own) old r e =
+    (entry_of own old.entries ≡ Some e) × (r ≡ reply.Late own)
+Acknowledges command.StepAll old r e = IsFinishedBy old r e
+Acknowledges _ old r e = ⊥
 
--- The array after a command is the settled one, or that with all pages of an open transaction
--- more: of one that the command may complete, where it is answered as done or power was cut.
+-- By its reply the command completed this transaction, or may have: the one that is answered as done;
+-- one of those that went on at once; and where nothing is open any more each one that it may complete.
+abbrev pub Completes : Command → ArrayState → Reply → Entry → Type 0
+Completes c old (reply.Done tag) e = MayComplete c e × (e.tag ≡ tag)
+Completes c old (reply.Moved moved finished) e =
+    MayComplete c e × Contains (take moved old.entries) e
+Completes c old reply.Cut e = MayComplete c e
+Completes c old reply.Dropped e = MayComplete c e
+Completes c old _ e = ⊥
+
+-- The array after a command is the settled one, or that with all pages of an open transaction more:
+-- of one that the command completed or may have. Of several that went on at once each is taken or
+-- not, by itself.
 abbrev pub ChangesAtOnce : Command → Reply → ArrayState → ArrayState → Type 0
 ChangesAtOnce c r old new =
     (there : Bool)
-    × MayTake (settled there old).pages
-    (λ e. Contains old.entries e × (MayComplete c e × IsDoneOrCut r e.tag)) new.pages
+    × TakesOf c (Completes c old r) old.entries (settled there old).pages new.pages
 
 -- the pages of a write that was opened may be mentioned once more
 abbrev pub seen_after : (ℕ → ℕ) → Command → Reply → ℕ → ℕ
@@ -255,4 +299,5 @@ Run limits seen old (c ∷ cs) [] new = ⊥
 abbrev pub is_break : Reply → Bool
 is_break reply.Cut = true
 is_break reply.Fault = true
+is_break reply.Dropped = true
 is_break _ = false

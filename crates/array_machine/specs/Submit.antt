@@ -1,5 +1,6 @@
 -- Opening a transaction: the seven refusals, in the order in which they are tried.
-use Rattle.std.specs.Prelude.{◌≡◌, ℕ, ◌-◌, ◌==◌, ◌++◌, Bool, List, [], ◌∷◌, length, nat_lt, nat_le, find, Option, option_map, None, Some, Result, Ok, Err, if◌then◌else◌}
+use Rattle.std.specs.Prelude.{◌≡◌, ℕ, ◌-◌, ◌==◌, ◌++◌, Bool, List, [], ◌∷◌, length, nat_lt, nat_le, find, Option, option_map, None, Some, Result, Ok, Err}
+use Rattle.std.specs.Prelude.{if◌then◌else◌}
 use Rattle.std.specs.List.{list_any}
 use Rattle.tx_types.specs.Batch.{PageWrite}
 use Rattle.array_machine.specs.ArrayState.{ArrayState, Entry, has_tag, pending_pages, opening}

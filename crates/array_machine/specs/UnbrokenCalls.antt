@@ -1,5 +1,5 @@
 -- What the calls of the array machine give where nothing fails: functions of the state and of what is asked.
-use Rattle.std.specs.Prelude.{◌≡◌, ℕ, ◌+◌, Bool, length, All, nat_lt, Option, None, Some, Result, Ok, Err, if◌then◌else◌}
+use Rattle.std.specs.Prelude.{◌≡◌, ℕ, ◌+◌, Bool, not, List, [], ◌∷◌, length, All, nat_lt, Option, None, Some, Result, Ok, Err, if◌then◌else◌}
 use Rattle.array_machine.specs.ArrayState.{ArrayState, Entry, put, with_entry, without}
 use Rattle.array_machine.specs.declared.mark.Mark.TheVariants.{Plain}
 use Rattle.array_machine.specs.declared.answers.Aborted.{Aborted}
@@ -35,6 +35,15 @@ stepped (Some e) tag s =
       entries =
           with_entry tag (record e { done = e.done + 1 }) s.entries;
     } else taken tag e s
+
+-- each of these transactions takes a step, in turn
+abbrev pub stepped_each : List Entry → ArrayState → ArrayState
+stepped_each [] s = s
+stepped_each (e ∷ es) s = stepped_each es (stepped (Some e) e.tag s)
+
+-- with its next page the transaction goes
+abbrev pub is_ending : Entry → Bool
+is_ending e = not (has_more e)
 
 -- the answer to the last of the steps of a transaction, and the state that they leave
 abbrev pub finish_answer : Option Entry → Result Progress StepError

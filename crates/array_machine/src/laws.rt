@@ -1,32 +1,36 @@
 //! What holds of all runs. The functions do nothing: each is there for what it ensures.
 ghost use Rattle.std.specs.Prelude.{◌≡◌, ◌⊎◌, ℕ, ◌+◌, ◌≤◌, max, Bool, true, false, List, [], length};
-ghost use Rattle.std.specs.Prelude.{◌≢◌, All, Contains, Some, Result, Err};
+ghost use Rattle.std.specs.Prelude.{◌≢◌, ◌∷◌, All, Contains, Some, Result, Ok, Err};
 ghost use Rattle.tx_types.specs.Batch.{PageWrite};
 ghost use Rattle.array_machine.specs.ArrayState.{ArrayState, Entry, Pages};
 ghost use Rattle.array_machine.specs.ArrayState.{entry_of, idle, is_doubted, page_at, StandsFor};
-ghost use Rattle.array_machine.specs.Step.{Steps, Aborts, IsAtLast, settled};
+ghost use Rattle.array_machine.specs.Step.{Steps, StepsAs, Aborts, IsAtLast, settled};
 ghost use Rattle.array_machine.specs.Submit.{Limits};
 ghost use Rattle.array_machine.specs.UnbrokenCalls.{AllPlain, step_answer, stepped};
 ghost use Rattle.array_machine.specs.UnbrokenCalls.{abort_answer, aborted_from};
 ghost use Rattle.array_machine.specs.declared.answers.Aborted.{Aborted};
 ghost use Rattle.array_machine.specs.declared.mark.Mark.TheVariants.{Whole};
+ghost use Rattle.array_machine.specs.declared.answers.Moved.{Moved};
 ghost use Rattle.array_machine.specs.declared.answers.Progress.{Progress};
 ghost use Rattle.array_machine.specs.declared.answers.StepError.{StepError};
 ghost use Rattle.array_machine.specs.declared.answers.StepError.TheVariants as failed;
 ghost use Rattle.host_protocol.specs.declared.command.Command.{Command};
 ghost use Rattle.host_protocol.specs.declared.reply.Reply.{Reply};
-ghost use Rattle.host_protocol.specs.declared.reply.Reply.TheVariants.{Cut, Fault};
+ghost use Rattle.host_protocol.specs.declared.reply.Reply.TheVariants.{Fault};
 ghost use Rattle.host_protocol.specs.declared.command.Command.TheVariants as command;
 ghost use Rattle.host_protocol.specs.declared.reply.Reply.TheVariants as reply;
 ghost use Rattle.array_machine.specs.Run.{Run, RunState, Serves, Finishes};
 ghost use Rattle.array_machine.specs.Run.{pages_left, is_arm, is_break};
 ghost use Rattle.array_machine.specs.Run.{AllAvoid, NoneOpens, HasWhole, HasSame, IsConsistent};
-ghost use Rattle.array_machine.specs.Run.{Acknowledges, IsCut, IsClosedUnmounted, MayComplete};
-ghost use Rattle.array_machine.specs.Run.{ChangesAtOnce, IsDoneOrCut};
-ghost use Rattle.array_machine.specs.Breaks.{AreFew};
+ghost use Rattle.array_machine.specs.Run.{Acknowledges, LosesOpen, IsClosedUnmounted, MayComplete};
+ghost use Rattle.array_machine.specs.Run.{ChangesAtOnce, Completes};
+ghost use Rattle.array_machine.specs.Breaks.{AreFew, is_lost};
+ghost use Rattle.array_machine.specs.Batches.{StepsAllAs, MayTakeEach};
+ghost use Rattle.array_machine.specs.BatchExamples.{FirstTwoMove, SecondMoves, NoneMoves, SecondIsTaken, UnfinishedStays};
 ghost use Rattle.array_machine.specs.Promises.{HasOneDoubt, HasOneOf, WritesOf};
 ghost use Rattle.array_machine.specs.Promises.{LeavesArray, LeavesState, opens_tag};
-ghost use Rattle.array_machine.specs.Unbroken.{IsReply, state_after, UnbrokenRun, AreMaybeSpent};
+ghost use Rattle.array_machine.specs.Unbroken.{Handed, IsReply, state_after, UnbrokenRun};
+ghost use Rattle.array_machine.specs.Unbroken.{AreMaybeSpent};
 ghost use Rattle.array_machine.specs.Unbroken.{FinishesAreDone, VersionsSuffice};
 
 /// Where nothing is in doubt, settling changes nothing, and a step and an abort that meet no fault are functions of
@@ -43,26 +47,28 @@ pub fn unbroken_calls()
         × (new ≡ aborted_from (entry_of tag old.entries) tag old) × AllPlain new }
 {}
 
-/// A run without the replies `cut` and `fault`, from a state in which nothing is in doubt or whole,
-/// never comes to such a transaction. Its states, and its replies but for what `collect`, `stats`
-/// and `explain` tell of the flash, are functions of the commands, the state at the beginning and
-/// the pages that are spent at each command. None is spent where no page comes to its last version.
+/// A run without the replies `cut`, `fault` and `dropped`, from a state in which nothing is in doubt or
+/// whole, never comes to such a transaction. Its states, and its replies but for what `collect`,
+/// `stats` and `explain` tell of the flash, are functions of the commands, the state at the beginning,
+/// the pages that are spent at each command, and how many transactions each `stepall` moved. None is
+/// spent where no page comes to its last version.
 pub fn unbroken_runs()
     ensures command { (limits : Limits) (spent : ℕ → Bool)
         (c : Command) (old : RunState) (r : Reply) (new : RunState) →
         AllPlain old.machine → Serves limits spent c old r new → is_break r ≡ false →
-        IsReply limits spent c old.machine r
-        × (new.machine ≡ state_after limits spent c old.machine) × AllPlain new.machine }
+        (moved : ℕ) × (let handed : Handed = record { spent = spent; moved = moved } in
+        IsReply limits handed c old.machine r
+        × (new.machine ≡ state_after limits handed c old.machine) × AllPlain new.machine) }
     ensures run { (limits : Limits) (seen : ℕ → ℕ)
         (old : RunState) (cs : List Command) (rs : List Reply) (new : RunState) →
         AllPlain old.machine → Run limits seen old cs rs new →
         All (λ r. is_break r ≡ false) rs →
-        (spents : List (ℕ → Bool)) × AreMaybeSpent seen cs rs spents
-        × UnbrokenRun limits spents old.machine cs rs new.machine × AllPlain new.machine }
+        (hands : List Handed) × AreMaybeSpent seen cs rs hands
+        × UnbrokenRun limits hands old.machine cs rs new.machine × AllPlain new.machine }
     ensures unspent { (seen : ℕ → ℕ)
-        (cs : List Command) (rs : List Reply) (spents : List (ℕ → Bool)) →
-        VersionsSuffice seen cs → AreMaybeSpent seen cs rs spents →
-        All (λ spent. (page : ℕ) → spent page ≡ false) spents }
+        (cs : List Command) (rs : List Reply) (hands : List Handed) →
+        VersionsSuffice seen cs → AreMaybeSpent seen cs rs hands →
+        All (λ handed. (page : ℕ) → handed.spent page ≡ false) hands }
 {}
 
 /// A `finish` is at most as many steps as the transaction has pages left to write, or one where it
@@ -74,9 +80,11 @@ pub fn finishes_end()
 {}
 
 /// Whatever a command is answered, the array changes by whole transactions alone: by that in doubt,
-/// where it turns out to be there, and then by one that the command was to complete, where the
-/// answer is `done`, or power was cut. Where nothing is in doubt, a command that is answered otherwise
-/// leaves the array.
+/// where it turns out to be there, and then by one that the command completed or may have: the one
+/// that is answered `done`, and after `cut` one that the command was to complete. Of a `stepall` it is
+/// each by itself: of the first ones that it moved those with one page left, and after `cut` or
+/// `dropped` any with one page left. Where nothing is in doubt, a command that completes none leaves
+/// the array.
 pub fn arrays_change_at_once()
     ensures at_once { (limits : Limits) (spent : ℕ → Bool)
         (c : Command) (old : RunState) (r : Reply) (new : RunState) →
@@ -85,7 +93,7 @@ pub fn arrays_change_at_once()
         (c : Command) (old : RunState) (r : Reply) (new : RunState) →
         Serves limits spent c old r new →
         All (λ e. is_doubted e.mark ≡ false) old.machine.entries →
-        ((tag : ℕ) → IsDoneOrCut r tag → ⊥) →
+        ((e : Entry) → Contains old.machine.entries e → Completes c old.machine r e → ⊥) →
         new.machine.pages ≡ old.machine.pages }
 {}
 
@@ -143,17 +151,16 @@ pub fn unmounted_runs()
         Run limits seen old cs rs new → IsClosedUnmounted old → IsClosedUnmounted new }
 {}
 
-/// A transaction that is acknowledged, by `done` or `late`, is in the array from then on, and in
-/// each array that an image may have then: over cuts and faults each of its pages has what it wrote
-/// until a write of that page is opened.
+/// A transaction that is acknowledged, by `done` or `late` or as one that a `stepall` finished, is in
+/// the array from then on, and in each array that an image may have then: over cuts and faults each of
+/// its pages has what it wrote until a write of that page is opened.
 pub fn acknowledged_transactions()
     ensures { (limits : Limits) (spent : ℕ → Bool)
-        (c : Command) (old : RunState) (r : Reply) (mid : RunState) (tag : ℕ) (e : Entry)
+        (c : Command) (old : RunState) (r : Reply) (mid : RunState) (e : Entry)
         (seen : ℕ → ℕ) (cs : List Command) (rs : List Reply) (new : RunState)
         (pages : Pages) (w : PageWrite) →
         IsConsistent old.machine →
-        Serves limits spent c old r mid → Acknowledges c r tag →
-        entry_of tag old.machine.entries ≡ Some e →
+        Serves limits spent c old r mid → Acknowledges c old.machine r e →
         Run limits seen mid cs rs new → StandsFor new.machine pages →
         Contains e.writes w → NoneOpens w.page cs rs →
         page_at pages w.page ≡ w.value }
@@ -198,36 +205,53 @@ pub fn transactions_are_atomic()
         HasWhole pages e ⊎ HasSame old.machine.pages pages e }
 {}
 
-/// After the reply `cut` nothing is open, also where power was cut in the mount before the command.
-/// A transaction that was open is in the array wholly or not at all: a whole one stays, and of one
-/// that was not in doubt, and that the command could not complete (by a `finish` of it, or a `step`
-/// of it at its last page), the pages are as they were.
+/// After the reply `cut` nothing is open, also where power was cut in the mount before the command,
+/// and nothing after `dropped`. A transaction that was open is in the array wholly or not at all: a
+/// whole one stays, and of one that was not in doubt, and that the command could not complete (by a
+/// `finish` of it, or a `step` of it or a `stepall` at its last page), the pages are as they were.
 pub fn cut_transactions()
     ensures closed { (limits : Limits) (spent : ℕ → Bool)
         (c : Command) (old : RunState) (r : Reply) (new : RunState) →
-        IsClosedUnmounted old → Serves limits spent c old r new → r ≡ Cut →
+        IsClosedUnmounted old → Serves limits spent c old r new → is_lost r ≡ true →
         new.machine.entries ≡ [] }
     ensures none_open { (c : Command) (old : RunState) (r : Reply) (new : RunState) →
-        IsCut c old r new → new.machine.entries ≡ [] }
+        LosesOpen c old r new → new.machine.entries ≡ [] }
     ensures atomic { (c : Command) (old : RunState) (r : Reply) (new : RunState) (e : Entry) →
-        IsConsistent old.machine → IsCut c old r new → Contains old.machine.entries e →
+        IsConsistent old.machine → LosesOpen c old r new → Contains old.machine.entries e →
         HasWhole new.machine.pages e ⊎ HasSame old.machine.pages new.machine.pages e }
     ensures whole { (c : Command) (old : RunState) (r : Reply) (new : RunState) (e : Entry) →
-        IsConsistent old.machine → IsCut c old r new → Contains old.machine.entries e →
+        IsConsistent old.machine → LosesOpen c old r new → Contains old.machine.entries e →
         e.mark ≡ Whole → HasWhole new.machine.pages e }
     ensures others { (c : Command) (old : RunState) (r : Reply) (new : RunState) (e : Entry) →
-        IsConsistent old.machine → IsCut c old r new → Contains old.machine.entries e →
+        IsConsistent old.machine → LosesOpen c old r new → Contains old.machine.entries e →
         is_doubted e.mark ≡ false → (MayComplete c e → ⊥) →
         HasSame old.machine.pages new.machine.pages e }
 {}
 
-/// Where no command sets an arm, and no cut and no fault was to come by itself, no reply is `cut`
-/// or `fault`. Each `finish` of an open transaction then replies `done`.
+/// Where no command sets an arm, and no cut and no fault was to come by itself, no reply is `cut`,
+/// `fault` or `dropped`. Each `finish` of an open transaction then replies `done`.
 pub fn quiet_runs()
     ensures none { (cs : List Command) (rs : List Reply) →
         All (λ c. is_arm c ≡ false) cs → AreFew 0 0 cs rs →
         All (λ r. is_break r ≡ false) rs }
-    ensures finish { (limits : Limits) (spents : List (ℕ → Bool))
+    ensures finish { (limits : Limits) (hands : List Handed)
         (old : ArrayState) (cs : List Command) (rs : List Reply) (new : ArrayState) →
-        UnbrokenRun limits spents old cs rs new → FinishesAreDone limits spents old cs rs }
+        UnbrokenRun limits hands old cs rs new → FinishesAreDone limits hands old cs rs }
+{}
+
+/// Where several transactions go on at once and one of them did, that is a step of the first one. Of two transactions
+/// the first is done and the second is left with a page, and then that one is done by itself. After a broken call the
+/// second may be there without the first, and none that has two pages left.
+pub fn batches_are_steps()
+    ensures one { (there : Bool) (old new : ArrayState) (e : Entry) (es : List Entry) (answer : Moved) →
+        old.entries ≡ e ∷ es → answer.moved ≡ 1 → StepsAllAs there old new answer →
+        (progress : Progress) × StepsAs there old new e.tag (Ok progress) }
+    ensures none { (there : Bool) (old new : ArrayState) (answer : Moved) →
+        old.entries ≡ [] → StepsAllAs there old new answer →
+        (answer.moved ≡ 0) × (answer.finished ≡ 0) × (new ≡ settled there old) }
+    ensures two { FirstTwoMove }
+    ensures then { SecondMoves }
+    ensures last { NoneMoves }
+    ensures taken { SecondIsTaken }
+    ensures left { UnfinishedStays }
 {}

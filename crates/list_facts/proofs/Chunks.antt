@@ -1,5 +1,6 @@
 -- A flat list as chunks of one size.
-use Rattle.std.proofs.Common.{ℕ, ◌+◌, ◌-◌, ◌*◌, ◌<◌, ◌≤◌, arith, ◌≡◌, List, length, suc, drop, rules, replicate, ◌++◌, take, zero, ap, ◌∙◌, get_or, refl, add_comm}
+use Rattle.std.proofs.Common.{ℕ, ◌+◌, ◌-◌, ◌*◌, ◌<◌, ◌≤◌, arith, ◌≡◌, List, length, suc, drop, rules, replicate, ◌++◌, take, zero, ap, ◌∙◌, get_or, refl}
+use Rattle.std.proofs.Common.{add_comm}
 use Rattle.std.specs.Fork.{slice_chunk}
 use Rattle.std.specs.Simd.{first_chunks}
 use Rattle.std.proofs.Math.Nat.{mul-le-mul_right}
@@ -43,11 +44,13 @@ pub later_chunk : (xs ys : List ℕ) (size k : ℕ) → size ≡ length xs → s
 later_chunk xs ys size k e = slice_chunk-suc (xs ++ ys) size k ∙ ap (λ zs. slice_chunk zs size k) (drop_front xs ys size e)
 
 -- an item of a chunk stands in the list
-pub chunk_at : {X : Type 0} (xs : List X) (per block at : ℕ) (d : X) → block * per ≤ at → at < block * per + per → get_or (slice_chunk xs per block) (at - block * per) d ≡ get_or xs at d
+pub chunk_at : {X : Type 0} (xs : List X) (per block at : ℕ) (d : X) → block * per ≤ at → at < block * per + per →
+    get_or (slice_chunk xs per block) (at - block * per) d ≡ get_or xs at d
 chunk_at xs per block at d low high = grind (arith, places)
 
 -- at a place that the chunk has
-pub length-chunk : {X : Type 0} (xs : List X) (per block at : ℕ) → block * per ≤ at → at < block * per + per → at < length xs → at - block * per < length (slice_chunk xs per block)
+pub length-chunk : {X : Type 0} (xs : List X) (per block at : ℕ) → block * per ≤ at → at < block * per + per → at < length xs →
+    at - block * per < length (slice_chunk xs per block)
 length-chunk xs per block at low high within = grind (arith, places)
 
 -- so many chunks are taken

@@ -11,7 +11,8 @@ abbrev one_if : (ℕ → Bool) → ℕ → ℕ
 one_if p k = cond (p k) 1 0
 
 -- a count with one number more
-count_one_more : (p : ℕ → Bool) (first n at : ℕ) → first + n ≡ at → count_by p (range_with_len first (n + 1)) ≡ count_by p (range_with_len first n) + one_if p at
+count_one_more : (p : ℕ → Bool) (first n at : ℕ) → first + n ≡ at → count_by p (range_with_len first (n + 1)) ≡ count_by p
+    (range_with_len first n) + one_if p at
 count_one_more p first n at e =
     ap (count_by p) (sym (map-id (range_with_len first (n + 1))))
     ∙ sum_by-map-range_with_len_more (one_if p) (λ (k : ℕ). k) first n at e
@@ -62,7 +63,8 @@ one_more false true h = absurd (false≢true (h refl))
 one_more false false h = omega arith
 
 -- of two tests of a range the first passes where the second does
-pub count_more : (p q : ℕ → Bool) (a n : ℕ) → ((k : ℕ) → a ≤ k → k < a + n → q k ≡ true → p k ≡ true) → count_by q (range_with_len a n) ≤ count_by p (range_with_len a n)
+pub count_more : (p q : ℕ → Bool) (a n : ℕ) → ((k : ℕ) → a ≤ k → k < a + n → q k ≡ true → p k ≡ true) →
+    count_by q (range_with_len a n) ≤ count_by p (range_with_len a n)
 count_more p q a zero h = omega arith
 count_more p q a (suc n) h =
     let rest = count_more p q (a + 1) n (λ k low high. h k (omega arith) (omega arith)) in
@@ -107,12 +109,14 @@ count_some p a (suc n) h = elim (cases_Bool (p a)) [
 ]
 
 -- a count over a range of which so many first numbers pass, and no others
-pub filled_count : (p : ℕ → Bool) (a n filled : ℕ) → filled ≤ n → ((k : ℕ) → k < filled → p (a + k) ≡ true) → ((k : ℕ) → filled ≤ k → k < n → p (a + k) ≡ false) →
+pub filled_count : (p : ℕ → Bool) (a n filled : ℕ) → filled ≤ n → ((k : ℕ) → k < filled → p (a + k) ≡ true) →
+    ((k : ℕ) → filled ≤ k → k < n → p (a + k) ≡ false) →
     count_by p (range_with_len a n) ≡ filled
 filled_count p a zero filled le pass fail = omega arith
 filled_count p a (suc n) zero le pass fail =
     let here : p a ≡ false = ap p (let at : a ≡ a + 0 = omega arith in at) ∙ fail 0 (omega arith) (omega arith) in
-    let rest = filled_count p (a + 1) n 0 (omega arith) (λ k lt. absurd (omega arith)) (λ k low lt. ap p (let at : a + 1 + k ≡ a + (k + 1) = omega arith in at) ∙ fail (k + 1) (omega arith) (omega arith)) in
+    let rest = filled_count p (a + 1) n 0 (omega arith) (λ k lt. absurd (omega arith))
+    (λ k low lt. ap p (let at : a + 1 + k ≡ a + (k + 1) = omega arith in at) ∙ fail (k + 1) (omega arith) (omega arith)) in
     count_first p a n ∙ ap₂ (λ b r. cond b 1 0 + r) here rest
 filled_count p a (suc n) (suc f) le pass fail =
     let here : p a ≡ true = ap p (let at : a ≡ a + 0 = omega arith in at) ∙ pass 0 (omega arith) in

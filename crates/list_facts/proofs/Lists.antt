@@ -1,5 +1,6 @@
 -- Parts of lists, mapped lists, and the items at their places.
-use Rattle.std.proofs.Common.{◌≡◌, ℕ, List, length, take, arith, ◌+◌, [], ◌∷◌, ◌++◌, ◌∙◌, ◌<◌, drop, zero, suc, ◌-◌, ap, add-one, sym, ◌≤◌, refl, slice_range, get_or, map, Some, Option, None, slice_get, ◌⊎◌, inl, inr}
+use Rattle.std.proofs.Common.{◌≡◌, ℕ, List, length, take, arith, ◌+◌, [], ◌∷◌, ◌++◌, ◌∙◌, ◌<◌, drop, zero, suc, ◌-◌, ap, add-one, sym, ◌≤◌, refl, slice_range}
+use Rattle.std.proofs.Common.{get_or, map, Some, Option, None, slice_get, ◌⊎◌, inl, inr}
 use Rattle.std.proofs.Math.Seq.{drop-cons}
 use Rattle.std.proofs.lemmas.List.{take_all, take-append-le, append-nil, take-append-drop, drop-drop, length-take, length-drop}
 use Rattle.std.proofs.lemmas.Option.{same_Some}
@@ -22,10 +23,16 @@ pub record Next {X : Type 0} (xs : List X) (i : ℕ) (x : X) (more : List X) : T
 pub next : {X : Type 0} (xs : List X) (i : ℕ) (x : X) (more : List X) → drop i xs ≡ x ∷ more → Next xs i x more
 next [] zero x more h = absurd (cc)
 next [] (suc i) x more h = absurd (cc)
-next (y ∷ ys) zero x more h = let heads : y ≡ x = cc in let tails : ys ≡ more = cc in record { front = ap (λ z. z ∷ []) heads; behind = tails; within = omega arith }
+next (y ∷ ys) zero x more h = let heads : y ≡ x = cc in let tails : ys ≡ more = cc in
+    record { front = ap (λ z. z ∷ []) heads; behind = tails; within = omega arith }
 next (y ∷ ys) (suc i) x more h =
     let rest = next ys i x more h in
-    record { front = rw add-one (ap (λ zs. y ∷ zs) (rw add-one at rest.front)); behind = rw add-one (rw add-one at rest.behind); within = let w = rest.within in omega arith }
+    record {
+      front = rw add-one (ap (λ zs. y ∷ zs) (rw add-one at rest.front));
+      behind = rw add-one (rw add-one at rest.behind);
+      within = let w = rest.within in
+          omega arith;
+    }
 
 -- where nothing is behind
 pub take_to_end : {X : Type 0} (xs : List X) (i : ℕ) → drop i xs ≡ [] → take i xs ≡ xs
@@ -79,7 +86,8 @@ none_among (x ∷ xs) [] rest h = cc
 none_among (x ∷ xs) (y ∷ ys) rest h = let tails : map Some ys ≡ map Some xs ++ None ∷ rest = cc in none_among xs ys rest tails
 
 -- what a place of a mapped list has
-pub slice_get_map : {X Y : Type 0} (f : X → Y) (xs : List X) (k : ℕ) (d : X) (y : Y) → slice_get (map f xs) k ≡ Some y → (k < length xs) × (f (get_or xs k d) ≡ y)
+pub slice_get_map : {X Y : Type 0} (f : X → Y) (xs : List X) (k : ℕ) (d : X) (y : Y) → slice_get (map f xs) k ≡ Some y → (k < length xs) ×
+    (f (get_or xs k d) ≡ y)
 slice_get_map f [] k d y h = absurd (cc)
 slice_get_map f (x ∷ xs) zero d y h = (omega arith, (let same : f x ≡ y = cc in same))
 slice_get_map f (x ∷ xs) (suc k) d y h = let rest = slice_get_map f xs k d y h in (let w = rest.0 in omega arith, rest.1)

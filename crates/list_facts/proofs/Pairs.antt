@@ -1,5 +1,6 @@
 -- Relations along a list, and between two lists.
-use Rattle.std.proofs.Common.{◌≡◌, ◌⊎◌, List, get_or, AllPairs, Contains, sym, ap, ◌∙◌, subst, inl, inr, suc, ◌∷◌, arith, zero, ℕ, ◌<◌, length, map, [], subst₂, slice_get, Some, ◌++◌, refl}
+use Rattle.std.proofs.Common.{◌≡◌, ◌⊎◌, List, get_or, AllPairs, Contains, sym, ap, ◌∙◌, subst, inl, inr, suc, ◌∷◌, arith, zero, ℕ, ◌<◌, length, map, [], subst₂}
+use Rattle.std.proofs.Common.{slice_get, Some, ◌++◌, refl}
 use Rattle.std.specs.List.{AllZip}
 use Rattle.std.proofs.lemmas.Bool.{cases_order}
 use Rattle.std.proofs.lemmas.List.{get_or_default, length-map, get_or-map}
@@ -56,7 +57,8 @@ pairs_to f R (x ∷ xs) h i j d lt within =
     subst₂ R (sym (get_or-map f (x ∷ xs) i x d (omega arith))) (sym (get_or-map f (x ∷ xs) j x d (omega arith))) (h i j x lt (omega arith))
 
 -- what is so of each pair of two lists is so of the pair at a place
-pub zip_at : {A B : Type 0} (R : A → B → Type 0) (xs : List A) (ys : List B) (k : ℕ) (x : A) (y : B) → AllZip R xs ys → slice_get xs k ≡ Some x → slice_get ys k ≡ Some y → R x y
+pub zip_at : {A B : Type 0} (R : A → B → Type 0) (xs : List A) (ys : List B) (k : ℕ) (x : A) (y : B) → AllZip R xs ys → slice_get xs k ≡ Some x →
+    slice_get ys k ≡ Some y → R x y
 zip_at R [] ys k x y h is_x is_y = absurd (none-some x is_x)
 zip_at R (v ∷ vs) [] k x y h is_x is_y = absurd (none-some y is_y)
 zip_at {A} {B} R (v ∷ vs) (w ∷ ws) zero x y h is_x is_y = subst (λ (z : A). R z y) (same_Some v x is_x) (subst (λ (z : B). R v z) (same_Some w y is_y) h.0)
@@ -93,7 +95,8 @@ zip_front R (x ∷ xs) more (y ∷ ys) all =
     record { front = y ∷ rest.front; back = rest.back; whole = ap (λ zs. y ∷ zs) rest.whole; fronts = (all.0, rest.fronts); backs = rest.backs }
 
 -- where each element has one partner, a list has one list of partners
-pub zip_same : {X Y : Type 0} (R : X → Y → Type 0) → ((x : X) (y z : Y) → R x y → R x z → y ≡ z) → (xs : List X) (ys zs : List Y) → AllZip R xs ys → AllZip R xs zs → ys ≡ zs
+pub zip_same : {X Y : Type 0} (R : X → Y → Type 0) → ((x : X) (y z : Y) → R x y → R x z → y ≡ z) → (xs : List X) (ys zs : List Y) → AllZip R xs ys →
+    AllZip R xs zs → ys ≡ zs
 zip_same R one [] [] [] a b = refl
 zip_same R one [] [] (z ∷ zs) a b = absurd b
 zip_same R one [] (y ∷ ys) zs a b = absurd a

@@ -1,5 +1,6 @@
 -- The first place of a list that passes a test.
-use Rattle.std.proofs.Common.{◌≡◌, ℕ, ◌<◌, ltb, Bool, true, false, cond, List, length, get_or, Some, None, ap, ◌∙◌, arith, ◌≤◌, inl, inr, ◌∷◌, suc, ◌+◌, not, refl, unwrap_or}
+use Rattle.std.proofs.Common.{◌≡◌, ℕ, ◌<◌, ltb, Bool, true, false, cond, List, length, get_or, Some, None, ap, ◌∙◌, arith, ◌≤◌, inl, inr, ◌∷◌, suc, ◌+◌, not}
+use Rattle.std.proofs.Common.{refl, unwrap_or}
 use Rattle.std.specs.List.{position_or_len}
 use Rattle.std.specs.Prelude.{position, nat_lt}
 use Rattle.std.proofs.lemmas.Bool.{lt-ltb, le-ltb, cases_lt, ltb-true}

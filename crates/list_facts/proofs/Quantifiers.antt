@@ -1,5 +1,6 @@
 -- What is so of all items, or of some, in lists that are joined, mapped, or changed at one place.
-use Rattle.std.proofs.Common.{◌+◌, List, ◌++◌, All, subst, arith, length, ℕ, suc, ◌-◌, take, drop, [], ◌∷◌, map, ◌≡◌, slice_get, Any, Some, ◌∙◌, ◌⊎◌, sym, inl, inr, ◌<◌, get_or, ap, ◌≢◌}
+use Rattle.std.proofs.Common.{◌+◌, List, ◌++◌, All, subst, arith, length, ℕ, suc, ◌-◌, take, drop, [], ◌∷◌, map, ◌≡◌, slice_get, Any, Some, ◌∙◌, ◌⊎◌, sym, inl}
+use Rattle.std.proofs.Common.{inr, ◌<◌, get_or, ap, ◌≢◌}
 use Rattle.std.specs.Prelude.{remove}
 use Rattle.std.proofs.lemmas.Bool.{cases_lt}
 use Rattle.std.proofs.lemmas.List.{get_or_append_left, length-append, get_or-append-add, length_push, get_or_push, get_or_default, length-map, get_or-map}

@@ -1,5 +1,6 @@
 -- Tests, counts, sums and lists over a range of numbers.
-use Rattle.std.proofs.Common.{◌≡◌, ℕ, zero, suc, ◌+◌, ◌<◌, ◌≤◌, Bool, true, subst, inl, inr, arith, refl, false, ◌&&◌, ap₂, ◌-◌, sym, ap, ◌∙◌, ◌∷◌, map, List, ◌++◌, append_assoc, flat_map, add-one, sum_by, cond, [], filter, length, Any, Contains}
+use Rattle.std.proofs.Common.{◌≡◌, ℕ, zero, suc, ◌+◌, ◌<◌, ◌≤◌, Bool, true, subst, inl, inr, arith, refl, false, ◌&&◌, ap₂, ◌-◌, sym, ap, ◌∙◌, ◌∷◌, map, List}
+use Rattle.std.proofs.Common.{◌++◌, append_assoc, flat_map, add-one, sum_by, cond, [], filter, length, Any, Contains}
 use Rattle.std.specs.List.{range_with_len, list_all}
 use Rattle.std.proofs.Math.Bool.{and-true}
 use Rattle.std.proofs.lemmas.Bool.{cases_lt, and_parts, and_from, both_ways, cond-false, cond-true, cond_both}
@@ -49,7 +50,8 @@ pub range_push : (p : ℕ → Bool) (a n : ℕ) → list_all p (range_with_len a
 range_push p a zero = and-true (p a) ∙ ap p (let same : a ≡ a + 0 = omega arith in same)
 range_push p a (suc n) =
     ap (λ k. list_all p (range_with_len a k)) (let more : suc n + 1 ≡ suc (n + 1) = omega arith in more)
-    ∙ ap (λ b. p a && b) (range_push p (a + 1) n ∙ ap (λ k. list_all p (range_with_len (a + 1) n) && p k) (let same : a + 1 + n ≡ a + suc n = omega arith in same))
+    ∙ ap (λ b. p a && b) (range_push p (a + 1) n ∙ ap (λ k. list_all p (range_with_len (a + 1) n) && p k) (let same : a + 1 + n ≡ a + suc n = omega arith in
+    same))
     ∙ sym (and_assoc (p a) (list_all p (range_with_len (a + 1) n)) (p (a + suc n)))
 
 -- two functions that agree on a range

@@ -1,5 +1,6 @@
 -- Tests of the items of a list: whether one passes, which comes first, and how many do.
-use Rattle.std.proofs.Common.{◌≡◌, Bool, true, List, Contains, ◌||◌, [], ◌∷◌, refl, ap₂, inl, inr, false, sym, ap, ◌∙◌, ◌++◌, ℕ, ◌<◌, eqb, subst, eqb-true, length, get_or, find, Some, ◌≤◌, None, cond, Option, filter, ◌+◌, arith}
+use Rattle.std.proofs.Common.{◌≡◌, Bool, true, List, Contains, ◌||◌, [], ◌∷◌, refl, ap₂, inl, inr, false, sym, ap, ◌∙◌, ◌++◌, ℕ, ◌<◌, eqb, subst, eqb-true}
+use Rattle.std.proofs.Common.{length, get_or, find, Some, ◌≤◌, None, cond, Option, filter, ◌+◌, arith}
 use Rattle.std.specs.List.{list_any, AllByRecursion, position_or_len}
 use Rattle.std.specs.Prelude.{position, All, count_by}
 use Rattle.std.proofs.lemmas.Bool.{false_from_ne_true, false≢true, or_cases, cases_lt, lt-ltb, le-ltb, cases_Bool, cond-true, cond-false, cond_both}
@@ -67,7 +68,8 @@ module _ {X : Type 0} (p : X → Bool) where
   pub find-position : (xs : List X) (i : ℕ) (d : X) → position p xs ≡ Some i → find p xs ≡ Some (get_or xs i d)
   find-position xs i d is = elim (cases_lt (position_or_len p xs) (length xs)) [
     | inl within ↦
-        let here : position p xs ≡ Some (position_or_len p xs) = ap (λ b. cond b (Some (position_or_len p xs)) None) (lt-ltb (position_or_len p xs) (length xs) within) in
+        let here : position p xs ≡ Some (position_or_len p xs) = ap (λ b. cond b (Some (position_or_len p xs)) None)
+        (lt-ltb (position_or_len p xs) (length xs) within) in
         find_here xs d within ∙ ap (λ k. Some (get_or xs k d)) (same_Some (position_or_len p xs) i (sym here ∙ is))
     | inr all ↦
         let none : position p xs ≡ None = ap (λ b. cond b (Some (position_or_len p xs)) None) (le-ltb (position_or_len p xs) (length xs) all) in
@@ -78,7 +80,8 @@ module _ {X : Type 0} (p : X → Bool) where
   pub find-no_position : (xs : List X) → position p xs ≡ None → find p xs ≡ None
   find-no_position xs is = elim (cases_lt (position_or_len p xs) (length xs)) [
     | inl within ↦
-        let here : position p xs ≡ Some (position_or_len p xs) = ap (λ b. cond b (Some (position_or_len p xs)) None) (lt-ltb (position_or_len p xs) (length xs) within) in
+        let here : position p xs ≡ Some (position_or_len p xs) = ap (λ b. cond b (Some (position_or_len p xs)) None)
+        (lt-ltb (position_or_len p xs) (length xs) within) in
         absurd cc
     | inr all ↦ find_nowhere xs all
   ]

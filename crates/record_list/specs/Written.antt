@@ -1,7 +1,8 @@
 -- A list of records with the bytes of their slots: the texts that it has, the array that it stands for, the nine laws, homes
 -- and garbage. Law 1 is here its part on pages: a slot whose spare area does not read has no record, so that part
 -- of the law comes with the image, above this crate.
-use Rattle.std.specs.Prelude.{◌≡◌, ℕ, ◌/◌, ◌<◌, ◌==◌, ◌⊎◌, Bool, true, false, not, ◌&&◌, ◌||◌, if◌then◌else◌, Option, Some, None, option_and_then, List, All, Any, map, find}
+use Rattle.std.specs.Prelude.{◌≡◌, ℕ, ◌/◌, ◌<◌, ◌==◌, ◌⊎◌, Bool, true, false, not, ◌&&◌, ◌||◌, if◌then◌else◌, Option, Some, None, option_and_then, List, All}
+use Rattle.std.specs.Prelude.{Any, map, find}
 use Rattle.std.specs.List.{list_any, range_with_len}
 use Rattle.std.specs.Option.{option_map, option_or}
 use Rattle.tx_types.specs.declared.record.Link.{Link}

@@ -1,4 +1,4 @@
-#![tactic(auto, using(crate::proofs::Greatest::greatest_step))]
+#![tactic(auto, using(crate::proofs::OfFacts::Greatest::greatest_step))]
 
 ghost use Rattle.std.specs.Prelude.{◌≡◌};
 ghost use Rattle.record_list.specs.Records.{newest, mention, next_older, is_present, mentioned_at};

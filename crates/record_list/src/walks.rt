@@ -1,4 +1,4 @@
-#![tactic(auto, using(crate::proofs::Greatest::greatest_step))]
+#![tactic(auto, using(crate::proofs::OfFacts::Greatest::greatest_step))]
 
 ghost use Rattle.std.specs.Prelude.{◌≡◌};
 ghost use Rattle.record_list.specs.Verdict.{link_of, back_of, straddling, passed, why, verdict_of};
@@ -60,7 +60,7 @@ fn passed(protocol: Protocol, list: &[Found], link: Link) -> Why
 }
 
 /// What decides the verdict on the newest record of a page: where the walk from it ends.
-#[tactic(auto, using(crate::proofs::Walk::walk_turn))]
+#[tactic(auto, using(crate::proofs::OfWalks::Walk::walk_turn))]
 pub fn reason(protocol: Protocol, list: &[Found], logical: u32, page: u32) -> Why
     ensures { result ≡ why protocol list.now logical page }
 {

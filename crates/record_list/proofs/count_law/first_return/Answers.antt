@@ -1,9 +1,9 @@
 use Rattle.std.proofs.Common.{◌≡◌, ◌+◌, sym, ap, ◌∙◌, inl, inr, arith}
 use Rattle.std.proofs.lemmas.Bool.{false≢true, cases_lt}
 use Rattle.record_list.specs.SoundList.{follow}
-use Rattle.record_list.proofs.Follow.{one_more_link}
-use Rattle.record_list.proofs.Names.{is_same_true, is_same_own}
-use Rattle.record_list.proofs.Returns.{first_here, no_return}
+use Rattle.record_list.proofs.OfWalks.Follow.{one_more_link}
+use Rattle.record_list.proofs.OfFacts.Names.{is_same_true, is_same_own}
+use Rattle.record_list.proofs.OfWalks.Returns.{first_here, no_return}
 use Rattle.record_list.proofs.count_law.first_return.Goals as goal
 
 pub returns-then-eq : goal.returns-then-eq

@@ -1,4 +1,4 @@
-use Rattle.record_list.proofs.Arrays.{partial_write_leaves_array, completing_write_takes_transaction, copy_leaves_array, block_loss_leaves_array}
+use Rattle.record_list.proofs.OfChanges.Arrays.{partial_write_leaves_array, completing_write_takes_transaction, copy_leaves_array, block_loss_leaves_array}
 use Rattle.record_list.proofs.theorems.array_changes.Goals as goal
 
 pub returns-clause-partial_write : goal.returns-clause-partial_write

@@ -1,4 +1,4 @@
-use Rattle.record_list.proofs.Counting.{write_keeps_counts, copy_keeps_counts, loss_keeps_counts}
+use Rattle.record_list.proofs.OfChanges.Counting.{write_keeps_counts, copy_keeps_counts, loss_keeps_counts}
 use Rattle.record_list.proofs.theorems.counts_stay.Goals as goal
 
 pub returns-clause-write : goal.returns-clause-write

@@ -1,4 +1,4 @@
-use Rattle.record_list.proofs.SccCurrent.{scc_current_present}
+use Rattle.record_list.proofs.OfCycles.SccCurrent.{scc_current_present}
 use Rattle.record_list.proofs.theorems.current_is_present.Goals as goal
 
 pub returns : goal.returns

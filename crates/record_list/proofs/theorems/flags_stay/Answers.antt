@@ -1,4 +1,4 @@
-use Rattle.record_list.proofs.Flags.{write_keeps_flags, others_keep_flags, copy_keeps_flags, loss_keeps_flags}
+use Rattle.record_list.proofs.OfChanges.Flags.{write_keeps_flags, others_keep_flags, copy_keeps_flags, loss_keeps_flags}
 use Rattle.record_list.proofs.theorems.flags_stay.Goals as goal
 
 pub returns-clause-write : goal.returns-clause-write

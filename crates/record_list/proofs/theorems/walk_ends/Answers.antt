@@ -1,5 +1,5 @@
-use Rattle.record_list.proofs.SoundNames.{sound_map}
-use Rattle.record_list.proofs.Safe.{walk_ends}
+use Rattle.record_list.proofs.OfFacts.SoundNames.{sound_map}
+use Rattle.record_list.proofs.OfFacts.Safe.{walk_ends}
 use Rattle.record_list.proofs.theorems.walk_ends.Goals as goal
 
 pub returns : goal.returns

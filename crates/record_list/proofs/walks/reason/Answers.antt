@@ -4,7 +4,7 @@ use Rattle.std.proofs.lemmas.Bool.{and_left, and_right}
 use Rattle.tx_types.specs.declared.record.Link.{Link}
 use Rattle.record_list.specs.Records.{is_same}
 use Rattle.record_list.specs.Verdict.{walk}
-use Rattle.record_list.proofs.Walk.{walk_goes}
+use Rattle.record_list.proofs.OfWalks.Walk.{walk_goes}
 use Rattle.record_list.proofs.walks.reason.Goals as goal
 
 pub loop-turns-init : goal.loop-turns-init

@@ -1,0 +1,12 @@
+pub mod Arrays
+pub mod Keeping
+pub mod OneMore
+pub mod Progress
+pub mod Untouched
+pub mod WrittenChange
+pub mod WrittenLists
+pub mod CopyLaw
+pub mod Counting
+pub mod Flags
+pub mod Partial
+pub mod Completing

@@ -1,0 +1,3 @@
+pub mod SccCompleting
+pub mod SccCurrent
+pub mod SccPartial

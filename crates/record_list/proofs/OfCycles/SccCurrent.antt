@@ -1,0 +1,28 @@
+-- Under Simple Cyclic Commit no list breaks law 4.
+use Rattle.std.proofs.Common.{◌≡◌, ℕ, ◌<◌, true, ◌⊎◌, List, sym, subst, inl, inr, arith}
+use Rattle.std.proofs.lemmas.Bool.{cases_Bool, cases_lt}
+use Rattle.tx_types.specs.declared.config.Protocol.TheVariants.{Scc}
+use Rattle.record_list.specs.declared.found.Found.{Found}
+use Rattle.record_list.specs.Records.{newest, next_older, is_present}
+use Rattle.record_list.specs.Verdict.{why, is_committed}
+use Rattle.record_list.specs.Current.{cur}
+use Rattle.record_list.specs.SoundList.{CurrentIsPresent, current_name}
+use Rattle.record_list.proofs.OfFacts.Names.{named, newest_present, older_name}
+use Rattle.record_list.proofs.OfFacts.Facts.{cur_committed, cur_uncommitted}
+
+-- a version that is 0 or present, under another spelling
+restated : (l : List Found) (logical page v : ℕ) → cur Scc l logical page ≡ v → (0 < v → is_present l (named page v) ≡ true) →
+    (cur Scc l logical page ≡ 0) ⊎ (is_present l (current_name Scc l logical page) ≡ true)
+restated l logical page v is there = elim (cases_lt 0 v) [
+  | inl some ↦ inr (subst (λ n. is_present l (named page n) ≡ true) (sym is) (there some))
+  | inr none ↦ inl (omega arith)
+]
+
+pub scc_current_present : (l : List Found) (logical : ℕ) (f : Found) → CurrentIsPresent Scc l logical f
+scc_current_present l logical f _ =
+    let page = f.rec.page in
+    elim (cases_Bool (is_committed (why Scc l logical page))) [
+      | inl committed ↦ restated l logical page (newest l page) (cur_committed Scc l logical page committed) (newest_present l page)
+      | inr aborted ↦ restated l logical page (next_older l page (newest l page)) (cur_uncommitted Scc l logical page aborted)
+          (λ some. (older_name l page (newest l page) some).0)
+    ]

@@ -1,0 +1,10 @@
+pub mod Asking
+pub mod Facts
+pub mod Names
+pub mod SoundNames
+pub mod Safe
+pub mod Greatest
+pub mod Held
+pub mod Wanted
+pub mod Examples
+pub mod Breaches

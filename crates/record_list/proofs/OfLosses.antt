@@ -1,0 +1,6 @@
+pub mod LossAmong
+pub mod LossCounted
+pub mod LossCurrent
+pub mod LossKept
+pub mod LossScc
+pub mod LossSetting

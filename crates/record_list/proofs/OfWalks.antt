@@ -1,0 +1,4 @@
+pub mod Walk
+pub mod Follow
+pub mod Returns
+pub mod Rounds
