@@ -7,7 +7,7 @@ use Rattle.record_list.specs.declared.found.Found.{Found}
 use Rattle.record_list.specs.Records.{is_present}
 use Rattle.record_list.specs.Verdict.{link_of}
 use Rattle.record_list.specs.SoundList.{follow}
-use Rattle.record_list.proofs.Follow.{follow_last, stays_absent, never_absent, few_met}
+use Rattle.record_list.proofs.OfWalks.Follow.{follow_last, stays_absent, never_absent, few_met}
 use Rattle.straddle_sets.proofs.Ending.{Ends}
 
 module _ (l : List Found) (u : Link) (ends : Ends l u) where

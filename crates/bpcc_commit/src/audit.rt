@@ -10,7 +10,7 @@ use record_list::{
 use tx_types::Protocol;
 
 /// The first of the laws of a sound list that is broken, and the slot that it names.
-#[tactic(auto, using(record_list::proofs::Breaches::first_breaches, crate::proofs::LooseBreaches::last_breaches))]
+#[tactic(auto, using(record_list::proofs::OfFacts::Breaches::first_breaches, crate::proofs::LooseBreaches::last_breaches))]
 pub fn first_breach(list: &[Found], logical: u32) -> Option<Breach>
     requires scanned { IsScanned list.now }
     ensures { IsFirstBreach BpccRule list.now logical result }

@@ -1,8 +1,8 @@
 ghost use Rattle.straddle_sets.proofs.BpccPartial.{bpcc_partial_write};
 ghost use Rattle.straddle_sets.proofs.BpccCompleting.{bpcc_completing_write};
-ghost use Rattle.record_list.proofs.CopyLaw.{copy_law};
+ghost use Rattle.record_list.proofs.OfChanges.CopyLaw.{copy_law};
 ghost use Rattle.straddle_sets.proofs.LossBpcc.{bpcc_loss};
-ghost use Rattle.record_list.proofs.WrittenChange.{written_partial_write, written_completing_write, written_copy, written_loss};
+ghost use Rattle.record_list.proofs.OfChanges.WrittenChange.{written_partial_write, written_completing_write, written_copy, written_loss};
 ghost use Rattle.tx_types.specs.declared.config.Protocol.TheVariants.{Bpcc as BpccRule};
 
 use crate::audit::first_breach;

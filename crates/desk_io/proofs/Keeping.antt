@@ -15,6 +15,7 @@ says_kept old new bytes true result state answer = rw (state, answer) (length by
 says_kept old new bytes false result state answer = rw (state, answer) refl
 
 pub saves_kept : (old new : MemoryDesk) (name bytes : List ℕ) (fails : Bool) (result : Result (Unit {0}) SinkError) →
-    new ≡ after_call (with_file name (Some (kept_of bytes fails))) fails old → result ≡ answer_of fails → Saves (open_desk old) (open_desk new) name bytes result
+    new ≡ after_call (with_file name (Some (kept_of bytes fails))) fails old → result ≡ answer_of fails →
+    Saves (open_desk old) (open_desk new) name bytes result
 saves_kept old new name bytes true result state answer = rw (state, answer) (Some (first_half bytes), refl)
 saves_kept old new name bytes false result state answer = rw (state, answer) refl

@@ -8,7 +8,8 @@ use Rattle.std.proofs.lemmas.Nat.{div_below}
 use Rattle.tx_types.specs.Config.{blocks_of, slots_of}
 use Rattle.tx_types.specs.declared.config.BlockState.{BlockState}
 use Rattle.tx_types.specs.declared.config.BlockState.TheVariants.{Spare, Clean, Part, Shut}
-use Rattle.die_alloc.specs.BlockTable.{BlockTable, IsBlockTable, no_block, use_of, block_state, block_of_slot, HasRoom, IsFull, with_use, with_slot, table_with_spare}
+use Rattle.die_alloc.specs.BlockTable.{BlockTable, IsBlockTable, no_block, use_of, block_state, block_of_slot, HasRoom, IsFull, with_use, with_slot}
+use Rattle.die_alloc.specs.BlockTable.{table_with_spare}
 
 -- the block that is named has what it is given
 pub use_of-with_use_same : (t : BlockTable) → IsBlockTable t → (block : ℕ) (s : BlockState) (n : ℕ) → block < blocks_of t.shape
@@ -23,7 +24,8 @@ use_of-with_use_other t block other s n apart = get_or-set_other t.blocks block 
 -- the block of a slot is one of the table
 pub block_within : (t : BlockTable) → IsBlockTable t → (at : ℕ) → at < slots_of t.shape → block_of_slot t.shape at < blocks_of t.shape
 block_within t h at within =
-    div_below at t.shape.pages_per_block (blocks_of t.shape) (omega (arith, h.numbers.pages_least)) (omega (arith, within, mul_comm t.shape.pages_per_block (blocks_of t.shape)))
+    div_below at t.shape.pages_per_block (blocks_of t.shape) (omega (arith, h.numbers.pages_least))
+    (omega (arith, within, mul_comm t.shape.pages_per_block (blocks_of t.shape)))
 
 -- after a slot of it was used, a block has its slots used up to this one, and is shut where it has no other
 pub use_of-with_slot_same : (t : BlockTable) → IsBlockTable t → (at : ℕ) → at < slots_of t.shape

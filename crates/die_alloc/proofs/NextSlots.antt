@@ -83,7 +83,8 @@ no_next_block t h e block within room =
     let none = option_or_none (from_cursor t) (before_cursor t) (sym (next_block_split t) ∙ e) in
     let size = t.shape.blocks_per_die in
     let die = block / size in
-    let below : die < t.shape.dies = div_below block size t.shape.dies (omega (arith, h.numbers.blocks_least)) (omega (arith, within, mul_comm size t.shape.dies)) in
+    let below : die < t.shape.dies = div_below block size t.shape.dies (omega (arith, h.numbers.blocks_least))
+    (omega (arith, within, mul_comm size t.shape.dies)) in
     let split = div-add-mod' block size in
     let rest = mod_below block size (omega (arith, h.numbers.blocks_least)) in
     let gives_none : open_block t die ≡ None =

@@ -45,7 +45,8 @@ module _ (test : BlockState → Bool) (t : BlockTable) (die : ℕ) where
       → (block : ℕ) → die * t.shape.blocks_per_die ≤ block → block < die * t.shape.blocks_per_die + t.shape.blocks_per_die → test (block_state t block) ≡ false
   none_passes lies h block low high = from_place (position (λ b. test b.state) (die_blocks t die)) refl h
     where
-      from_place : (o : Option ℕ) → position (λ b. test b.state) (die_blocks t die) ≡ o → option_map (λ k. die * t.shape.blocks_per_die + k) o ≡ None → test (block_state t block) ≡ false
+      from_place : (o : Option ℕ) → position (λ b. test b.state) (die_blocks t die) ≡ o → option_map (λ k. die * t.shape.blocks_per_die + k) o ≡ None →
+          test (block_state t block) ≡ false
       from_place (Some k) e g = cc
       from_place None e g =
           let place = block - die * t.shape.blocks_per_die in

@@ -1,10 +1,12 @@
 -- The ranks of the blocks of each die, and which of them comes first.
-use Rattle.std.proofs.Common.{◌≡◌, ◌≢◌, ℕ, ◌+◌, ◌-◌, ◌*◌, ◌/◌, ◌%◌, ◌<◌, ◌≤◌, inl, inr, false, List, [], ◌∷◌, ◌++◌, take, drop, length, get_or, set, Some, None, refl, sym, ap, ◌∙◌, subst, arith, All, ap₂}
+use Rattle.std.proofs.Common.{◌≡◌, ◌≢◌, ℕ, ◌+◌, ◌-◌, ◌*◌, ◌/◌, ◌%◌, ◌<◌, ◌≤◌, inl, inr, false, List, [], ◌∷◌, ◌++◌, take, drop, length, get_or, set, Some, None}
+use Rattle.std.proofs.Common.{refl, sym, ap, ◌∙◌, subst, arith, All, ap₂}
 use Rattle.std.specs.Option.{option_or}
 use Rattle.std.proofs.Math.ListN.{length-set}
 use Rattle.std.proofs.lemmas.Bool.{cases_eq}
 use Rattle.std.proofs.lemmas.Grind.{common_steps}
-use Rattle.std.proofs.lemmas.List.{get_or-drop, get_or-take, get_or-set_same, get_or-set_other, get_or_push, get_or_append_left, get_or_default, length_push, set-get_or}
+use Rattle.std.proofs.lemmas.List.{get_or-drop, get_or-take, get_or-set_same, get_or-set_other, get_or_push, get_or_append_left, get_or_default, length_push}
+use Rattle.std.proofs.lemmas.List.{set-get_or}
 use Rattle.std.proofs.lemmas.Nat.{div_below, div-mul-add, mod-mul-add, div-add-mod', mod_below, row_fits_turned}
 use Rattle.std.proofs.Math.Nat.{mul_comm, mul-le-mul_right}
 use Rattle.plain_tables.specs.Greatest.{IsFirstGreatest}
@@ -75,7 +77,8 @@ module _ (t : BlockTable) (table : IsBlockTable t) (ranks : List (List ℕ)) (ar
           option_or (lowest_block is_part t die) (lowest_block is_clean t die) ≡ Some (die * t.shape.blocks_per_die + at)
       by_state Part e =
           let part = position-at (λ b. is_part b.state) blocks no_block at within
-          (λ k less. low_not_part _ (let a = first.first k less in let w = within in let b = same k (omega arith) in let c = same at within in let d = ap rank_of e in omega arith))
+          (λ k less. low_not_part _ (let a = first.first k less in let w = within in let b = same k (omega arith) in let c = same at within in let d =
+          ap rank_of e in omega arith))
           (ap is_part e) in
           rw part refl
       by_state Clean e =
@@ -266,7 +269,8 @@ pub rest_is : (block size : ℕ) → block - block / size * size ≡ block % siz
 rest_is block size = let whole = div-add-mod' block size in omega (arith, whole)
 
 -- what was read of the ranks of a die is so of them
-pub of_die : (P : List ℕ → Type 0) (s : Shape) (blocks : List BlockUse) (ranks : List (List ℕ)) (read : List ℕ) (die : ℕ) → AreRanks s blocks ranks → die < s.dies →
+pub of_die : (P : List ℕ → Type 0) (s : Shape) (blocks : List BlockUse) (ranks : List (List ℕ)) (read : List ℕ) (die : ℕ) → AreRanks s blocks ranks →
+    die < s.dies →
     read ≡ get_or ranks die read → P read → P (get_or ranks die [])
 of_die P s blocks ranks read die are below is holds =
     subst P (is ∙ get_or_default ranks die read [] (let n = are.dies in omega arith)) holds

@@ -1,5 +1,6 @@
 -- What operations leave of an image.
-use Rattle.std.proofs.Common.{◌≡◌, ◌≢◌, ◌⊎◌, inl, inr, ℕ, suc, ◌+◌, ◌*◌, ◌/◌, ◌<◌, ◌≤◌, Bool, true, false, List, [], ◌∷◌, ◌++◌, length, set, take, drop, replicate, refl, ap, sym, ◌∙◌, subst, arith}
+use Rattle.std.proofs.Common.{◌≡◌, ◌≢◌, ◌⊎◌, inl, inr, ℕ, suc, ◌+◌, ◌*◌, ◌/◌, ◌<◌, ◌≤◌, Bool, true, false, List, [], ◌∷◌, ◌++◌, length, set, take, drop}
+use Rattle.std.proofs.Common.{replicate, refl, ap, sym, ◌∙◌, subst, arith}
 use Rattle.std.proofs.lemmas.List.{places, length-append, length-take, length-drop, length-replicate, length-set, get_or-set_other}
 use Rattle.std.proofs.lemmas.List.Elements.{All-append, All-take, All-drop, All-replicate, All-set, All-head, All-tail}
 use Rattle.std.proofs.lemmas.Bool.{cases_lt}
@@ -9,7 +10,8 @@ use Rattle.tx_types.specs.declared.config.Shape.{Shape}
 use Rattle.flash_model.specs.declared.outcome.Outcome.{Outcome}
 use Rattle.flash_model.specs.declared.outcome.Outcome.TheVariants as outcome
 use Rattle.flash_model.specs.Flash.{Contents, blank, damaged, complete, slot_at, IsWhole, IsImage}
-use Rattle.flash_model.specs.Operations.{Operation, Load, program, erase, fire, program_of, Moment, CanDo, WorksIn, with_block, load_left, left_each, image_after, image_left, after, MayLeave, Torn}
+use Rattle.flash_model.specs.Operations.{Operation, Load, program, erase, fire, program_of, Moment, CanDo, WorksIn, with_block, load_left, left_each}
+use Rattle.flash_model.specs.Operations.{image_after, image_left, after, MayLeave, Torn}
 use Rattle.flash_model.specs.Moves.{Does, Ends, Moves, StayOff}
 use Rattle.flash_model.proofs.FireLemmas.{slot_at-load, can_first, can_rest}
 

@@ -1,5 +1,6 @@
 -- From the mask of a comparison of two vectors to their lanes.
-use Rattle.std.proofs.Common.{◌≡◌, ℕ, suc, ◌+◌, ◌*◌, ◌%◌, ◌^◌, eqb, Bool, true, false, not, ◌&&◌, cond, List, [], ◌∷◌, map, length, replicate, refl, sym, ap, ◌∙◌, arith, inl, inr, w8}
+use Rattle.std.proofs.Common.{◌≡◌, ℕ, suc, ◌+◌, ◌*◌, ◌%◌, ◌^◌, eqb, Bool, true, false, not, ◌&&◌, cond, List, [], ◌∷◌, map, length, replicate, refl, sym, ap}
+use Rattle.std.proofs.Common.{◌∙◌, arith, inl, inr, w8}
 use Rattle.std.specs.List.{list_all, zip, prefix_len, common_prefix_len}
 use Rattle.std.proofs.lemmas.Bool.{cases_eq, eq-eqb, ne_eqb}
 use Rattle.std.proofs.lemmas.List.{length-map}

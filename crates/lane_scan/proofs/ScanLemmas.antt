@@ -1,8 +1,10 @@
 -- From the parts of a list that were compared to the whole list.
-use Rattle.std.proofs.Common.{◌≡◌, ◌≢◌, ℕ, suc, ◌+◌, ◌-◌, ◌<◌, ◌≤◌, eqb, ltb, true, false, ◌&&◌, cond, List, [], ◌∷◌, ◌++◌, length, take, drop, Some, None, refl, sym, ap, subst, ◌∙◌, arith, inl, inr}
+use Rattle.std.proofs.Common.{◌≡◌, ◌≢◌, ℕ, suc, ◌+◌, ◌-◌, ◌<◌, ◌≤◌, eqb, ltb, Bool, true, false, ◌&&◌, cond, List, [], ◌∷◌, ◌++◌, length, take, drop, Some}
+use Rattle.std.proofs.Common.{None}
+use Rattle.std.proofs.Common.{refl, sym, ap, subst, ◌∙◌, arith, inl, inr}
 use Rattle.std.specs.List.{common_prefix_len}
 use Rattle.std.proofs.lemmas.Bool.{cases_eq, eq-eqb, ne_eqb, lt-ltb, le-ltb}
-use Rattle.std.proofs.lemmas.List.{take-append-drop, length-take, length-drop, take_all}
+use Rattle.std.proofs.lemmas.List.{take-append-drop, length-take, length-drop, take_all, drop-drop}
 use Rattle.std.proofs.lemmas.List.Folds.{list_all-append}
 use Rattle.std.proofs.Math.Seq.{take-add}
 use Rattle.lane_scan.specs.Scans.{all_equal, first_difference, DifferFirstAt}
@@ -19,6 +21,27 @@ all_equal-drop n bytes value front = ap (λ b. b && all_equal (drop n bytes) val
 -- one of the first n has it not
 pub all_equal-take : (n : ℕ) (bytes : List ℕ) (value : ℕ) → all_equal (take n bytes) value ≡ false → false ≡ all_equal bytes value
 all_equal-take n bytes value front = ap (λ b. b && all_equal (drop n bytes) value) (sym front) ∙ split n bytes value
+
+-- bytes that end with the same ones: where all of the longer part have the value, those of the shorter part have it
+part_decides : (x y whole part all : Bool) → (x && whole) ≡ all → (y && part) ≡ whole → part ≡ all → whole ≡ all
+part_decides x true true true all h1 h2 h3 = h3
+part_decides x true true false all h1 h2 h3 = absurd cc
+part_decides x false true part all h1 h2 h3 = absurd cc
+part_decides true y false part all h1 h2 h3 = h1
+part_decides false y false part all h1 h2 h3 = h1
+
+-- the last n bytes decide for all where fewer of the last ones do
+pub last_decides : (n : ℕ) (bytes rest : List ℕ) (value : ℕ) → n ≤ length bytes → length rest ≤ n → rest ≡ drop (length bytes - length rest) bytes
+    → all_equal rest value ≡ all_equal bytes value → all_equal (drop (length bytes - n) bytes) value ≡ all_equal bytes value
+last_decides n bytes rest value room few last h =
+    let from = length bytes - n in
+    let inner : drop (n - length rest) (drop from bytes) ≡ rest =
+    drop-drop (n - length rest) from bytes ∙ ap (λ k. drop k bytes) (omega arith) ∙ sym last in
+    let part : (all_equal (take (n - length rest) (drop from bytes)) value && all_equal rest value) ≡ all_equal (drop from bytes) value =
+    ap (λ l. all_equal (take (n - length rest) (drop from bytes)) value && all_equal l value) (sym inner)
+    ∙ split (n - length rest) (drop from bytes) value in
+    part_decides (all_equal (take from bytes) value) (all_equal (take (n - length rest) (drop from bytes)) value)
+    (all_equal (drop from bytes) value) (all_equal rest value) (all_equal bytes value) (split from bytes value) part h
 
 -- how many bytes at the front are the same in both
 abbrev pub same_front : List ℕ → List ℕ → ℕ

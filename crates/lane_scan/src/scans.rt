@@ -16,10 +16,13 @@ pub fn all_equal(bytes: &[u8], value: u8) -> bool
         }
         rest = &rest[LANES..];
     }
+    if bytes.len() >= LANES {
+        return lanes::all_equal(&bytes[bytes.len() - LANES..], value);
+    }
     all_equal_by_one(rest, value)
 }
 
-/// The same for the few bytes that fill no vector.
+/// The same for bytes that fill no vector.
 fn all_equal_by_one(bytes: &[u8], value: u8) -> bool
     ensures { result ≡ all_equal bytes.now value }
 {

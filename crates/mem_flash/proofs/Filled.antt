@@ -9,7 +9,8 @@ use Rattle.flash_model.specs.declared.flash.Seen.{Seen}
 use Rattle.flash_model.specs.declared.flash.Seen.TheVariants.{Blank, Damaged, Complete}
 use Rattle.flash_model.specs.Flash.{Contents, blank}
 use Rattle.mem_flash.specs.Slots.{overwritten, cell_bytes, contents_of, filler, image_of, IsFilled, AreFilled}
-use Rattle.mem_flash.proofs.Chunks.{length-overwritten, get_or-overwritten_below, get_or-overwritten_in, get_or-overwritten_above, slice_chunk-written, slice_chunk-written_before, slice_chunk-written_behind}
+use Rattle.mem_flash.proofs.Chunks.{length-overwritten, get_or-overwritten_below, get_or-overwritten_in, get_or-overwritten_above, slice_chunk-written}
+use Rattle.mem_flash.proofs.Chunks.{slice_chunk-written_before, slice_chunk-written_behind}
 use Rattle.mem_flash.proofs.Images.{length-image_of, get_or-image_of}
 
 -- an index lies before the m from i on, or among them, or behind

@@ -14,7 +14,8 @@ use Rattle.flash_model.specs.Calls.{seen_of, page_of, spare_area_of}
 use Rattle.mem_flash.specs.Slots.{overwritten, cell_bytes, cell_of, contents_of, filler, image_of, IsFilled, AreFilled}
 use Rattle.mem_flash.specs.SlotsInside.{AreStored, cells_of}
 use Rattle.mem_flash.specs.declared.slots.Slots.TheInside.{Inside}
-use Rattle.mem_flash.proofs.Images.{length-image_of, cells-image_of, All-image_of, AreFilled-blank, image_of-blank, get_or-image_of, seen_of-contents_of, cell_of-contents_of, page_of-contents_of, spare_area_of-contents_of}
+use Rattle.mem_flash.proofs.Images.{length-image_of, cells-image_of, All-image_of, AreFilled-blank, image_of-blank, get_or-image_of, seen_of-contents_of}
+use Rattle.mem_flash.proofs.Images.{cell_of-contents_of, page_of-contents_of, spare_area_of-contents_of}
 use Rattle.mem_flash.proofs.Chunks.{length-overwritten, drop-overwritten}
 use Rattle.mem_flash.proofs.Programmed.{image_of-programmed, AreFilled-programmed}
 use Rattle.mem_flash.proofs.Filled.{image_of-filled, AreFilled-filled, length-filled_states}
@@ -124,7 +125,8 @@ module _ (f : Inside) (stored : AreStored f) where
       shape = rw same stored.shape;
       slots = rw (states_are, same) (length-set states at Complete ∙ stored.slots);
       bytes = rw (bytes_are, same, same_head) (length-overwritten f.bytes.items (f.head + at * size) (bytes ++ spare_area) written_within ∙ stored.bytes);
-      filled = rw (states_are, same, same_head, written g.bytes.items bytes_are) (AreFilled-programmed page states cells bytes_long at bytes spare_area inside whole tail stored.filled);
+      filled = rw (states_are, same, same_head, written g.bytes.items bytes_are)
+          (AreFilled-programmed page states cells bytes_long at bytes spare_area inside whole tail stored.filled);
     }
 
   -- after the m slots from slot i on have lost their contents
@@ -153,7 +155,8 @@ module _ (f : Inside) (stored : AreStored f) where
       slots = rw (states_are, same) (length-filled_states page states cells bytes_long i m all_inside how bare ∙ stored.slots);
       bytes = rw (bytes_are, same, same_head) (length-overwritten f.bytes.items (f.head + i * size) (replicate (m * size) (filler how))
           (simp length-replicate (cells_within i m within)) ∙ stored.bytes);
-      filled = rw (states_are, same, same_head, filled_bytes g.bytes.items bytes_are) (AreFilled-filled page states cells bytes_long i m all_inside how bare stored.filled);
+      filled = rw (states_are, same, same_head, filled_bytes g.bytes.items bytes_are)
+          (AreFilled-filled page states cells bytes_long i m all_inside how bare stored.filled);
     }
 
 -- one slot written over

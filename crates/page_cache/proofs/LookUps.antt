@@ -31,28 +31,32 @@ module _ (page version : ℕ) where
   unfolding cached_page
   cached_page-map [] = refl
   cached_page-map (e ∷ es) =
-      elim (is_key e.0) as (λ b. cond b (Some (page_in e)) (cached_page page version (map page_in es)) ≡ option_map page_in (cond b (Some e) (lookup_entry is_key es)))
+      elim (is_key e.0) as (λ b. cond b (Some (page_in e)) (cached_page page version (map page_in es)) ≡ option_map page_in
+      (cond b (Some e) (lookup_entry is_key es)))
       [ true ↦ refl | false ↦ cached_page-map es ]
 
   value_of-map : (es : List Entry) → option_map (λ e. e.bytes) (cached_page page version (map page_in es)) ≡ option_map (λ v. v.items) (lookup is_key es)
   unfolding cached_page
   value_of-map [] = refl
   value_of-map (e ∷ es) =
-      elim (is_key e.0) as (λ b. option_map (λ e. e.bytes) (cond b (Some (page_in e)) (cached_page page version (map page_in es))) ≡ option_map (λ v. v.items) (cond b (Some e.1) (lookup is_key es)))
+      elim (is_key e.0) as (λ b. option_map (λ e. e.bytes) (cond b (Some (page_in e)) (cached_page page version (map page_in es))) ≡ option_map (λ v. v.items)
+      (cond b (Some e.1) (lookup is_key es)))
       [ true ↦ refl | false ↦ value_of-map es ]
 
   is_some-map : (es : List Entry) → is_some (cached_page page version (map page_in es)) ≡ is_some (lookup is_key es)
   unfolding cached_page
   is_some-map [] = refl
   is_some-map (e ∷ es) =
-      elim (is_key e.0) as (λ b. is_some (cond b (Some (page_in e)) (cached_page page version (map page_in es))) ≡ is_some (cond b (Some e.1) (lookup is_key es)))
+      elim (is_key e.0) as (λ b. is_some (cond b (Some (page_in e)) (cached_page page version (map page_in es))) ≡ is_some
+      (cond b (Some e.1) (lookup is_key es)))
       [ true ↦ refl | false ↦ is_some-map es ]
 
   without-map : (es : List Entry) → without_page page version (map page_in es) ≡ map page_in (remove_entry is_key es)
   unfolding without_page
   without-map [] = refl
   without-map (e ∷ es) =
-      elim (is_key e.0) as (λ b. cond b (map page_in es) (page_in e ∷ without_page page version (map page_in es)) ≡ map page_in (cond b es (e ∷ remove_entry is_key es)))
+      elim (is_key e.0) as (λ b. cond b (map page_in es) (page_in e ∷ without_page page version (map page_in es)) ≡ map page_in
+      (cond b es (e ∷ remove_entry is_key es)))
       [ true ↦ refl | false ↦ ap (λ l. page_in e ∷ l) (without-map es) ]
 
   promoted_as : (es : List Entry) (o : Option Entry)

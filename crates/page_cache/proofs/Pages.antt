@@ -26,10 +26,11 @@ module _ (page version : ℕ) where
   pub length-without : (es : List CachedPage) (e : CachedPage) → cached_page page version es ≡ Some e → length (without_page page version es) + 1 ≡ length es
   unfolding cached_page without_page
   length-without [] e h = cc
-  length-without (x ∷ es) e h = (elim (has_key page version x) as (λ b. has_key page version x ≡ b → length (without_page page version (x ∷ es)) + 1 ≡ length (x ∷ es)) [
-    | true ↦ λ t. rw t (omega arith)
-    | false ↦ λ t. let rest = length-without es e (rw t at h) in rw t (omega arith)
-  ]) refl
+  length-without (x ∷ es) e h = (elim (has_key page version x) as (λ b. has_key page version x ≡ b →
+      length (without_page page version (x ∷ es)) + 1 ≡ length (x ∷ es)) [
+        | true ↦ λ t. rw t (omega arith)
+        | false ↦ λ t. let rest = length-without es e (rw t at h) in rw t (omega arith)
+      ]) refl
 
   -- a look-up of a page that is not held leaves the entries
   pub promoted-missing : (es : List CachedPage) → is_some (cached_page page version es) ≡ false → promoted page version es ≡ es
@@ -55,33 +56,39 @@ module _ (page version : ℕ) where
   length-kept its_bytes es = take_most 16 (record { page = page; version = version; bytes = its_bytes } ∷ without_page page version es)
 
   module _ (p : CachedPage → Bool) where
-    list_all-without : (es : List CachedPage) (e : CachedPage) → cached_page page version es ≡ Some e → (p e && list_all p (without_page page version es)) ≡ list_all p es
+    list_all-without : (es : List CachedPage) (e : CachedPage) → cached_page page version es ≡ Some e →
+        (p e && list_all p (without_page page version es)) ≡ list_all p es
     unfolding cached_page without_page
     list_all-without [] e h = cc
-    list_all-without (x ∷ es) e h = (elim (has_key page version x) as (λ b. has_key page version x ≡ b → (p e && list_all p (without_page page version (x ∷ es))) ≡ list_all p (x ∷ es)) [
-      | true ↦ λ t. let same : Some x ≡ Some e = rw t at h in let it : x ≡ e = cc in rw (t, it) refl
-      | false ↦ λ t. let rest = list_all-without es e (rw t at h) in rw t (turned (p e) (p x) (list_all p (without_page page version es)) ∙ ap (λ b. p x && b) rest)
-    ]) refl
+    list_all-without (x ∷ es) e h = (elim (has_key page version x) as (λ b. has_key page version x ≡ b →
+        (p e && list_all p (without_page page version (x ∷ es))) ≡ list_all p (x ∷ es)) [
+          | true ↦ λ t. let same : Some x ≡ Some e = rw t at h in let it : x ≡ e = cc in rw (t, it) refl
+          | false ↦ λ t. let rest = list_all-without es e (rw t at h) in rw t (turned (p e) (p x) (list_all p (without_page page version es)) ∙
+              ap (λ b. p x && b) rest)
+        ]) refl
 
     -- a look-up keeps each entry
     pub list_all-promoted : (es : List CachedPage) → list_all p (promoted page version es) ≡ list_all p es
     unfolding promoted
     list_all-promoted es = by_entry (cached_page page version es) refl
       where
-        by_entry : (o : Option CachedPage) → cached_page page version es ≡ o → list_all p (option_map_or (λ e. e ∷ without_page page version es) o es) ≡ list_all p es
+        by_entry : (o : Option CachedPage) → cached_page page version es ≡ o → list_all p
+            (option_map_or (λ e. e ∷ without_page page version es) o es) ≡ list_all p es
         by_entry None is = refl
         by_entry (Some e) is = list_all-without es e is
 
     all_without : (es : List CachedPage) → list_all p es ≡ true → list_all p (without_page page version es) ≡ true
     unfolding without_page
     all_without [] h = refl
-    all_without (x ∷ es) h = let parts = and_parts (p x) (list_all p es) h in elim (has_key page version x) as (λ b. list_all p (cond b es (x ∷ without_page page version es)) ≡ true) [
-      | true ↦ parts.1
-      | false ↦ rw parts.0 (all_without es parts.1)
-    ]
+    all_without (x ∷ es) h = let parts = and_parts (p x) (list_all p es) h in elim (has_key page version x) as
+        (λ b. list_all p (cond b es (x ∷ without_page page version es)) ≡ true) [
+          | true ↦ parts.1
+          | false ↦ rw parts.0 (all_without es parts.1)
+        ]
 
     -- what holds of each entry, and of a page that is kept, holds of each then
-    pub list_all-kept : (its_bytes : List ℕ) (es : List CachedPage) → p (record { page = page; version = version; bytes = its_bytes }) ≡ true → list_all p es ≡ true
+    pub list_all-kept : (its_bytes : List ℕ) (es : List CachedPage) → p (record { page = page; version = version; bytes = its_bytes }) ≡ true →
+        list_all p es ≡ true
         → list_all p (kept page version its_bytes es) ≡ true
     unfolding kept
     list_all-kept its_bytes es new h =

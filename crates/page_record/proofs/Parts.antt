@@ -17,13 +17,17 @@ zeros (b ∷ bytes) h =
     cc
 
 -- the number at an offset, as bytes, is what stands there
-pub number_at-w32 : (offset : ℕ) (bytes : List ℕ) → offset + 4 ≤ length bytes → IsBytes bytes → to_le_bytes w32 (number_at w32 offset bytes) ≡ slice_range bytes offset (offset + 4)
+pub number_at-w32 : (offset : ℕ) (bytes : List ℕ) → offset + 4 ≤ length bytes → IsBytes bytes →
+    to_le_bytes w32 (number_at w32 offset bytes) ≡ slice_range bytes offset (offset + 4)
 unfolding number_at
-number_at-w32 offset bytes le h = le_bytes_4 (slice_range bytes offset (offset + 4)) _ (length-range offset 4 bytes le) (IsBytes-range offset (offset + 4) bytes h).at refl
+number_at-w32 offset bytes le h = le_bytes_4 (slice_range bytes offset (offset + 4)) _ (length-range offset 4 bytes le)
+    (IsBytes-range offset (offset + 4) bytes h).at refl
 
-pub number_at-w64 : (offset : ℕ) (bytes : List ℕ) → offset + 8 ≤ length bytes → IsBytes bytes → to_le_bytes w64 (number_at w64 offset bytes) ≡ slice_range bytes offset (offset + 8)
+pub number_at-w64 : (offset : ℕ) (bytes : List ℕ) → offset + 8 ≤ length bytes → IsBytes bytes →
+    to_le_bytes w64 (number_at w64 offset bytes) ≡ slice_range bytes offset (offset + 8)
 unfolding number_at
-number_at-w64 offset bytes le h = le_bytes_8 (slice_range bytes offset (offset + 8)) _ (length-range offset 8 bytes le) (IsBytes-range offset (offset + 8) bytes h).at refl
+number_at-w64 offset bytes le h = le_bytes_8 (slice_range bytes offset (offset + 8)) _ (length-range offset 8 bytes le)
+    (IsBytes-range offset (offset + 8) bytes h).at refl
 
 pub number_at-below : (offset : ℕ) (bytes : List ℕ) → IsBytes bytes → number_at w32 offset bytes < 2 ^ 32
 unfolding number_at

@@ -1,9 +1,12 @@
 -- A record has one spelling, and what breaks no rule is one.
-use Rattle.std.proofs.Common.{◌≡◌, ◌↔◌, ℕ, ◌^◌, ◌<◌, ◌≤◌, ◌&&◌, ◌||◌, if◌then◌else◌, inl, inr, eq-eqb, Bool, true, false, cond, not, eqb, ltb, leb, List, [], ◌∷◌, ◌++◌, length, get_or, take, drop, replicate, find, slice_range, ◌%◌, Option, Some, None, refl, sym, ap, ap₂, subst, ◌∙◌, arith, lit≤}
+use Rattle.std.proofs.Common.{◌≡◌, ◌↔◌, ℕ, ◌^◌, ◌<◌, ◌≤◌, ◌&&◌, ◌||◌, if◌then◌else◌, inl, inr, eq-eqb, Bool, true, false, cond, not, eqb, ltb, leb, List, []}
+use Rattle.std.proofs.Common.{◌∷◌, ◌++◌, length, get_or, take, drop, replicate, find, slice_range, ◌%◌, Option, Some, None, refl, sym, ap, ap₂, subst, ◌∙◌}
+use Rattle.std.proofs.Common.{arith, lit≤}
 use Rattle.std.specs.Int.{w32, w64, to_le_bytes, from_le_bytes}
 use Rattle.std.specs.List.{list_all}
 use Rattle.std.specs.Option.{is_some, is_none}
-use Rattle.std.proofs.lemmas.Bool.{false≢true, cases_Bool, cases_eq, cond-true, cond-false, ne_eqb, and_from, or_cases, and_parts, eqb-true, ltb-true, leb-true, le-leb, lt-ltb}
+use Rattle.std.proofs.lemmas.Bool.{false≢true, cases_Bool, cases_eq, cond-true, cond-false, ne_eqb, and_from, or_cases, and_parts, eqb-true, ltb-true, leb-true}
+use Rattle.std.proofs.lemmas.Bool.{le-leb, lt-ltb}
 use Rattle.std.proofs.lemmas.List.{length-drop, nil_from_length}
 use Rattle.std.proofs.lemmas.Option.{cond_some}
 use Rattle.std.proofs.Math.Bool.{and-false}
@@ -18,7 +21,8 @@ use Rattle.tx_types.specs.declared.record.Rec.{Rec}
 use Rattle.page_record.specs.declared.error.SpareError.{SpareError}
 use Rattle.page_record.specs.declared.error.SpareError.TheVariants as rule
 use Rattle.page_record.specs.Spelling.{mark, code_of, format_of, flag_of, spelling, IsBack, CanBeSpelled}
-use Rattle.page_record.specs.Rules.{number_at, fields_of, are_zeros, is_counted, is_count, is_version, is_back, is_area, holds, rules, first_broken, IsFirstBrokenRule, record_of}
+use Rattle.page_record.specs.Rules.{number_at, fields_of, are_zeros, is_counted, is_count, is_version, is_back, is_area, holds, rules, first_broken}
+use Rattle.page_record.specs.Rules.{IsFirstBrokenRule, record_of}
 use Rattle.page_record.proofs.Parts.{zeros, number_at-w32, number_at-w64, number_at-below}
 
 -- the rule of each name holds
@@ -108,7 +112,8 @@ counted p r can = elim (cases_eq r.count 0) [
   | inr some ↦ record {
     format_is = ap (λ k. eqb k 1 || eqb k 2) (format_counted r some);
     flag_is = ap (λ k. (eqb (flag_of r.discard) 0 || (eqb k 2 && eqb (flag_of r.discard) 1)) && true) (format_counted r some) ∙ either r.discard;
-    count_is = ap (λ k. not (eqb k 2) || is_count r.count) (format_counted r some) ∙ and_from (leb 1 r.count) (leb r.count 256) (le-leb 1 r.count (omega arith)) (le-leb r.count 256 can.count);
+    count_is = ap (λ k. not (eqb k 2) || is_count r.count) (format_counted r some) ∙
+        and_from (leb 1 r.count) (leb r.count 256) (le-leb 1 r.count (omega arith)) (le-leb r.count 256 can.count);
     rest_is = ap (λ k. are_zeros (if eqb k 2 then replicate 20 0 else to_le_bytes w32 r.count ++ replicate 20 0)) (format_counted r some);
   }
 ]
@@ -131,7 +136,12 @@ BreaksNone-spelling p r can =
       format_holds = by_count.format_is;
       protocol_holds = code_again p;
       flags_hold = by_count.flag_is;
-      versions_hold = rw (version, next_version, in_range r.version can.version_least can.version_most, in_range r.next.version can.next_version_least can.next_version_most) refl;
+      versions_hold = rw (
+        version,
+        next_version,
+        in_range r.version can.version_least can.version_most,
+        in_range r.next.version can.next_version_least can.next_version_most,
+      ) refl;
       back_holds = rw (version, back) (back_is p r.version r.back can.back);
       count_holds = ap (λ n. not (eqb (format_of r) 2) || is_count n) count ∙ by_count.count_is;
       rest_holds = by_count.rest_is;
@@ -169,7 +179,16 @@ breaks_none p bytes h =
     let f = passed (holds p bytes rule.Back) rule.Back _ e.1 in
     let g = passed (holds p bytes rule.Count) rule.Count _ f.1 in
     let i = passed (holds p bytes rule.Rest) rule.Rest _ g.1 in
-    record { mark_holds = a.0; format_holds = b.0; protocol_holds = c.0; flags_hold = d.0; versions_hold = e.0; back_holds = f.0; count_holds = g.0; rest_holds = i.0 }
+    record {
+      mark_holds = a.0;
+      format_holds = b.0;
+      protocol_holds = c.0;
+      flags_hold = d.0;
+      versions_hold = e.0;
+      back_holds = f.0;
+      count_holds = g.0;
+      rest_holds = i.0;
+    }
 
 pass : (b : Bool) (e : SpareError) (after : Option SpareError) → b ≡ true → cond (not b) (Some e) after ≡ after
 pass true e after h = refl
@@ -300,13 +319,16 @@ is_spelled p bytes len fits h =
     let at_16 = joined 16 24 bytes _ _ (lit≤ tt) (sym (number_at-w64 16 bytes (omega arith) fits)) at_24 in
     let at_12 = joined 12 16 bytes _ _ (lit≤ tt) (sym (number_at-w32 12 bytes (omega arith) fits)) at_16 in
     let at_8 = joined 8 12 bytes _ _ (lit≤ tt) (sym (number_at-w32 8 bytes (omega arith) fits)) at_12 in
-    let at_6 = next_two 6 bytes (omega arith) ∙ ap (λ b. b ∷ get_or bytes 7 0 ∷ drop 8 bytes) tells.flag ∙ ap₂ (λ b rest. flag_of (eqb (get_or bytes 6 0) 1) ∷ b ∷ rest) tells.zero_flag at_8 in
-    let at_4 = next_two 4 bytes (omega arith) ∙ ap (λ b. b ∷ get_or bytes 5 0 ∷ drop 6 bytes) tells.format ∙ ap₂ (λ b rest. format_of (fields_of bytes) ∷ b ∷ rest) protocol_is at_6 in
+    let at_6 = next_two 6 bytes (omega arith) ∙ ap (λ b. b ∷ get_or bytes 7 0 ∷ drop 8 bytes) tells.flag ∙
+    ap₂ (λ b rest. flag_of (eqb (get_or bytes 6 0) 1) ∷ b ∷ rest) tells.zero_flag at_8 in
+    let at_4 = next_two 4 bytes (omega arith) ∙ ap (λ b. b ∷ get_or bytes 5 0 ∷ drop 6 bytes) tells.format ∙
+    ap₂ (λ b rest. format_of (fields_of bytes) ∷ b ∷ rest) protocol_is at_6 in
     joined 0 4 bytes mark _ (lit≤ tt) mark_is at_4
 
 -- ---- the record that bytes spell
 
-pub record_of-fields : (p : Protocol) (bytes : List ℕ) → length bytes ≡ 64 → IsBytes bytes → first_broken p bytes ≡ None → record_of p bytes ≡ Some (fields_of bytes)
+pub record_of-fields : (p : Protocol) (bytes : List ℕ) → length bytes ≡ 64 → IsBytes bytes → first_broken p bytes ≡ None →
+    record_of p bytes ≡ Some (fields_of bytes)
 unfolding record_of
 record_of-fields p bytes len fits h =
     let long : eqb (length bytes) 64 ≡ true = rw len refl in
@@ -357,7 +379,10 @@ record_of-some p bytes r h =
     let area = and_parts (eqb (length bytes) 64) (list_all (λ b. ltb b 256) bytes) tests.0 in
     let fits = tested bytes area.1 in
     let none = breaks_none p bytes (none_is (first_broken p bytes) tests.1) in
-    subst (λ (x : Rec). CanBeSpelled p x × (bytes ≡ spelling p x)) parts.1 (can_be_spelled p bytes (eqb-true (length bytes) 64 area.0) fits none, is_spelled p bytes (eqb-true (length bytes) 64 area.0) fits none)
+    subst (λ (x : Rec). CanBeSpelled p x × (bytes ≡ spelling p x)) parts.1 (
+      can_be_spelled p bytes (eqb-true (length bytes) 64 area.0) fits none,
+      is_spelled p bytes (eqb-true (length bytes) 64 area.0) fits none,
+    )
 
 -- a spare area has a record or breaks a rule
 pub is_some-record_of : (p : Protocol) (bytes : List ℕ) → is_area bytes ≡ true → is_some (record_of p bytes) ≡ is_none (first_broken p bytes)
@@ -411,7 +436,8 @@ parts_of test (r ∷ rs) e h =
     let P : Bool → Type 0 = λ b. test r ≡ b → cond (not b) (Some r) (find (λ x. not (test x)) rs) ≡ Some e → Parts test (r ∷ rs) e in
     let cases : P (test r) = elim (test r) as P [
       | true ↦ λ passes found. more test r rs e passes (parts_of test rs e found)
-      | false ↦ λ fails found. let is : r ≡ e = cc in subst (λ x. Parts test (r ∷ rs) x) is (record { before = []; after = rs; in_order = refl; pass_before = refl; fails = fails })
+      | false ↦ λ fails found. let is : r ≡ e = cc in subst (λ x. Parts test (r ∷ rs) x) is
+          (record { before = []; after = rs; in_order = refl; pass_before = refl; fails = fails })
     ] in
     cases refl h
 

@@ -1,5 +1,6 @@
 -- What the calls of `Chains` leave, and what they read.
-use Rattle.std.proofs.Common.{◌≡◌, ℕ, zero, suc, ◌+◌, ◌<◌, ◌≤◌, inl, inr, Some, None, List, ◌∷◌, length, get_or, set, drop, ltb, cond, true, false, refl, ◌∙◌, ap, arith, rules, length-set}
+use Rattle.std.proofs.Common.{◌≡◌, ℕ, zero, suc, ◌+◌, ◌<◌, ◌≤◌, inl, inr, Some, None, List, ◌∷◌, length, get_or, set, drop, ltb, cond, true, false, refl, ◌∙◌}
+use Rattle.std.proofs.Common.{ap, arith, rules, length-set}
 use Rattle.std.specs.List.{Contains, slice_get}
 use Rattle.std.proofs.lemmas.Bool.{cases_lt}
 use Rattle.std.proofs.lemmas.Bool.Decides.{nat_tests}
@@ -31,10 +32,12 @@ stand next before c h places =
       disjoint = rw are (are_disjoint next before c.lists h);
     }
 
-module _ (next before next' before' : List ℕ) (old : ChainLists) (h : AreLinked next before (paths next (length before))) (is : lists_of next before ≡ old) where
+module _ (next before next' before' : List ℕ) (old : ChainLists) (h : AreLinked next before (paths next (length before)))
+    (is : lists_of next before ≡ old) where
   -- a place with its index in the list of a key
   at_index : (key at : ℕ) → Contains (list_of old key) at
-      → (key < length (paths next (length before))) × ((k : ℕ) × (k < length (list_of (lists_of next before) key)) × (get_or (list_of (lists_of next before) key) k 0 ≡ at))
+      → (key < length (paths next (length before))) × ((k : ℕ) × (k < length (list_of (lists_of next before) key)) ×
+      (get_or (list_of (lists_of next before) key) k 0 ≡ at))
   at_index key at has = listed_at next before (paths next (length before)) h key at (rw (← is) at has)
 
   pub pushed : (key at root : ℕ) → key < length old.lists → at < old.places → (IsListed old at → ⊥) → root ≡ length before + key
@@ -56,7 +59,8 @@ module _ (next before next' before' : List ℕ) (old : ChainLists) (h : AreLinke
       let behind : index_in (list_of (lists_of next before) key) prev + 1 ≡ suc i = omega arith in
       rw (is_next, is_before, ← is)
       (stand _ _ (with_behind (lists_of next before) key prev at)
-      (rw behind (rw found.1.2 at (inserted next before (paths next (length before)) h key found.0 (suc i) at (omega (arith, found.1.1)) (rw (← is) at place) (rw (← is) at free))))
+      (rw behind (rw found.1.2 at (inserted next before (paths next (length before)) h key found.0 (suc i) at (omega (arith, found.1.1)) (rw (← is) at place)
+      (rw (← is) at free))))
       (length-set _ at _ ∙ length-set before _ at))
 
   pub taken_out : (key at : ℕ) → Contains (list_of old key) at

@@ -1,14 +1,18 @@
 -- All lists together: which they are, that they are disjoint, and what a change of one leaves of the others.
-use Rattle.std.proofs.Common.{◌≡◌, ◌≢◌, ℕ, zero, suc, ◌+◌, ◌^◌, ◌<◌, ◌≤◌, inl, inr, List, [], ◌∷◌, length, get_or, set, drop, map, replicate, refl, sym, ◌∙◌, ap, arith}
+use Rattle.std.proofs.Common.{◌≡◌, ◌≢◌, ℕ, zero, suc, ◌+◌, ◌^◌, ◌<◌, ◌≤◌, inl, inr, List, [], ◌∷◌, length, get_or, set, drop, map, replicate, refl, sym, ◌∙◌}
+use Rattle.std.proofs.Common.{ap, arith}
 use Rattle.std.specs.List.{Contains, insert, remove}
 use Rattle.std.proofs.lemmas.Bool.{cases_lt, cases_eq}
-use Rattle.std.proofs.lemmas.List.{length-set, length-map, length-drop, length-replicate, get_or-map, get_or-drop, get_or-replicate, get_or-set_same, get_or-set_other, get_or_past, get_or_default, ext_get_or}
+use Rattle.std.proofs.lemmas.List.{length-set, length-map, length-drop, length-replicate, get_or-map, get_or-drop, get_or-replicate, get_or-set_same}
+use Rattle.std.proofs.lemmas.List.{get_or-set_other, get_or_past, get_or_default, ext_get_or}
 use Rattle.plain_tables.specs.ChainLists.{ChainLists, IsListed, AreDisjoint}
 use Rattle.plain_tables.specs.Links.{path, paths, AreLinked}
-use Rattle.plain_tables.proofs.Linked.{path_is, same_place, same_number, linked_still, index_once, length_linked, PutsBehind, TakesOut, linked_insert, linked_remove}
+use Rattle.plain_tables.proofs.Linked.{path_is, same_place, same_number, linked_still, index_once, length_linked, PutsBehind, TakesOut, linked_insert}
+use Rattle.plain_tables.proofs.Linked.{linked_remove}
 
 -- the links after two writes each, where a place is put behind a number
-pub puts_behind : (next before : List ℕ) (behind at : ℕ) → behind < length next → at < length before → length before ≤ length next → behind ≢ at → get_or next behind 0 ≢ at
+pub puts_behind : (next before : List ℕ) (behind at : ℕ) → behind < length next → at < length before → length before ≤ length next → behind ≢ at →
+    get_or next behind 0 ≢ at
     → PutsBehind next before (set (set next at (get_or next behind 0)) behind at) (set (set before (get_or next behind 0) at) at behind) behind at
 puts_behind next before behind at lies place roots differ apart = record {
   size = length-set (set before after at) at behind ∙ length-set before after at;
@@ -56,7 +60,8 @@ module _ (next before : List ℕ) (lists : List (List ℕ)) (h : AreLinked next 
       at_key key below =
           get_or-map (path next places places) (drop places next) key 0 [] (omega (arith, h.count, length-drop places next))
           ∙ ap (path next places places) (get_or-drop places next key 0)
-          ∙ path_is next before (places + key) (list key) places (h.each key below) (length_linked next before (places + key) (list key) (h.each key below) (omega arith))
+          ∙ path_is next before (places + key) (list key) places (h.each key below)
+          (length_linked next before (places + key) (list key) (h.each key below) (omega arith))
 
   -- a place in the list of a key: the key is one of theirs, and it has an index
   pub listed_at : (key at : ℕ) → Contains (list key) at → (key < length lists) × ((k : ℕ) × (k < length (list key)) × (get_or (list key) k 0 ≡ at))
@@ -73,7 +78,8 @@ module _ (next before : List ℕ) (lists : List (List ℕ)) (h : AreLinked next 
     apart = λ key other at is also.
         let one = listed_at key at is in
         let two = listed_at other at also in
-        let both = same_place next before (places + key) (places + other) (list key) (list other) (h.each key one.0) (h.each other two.0) (omega arith) (omega arith)
+        let both = same_place next before (places + key) (places + other) (list key) (list other) (h.each key one.0) (h.each other two.0) (omega arith)
+        (omega arith)
         one.1.0 two.1.0 one.1.1 two.1.1 (one.1.2 ∙ sym two.1.2) in
         omega arith;
     once = λ key i j d sooner below e.
@@ -91,7 +97,8 @@ module _ (next before : List ℕ) (lists : List (List ℕ)) (h : AreLinked next 
     apart : (other i k : ℕ) → other < length lists → other ≢ key → i ≤ length (list key) → k ≤ length (list other)
         → get_or ((places + other) ∷ list other) k 0 ≢ get_or (root ∷ list key) i 0
     apart other i k low differ l m e =
-        let both = same_number next before (places + other) root (list other) (list key) (h.each other low) (h.each key is_key) (omega arith) (omega arith) k i m l e in
+        let both = same_number next before (places + other) root (list other) (list key) (h.each other low) (h.each key is_key) (omega arith)
+        (omega arith) k i m l e in
         differ (omega arith)
 
     -- and so is what follows one of them
@@ -118,7 +125,8 @@ module _ (next before : List ℕ) (lists : List (List ℕ)) (h : AreLinked next 
           elim (cases_eq other key) [
             | inl same ↦
                 rw (put.size, same, get_or-set_same lists key (insert (list key) i at) [] is_key)
-                (linked_insert next before root (list key) (h.each key is_key) (omega arith) (omega (arith, h.count)) (omega (arith, h.count)) next' before' i at l place
+                (linked_insert next before root (list key) (h.each key is_key) (omega arith) (omega (arith, h.count))
+                (omega (arith, h.count)) next' before' i at l place
                 (λ k m. not_listed key k m) put)
             | inr differ ↦
                 rw (put.size, get_or-set_other lists key other (insert (list key) i at) [] differ)
@@ -146,7 +154,8 @@ module _ (next before : List ℕ) (lists : List (List ℕ)) (h : AreLinked next 
           elim (cases_eq other key) [
             | inl same ↦
                 rw (out.size, same, get_or-set_same lists key (remove (list key) i) [] is_key)
-                (linked_remove next before root (list key) (h.each key is_key) (omega arith) (omega (arith, h.count)) (omega (arith, h.count)) next' before' i l out)
+                (linked_remove next before root (list key) (h.each key is_key) (omega arith) (omega (arith, h.count))
+                (omega (arith, h.count)) next' before' i l out)
             | inr differ ↦
                 let back = (h.each key is_key).back i l in
                 rw (out.size, get_or-set_other lists key other (remove (list key) i) [] differ)

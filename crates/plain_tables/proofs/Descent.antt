@@ -1,5 +1,6 @@
 -- The way down from the single cell to the first greatest number.
-use Rattle.std.proofs.Common.{◌≡◌, ◌≢◌, ℕ, zero, suc, ◌+◌, ◌-◌, ◌*◌, ◌/◌, ◌%◌, ◌<◌, ◌≤◌, inl, inr, true, eqb, ltb, Some, List, length, get_or, take, drop, refl, sym, ◌∙◌, ap, arith}
+use Rattle.std.proofs.Common.{◌≡◌, ◌≢◌, ℕ, zero, suc, ◌+◌, ◌-◌, ◌*◌, ◌/◌, ◌%◌, ◌<◌, ◌≤◌, inl, inr, true, eqb, ltb, Some, List, length, get_or, take, drop, refl}
+use Rattle.std.proofs.Common.{sym, ◌∙◌, ap, arith}
 use Rattle.std.specs.List.{All, position, position_or_len}
 use Rattle.std.proofs.lemmas.Bool.{cases_lt, cases_eq}
 use Rattle.std.proofs.lemmas.Bool.Decides.{nat_tests}
@@ -126,7 +127,8 @@ module _ (cells : List ℕ) (levels start : ℕ) (shape : IsShape levels start (
   }
 
   -- and ends at the first greatest number
-  pub way_ends : (from place : ℕ) → IsOnWay cells levels from place → IsFirstGreatest (drop start cells) place × (get_or (drop start cells) place 0 ≡ get_or cells 0 0)
+  pub way_ends : (from place : ℕ) → IsOnWay cells levels from place → IsFirstGreatest (drop start cells) place ×
+      (get_or (drop start cells) place 0 ≡ get_or cells 0 0)
   way_ends from place way =
       let same : from ≡ start = way.begins ∙ sym shape.begins in
       let number = get_or-drop start cells place 0 ∙ ap (λ n. get_or cells (n + place) 0) (sym same) ∙ way.here in (

@@ -6,7 +6,8 @@ use Rattle.std.proofs.lemmas.Bool.Decides.{nat_tests, eqb_tells}
 use Rattle.std.proofs.lemmas.Map.Keys.{IsDistinct-from_apart}
 use Rattle.std.proofs.lemmas.Map.Steps.{length-le_from_distinct_below}
 use Rattle.std.proofs.lemmas.List.{get_or_past, get_or_default}
-use Rattle.std.proofs.lemmas.List.Edits.{length-insert, get_or-insert_below, get_or-insert_at, get_or-insert_above, length-remove, get_or-remove_below, get_or-remove_above}
+use Rattle.std.proofs.lemmas.List.Edits.{length-insert, get_or-insert_below, get_or-insert_at, get_or-insert_above, length-remove, get_or-remove_below}
+use Rattle.std.proofs.lemmas.List.Edits.{get_or-remove_above}
 use Rattle.std.proofs.lemmas.List.Sums.{position_or_len_is}
 use Rattle.plain_tables.specs.ChainLists.{index_in}
 use Rattle.plain_tables.specs.Links.{path, IsLinked}
@@ -193,7 +194,8 @@ module _ (next before : List ℕ) (root : ℕ) (xs : List ℕ) (h : IsLinked nex
       | sooner low ↦
           rw (put.size, get_or-insert_below xs i at (length before) k low l, get_or-insert_below (root ∷ xs) (suc i) at 0 k (omega arith) (omega arith))
           (next_still k (omega arith) (λ e. omega arith) ∙ h.forth k (omega arith))
-      | here e ↦ rw (put.size, e, get_or-insert_at xs i at (length before) l, get_or-insert_below (root ∷ xs) (suc i) at 0 i (omega arith) (omega arith)) put.next_behind
+      | here e ↦ rw (put.size, e, get_or-insert_at xs i at (length before) l, get_or-insert_below (root ∷ xs) (suc i) at 0 i (omega arith) (omega arith))
+          put.next_behind
       | later j e low ↦ rw (put.size, e, behind_insert xs i at (length before) j low l) (forth_later j low (omega (arith, long)))
     ];
     back = λ k m. elim (index_cases k i) [
@@ -257,7 +259,8 @@ module _ (next before : List ℕ) (root : ℕ) (xs : List ℕ) (h : IsLinked nex
           rw (get_or-remove_below xs i 0 k low l, get_or-remove_below (root ∷ xs) (suc i) 0 k (omega arith) (omega arith))
           (before_still k (omega arith) (λ e. omega arith))
       | here e ↦
-          let is : get_or next (get_or xs i 0) 0 ≡ get_or xs (suc i) 0 = h.forth (suc i) (omega arith) ∙ get_or_default xs (suc i) (length before) 0 (omega (arith, short)) in
+          let is : get_or next (get_or xs i 0) 0 ≡ get_or xs (suc i) 0 = h.forth (suc i) (omega arith) ∙
+          get_or_default xs (suc i) (length before) 0 (omega (arith, short)) in
           rw (e, behind_remove xs i 0 i (omega arith) l, get_or-remove_below (root ∷ xs) (suc i) 0 i (omega arith) (omega arith), ← is)
           (out.before_after (rw is (h.within (suc i) (omega (arith, short)))) ∙ h.back i l)
       | later j e low ↦ rw (e, behind_remove xs i 0 (suc j) (omega arith) l, behind_remove xs i 0 j low l)

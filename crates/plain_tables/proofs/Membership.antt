@@ -4,7 +4,8 @@ use Rattle.std.specs.List.{Contains, AllPairs, insert, remove}
 use Rattle.std.proofs.lemmas.Bool.{cases_lt, cases_eq}
 use Rattle.std.proofs.lemmas.Bool.Decides.{nat_tests}
 use Rattle.std.proofs.lemmas.List.{get_or-set_same, get_or-set_other, get_or_past, get_or_default}
-use Rattle.std.proofs.lemmas.List.Edits.{length-insert, get_or-insert_below, get_or-insert_at, get_or-insert_above, length-remove, get_or-remove_below, get_or-remove_above}
+use Rattle.std.proofs.lemmas.List.Edits.{length-insert, get_or-insert_below, get_or-insert_at, get_or-insert_above, length-remove, get_or-remove_below}
+use Rattle.std.proofs.lemmas.List.Edits.{get_or-remove_above}
 use Rattle.std.proofs.lemmas.List.Sums.{fails_before_first, passes_at_first}
 use Rattle.plain_tables.specs.ChainLists.{ChainLists, list_of, IsListed, AreDisjoint, index_in, with_list, without}
 
@@ -30,7 +31,8 @@ not_in_rest xs at once has (k, l, is) =
     let reads = index_reads xs at has in
     let short = length-remove xs i reads.0 in
     elim (cases_lt k i) [
-      | inl sooner ↦ once k i 0 sooner reads.0 (get_or_default xs k 0 at (omega (arith, reads.0)) ∙ sym (get_or-remove_below xs i at k sooner reads.0) ∙ is ∙ sym reads.1)
+      | inl sooner ↦ once k i 0 sooner reads.0 (get_or_default xs k 0 at (omega (arith, reads.0)) ∙ sym (get_or-remove_below xs i at k sooner reads.0) ∙ is ∙
+          sym reads.1)
       | inr later ↦
           once i (k + 1) 0 (omega arith) (omega (arith, l))
           (reads.1 ∙ sym is ∙ get_or-remove_above xs i at k later reads.0 ∙ get_or_default xs (k + 1) at 0 (omega (arith, l)))

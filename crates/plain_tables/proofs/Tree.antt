@@ -1,7 +1,9 @@
 -- The cells under a cell, and what a write does to them.
-use Rattle.std.proofs.Common.{◌≡◌, ◌≢◌, ℕ, zero, suc, ◌+◌, ◌-◌, ◌*◌, ◌/◌, ◌%◌, ◌<◌, ◌≤◌, inl, inr, min, List, [], ◌∷◌, length, get_or, set, take, drop, replicate, refl, sym, ◌∙◌, ap, arith, length-set}
+use Rattle.std.proofs.Common.{◌≡◌, ◌≢◌, ℕ, zero, suc, ◌+◌, ◌-◌, ◌*◌, ◌/◌, ◌%◌, ◌<◌, ◌≤◌, inl, inr, min, List, [], ◌∷◌, length, get_or, set, take, drop}
+use Rattle.std.proofs.Common.{replicate, refl, sym, ◌∙◌, ap, arith, length-set}
 use Rattle.std.proofs.lemmas.Bool.{cases_lt, cases_eq}
-use Rattle.std.proofs.lemmas.List.{length-take, length-drop, length-replicate, get_or_past, get_or-replicate, get_or-take, get_or-drop, get_or-set_same, get_or-set_other, drop-set-lt, drop-set-add, take-set-le, set-set, set-get_or}
+use Rattle.std.proofs.lemmas.List.{length-take, length-drop, length-replicate, get_or_past, get_or-replicate, get_or-take, get_or-drop, get_or-set_same}
+use Rattle.std.proofs.lemmas.List.{get_or-set_other, drop-set-lt, drop-set-add, take-set-le, set-set, set-get_or}
 use Rattle.plain_tables.specs.Greatest.{greatest}
 use Rattle.plain_tables.specs.Levels.{under, ArePeaks}
 use Rattle.plain_tables.proofs.GreatestNumbers.{greatest_at_most, greatest_risen, greatest_still}
@@ -118,7 +120,8 @@ module _ (cells : List ℕ) (start cell was : ℕ) (h : IsRising cells start cel
         (elim (cases_eq other (over cell)) [
           | inl here ↦ rw (here, get_or-set_same cells (over cell) next 0 (let m = h.within in omega arith)) is
           | inr differ ↦
-              rw (get_or-set_other cells (over cell) other next 0 differ) (h.peaks other l ∙ ap greatest (others_stay cells cell was not_first h.within other differ))
+              rw (get_or-set_other cells (over cell) other next 0 differ) (h.peaks other l ∙
+              ap greatest (others_stay cells cell was not_first h.within other differ))
         ]);
   }
 

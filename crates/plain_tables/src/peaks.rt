@@ -129,7 +129,20 @@ fn peak_over(cells: &[u32], cell: usize, was: u32) -> u32
     } else if was < peak {
         peak
     } else {
-        greatest(under(cells, above))
+        greatest_under(cells, above)
+    }
+}
+
+/// The greatest of the cells under a cell. A whole sixteen of them is looked at with no test for its end.
+fn greatest_under(cells: &[u32], cell: usize) -> u32
+    requires { cell < 2 ^ 40 }
+    ensures { result ≡ greatest (under cells.now cell) }
+{
+    let from = 16 * cell + 1;
+    if from + 16 <= cells.len() {
+        greatest(&cells[from..from + 16])
+    } else {
+        greatest(under(cells, cell))
     }
 }
 
@@ -144,6 +157,7 @@ fn under(cells: &[u32], cell: usize) -> &[u32]
 }
 
 /// The greatest of some numbers.
+#[inline(always)]
 fn greatest(numbers: &[u32]) -> u32
     ensures { result ≡ greatest numbers.now }
 {

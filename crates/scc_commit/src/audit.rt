@@ -10,7 +10,7 @@ use tx_types::Protocol;
 
 /// The first of the laws of a sound list that is broken, and the slot that it names. Laws 6 and 7 say
 /// nothing of this protocol.
-#[tactic(auto, using(record_list::proofs::Breaches::first_breaches), unfolding(record_list::specs::SoundList::LooseIsShown, record_list::specs::SoundList::LooseEnds))]
+#[tactic(auto, using(record_list::proofs::OfFacts::Breaches::first_breaches), unfolding(record_list::specs::SoundList::LooseIsShown, record_list::specs::SoundList::LooseEnds))]
 pub fn first_breach(list: &[Found], logical: u32) -> Option<Breach>
     requires scanned { IsScanned list.now }
     ensures { IsFirstBreach SccRule list.now logical result }

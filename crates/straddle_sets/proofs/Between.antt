@@ -7,9 +7,9 @@ use Rattle.record_list.specs.declared.found.Found.{Found}
 use Rattle.record_list.specs.Records.{newest, name_of}
 use Rattle.record_list.specs.Verdict.{straddling_version, straddling}
 use Rattle.record_list.specs.Current.{cur, straddling_upto, responsible}
-use Rattle.record_list.proofs.Names.{greatest_least, present_in}
-use Rattle.record_list.proofs.Safe.{is_clear}
-use Rattle.record_list.proofs.SoundNames.{IsSoundMap, map_back, clear_from}
+use Rattle.record_list.proofs.OfFacts.Names.{greatest_least, present_in}
+use Rattle.record_list.proofs.OfFacts.Safe.{is_clear}
+use Rattle.record_list.proofs.OfFacts.SoundNames.{IsSoundMap, map_back, clear_from}
 use Rattle.straddle_sets.proofs.Straddle.{Straddles, straddling_cases, straddling_none, upto_is, upto_below, greatest_more}
 use Rattle.straddle_sets.proofs.BpccLinks.{clear_low}
 
@@ -19,7 +19,8 @@ module _ (l : List Found) (logical : ℕ) (m : IsSoundMap Bpcc l logical) where
   loose_back_is f i at = map_back m f i ∙ (m.loose (name_of f.rec) (present_in l f i) at).0
 
   -- so a record that straddles a name at most the current version there is itself at most that
-  pub straddles_low : (f : Found) (q : Link) → Contains l f → Straddles f.rec q → q.version ≤ cur Bpcc l logical q.page → f.rec.version ≤ cur Bpcc l logical q.page
+  pub straddles_low : (f : Found) (q : Link) → Contains l f → Straddles f.rec q → q.version ≤ cur Bpcc l logical q.page →
+      f.rec.version ≤ cur Bpcc l logical q.page
   straddles_low f q i h le = elim (cases_lt (cur Bpcc l logical q.page) f.rec.version) [
     | inl loose ↦ (
         let page = ap (cur Bpcc l logical) h.0 in
@@ -48,7 +49,8 @@ module _ (l : List Found) (logical : ℕ) (m : IsSoundMap Bpcc l logical) where
   pub answers_straddle : (q : Link) → q.version < cur Bpcc l logical q.page → straddling l q ≡ responsible Bpcc l logical q
   answers_straddle q below =
       let top = cur Bpcc l logical q.page in
-      let up : straddling l q ≤ responsible Bpcc l logical q = greatest_more (straddling_version q) (straddling_upto top q) l (λ f i. elim (straddling_cases f.rec q) [
+      let up : straddling l q ≤ responsible Bpcc l logical q = greatest_more (straddling_version q) (straddling_upto top q) l
+      (λ f i. elim (straddling_cases f.rec q) [
         | inl h ↦ (let at = h.1 in let same = upto_is top q f.rec h.0 (straddles_low f q i h.0 (omega arith)) in omega arith)
         | inr none ↦ omega arith
       ]) in

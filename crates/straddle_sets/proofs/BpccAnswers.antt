@@ -10,13 +10,13 @@ use Rattle.record_list.specs.Records.{newest, greatest, name_of, is_present}
 use Rattle.record_list.specs.Verdict.{back_of}
 use Rattle.record_list.specs.Current.{cur, straddling_upto, responsible}
 use Rattle.record_list.specs.Transaction.{next_names, back_version, IsAsked, IsBegun, IsAskedAt}
-use Rattle.record_list.proofs.Names.{greatest_bound, greatest_least, found_named, newest_bound, present_in}
-use Rattle.record_list.proofs.SoundNames.{IsSoundMap, map_back}
-use Rattle.record_list.proofs.Rounds.{cases_page, follows_of}
-use Rattle.record_list.proofs.Progress.{name_newest}
-use Rattle.record_list.proofs.OneMore.{its_back, IsStep, step_underway, old_back}
-use Rattle.record_list.proofs.Untouched.{OldLinks}
-use Rattle.record_list.proofs.Completing.{completed, elsewhere, was_lower}
+use Rattle.record_list.proofs.OfFacts.Names.{greatest_bound, greatest_least, found_named, newest_bound, present_in}
+use Rattle.record_list.proofs.OfFacts.SoundNames.{IsSoundMap, map_back}
+use Rattle.record_list.proofs.OfWalks.Rounds.{cases_page, follows_of}
+use Rattle.record_list.proofs.OfChanges.Progress.{name_newest}
+use Rattle.record_list.proofs.OfChanges.OneMore.{its_back, IsStep, step_underway, old_back}
+use Rattle.record_list.proofs.OfChanges.Untouched.{OldLinks}
+use Rattle.record_list.proofs.OfChanges.Completing.{completed, elsewhere, was_lower}
 use Rattle.straddle_sets.proofs.Straddle.{upto_is, upto_none, upto_cases, upto_le, upto_more, greatest_more}
 
 -- a name that is present has the back version that its transaction asks for
@@ -30,7 +30,8 @@ name_back p l logical names begun a i here =
     sym f.4 ∙ (pair f.2).1
 
 module _ (l l' : List Found) (logical : ℕ) (names : List Link) (f : Found) (s : IsStep l l' logical names f.rec) (m : IsSoundMap Bpcc l logical)
-    (back : f.rec.back ≡ cur Bpcc l logical f.rec.page) (old : OldLinks Bpcc l l' logical names f.rec) (all : (a : Link) → Contains names a → is_present l' a ≡ true)
+    (back : f.rec.back ≡ cur Bpcc l logical f.rec.page) (old : OldLinks Bpcc l l' logical names f.rec) (all : (a : Link) → Contains names a →
+    is_present l' a ≡ true)
     (backs : (a : Link) → Contains names a → is_present l a ≡ true → back_of l a ≡ cur Bpcc l logical a.page) where
   -- a loose record is an old one, of a page that is none of the names', and was loose
   pub was_loose : (u : Link) → is_present l' u ≡ true → cur Bpcc l' logical u.page < u.version →
@@ -64,7 +65,8 @@ module _ (l l' : List Found) (logical : ℕ) (names : List Link) (f : Found) (s 
       more ∙ ap (λ t. greatest (straddling_upto t q) l) (elsewhere Bpcc l l' logical names f s m old all q.page out)
 
   -- at a name's page, above the version that was current, the name's record answers
-  pub answer_name : (q a : Link) → Contains names a → a.page ≡ q.page → cur Bpcc l logical q.page < q.version → q.version < a.version → responsible Bpcc l' logical q ≡ a.version
+  pub answer_name : (q a : Link) → Contains names a → a.page ≡ q.page → cur Bpcc l logical q.page < q.version → q.version < a.version →
+      responsible Bpcc l' logical q ≡ a.version
   answer_name q a i e above below =
       let top = cur Bpcc l' logical q.page in
       let level : cur Bpcc l' logical q.page ≡ a.version = ap (cur Bpcc l' logical) (sym e) ∙ completed Bpcc l l' logical names f s m old all a i in
@@ -81,7 +83,8 @@ module _ (l l' : List Found) (logical : ℕ) (names : List Link) (f : Found) (s 
       omega arith
 
   -- and below it the same record as before
-  pub answer_below : (q a : Link) → Contains names a → a.page ≡ q.page → q.version < cur Bpcc l logical q.page → responsible Bpcc l' logical q ≡ responsible Bpcc l logical q
+  pub answer_below : (q a : Link) → Contains names a → a.page ≡ q.page → q.version < cur Bpcc l logical q.page →
+      responsible Bpcc l' logical q ≡ responsible Bpcc l logical q
   answer_below q a i e below =
       let top = cur Bpcc l' logical q.page in
       let c = cur Bpcc l logical q.page in
@@ -93,8 +96,10 @@ module _ (l l' : List Found) (logical : ℕ) (names : List Link) (f : Found) (s 
       let page = ap (cur Bpcc l logical) h.0 in
       let low = h.1 in
       omega arith) in
-      let up : greatest (straddling_upto c q) l ≤ greatest (straddling_upto top q) l = greatest_more (straddling_upto c q) (straddling_upto top q) l (λ g j. upto_more c top q g.rec (omega arith)) in
-      let down : greatest (straddling_upto top q) l ≤ greatest (straddling_upto c q) l = greatest_more (straddling_upto top q) (straddling_upto c q) l (λ g j. elim (upto_cases top q g.rec) [
+      let up : greatest (straddling_upto c q) l ≤ greatest (straddling_upto top q) l =
+      greatest_more (straddling_upto c q) (straddling_upto top q) l (λ g j. upto_more c top q g.rec (omega arith)) in
+      let down : greatest (straddling_upto top q) l ≤ greatest (straddling_upto c q) l =
+      greatest_more (straddling_upto top q) (straddling_upto c q) l (λ g j. elim (upto_cases top q g.rec) [
         | inl h ↦ elim (cases_lt c g.rec.version) [
           | inl loose ↦ (
               let page = ap (cur Bpcc l logical) h.0.0 in

@@ -12,21 +12,22 @@ use Rattle.record_list.specs.Records.{name_of, is_present}
 use Rattle.record_list.specs.Verdict.{link_of, back_of}
 use Rattle.record_list.specs.Current.{cur, IsLoose, responsible, answers_for, is_held}
 use Rattle.record_list.specs.Changes.{IsInserted, IsOvertaken, IsAnsweredAfter, NewResponsible, CompletingWriteLaw}
-use Rattle.record_list.proofs.Names.{same_name, present_in}
-use Rattle.record_list.proofs.SoundNames.{IsSoundMap, LooseNames, EndingNames, sound_map, sound_list, map_link}
-use Rattle.record_list.proofs.Rounds.{cases_page}
-use Rattle.record_list.proofs.OneMore.{IsStep, inserted_in, old_link, old_back, next_after}
-use Rattle.record_list.proofs.Untouched.{OldLinks}
-use Rattle.record_list.proofs.Keeping.{step_of, back_of_step, page_apart, others_on}
-use Rattle.record_list.proofs.Completing.{completed, was_lower, elsewhere, completing_map}
+use Rattle.record_list.proofs.OfFacts.Names.{same_name, present_in}
+use Rattle.record_list.proofs.OfFacts.SoundNames.{IsSoundMap, LooseNames, EndingNames, sound_map, sound_list, map_link}
+use Rattle.record_list.proofs.OfWalks.Rounds.{cases_page}
+use Rattle.record_list.proofs.OfChanges.OneMore.{IsStep, inserted_in, old_link, old_back, next_after}
+use Rattle.record_list.proofs.OfChanges.Untouched.{OldLinks}
+use Rattle.record_list.proofs.OfChanges.Keeping.{step_of, back_of_step, page_apart, others_on}
+use Rattle.record_list.proofs.OfChanges.Completing.{completed, was_lower, elsewhere, completing_map}
 use Rattle.straddle_sets.proofs.BpccLinks.{bpcc_old_links}
 use Rattle.straddle_sets.proofs.BpccAnswers.{name_back, was_loose, answer_elsewhere, answer_name, answer_below}
 use Rattle.straddle_sets.proofs.Ending.{ends_out}
-use Rattle.record_list.proofs.Held.{answer_of, answers}
-use Rattle.record_list.proofs.LossCounted.{answered_below}
+use Rattle.record_list.proofs.OfFacts.Held.{answer_of, answers}
+use Rattle.record_list.proofs.OfLosses.LossCounted.{answered_below}
 
 module _ (l l' : List Found) (logical : ℕ) (names : List Link) (f : Found) (s : IsStep l l' logical names f.rec) (m : IsSoundMap Bpcc l logical)
-    (back : f.rec.back ≡ cur Bpcc l logical f.rec.page) (old : OldLinks Bpcc l l' logical names f.rec) (all : (a : Link) → Contains names a → is_present l' a ≡ true)
+    (back : f.rec.back ≡ cur Bpcc l logical f.rec.page) (old : OldLinks Bpcc l l' logical names f.rec) (all : (a : Link) → Contains names a →
+    is_present l' a ≡ true)
     (backs : (a : Link) → Contains names a → is_present l a ≡ true → back_of l a ≡ cur Bpcc l logical a.page) where
   -- law 6 afterwards
   completing_loose : LooseNames Bpcc l' logical
@@ -37,11 +38,13 @@ module _ (l l' : List Found) (logical : ℕ) (names : List Link) (f : Found) (s 
       let law = m.loose u was.1 (omega arith) in
       let q = link_of l u in
       let link = old_link l l' logical names f.rec s u was.1 in
-      let both : (q.version ≡ cur Bpcc l' logical q.page → ⊥) × (q.version < cur Bpcc l' logical q.page → responsible Bpcc l' logical q ≡ 0 → ⊥) = elim (cases_page names q.page) [
+      let both : (q.version ≡ cur Bpcc l' logical q.page → ⊥) × (q.version < cur Bpcc l' logical q.page → responsible Bpcc l' logical q ≡ 0 → ⊥) =
+      elim (cases_page names q.page) [
         | inl of_page ↦ (
             let a = of_page.0 in
             let low = (s.underway.lower u was.1 out a of_page.1).1 (sym of_page.2) in
-            let done : cur Bpcc l' logical q.page ≡ a.version = ap (cur Bpcc l' logical) (sym of_page.2) ∙ completed Bpcc l l' logical names f s m old all a of_page.1 in (
+            let done : cur Bpcc l' logical q.page ≡ a.version = ap (cur Bpcc l' logical) (sym of_page.2) ∙
+            completed Bpcc l l' logical names f s m old all a of_page.1 in (
               λ x. omega arith,
               λ less none. elim (cases_order q.version (cur Bpcc l logical q.page)) [
                 | inl at_current ↦ law.1 at_current
@@ -82,18 +85,21 @@ module _ (l l' : List Found) (logical : ℕ) (names : List Link) (f : Found) (s 
       ] in
       let before : cur Bpcc l logical g.rec.page < g.rec.version = omega arith in
       let held_if : responsible Bpcc l logical q ≡ x.version → is_held Bpcc l logical x ≡ true = λ version.
-      any_from (λ h. answers_for Bpcc l logical x h.rec) l g inside (answers l logical x g.rec (record { loose = before; page = a.page; from = a.from; under = a.under; version = version })) in
+      any_from (λ h. answers_for Bpcc l logical x h.rec) l g inside (answers l logical x g.rec
+      (record { loose = before; page = a.page; from = a.from; under = a.under; version = version })) in
       elim (cases_page names q.page) [
         | inl of_page ↦ (
             let n = of_page.0 in
             let link = map_link m g inside in
             let law = (m.loose (name_of g.rec) was.1 before).1 in
-            let low : q.version < n.version = subst (λ z. z.page ≡ n.page → z.version < n.version) (sym link) (s.underway.lower (name_of g.rec) was.1 (λ i. was.0 (name_of g.rec) i refl) n of_page.1).1 (sym of_page.2) in
+            let low : q.version < n.version = subst (λ z. z.page ≡ n.page → z.version < n.version) (sym link)
+            (s.underway.lower (name_of g.rec) was.1 (λ i. was.0 (name_of g.rec) i refl) n of_page.1).1 (sym of_page.2) in
             elim (cases_order q.version (cur Bpcc l logical q.page)) [
               | inl at ↦ absurd (law (subst (λ z. z.version ≡ cur Bpcc l logical z.page) link at))
               | inr (inl below) ↦ inl (held_if (sym (answer_below l l' logical names f s m back old all backs q n of_page.1 of_page.2 below) ∙ a.version))
               | inr (inr above) ↦ (
-                  let e : n ≡ name_of x = same_name n (name_of x) (of_page.2 ∙ a.page) (sym (answer_name l l' logical names f s m back old all backs q n of_page.1 of_page.2 above low) ∙ a.version) in
+                  let e : n ≡ name_of x = same_name n (name_of x) (of_page.2 ∙ a.page)
+                  (sym (answer_name l l' logical names f s m back old all backs q n of_page.1 of_page.2 above low) ∙ a.version) in
                   inr (subst (Contains names) e of_page.1))
             ])
         | inr off ↦ (

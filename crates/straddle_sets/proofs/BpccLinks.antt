@@ -8,14 +8,14 @@ use Rattle.record_list.specs.declared.found.Found.{Found}
 use Rattle.record_list.specs.Records.{newest, name_of, is_present}
 use Rattle.record_list.specs.Verdict.{newest_name, back_of, straddling_version, why, is_committed}
 use Rattle.record_list.specs.Current.{cur}
-use Rattle.record_list.proofs.Names.{same_name, newest_present}
-use Rattle.record_list.proofs.Safe.{top_link, is_clear}
-use Rattle.record_list.proofs.SoundNames.{IsSoundMap, clear_from, clear_gives}
-use Rattle.record_list.proofs.Facts.{cur_le, cur_committed, cur_uncommitted, current_counts}
-use Rattle.record_list.proofs.Progress.{name_uncounted}
-use Rattle.record_list.proofs.OneMore.{its_back, IsStep, newest_own, step_underway, step_linked}
-use Rattle.record_list.proofs.Untouched.{OldLinks}
-use Rattle.record_list.proofs.Completing.{clear_at_newest}
+use Rattle.record_list.proofs.OfFacts.Names.{same_name, newest_present}
+use Rattle.record_list.proofs.OfFacts.Safe.{top_link, is_clear}
+use Rattle.record_list.proofs.OfFacts.SoundNames.{IsSoundMap, clear_from, clear_gives}
+use Rattle.record_list.proofs.OfFacts.Facts.{cur_le, cur_committed, cur_uncommitted, current_counts}
+use Rattle.record_list.proofs.OfChanges.Progress.{name_uncounted}
+use Rattle.record_list.proofs.OfChanges.OneMore.{its_back, IsStep, newest_own, step_underway, step_linked}
+use Rattle.record_list.proofs.OfChanges.Untouched.{OldLinks}
+use Rattle.record_list.proofs.OfChanges.Completing.{clear_at_newest}
 use Rattle.straddle_sets.proofs.Straddle.{straddling_is, straddling_none, blocks}
 
 -- an uncommitted newest record has the current version of its page as its back version, so it straddles what lies between
@@ -30,9 +30,11 @@ clear_low l logical q behind clear = elim (cases_lt (cur Bpcc l logical q.page) 
   | inr at ↦ at
 ]
 
-module _ (l l' : List Found) (logical : ℕ) (names : List Link) (r : Rec) (s : IsStep l l' logical names r) (m : IsSoundMap Bpcc l logical) (back : r.back ≡ cur Bpcc l logical r.page) where
+module _ (l l' : List Found) (logical : ℕ) (names : List Link) (r : Rec) (s : IsStep l l' logical names r) (m : IsSoundMap Bpcc l logical)
+    (back : r.back ≡ cur Bpcc l logical r.page) where
   -- a link into the page that is written is clear afterwards exactly where it was clear and is at most the current version
-  clear_after : (q : Link) → q.page ≡ r.page → q.version < r.version → is_clear Bpcc l q ≡ true → q.version ≤ cur Bpcc l logical r.page → is_clear Bpcc l' q ≡ true
+  clear_after : (q : Link) → q.page ≡ r.page → q.version < r.version → is_clear Bpcc l q ≡ true → q.version ≤ cur Bpcc l logical r.page →
+      is_clear Bpcc l' q ≡ true
   clear_after q into low clear le =
       let e = s.one.greatest_is (straddling_version q) in
       let was = clear_gives l q clear in
@@ -40,7 +42,8 @@ module _ (l l' : List Found) (logical : ℕ) (names : List Link) (r : Rec) (s : 
       clear_from l' q (omega arith)
 
   -- the other way round
-  clear_before : (q : Link) → q.page ≡ r.page → q.version < r.version → is_clear Bpcc l' q ≡ true → (is_clear Bpcc l q ≡ true) × (q.version ≤ cur Bpcc l logical r.page)
+  clear_before : (q : Link) → q.page ≡ r.page → q.version < r.version → is_clear Bpcc l' q ≡ true → (is_clear Bpcc l q ≡ true) ×
+      (q.version ≤ cur Bpcc l logical r.page)
   clear_before q into low clear =
       let e = s.one.greatest_is (straddling_version q) in
       let none = clear_gives l' q clear in (
@@ -85,5 +88,6 @@ module _ (l l' : List Found) (logical : ℕ) (names : List Link) (r : Rec) (s : 
       let top = newest_own l l' logical names r s in
       let positive = (s.underway.range (name_of r) s.of_names).1 in
       let not' : is_committed (why Bpcc l' logical r.page) ≡ false = false_from_ne_true (is_committed (why Bpcc l' logical r.page)) (λ h.
-      name_uncounted l' logical names (step_underway l l' logical names r s) Bpcc (step_linked l l' logical names r s m.linked) gone j absent' (name_of r) s.of_names s.one.own (omega arith, h)) in
+      name_uncounted l' logical names (step_underway l l' logical names r s) Bpcc (step_linked l l' logical names r s m.linked) gone j absent'
+      (name_of r) s.of_names s.one.own (omega arith, h)) in
       cur_uncommitted Bpcc l' logical r.page not' ∙ ap (back_of l') (same_name (newest_name l' r.page) (name_of r) refl top) ∙ its_back s.one ∙ back

@@ -12,17 +12,17 @@ use Rattle.record_list.specs.Records.{greatest, name_of, is_present}
 use Rattle.record_list.specs.Verdict.{link_of, back_of, straddles}
 use Rattle.record_list.specs.Current.{cur, IsLoose, straddling_upto, responsible, answers_for, is_held}
 use Rattle.record_list.specs.Changes.{IsInserted, PartialWriteLaw}
-use Rattle.record_list.proofs.SoundNames.{IsSoundMap, LooseNames, EndingNames, sound_map, sound_list}
-use Rattle.record_list.proofs.Rounds.{cases_in}
-use Rattle.record_list.proofs.Progress.{name_loose, absent_name}
-use Rattle.record_list.proofs.OneMore.{its_link, its_back, IsStep, inserted_any, old_link, old_back, next_after, next_in}
-use Rattle.record_list.proofs.Keeping.{step_of, back_of_step, begun_on, others_on, absent_before}
-use Rattle.record_list.proofs.Partial.{partial_cur, partial_map}
+use Rattle.record_list.proofs.OfFacts.SoundNames.{IsSoundMap, LooseNames, EndingNames, sound_map, sound_list}
+use Rattle.record_list.proofs.OfWalks.Rounds.{cases_in}
+use Rattle.record_list.proofs.OfChanges.Progress.{name_loose, absent_name}
+use Rattle.record_list.proofs.OfChanges.OneMore.{its_link, its_back, IsStep, inserted_any, old_link, old_back, next_after, next_in}
+use Rattle.record_list.proofs.OfChanges.Keeping.{step_of, back_of_step, begun_on, others_on, absent_before}
+use Rattle.record_list.proofs.OfChanges.Partial.{partial_cur, partial_map}
 use Rattle.straddle_sets.proofs.Straddle.{upto_none}
 use Rattle.straddle_sets.proofs.BpccLinks.{bpcc_old_links, bpcc_own_cur}
 use Rattle.straddle_sets.proofs.Ending.{ends_out, ends_names}
-use Rattle.record_list.proofs.Held.{answer_of}
-use Rattle.record_list.proofs.LossCounted.{answered_below}
+use Rattle.record_list.proofs.OfFacts.Held.{answer_of}
+use Rattle.record_list.proofs.OfLosses.LossCounted.{answered_below}
 
 module _ (l l' : List Found) (logical : ℕ) (names : List Link) (f : Found) (s : IsStep l l' logical names f.rec) (m : IsSoundMap Bpcc l logical)
     (back : f.rec.back ≡ cur Bpcc l logical f.rec.page) (same : (page : ℕ) → cur Bpcc l' logical page ≡ cur Bpcc l logical page)

@@ -7,10 +7,10 @@ use Rattle.record_list.specs.declared.found.Found.{Found}
 use Rattle.record_list.specs.Records.{name_of, is_present}
 use Rattle.record_list.specs.Verdict.{link_of}
 use Rattle.record_list.specs.SoundList.{follow}
-use Rattle.record_list.proofs.Names.{absent_link}
-use Rattle.record_list.proofs.Rounds.{follows_in, round_back, follows_of}
-use Rattle.record_list.proofs.OneMore.{links_else, IsStep, step_underway}
-use Rattle.record_list.proofs.Keeping.{absent_still}
+use Rattle.record_list.proofs.OfFacts.Names.{absent_link}
+use Rattle.record_list.proofs.OfWalks.Rounds.{follows_in, round_back, follows_of}
+use Rattle.record_list.proofs.OfChanges.OneMore.{links_else, IsStep, step_underway}
+use Rattle.record_list.proofs.OfChanges.Keeping.{absent_still}
 
 -- so many links lead from a name to an absent one
 abbrev pub Ends : List Found → Link → Type 0
@@ -39,11 +39,15 @@ module _ (l l' : List Found) (logical : ℕ) (names : List Link) (r : Rec) (s : 
 
   -- from a record that is no name
   pub ends_out : (u : Link) → is_present l u ≡ true → (Contains names u → ⊥) → Ends l (link_of l u) → Ends l' (link_of l' u)
-  ends_out u here out h =
-      (h.0, subst (λ z. is_present l' (follow l' z h.0) ≡ false) (sym (links_else s.one u (out_new u out))) (follow_out h.0 (link_of l u) (link_out u here out) h.1))
+  ends_out u here out h = (
+    h.0,
+    subst (λ z. is_present l' (follow l' z h.0) ≡ false) (sym (links_else s.one u (out_new u out)))
+        (follow_out h.0 (link_of l u) (link_out u here out) h.1),
+  )
 
   -- from each name, where one is absent
-  pub ends_names : (gone : Link) → Contains names gone → is_present l' gone ≡ false → (a : Link) → Contains names a → is_present l' a ≡ true → Ends l' (link_of l' a)
+  pub ends_names : (gone : Link) → Contains names gone → is_present l' gone ≡ false → (a : Link) → Contains names a → is_present l' a ≡ true →
+      Ends l' (link_of l' a)
   ends_names gone j absent' a i here =
       let t = step_underway l l' logical names r s in
       let all = round_back (Ends l') names (λ c d k h. elim (cases_Bool (is_present l' c)) [

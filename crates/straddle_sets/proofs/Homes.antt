@@ -1,5 +1,6 @@
 -- Where the record stands that is responsible for another, and whether there is one.
-use Rattle.std.proofs.Common.{◌≡◌, ℕ, ◌+◌, ◌<◌, Bool, true, false, not, ◌&&◌, eqb, ltb, List, [], ◌∷◌, None, Some, length, refl, sym, ap, ◌∙◌, inl, inr, arith, lt-ltb, le-ltb, Contains}
+use Rattle.std.proofs.Common.{◌≡◌, ℕ, ◌+◌, ◌<◌, Bool, true, false, not, ◌&&◌, eqb, ltb, List, [], ◌∷◌, None, Some, length, refl, sym, ap, ◌∙◌, inl, inr, arith}
+use Rattle.std.proofs.Common.{lt-ltb, le-ltb, Contains}
 use Rattle.std.specs.List.{list_any, position, position_or_len}
 use Rattle.std.specs.Option.{is_some}
 use Rattle.std.proofs.lemmas.Bool.{cases_Bool, both_ways, cond-true, cond-false, or_parts, not_from_true, not_from_false}
@@ -48,7 +49,8 @@ some_passes test l = elim (cases_Bool (list_any test l)) [
   | inl any ↦ (
       let f = any_of test l any in
       let within = passes_within test l f.0 f.1 f.2 in
-      ap is_some (cond-true (ltb (position_or_len test l) (length l)) (Some (position_or_len test l)) None (lt-ltb (position_or_len test l) (length l) within)) ∙ sym any)
+      ap is_some (cond-true (ltb (position_or_len test l) (length l)) (Some (position_or_len test l)) None (lt-ltb (position_or_len test l) (length l) within))
+      ∙ sym any)
   | inr none ↦ ap is_some (none_passes test l none) ∙ sym none
 ]
 

@@ -9,11 +9,11 @@ use Rattle.record_list.specs.Verdict.{newest_name, link_of, back_of, straddling}
 use Rattle.record_list.specs.Current.{cur, fallback, straddling_upto}
 use Rattle.record_list.specs.SoundList.{follow}
 use Rattle.record_list.specs.Changes.{left, LossLaw}
-use Rattle.record_list.proofs.Safe.{top_link, Goes, Counts, counts_safe}
-use Rattle.record_list.proofs.SoundNames.{clear_gives}
-use Rattle.record_list.proofs.LossSetting.{IsLoss, was_present, back_was, link_low, lost_linked, newest_left, lost_responsible}
-use Rattle.record_list.proofs.LossCurrent.{EndsLater, top_was, current_stays, loss_of, loss_keeps}
-use Rattle.record_list.proofs.Names.{same_name, newest_present}
+use Rattle.record_list.proofs.OfFacts.Safe.{top_link, Goes, Counts, counts_safe}
+use Rattle.record_list.proofs.OfFacts.SoundNames.{clear_gives}
+use Rattle.record_list.proofs.OfLosses.LossSetting.{IsLoss, was_present, back_was, link_low, lost_linked, newest_left, lost_responsible}
+use Rattle.record_list.proofs.OfLosses.LossCurrent.{EndsLater, top_was, current_stays, loss_of, loss_keeps}
+use Rattle.record_list.proofs.OfFacts.Names.{same_name, newest_present}
 use Rattle.straddle_sets.proofs.Straddle.{upto_below, blocks}
 
 module _ (l m : List Found) (n : ℕ) (r : IsLoss Bpcc l m n) where

@@ -10,8 +10,8 @@ use Rattle.tx_types.specs.declared.record.Rec.{Rec}
 use Rattle.tx_types.specs.declared.config.Protocol.TheVariants.{Bpcc}
 use Rattle.record_list.specs.declared.found.Found.{Found}
 use Rattle.record_list.specs.Current.{cur, is_loose, straddling_upto, responsible, answers_for}
-use Rattle.record_list.proofs.Names.{greatest_attained}
-use Rattle.record_list.proofs.Held.{answer_of, answers}
+use Rattle.record_list.proofs.OfFacts.Names.{greatest_attained}
+use Rattle.record_list.proofs.OfFacts.Held.{answer_of, answers}
 use Rattle.straddle_sets.specs.Responsible.{responsible_index}
 use Rattle.straddle_sets.proofs.Straddle.{Straddles, upto_cases}
 use Rattle.straddle_sets.proofs.Homes.{some_passes}

@@ -1,5 +1,6 @@
 -- Back Pointer Cyclic Commit: records that straddle a version, up to a version of their own.
-use Rattle.std.proofs.Common.{◌≡◌, ℕ, ◌<◌, ◌≤◌, true, ◌&&◌, eqb, ltb, leb, ◌⊎◌, List, ap, ◌∙◌, inl, inr, arith, eq-eqb, eqb-true, lt-ltb, ltb-true, le-leb, leb-true, Contains}
+use Rattle.std.proofs.Common.{◌≡◌, ℕ, ◌<◌, ◌≤◌, true, ◌&&◌, eqb, ltb, leb, ◌⊎◌, List, ap, ◌∙◌, inl, inr, arith, eq-eqb, eqb-true, lt-ltb, ltb-true, le-leb}
+use Rattle.std.proofs.Common.{leb-true, Contains}
 use Rattle.std.proofs.lemmas.Bool.{cases_Bool, cond-true, cond-false, and_parts, and_from}
 use Rattle.tx_types.specs.declared.record.Link.{Link}
 use Rattle.tx_types.specs.declared.record.Rec.{Rec}
@@ -7,7 +8,7 @@ use Rattle.record_list.specs.declared.found.Found.{Found}
 use Rattle.record_list.specs.Records.{greatest, newest, name_of, is_present}
 use Rattle.record_list.specs.Verdict.{back_of, straddles, straddling_version, straddling}
 use Rattle.record_list.specs.Current.{straddling_upto}
-use Rattle.record_list.proofs.Names.{greatest_bound, greatest_least, found_named, newest_bound, present_in}
+use Rattle.record_list.proofs.OfFacts.Names.{greatest_bound, greatest_least, found_named, newest_bound, present_in}
 
 -- a record of the page that straddles the name's version
 abbrev pub Straddles : Rec → Link → Type 0
@@ -63,7 +64,12 @@ pub upto_cases : (top : ℕ) (q : Link) (r : Rec) →
 upto_cases top q r = elim (cases_Bool (((eqb r.page q.page) && straddles r q.version) && leb r.version top)) [
   | inl e ↦ (
       let parts = and_parts ((eqb r.page q.page) && straddles r q.version) (leb r.version top) e in
-      inl (test_gives r q parts.0, leb-true r.version top parts.1, cond-true (((eqb r.page q.page) && straddles r q.version) && leb r.version top) r.version 0 e))
+      inl (
+        test_gives r q parts.0,
+        leb-true r.version top parts.1,
+        cond-true (((eqb r.page q.page) && straddles r q.version) && leb r.version top) r.version 0
+            e,
+      ))
   | inr e ↦ inr (cond-false (((eqb r.page q.page) && straddles r q.version) && leb r.version top) r.version 0 e)
 ]
 

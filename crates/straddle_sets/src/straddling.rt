@@ -16,7 +16,7 @@ pub fn straddles(rec: Rec, version: u64) -> bool
 }
 
 /// The greatest version, up to `top`, of a record that straddles this name, 0 for none.
-#[tactic(auto, using(record_list::proofs::Greatest::greatest_step))]
+#[tactic(auto, using(record_list::proofs::OfFacts::Greatest::greatest_step))]
 pub(crate) fn straddling_up_to(list: &[Found], name: Link, top: u64) -> u64
     ensures { result ≡ greatest (straddling_upto top name) list.now }
 {

@@ -4,7 +4,8 @@ use Rattle.std.specs.Prelude.{nat_le}
 use Rattle.std.proofs.lemmas.Bool.{and_parts}
 use Rattle.std.proofs.lemmas.Bool.Decides.{nat_tests}
 use Rattle.tx_types.specs.Config.{checked, holds, shape_of, slots_of, image_bytes, is_within, IsConfig}
-use Rattle.tx_types.specs.Limits.{page_unit, max_page_bytes, min_pages_per_block, max_pages_per_block, max_blocks_per_die, max_dies, max_slots, max_image_bytes, max_pending}
+use Rattle.tx_types.specs.Limits.{page_unit, max_page_bytes, min_pages_per_block, max_pages_per_block, max_blocks_per_die, max_dies, max_slots, max_image_bytes}
+use Rattle.tx_types.specs.Limits.{max_pending}
 use Rattle.tx_types.specs.declared.config.Config.{Config}
 use Rattle.tx_types.specs.declared.config.Shape.{Shape}
 use Rattle.tx_types.specs.declared.config.ConfigError.{ConfigError}

@@ -1,100 +1,115 @@
--- The writes of a batch, from its targets and the bytes of one page behind another.
-use Rattle.std.proofs.Common.{◌≡◌, ℕ, zero, suc, ◌+◌, ◌*◌, ◌-◌, ◌==◌, ◌<◌, ◌≤◌, ◌↔◌, Bool, true, false, List, [], ◌∷◌, ◌++◌, length, get_or, take, drop, replicate, refl, ap, sym, ◌∙◌, arith}
-use Rattle.std.specs.Prelude.{IsTrue}
+-- The writes of a batch, from the bytes of one entry behind another.
+use Rattle.std.proofs.Common.{◌≡◌, ℕ, zero, suc, ◌+◌, ◌*◌, ◌^◌, ◌-◌, ◌==◌, ◌<◌, ◌≤◌, ◌↔◌, Bool, true, false, not, if◌then◌else◌}
+use Rattle.std.proofs.Common.{List, [], ◌∷◌, ◌++◌, length, get_or, map, take, drop, replicate, refl, ap, sym, subst, ◌∙◌, arith}
+use Rattle.std.specs.Prelude.{IsTrue, All}
 use Rattle.std.proofs.Math.Dec.{eqb-suc-zero}
 use Rattle.std.specs.Fork.{slice_chunk}
-use Rattle.std.proofs.lemmas.List.{take-append-le, drop-append-le, take_all, length-drop, length-append, length-replicate}
-use Rattle.list_facts.proofs.Chunks.{chunk_end, slice_chunk-suc}
+use Rattle.std.specs.Simd.{first_chunks}
+use Rattle.std.proofs.lemmas.List.{take-append-le, drop-append-le, take_all, length-drop, length-append, length-replicate, length-map, get_or-map, map-append}
+use Rattle.std.proofs.lemmas.List.Elements.{All-push, All-get_or}
+use Rattle.list_facts.proofs.Chunks.{chunk_end, length-first_chunks, get_or-first_chunks}
+use Rattle.byteorder.specs.Endian.{little_number}
+use Rattle.byteorder.specs.Numbers.{little_number-reads_back}
 use Rattle.tx_types.specs.Batch.{PageWrite, no_write, padded, contents_of}
 use Rattle.tx_types.specs.declared.target.Target.{Target}
-use Rattle.tx_types.specs.Entries.{value_if, writes_in, HasZeros, AreWhole}
+use Rattle.tx_types.specs.Entries.{cell_of, is_discard, value_if, write_of, writes_in, HasZeros, AreWhole}
 
--- what stands for a target where there is none
-abbrev pub no_target : Target
-no_target = record { page = 0; discard = false }
-
-pub length-writes_in : (size : ℕ) (targets : List Target) (bytes : List ℕ) → length (writes_in size targets bytes) ≡ length targets
-length-writes_in size [] bytes = refl
-length-writes_in size (t ∷ ts) bytes = ap suc (length-writes_in size ts (drop size bytes))
+pub length-writes_in : (size count : ℕ) (cells : List ℕ) → length (writes_in size count cells) ≡ count
+length-writes_in size count cells = length-map (first_chunks (5 + size) count cells) write_of ∙ length-first_chunks (5 + size) count cells
 
 -- the write at an index
-pub get_or-writes_in : (size : ℕ) (targets : List Target) (bytes : List ℕ) (k : ℕ) → k < length targets
-    → get_or (writes_in size targets bytes) k no_write
-    ≡ record { page = (get_or targets k no_target).page; value = value_if (get_or targets k no_target).discard (slice_chunk bytes size k) }
-get_or-writes_in size [] bytes k below = absurd (omega arith)
-get_or-writes_in size (t ∷ ts) bytes zero below =
-    let first : 0 ≡ 0 * size = omega arith in
-    ap (λ (i : ℕ). record { page = t.page; value = value_if t.discard (take size (drop i bytes)) }) first
-get_or-writes_in size (t ∷ ts) bytes (suc k) below =
-    get_or-writes_in size ts (drop size bytes) k (omega arith)
-    ∙ ap (λ (chunk : List ℕ). record { page = (get_or ts k no_target).page; value = value_if (get_or ts k no_target).discard chunk }) (sym (slice_chunk-suc bytes size k))
+pub get_or-writes_in : (size count : ℕ) (cells : List ℕ) (k : ℕ) → k < count →
+    get_or (writes_in size count cells) k no_write ≡ write_of (slice_chunk cells (5 + size) k)
+get_or-writes_in size count cells k below =
+    get_or-map write_of (first_chunks (5 + size) count cells) k [] no_write (omega (arith, length-first_chunks (5 + size) count cells))
+    ∙ ap write_of (get_or-first_chunks (5 + size) count cells k [] below)
 
--- a discard has zeros
-zeros_at : (size : ℕ) (targets : List Target) (bytes : List ℕ) (k : ℕ) → k < length targets → HasZeros size targets bytes →
-    (get_or targets k no_target).discard ≡ true → slice_chunk bytes size k ≡ replicate size 0
-zeros_at size [] bytes k below zeros discard = absurd (omega arith)
-zeros_at size (t ∷ ts) bytes zero below zeros discard =
-    let first : 0 * size ≡ 0 = omega arith in
-    ap (λ (i : ℕ). take size (drop i bytes)) first ∙ zeros.0 discard
-zeros_at size (t ∷ ts) bytes (suc k) below zeros discard =
-    slice_chunk-suc bytes size k ∙ zeros_at size ts (drop size bytes) k (omega arith) zeros.1 discard
-
--- so the bytes of a target are the contents that its value has
-pub contents_at : (size : ℕ) (targets : List Target) (bytes : List ℕ) (k : ℕ) → k < length targets → HasZeros size targets bytes →
-    slice_chunk bytes size k ≡ contents_of size (value_if (get_or targets k no_target).discard (slice_chunk bytes size k))
-contents_at size targets bytes k below zeros = by_flag (get_or targets k no_target).discard (zeros_at size targets bytes k below zeros)
+-- the bytes of an entry are the contents that its value has
+pub contents_at : (size count : ℕ) (cells : List ℕ) (k : ℕ) → k < count → AreWhole size count cells →
+    drop 5 (slice_chunk cells (5 + size) k) ≡ contents_of size (write_of (slice_chunk cells (5 + size) k)).value
+contents_at size count cells k below are = by_flag (slice_chunk cells (5 + size) k) (is_discard (slice_chunk cells (5 + size) k)) zeros
   where
-    by_flag : (d : Bool) → (d ≡ true → slice_chunk bytes size k ≡ replicate size 0) → slice_chunk bytes size k ≡ contents_of size (value_if d (slice_chunk bytes size k))
-    by_flag true zero' = zero' refl
-    by_flag false zero' = refl
+    zeros : HasZeros size (slice_chunk cells (5 + size) k)
+    zeros =
+        subst (HasZeros size) (get_or-first_chunks (5 + size) count cells k [] below)
+        (All-get_or (HasZeros size) (first_chunks (5 + size) count cells) k [] (omega (arith, length-first_chunks (5 + size) count cells)) are.zeros)
 
--- a target more with its bytes is a write more
-pub writes_in-append : (size : ℕ) (targets : List Target) (bytes : List ℕ) (t : Target) (cell : List ℕ) → length bytes ≡ length targets * size → length cell ≡ size
-    → writes_in size (targets ++ t ∷ []) (bytes ++ cell) ≡ writes_in size targets bytes ++ record { page = t.page; value = value_if t.discard cell } ∷ []
-writes_in-append size [] [] t cell whole long = ap (λ (bytes : List ℕ). record { page = t.page; value = value_if t.discard bytes } ∷ []) (take_all size cell (omega arith))
-writes_in-append size [] (b ∷ bytes) t cell whole long = absurd (omega arith)
-writes_in-append size (first ∷ ts) bytes t cell whole long =
-    let inside : size ≤ length bytes = omega arith in
-    let rest : length (drop size bytes) ≡ length ts * size = simp length-drop (omega arith) in
-    rw (take-append-le, drop-append-le) (ap (λ (writes : List PageWrite). record { page = first.page; value = value_if first.discard (take size bytes) } ∷ writes)
-    (writes_in-append size ts (drop size bytes) t cell rest long))
+    by_flag : (cell : List ℕ) (d : Bool) → (d ≡ true → drop 5 cell ≡ replicate size 0) → drop 5 cell ≡ contents_of size (value_if d (drop 5 cell))
+    by_flag cell true zero' = zero' refl
+    by_flag cell false zero' = refl
 
--- there is none where there is no target
-pub is_empty-writes_in : (size : ℕ) (targets : List Target) (bytes : List ℕ) (empty : Bool) → empty ≡ (length targets == 0)
-    → IsTrue empty ↔ (writes_in size targets bytes ≡ [])
-is_empty-writes_in size [] bytes empty is = (λ _. refl, λ _. is)
-is_empty-writes_in size (t ∷ ts) bytes empty is = (λ yes. absurd (cc (is, yes, eqb-suc-zero (length ts))), λ none. absurd cc)
-
--- the bytes of a page are there
-pub page_within : (size : ℕ) (targets : List Target) (bytes : List ℕ) (i : ℕ) → AreWhole size targets bytes → i < length (writes_in size targets bytes)
-    → i * size + size ≤ length bytes
-page_within size targets bytes i are below =
-    let whole = are.whole in
-    let ends : i * size + size ≤ length targets * size = chunk_end size i (length targets) (omega (arith, length-writes_in size targets bytes)) in
-    omega arith
+-- an entry more is a chunk more
+first_chunks-append : (n count : ℕ) (cells cell : List ℕ) → length cells ≡ count * n → length cell ≡ n →
+    first_chunks n (suc count) (cells ++ cell) ≡ first_chunks n count cells ++ cell ∷ []
+first_chunks-append n zero [] cell whole long = ap (λ chunk. chunk ∷ []) (take_all n cell (omega arith))
+first_chunks-append n zero (b ∷ cells) cell whole long = absurd (omega arith)
+first_chunks-append n (suc count) cells cell whole long =
+    let inside : n ≤ length cells = omega arith in
+    let rest : length (drop n cells) ≡ count * n = simp length-drop (omega arith) in
+    rw (take-append-le, drop-append-le) (ap (λ chunks. take n cells ∷ chunks) (first_chunks-append n count (drop n cells) cell rest long))
 
 -- what is filled up to a page is a page
 pub length-padded : (size : ℕ) (bytes : List ℕ) → length bytes ≤ size → length (padded size bytes) ≡ size
 length-padded size bytes short = simp (length-append, length-replicate) (omega arith)
 
 -- and of no bytes it is zeros
-pub padded_none : (size : ℕ) → padded size [] ≡ replicate size 0
+padded_none : (size : ℕ) → padded size [] ≡ replicate size 0
 padded_none size = let all : size - 0 ≡ size = omega arith in ap (λ n. replicate n 0) all
 
-zeros_append : (size : ℕ) (targets : List Target) (bytes : List ℕ) (t : Target) (cell : List ℕ) → length bytes ≡ length targets * size → length cell ≡ size →
-    HasZeros size targets bytes → (t.discard ≡ true → cell ≡ replicate size 0) → HasZeros size (targets ++ t ∷ []) (bytes ++ cell)
-zeros_append size [] [] t cell whole long zeros own = (λ d. take_all size cell (omega arith) ∙ own d, tt)
-zeros_append size [] (b ∷ bytes) t cell whole long zeros own = absurd (omega arith)
-zeros_append size (first ∷ ts) bytes t cell whole long zeros own =
-    let inside : size ≤ length bytes = omega arith in
-    let rest : length (drop size bytes) ≡ length ts * size = simp length-drop (omega arith) in
-    rw (take-append-le, drop-append-le) (zeros.0, zeros_append size ts (drop size bytes) t cell rest long zeros.1 own)
+length-cell : (t : Target) (size : ℕ) (bytes : List ℕ) → length bytes ≤ size → length (cell_of t size bytes) ≡ 5 + size
+length-cell t size bytes short = let page = length-padded size bytes short in omega (arith, page)
 
-pub AreWhole-append : (size : ℕ) (targets : List Target) (bytes : List ℕ) (t : Target) (cell : List ℕ) → AreWhole size targets bytes → length cell ≡ size →
-    (t.discard ≡ true → cell ≡ replicate size 0) → AreWhole size (targets ++ t ∷ []) (bytes ++ cell)
-AreWhole-append size targets bytes t cell are long own =
+-- the byte of an entry that says whether it discards
+flag_back : (d : Bool) → not ((if d then 1 else 0) == 0) ≡ d
+flag_back true = refl
+flag_back false = refl
+
+-- what an entry was made of
+write_of-cell : (t : Target) (size : ℕ) (bytes : List ℕ) → t.page < 2 ^ 32 →
+    write_of (cell_of t size bytes) ≡ record { page = t.page; value = value_if t.discard (padded size bytes) }
+write_of-cell t size bytes fits =
+    let number : little_number 4 (cell_of t size bytes) ≡ t.page = little_number-reads_back 4 t.page ((if t.discard then 1 else 0) ∷ padded size bytes) fits in
+    ap (λ (page : ℕ). record { page = page; value = value_if (is_discard (cell_of t size bytes)) (padded size bytes) }) number
+    ∙ ap (λ (d : Bool). record { page = t.page; value = value_if d (padded size bytes) }) (flag_back t.discard)
+
+-- an entry more is a write more
+pub writes_in-append : (size count more : ℕ) (cells : List ℕ) (t : Target) (bytes : List ℕ) → more ≡ count + 1 → length cells ≡ count * (5 + size) →
+    length bytes ≤ size → t.page < 2 ^ 32 → writes_in size more (cells ++ cell_of t size bytes)
+    ≡ writes_in size count cells ++ record { page = t.page; value = value_if t.discard (padded size bytes) } ∷ []
+writes_in-append size count more cells t bytes one whole short fits =
+    let next : more ≡ suc count = omega arith in
+    ap (λ n. writes_in size n (cells ++ cell_of t size bytes)) next
+    ∙ ap (map write_of) (first_chunks-append (5 + size) count cells (cell_of t size bytes) whole (length-cell t size bytes short))
+    ∙ map-append write_of (first_chunks (5 + size) count cells) (cell_of t size bytes ∷ [])
+    ∙ ap (λ (w : PageWrite). writes_in size count cells ++ w ∷ []) (write_of-cell t size bytes fits)
+
+-- a discard is an entry without bytes
+zeros_of-cell : (t : Target) (size : ℕ) (bytes : List ℕ) → (t.discard ≡ true → bytes ≡ []) → HasZeros size (cell_of t size bytes)
+zeros_of-cell t size bytes none discards =
+    ap (padded size) (none (sym (flag_back t.discard) ∙ discards)) ∙ padded_none size
+
+pub AreWhole-append : (size count more : ℕ) (cells : List ℕ) (t : Target) (bytes : List ℕ) → more ≡ count + 1 → AreWhole size count cells →
+    length bytes ≤ size → (t.discard ≡ true → bytes ≡ []) → AreWhole size more (cells ++ cell_of t size bytes)
+AreWhole-append size count more cells t bytes one are short none =
+    let next : more ≡ suc count = omega arith in
     let whole = are.whole in
-    record {
-      whole = simp length-append (omega arith);
-      zeros = zeros_append size targets bytes t cell are.whole long are.zeros own;
-    }
+    let long = length-cell t size bytes short in
+    subst (λ n. AreWhole size n (cells ++ cell_of t size bytes)) (sym next) (record {
+      whole = let sum = length-append cells (cell_of t size bytes) in omega arith;
+      zeros =
+          subst (All (HasZeros size)) (sym (first_chunks-append (5 + size) count cells (cell_of t size bytes) whole long))
+          (All-push (HasZeros size) (first_chunks (5 + size) count cells) (cell_of t size bytes) are.zeros (zeros_of-cell t size bytes none));
+    })
+
+-- there is none where there is no entry
+pub is_empty-writes_in : (size count : ℕ) (cells : List ℕ) → IsTrue (count == 0) ↔ (writes_in size count cells ≡ [])
+is_empty-writes_in size zero cells = (λ _. refl, λ _. refl)
+is_empty-writes_in size (suc count) cells = (λ yes. absurd (cc (yes, eqb-suc-zero count)), λ none. absurd cc)
+
+-- the bytes of an entry are there
+pub cell_within : (size count : ℕ) (cells : List ℕ) (i : ℕ) → AreWhole size count cells → i < length (writes_in size count cells) →
+    i * (5 + size) + (5 + size) ≤ length cells
+cell_within size count cells i are below =
+    let whole = are.whole in
+    let ends : i * (5 + size) + (5 + size) ≤ count * (5 + size) = chunk_end (5 + size) i count (omega (arith, length-writes_in size count cells)) in
+    omega arith

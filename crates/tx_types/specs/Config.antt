@@ -1,6 +1,7 @@
 -- The rules of a configuration, and the numbers that follow from it.
 use Rattle.std.specs.Prelude.{ℕ, ◌+◌, ◌-◌, ◌*◌, ◌%◌, ◌≤◌, ◌==◌, Bool, ◌&&◌, nat_le, Result, Ok, Err, if◌then◌else◌}
-use Rattle.tx_types.specs.Limits.{header_bytes, state_bytes, spare_bytes, page_unit, max_page_bytes, min_pages_per_block, max_pages_per_block, max_blocks_per_die, max_dies, max_slots, max_image_bytes, max_pending}
+use Rattle.tx_types.specs.Limits.{header_bytes, state_bytes, spare_bytes, page_unit, max_page_bytes, min_pages_per_block, max_pages_per_block}
+use Rattle.tx_types.specs.Limits.{max_blocks_per_die, max_dies, max_slots, max_image_bytes, max_pending}
 use Rattle.tx_types.specs.declared.config.Config.{Config}
 use Rattle.tx_types.specs.declared.config.Shape.{Shape}
 use Rattle.tx_types.specs.declared.config.ConfigError.{ConfigError}

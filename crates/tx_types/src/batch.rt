@@ -1,9 +1,11 @@
-ghost use Rattle.std.specs.Prelude.{◌≡◌, ◌<◌, ◌+◌, ◌*◌, ◌≤◌, ◌↔◌, [], ◌++◌, length, is_none, IsTrue, IfOk, OnOk, OnErr};
+ghost use Rattle.std.specs.Prelude.{◌≡◌, true, ◌<◌, ◌+◌, ◌*◌, ◌≤◌, ◌↔◌, [], ◌++◌, length, vec_len, vec_capacity, is_none, IsTrue, IfOk, OnOk, OnErr};
 ghost use Rattle.std.specs.Fork.{slice_chunk};
 ghost use Rattle.tx_types.specs.Batch.{padded, with_entry, with_discard, entry_at, bytes_in};
+ghost use Rattle.tx_types.specs.Entries.{head_of, cell_of, with_write};
 
 use crate::Memory;
 use crate::target::Target;
+use byteorder::{ByteOrder, LittleEndian};
 use std::alloc::Global;
 use std::marker::Model;
 
@@ -11,9 +13,11 @@ use std::marker::Model;
 #[derive(Debug, Drop)]
 pub struct Batch {
     page_bytes: u32,
-    targets: Vec<Target>,
-    /// The bytes of each entry, a whole page one behind another: zeros where the page is discarded.
-    bytes: Vec<u8>,
+    /// The number of entries.
+    count: u32,
+    /// The entries one behind another, in one piece of memory: each has a head, and behind it the bytes of a whole
+    /// page, which are zeros where the page is discarded.
+    cells: Vec<u8>,
 }
 
 impl Model for Batch {
@@ -23,9 +27,9 @@ impl Model for Batch {
 
     ghost use Rattle.tx_types.specs.Entries.{writes_of, AreWhole};
 
-    ghost view = { λ b. writes_of b.page_bytes b.targets.items b.bytes.items };
+    ghost view = { λ b. writes_of b.page_bytes b.count b.cells.items };
 
-    ghost invariant = { λ b. AreWhole b.page_bytes b.targets.items b.bytes.items };
+    ghost invariant = { λ b. AreWhole b.page_bytes b.count b.cells.items };
 }
 
 impl Batch {
@@ -35,8 +39,8 @@ impl Batch {
     {
         Batch {
             page_bytes,
-            targets: Vec::new(alloc),
-            bytes: Vec::new(alloc),
+            count: 0,
+            cells: Vec::new(alloc),
         }
     }
 
@@ -44,11 +48,11 @@ impl Batch {
     pub fn with_room(alloc: Global, page_bytes: u32, entries: usize) -> Result<Batch, Memory>
         ensures { IfOk result (λ b. b ≡ record { page_bytes = page_bytes; entries = [] }) }
     {
-        let bytes = entries.checked_mul(page_bytes as usize).ok_or(Memory)?;
+        let bytes = entries.checked_mul(cell_bytes(page_bytes)).ok_or(Memory)?;
         Ok(Batch {
             page_bytes,
-            targets: Vec::with_capacity(alloc, entries)?,
-            bytes: Vec::with_capacity(alloc, bytes)?,
+            count: 0,
+            cells: Vec::with_capacity(alloc, bytes)?,
         })
     }
 
@@ -59,13 +63,7 @@ impl Batch {
         ensures ok { OnOk result (self.new ≡ with_entry self.old page bytes.now) }
         ensures err { OnErr result (self.new ≡ self.old) }
     {
-        self.targets.reserve(1)?;
-        add_padded(&mut self.bytes, bytes, self.page_bytes as usize)?;
-        self.targets.push_reserved(Target {
-            page,
-            discard: false,
-        });
-        Ok(())
+        self.push(page, false, bytes)
     }
 
     /// Adds an entry at the end that discards a page. Where there is no memory the batch stays as it
@@ -74,12 +72,21 @@ impl Batch {
         ensures ok { OnOk result (self.new ≡ with_discard self.old page) }
         ensures err { OnErr result (self.new ≡ self.old) }
     {
-        self.targets.reserve(1)?;
-        add_padded(&mut self.bytes, &[], self.page_bytes as usize)?;
-        self.targets.push_reserved(Target {
-            page,
-            discard: true,
-        });
+        self.push(page, true, &[])
+    }
+
+    /// Adds an entry at the end, with zeros for the bytes that are missing to a page. A discard has no bytes. Where
+    /// there is no memory, or there are as many entries as can be counted, the batch stays as it was.
+    fn push(&mut self, page: u32, discard: bool, bytes: &[u8]) -> Result<(), Memory>
+        requires few { length bytes.now ≤ self.old.page_bytes }
+        requires none { discard ≡ true → bytes.now ≡ [] }
+        ensures ok { OnOk result (self.new ≡ with_write self.old page discard bytes.now) }
+        ensures err { OnErr result (self.new ≡ self.old) }
+    {
+        let count = one_more(self.count)?;
+        let target = Target { page, discard };
+        add_cell(&mut self.cells, target, bytes, self.page_bytes)?;
+        self.count = count;
         Ok(())
     }
 
@@ -87,14 +94,14 @@ impl Batch {
     pub fn len(&self) -> usize
         ensures { result ≡ length self.now.entries }
     {
-        self.targets.len()
+        self.count as usize
     }
 
     /// Whether there is no entry.
     pub fn is_empty(&self) -> bool
         ensures { IsTrue result ↔ (self.now.entries ≡ []) }
     {
-        self.targets.is_empty()
+        self.count == 0
     }
 
     /// The bytes of a page.
@@ -109,7 +116,7 @@ impl Batch {
         requires { i < length self.now.entries }
         ensures { result ≡ (entry_at self.now i).page }
     {
-        self.targets[i].page
+        LittleEndian::read_u32(cell_at(&self.cells, self.page_bytes, i))
     }
 
     /// Whether the entry at this index discards its page.
@@ -117,7 +124,7 @@ impl Batch {
         requires { i < length self.now.entries }
         ensures { result ≡ is_none (entry_at self.now i).value }
     {
-        self.targets[i].discard
+        cell_at(&self.cells, self.page_bytes, i)[PAGE_BYTES] != 0
     }
 
     /// The bytes of the entry at this index, as many as a page has: zeros where it discards its page.
@@ -126,29 +133,76 @@ impl Batch {
         ensures bytes { result.now ≡ bytes_in self.now.page_bytes (entry_at self.now i) }
         ensures whole { length result.now ≡ self.now.page_bytes }
     {
-        page_at(&self.bytes, self.page_bytes as usize, i)
+        &cell_at(&self.cells, self.page_bytes, i)[HEAD_BYTES..]
     }
 }
 
-/// Adds the bytes at the end, with zeros after them up to `size` bytes, or nothing where there is no memory.
-fn add_padded(all: &mut Vec<u8>, bytes: &[u8], size: usize) -> Result<(), Memory>
-    requires { length bytes.now ≤ size }
-    ensures ok { OnOk result (all.new.items ≡ all.old.items ++ padded size bytes.now) }
-    ensures err { OnErr result (all.new.items ≡ all.old.items) }
+/// The bytes of the number of a page.
+const PAGE_BYTES: usize = 4;
+
+/// The bytes before those of the page: its number, the lowest byte first, and one that is 0 unless it is discarded.
+const HEAD_BYTES: usize = PAGE_BYTES + 1;
+
+/// The bytes of an entry, for pages of this many.
+fn cell_bytes(page_bytes: u32) -> usize
+    ensures { result ≡ HEAD_BYTES + page_bytes }
 {
-    all.reserve(size)?;
-    let end = all.len() + size;
-    all.extend_from_slice(bytes).unwrap();
-    all.resize(end, 0).unwrap();
+    HEAD_BYTES + page_bytes as usize
+}
+
+/// One more than a count, unless it is the greatest.
+fn one_more(count: u32) -> Result<u32, Memory>
+    ensures { IfOk result (λ more. more ≡ count + 1) }
+{
+    count.checked_add(1).ok_or(Memory)
+}
+
+/// Adds an entry at the end, with zeros behind its bytes up to a whole page, or nothing where there is no memory.
+fn add_cell(
+    cells: &mut Vec<u8>,
+    target: Target,
+    bytes: &[u8],
+    page_bytes: u32,
+) -> Result<(), Memory>
+    requires { length bytes.now ≤ page_bytes }
+    ensures ok { OnOk result (cells.new.items ≡ cells.old.items ++ cell_of target page_bytes bytes.now) }
+    ensures err { OnErr result (cells.new.items ≡ cells.old.items) }
+{
+    cells.reserve(cell_bytes(page_bytes))?;
+    add_head(cells, target);
+    add_padded(cells, bytes, page_bytes as usize);
     Ok(())
 }
 
-/// The page at this index, of `size` bytes each.
-fn page_at(bytes: &[u8], size: usize, i: usize) -> &[u8]
-    requires { i * size + size ≤ length bytes.now }
-    ensures page { result.now ≡ slice_chunk bytes.now size i }
-    ensures whole { length result.now ≡ size }
+/// Adds the head of an entry at the end, for which there is room.
+fn add_head(cells: &mut Vec<u8>, target: Target)
+    requires { vec_len cells.old + HEAD_BYTES ≤ vec_capacity cells.old }
+    ensures items { cells.new.items ≡ cells.old.items ++ head_of target }
+    ensures len { vec_len cells.new ≤ vec_len cells.old + HEAD_BYTES }
+    ensures capacity { vec_capacity cells.old ≤ vec_capacity cells.new }
 {
+    cells.extend_from_slice(&target.page.to_le_bytes()).unwrap();
+    cells.push_reserved(u8::from(target.discard));
+}
+
+/// Adds the bytes at the end, with zeros after them up to `size` bytes, for which there is room.
+fn add_padded(all: &mut Vec<u8>, bytes: &[u8], size: usize)
+    requires few { length bytes.now ≤ size }
+    requires room { vec_len all.old + size ≤ vec_capacity all.old }
+    ensures { all.new.items ≡ all.old.items ++ padded size bytes.now }
+{
+    let end = all.len() + size;
+    all.extend_from_slice(bytes).unwrap();
+    all.resize(end, 0).unwrap();
+}
+
+/// The entry at this index, for pages of this many bytes.
+fn cell_at(cells: &[u8], page_bytes: u32, i: usize) -> &[u8]
+    requires { i * (HEAD_BYTES + page_bytes) + (HEAD_BYTES + page_bytes) ≤ length cells.now }
+    ensures cell { result.now ≡ slice_chunk cells.now (HEAD_BYTES + page_bytes) i }
+    ensures whole { length result.now ≡ HEAD_BYTES + page_bytes }
+{
+    let size = cell_bytes(page_bytes);
     let from = i * size;
-    &bytes[from..from + size]
+    &cells[from..from + size]
 }

@@ -11,7 +11,8 @@ use Rattle.mem_flash.proofs.registers.write_loaded.Goals.{in-Some, in_default}
 pub program-requires-clause-exists : goal.program-requires-clause-exists
 program-requires-clause-exists c =
     let exists = λ (load : Load). load.at < slots_of c.args.slots.now.shape in
-    let more = loads-some c.args.registers.now c.loop-register.register-index c.register-item.result (omega arith) c.register-item.is c.in-Some.at c.in-Some.is in
+    let more = loads-some c.args.registers.now c.loop-register.register-index c.register-item.result
+    (omega arith) c.register-item.is c.in-Some.at c.in-Some.is in
     rw c.loop-register.invariant.shape (All-head exists _ _ (subst (All exists) more c.loop-register.invariant.exist))
 
 pub loop-register-preserved : goal.loop-register-preserved

@@ -39,4 +39,5 @@ returns-clause-block c =
     ap (λ t. Some (c.args.die * t.shape.blocks_per_die + c.in_ok-place.place)) c.self.view_is
     ∙ sym (first_rank c.args.self.now table _ ranks c.args.die c.requires c.in_ok-place.place
     (of_die (λ xs. IsFirstGreatest xs c.in_ok-place.place) _ _ _ _ c.args.die ranks c.requires c.index.ensures c.in_ok-place.ensures.first)
-    (of_die (λ xs. All (λ x. x ≡ 0) xs → ⊥) _ _ _ _ c.args.die ranks c.requires c.index.ensures (λ zeros. false≢true (sym (c.in_ok-place.ensures.none.1 zeros)))))
+    (of_die (λ xs. All (λ x. x ≡ 0) xs → ⊥) _ _ _ _ c.args.die ranks c.requires c.index.ensures
+    (λ zeros. false≢true (sym (c.in_ok-place.ensures.none.1 zeros)))))

@@ -13,8 +13,10 @@ reads c =
     let size : c.len.result ≡ length c.self.inside.before.items = omega arith in
     let size' : c.len-2.result ≡ length c.self.inside.before.items = omega arith in
     let at : c.index.result.now ≡ get_or c.self.inside.next.items (length c.self.inside.before.items + c.args.key) 0 =
-    rw size at c.index.ensures ∙ get_or_default c.self.inside.next.items (length c.self.inside.before.items + c.args.key) c.index.result.now 0 (omega (arith, c.self.invariant.count)) in
-    let read = first_read c.self.inside.next.items c.self.inside.before.items c.args.self.now c.self.invariant c.self.view_is c.args.key c.index.result.now c.requires at in
+    rw size at c.index.ensures ∙ get_or_default c.self.inside.next.items (length c.self.inside.before.items + c.args.key) c.index.result.now 0
+    (omega (arith, c.self.invariant.count)) in
+    let read = first_read c.self.inside.next.items c.self.inside.before.items c.args.self.now c.self.invariant c.self.view_is c.args.key c.index.result.now
+    c.requires at in
     (rw size' at c.place.ensures ∙ read.0, read.1)
 
 pub returns-clause-first : goal.returns-clause-first

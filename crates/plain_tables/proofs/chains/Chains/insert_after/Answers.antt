@@ -5,7 +5,10 @@ use Rattle.plain_tables.proofs.chains.Chains.insert_after.Goals as goal
 
 pub link-requires-clause-behind : goal.link-requires-clause-behind
 link-requires-clause-behind c =
-    let low = listed_below c.self.inside.next.items c.self.inside.before.items c.args.self.now c.self.invariant c.self.view_is c.args.prev (c.args.key, c.requires.prev) in
+    let low = listed_below c.self.inside.next.items c.self.inside.before.items c.args.self.now c.self.invariant c.self.view_is c.args.prev (
+      c.args.key,
+      c.requires.prev,
+    ) in
     omega (arith, c.self.invariant.count)
 
 stands : (c : goal.After-link) → Stand c.link.new.next.items c.link.new.before.items (with_behind c.args.self.now c.args.key c.args.prev c.args.at)

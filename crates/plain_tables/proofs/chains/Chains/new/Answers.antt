@@ -9,7 +9,8 @@ stands : (c : goal.In_ok-vec-2) → Stand c.in_ok-vec.field-0.items c.in_ok-vec-
 stands c =
     let next : c.in_ok-vec.field-0.items ≡ replicate (c.args.places + c.args.keys) c.args.places = search rules in
     let before : c.in_ok-vec-2.field-0.items ≡ replicate c.args.places 0 = search rules in
-    rw (next, before) (stand _ _ (empty_lists c.args.keys c.args.places) (empty_linked c.args.keys c.args.places (omega arith)) (length-replicate c.args.places 0))
+    rw (next, before) (stand _ _ (empty_lists c.args.keys c.args.places) (empty_linked c.args.keys c.args.places (omega arith))
+    (length-replicate c.args.places 0))
 
 pub invariant_of-result : goal.invariant_of-result
 invariant_of-result c = (stands c).linked

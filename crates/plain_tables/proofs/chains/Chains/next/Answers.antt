@@ -12,13 +12,15 @@ index-requires c =
 
 reads : (c : goal.After-place) (key : ℕ) → Contains (list_of c.args.self.now key) c.args.at
     → (c.place.result ≡ next_in (list_of c.args.self.now key) c.args.at)
-    × (rest_from (list_of c.args.self.now key) (Some c.args.at) ≡ c.args.at ∷ rest_from (list_of c.args.self.now key) (next_in (list_of c.args.self.now key) c.args.at))
+    × (rest_from (list_of c.args.self.now key) (Some c.args.at) ≡ c.args.at ∷ rest_from (list_of c.args.self.now key)
+    (next_in (list_of c.args.self.now key) c.args.at))
 reads c key has =
     let low = listed_below c.self.inside.next.items c.self.inside.before.items c.args.self.now c.self.invariant c.self.view_is c.args.at (key, has) in
     let size : c.len.result ≡ length c.self.inside.before.items = omega arith in
     let at : c.index.result.now ≡ get_or c.self.inside.next.items c.args.at 0 =
     c.index.ensures ∙ get_or_default c.self.inside.next.items c.args.at c.index.result.now 0 (omega (arith, c.self.invariant.count)) in
-    let read = next_read c.self.inside.next.items c.self.inside.before.items c.args.self.now c.self.invariant c.self.view_is key c.args.at c.index.result.now has at in
+    let read = next_read c.self.inside.next.items c.self.inside.before.items c.args.self.now c.self.invariant c.self.view_is key c.args.at c.index.result.now
+    has at in
     (rw size at c.place.ensures ∙ read.0, read.1)
 
 pub returns-clause-next : goal.returns-clause-next

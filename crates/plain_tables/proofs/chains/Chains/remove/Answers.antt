@@ -6,7 +6,10 @@ use Rattle.plain_tables.proofs.chains.Chains.remove.Goals as goal
 
 pub unlink-requires-clause-place : goal.unlink-requires-clause-place
 unlink-requires-clause-place c =
-    let low = listed_below c.self.inside.next.items c.self.inside.before.items c.args.self.now c.self.invariant c.self.view_is c.args.at (c.args.key, c.requires) in
+    let low = listed_below c.self.inside.next.items c.self.inside.before.items c.args.self.now c.self.invariant c.self.view_is c.args.at (
+      c.args.key,
+      c.requires,
+    ) in
     omega arith
 
 pub unlink-requires-clause-root : goal.unlink-requires-clause-root

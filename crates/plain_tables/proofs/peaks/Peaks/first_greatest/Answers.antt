@@ -19,7 +19,8 @@ unwrap-requires c =
     let cells = p.cells.items in
     let some = (way_begins cells p.levels p.start c.self.invariant.shape c.self.invariant.peaks).within in
     let peak = c.index-peak.ensures ∙ get_or_default cells 0 c.index-peak.result.now 0 some in
-    let found = peak_under cells p.levels p.start c.self.invariant.shape c.self.invariant.peaks _ _ _ c.loop-level.invariant c.loop-level-test.true (omega arith) in
+    let found = peak_under cells p.levels p.start c.self.invariant.shape c.self.invariant.peaks _ _ _ c.loop-level.invariant c.loop-level-test.true
+    (omega arith) in
     let first = first_place (under cells (c.loop-level.start + c.loop-level.place)) (get_or cells 0 0) found.0 found.1 found.2 in
     let reads : c.place_of.result ≡ position (λ x. eqb x (get_or cells 0 0)) (under cells (c.loop-level.start + c.loop-level.place)) =
     rw (c.under.ensures, c.deref.ensures.value, peak) at c.place_of.ensures in

@@ -1,19 +1,20 @@
-use Rattle.std.proofs.Common.{◌<◌, ap, length, arith}
-use Rattle.std.proofs.lemmas.List.{get_or_read}
-use Rattle.tx_types.proofs.Writes.{length-writes_in, get_or-writes_in, no_target}
-use Rattle.tx_types.specs.declared.target.Target.{Target}
+use Rattle.std.proofs.Common.{◌<◌, ◌∙◌, ap, arith}
+use Rattle.byteorder.specs.Endian.{little_number}
+use Rattle.tx_types.proofs.Writes.{length-writes_in, cell_within, get_or-writes_in}
 use Rattle.tx_types.proofs.batch.Batch.page.Goals as goal
 
-pub index-requires : goal.index-requires
-index-requires c =
+pub cell_at-requires : goal.cell_at-requires
+cell_at-requires c =
     let below = rw (← c.self.view_is) at c.requires in
-    omega (arith, length-writes_in c.self.inside.page_bytes c.self.inside.targets.items c.self.inside.bytes.items)
+    rw c.deref.ensures.value
+    (cell_within c.self.inside.page_bytes c.self.inside.count c.self.inside.cells.items c.args.i c.self.invariant below)
 
 pub returns : goal.returns
 returns c =
-    let targets = c.self.inside.targets.items in
-    let bytes = c.self.inside.bytes.items in
+    let size = c.self.inside.page_bytes in
+    let count = c.self.inside.count in
+    let cells = c.self.inside.cells.items in
     let below = rw (← c.self.view_is) at c.requires in
-    let inside : c.args.i < length targets = omega (arith, length-writes_in c.self.inside.page_bytes targets bytes) in
-    rw (← c.self.view_is, get_or-writes_in c.self.inside.page_bytes targets bytes c.args.i inside)
-    (ap (λ (t : Target). t.page) (get_or_read targets c.args.i c.index.result.now inside c.index.ensures no_target))
+    let inside : c.args.i < count = omega (arith, length-writes_in size count cells) in
+    let cell = rw c.deref.ensures.value at c.cell_at.ensures.cell in
+    rw (← c.self.view_is, get_or-writes_in size count cells c.args.i inside) (c.read_u32.ensures ∙ ap (little_number 4) cell)
