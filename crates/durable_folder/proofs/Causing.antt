@@ -1,5 +1,6 @@
 -- Why a call failed, call after call.
-use Rattle.std.proofs.Common.{◌≡◌, ◌≢◌, ◌⊎◌, inl, inr, ℕ, ◌+◌, Bool, true, false, cond, ◌||◌, List, [], ◌∷◌, Option, None, Some, Result, Ok, Err, refl, sym, ap, ◌∙◌, arith}
+use Rattle.std.proofs.Common.{◌≡◌, ◌≢◌, ◌⊎◌, inl, inr, ℕ, ◌+◌, Bool, true, false, cond, ◌||◌, List, [], ◌∷◌, Option, None, Some, Result, Ok, Err, refl, sym, ap}
+use Rattle.std.proofs.Common.{◌∙◌, arith}
 use Rattle.std.specs.Result.{is_err, IsErr, IsErrAnd}
 use Rattle.std.specs.IoError.{error_kind}
 use Rattle.std.specs.declared.io.Error.{Error}
@@ -11,7 +12,8 @@ use Rattle.durable_folder.specs.declared.folder.Found.{Found}
 use Rattle.durable_folder.specs.FolderState.{FolderState, file_of, newest}
 use Rattle.durable_folder.specs.Calls.{Handle, OfFile, Finds, FindsOpen, Creates}
 use Rattle.durable_folder.specs.Answers.{refusal_of, sync_answer, unless_unable, IsLate, IsSettled}
-use Rattle.durable_folder.specs.Counting.{unless_so, is_refusal, is_unable, is_denied, is_absence, is_presence, is_passed_over, quiet, error_answer, never, answer_to, answer_to_sync_folder, noted_answer}
+use Rattle.durable_folder.specs.Counting.{unless_so, is_refusal, is_unable, is_denied, is_absence, is_presence, is_passed_over, quiet, error_answer, never}
+use Rattle.durable_folder.specs.Counting.{answer_to, answer_to_sync_folder, noted_answer}
 use Rattle.durable_folder.specs.Histories.{History, Turns, Runs, Answer}
 use Rattle.durable_folder.specs.Saving.{IsMade, Tries, FillEnds, Fills}
 use Rattle.durable_folder.specs.Causes.{HasFailed, IsLater, HasFault, HasCause, AtNow, IsNamed, TakenBelow, IsCause, IsPassedOver}

@@ -1,5 +1,6 @@
 -- A replacement, part after part.
-use Rattle.std.proofs.Common.{◌≡◌, ◌≢◌, inl, inr, ℕ, ◌+◌, ◌<◌, ◌≤◌, Bool, true, false, not, nat_eq, eq-eqb, cond, List, [], ◌∷◌, Option, None, Some, Result, Ok, Err, refl, sym, ap, ◌∙◌, arith}
+use Rattle.std.proofs.Common.{◌≡◌, ◌≢◌, inl, inr, ℕ, ◌+◌, ◌<◌, ◌≤◌, Bool, true, false, not, nat_eq, eq-eqb, cond, List, [], ◌∷◌, Option, None, Some, Result, Ok}
+use Rattle.std.proofs.Common.{Err, refl, sym, ap, ◌∙◌, arith}
 use Rattle.std.specs.Result.{IsErr}
 use Rattle.std.specs.IoError.{error_kind}
 use Rattle.std.specs.declared.io.Error.{Error}
@@ -13,7 +14,8 @@ use Rattle.durable_folder.specs.Histories.{History, Turns, Runs, IsTold, Answer}
 use Rattle.durable_folder.specs.Places.{folder_of}
 use Rattle.durable_folder.specs.declared.folder.Found.{Found}
 use Rattle.durable_folder.specs.declared.replacing.Owner.{Owner}
-use Rattle.durable_folder.specs.Saving.{KeepsOrReplaces, IsNew, IsMade, Prepares, WasRefused, Rests, FillEnds, Fills, Shifts, PutEnds, Puts, Aside, FinishSteps, FinishEnds, Ends, ReplaceEnds, ReplacesBy, Replaces, IsMounted, Mounted, ReplaceOrNotEnds, ReplacesOrNot}
+use Rattle.durable_folder.specs.Saving.{KeepsOrReplaces, IsNew, IsMade, Prepares, WasRefused, Rests, FillEnds, Fills, Shifts, PutEnds, Puts, Aside, FinishSteps}
+use Rattle.durable_folder.specs.Saving.{FinishEnds, Ends, ReplaceEnds, ReplacesBy, Replaces, IsMounted, Mounted, ReplaceOrNotEnds, ReplacesOrNot}
 use Rattle.durable_folder.proofs.Passing.{runs_of, runs_weaker, runs_then, runs_counted, runs_ended}
 use Rattle.durable_folder.proofs.Putting.{put_err}
 use Rattle.durable_folder.proofs.Replacements.{prepares_keeps, shifts_keeps, durable_put, aside_prepares, new_filled, differs}
@@ -224,7 +226,8 @@ by_refusal : (name : List ℕ) (owner : Option Owner) (bytes : List ℕ) (refuse
 by_refusal name owner bytes true e h k same more = (inl same, inr (omega (arith, more)))
 by_refusal name owner bytes false e h k same more = tt
 
-pub not_opened : {X : Type 0} (place : X → List ℕ) (folder name : List ℕ) (owner : Option Owner) (bytes : List ℕ) (e : Error) (n : Answer) (a b : Option History) →
+pub not_opened : {X : Type 0} (place : X → List ℕ) (folder name : List ℕ) (owner : Option Owner) (bytes : List ℕ) (e : Error) (n : Answer)
+    (a b : Option History) →
     n.refusals ≡ if_so (is_refusal (error_kind e)) → Turns (OpensFolder place folder (Err e)) n a b → ReplacesOrNot name owner bytes (refusal_of e) a b
 not_opened place folder name owner bytes e n a b counts turn =
     runs_weaker a b (runs_of (OpensFolder place folder (Err e)) n a b turn) (no_change_keeps name bytes)

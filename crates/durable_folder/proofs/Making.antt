@@ -37,7 +37,8 @@ made_by handle opened name beside r s t apart left same x = (
   },
 )
 
-pub made_new : {X : Type 0} (handle : X → Handle) (opened : X) (name beside : List ℕ) (n : Answer) (a b c : Option History) → beside ≢ name → IsLeftover name beside → Still a b →
+pub made_new : {X : Type 0} (handle : X → Handle) (opened : X) (name beside : List ℕ) (n : Answer) (a b c : Option History) → beside ≢ name →
+    IsLeftover name beside → Still a b →
     Turns (Creates handle beside (Ok opened)) n b c → Runs (Prepares name) (λ h k. (file : ℕ) × IsMade (handle opened) name beside file h.now k.now)
     a c
 made_new handle opened name beside n a b c apart left run turn =

@@ -6,7 +6,8 @@ use Rattle.durable_folder.specs.declared.folder.Found.{Found}
 use Rattle.durable_folder.specs.FolderState.{FolderState}
 use Rattle.durable_folder.specs.Calls.{Handle, OfFile, FindsOpen, Written, Writes, Synced, SyncsFile}
 use Rattle.durable_folder.specs.Histories.{History, Turns, Runs, Answer}
-use Rattle.durable_folder.specs.InPlace.{AfterOk, OneSuch, MayTear, AllTorn, WholeOrTorn, Overwrites, IsCleared, IsHeadless, FileRuns, ClearsHead, WritesRest, WritesHead, WritesOver}
+use Rattle.durable_folder.specs.InPlace.{AfterOk, OneSuch, MayTear, AllTorn, WholeOrTorn, Overwrites, IsCleared, IsHeadless, FileRuns, ClearsHead, WritesRest}
+use Rattle.durable_folder.specs.InPlace.{WritesHead, WritesOver}
 use Rattle.durable_folder.proofs.Heads.{after_err}
 use Rattle.durable_folder.proofs.Passing.{runs_of, runs_weaker, runs_then}
 use Rattle.durable_folder.proofs.Writing.{Change, of_file_stays, file_stays, file_weaker, file_then}

@@ -49,7 +49,8 @@ pub record IsMade (handle : Handle) (name beside : List ℕ) (file : ℕ) (s t :
 -- A new file of this name was made, or there was something of that name, or an error has changed nothing.
 abbrev pub Tries : {F : Type 0} → (F → Handle) → (F → List ℕ) → List ℕ → Result (Option F) Error → Option History → Option History → Type 0
 Tries handle beside text (Ok (Some new)) a b = (beside new ≡ text) × Turns (Creates handle text (Ok new)) quiet a b
-Tries handle beside text (Ok None) a b = (error : Error) × (error_kind error ≡ kind.AlreadyExists) × Turns (Creates handle text (Err error)) (error_answer is_passed_over error) a b
+Tries handle beside text (Ok None) a b = (error : Error) × (error_kind error ≡ kind.AlreadyExists) ×
+    Turns (Creates handle text (Err error)) (error_answer is_passed_over error) a b
 Tries handle beside text (Err error) a b =
     (error_kind error ≢ kind.AlreadyExists) × Turns (Creates handle text (Err error)) (error_answer is_passed_over error) a b
 

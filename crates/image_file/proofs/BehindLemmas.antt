@@ -33,7 +33,8 @@ cells_fit bytes shape head seen h =
     let all : length (drop head bytes) ≡ slots * cell_bytes shape.page_bytes = omega (arith, h.is_head, long, length-drop head bytes) in
     all ∙ ap (λ n. n * cell_bytes shape.page_bytes) (sym many)
 
-module _ (bytes : List ℕ) (shape : Shape) (head : ℕ) (seen : List Seen) (h : IsBehind bytes shape head seen) (fits : wrong_bytes (cell_bytes shape.page_bytes) seen (drop head bytes) ≡ None) where
+module _ (bytes : List ℕ) (shape : Shape) (head : ℕ) (seen : List Seen) (h : IsBehind bytes shape head seen)
+    (fits : wrong_bytes (cell_bytes shape.page_bytes) seen (drop head bytes) ≡ None) where
   head_is : head ≡ 64 + slots_of (shape_in bytes)
   head_is = h.is_head ∙ ap (λ (s : Shape). 64 + slots_of s) h.is_shape
 

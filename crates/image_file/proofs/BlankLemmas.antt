@@ -49,7 +49,8 @@ filled_up front size len count x long whole =
 pub blank_parts : (header states all : List ℕ) (head size header_len states_len : ℕ) (shape : Shape) → length header ≡ 64
     → head ≡ 64 + slots_of shape → size ≡ image_bytes shape → header_len ≡ length header → states_len ≡ length states
     → states ≡ take head header ++ replicate (head - header_len) 0 → all ≡ take size states ++ replicate (size - states_len) 255
-    → all ≡ header ++ map (λ slot. state_byte (seen_of slot)) (replicate (slots_of shape) blank) ++ flat_map (cell_of shape.page_bytes) (replicate (slots_of shape) blank)
+    → all ≡ header ++ map (λ slot. state_byte (seen_of slot)) (replicate (slots_of shape) blank) ++ flat_map (cell_of shape.page_bytes)
+    (replicate (slots_of shape) blank)
 blank_parts header states all head size header_len states_len shape long head_is size_is header_long states_long states_are all_are =
     let count = slots_of shape in
     let n = shape.page_bytes in
@@ -57,4 +58,5 @@ blank_parts header states all head size header_len states_len shape long head_is
     let front_long : length states ≡ 64 + count = rw front (simp (length-append, length-replicate) (omega arith)) in
     let whole : size ≡ length states + count * cell_bytes n = omega arith in
     rw (states-blank count, cells-blank n count)
-    (all_are ∙ filled_up states size states_len (count * cell_bytes n) 255 states_long whole ∙ ap (λ bytes. bytes ++ replicate (count * cell_bytes n) 255) front)
+    (all_are ∙ filled_up states size states_len (count * cell_bytes n) 255 states_long whole ∙
+    ap (λ bytes. bytes ++ replicate (count * cell_bytes n) 255) front)

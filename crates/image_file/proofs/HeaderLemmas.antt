@@ -1,5 +1,6 @@
 -- A header and its numbers.
-use Rattle.std.proofs.Common.{◌≡◌, ℕ, zero, suc, ◌+◌, ◌-◌, ◌*◌, ◌^◌, ◌<◌, ◌≤◌, Bool, true, false, not, eqb, ◌||◌, ◌⊎◌, List, [], ◌∷◌, ◌++◌, length, take, drop, replicate, slice_range, Option, Some, None, Result, Ok, Err, refl, sym, ap, subst, ◌∙◌, inl, inr, arith}
+use Rattle.std.proofs.Common.{◌≡◌, ℕ, zero, suc, ◌+◌, ◌-◌, ◌*◌, ◌^◌, ◌<◌, ◌≤◌, Bool, true, false, not, eqb, ◌||◌, ◌⊎◌, List, [], ◌∷◌, ◌++◌, length, take, drop}
+use Rattle.std.proofs.Common.{replicate, slice_range, Option, Some, None, Result, Ok, Err, refl, sym, ap, subst, ◌∙◌, inl, inr, arith}
 use Rattle.std.specs.Prelude.{is_some, unwrap_or, nat_le, nat_eq, codes, if◌then◌else◌}
 use Rattle.std.specs.Int.{w32, to_le_bytes}
 use Rattle.std.specs.Option.{option_map, option_or}
@@ -23,7 +24,8 @@ use Rattle.tx_types.proofs.ConfigLemmas.{checked_config}
 use Rattle.flash_model.specs.Flash.{Extras, no_extras}
 use Rattle.lane_scan.specs.Scans.{all_equal}
 use Rattle.image_file.specs.Spelling.{first_magic, second_magic, code_of, numbers_of, header_of}
-use Rattle.image_file.specs.Rules.{number_at, protocol_of, config_in, is_second, told_in, extras_in, reserved_from, is_allowed, shape_in, unless, broken_rest, broken_header}
+use Rattle.image_file.specs.Rules.{number_at, protocol_of, config_in, is_second, told_in, extras_in, reserved_from, is_allowed, shape_in, unless, broken_rest}
+use Rattle.image_file.specs.Rules.{broken_header}
 use Rattle.image_file.specs.declared.error.ImageError.{ImageError}
 use Rattle.image_file.specs.declared.error.ImageError.TheVariants as error
 use Rattle.image_file.proofs.ImageLemmas.{all_equal-is}
@@ -38,9 +40,11 @@ number_again : (offset : ℕ) (bytes : List ℕ) → offset + 4 ≤ length bytes
 unfolding number_at
 number_again offset bytes room h =
     let four : offset + 4 - offset ≡ 4 = omega arith in
-    rw four (le_bytes_4 (take 4 (drop offset bytes)) _ (omega (arith, length-take 4 (drop offset bytes), length-drop offset bytes)) (IsBytes-take 4 (drop offset bytes) (IsBytes-drop offset bytes h)).at refl)
+    rw four (le_bytes_4 (take 4 (drop offset bytes)) _ (omega (arith, length-take 4 (drop offset bytes), length-drop offset bytes))
+    (IsBytes-take 4 (drop offset bytes) (IsBytes-drop offset bytes h)).at refl)
 
-numbers_again : (k offset : ℕ) (bytes : List ℕ) → offset + 4 * k ≤ length bytes → IsBytes bytes → flat_map (to_le_bytes w32) (numbers_from offset k bytes) ≡ take (4 * k) (drop offset bytes)
+numbers_again : (k offset : ℕ) (bytes : List ℕ) → offset + 4 * k ≤ length bytes → IsBytes bytes →
+    flat_map (to_le_bytes w32) (numbers_from offset k bytes) ≡ take (4 * k) (drop offset bytes)
 unfolding numbers_from
 numbers_again zero offset bytes room h = refl
 numbers_again (suc k) offset bytes room h =
@@ -297,7 +301,13 @@ module _ (digit : ℕ) (c : Config) (extras : Extras) (rest : List ℕ) (checks 
 
     is_allowed-with : 1 ≤ extras.allowance → is_allowed (told_in whole) ≡ true
     is_allowed-with some =
-        rw (number-allowance, number-retired, le-leb 1 extras.allowance some, le-leb extras.allowance 1024 few, le-leb extras.retired extras.allowance within) refl
+        rw (
+          number-allowance,
+          number-retired,
+          le-leb 1 extras.allowance some,
+          le-leb extras.allowance 1024 few,
+          le-leb extras.retired extras.allowance within,
+        ) refl
 
 module _ (c : Config) (rest : List ℕ) (checks : checked c ≡ Ok (shape_of c)) where
   -- the first magic

@@ -1,5 +1,6 @@
 -- States and bytes on one side, and what the slots hold on the other.
-use Rattle.std.proofs.Common.{◌≡◌, ℕ, zero, suc, ◌+◌, ◌*◌, true, false, not, eqb, List, [], ◌∷◌, ◌++◌, map, length, take, drop, replicate, Some, None, refl, ap, ◌∙◌, inl, inr, arith}
+use Rattle.std.proofs.Common.{◌≡◌, ℕ, zero, suc, ◌+◌, ◌*◌, true, false, not, eqb, List, [], ◌∷◌, ◌++◌, map, length, take, drop, replicate, Some, None, refl, ap}
+use Rattle.std.proofs.Common.{◌∙◌, inl, inr, arith}
 use Rattle.std.specs.Prelude.{is_none, unwrap_or}
 use Rattle.std.specs.List.{All, flat_map, zip}
 use Rattle.std.specs.Simd.{first_chunks}
@@ -101,7 +102,8 @@ cells-image_of n [] (b ∷ bytes) long none = absurd (omega arith)
 cells-image_of n (how ∷ seen) cells long none =
     let size = cell_bytes n in
     let cell = take size cells in
-    let rest = position-rest (λ (slot : Seen × List ℕ). not (is_filled slot.0 slot.1)) (how, cell) (zip seen (first_chunks size (length seen) (drop size cells))) none in
+    let rest = position-rest (λ (slot : Seen × List ℕ). not (is_filled slot.0 slot.1)) (how, cell)
+    (zip seen (first_chunks size (length seen) (drop size cells))) none in
     let cell_long : length cell ≡ size = omega (arith, length-take size cells) in
     let others_long : length (drop size cells) ≡ length seen * size = omega (arith, length-drop size cells) in
     let first = cell_of-contents_of n how cell (IsFilled-tested n how cell cell_long (not-false _ rest.0)) in
@@ -139,7 +141,8 @@ module _ (n : ℕ) where
       let long = length-cell_of n slot this in
       let rest = flat_map (cell_of n) image in
       let first = ap (contents_of n (seen_of slot)) (take_at (cell_of n slot) rest (cell_bytes n) long) ∙ contents_of-cell_of n slot this in
-      let others = ap (image_of n (map seen_of image)) (drop_at (cell_of n slot) rest (cell_bytes n) long) ∙ image_of-cells image (All-tail (IsWhole n) slot image whole) in
+      let others = ap (image_of n (map seen_of image)) (drop_at (cell_of n slot) rest (cell_bytes n) long) ∙
+      image_of-cells image (All-tail (IsWhole n) slot image whole) in
       cc
 
   pub wrong_bytes-cells : (image : List Contents) → All (IsWhole n) image → wrong_bytes (cell_bytes n) (map seen_of image) (flat_map (cell_of n) image) ≡ None

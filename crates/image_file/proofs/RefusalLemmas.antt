@@ -7,7 +7,8 @@ use Rattle.tx_types.specs.declared.config.Config.{Config}
 use Rattle.flash_model.specs.Flash.{Contents, Extras}
 use Rattle.mem_flash.specs.Slots.{cell_bytes}
 use Rattle.image_file.specs.Spelling.{Spells}
-use Rattle.image_file.specs.Rules.{config_in, image_in, extras_in, reading, shape_in, states_in, cells_in, all_seen, wrong_state, wrong_bytes, number_at, broken_header, broken_slots, first_broken, IsRefusal}
+use Rattle.image_file.specs.Rules.{config_in, image_in, extras_in, reading, shape_in, states_in, cells_in, all_seen, wrong_state, wrong_bytes, number_at}
+use Rattle.image_file.specs.Rules.{broken_header, broken_slots, first_broken, IsRefusal}
 use Rattle.image_file.specs.declared.error.ImageError.{ImageError}
 use Rattle.image_file.specs.declared.error.ImageError.TheVariants as error
 use Rattle.image_file.proofs.SpellingLemmas.{first_broken-spelling}

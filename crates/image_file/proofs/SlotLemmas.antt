@@ -29,14 +29,16 @@ module _ (size : ℕ) (seen : List Seen) (cells : List ℕ) where
       get_or-zip seen (first_chunks size (length seen) cells) k (Blank, []) inside chunks
       ∙ ap (λ cell. (get_or seen k Blank, cell)) (get_or-first_chunks size (length seen) cells k [] inside)
 
-  wrong_is : (k : ℕ) → k < length seen → (b : Bool) → is_filled (get_or seen k Blank) (slice_chunk cells size k) ≡ b → is_wrong (get_or slots k (Blank, [])) ≡ not b
+  wrong_is : (k : ℕ) → k < length seen → (b : Bool) → is_filled (get_or seen k Blank) (slice_chunk cells size k) ≡ b →
+      is_wrong (get_or slots k (Blank, [])) ≡ not b
   wrong_is k inside b is = ap is_wrong (slot_is k inside) ∙ ap not is
 
   pub wrong_bytes-at : (i : ℕ) → i < length seen
       → ((k : ℕ) → k < i → is_filled (get_or seen k Blank) (slice_chunk cells size k) ≡ true)
       → is_filled (get_or seen i Blank) (slice_chunk cells size i) ≡ false → wrong_bytes size seen cells ≡ Some i
   wrong_bytes-at i inside before here =
-      position-at is_wrong slots (Blank, []) i (omega (arith, length-slots)) (λ k less. wrong_is k (omega arith) true (before k less)) (wrong_is i inside false here)
+      position-at is_wrong slots (Blank, []) i (omega (arith, length-slots)) (λ k less. wrong_is k (omega arith) true (before k less))
+      (wrong_is i inside false here)
 
   pub wrong_bytes-none : ((k : ℕ) → k < length seen → is_filled (get_or seen k Blank) (slice_chunk cells size k) ≡ true) → wrong_bytes size seen cells ≡ None
   wrong_bytes-none all =

@@ -1,5 +1,6 @@
 -- A configuration and slots have one spelling, and what breaks no rule is one.
-use Rattle.std.proofs.Common.{◌≡◌, ◌↔◌, ℕ, ◌+◌, ◌-◌, ◌*◌, ◌≤◌, eqb, List, ◌++◌, map, length, take, drop, slice_range, Option, Some, None, Ok, Err, refl, sym, ap, subst, ◌∙◌, arith}
+use Rattle.std.proofs.Common.{◌≡◌, ◌↔◌, ℕ, ◌+◌, ◌-◌, ◌*◌, ◌≤◌, eqb, List, ◌++◌, map, length, take, drop, slice_range, Option, Some, None, Ok, Err, refl, sym}
+use Rattle.std.proofs.Common.{ap, subst, ◌∙◌, arith}
 use Rattle.std.specs.Option.{option_map, option_map_or}
 use Rattle.std.specs.List.{flat_map}
 use Rattle.std.proofs.lemmas.Bool.{eqb-true, eq-eqb}
@@ -18,10 +19,12 @@ use Rattle.flash_model.specs.Calls.{seen_of}
 use Rattle.mem_flash.specs.Slots.{cell_bytes, cell_of}
 use Rattle.mem_flash.proofs.Images.{length-image_of, All-image_of}
 use Rattle.image_file.specs.Spelling.{header_of, state_byte, spelling, CanBeSpelled, Spells}
-use Rattle.image_file.specs.Rules.{config_in, extras_in, shape_in, states_in, cells_in, all_seen, image_in, wrong_state, wrong_bytes, number_at, broken_header, broken_slots, first_broken, reading}
+use Rattle.image_file.specs.Rules.{config_in, extras_in, shape_in, states_in, cells_in, all_seen, image_in, wrong_state, wrong_bytes, number_at, broken_header}
+use Rattle.image_file.specs.Rules.{broken_slots, first_broken, reading}
 use Rattle.image_file.specs.declared.error.ImageError.{ImageError}
 use Rattle.image_file.specs.declared.error.ImageError.TheVariants as error
-use Rattle.image_file.proofs.ImageLemmas.{states-all_seen, states-image_of, cells-image_of, all_seen-states, wrong_state-states, length-cells, image_of-cells, wrong_bytes-cells}
+use Rattle.image_file.proofs.ImageLemmas.{states-all_seen, states-image_of, cells-image_of, all_seen-states, wrong_state-states, length-cells, image_of-cells}
+use Rattle.image_file.proofs.ImageLemmas.{wrong_bytes-cells}
 use Rattle.image_file.proofs.HeaderLemmas.{HeaderHolds, Reads, passed, passes, header_holds, header_passes, header_again, length-header_of, header_reads}
 
 -- ---- the rules behind the header, each by itself
@@ -93,8 +96,10 @@ module _ (bytes : List ℕ) (fits : IsBytes bytes) (header : HeaderHolds bytes) 
       let cells_are = cells-image_of n seen (cells_in bytes) length-cells_in slots.bytes_hold in
       let header_is = (header_again bytes fits header).header in
       let many : 64 + count - 64 ≡ count = omega arith in
-      let front : take 64 bytes ++ states_in bytes ≡ take (64 + count) bytes = ap (λ k. take 64 bytes ++ take k (drop 64 bytes)) many ∙ sym (take-add 64 count bytes) in
-      let parts : header_of (config_in bytes) (extras_in bytes) ++ map (λ slot. state_byte (seen_of slot)) (image_in bytes) ++ flat_map (cell_of n) (image_in bytes) ≡ bytes =
+      let front : take 64 bytes ++ states_in bytes ≡ take (64 + count) bytes = ap (λ k. take 64 bytes ++ take k (drop 64 bytes)) many ∙
+      sym (take-add 64 count bytes) in
+      let parts : header_of (config_in bytes) (extras_in bytes) ++ map (λ slot. state_byte (seen_of slot)) (image_in bytes) ++ flat_map (cell_of n)
+      (image_in bytes) ≡ bytes =
       rw (header_is, states_are, cells_are) (ap (λ bs. bs ++ cells_in bytes) front ∙ take-append-drop (64 + count) bytes) in
       sym parts
 

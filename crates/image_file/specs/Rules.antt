@@ -1,5 +1,6 @@
 -- The rules that the bytes of an image file have to meet, and what such bytes spell.
-use Rattle.std.specs.Prelude.{◌≡◌, ℕ, ◌+◌, ◌==◌, Bool, true, not, ◌&&◌, ◌||◌, nat_eq, nat_le, List, map, length, drop, slice_range, position, Option, Some, None, is_some, is_none, unwrap_or, Result, Ok, Err, if◌then◌else◌}
+use Rattle.std.specs.Prelude.{◌≡◌, ℕ, ◌+◌, ◌==◌, Bool, true, not, ◌&&◌, ◌||◌, nat_eq, nat_le, List, map, length, drop, slice_range, position, Option, Some}
+use Rattle.std.specs.Prelude.{None, is_some, is_none, unwrap_or, Result, Ok, Err, if◌then◌else◌}
 use Rattle.std.specs.Option.{option_map, option_or, option_map_or}
 use Rattle.std.specs.Result.{result_err}
 use Rattle.std.specs.List.{starts_with, zip}

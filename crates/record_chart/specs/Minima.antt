@@ -1,5 +1,6 @@
 -- Least back versions of the records of a page, from each on.
-use Rattle.std.specs.Prelude.{◌≡◌, ℕ, zero, suc, ◌+◌, ◌<◌, ◌≤◌, min, ◌==◌, ◌&&◌, Bool, true, nat_lt, nat_le, if◌then◌else◌, Option, None, Some, List, length, slice_get, slice_index_or}
+use Rattle.std.specs.Prelude.{◌≡◌, ℕ, zero, suc, ◌+◌, ◌<◌, ◌≤◌, min, ◌==◌, ◌&&◌, Bool, true, nat_lt, nat_le, if◌then◌else◌, Option, None, Some, List, length}
+use Rattle.std.specs.Prelude.{slice_get, slice_index_or}
 use Rattle.tx_types.specs.declared.record.Rec.{Rec}
 use Rattle.record_list.specs.declared.found.Found.{Found}
 use Rattle.record_list.specs.Records.{record_at}

@@ -26,6 +26,10 @@ IsKnown seen i = (orbit : Orbit) × (seen_at seen i ≡ Known orbit)
 abbrev pub LeadsToKnown : List (Option ℕ) → List Seen → ℕ → Type 0
 LeadsToKnown graph seen i = (j : ℕ) → next_of graph i ≡ Some j → IsKnown seen j
 
+-- nothing follows this node but itself
+abbrev pub IsAlone : List (Option ℕ) → ℕ → Type 0
+IsAlone graph i = (j : ℕ) → next_of graph i ≡ Some j → j ≡ i
+
 -- a path is followed: each node of it but the first follows the one before, and the places of its nodes
 -- are noted. What is known is right, and leads to what is known
 pub record IsFollowed (graph : List (Option ℕ)) (seen : List Seen) (path : List ℕ) : Type 0 where

@@ -164,7 +164,7 @@ impl Chart {
     }
 
     /// Where the links of newest records lead from that of a page, of which this is the newest version.
-    #[inline]
+    #[inline(always)]
     fn orbit_of_newest(&self, page: u32, version: u64) -> Option<Orbit>
         requires { version ≡ newest self.now page }
         ensures { IsOrbitOfNewest self.now page result }
@@ -181,7 +181,7 @@ impl Chart {
     }
 
     /// What decides the verdict on the newest record of a page, of which this is the version.
-    #[inline]
+    #[inline(always)]
     fn why_of_newest(&self, protocol: Protocol, logical: u32, page: u32, version: u64) -> Why
         requires { version ≡ newest self.now page }
         ensures { result ≡ why protocol self.now logical page }
@@ -200,6 +200,7 @@ impl Chart {
     }
 
     /// The current version of a page, 0 for none.
+    #[inline(always)]
     pub fn current(&self, protocol: Protocol, logical: u32, page: u32) -> u64
         ensures { result ≡ cur protocol self.now logical page }
     {

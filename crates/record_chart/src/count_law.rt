@@ -38,7 +38,7 @@ pub fn counts(chart: &Chart, orbits: &Orbits, list: &[Found]) -> Option<Breach>
 }
 
 /// Whether a record has a count.
-fn has_count(list: &[Found]) -> bool
+pub fn has_count(list: &[Found]) -> bool
     ensures { result ≡ false → All (λ f. f.rec.count ≡ 0) list.now }
 {
     list.iter().any(|found| found.rec.count != 0)

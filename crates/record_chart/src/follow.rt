@@ -1,6 +1,6 @@
-ghost use Rattle.std.specs.Prelude.{◌≡◌, ◌≢◌, ℕ, ◌-◌, ◌<◌, ◌^◌, [], ◌∷◌, ◌++◌, All, IfOk, OnOk, length, take, drop, slice_set};
-ghost use Rattle.record_chart.specs.Orbits.{IsGraph};
-ghost use Rattle.record_chart.specs.Seen.{seen_at, noted, orbit_before, MayGrow, IsFollowed, EndsBy, StaysSeen};
+ghost use Rattle.std.specs.Prelude.{◌≡◌, ◌≢◌, ℕ, ◌-◌, ◌<◌, ◌^◌, [], ◌∷◌, ◌++◌, All, IfOk, IfSome, OnOk, length, take, drop, slice_set};
+ghost use Rattle.record_chart.specs.Orbits.{IsGraph, IsOrbit};
+ghost use Rattle.record_chart.specs.Seen.{seen_at, noted, orbit_before, MayGrow, IsFollowed, EndsBy, StaysSeen, IsAlone};
 ghost use Rattle.record_chart.specs.declared.orbit.Orbit.TheVariants.{Round};
 ghost use Rattle.record_chart.specs.declared.seen.Seen.TheVariants.{New, OnPath};
 
@@ -11,7 +11,55 @@ use std::alloc::AllocError;
 
 /// Finds the orbits of a node that is new, and of each new one to which it leads. The path, which is
 /// empty, is room to work in, and is empty again.
+#[inline(always)]
 pub fn find(
+    graph: &[Option<u32>],
+    start: u32,
+    seen: &mut [Seen],
+    path: &mut Vec<u32>,
+) -> Result<(), AllocError>
+    requires graph { IsGraph graph.now }
+    requires size { length graph.now < 2 ^ 32 }
+    requires start { start < length graph.now }
+    requires new { seen_at seen.old start ≡ New }
+    requires path { path.old.items ≡ [] }
+    requires followed { IsFollowed graph.now seen.old [] }
+    ensures path { OnOk result (path.new.items ≡ []) }
+    ensures followed { OnOk result (IsFollowed graph.now seen.new []) }
+    ensures seen { OnOk result (StaysSeen seen.old seen.new) }
+    ensures start { OnOk result (seen_at seen.new start ≢ New) }
+{
+    match orbit_alone(graph, start) {
+        Some(orbit) => {
+            seen[start as usize] = Seen::Known(orbit);
+            Ok(())
+        }
+        None => find_along(graph, start, seen, path),
+    }
+}
+
+/// The orbit of a node that has no next one, or is its own; nothing for any other.
+#[inline(always)]
+fn orbit_alone(graph: &[Option<u32>], node: u32) -> Option<Orbit>
+    requires { node < length graph.now }
+    ensures orbit { IfSome result (IsOrbit graph.now node) }
+    ensures alone { IfSome result (λ _. IsAlone graph.now node) }
+{
+    match graph[node as usize] {
+        None => Some(Orbit::Ends { after: 0, at: node }),
+        Some(next) => {
+            if next == node {
+                Some(Orbit::Round { length: 1 })
+            } else {
+                None
+            }
+        }
+    }
+}
+
+/// The same along a path.
+#[inline(never)]
+fn find_along(
     graph: &[Option<u32>],
     start: u32,
     seen: &mut [Seen],

@@ -39,7 +39,7 @@ fn straddling_of_few(records: &[Found], starts: &[u32], name: Link) -> u64
 }
 
 /// The greatest version of one of these records that straddles this name, 0 for none.
-#[tactic(auto, using(record_list::proofs::Greatest::greatest_step))]
+#[tactic(auto, using(record_list::proofs::OfFacts::Greatest::greatest_step))]
 fn greatest_straddling(group: &[Found], name: Link) -> u64
     ensures { result ≡ straddling group.now name }
 {
@@ -127,7 +127,7 @@ pub fn straddling_up_to(records: &[Found], starts: &[u32], name: Link, top: u64)
 }
 
 /// The greatest version, up to `top`, of one of these records that straddles this name, 0 for none.
-#[tactic(auto, using(record_list::proofs::Greatest::greatest_step))]
+#[tactic(auto, using(record_list::proofs::OfFacts::Greatest::greatest_step))]
 fn greatest_up_to(group: &[Found], name: Link, top: u64) -> u64
     ensures { result ≡ greatest (straddling_upto top name) group.now }
 {

@@ -120,7 +120,7 @@ pub fn named<'a>(records: &'a [Found], starts: &[u32], name: Link) -> &'a [Found
 }
 
 /// The link of the first record with this name, and the name itself where no record has it.
-#[tactic(auto, using(crate::proofs::WalkOrbits::link_found, crate::proofs::WalkOrbits::link_nowhere))]
+#[tactic(auto, using(crate::proofs::OfWalk::WalkOrbits::link_found, crate::proofs::OfWalk::WalkOrbits::link_nowhere))]
 pub fn link_of(records: &[Found], starts: &[u32], name: Link) -> Link
     requires order { IsInOrder records.now }
     requires starts { AreStarts records.now starts.now }
@@ -134,7 +134,7 @@ pub fn link_of(records: &[Found], starts: &[u32], name: Link) -> Link
 }
 
 /// The back version of the first record with this name, 0 where no record has it.
-#[tactic(auto, using(crate::proofs::WalkOrbits::back_found, crate::proofs::WalkOrbits::back_nowhere))]
+#[tactic(auto, using(crate::proofs::OfWalk::WalkOrbits::back_found, crate::proofs::OfWalk::WalkOrbits::back_nowhere))]
 pub fn back_of(records: &[Found], starts: &[u32], name: Link) -> u64
     requires order { IsInOrder records.now }
     requires starts { AreStarts records.now starts.now }

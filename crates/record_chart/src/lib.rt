@@ -24,7 +24,7 @@ mod theorems;
 mod walks;
 
 pub use chart::Chart;
-pub use count_law::{counts, name_orbits};
+pub use count_law::{counts, has_count, name_orbits};
 pub use in_order::sort_by_link;
 pub use orbit::Orbit;
 pub use orbits::Orbits;

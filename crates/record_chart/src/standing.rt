@@ -9,8 +9,8 @@ use std::alloc::{AllocError, Global};
 use std::marker::Model;
 use tx_types::{Link, Protocol, Rec};
 
-/// A chart, and where its pages stand under a protocol: the current version of each, and the least back
-/// versions of the records up to it.
+/// A chart, and where its pages stand under a protocol: the current version of each, and under Back Pointer
+/// Cyclic Commit the least back versions of the records up to it.
 #[derive(Debug, Drop)]
 pub struct Standing {
     chart: Chart,
@@ -43,7 +43,10 @@ impl Standing {
         ensures { IfOk result (λ s. s ≡ record { protocol = protocol; logical = logical; list = chart }) }
     {
         let current = current_versions(alloc, &chart, protocol, logical)?;
-        let settled = chart.minima_up_to(alloc, &current)?;
+        let settled = match protocol {
+            Protocol::Scc => None,
+            Protocol::Bpcc => chart.minima_up_to(alloc, &current)?,
+        };
         Ok(Standing {
             chart,
             protocol,

@@ -1,5 +1,5 @@
 //! Where the walks along the links of newest records lead, in records that are in order of their names.
-ghost use Rattle.std.specs.Prelude.{◌≡◌, ◌<◌, ◌^◌, [], IfOk, IfSome, length, map, position};
+ghost use Rattle.std.specs.Prelude.{◌≡◌, ◌<◌, ◌^◌, [], IfOk, IfSome, length, map, position, take};
 ghost use Rattle.record_list.specs.Records.{has_name, record_at};
 ghost use Rattle.record_list.specs.Verdict.{passed};
 ghost use Rattle.record_chart.specs.Minima.{AreMinima};
@@ -28,9 +28,34 @@ pub fn targets(
     let mut targets = Vec::with_capacity(alloc, records.len())?;
     let mut near = 0;
     for at in 0..records.len() {
-        targets.push(target(records, starts, at as u32, &mut near))?;
+        let target = next_target(records, starts, &targets, at as u32, &mut near);
+        targets.push(target)?;
     }
     Ok(targets)
+}
+
+/// The place of the first record that the link of the one at this place names, by those of the records before: it is
+/// that of the last of them where this has the same link.
+#[inline(always)]
+fn next_target(
+    records: &[Found],
+    starts: &[u32],
+    before: &[Option<u32>],
+    at: u32,
+    near: &mut usize,
+) -> Option<u32>
+    requires order { IsInOrder records.now }
+    requires starts { AreStarts records.now starts.now }
+    requires few { length records.now < 2 ^ 32 }
+    requires within { at < length records.now }
+    requires before { before.now ≡ map (λ f. position (λ g. has_name f.rec.next g.rec) records.now)
+        (take at records.now) }
+    ensures { result ≡ position (λ g. has_name (record_at records.now at).next g.rec) records.now }
+{
+    if at > 0 && records[at as usize - 1].rec.next == records[at as usize].rec.next {
+        return before[at as usize - 1];
+    }
+    target(records, starts, at, near)
 }
 
 /// The place of the first record that the link of the one at this place names.

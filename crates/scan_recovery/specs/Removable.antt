@@ -1,5 +1,6 @@
 -- Which blocks hold a record that is current or held and stands nowhere else.
-use Rattle.std.specs.Prelude.{◌≡◌, ℕ, ◌<◌, ◌==◌, Bool, false, ◌&&◌, ◌||◌, not, nat_lt, if◌then◌else◌, Option, None, Some, List, length, slice_index_or, position, All}
+use Rattle.std.specs.Prelude.{◌≡◌, ℕ, ◌<◌, ◌==◌, Bool, false, ◌&&◌, ◌||◌, not, nat_lt, if◌then◌else◌, Option, None, Some, List, length, slice_index_or}
+use Rattle.std.specs.Prelude.{position, All}
 use Rattle.std.specs.List.{list_any}
 use Rattle.tx_types.specs.declared.config.Protocol.{Protocol}
 use Rattle.tx_types.specs.declared.config.Protocol.TheVariants.{Scc, Bpcc}

@@ -1,12 +1,17 @@
 -- What searches among the records of a scan find.
-use Rattle.std.specs.Prelude.{◌≡◌, ℕ, suc, ◌<◌, ◌≤◌, ◌-◌, Bool, true, false, ◌&&◌, not, nat_lt, if◌then◌else◌, Option, None, Some, List, length, slice_index_or, slice_set, All, Any, Contains}
+use Rattle.std.specs.Prelude.{◌≡◌, ℕ, suc, ◌<◌, ◌≤◌, ◌-◌, Bool, true, false, ◌&&◌, not, nat_lt, if◌then◌else◌, Option, None, Some, List, length, slice_index_or}
+use Rattle.std.specs.Prelude.{slice_set, All, Any, Contains}
+use Rattle.tx_types.specs.declared.config.Protocol.TheVariants.{Scc}
 use Rattle.tx_types.specs.declared.config.Slot.{Slot}
 use Rattle.tx_types.specs.declared.record.Link.{Link}
 use Rattle.tx_types.specs.declared.record.Rec.{Rec}
 use Rattle.record_list.specs.declared.found.Found.{Found}
 use Rattle.record_list.specs.Records.{name_of, has_name, is_same, is_present, record_at, nothing}
 use Rattle.record_list.specs.SoundList.{follow, CurrentIsPresent, LinkHasCounted, LooseIsShown, LooseEnds}
+use Rattle.record_chart.specs.Charts.{is_below}
 use Rattle.record_chart.specs.Standings.{Judged}
+use Rattle.record_chart.specs.declared.orbit.Orbit.{Orbit}
+use Rattle.record_chart.specs.Orbits.{AreOrbits}
 use Rattle.record_chart.specs.NameGraph.{name_graph}
 
 -- the lowest slot of a record of which the fact does not hold, nothing where it holds of each
@@ -49,22 +54,57 @@ NextDiffers list k = has_name (name_of (record_at list (suc k))) (record_at list
 abbrev pub LeadsOut : List Found → Link → Type 0
 LeadsOut list name = (n : ℕ) × (is_present list (follow list name n) ≡ false)
 
+-- the orbits of all links are known, or the protocol is the one of which law 7 does not speak
+abbrev pub KnowsOrbits : Judged → Option (List Orbit) → Type 0
+KnowsOrbits s None = s.protocol ≡ Scc
+KnowsOrbits s (Some orbits) = AreOrbits (name_graph s.list) orbits
+
 -- any two records with one link have one name
 abbrev pub HaveOwnLinks : List Found → Type 0
 HaveOwnLinks list = (i j : ℕ) → i < length list → j < length list →
     (record_at list i).next ≡ (record_at list j).next → name_of (record_at list i) ≡ name_of (record_at list j)
 
--- of each of the first records whose link leads to a place, the one that is noted there has its name
-abbrev pub AreLinkers : List Found → List (Option ℕ) → ℕ → Type 0
-AreLinkers list linkers n = (k place : ℕ) → k < n → slice_index_or (name_graph list) k None ≡ Some place →
-    (other : ℕ) × (slice_index_or linkers place None ≡ Some other) × (other < length list)
-    × (name_of (record_at list other) ≡ name_of (record_at list k))
+-- any two of the first records whose links lead to one place have one name
+abbrev pub AreLinkedOnce : List Found → ℕ → Type 0
+AreLinkedOnce list n = (i j place : ℕ) → slice_index_or (name_graph list) i None ≡ Some place → i < n →
+    slice_index_or (name_graph list) j None ≡ Some place → j < n → name_of (record_at list i) ≡ name_of (record_at list j)
 
--- a record whose link leads to a place is noted there, where none is; whether the one that is noted has its name
-abbrev pub NotesLinker : List Found → List (Option ℕ) → List (Option ℕ) → ℕ → ℕ → Option ℕ → Bool → Type 0
-NotesLinker list old new place at None same = (new ≡ slice_set old place (Some at)) × (same ≡ true)
-NotesLinker list old new place at (Some other) same =
-    (new ≡ old) × (same ≡ has_name (name_of (record_at list at)) (record_at list other))
+-- the places to which the links of the first records lead are marked
+abbrev pub AreMarked : List Found → List Bool → ℕ → Type 0
+AreMarked list linked n = (k place : ℕ) → k < n → slice_index_or (name_graph list) k None ≡ Some place →
+    slice_index_or linked place false ≡ true
+
+-- the record before this one has its name, and leads to this place
+pub record IsAsBefore (list : List Found) (targets : List (Option ℕ)) (place at : ℕ) : Type 0 where
+  pub some : 0 < at
+  pub there : slice_index_or targets (at - 1) None ≡ Some place
+  pub name : has_name (name_of (record_at list at)) (record_at list (at - 1)) ≡ true
+
+-- a place to which the link of a record leads is marked, where it is not; where it is, whether the record is as the
+-- one before
+abbrev pub NotesLink : List Found → List (Option ℕ) → List Bool → List Bool → ℕ → ℕ → Bool → Bool → Type 0
+NotesLink list targets old new place at false once = (new ≡ slice_set old place true) × (once ≡ true)
+NotesLink list targets old new place at true once = (new ≡ old) × (once ≡ true → IsAsBefore list targets place at)
+
+-- any two of the first records that have one link, which leads to no record, have one name
+abbrev pub AreAbsentOnce : List Found → ℕ → Type 0
+AreAbsentOnce list n = (i j : ℕ) → i < n → j < n → slice_index_or (name_graph list) i None ≡ None →
+    slice_index_or (name_graph list) j None ≡ None → (record_at list i).next ≡ (record_at list j).next →
+    name_of (record_at list i) ≡ name_of (record_at list j)
+
+-- a link is above another one, if there is one
+abbrev pub is_above : Option Link → Link → Bool
+is_above None link = true
+is_above (Some top) link = is_below top link
+
+-- a link is none but this one or below it
+abbrev pub IsUpTo : Option Link → Link → Type 0
+IsUpTo None link = ⊥
+IsUpTo (Some top) link = is_below top link ≡ false
+
+-- the links of the first records that lead to no record go up to this one
+abbrev pub IsTop : List Found → ℕ → Option Link → Type 0
+IsTop list n top = (k : ℕ) → k < n → slice_index_or (name_graph list) k None ≡ None → IsUpTo top (record_at list k).next
 
 -- among these are those of the first records whose link leads to no record
 abbrev pub HasAbsent : List Found → ℕ → List Found → Type 0

@@ -4,7 +4,7 @@ ghost use Rattle.record_list.specs.SoundList.{LooseEnds};
 ghost use Rattle.record_list.specs.Search.{FindsFirst};
 ghost use Rattle.record_chart.specs.Orbits.{AreOrbits};
 ghost use Rattle.record_chart.specs.NameGraph.{name_graph};
-ghost use Rattle.scan_recovery.specs.Searches.{LeadsOut};
+ghost use Rattle.scan_recovery.specs.Searches.{KnowsOrbits, LeadsOut};
 
 use record_chart::{Chart, Orbit, Orbits, Standing};
 use record_list::Found;
@@ -12,8 +12,8 @@ use tx_types::{Link, Protocol};
 
 /// The index of the first of these records that breaks law 7, which speaks of Back Pointer Cyclic Commit
 /// alone: where it is loose, its links lead to an absent name.
-pub fn endless(standing: &Standing, orbits: &Orbits, records: &[Found]) -> Option<usize>
-    requires { AreOrbits (name_graph standing.now.list) orbits.now }
+pub fn endless(standing: &Standing, orbits: &Option<Orbits>, records: &[Found]) -> Option<usize>
+    requires { KnowsOrbits standing.now orbits.now }
     ensures { let s = standing.now in
         FindsFirst (LooseEnds s.protocol s.list s.logical) records.now result }
 {
@@ -23,8 +23,23 @@ pub fn endless(standing: &Standing, orbits: &Orbits, records: &[Found]) -> Optio
 }
 
 /// Whether the links of a record, if it is loose, lead to an absent name.
+#[inline(always)]
 #[tactic(auto, unfolding(record_list::specs::SoundList::LooseEnds))]
-pub fn is_ending(standing: &Standing, orbits: &Orbits, found: &Found) -> bool
+pub fn is_ending(standing: &Standing, orbits: &Option<Orbits>, found: &Found) -> bool
+    requires { KnowsOrbits standing.now orbits.now }
+    ensures { let s = standing.now in
+        IsTrue result ↔ LooseEnds s.protocol s.list s.logical found.now }
+{
+    match orbits {
+        None => true,
+        Some(orbits) => is_ending_by(standing, orbits, found),
+    }
+}
+
+/// Whether the links of a record, if it is loose, lead to an absent name, by the orbits of all links.
+#[inline(always)]
+#[tactic(auto, unfolding(record_list::specs::SoundList::LooseEnds))]
+fn is_ending_by(standing: &Standing, orbits: &Orbits, found: &Found) -> bool
     requires { AreOrbits (name_graph standing.now.list) orbits.now }
     ensures { let s = standing.now in
         IsTrue result ↔ LooseEnds s.protocol s.list s.logical found.now }

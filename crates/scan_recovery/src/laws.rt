@@ -7,9 +7,7 @@ ghost use Rattle.record_list.specs.Records.{IsScanned};
 ghost use Rattle.record_list.specs.SoundList.{PagesExist, CopiesAgree, LinksDiffer, CurrentIsPresent, LinkHasCounted, LooseIsShown, IsFirstBreach};
 ghost use Rattle.record_list.specs.Search.{FindsFirst};
 ghost use Rattle.record_chart.specs.Charts.{Sorts};
-ghost use Rattle.record_chart.specs.Orbits.{AreOrbits};
-ghost use Rattle.record_chart.specs.NameGraph.{name_graph};
-ghost use Rattle.scan_recovery.specs.Searches.{IsKept, AreKept};
+ghost use Rattle.scan_recovery.specs.Searches.{KnowsOrbits, IsKept, AreKept};
 
 use crate::endings::{endless, is_ending};
 use crate::shared_links::lowest_shared_link;
@@ -22,14 +20,14 @@ use tx_types::{Link, Protocol};
 pub fn first_breach(
     alloc: Global,
     standing: &Standing,
-    orbits: &Orbits,
+    orbits: &Option<Orbits>,
     list: &[Found],
 ) -> Result<Option<Breach>, AllocError>
     requires scanned { IsScanned list.now }
     requires sorts { Sorts list.now standing.now.list }
     requires pages { All (PagesExist standing.now.logical) list.now }
     requires copies { All (CopiesAgree list.now) list.now }
-    requires orbits { AreOrbits (name_graph standing.now.list) orbits.now }
+    requires orbits { KnowsOrbits standing.now orbits.now }
     ensures { let s = standing.now in
         IfOk result (IsFirstBreach s.protocol list.now s.logical) }
 {
@@ -43,13 +41,13 @@ pub fn first_breach(
 }
 
 /// The first of laws 4 to 7 that is broken, and the slot that it names. The list keeps laws 1 to 3.
-fn first_of_slots(standing: &Standing, orbits: &Orbits, list: &[Found]) -> Option<Breach>
+fn first_of_slots(standing: &Standing, orbits: &Option<Orbits>, list: &[Found]) -> Option<Breach>
     requires scanned { IsScanned list.now }
     requires sorts { Sorts list.now standing.now.list }
     requires pages { All (PagesExist standing.now.logical) list.now }
     requires copies { All (CopiesAgree list.now) list.now }
     requires links { All (LinksDiffer list.now) list.now }
-    requires orbits { AreOrbits (name_graph standing.now.list) orbits.now }
+    requires orbits { KnowsOrbits standing.now orbits.now }
     ensures { let s = standing.now in IsFirstBreach s.protocol list.now s.logical result }
 {
     if let Some(at) = without_current(standing, list) {
@@ -68,8 +66,8 @@ fn first_of_slots(standing: &Standing, orbits: &Orbits, list: &[Found]) -> Optio
 }
 
 /// Whether each of these records keeps laws 4 to 7.
-fn are_kept(standing: &Standing, orbits: &Orbits, records: &[Found]) -> bool
-    requires { AreOrbits (name_graph standing.now.list) orbits.now }
+fn are_kept(standing: &Standing, orbits: &Option<Orbits>, records: &[Found]) -> bool
+    requires { KnowsOrbits standing.now orbits.now }
     ensures { result ≡ true → AreKept standing.now records.now }
 {
     for found in records {
@@ -82,8 +80,8 @@ fn are_kept(standing: &Standing, orbits: &Orbits, records: &[Found]) -> bool
 
 /// Whether a record keeps laws 4 to 7.
 #[inline(always)]
-fn is_kept(standing: &Standing, orbits: &Orbits, found: &Found) -> bool
-    requires { AreOrbits (name_graph standing.now.list) orbits.now }
+fn is_kept(standing: &Standing, orbits: &Option<Orbits>, found: &Found) -> bool
+    requires { KnowsOrbits standing.now orbits.now }
     ensures { result ≡ true → IsKept standing.now found.now }
 {
     has_current(standing, found)
@@ -103,6 +101,7 @@ fn without_current(standing: &Standing, records: &[Found]) -> Option<usize>
         .position(|found| !has_current(standing, found))
 }
 
+#[inline(always)]
 fn has_current(standing: &Standing, found: &Found) -> bool
     ensures { let s = standing.now in
         IsTrue result ↔ CurrentIsPresent s.protocol s.list s.logical found.now }
@@ -134,6 +133,7 @@ fn early_link(standing: &Standing, records: &[Found]) -> Option<usize>
         .position(|found| !has_counted(standing, found))
 }
 
+#[inline(always)]
 #[tactic(auto, unfolding(record_list::specs::SoundList::LinkHasCounted))]
 fn has_counted(standing: &Standing, found: &Found) -> bool
     ensures { let s = standing.now in
@@ -160,6 +160,7 @@ fn unshown(standing: &Standing, records: &[Found]) -> Option<usize>
     records.iter().position(|found| !is_shown(standing, found))
 }
 
+#[inline(always)]
 #[tactic(auto, unfolding(record_list::specs::SoundList::LooseIsShown))]
 fn is_shown(standing: &Standing, found: &Found) -> bool
     ensures { let s = standing.now in

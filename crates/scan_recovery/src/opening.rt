@@ -1,9 +1,9 @@
-ghost use Rattle.std.specs.Prelude.{◌≡◌, ◌+◌, ◌*◌, ◌<◌, ◌≤◌, All, map, length, Ok, OnOk, IfOk, IfErr, false};
+ghost use Rattle.std.specs.Prelude.{◌≡◌, ◌+◌, ◌*◌, ◌<◌, ◌≤◌, All, map, length, Ok, OnOk, IfOk, IfErr, IsNone, false};
 ghost use Rattle.tx_types.specs.Config.{IsShape, checked, shape_of, slots_of, blocks_of};
 ghost use Rattle.record_list.specs.Records.{IsScanned};
 ghost use Rattle.record_list.specs.SoundList.{PagesExist, CopiesAgree, IsSoundList};
 ghost use Rattle.record_list.specs.Written.{HasRemovable};
-ghost use Rattle.record_list.specs.Counts.{HasCounts};
+ghost use Rattle.record_list.specs.Counts.{HasCounts, IsFirstMiscount};
 ghost use Rattle.record_chart.specs.Charts.{Sorts};
 ghost use Rattle.die_alloc.specs.BlockTable.{IsBlockTable};
 ghost use Rattle.version_index.specs.Notes.{complete_slots};
@@ -11,6 +11,7 @@ ghost use Rattle.die_alloc.specs.Opening.{used_in, opening_table, with_slots};
 ghost use Rattle.version_index.specs.Opening.{IsChosenFrom};
 ghost use Rattle.scan_recovery.specs.Opening.{IsOpenedFrom, IsBroken};
 ghost use Rattle.scan_recovery.specs.Recovered.{IfUnsound, is_read_failure};
+ghost use Rattle.scan_recovery.specs.Searches.{KnowsOrbits};
 
 use crate::RecoverError;
 use crate::laws::first_breach;
@@ -18,11 +19,11 @@ use crate::scan::Scanned;
 use crate::spare::{chosen_spare, is_blank, slots_in};
 use die_alloc::Blocks;
 use flash_model::Seen;
-use record_chart::{Standing, counts, name_orbits};
+use record_chart::{Orbits, Standing, counts, has_count, name_orbits};
 use record_list::{Breach, CommitRule, Found};
-use std::alloc::Global;
+use std::alloc::{AllocError, Global};
 use std::mem::drop;
-use tx_types::{Block, BlockState, Config, Memory, Shape, Slot};
+use tx_types::{Block, BlockState, Config, Memory, Protocol, Shape, Slot};
 use version_index::Index;
 
 /// The tables of slots that read so and hold these records, or the first of laws 3 to 9 that the
@@ -90,7 +91,7 @@ fn lawful_spare(
         IfErr result (λ e. IfUnsound e (IsBroken s.protocol list.now s.logical shape)) }
     ensures no_fault { is_read_failure result ≡ false }
 {
-    let orbits = name_orbits(alloc, standing.chart())?;
+    let orbits = asked_orbits(alloc, standing, list)?;
     if let Some(Breach { law, slot }) = first_breach(alloc, standing, &orbits, list)? {
         return Err(RecoverError::Unsound { law, slot });
     }
@@ -100,9 +101,41 @@ fn lawful_spare(
             slot: Slot(0),
         });
     };
-    match counts(standing.chart(), &orbits, list) {
+    match miscount(standing, &orbits, list) {
         None => Ok(spare),
         Some(Breach { law, slot }) => Err(RecoverError::Unsound { law, slot }),
+    }
+}
+
+/// Where the links of all records lead, if laws 7 and 9 ask for it: the one speaks of Back Pointer Cyclic
+/// Commit alone, the other of records that have a count.
+fn asked_orbits(
+    alloc: Global,
+    standing: &Standing,
+    list: &[Found],
+) -> Result<Option<Orbits>, AllocError>
+    ensures known { IfOk result (KnowsOrbits standing.now) }
+    ensures counted { IfOk result (λ orbits.
+        IsNone orbits → All (λ f. f.rec.count ≡ 0) list.now) }
+{
+    if standing.protocol() == Protocol::Scc && !has_count(list) {
+        return Ok(None);
+    }
+    Ok(Some(name_orbits(alloc, standing.chart())?))
+}
+
+/// The slot that law 9 names, where it is broken, of a list that keeps law 2.
+fn miscount(standing: &Standing, orbits: &Option<Orbits>, list: &[Found]) -> Option<Breach>
+    requires scanned { IsScanned list.now }
+    requires sorts { Sorts list.now standing.now.list }
+    requires copies { All (CopiesAgree list.now) list.now }
+    requires known { KnowsOrbits standing.now orbits.now }
+    requires counted { IsNone orbits.now → All (λ f. f.rec.count ≡ 0) list.now }
+    ensures { IsFirstMiscount list.now result }
+{
+    match orbits {
+        None => None,
+        Some(orbits) => counts(standing.chart(), orbits, list),
     }
 }
 

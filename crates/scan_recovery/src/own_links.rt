@@ -1,16 +1,18 @@
 //! Whether each link is that of one name, by the places to which the links of charted records lead: those of one
-//! place have one link. Only links that lead to no record are put in order.
+//! place have one link. Only links that lead to no record may have to be put in order.
 
-ghost use Rattle.std.specs.Prelude.{◌≡◌, ℕ, ◌<◌, true, length, slice_index_or, slice_set, Some, None, IsNone, IfOk, IfSome, Contains};
+ghost use Rattle.std.specs.Prelude.{◌≡◌, ℕ, ◌<◌, true, false, length, slice_index_or, slice_set, Some, None, IsNone, IfOk, Contains};
 ghost use Rattle.record_list.specs.Records.{name_of, record_at};
 ghost use Rattle.record_chart.specs.NameGraph.{name_graph};
-ghost use Rattle.scan_recovery.specs.Searches.{HaveOwnLinks, HasAbsent, NotesLinker};
+ghost use Rattle.scan_recovery.specs.Searches.{HaveOwnLinks, HasAbsent, AreLinkedOnce, AreAbsentOnce, IsAsBefore, NotesLink, is_above};
 
+use crate::held::mark;
 use crate::removable::has_name_of;
 use crate::shared_links::lowest_sharer;
 use record_chart::{Chart, sort_by_link};
 use record_list::Found;
 use std::alloc::{AllocError, Global};
+use tx_types::Link;
 
 /// Whether any two records with one link have one name.
 pub fn have_own_links(alloc: Global, chart: &Chart) -> Result<bool, AllocError>
@@ -18,6 +20,9 @@ pub fn have_own_links(alloc: Global, chart: &Chart) -> Result<bool, AllocError>
 {
     if !are_linked_once(alloc, chart)? {
         return Ok(false);
+    }
+    if are_absent_once(chart) {
+        return Ok(true);
     }
     let mut absent = with_absent_links(alloc, chart)?;
     sort_by_link(&mut absent)?;
@@ -29,17 +34,14 @@ pub fn have_own_links(alloc: Global, chart: &Chart) -> Result<bool, AllocError>
 
 /// Whether any two records whose links lead to one place have one name.
 fn are_linked_once(alloc: Global, chart: &Chart) -> Result<bool, AllocError>
-    ensures { IfOk result (λ once. once ≡ true → (i j place : ℕ) →
-        slice_index_or (name_graph chart.now) i None ≡ Some place → i < length chart.now →
-        slice_index_or (name_graph chart.now) j None ≡ Some place → j < length chart.now →
-        name_of (record_at chart.now i) ≡ name_of (record_at chart.now j)) }
+    ensures { IfOk result (λ once. once ≡ true → AreLinkedOnce chart.now (length chart.now)) }
 {
     let records = chart.records();
     let targets = chart.targets();
-    let mut linkers = vec![in alloc; None; records.len()]?;
+    let mut linked = vec![in alloc; false; records.len()]?;
     for at in 0..records.len() {
         if let Some(place) = targets[at] {
-            if !links_there(records, &mut linkers, place, at as u32) {
+            if !links_there(records, targets, &mut linked, place, at) {
                 return Ok(false);
             }
         }
@@ -47,21 +49,71 @@ fn are_linked_once(alloc: Global, chart: &Chart) -> Result<bool, AllocError>
     Ok(true)
 }
 
-/// Notes a record of which the link leads to a place, where none is noted. Whether the one that is noted has its
-/// name.
-fn links_there(records: &[Found], linkers: &mut Vec<Option<u32>>, place: u32, at: u32) -> bool
+/// Notes that the link of a record leads to a place. Where one is noted already, whether it is that of the record
+/// before, and that has its name.
+#[inline(always)]
+fn links_there(
+    records: &[Found],
+    targets: &[Option<u32>],
+    linked: &mut Vec<bool>,
+    place: u32,
+    at: usize,
+) -> bool
     requires at { at < length records.now }
-    requires place { place < length linkers.old.items }
-    requires within { IfSome (slice_index_or linkers.old.items place None) (λ k. k < length records.now) }
-    ensures { let before = slice_index_or linkers.old.items place None in
-        NotesLinker records.now linkers.old.items linkers.new.items place at before result }
+    requires targets { length targets.now ≡ length records.now }
+    requires place { place < length linked.old.items }
+    ensures { let was = slice_index_or linked.old.items place false in
+        NotesLink records.now targets.now linked.old.items linked.new.items place at was result }
 {
-    match linkers[place as usize] {
-        None => {
-            linkers[place as usize] = Some(at);
-            true
+    if linked[place as usize] {
+        return is_as_before(records, targets, place, at);
+    }
+    mark(linked, place);
+    true
+}
+
+/// Whether the record before has the name of this one, and leads to this place.
+fn is_as_before(records: &[Found], targets: &[Option<u32>], place: u32, at: usize) -> bool
+    requires at { at < length records.now }
+    requires targets { length targets.now ≡ length records.now }
+    ensures { result ≡ true → IsAsBefore records.now targets.now place at }
+{
+    if at == 0 || !has_name_of(&records[at - 1].rec, &records[at].rec) {
+        return false;
+    }
+    match targets[at - 1] {
+        Some(before) => before == place,
+        None => false,
+    }
+}
+
+/// Whether links that lead to no record rise in the order of names, so that no two of them are one.
+fn are_absent_once(chart: &Chart) -> bool
+    ensures { result ≡ true → AreAbsentOnce chart.now (length chart.now) }
+{
+    let records = chart.records();
+    let targets = chart.targets();
+    let mut top = None;
+    for at in 0..records.len() {
+        if targets[at].is_none() {
+            let link = records[at].rec.next;
+            if !is_above(top, link) {
+                return false;
+            }
+            top = Some(link);
         }
-        Some(other) => has_name_of(&records[other as usize].rec, &records[at as usize].rec),
+    }
+    true
+}
+
+/// Whether a link is above another one, if there is one.
+#[inline(always)]
+fn is_above(top: Option<Link>, link: Link) -> bool
+    ensures { result ≡ is_above top link }
+{
+    match top {
+        None => true,
+        Some(top) => { top.page < link.page || top.page == link.page && top.version < link.version }
     }
 }
 

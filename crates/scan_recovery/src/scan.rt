@@ -17,10 +17,6 @@ use std::alloc::Global;
 use tx_types::{Config, Rec, Slot};
 use version_index::Note;
 
-/// How many records there is room for in the list, for each slot. What is not used costs no memory, but
-/// common allocators keep as much as they once gave at a time, and an opening takes about as much again.
-const LIST_ROOM: usize = 6;
-
 /// How the slots of a flash read, and their records, in the order of the slots.
 #[derive(Drop)]
 pub struct Scanned {
@@ -29,8 +25,7 @@ pub struct Scanned {
 }
 
 /// Reads each slot once, the lowest first, and stops at the first read that fails. Where slots
-/// break law 1, the lowest one is named once all are read. The list has `LIST_ROOM` times the room that
-/// it needs.
+/// break law 1, the lowest one is named once all are read.
 pub fn scan<F: Flash>(
     alloc: Global,
     flash: &mut F,
@@ -48,7 +43,7 @@ pub fn scan<F: Flash>(
 {
     let slots = flash.shape().slots();
     let mut seen = Vec::with_capacity(alloc, slots as usize)?;
-    let mut list = Vec::with_capacity(alloc, LIST_ROOM * slots as usize)?;
+    let mut list = Vec::with_capacity(alloc, slots as usize)?;
     let mut unread = None;
     for at in 0..slots {
         match read_note(flash, config, Slot(at), page)? {

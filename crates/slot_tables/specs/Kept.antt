@@ -1,5 +1,6 @@
 -- What the tables are given, what follows from it, and how it changes.
-use Rattle.std.specs.Prelude.{◌≡◌, ℕ, ◌*◌, ◌<◌, ◌≤◌, ◌==◌, Bool, true, false, nat_lt, ◌&&◌, ◌||◌, Option, Some, None, IsSomeAnd, IfSome, List, [], ◌∷◌, length, map, find, filter, replicate, min, count_by, slice_index, slice_index_or, slice_set, if◌then◌else◌}
+use Rattle.std.specs.Prelude.{◌≡◌, ℕ, ◌*◌, ◌<◌, ◌≤◌, ◌==◌, Bool, true, false, nat_lt, ◌&&◌, ◌||◌, Option, Some, None, IsSomeAnd, IfSome, List, [], ◌∷◌, length}
+use Rattle.std.specs.Prelude.{map, find, filter, replicate, min, count_by, slice_index, slice_index_or, slice_set, if◌then◌else◌}
 use Rattle.std.specs.List.{AllPairs, Contains, list_any, range_with_len, remove, slice_get}
 use Rattle.std.specs.Option.{option_map_or, option_or}
 use Rattle.tx_types.specs.declared.record.Rec.{Rec}

@@ -4,7 +4,7 @@ use Rattle.slot_tables.specs.declared.answers.Answers.TheInside.{Inside}
 use Rattle.slot_tables.specs.Kept.{number_at, is_number}
 
 abbrev pub answerers_of : Inside → List (Option ℕ)
-answerers_of a = a.answerers.items
+answerers_of a = a.answerers
 
 -- each number is counted as often as it is an answerer
 pub record AreCounted (answerers : List (Option ℕ)) (its_counts : List ℕ) : Type 0 where
@@ -14,4 +14,4 @@ pub record AreCounted (answerers : List (Option ℕ)) (its_counts : List ℕ) : 
   pub counts : (x : ℕ) → x < length answerers → slice_index its_counts x ≡ count_by (is_number x) answerers
 
 abbrev pub AreAnswers : Inside → Type 0
-AreAnswers a = AreCounted a.answerers.items a.counts.items
+AreAnswers a = AreCounted a.answerers a.counts

@@ -1,12 +1,14 @@
 -- How the records that wait are kept.
-use Rattle.std.specs.Prelude.{◌≤◌, length}
+use Rattle.std.specs.Prelude.{◌≡◌, ◌≤◌, length, count_by}
 use Rattle.slot_tables.specs.declared.waits.Waits.TheInside.{Inside}
+use Rattle.slot_tables.specs.Kept.{is_some_number}
 use Rattle.slot_tables.specs.Waiting.{Waiting, AreWaiting}
 
 abbrev pub waiting_of : Inside → Waiting
-waiting_of w = record { pages = length w.waiting.lists; waits = w.waits.items }
+waiting_of w = record { pages = length w.waiting.lists; waits = w.waits }
 
--- the lists have those that wait
+-- the lists have those that wait, and each is counted
 pub record AreWaits (w : Inside) : Type 0 where
-  pub small : length w.waits.items ≤ 65536
+  pub small : length w.waits ≤ 65536
   pub waiting : AreWaiting (waiting_of w) w.waiting
+  pub count : w.count ≡ count_by is_some_number w.waits

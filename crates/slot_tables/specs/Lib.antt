@@ -7,7 +7,7 @@ pub mod Given
 pub mod Tallied
 pub mod NeededSlots
 pub mod KeptSlots
-pub mod RecordTables
+pub mod GrownTables
 pub mod KeptRecords
 pub mod KeptAnswers
 pub mod KeptWaits

@@ -1,14 +1,16 @@
 ghost use Rattle.std.specs.Prelude.{◌≡◌, ℕ, ◌<◌, ◌≤◌, length, replicate, slice_set, None, IfOk, IfSome};
 ghost use Rattle.slot_tables.specs.Kept.{number_at, is_answerer};
 
+use crate::grown::Grown;
 use std::alloc::{AllocError, Global};
 use std::marker::Model;
 
-/// Which record answers for each one, by their numbers, and for how many each answers.
+/// Which record answers for each one, by their numbers, and for how many each answers. Where none ever answered,
+/// as under Simple Cyclic Commit, no room is touched.
 #[derive(Debug, Drop)]
 pub struct Answers {
-    answerers: Vec<Option<u32>>,
-    counts: Vec<u32>,
+    answerers: Grown<Option<u32>>,
+    counts: Grown<u32>,
 }
 
 impl Model for Answers {
@@ -30,8 +32,8 @@ impl Answers {
         ensures { IfOk result (λ a. a ≡ replicate count None) }
     {
         Ok(Answers {
-            answerers: vec![in alloc; None; count as usize]?,
-            counts: vec![in alloc; 0; count as usize]?,
+            answerers: Grown::new(alloc, count, None)?,
+            counts: Grown::new(alloc, count, 0)?,
         })
     }
 
@@ -41,7 +43,7 @@ impl Answers {
         ensures answerer { result ≡ number_at self.now number }
         ensures within { IfSome result (λ other. other < length self.now) }
     {
-        self.answerers[number as usize]
+        self.answerers.get(number)
     }
 
     /// Whether a record answers for another one.
@@ -49,10 +51,11 @@ impl Answers {
         requires { number < length self.now }
         ensures { result ≡ is_answerer self.now number }
     {
-        self.counts[number as usize] > 0
+        self.counts.get(number) > 0
     }
 
     /// Says which record answers for a record.
+    #[inline(always)]
     pub fn set(&mut self, number: u32, to: Option<u32>)
         requires number { number < length self.old }
         requires answerer { IfSome to (λ other. other < length self.old) }
@@ -60,19 +63,22 @@ impl Answers {
     {
         self.forget(number);
         if let Some(other) = to {
-            self.counts[other as usize] += 1;
-            self.answerers[number as usize] = to;
+            let count = self.counts.get(other) + 1;
+            self.counts.set(other, count);
+            self.answerers.set(number, to);
         }
     }
 
     /// Takes the answerer of a record away, if it has one.
+    #[inline(always)]
     fn forget(&mut self, number: u32)
         requires { number < length self.old }
         ensures { self.new ≡ slice_set self.old number None }
     {
-        if let Some(other) = self.answerers[number as usize] {
-            self.counts[other as usize] -= 1;
-            self.answerers[number as usize] = None;
+        if let Some(other) = self.answerers.get(number) {
+            let count = self.counts.get(other) - 1;
+            self.counts.set(other, count);
+            self.answerers.set(number, None);
         }
     }
 }

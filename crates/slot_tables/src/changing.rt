@@ -97,6 +97,9 @@ impl Tables {
             ≡ record self.old { answerers = slice_set self.old.answerers number to } }
     {
         let before = self.given.answers.get(number);
+        if before.is_none() && to.is_none() {
+            return;
+        }
         self.given.answers.set(number, to);
         self.given.settle_home(&mut self.needs, before);
         self.given.settle_home(&mut self.needs, to);

@@ -141,6 +141,7 @@ impl Given {
     }
 
     /// Says anew of the home of the record of a number, if it has one, whether it is needed.
+    #[inline(always)]
     fn settle_number(&self, needs: &mut Needs, number: u32)
         requires sized { IsSized self.now }
         requires number { number < length self.now.slots }
@@ -180,6 +181,9 @@ impl Given {
               needed = moved_settled (kept_of self.now) needs.old.needed before after;
             } }
     {
+        if before.is_none() && number.is_none() {
+            return;
+        }
         let home = self.home_of(number);
         if !is_same(before, home) {
             self.settle_both(needs, before, number, home);

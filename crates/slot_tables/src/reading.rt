@@ -117,6 +117,9 @@ impl Tables {
         ensures none { IfNone result ((number : ℕ) → number_at self.now.waits number ≡ Some page → ⊥) }
         ensures within { IfSome result (λ number. number < slots_of self.now.shape) }
     {
+        if self.given.waits.is_idle() {
+            return None;
+        }
         self.given.waits.by_page().first(page)
     }
 
@@ -127,6 +130,9 @@ impl Tables {
         ensures none { IfNone result ((at number : ℕ) →
             use_at self.now.slots at ≡ slot.Holds number → WaitsBelow self.now page below number → ⊥) }
     {
+        if self.given.waits.is_idle() {
+            return None;
+        }
         let waiting = self.given.waits.by_page();
         let mut lowest = None;
         let mut next = waiting.first(page);

@@ -5,7 +5,7 @@ ghost use Rattle.tx_types.specs.declared.record.Rec.{Rec};
 ghost use Rattle.slot_tables.specs.Kept.{record_at, numbers_at, AreVersions, IsNewest};
 ghost use Rattle.slot_tables.specs.Versions.{Names, HasFree};
 
-use crate::record_table::RecordTable;
+use crate::grown::Grown;
 use plain_tables::Chains;
 use std::alloc::{AllocError, Global};
 use std::marker::Model;
@@ -14,7 +14,7 @@ use tx_types::Rec;
 /// The record of each number, and of each page the numbers of its records, newest first.
 #[derive(Debug, Drop)]
 pub struct Records {
-    records: RecordTable,
+    records: Grown<Option<Rec>>,
     /// Behind the pages a list of the numbers that have no record.
     lists: Chains,
     /// How many pages there are.
@@ -46,7 +46,7 @@ impl Records {
             lists.push(pages, count - 1 - k);
         }
         Ok(Records {
-            records: RecordTable::new(alloc, count)?,
+            records: Grown::new(alloc, count, None)?,
             lists,
             pages,
         })

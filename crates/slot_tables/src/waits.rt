@@ -1,7 +1,8 @@
-ghost use Rattle.std.specs.Prelude.{◌≡◌, ℕ, ◌<◌, ◌≤◌, length, replicate, slice_set, None, IfOk, IfSome};
+ghost use Rattle.std.specs.Prelude.{◌≡◌, ℕ, ◌<◌, ◌≤◌, length, replicate, slice_set, Bool, true, None, IfOk, IfSome};
 ghost use Rattle.slot_tables.specs.Kept.{number_at};
 ghost use Rattle.slot_tables.specs.Waiting.{AreWaiting};
 
+use crate::grown::Grown;
 use plain_tables::Chains;
 use std::alloc::{AllocError, Global};
 use std::marker::Model;
@@ -10,8 +11,10 @@ use std::marker::Model;
 /// any order.
 #[derive(Debug, Drop)]
 pub struct Waits {
-    waits: Vec<Option<u32>>,
+    waits: Grown<Option<u32>>,
     waiting: Chains,
+    /// How many records wait.
+    count: usize,
 }
 
 impl Model for Waits {
@@ -34,8 +37,9 @@ impl Waits {
         ensures { IfOk result (λ w. w ≡ record { pages = pages; waits = replicate count None }) }
     {
         Ok(Waits {
-            waits: vec![in alloc; None; count as usize]?,
+            waits: Grown::new(alloc, count, None)?,
             waiting: Chains::new(alloc, pages, count)?,
+            count: 0,
         })
     }
 
@@ -44,7 +48,18 @@ impl Waits {
         requires { number < length self.now.waits }
         ensures { result ≡ number_at self.now.waits number }
     {
-        self.waits[number as usize]
+        if self.count == 0 {
+            return None;
+        }
+        self.waits.get(number)
+    }
+
+    /// Whether no record waits.
+    #[inline]
+    pub fn is_idle(&self) -> bool
+        ensures { result ≡ true → (number : ℕ) → number_at self.now.waits number ≡ None }
+    {
+        self.count == 0
     }
 
     /// Of each page the records that wait for it.
@@ -55,6 +70,7 @@ impl Waits {
     }
 
     /// Says for which page a record waits.
+    #[inline(always)]
     pub fn set(&mut self, number: u32, to: Option<u32>)
         requires number { number < length self.old.waits }
         requires page { IfSome to (λ page. page < self.old.pages) }
@@ -63,18 +79,21 @@ impl Waits {
         self.forget(number);
         if let Some(page) = to {
             self.waiting.push(page, number);
-            self.waits[number as usize] = to;
+            self.waits.set(number, to);
+            self.count += 1;
         }
     }
 
     /// Says that a record waits for no page.
+    #[inline(always)]
     fn forget(&mut self, number: u32)
         requires { number < length self.old.waits }
         ensures { self.new ≡ record self.old { waits = slice_set self.old.waits number None } }
     {
-        if let Some(page) = self.waits[number as usize] {
+        if let Some(page) = self.get(number) {
             self.waiting.remove(page, number);
-            self.waits[number as usize] = None;
+            self.waits.set(number, None);
+            self.count -= 1;
         }
     }
 }

@@ -1,5 +1,6 @@
 -- Tables that are filled with the records of a scan.
-use Rattle.std.specs.Prelude.{◌≡◌, ◌≢◌, ℕ, replicate, true, ◌<◌, ◌≤◌, ◌⊎◌, List, length, map, slice_index, slice_index_or, Option, Some, None, option_and_then, position, Contains}
+use Rattle.std.specs.Prelude.{◌≡◌, ◌≢◌, ℕ, replicate, true, ◌<◌, ◌≤◌, ◌⊎◌, List, length, map, slice_index, slice_index_or, Option, Some, None, option_and_then}
+use Rattle.std.specs.Prelude.{position, Contains}
 use Rattle.std.specs.Option.{option_map}
 use Rattle.tx_types.specs.declared.record.Link.{Link}
 use Rattle.tx_types.specs.Config.{slots_of}

@@ -10,7 +10,8 @@ use Rattle.record_list.specs.Records.{newest, name_of, has_name, is_present}
 use Rattle.record_list.specs.Written.{is_slot, is_outside, is_outside_spare}
 use Rattle.version_index.specs.declared.note.Note.TheVariants.{Blank, Holds}
 use Rattle.version_index.specs.Notes.{note_at, rec_of, found_in}
-use Rattle.version_index.specs.Noted.{Noted, IsNoted, IsNextRecord, CanLose, current_of, held_of, home_of, slot_off, needed_of, block_to_go, garbage_of, is_blank, programmed, damaged_at, copied, erased, lost, pinned, with_spare}
+use Rattle.version_index.specs.Noted.{Noted, IsNoted, IsNextRecord, CanLose, current_of, held_of, home_of, slot_off, needed_of, block_to_go, garbage_of}
+use Rattle.version_index.specs.Noted.{is_blank, programmed, damaged_at, copied, erased, lost, pinned, with_spare}
 use Rattle.version_index.specs.Judged.{wanted_of, goes_of, AnswersForNone, AnswersForSome, IsNewlyLoose, IsLooseTop, WaitsBelow, IsLowestSlot, HasNoSlot}
 use Rattle.version_index.specs.JudgedChanges.{NothingMoves, IsOpenWrite, IsWholeWrite, IsRound, IsRoundByIndex, IsJudgedAs, judged_of, once_whole, completes}
 

@@ -1,5 +1,6 @@
 -- What a device has noted of its flash, what follows from it, and how it changes.
-use Rattle.std.specs.Prelude.{◌≡◌, ℕ, ◌+◌, ◌*◌, ◌/◌, ◌<◌, ◌≤◌, ◌==◌, ◌⊎◌, max, Bool, true, false, ◌&&◌, List, map, length, replicate, slice_index, slice_set, count_by, filter_map, Option, Some, None, Ok, IsSomeAnd, IfSome, All, Contains, if◌then◌else◌}
+use Rattle.std.specs.Prelude.{◌≡◌, ℕ, ◌+◌, ◌*◌, ◌/◌, ◌<◌, ◌≤◌, ◌==◌, ◌⊎◌, max, Bool, true, false, ◌&&◌, List, map, length, replicate, slice_index, slice_set}
+use Rattle.std.specs.Prelude.{count_by, filter_map, Option, Some, None, Ok, IsSomeAnd, IfSome, All, Contains, if◌then◌else◌}
 use Rattle.std.specs.List.{zip, enumerate_from, filter, list_any, range_with_len}
 use Rattle.std.specs.Option.{option_map}
 use Rattle.tx_types.specs.declared.record.Link.{Link}

@@ -16,7 +16,8 @@ loop-number-preserved g c =
     let taken = rw c.in-Ok-None.field-0-is at c.in-Ok-None.ensures in (
       still_untaken handle beside_of text before mid after c.loop-number.invariant.0 taken,
       later_then before mid after c.loop-number.invariant.1 (try_later handle beside_of text c.try_name.result mid after c.try_name.ensures),
-      taken_tried handle beside_of c.loop-number.number c.args.name.now text before mid after c.loop-number.invariant.2 c.in-Ok.ensures c.loop-number.invariant.0 taken,
+      taken_tried handle beside_of c.loop-number.number c.args.name.now text before mid after c.loop-number.invariant.2 c.in-Ok.ensures
+          c.loop-number.invariant.0 taken,
     )
 
 pub loop-number-preserved-then-eq : goal.loop-number-preserved-then-eq

@@ -51,4 +51,7 @@ returns-in-Done-clause-ends g c apart is =
     put_ends_at c.args.beside.now c.args.name.now c.args.filled c.put.result c.in-Ok.answer (g.F.Folder.told c.args.folder.now)
     (g.F.Folder.told c.has_name.new.folder)
     (g.F.Folder.told c.put.new.folder) c.in-Ok.is c.in-Done.is c.has_name.ensures.rests
-    (c.put.ensures.puts apart (record { is = λ told. is.is (told_before (g.F.Folder.told c.args.folder.now) (g.F.Folder.told c.has_name.new.folder) c.has_name.ensures.rests told) }))
+    (c.put.ensures.puts apart (record {
+      is = λ told. is.is (told_before (g.F.Folder.told c.args.folder.now)
+          (g.F.Folder.told c.has_name.new.folder) c.has_name.ensures.rests told);
+    }))

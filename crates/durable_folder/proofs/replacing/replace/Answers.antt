@@ -42,7 +42,8 @@ returns-clause-replaces g c =
     (c.replace_in.ensures.replaces (record {
       is = λ told. opened_place g.F.Folder.place c.folder_of.result.now c.in-Ok.place quiet (g.F.Folder.told c.args.folder.now)
           (g.F.Folder.told c.open_folder.new.self) c.in-Ok.ensures
-          (told_before (g.F.Folder.told c.open_folder.new.self) (g.F.Folder.told c.is_mounted.new.folder) c.is_mounted.ensures.mounted told) ∙ c.folder_of.ensures;
+          (told_before (g.F.Folder.told c.open_folder.new.self) (g.F.Folder.told c.is_mounted.new.folder) c.is_mounted.ensures.mounted told) ∙
+          c.folder_of.ensures;
     }))
 
 pub returns-in-Err-clause-cause : goal.returns-in-Err-clause-cause

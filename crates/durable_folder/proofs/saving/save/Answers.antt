@@ -6,7 +6,8 @@ use Rattle.durable_folder.specs.Causes.{AtNow, AllTaken}
 use Rattle.durable_folder.specs.Counting.{quiet, not_given, error_answer, never}
 use Rattle.durable_folder.specs.Ways.{IsSeen}
 use Rattle.durable_folder.proofs.Causing.{turn_later, later_then, cause_later}
-use Rattle.durable_folder.proofs.Leading.{nothing_saved, saved_here, is_a_link, leads_nowhere, saved_nowhere, not_opened, opened, resolved, not_resolved, not_looked, saved_target, saved_unresolved, TakenThere, here_taken, there_taken}
+use Rattle.durable_folder.proofs.Leading.{nothing_saved, saved_here, is_a_link, leads_nowhere, saved_nowhere, not_opened, opened, resolved, not_resolved}
+use Rattle.durable_folder.proofs.Leading.{not_looked, saved_target, saved_unresolved, TakenThere, here_taken, there_taken}
 use Rattle.durable_folder.proofs.saving.save.Goals as goal
 
 pub returns-in_err-found-clause-saves : goal.returns-in_err-found-clause-saves

@@ -15,7 +15,8 @@ returns-in_err-file-clause-saves g c =
 
 pub returns-in_err-replace-in-Replace-clause-saves : goal.returns-in_err-replace-in-Replace-clause-saves
 returns-in_err-replace-in-Replace-clause-saves g c =
-    by_new g.F.Folder.handle c.args.name.now (WasFound c.args.name.now (Some c.args.old)) c.args.bytes.now c.open.result (Some c.in-Replace.owner) c.replace.result
+    by_new g.F.Folder.handle c.args.name.now (WasFound c.args.name.now (Some c.args.old)) c.args.bytes.now c.open.result
+    (Some c.in-Replace.owner) c.replace.result
     c.from_residual-in_err-replace-in-Replace.result _
     (g.F.Folder.told c.args.folder.now) (g.F.Folder.told c.open.new.self) (g.F.Folder.told c.replace.new.folder)
     (λ h k x. after_err c.from_residual-in_err-replace-in-Replace.result _ c.from_residual-in_err-replace-in-Replace.ensures.0) c.open.ensures.opens
@@ -23,7 +24,8 @@ returns-in_err-replace-in-Replace-clause-saves g c =
 
 pub returns-in-Done-clause-saves : goal.returns-in-Done-clause-saves
 returns-in-Done-clause-saves g c =
-    by_new g.F.Folder.handle c.args.name.now (WasFound c.args.name.now (Some c.args.old)) c.args.bytes.now c.open.result (Some c.in-Replace.owner) c.replace.result (Ok tt) _
+    by_new g.F.Folder.handle c.args.name.now (WasFound c.args.name.now (Some c.args.old)) c.args.bytes.now c.open.result
+    (Some c.in-Replace.owner) c.replace.result (Ok tt) _
     (g.F.Folder.told c.args.folder.now) (g.F.Folder.told c.open.new.self) (g.F.Folder.told c.replace.new.folder)
     (ends_done c.args.name.now (Some c.in-Replace.owner) c.args.bytes.now c.replace.result c.in_ok-replace-in-Replace.field-0
     c.in_ok-replace-in-Replace.was c.in-Done.is)

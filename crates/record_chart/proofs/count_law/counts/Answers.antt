@@ -2,9 +2,9 @@ use Rattle.std.proofs.Common.{None, Some, subst}
 use Rattle.std.proofs.lemmas.List.Sorted.{All-permutation, IsPermutation-sym}
 use Rattle.record_list.specs.Search.{FindsFirst}
 use Rattle.record_list.specs.Counts.{KeepsCount}
-use Rattle.record_list.proofs.Breaches.{miscount_at}
-use Rattle.record_list.proofs.Counting.{none_counted}
-use Rattle.record_chart.proofs.CountLaw.{namesakes, miscounts_alike}
+use Rattle.record_list.proofs.OfFacts.Breaches.{miscount_at}
+use Rattle.record_list.proofs.OfChanges.Counting.{none_counted}
+use Rattle.record_chart.proofs.OfCount.CountLaw.{namesakes, miscounts_alike}
 use Rattle.record_chart.proofs.count_law.counts.Goals as goal
 
 pub returns-then-not-has_count : goal.returns-then-not-has_count

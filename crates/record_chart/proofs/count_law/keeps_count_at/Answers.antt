@@ -1,5 +1,5 @@
 use Rattle.std.proofs.Common.{sym}
-use Rattle.record_chart.proofs.NameReturns.{next_place}
+use Rattle.record_chart.proofs.OfWalk.NameReturns.{next_place}
 use Rattle.record_chart.proofs.count_law.keeps_count_at.Goals as goal
 
 pub keeps_count-requires-clause-target : goal.keeps_count-requires-clause-target

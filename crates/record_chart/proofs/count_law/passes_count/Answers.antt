@@ -1,5 +1,5 @@
 use Rattle.std.proofs.Common.{refl, sym, ◌∙◌}
-use Rattle.record_chart.proofs.CountLaw.{passes_nowhere, passes_at}
+use Rattle.record_chart.proofs.OfCount.CountLaw.{passes_nowhere, passes_at}
 use Rattle.record_chart.proofs.count_law.passes_count.Goals as goal
 
 pub returns-in-None : goal.returns-in-None

@@ -1,7 +1,7 @@
 use Rattle.std.proofs.Common.{refl, sym, ◌∙◌, eqb-true, eq-eqb}
-use Rattle.record_list.proofs.Returns.{one_return}
-use Rattle.record_chart.proofs.NameReturns.{return_is_round, round_is_return, nowhere_returns, nowhere_once}
-use Rattle.record_chart.proofs.CountLaw.{no_round}
+use Rattle.record_list.proofs.OfWalks.Returns.{one_return}
+use Rattle.record_chart.proofs.OfWalk.NameReturns.{return_is_round, round_is_return, nowhere_returns, nowhere_once}
+use Rattle.record_chart.proofs.OfCount.CountLaw.{no_round}
 use Rattle.record_chart.proofs.count_law.returns_after.Goals as goal
 
 pub returns-in-None : goal.returns-in-None

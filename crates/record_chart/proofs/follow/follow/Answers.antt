@@ -2,8 +2,8 @@
 use Rattle.std.proofs.Common.{◌<◌, length, ap, arith}
 use Rattle.std.proofs.lemmas.List.{length_push}
 use Rattle.record_chart.specs.declared.seen.Seen.TheVariants.{OnPath}
-use Rattle.record_chart.proofs.OneOrbit.{next_within}
-use Rattle.record_chart.proofs.Paths.{path_short, path_taken, comes_after, path_closes, stays_on, started_on}
+use Rattle.record_chart.proofs.OfWalk.OneOrbit.{next_within}
+use Rattle.record_chart.proofs.OfWalk.Paths.{path_short, path_taken, comes_after, path_closes, stays_on, started_on}
 use Rattle.record_chart.proofs.follow.follow.Goals as goal
 
 pub take-requires-clause-few : goal.take-requires-clause-few

@@ -1,6 +1,6 @@
 -- The page begins before it ends, and what is elsewhere does not count.
 use Rattle.std.proofs.Common.{◌≤◌, rules}
-use Rattle.record_chart.proofs.Groups.{group_goes_up, group_greatest}
+use Rattle.record_chart.proofs.OfGroup.Groups.{group_goes_up, group_greatest}
 use Rattle.record_chart.proofs.group.group.Goals as goal
 
 pub slice_bounds-result-count : goal.slice_bounds-result-count

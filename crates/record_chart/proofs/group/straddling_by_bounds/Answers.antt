@@ -1,6 +1,6 @@
 use Rattle.std.proofs.Common.{◌≤◌, get_or, ◌∙◌, rules}
 use Rattle.std.proofs.lemmas.Option.{slice_get-get_or}
-use Rattle.record_chart.proofs.StraddlerGroups.{stretch_rises, settled, bound_up, upto_is_last}
+use Rattle.record_chart.proofs.OfGroup.StraddlerGroups.{stretch_rises, settled, bound_up, upto_is_last}
 use Rattle.record_chart.proofs.group.straddling_by_bounds.Goals as goal
 
 pub slice_bounds-count_below-count : goal.slice_bounds-count_below-count

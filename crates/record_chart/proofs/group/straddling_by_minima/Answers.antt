@@ -1,6 +1,6 @@
 use Rattle.std.proofs.Common.{◌≤◌, ◌∙◌, [], rules}
-use Rattle.record_chart.proofs.Groups.{group_goes_up}
-use Rattle.record_chart.proofs.StraddlerGroups.{stretch_rises, whole, straddling_is_last}
+use Rattle.record_chart.proofs.OfGroup.Groups.{group_goes_up}
+use Rattle.record_chart.proofs.OfGroup.StraddlerGroups.{stretch_rises, whole, straddling_is_last}
 use Rattle.record_chart.proofs.group.straddling_by_minima.Goals as goal
 
 pub slice_bounds-count_below-count : goal.slice_bounds-count_below-count

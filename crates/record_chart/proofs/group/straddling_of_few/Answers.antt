@@ -1,6 +1,6 @@
 use Rattle.std.proofs.Common.{◌∙◌}
 use Rattle.record_list.specs.Verdict.{straddling_version}
-use Rattle.record_chart.proofs.Groups.{straddling_elsewhere}
+use Rattle.record_chart.proofs.OfGroup.Groups.{straddling_elsewhere}
 use Rattle.record_chart.proofs.group.straddling_of_few.Goals as goal
 
 pub returns : goal.returns

@@ -1,6 +1,6 @@
 use Rattle.std.proofs.Common.{◌∙◌}
 use Rattle.record_list.specs.Current.{straddling_upto}
-use Rattle.record_chart.proofs.Groups.{upto_elsewhere}
+use Rattle.record_chart.proofs.OfGroup.Groups.{upto_elsewhere}
 use Rattle.record_chart.proofs.group.straddling_up_to.Goals as goal
 
 pub returns : goal.returns

@@ -1,6 +1,6 @@
 -- The first record that is not below the name has it, or none has.
 use Rattle.std.proofs.Common.{sym, ◌∙◌, arith}
-use Rattle.record_chart.proofs.Order.{find_here, find_nowhere}
+use Rattle.record_chart.proofs.OfSort.Order.{find_here, find_nowhere}
 use Rattle.record_chart.proofs.in_order.find_by_search.Goals as goal
 use Rattle.record_chart.proofs.in_order.find_by_search.Goals.{else-at-records-via-then-at-records+else-has_name, else-at-records-via-else-at-records}
 

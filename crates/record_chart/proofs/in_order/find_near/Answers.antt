@@ -1,6 +1,6 @@
 -- The first record of the name's page has the name, or the page has no record.
 use Rattle.std.proofs.Common.{sym, arith}
-use Rattle.record_chart.proofs.Order.{page_here, page_nowhere}
+use Rattle.record_chart.proofs.OfSort.Order.{page_here, page_nowhere}
 use Rattle.record_chart.proofs.in_order.find_near.Goals as goal
 
 pub returns-then-at-records : goal.returns-then-at-records

@@ -1,6 +1,6 @@
 use Rattle.std.proofs.Common.{sym, ◌∙◌}
-use Rattle.record_chart.proofs.Order.{first_here}
-use Rattle.record_chart.proofs.WalkOrbits.{own_place}
+use Rattle.record_chart.proofs.OfSort.Order.{first_here}
+use Rattle.record_chart.proofs.OfWalk.WalkOrbits.{own_place}
 use Rattle.record_chart.proofs.in_order.first_namesake.Goals as goal
 
 pub returns-then-is_below_before : goal.returns-then-is_below_before

@@ -1,5 +1,5 @@
 use Rattle.std.proofs.Common.{◌≤◌, sym, rules}
-use Rattle.record_chart.proofs.Order.{named_up, named_range}
+use Rattle.record_chart.proofs.OfSort.Order.{named_up, named_range}
 use Rattle.record_chart.proofs.in_order.named.Goals as goal
 
 pub slice_bounds-result-count : goal.slice_bounds-result-count

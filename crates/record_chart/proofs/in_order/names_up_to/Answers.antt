@@ -2,8 +2,8 @@ use Rattle.std.proofs.Common.{rules, not}
 use Rattle.std.proofs.lemmas.List.Sorted.{IsPartitionPoint-from_clause}
 use Rattle.record_list.specs.Records.{name_of}
 use Rattle.record_chart.specs.Charts.{is_below}
-use Rattle.record_chart.proofs.Order.{parted_up_to, up_to_first}
-use Rattle.record_chart.proofs.Narrowed.{name_point}
+use Rattle.record_chart.proofs.OfSort.Order.{parted_up_to, up_to_first}
+use Rattle.record_chart.proofs.OfGroup.Narrowed.{name_point}
 use Rattle.record_chart.proofs.in_order.names_up_to.Goals as goal
 
 pub returns-in-None-clause-first : goal.returns-in-None-clause-first

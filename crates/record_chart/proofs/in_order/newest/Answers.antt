@@ -1,5 +1,5 @@
 use Rattle.std.proofs.Common.{◌∙◌}
-use Rattle.record_chart.proofs.Readings.{newest_is}
+use Rattle.record_chart.proofs.OfGroup.Readings.{newest_is}
 use Rattle.record_chart.proofs.in_order.newest.Goals as goal
 
 pub returns : goal.returns

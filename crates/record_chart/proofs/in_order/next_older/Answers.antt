@@ -1,5 +1,5 @@
 use Rattle.std.proofs.Common.{◌∙◌}
-use Rattle.record_chart.proofs.Readings.{next_older_is}
+use Rattle.record_chart.proofs.OfGroup.Readings.{next_older_is}
 use Rattle.record_chart.proofs.in_order.next_older.Goals as goal
 
 pub returns : goal.returns

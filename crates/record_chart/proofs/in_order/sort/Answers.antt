@@ -1,6 +1,6 @@
 use Rattle.std.proofs.Common.{rules, refl}
 use Rattle.record_list.specs.Records.{name_of}
-use Rattle.record_chart.proofs.Sorting.{named, orders_by_closure, sorts_from}
+use Rattle.record_chart.proofs.OfSort.Sorting.{named, orders_by_closure, sorts_from}
 use Rattle.record_chart.proofs.in_order.sort.Goals as goal
 
 pub returns : goal.returns

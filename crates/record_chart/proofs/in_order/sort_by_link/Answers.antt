@@ -1,5 +1,5 @@
 use Rattle.std.proofs.Common.{rules, refl}
-use Rattle.record_chart.proofs.Sorting.{linked, orders_by_closure}
+use Rattle.record_chart.proofs.OfSort.Sorting.{linked, orders_by_closure}
 use Rattle.record_chart.proofs.in_order.sort_by_link.Goals as goal
 
 pub returns : goal.returns

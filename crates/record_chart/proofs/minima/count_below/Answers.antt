@@ -1,6 +1,6 @@
 use Rattle.std.proofs.Common.{nat_lt, rules}
 use Rattle.std.proofs.lemmas.List.Sorted.{IsPartitionPoint-from_clause}
-use Rattle.record_chart.proofs.Straddlers.{parted_below, below_first_ones}
+use Rattle.record_chart.proofs.OfGroup.Straddlers.{parted_below, below_first_ones}
 use Rattle.record_chart.proofs.minima.count_below.Goals as goal
 
 pub returns-clause-first : goal.returns-clause-first

@@ -1,12 +1,13 @@
 use Rattle.std.proofs.Common.{◌≡◌, ◌+◌, ◌-◌, length, subst, arith}
 use Rattle.record_chart.specs.Minima.{AreMinimaFrom}
-use Rattle.record_chart.proofs.MinimaSteps.{minima_none, minima_more}
+use Rattle.record_chart.proofs.OfGroup.MinimaSteps.{minima_none, minima_more}
 use Rattle.record_chart.proofs.minima.minima.Goals as goal
 
 pub loop-at-init : goal.loop-at-init
 loop-at-init c = record {
   within = omega arith;
-  minima = minima_none c.args.records.now c.args.tops.now c.in_ok-least.least.items (length c.args.records.now) (omega arith) (omega (arith, c.in_ok-least.ensures.len));
+  minima = minima_none c.args.records.now c.args.tops.now c.in_ok-least.least.items (length c.args.records.now) (omega arith)
+      (omega (arith, c.in_ok-least.ensures.len));
 }
 
 pub loop-at-preserved : goal.loop-at-preserved

@@ -1,7 +1,7 @@
 -- The record before the place has a name below, and the one at it, if there is one, has not.
 use Rattle.std.proofs.Common.{length, sym, ◌∙◌, arith}
 use Rattle.std.proofs.lemmas.Bool.{leb-true, not-true}
-use Rattle.record_chart.proofs.Narrowed.{point_here}
+use Rattle.record_chart.proofs.OfGroup.Narrowed.{point_here}
 use Rattle.record_chart.proofs.search.are_names_below.Goals as goal
 use Rattle.record_chart.proofs.search.are_names_below.Goals.{then-count-records, else-count-records}
 

@@ -2,7 +2,7 @@ use Rattle.std.proofs.Common.{rules}
 use Rattle.std.proofs.lemmas.List.Sorted.{IsPartitionPoint-from_clause}
 use Rattle.record_list.specs.Records.{name_of}
 use Rattle.record_chart.specs.Charts.{is_below}
-use Rattle.record_chart.proofs.Order.{parted_by_name}
+use Rattle.record_chart.proofs.OfSort.Order.{parted_by_name}
 use Rattle.record_chart.proofs.search.count_below.Goals as goal
 
 pub returns-clause-first : goal.returns-clause-first

@@ -1,5 +1,5 @@
 use Rattle.std.proofs.Common.{◌-◌, sym, ◌∙◌, arith}
-use Rattle.record_chart.proofs.Narrowed.{before_below}
+use Rattle.record_chart.proofs.OfGroup.Narrowed.{before_below}
 use Rattle.record_chart.proofs.search.is_below_before.Goals as goal
 
 pub returns-else-at-eq0 : goal.returns-else-at-eq0

@@ -1,7 +1,7 @@
 -- The names of earlier pages are below one, and those of later pages are not.
 use Rattle.std.proofs.Common.{◌≤◌, rules}
-use Rattle.record_chart.proofs.Groups.{group_goes_up, earlier_below, later_not_below}
-use Rattle.record_chart.proofs.Narrowed.{part_in_order, point_is}
+use Rattle.record_chart.proofs.OfGroup.Groups.{group_goes_up, earlier_below, later_not_below}
+use Rattle.record_chart.proofs.OfGroup.Narrowed.{part_in_order, point_is}
 use Rattle.record_chart.proofs.search.names_below.Goals as goal
 
 pub count_below-requires : goal.count_below-requires

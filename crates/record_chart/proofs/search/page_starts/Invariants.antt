@@ -1,4 +1,4 @@
-use Rattle.record_chart.proofs.Starts.{HaveStarts}
+use Rattle.record_chart.proofs.OfGroup.Starts.{HaveStarts}
 use Rattle.record_chart.proofs.search.page_starts.Given as goal
 
 abbrev pub invariant-loop-at : goal.invariant-loop-at

@@ -1,7 +1,7 @@
 use Rattle.std.proofs.Common.{rules, leb}
 use Rattle.std.proofs.lemmas.List.Sorted.{IsPartitionPoint-from_clause}
-use Rattle.record_chart.proofs.Order.{parted_by_page, pages_first}
-use Rattle.record_chart.proofs.Narrowed.{page_point}
+use Rattle.record_chart.proofs.OfSort.Order.{parted_by_page, pages_first}
+use Rattle.record_chart.proofs.OfGroup.Narrowed.{page_point}
 use Rattle.record_chart.proofs.search.pages_up_to.Goals as goal
 
 pub returns-in-None-clause-first : goal.returns-in-None-clause-first

@@ -1,4 +1,4 @@
-use Rattle.record_chart.proofs.OneOrbit.{some_orbit, one_orbit}
+use Rattle.record_chart.proofs.OfWalk.OneOrbit.{some_orbit, one_orbit}
 use Rattle.record_chart.proofs.theorems.one_orbit.Goals as goal
 
 pub returns : goal.returns

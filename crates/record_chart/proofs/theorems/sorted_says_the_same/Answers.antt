@@ -1,4 +1,5 @@
-use Rattle.record_chart.proofs.Alike.{newest_alike, next_older_alike, present_alike, link_alike, back_alike, straddling_alike, why_alike, cur_alike, responsible_alike}
+use Rattle.record_chart.proofs.OfSort.Alike.{newest_alike, next_older_alike, present_alike, link_alike, back_alike, straddling_alike, why_alike, cur_alike}
+use Rattle.record_chart.proofs.OfSort.Alike.{responsible_alike}
 use Rattle.record_chart.proofs.theorems.sorted_says_the_same.Goals as goal
 
 pub returns : goal.returns

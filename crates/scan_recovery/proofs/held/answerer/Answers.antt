@@ -1,6 +1,6 @@
 use Rattle.std.proofs.Common.{position, sym, ap, ◌∙◌}
 use Rattle.record_list.specs.Records.{has_name}
-use Rattle.scan_recovery.proofs.HeldPlaces.{answerer_some}
+use Rattle.scan_recovery.proofs.OfSpare.HeldPlaces.{answerer_some}
 use Rattle.scan_recovery.proofs.held.answerer.Goals as goal
 
 pub returns-then-version-gt0 : goal.returns-then-version-gt0

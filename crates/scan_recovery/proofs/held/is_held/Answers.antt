@@ -1,5 +1,5 @@
 use Rattle.std.proofs.Common.{false, sym}
-use Rattle.scan_recovery.proofs.HeldPlaces.{held_at, found_by_name}
+use Rattle.scan_recovery.proofs.OfSpare.HeldPlaces.{held_at, found_by_name}
 use Rattle.scan_recovery.proofs.held.is_held.Goals as goal
 
 pub returns-in-Some : goal.returns-in-Some

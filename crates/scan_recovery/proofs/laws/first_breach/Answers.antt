@@ -2,8 +2,8 @@ use Rattle.std.proofs.Common.{All, ◌∙◌, subst}
 use Rattle.record_list.specs.declared.found.Found.{Found}
 use Rattle.record_list.specs.SoundList.{CurrentIsPresent, LinkHasCounted, LooseIsShown, LooseEnds}
 use Rattle.scan_recovery.specs.Searches.{AreKept}
-use Rattle.scan_recovery.proofs.LawsAlike.{all_back}
-use Rattle.scan_recovery.proofs.LeastBreaches.{least_links, sound_list}
+use Rattle.scan_recovery.proofs.OfLaws.LawsAlike.{all_back}
+use Rattle.scan_recovery.proofs.OfLaws.LeastBreaches.{least_links, sound_list}
 use Rattle.scan_recovery.proofs.laws.first_breach.Goals as goal
 
 pub returns-in-Some : goal.returns-in-Some

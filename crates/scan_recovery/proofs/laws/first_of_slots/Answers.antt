@@ -1,4 +1,4 @@
-use Rattle.scan_recovery.proofs.LeastBreaches.{least_current, least_counted, least_loose, least_ending, sound_list}
+use Rattle.scan_recovery.proofs.OfLaws.LeastBreaches.{least_current, least_counted, least_loose, least_ending, sound_list}
 use Rattle.scan_recovery.proofs.laws.first_of_slots.Goals as goal
 
 pub returns-in-Some : goal.returns-in-Some

@@ -1,4 +1,4 @@
-use Rattle.scan_recovery.proofs.OpenedTable.{IsOpenedTo}
+use Rattle.scan_recovery.proofs.OfOpening.OpenedTable.{IsOpenedTo}
 use Rattle.scan_recovery.proofs.opening.block_table.Given as goal
 
 -- the blocks so far are as the slots have them

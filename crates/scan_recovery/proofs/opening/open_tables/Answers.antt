@@ -39,7 +39,11 @@ from_standing-requires-clause-scan g c =
     let seen = c.args.scanned.seen.items in
     let list = c.args.scanned.list.items in
     let keeps = rw c.deref-2.ensures.value at c.in_ok-spare.ensures.sound in
-    rw c.deref-3.ensures.value (list, scanned c.args.config c.args.shape seen list c.args.standing.now c.requires.check c.requires.seen c.requires.complete c.requires.scanned c.requires.sorts c.requires.protocol c.requires.logical keeps.0)
+    rw c.deref-3.ensures.value (
+      list,
+      scanned c.args.config c.args.shape seen list c.args.standing.now c.requires.check c.requires.seen c.requires.complete
+          c.requires.scanned c.requires.sorts c.requires.protocol c.requires.logical keeps.0,
+    )
 
 pub block_table-requires-clause-shape : goal.block_table-requires-clause-shape
 block_table-requires-clause-shape g c =
@@ -53,9 +57,11 @@ set_spare-requires g c =
     let spare = c.in_ok-spare.spare.0 in
     let keeps = rw c.deref-2.ensures.value at c.in_ok-spare.ensures.sound in
     let noted = rw c.deref-3.ensures.value at c.in_ok-index.ensures in
-    let is = noted list (scanned c.args.config c.args.shape seen list c.args.standing.now c.requires.check c.requires.seen c.requires.complete c.requires.scanned c.requires.sorts c.requires.protocol c.requires.logical keeps.0) in
+    let is = noted list (scanned c.args.config c.args.shape seen list c.args.standing.now c.requires.check c.requires.seen c.requires.complete
+    c.requires.scanned c.requires.sorts c.requires.protocol c.requires.logical keeps.0) in
     let below : spare < blocks_of c.args.shape = elim c.in_ok-spare.ensures.spare [ inl high ↦ high.exists | inr high ↦ high.1.exists ] in
-    subst (λ i. spare < blocks_of (shape_of i)) (sym is.config) (subst (λ s. spare < blocks_of s) (checked_config c.args.config c.args.shape c.requires.check).1 below)
+    subst (λ i. spare < blocks_of (shape_of i)) (sym is.config) (subst (λ s. spare < blocks_of s)
+    (checked_config c.args.config c.args.shape c.requires.check).1 below)
 
 pub returns-clause-sound : goal.returns-clause-sound
 returns-clause-sound g c =
@@ -83,7 +89,8 @@ returns-clause-tables g c =
       chosen = subst (λ n. IsChosenFrom config.protocol n (shape_of config) seen list spare) c.requires.logical
           (subst₂ (λ p s. IsChosenFrom p standing.logical s seen list spare) (c.requires.protocol ∙ sym c.requires.rule) same chosen);
       scan = c.in_ok-index.index;
-      scanned = noted list (scanned c.args.config c.args.shape seen list c.args.standing.now c.requires.check c.requires.seen c.requires.complete c.requires.scanned c.requires.sorts c.requires.protocol c.requires.logical keeps.0);
+      scanned = noted list (scanned c.args.config c.args.shape seen list c.args.standing.now c.requires.check c.requires.seen c.requires.complete
+          c.requires.scanned c.requires.sorts c.requires.protocol c.requires.logical keeps.0);
       noted_is = c.set_spare.ensures;
       table_is = table ∙ ap (λ s. opening_table s seen spare) same;
     }

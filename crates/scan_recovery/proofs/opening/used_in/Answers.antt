@@ -1,5 +1,5 @@
 use Rattle.std.proofs.Common.{inl, inr, sym, ◌∙◌, arith}
-use Rattle.scan_recovery.proofs.Used.{used_in_is}
+use Rattle.scan_recovery.proofs.OfOpening.Used.{used_in_is}
 use Rattle.scan_recovery.proofs.opening.used_in.Goals as goal
 use Rattle.scan_recovery.proofs.opening.used_in.Goals.{then-loop-used-test+else-is_blank, else-loop-used-test}
 

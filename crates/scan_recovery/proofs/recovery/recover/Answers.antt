@@ -1,26 +1,31 @@
 use Rattle.std.proofs.Common.{◌∙◌}
 use Rattle.std.proofs.lemmas.Result.{IfOk-weaker}
-use Rattle.scan_recovery.proofs.OpenedImages.{scan_complete, scan_scanned, scan_pages, copies_agree, opened_image, recovered_sound, recovered_unsound, recovered_reads}
+use Rattle.scan_recovery.proofs.OfOpening.OpenedImages.{scan_complete, scan_scanned, scan_pages, copies_agree, opened_image, recovered_sound, recovered_unsound}
+use Rattle.scan_recovery.proofs.OfOpening.OpenedImages.{recovered_reads}
 use Rattle.scan_recovery.proofs.recovery.recover.Goals as goal
 
 pub open_tables-requires-clause-complete : goal.open_tables-requires-clause-complete
 open_tables-requires-clause-complete g c =
-    scan_complete c.args.config.protocol c.args.config.logical (g.F.Flash.state c.args.flash.now).image c.in_ok-scanned.scanned.seen.items c.in_ok-scanned.scanned.list.items
+    scan_complete c.args.config.protocol c.args.config.logical (g.F.Flash.state c.args.flash.now).image c.in_ok-scanned.scanned.seen.items
+    c.in_ok-scanned.scanned.list.items
     c.in_ok-scanned.ensures.scan
 
 pub open_tables-requires-clause-scanned : goal.open_tables-requires-clause-scanned
 open_tables-requires-clause-scanned g c =
-    scan_scanned c.args.config.protocol c.args.config.logical (g.F.Flash.state c.args.flash.now).image c.in_ok-scanned.scanned.seen.items c.in_ok-scanned.scanned.list.items
+    scan_scanned c.args.config.protocol c.args.config.logical (g.F.Flash.state c.args.flash.now).image c.in_ok-scanned.scanned.seen.items
+    c.in_ok-scanned.scanned.list.items
     c.in_ok-scanned.ensures.scan
 
 pub open_tables-requires-clause-pages : goal.open_tables-requires-clause-pages
 open_tables-requires-clause-pages g c =
-    scan_pages c.args.config.protocol c.args.config.logical (g.F.Flash.state c.args.flash.now).image c.in_ok-scanned.scanned.seen.items c.in_ok-scanned.scanned.list.items
+    scan_pages c.args.config.protocol c.args.config.logical (g.F.Flash.state c.args.flash.now).image c.in_ok-scanned.scanned.seen.items
+    c.in_ok-scanned.scanned.list.items
     c.in_ok-scanned.ensures.scan
 
 pub open_tables-requires-clause-copies : goal.open_tables-requires-clause-copies
 open_tables-requires-clause-copies g c =
-    copies_agree c.args.config.protocol c.args.config.logical (g.F.Flash.state c.args.flash.now).image c.in_ok-scanned.scanned.seen.items c.in_ok-scanned.scanned.list.items
+    copies_agree c.args.config.protocol c.args.config.logical (g.F.Flash.state c.args.flash.now).image c.in_ok-scanned.scanned.seen.items
+    c.in_ok-scanned.scanned.list.items
     c.in_ok-scanned.ensures.scan
     c.in_ok-scanned.ensures.copies
 

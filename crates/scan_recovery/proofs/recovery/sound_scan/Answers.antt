@@ -8,7 +8,7 @@ use Rattle.tx_types.specs.declared.config.Shape.{Shape}
 use Rattle.tx_types.specs.Config.{slots_of}
 use Rattle.scan_recovery.specs.Reading.{ReadsAll, ReadsSome}
 use Rattle.scan_recovery.specs.Twins.{AgreesWithLowest, compared, compared_to}
-use Rattle.scan_recovery.proofs.SoundScans.{scan_exists, scan_copies, scan_breach, reads_whole, reads_until, reads_fault}
+use Rattle.scan_recovery.proofs.OfScan.SoundScans.{scan_exists, scan_copies, scan_breach, reads_whole, reads_until, reads_fault}
 use Rattle.scan_recovery.proofs.recovery.sound_scan.Goals as goal
 
 pub first_contradiction-requires-clause-exists : goal.first_contradiction-requires-clause-exists
@@ -16,7 +16,8 @@ first_contradiction-requires-clause-exists g c =
     let a = g.F.Flash.state c.args.flash.now in
     let b = g.F.Flash.state c.scan.new.flash in
     subst (All (λ (f : Found). f.slot.0 < slots_of b.shape)) (sym c.deref-2.ensures.value)
-    (scan_exists c.args.config.protocol c.args.config.logical a b b c.in_ok-scanned.scanned.seen.items c.in_ok-scanned.scanned.list.items c.in_ok-scanned.ensures.scan c.in_ok-scanned.ensures.reads
+    (scan_exists c.args.config.protocol c.args.config.logical a b b c.in_ok-scanned.scanned.seen.items c.in_ok-scanned.scanned.list.items
+    c.in_ok-scanned.ensures.scan c.in_ok-scanned.ensures.reads
     c.shape-size.ensures.whole)
 
 pub first_contradiction-requires-clause-one : goal.first_contradiction-requires-clause-one
@@ -38,23 +39,27 @@ returns-in_err-first_contradiction-clause-reads g c =
     let d = g.F.Flash.state c.first_contradiction.new.flash in
     let p = err_from_is_err_and c.from_residual-in_err-first_contradiction.result c.from_residual-in_err-first_contradiction.ensures.1 in
     rw (p.1, p.2)
-    (reads_fault c.args.config.protocol c.args.config.logical a b d c.in_ok-scanned.scanned.seen.items c.in_ok-scanned.scanned.list.items c.in_ok-scanned.ensures.scan c.in_ok-scanned.ensures.reads
+    (reads_fault c.args.config.protocol c.args.config.logical a b d c.in_ok-scanned.scanned.seen.items c.in_ok-scanned.scanned.list.items
+    c.in_ok-scanned.ensures.scan c.in_ok-scanned.ensures.reads
     (subst (λ l. ReadsSome b d true (2 * compared l)) c.deref-2.ensures.value c.in_err-first_contradiction.ensures.reads))
 
 pub returns-in-None-clause-copies : goal.returns-in-None-clause-copies
 returns-in-None-clause-copies g c =
     let a = g.F.Flash.state c.args.flash.now in
     let b = g.F.Flash.state c.scan.new.flash in
-    scan_copies c.args.config.protocol c.args.config.logical a b b c.in_ok-scanned.scanned.seen.items c.in_ok-scanned.scanned.list.items c.in_ok-scanned.ensures.scan c.in_ok-scanned.ensures.reads
+    scan_copies c.args.config.protocol c.args.config.logical a b b c.in_ok-scanned.scanned.seen.items c.in_ok-scanned.scanned.list.items
+    c.in_ok-scanned.ensures.scan c.in_ok-scanned.ensures.reads
     (subst (λ l. All (AgreesWithLowest b.shape.page_bytes b.image l) l) c.deref-2.ensures.value
-    (subst (FindsFirst (AgreesWithLowest b.shape.page_bytes b.image c.deref-2.result.now) c.deref-2.result.now) c.in-None.is c.in_ok-first_contradiction.ensures.first))
+    (subst (FindsFirst (AgreesWithLowest b.shape.page_bytes b.image c.deref-2.result.now) c.deref-2.result.now) c.in-None.is
+    c.in_ok-first_contradiction.ensures.first))
 
 pub returns-in-None-clause-reads : goal.returns-in-None-clause-reads
 returns-in-None-clause-reads g c =
     let a = g.F.Flash.state c.args.flash.now in
     let b = g.F.Flash.state c.scan.new.flash in
     let d = g.F.Flash.state c.first_contradiction.new.flash in
-    reads_whole c.args.config.protocol c.args.config.logical a b d c.in_ok-scanned.scanned.seen.items c.in_ok-scanned.scanned.list.items c.in_ok-scanned.ensures.scan c.in_ok-scanned.ensures.reads
+    reads_whole c.args.config.protocol c.args.config.logical a b d c.in_ok-scanned.scanned.seen.items c.in_ok-scanned.scanned.list.items
+    c.in_ok-scanned.ensures.scan c.in_ok-scanned.ensures.reads
     (subst (λ l. ReadsAll b d (2 * compared l)) c.deref-2.ensures.value
     (subst (λ o. ReadsAll b d (2 * compared_to c.deref-2.result.now o)) c.in-None.is c.in_ok-first_contradiction.ensures.reads))
 
@@ -64,8 +69,10 @@ returns-clause-unsound g c =
     let b = g.F.Flash.state c.scan.new.flash in
     let list = c.in_ok-scanned.scanned.list.items in
     let first = subst (λ l. FindsFirst (AgreesWithLowest b.shape.page_bytes b.image l) l (Some c.in-Some.at)) c.deref-2.ensures.value
-    (subst (FindsFirst (AgreesWithLowest b.shape.page_bytes b.image c.deref-2.result.now) c.deref-2.result.now) c.in-Some.is c.in_ok-first_contradiction.ensures.first) in
-    scan_breach c.args.config.protocol c.args.config.logical a b b c.in_ok-scanned.scanned.seen.items list c.in_ok-scanned.ensures.scan c.in_ok-scanned.ensures.reads
+    (subst (FindsFirst (AgreesWithLowest b.shape.page_bytes b.image c.deref-2.result.now) c.deref-2.result.now) c.in-Some.is
+    c.in_ok-first_contradiction.ensures.first) in
+    scan_breach c.args.config.protocol c.args.config.logical a b b c.in_ok-scanned.scanned.seen.items list c.in_ok-scanned.ensures.scan
+    c.in_ok-scanned.ensures.reads
     c.in-Some.at c.index.result.now first (sym (get_or_read list c.in-Some.at c.index.result.now first.0 c.index.ensures nothing))
 
 pub returns-clause-reads : goal.returns-clause-reads
@@ -75,8 +82,10 @@ returns-clause-reads g c =
     let d = g.F.Flash.state c.first_contradiction.new.flash in
     let list = c.in_ok-scanned.scanned.list.items in
     let first = subst (λ l. FindsFirst (AgreesWithLowest b.shape.page_bytes b.image l) l (Some c.in-Some.at)) c.deref-2.ensures.value
-    (subst (FindsFirst (AgreesWithLowest b.shape.page_bytes b.image c.deref-2.result.now) c.deref-2.result.now) c.in-Some.is c.in_ok-first_contradiction.ensures.first) in
-    reads_until c.args.config.protocol c.args.config.logical a b d c.in_ok-scanned.scanned.seen.items list c.in_ok-scanned.ensures.scan c.in_ok-scanned.ensures.reads
+    (subst (FindsFirst (AgreesWithLowest b.shape.page_bytes b.image c.deref-2.result.now) c.deref-2.result.now) c.in-Some.is
+    c.in_ok-first_contradiction.ensures.first) in
+    reads_until c.args.config.protocol c.args.config.logical a b d c.in_ok-scanned.scanned.seen.items list c.in_ok-scanned.ensures.scan
+    c.in_ok-scanned.ensures.reads
     c.in-Some.at c.index.result.now first.0 (sym (get_or_read list c.in-Some.at c.index.result.now first.0 c.index.ensures nothing))
     (subst (λ l. ReadsAll b d (2 * compared_to l (Some c.in-Some.at))) c.deref-2.ensures.value
     (subst (λ o. ReadsAll b d (2 * compared_to c.deref-2.result.now o)) c.in-Some.is c.in_ok-first_contradiction.ensures.reads))

@@ -1,4 +1,4 @@
-use Rattle.scan_recovery.proofs.RemovableBlocks.{highest_is}
+use Rattle.scan_recovery.proofs.OfSpare.RemovableBlocks.{highest_is}
 use Rattle.scan_recovery.proofs.removable.highest_removable.Goals as goal
 
 pub returns : goal.returns

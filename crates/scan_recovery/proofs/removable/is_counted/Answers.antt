@@ -1,5 +1,5 @@
 use Rattle.std.proofs.Common.{◌∙◌}
-use Rattle.scan_recovery.proofs.RemovableBlocks.{counted_then, counted_else}
+use Rattle.scan_recovery.proofs.OfSpare.RemovableBlocks.{counted_then, counted_else}
 use Rattle.scan_recovery.proofs.removable.is_counted.Goals as goal
 
 pub returns-then-rec-current : goal.returns-then-rec-current

@@ -1,7 +1,7 @@
 use Rattle.std.proofs.Common.{◌∙◌}
 use Rattle.record_list.specs.Records.{has_name, name_of}
 use Rattle.record_list.specs.Written.{is_outside}
-use Rattle.scan_recovery.proofs.RemovableBlocks.{any_named}
+use Rattle.scan_recovery.proofs.OfSpare.RemovableBlocks.{any_named}
 use Rattle.scan_recovery.proofs.removable.stands_outside.Goals as goal
 
 pub returns : goal.returns

@@ -2,9 +2,9 @@ use Rattle.std.proofs.Common.{◌≡◌, ◌<◌, length, vec_capacity, ap, ◌�
 use Rattle.tx_types.specs.Config.{slots_of}
 use Rattle.flash_model.specs.Flash.{slot_at}
 use Rattle.scan_recovery.specs.Scans.{IsNote}
-use Rattle.scan_recovery.proofs.ReadingSteps.{reads_nothing, reads_all_then}
-use Rattle.scan_recovery.proofs.ComparedSteps.{as_before}
-use Rattle.scan_recovery.proofs.ScanSteps.{scan_first, found_note, found_unread}
+use Rattle.scan_recovery.proofs.OfScan.ReadingSteps.{reads_nothing, reads_all_then}
+use Rattle.scan_recovery.proofs.OfScan.ComparedSteps.{as_before}
+use Rattle.scan_recovery.proofs.OfScan.ScanSteps.{scan_first, found_note, found_unread}
 use Rattle.scan_recovery.proofs.scan.scan.Goals as goal
 use Rattle.scan_recovery.proofs.scan.scan.Goals.{in-Some, in-None}
 

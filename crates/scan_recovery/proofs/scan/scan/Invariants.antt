@@ -1,8 +1,7 @@
-use Rattle.std.proofs.Common.{◌≡◌, ◌≤◌, ◌*◌, vec_len, vec_capacity}
+use Rattle.std.proofs.Common.{◌≡◌, ◌≤◌, vec_len, vec_capacity}
 use Rattle.std.specs.Prelude.{MatchOption}
 use Rattle.scan_recovery.specs.Reading.{ReadsAll}
-use Rattle.scan_recovery.specs.declared.scan.TheConstants.{LIST_ROOM}
-use Rattle.scan_recovery.proofs.ScanSteps.{IsScanTo, IsUnreadTo}
+use Rattle.scan_recovery.proofs.OfScan.ScanSteps.{IsScanTo, IsUnreadTo}
 use Rattle.scan_recovery.proofs.scan.scan.Given as goal
 
 -- the slots so far were read, and either each keeps law 1 and is noted, or the first that breaks it is known
@@ -15,5 +14,5 @@ invariant-loop-at g l = record {
   seen_len : vec_len l.seen ≤ l.at;
   list_len : vec_len l.list ≤ l.at;
   seen_room : vec_capacity l.seen ≡ l.slots;
-  list_room : vec_capacity l.list ≡ LIST_ROOM * l.slots;
+  list_room : vec_capacity l.list ≡ l.slots;
 }

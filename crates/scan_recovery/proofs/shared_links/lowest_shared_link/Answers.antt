@@ -1,14 +1,15 @@
 use Rattle.std.proofs.Common.{rules}
 use Rattle.list_facts.proofs.Membership.{all_from}
 use Rattle.record_list.specs.SoundList.{LinksDiffer}
-use Rattle.scan_recovery.proofs.OwnLinks.{own_links_differ}
-use Rattle.scan_recovery.proofs.SharedLinks.{finds_lowest}
+use Rattle.scan_recovery.proofs.OfLinks.OwnLinks.{own_links_differ}
+use Rattle.scan_recovery.proofs.OfLinks.SharedLinks.{finds_lowest}
 use Rattle.scan_recovery.proofs.shared_links.lowest_shared_link.Goals as goal
 
 pub returns-then-branch : goal.returns-then-branch
 returns-then-branch c =
     let r = c.requires in
-    all_from (LinksDiffer c.args.list.now) c.args.list.now (own_links_differ c.args.list.now c.args.chart.now r.sorts (c.in_ok-have_own_links.ensures c.if-branch.true))
+    all_from (LinksDiffer c.args.list.now) c.args.list.now (own_links_differ c.args.list.now c.args.chart.now r.sorts
+    (c.in_ok-have_own_links.ensures c.if-branch.true))
 
 pub returns : goal.returns
 returns c =

@@ -3,7 +3,7 @@ use Rattle.std.proofs.Common.{◌≡◌, ◌+◌, ◌-◌, suc, true, sym, ◌�
 use Rattle.std.proofs.lemmas.Bool.{false≢true}
 use Rattle.record_list.specs.Records.{nothing}
 use Rattle.scan_recovery.specs.Searches.{share_link, lower, NextShares, next_slot, IsLowestBelow}
-use Rattle.scan_recovery.proofs.SharedLinks.{lowest_yes, lowest_no}
+use Rattle.scan_recovery.proofs.OfLinks.SharedLinks.{lowest_yes, lowest_no}
 use Rattle.scan_recovery.proofs.shared_links.lowest_sharer.Goals as goal
 use Rattle.scan_recovery.proofs.shared_links.lowest_sharer.Goals.{then-share_link, else-share_link}
 

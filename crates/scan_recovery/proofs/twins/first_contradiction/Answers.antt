@@ -8,9 +8,9 @@ use Rattle.record_list.specs.Records.{nothing}
 use Rattle.scan_recovery.specs.Reading.{ReadsAll, ReadsSome}
 use Rattle.scan_recovery.specs.Searches.{NextDiffers}
 use Rattle.scan_recovery.specs.Twins.{AgreesWithLowest}
-use Rattle.scan_recovery.proofs.LoneNames.{all_agree, none_read}
-use Rattle.scan_recovery.proofs.ComparedSteps.{first_compared, as_before, agree_more, compared_next, compared_fault, compared_whole}
-use Rattle.scan_recovery.proofs.TwinsAlike.{compared_alike, agrees_alike, all_alike}
+use Rattle.scan_recovery.proofs.OfLaws.LoneNames.{all_agree, none_read}
+use Rattle.scan_recovery.proofs.OfScan.ComparedSteps.{first_compared, as_before, agree_more, compared_next, compared_fault, compared_whole}
+use Rattle.scan_recovery.proofs.OfLaws.TwinsAlike.{compared_alike, agrees_alike, all_alike}
 use Rattle.scan_recovery.proofs.twins.first_contradiction.Goals as goal
 
 pub returns-then-names_differ-clause-first : goal.returns-then-names_differ-clause-first
@@ -38,7 +38,8 @@ returns-in_err-agrees-clause-reads g c =
     let b = g.F.Flash.state c.agrees.new.flash in
     rw p.1 (compared_fault (g.F.Flash.state c.args.flash.now) a b c.args.list.now c.loop-at.at c.loop-at-test.true
     c.loop-at.invariant.reads
-    (subst (λ t. ReadsSome a b true (cond t 2 0)) (compared_alike c.args.list.now c.args.chart.now c.requires.sorts (get_or c.args.list.now c.loop-at.at nothing))
+    (subst (λ t. ReadsSome a b true (cond t 2 0)) (compared_alike c.args.list.now c.args.chart.now c.requires.sorts
+    (get_or c.args.list.now c.loop-at.at nothing))
     c.in_err-agrees.ensures.reads))
 
 pub returns-then-not-branch-clause-first : goal.returns-then-not-branch-clause-first

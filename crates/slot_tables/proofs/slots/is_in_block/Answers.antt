@@ -1,4 +1,4 @@
-use Rattle.slot_tables.proofs.InBlocks.{in_block}
+use Rattle.slot_tables.proofs.OfSlots.InBlocks.{in_block}
 use Rattle.slot_tables.proofs.slots.is_in_block.Goals as goal
 
 pub returns-then-first-at : goal.returns-then-first-at

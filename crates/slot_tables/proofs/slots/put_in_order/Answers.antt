@@ -4,7 +4,7 @@ use Rattle.std.specs.List.{position_or_len}
 use Rattle.std.proofs.lemmas.List.Sums.{prefix_len-le-length}
 use Rattle.plain_tables.specs.ChainLists.{list_of}
 use Rattle.slot_tables.specs.Copies.{is_above}
-use Rattle.slot_tables.proofs.Rising.{last_place, no_place}
+use Rattle.slot_tables.proofs.OfRecords.Rising.{last_place, no_place}
 use Rattle.slot_tables.proofs.slots.put_in_order.Goals as goal
 
 pub returns-in-None : goal.returns-in-None

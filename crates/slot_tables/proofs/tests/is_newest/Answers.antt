@@ -7,7 +7,8 @@ use Rattle.tx_types.specs.Config.{slots_of}
 use Rattle.slot_tables.specs.Kept.{record_at}
 use Rattle.slot_tables.proofs.tests.is_newest.Goals as goal
 
-older_at : (rec r : Rec) (o : Option Rec) → IfSome o (λ s. s.page ≡ rec.page → s.version < rec.version) → o ≡ Some r → r.page ≡ rec.page → r.version < rec.version
+older_at : (rec r : Rec) (o : Option Rec) → IfSome o (λ s. s.page ≡ rec.page → s.version < rec.version) → o ≡ Some r → r.page ≡ rec.page →
+    r.version < rec.version
 older_at rec r o h e = let P : Option Rec → Type 0 = λ q. IfSome q (λ s. s.page ≡ rec.page → s.version < rec.version) in subst P e h
 
 pub loop-number-preserved : goal.loop-number-preserved

@@ -1,7 +1,7 @@
 use Rattle.std.proofs.Common.{subst, sym, ◌∙◌}
 use Rattle.std.proofs.lemmas.Option.{same_Some}
 use Rattle.version_index.specs.Going.{IsTopBelow, IsLowestIn}
-use Rattle.version_index.proofs.KeptGoing.{lowest_copy}
+use Rattle.version_index.proofs.OfGoing.KeptGoing.{lowest_copy}
 use Rattle.version_index.proofs.clearing.loose_top.Goals as goal
 
 pub returns-in-Some : goal.returns-in-Some

@@ -3,7 +3,7 @@ use Rattle.std.proofs.Common.{sym, ◌∙◌, subst, inl, inr, arith}
 use Rattle.std.proofs.lemmas.Option.{same_Some}
 use Rattle.slot_tables.specs.Kept.{WaitsBelow}
 use Rattle.slot_tables.specs.Gathered.{AreGathered}
-use Rattle.version_index.proofs.GatheredMore.{room_more, gathered_more}
+use Rattle.version_index.proofs.OfGoing.GatheredMore.{room_more, gathered_more}
 use Rattle.version_index.specs.Going.{Goes}
 use Rattle.version_index.proofs.clearing.put_going.Goals as goal
 

@@ -1,4 +1,4 @@
-use Rattle.version_index.proofs.AnsweredRounds.{IsAnsweringRound}
+use Rattle.version_index.proofs.OfCommit.AnsweredRounds.{IsAnsweringRound}
 use Rattle.version_index.proofs.committing.answer_all.Given as goal
 
 abbrev pub invariant-loop : goal.invariant-loop

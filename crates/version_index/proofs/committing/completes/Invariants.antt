@@ -1,4 +1,4 @@
-use Rattle.version_index.proofs.KeptWalks.{IsWalking}
+use Rattle.version_index.proofs.OfCommit.KeptWalks.{IsWalking}
 use Rattle.version_index.proofs.committing.completes.Given as goal
 
 abbrev pub invariant-loop : goal.invariant-loop

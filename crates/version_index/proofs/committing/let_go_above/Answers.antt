@@ -6,7 +6,7 @@ use Rattle.tx_types.specs.declared.record.Rec.{Rec}
 use Rattle.slot_tables.specs.Kept.{Kept, record_at, numbers_at}
 use Rattle.version_index.specs.Losing.{freed}
 use Rattle.version_index.specs.Tables.{version_at}
-use Rattle.version_index.proofs.Taking.{IsTaking, over_of, none_taken, one_taken, less_over, all_taken, older_below}
+use Rattle.version_index.proofs.OfCommit.Taking.{IsTaking, over_of, none_taken, one_taken, less_over, all_taken, older_below}
 use Rattle.version_index.proofs.committing.let_go_above.Goals as goal
 
 pub loop-next-init : goal.loop-next-init

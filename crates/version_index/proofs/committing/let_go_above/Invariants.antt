@@ -1,4 +1,4 @@
-use Rattle.version_index.proofs.Taking.{IsTaking, left_over}
+use Rattle.version_index.proofs.OfCommit.Taking.{IsTaking, left_over}
 use Rattle.version_index.proofs.committing.let_go_above.Given as goal
 
 abbrev pub invariant-loop-next : goal.invariant-loop-next

@@ -1,5 +1,5 @@
 use Rattle.std.proofs.Common.{sym}
-use Rattle.version_index.proofs.KeptRounds.{start_taking, taking_ends, taking_fails, taking_more, taking_whole}
+use Rattle.version_index.proofs.OfCommit.KeptRounds.{start_taking, taking_ends, taking_fails, taking_more, taking_whole}
 use Rattle.version_index.proofs.committing.take_all.Goals as goal
 
 pub loop-init : goal.loop-init

@@ -1,4 +1,4 @@
-use Rattle.version_index.proofs.KeptRounds.{IsTakingRound}
+use Rattle.version_index.proofs.OfCommit.KeptRounds.{IsTakingRound}
 use Rattle.version_index.proofs.committing.take_all.Given as goal
 
 abbrev pub invariant-loop : goal.invariant-loop

@@ -1,7 +1,7 @@
 use Rattle.std.proofs.Common.{length, arith, set, ap, sym, subst, ◌∙◌}
 use Rattle.slot_tables.specs.Kept.{Kept}
 use Rattle.version_index.specs.Committing.{OnlyJudges, IsTaken}
-use Rattle.version_index.proofs.Taking.{taken_then, taken_judges}
+use Rattle.version_index.proofs.OfCommit.Taking.{taken_then, taken_judges}
 use Rattle.version_index.proofs.committing.take_newest.Goals as goal
 
 pub returns-clause-judges : goal.returns-clause-judges

@@ -4,7 +4,7 @@ use Rattle.record_list.specs.Current.{cur}
 use Rattle.slot_tables.specs.Kept.{Kept}
 use Rattle.version_index.specs.Filling.{number_by}
 use Rattle.version_index.specs.Judged.{name_at}
-use Rattle.version_index.proofs.ScanDecided.{IsCurrentSo, current_more, name_below}
+use Rattle.version_index.proofs.OfOpening.ScanDecided.{IsCurrentSo, current_more, name_below}
 use Rattle.version_index.proofs.deciding.decide_current.Goals as goal
 
 pub set_current-requires-clause-page : goal.set_current-requires-clause-page

@@ -1,4 +1,4 @@
-use Rattle.version_index.proofs.ScanDecided.{IsCurrentSo}
+use Rattle.version_index.proofs.OfOpening.ScanDecided.{IsCurrentSo}
 use Rattle.version_index.proofs.deciding.decide_current.Given as goal
 
 abbrev pub invariant-loop-page : goal.invariant-loop-page

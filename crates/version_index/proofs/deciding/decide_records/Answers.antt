@@ -8,7 +8,7 @@ use Rattle.slot_tables.specs.Kept.{Kept}
 use Rattle.version_index.specs.Filling.{judged_by, number_by, AreDecided}
 use Rattle.version_index.specs.Judged.{answerer}
 use Rattle.version_index.specs.Numbered.{awaited}
-use Rattle.version_index.proofs.ScanDecided.{start_decided, decided_more, place_below, name_below, awaited_exists}
+use Rattle.version_index.proofs.OfOpening.ScanDecided.{start_decided, decided_more, place_below, name_below, awaited_exists}
 use Rattle.version_index.proofs.deciding.decide_records.Goals as goal
 
 pub loop-i-init : goal.loop-i-init
@@ -20,7 +20,8 @@ set_answerer-requires-clause-number c =
     let long = ap length (c.records-records.ensures.records ∙ c.chart.ensures) in
     let below = c.loop-i-test.true in
     subst (λ s. get_or c.args.numbers.now c.loop-i.i 0 < slots_of s) (sym shape)
-    (place_below c.args.standing.now.list c.args.numbers.now c.args.tables.now c.requires.numbered c.requires.whole c.shape.ensures.kept c.loop-i.i (omega arith))
+    (place_below c.args.standing.now.list c.args.numbers.now c.args.tables.now c.requires.numbered c.requires.whole c.shape.ensures.kept c.loop-i.i
+    (omega arith))
 
 pub set_answerer-requires-clause-answerer : goal.set_answerer-requires-clause-answerer
 set_answerer-requires-clause-answerer c =
@@ -35,7 +36,8 @@ set_waits-requires-clause-number c =
     let long = ap length (c.records-records.ensures.records ∙ c.chart.ensures) in
     let below = c.loop-i-test.true in
     subst (λ s. get_or c.args.numbers.now c.loop-i.i 0 < slots_of s) (sym shape)
-    (place_below c.args.standing.now.list c.args.numbers.now c.args.tables.now c.requires.numbered c.requires.whole c.shape.ensures.kept c.loop-i.i (omega arith))
+    (place_below c.args.standing.now.list c.args.numbers.now c.args.tables.now c.requires.numbered c.requires.whole c.shape.ensures.kept c.loop-i.i
+    (omega arith))
 
 pub set_waits-requires-clause-page : goal.set_waits-requires-clause-page
 set_waits-requires-clause-page c =

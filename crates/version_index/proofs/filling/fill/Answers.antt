@@ -7,8 +7,8 @@ use Rattle.slot_tables.specs.Kept.{Kept}
 use Rattle.version_index.specs.Filling.{NamesAgree, AreNumbered, AreBlankBut, AreCurrent, AreDecided}
 use Rattle.version_index.specs.Notes.{seen_as, found_in}
 use Rattle.version_index.specs.Tables.{notes_in}
-use Rattle.version_index.proofs.ScanFilled.{filled_from}
-use Rattle.version_index.proofs.ScanSlots.{all_held, all_placed, each_below, put_used, put_within, uses_held}
+use Rattle.version_index.proofs.OfOpening.ScanFilled.{filled_from}
+use Rattle.version_index.proofs.OfOpening.ScanSlots.{all_held, all_placed, each_below, put_used, put_within, uses_held}
 use Rattle.version_index.proofs.filling.fill.Goals as goal
 
 pub number_records-requires-clause-agree : goal.number_records-requires-clause-agree
@@ -39,7 +39,8 @@ hold_uses-requires-clause-below c at =
 
 pub hold_uses-requires-clause-size : goal.hold_uses-requires-clause-size
 hold_uses-requires-clause-size c =
-    ap length c.deref-2.ensures.value ∙ c.in_ok-uses.ensures.size ∙ c.requires.fills.1.reads ∙ sym (ap (λ (k : Kept). slots_of k.shape) c.in_ok-numbers.ensures.blank.rest)
+    ap length c.deref-2.ensures.value ∙ c.in_ok-uses.ensures.size ∙ c.requires.fills.1.reads ∙
+    sym (ap (λ (k : Kept). slots_of k.shape) c.in_ok-numbers.ensures.blank.rest)
 
 pub returns-clause-reads : goal.returns-clause-reads
 returns-clause-reads c =

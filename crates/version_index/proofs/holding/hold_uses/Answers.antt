@@ -1,6 +1,6 @@
 -- The last slots come first.
 use Rattle.std.proofs.Common.{◌≡◌, ◌+◌, ◌-◌, ◌<◌, length, refl, sym, subst, ◌∙◌, arith}
-use Rattle.version_index.proofs.ScanSlots.{AreUsedFrom, one_used, all_used}
+use Rattle.version_index.proofs.OfOpening.ScanSlots.{AreUsedFrom, one_used, all_used}
 use Rattle.version_index.proofs.holding.hold_uses.Goals as goal
 
 pub loop-i-preserved : goal.loop-i-preserved
@@ -20,4 +20,5 @@ loop-i-preserved c =
 
 pub returns : goal.returns
 returns c =
-    all_used c.args.tables.now c.args.uses.now c.loop-i.tables c.loop-i.i c.loop-i.invariant (c.shape.ensures.kept.slots ∙ sym c.requires.size) c.loop-i-test.false
+    all_used c.args.tables.now c.args.uses.now c.loop-i.tables c.loop-i.i c.loop-i.invariant (c.shape.ensures.kept.slots ∙
+    sym c.requires.size) c.loop-i-test.false

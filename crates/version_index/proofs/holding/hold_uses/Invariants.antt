@@ -1,4 +1,4 @@
-use Rattle.version_index.proofs.ScanSlots.{AreUsedFrom}
+use Rattle.version_index.proofs.OfOpening.ScanSlots.{AreUsedFrom}
 use Rattle.version_index.proofs.holding.hold_uses.Given as goal
 
 abbrev pub invariant-loop-i : goal.invariant-loop-i

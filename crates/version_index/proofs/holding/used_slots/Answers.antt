@@ -1,7 +1,7 @@
 -- One record after the other is put where it stands.
 use Rattle.std.proofs.Common.{◌<◌, length, get_or}
 use Rattle.record_list.specs.Records.{nothing}
-use Rattle.version_index.proofs.ScanSlots.{none_put, put_more}
+use Rattle.version_index.proofs.OfOpening.ScanSlots.{none_put, put_more}
 use Rattle.version_index.proofs.holding.used_slots.Goals as goal
 
 pub loop-place-init : goal.loop-place-init

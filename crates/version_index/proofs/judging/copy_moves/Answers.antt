@@ -1,4 +1,4 @@
-use Rattle.version_index.proofs.JudgedLaws.{copy_moves_law}
+use Rattle.version_index.proofs.OfLaws.JudgedLaws.{copy_moves_law}
 use Rattle.version_index.proofs.judging.copy_moves.Goals as goal
 
 pub returns : goal.returns

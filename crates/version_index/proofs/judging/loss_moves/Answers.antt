@@ -1,4 +1,4 @@
-use Rattle.version_index.proofs.JudgedLaws.{loss_moves_law}
+use Rattle.version_index.proofs.OfLaws.JudgedLaws.{loss_moves_law}
 use Rattle.version_index.proofs.judging.loss_moves.Goals as goal
 
 pub returns : goal.returns

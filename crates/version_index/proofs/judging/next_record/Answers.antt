@@ -1,4 +1,4 @@
-use Rattle.version_index.proofs.JudgedLaws.{next_record_law, completes_law, round_law}
+use Rattle.version_index.proofs.OfLaws.JudgedLaws.{next_record_law, completes_law, round_law}
 use Rattle.version_index.proofs.judging.next_record.Goals as goal
 
 pub returns-clause-newest : goal.returns-clause-newest

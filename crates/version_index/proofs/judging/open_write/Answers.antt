@@ -1,4 +1,4 @@
-use Rattle.version_index.proofs.JudgedLaws.{open_write_law}
+use Rattle.version_index.proofs.OfLaws.JudgedLaws.{open_write_law}
 use Rattle.version_index.proofs.judging.open_write.Goals as goal
 
 pub returns : goal.returns

@@ -1,4 +1,4 @@
-use Rattle.version_index.proofs.JudgedLaws.{damage_moves_law, pin_moves_law, spare_moves_law}
+use Rattle.version_index.proofs.OfLaws.JudgedLaws.{damage_moves_law, pin_moves_law, spare_moves_law}
 use Rattle.version_index.proofs.judging.others_move.Goals as goal
 
 pub returns-clause-damage : goal.returns-clause-damage

@@ -1,4 +1,4 @@
-use Rattle.version_index.proofs.JudgedLaws.{held_law, wanted_law, needed_law, going_law, lowest_law, garbage_law}
+use Rattle.version_index.proofs.OfLaws.JudgedLaws.{held_law, wanted_law, needed_law, going_law, lowest_law, garbage_law}
 use Rattle.version_index.proofs.judging.readings.Goals as goal
 
 pub returns-clause-held : goal.returns-clause-held

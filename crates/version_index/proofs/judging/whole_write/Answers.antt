@@ -1,4 +1,4 @@
-use Rattle.version_index.proofs.JudgedLaws.{whole_write_law}
+use Rattle.version_index.proofs.OfLaws.JudgedLaws.{whole_write_law}
 use Rattle.version_index.proofs.judging.whole_write.Goals as goal
 
 pub returns : goal.returns

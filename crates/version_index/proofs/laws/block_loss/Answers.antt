@@ -1,4 +1,4 @@
-use Rattle.version_index.proofs.ImageLaws.{image_loss_law}
+use Rattle.version_index.proofs.OfLaws.ImageLaws.{image_loss_law}
 use Rattle.version_index.proofs.laws.block_loss.Goals as goal
 
 pub returns : goal.returns

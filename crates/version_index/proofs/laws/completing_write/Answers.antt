@@ -1,4 +1,4 @@
-use Rattle.version_index.proofs.ImageLaws.{image_completing_law}
+use Rattle.version_index.proofs.OfLaws.ImageLaws.{image_completing_law}
 use Rattle.version_index.proofs.laws.completing_write.Goals as goal
 
 pub returns : goal.returns

@@ -1,4 +1,4 @@
-use Rattle.version_index.proofs.ImageLaws.{image_copy_law}
+use Rattle.version_index.proofs.OfLaws.ImageLaws.{image_copy_law}
 use Rattle.version_index.proofs.laws.copy.Goals as goal
 
 pub returns : goal.returns

@@ -1,4 +1,4 @@
-use Rattle.version_index.proofs.ImageLaws.{image_damage_law}
+use Rattle.version_index.proofs.OfLaws.ImageLaws.{image_damage_law}
 use Rattle.version_index.proofs.laws.image_damaged.Goals as goal
 
 pub returns : goal.returns

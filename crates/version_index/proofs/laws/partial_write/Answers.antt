@@ -1,4 +1,4 @@
-use Rattle.version_index.proofs.ImageLaws.{image_partial_law}
+use Rattle.version_index.proofs.OfLaws.ImageLaws.{image_partial_law}
 use Rattle.version_index.proofs.laws.partial_write.Goals as goal
 
 pub returns : goal.returns

@@ -1,5 +1,5 @@
 use Rattle.std.proofs.Common.{take}
-use Rattle.version_index.proofs.Mentions.{AreMentions}
+use Rattle.version_index.proofs.OfChanges.Mentions.{AreMentions}
 use Rattle.version_index.proofs.mentioning.first_mentions.Given as goal
 
 abbrev pub invariant-loop-found : goal.invariant-loop-found

@@ -1,6 +1,6 @@
 use Rattle.std.proofs.Common.{sym, subst, inr}
 use Rattle.version_index.specs.Filling.{IsNumbered}
-use Rattle.version_index.proofs.ScanNumbers.{added_numbered}
+use Rattle.version_index.proofs.OfOpening.ScanNumbers.{added_numbered}
 use Rattle.version_index.proofs.numbering.number_of.Goals as goal
 
 pub returns-in-None-clause-number : goal.returns-in-None-clause-number

@@ -1,5 +1,5 @@
 use Rattle.std.proofs.Common.{length}
-use Rattle.version_index.proofs.ScanNumbers.{IsNumberingSo}
+use Rattle.version_index.proofs.OfOpening.ScanNumbers.{IsNumberingSo}
 use Rattle.version_index.proofs.numbering.number_records.Given as goal
 
 abbrev pub invariant-loop-found : goal.invariant-loop-found

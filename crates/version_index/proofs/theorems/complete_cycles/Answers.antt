@@ -1,4 +1,4 @@
-use Rattle.version_index.proofs.Cycles.{cycle_written}
+use Rattle.version_index.proofs.OfCommit.Cycles.{cycle_written}
 use Rattle.version_index.proofs.theorems.complete_cycles.Goals as goal
 
 pub returns : goal.returns

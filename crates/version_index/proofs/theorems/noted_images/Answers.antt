@@ -1,4 +1,4 @@
-use Rattle.version_index.proofs.NotedImages.{found_in_notes, scanned_notes}
+use Rattle.version_index.proofs.OfLaws.NotedImages.{found_in_notes, scanned_notes}
 use Rattle.version_index.proofs.theorems.noted_images.Goals as goal
 
 pub returns-clause-records : goal.returns-clause-records

@@ -1,4 +1,4 @@
-use Rattle.version_index.proofs.Mentions.{raised_at}
+use Rattle.version_index.proofs.OfChanges.Mentions.{raised_at}
 use Rattle.version_index.proofs.theorems.raised_mentions.Goals as goal
 
 pub returns : goal.returns

@@ -1,5 +1,5 @@
 use Rattle.std.proofs.Common.{◌∙◌}
-use Rattle.record_chart.proofs.WalkOrbits.{present_found}
+use Rattle.record_chart.proofs.OfWalk.WalkOrbits.{present_found}
 use Rattle.record_chart.proofs.chart.Chart.is_present.Goals as goal
 
 pub returns : goal.returns

@@ -3,7 +3,7 @@ use Rattle.std.proofs.Common.{◌≡◌, ◌∙◌, arith}
 use Rattle.std.proofs.lemmas.List.{length-map}
 use Rattle.std.proofs.lemmas.List.Sorted.{length_permutation}
 use Rattle.record_chart.specs.Charts.{place_of, link_graph}
-use Rattle.record_chart.proofs.WalkOrbits.{link_graph_is, kept_links}
+use Rattle.record_chart.proofs.OfWalk.WalkOrbits.{link_graph_is, kept_links}
 use Rattle.record_chart.proofs.chart.Chart.of.Goals as goal
 
 pub page_starts-requires-clause-few : goal.page_starts-requires-clause-few

@@ -1,5 +1,5 @@
 use Rattle.std.proofs.Common.{sym}
-use Rattle.record_chart.proofs.WalkOrbits.{orbit_found}
+use Rattle.record_chart.proofs.OfWalk.WalkOrbits.{orbit_found}
 use Rattle.record_chart.proofs.chart.Chart.orbit_of_newest.Goals as goal
 
 pub returns : goal.returns

@@ -1,4 +1,4 @@
-use Rattle.record_chart.proofs.NameReturns.{name_graph_is}
+use Rattle.record_chart.proofs.OfWalk.NameReturns.{name_graph_is}
 use Rattle.record_chart.proofs.chart.Chart.targets.Goals as goal
 
 pub returns-clause-graph : goal.returns-clause-graph

@@ -1,6 +1,6 @@
 -- The walk from the newest record of a page goes along the orbit of its place.
 use Rattle.std.proofs.Common.{sym, ◌∙◌}
-use Rattle.record_chart.proofs.WalkOrbits.{ends_below, why_shown, why_none}
+use Rattle.record_chart.proofs.OfWalk.WalkOrbits.{ends_below, why_shown, why_none}
 use Rattle.record_chart.proofs.chart.Chart.why_of_newest.Goals as goal
 
 pub shown-requires-clause-within : goal.shown-requires-clause-within

@@ -1,7 +1,7 @@
 use Rattle.std.proofs.Common.{length, ◌∙◌, ap}
 use Rattle.std.proofs.lemmas.List.{length-set}
-use Rattle.slot_tables.proofs.Settling.{record_set}
-use Rattle.slot_tables.proofs.SettledAll.{as_tables, are_tables}
+use Rattle.slot_tables.proofs.OfGiven.Settling.{record_set}
+use Rattle.slot_tables.proofs.OfGiven.SettledAll.{as_tables, are_tables}
 use Rattle.slot_tables.proofs.filling.Filling.add.Goals as goal
 
 pub invariant_of-self : goal.invariant_of-self

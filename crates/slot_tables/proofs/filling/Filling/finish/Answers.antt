@@ -3,7 +3,7 @@ use Rattle.std.proofs.Common.{◌≡◌, ◌*◌, Bool, false, length, sym, ◌�
 use Rattle.std.specs.Option.{option_map}
 use Rattle.std.proofs.lemmas.List.{length-replicate}
 use Rattle.tx_types.specs.Config.{slots_of}
-use Rattle.slot_tables.proofs.SettledAll.{unmarked}
+use Rattle.slot_tables.proofs.OfGiven.SettledAll.{unmarked}
 use Rattle.slot_tables.proofs.filling.Filling.finish.Goals as goal
 
 pub new-requires-clause-small : goal.new-requires-clause-small

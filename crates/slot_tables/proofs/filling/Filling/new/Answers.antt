@@ -1,6 +1,6 @@
 -- At first all slots are blank.
 use Rattle.std.proofs.Common.{rules, arith}
-use Rattle.slot_tables.proofs.FirstTables.{first_filling}
+use Rattle.slot_tables.proofs.OfGiven.FirstTables.{first_filling}
 use Rattle.slot_tables.proofs.filling.Filling.new.Goals as goal
 
 pub new-requires-6-clause-small : goal.new-requires-6-clause-small

@@ -1,5 +1,5 @@
-use Rattle.slot_tables.proofs.Settling.{answerer_set}
-use Rattle.slot_tables.proofs.SettledAll.{as_tables, are_tables}
+use Rattle.slot_tables.proofs.OfGiven.Settling.{answerer_set}
+use Rattle.slot_tables.proofs.OfGiven.SettledAll.{as_tables, are_tables}
 use Rattle.slot_tables.proofs.filling.Filling.set_answerer.Goals as goal
 
 pub invariant_of-self : goal.invariant_of-self

@@ -1,7 +1,7 @@
 -- By the number that the slot holds.
 use Rattle.std.proofs.Common.{sym, ◌∙◌}
 use Rattle.slot_tables.specs.Given.{kept_of}
-use Rattle.slot_tables.proofs.Needing.{needed_some, needed_none}
+use Rattle.slot_tables.proofs.OfNeeds.Needing.{needed_some, needed_none}
 use Rattle.slot_tables.proofs.given.Given.is_needed.Goals as goal
 
 pub returns-in-None : goal.returns-in-None

@@ -1,7 +1,7 @@
 use Rattle.std.proofs.Common.{◌<◌, length, Some, sym, ◌∙◌, subst}
 use Rattle.std.specs.Option.{IfSome}
 use Rattle.slot_tables.specs.Given.{kept_of}
-use Rattle.slot_tables.proofs.Needing.{home_lies}
+use Rattle.slot_tables.proofs.OfNeeds.Needing.{home_lies}
 use Rattle.slot_tables.proofs.given.Given.mark_home.Goals as goal
 
 pub set-requires : goal.set-requires

@@ -1,7 +1,7 @@
 -- One number after the other.
 use Rattle.std.proofs.Common.{◌≡◌, length, refl, ◌∙◌, subst, arith}
 use Rattle.slot_tables.specs.Given.{kept_of}
-use Rattle.slot_tables.proofs.SettledAll.{AreHomes, one_more, marked_length, none_marked, all_marked}
+use Rattle.slot_tables.proofs.OfGiven.SettledAll.{AreHomes, one_more, marked_length, none_marked, all_marked}
 use Rattle.slot_tables.proofs.given.Given.mark_needed.Goals as goal
 
 pub loop-number-init : goal.loop-number-init

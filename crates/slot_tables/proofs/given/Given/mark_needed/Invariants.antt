@@ -1,6 +1,6 @@
 use Rattle.std.proofs.Common.{◌≡◌, length}
 use Rattle.slot_tables.specs.Given.{kept_of}
-use Rattle.slot_tables.proofs.SettledAll.{AreHomes}
+use Rattle.slot_tables.proofs.OfGiven.SettledAll.{AreHomes}
 use Rattle.slot_tables.proofs.given.Given.mark_needed.Given as goal
 
 abbrev pub invariant-loop-number : goal.invariant-loop-number

@@ -1,7 +1,7 @@
 use Rattle.std.proofs.Common.{◌<◌, length, sym, ◌∙◌, subst, length-set}
 use Rattle.std.specs.Option.{IfSome}
 use Rattle.slot_tables.specs.Given.{kept_of}
-use Rattle.slot_tables.proofs.Needing.{home_lies}
+use Rattle.slot_tables.proofs.OfNeeds.Needing.{home_lies}
 use Rattle.slot_tables.proofs.given.Given.move_need.Goals as goal
 
 pub set-requires-in-Some : goal.set-requires-in-Some

@@ -2,7 +2,7 @@
 use Rattle.std.proofs.Common.{◌<◌, Bool, ℕ, Option, Some, length, set, sym, subst, ap, ◌∙◌}
 use Rattle.std.specs.Option.{IfSome}
 use Rattle.slot_tables.specs.Given.{kept_of, settled}
-use Rattle.slot_tables.proofs.Needing.{home_lies, home_wanted}
+use Rattle.slot_tables.proofs.OfNeeds.Needing.{home_lies, home_wanted}
 use Rattle.slot_tables.proofs.given.Given.settle_wanted.Goals as goal
 
 pub set-requires : goal.set-requires

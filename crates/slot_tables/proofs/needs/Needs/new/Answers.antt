@@ -1,6 +1,6 @@
 -- At first there is no spare.
 use Rattle.std.proofs.Common.{refl, sym, arith}
-use Rattle.slot_tables.proofs.Unneeded.{first_numbers}
+use Rattle.slot_tables.proofs.OfNeeds.Unneeded.{first_numbers}
 use Rattle.slot_tables.proofs.needs.Needs.new.Goals as goal
 
 pub invariant_of-result : goal.invariant_of-result

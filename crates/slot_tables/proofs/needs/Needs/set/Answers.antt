@@ -1,6 +1,6 @@
 -- The number of the slot's block is counted anew, if it is not the spare.
 use Rattle.std.proofs.Common.{◌-◌, sym, ◌∙◌, ap}
-use Rattle.slot_tables.proofs.Unneeded.{marked_spare, marked_block}
+use Rattle.slot_tables.proofs.OfNeeds.Unneeded.{marked_spare, marked_block}
 use Rattle.slot_tables.proofs.needs.Needs.set.Goals as goal
 
 pub invariant_of-self : goal.invariant_of-self

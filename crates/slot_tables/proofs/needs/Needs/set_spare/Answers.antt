@@ -1,6 +1,6 @@
 -- The old spare is counted, and the new one has no number.
 use Rattle.std.proofs.Common.{◌-◌, ◌<◌, length, ap}
-use Rattle.slot_tables.proofs.Unneeded.{first_spare, next_spare}
+use Rattle.slot_tables.proofs.OfNeeds.Unneeded.{first_spare, next_spare}
 use Rattle.slot_tables.proofs.needs.Needs.set_spare.Goals as goal
 use Rattle.slot_tables.proofs.needs.Needs.set_spare.Goals.{in-Some, in_default}
 

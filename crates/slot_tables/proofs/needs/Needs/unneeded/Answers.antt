@@ -1,5 +1,5 @@
 use Rattle.std.proofs.Common.{◌∙◌}
-use Rattle.slot_tables.proofs.Unneeded.{number_read}
+use Rattle.slot_tables.proofs.OfNeeds.Unneeded.{number_read}
 use Rattle.slot_tables.proofs.needs.Needs.unneeded.Goals as goal
 
 pub returns : goal.returns

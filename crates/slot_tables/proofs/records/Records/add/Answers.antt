@@ -1,7 +1,7 @@
 -- The number had no record.
 use Rattle.std.proofs.Common.{refl}
-use Rattle.slot_tables.proofs.Numbering.{pages_long}
-use Rattle.slot_tables.proofs.Renumbering.{numbered, numbered_pages}
+use Rattle.slot_tables.proofs.OfRecords.Numbering.{pages_long}
+use Rattle.slot_tables.proofs.OfRecords.Renumbering.{numbered, numbered_pages}
 use Rattle.slot_tables.proofs.records.Records.add.Goals as goal
 
 pub push-requires-clause-place : goal.push-requires-clause-place

@@ -1,7 +1,7 @@
 -- The record stood in the list of its page.
 use Rattle.std.proofs.Common.{◌<◌, length, refl}
 use Rattle.slot_tables.specs.Kept.{record_at}
-use Rattle.slot_tables.proofs.Renumbering.{some_record, unnumbered, unnumbered_pages}
+use Rattle.slot_tables.proofs.OfRecords.Renumbering.{some_record, unnumbered, unnumbered_pages}
 use Rattle.slot_tables.proofs.records.Records.give_up.Goals as goal
 
 pub invariant_of-self : goal.invariant_of-self

@@ -1,6 +1,6 @@
 -- The last numbers stand in the list of those without a record.
 use Rattle.std.proofs.Common.{◌≡◌, ◌-◌, refl, arith}
-use Rattle.slot_tables.proofs.Renumbering.{HasLast, first_none, first_unlisted, first_more, none_numbered, none_pages}
+use Rattle.slot_tables.proofs.OfRecords.Renumbering.{HasLast, first_none, first_unlisted, first_more, none_numbered, none_pages}
 use Rattle.slot_tables.proofs.records.Records.new.Goals as goal
 
 pub loop-k-init : goal.loop-k-init

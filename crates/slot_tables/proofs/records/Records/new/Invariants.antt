@@ -1,4 +1,4 @@
-use Rattle.slot_tables.proofs.Renumbering.{HasLast}
+use Rattle.slot_tables.proofs.OfRecords.Renumbering.{HasLast}
 use Rattle.slot_tables.proofs.records.Records.new.Given as goal
 
 abbrev pub invariant-loop-k : goal.invariant-loop-k

@@ -1,7 +1,7 @@
 -- The record that is looked for stands in what is left of the list of its page.
 use Rattle.std.proofs.Common.{◌≡◌, ◌<◌, Some, None, length, sym, ◌∙◌, ap, arith}
 use Rattle.slot_tables.specs.Kept.{record_at}
-use Rattle.slot_tables.proofs.Numbering.{pages_long, listed_record, same_record, ahead_first, ahead_next, none_behind, one_number}
+use Rattle.slot_tables.proofs.OfRecords.Numbering.{pages_long, listed_record, same_record, ahead_first, ahead_next, none_behind, one_number}
 use Rattle.slot_tables.proofs.records.Records.number_of.Goals as goal
 
 pub loop-next-init : goal.loop-next-init
@@ -24,7 +24,7 @@ returns-in_default-get-clause-names c =
     let rec = listed_record r c.args.page c.in-Some.number c.self.invariant low has in
     let within : c.in-Some.number < length r.records = rw c.self.invariant.places at
     (c.first-next.ensures.lists.within c.args.page c.in-Some.number has) in
-    let none = sym c.get.ensures ∙ c.in_default-get.is in
+    let none = c.get.ensures None ∙ c.in_default-get.is in
     absurd (let no : None ≡ Some rec.0 = sym none ∙ rec.1 in cc)
 
 pub returns-then-rec-version-2-clause-names : goal.returns-then-rec-version-2-clause-names
@@ -36,7 +36,7 @@ returns-then-rec-version-2-clause-names c =
     let within : c.in-Some.number < length r.records = rw c.self.invariant.places at
     (c.first-next.ensures.lists.within c.args.page c.in-Some.number has) in
     let is : record_at r.records c.in-Some.number ≡ Some c.in-Some-get.rec =
-    sym c.get.ensures ∙ c.in-Some-get.is in
+    c.get.ensures None ∙ c.in-Some-get.is in
     let page = ap (λ f. f.page) (same_record c.in-Some-get.rec found.0 (sym is ∙ found.1)) ∙ found.2 in
     rw (← c.self.view_is)
     (λ number rec rec_is. (
@@ -57,7 +57,7 @@ returns-then-rec-version-2-clause-found c =
     let within : c.in-Some.number < length r.records = rw c.self.invariant.places at
     (c.first-next.ensures.lists.within c.args.page c.in-Some.number has) in
     let is : record_at r.records c.in-Some.number ≡ Some c.in-Some-get.rec =
-    sym c.get.ensures ∙ c.in-Some-get.is in
+    c.get.ensures None ∙ c.in-Some-get.is in
     let page = ap (λ f. f.page) (same_record c.in-Some-get.rec found.0 (sym is ∙ found.1)) ∙ found.2 in
     rw (← c.self.view_is, is) (page, c.if-rec-version-2.true)
 
@@ -69,7 +69,7 @@ returns-else-rec-version-2-clause-names c =
     let within : c.in-Some.number < length r.records = rw c.self.invariant.places at
     (c.first-next.ensures.lists.within c.args.page c.in-Some.number has) in
     let is : record_at r.records c.in-Some.number ≡ Some c.in-Some-get.rec =
-    sym c.get.ensures ∙ c.in-Some-get.is in
+    c.get.ensures None ∙ c.in-Some-get.is in
     let older : c.in-Some-get.rec.version < c.args.version = omega (arith, c.if-rec-version.true, c.if-rec-version-2.false) in
     rw (← c.self.view_is)
     (λ number rec rec_is. (
@@ -86,7 +86,7 @@ loop-next-preserved c =
     let within : c.in-Some.number < length r.records = rw c.self.invariant.places at
     (c.first-next.ensures.lists.within c.args.page c.in-Some.number has) in
     let is : record_at r.records c.in-Some.number ≡ Some c.in-Some-get.rec =
-    sym c.get.ensures ∙ c.in-Some-get.is in (
+    c.get.ensures None ∙ c.in-Some-get.is in (
       ahead_next r c.self.invariant c.args.page c.args.version low c.in-Some.number c.in-Some-get.rec c.next-next.result
           (rw c.in-Some.is at c.loop-next.invariant.0) is (c.next-next.ensures.order c.args.page has) c.if-rec-version.false,
       c.next-next.ensures.listed c.args.page has,

@@ -3,8 +3,8 @@ use Rattle.std.proofs.Common.{◌≡◌, ℕ, ◌<◌, List, [], length, refl, s
 use Rattle.std.proofs.lemmas.List.{get_or-replicate, length-replicate}
 use Rattle.slot_tables.specs.declared.slots.SlotUse.{SlotUse}
 use Rattle.slot_tables.specs.declared.slots.SlotUse.TheVariants.{Blank}
-use Rattle.slot_tables.proofs.Held.{none_held}
-use Rattle.slot_tables.proofs.Copying.{copies_none}
+use Rattle.slot_tables.proofs.OfGiven.Held.{none_held}
+use Rattle.slot_tables.proofs.OfGiven.Copying.{copies_none}
 use Rattle.slot_tables.proofs.slots.Slots.new.Goals as goal
 
 pub invariant_of-result : goal.invariant_of-result

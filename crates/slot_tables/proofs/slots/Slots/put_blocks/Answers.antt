@@ -4,7 +4,7 @@ use Rattle.std.proofs.lemmas.List.{append-nil}
 use Rattle.plain_tables.specs.ChainLists.{list_of, rest_from}
 use Rattle.slot_tables.specs.Kept.{copies_of}
 use Rattle.slot_tables.specs.Gathered.{block_at}
-use Rattle.slot_tables.proofs.Rising.{rest_starts}
+use Rattle.slot_tables.proofs.OfRecords.Rising.{rest_starts}
 use Rattle.slot_tables.proofs.slots.Slots.put_blocks.Goals as goal
 
 pub loop-slot-init : goal.loop-slot-init

@@ -1,7 +1,7 @@
 -- The home of the number is settled.
 use Rattle.std.proofs.Common.{length, ◌∙◌, ap}
 use Rattle.std.proofs.lemmas.List.{length-set}
-use Rattle.slot_tables.proofs.Settling.{record_set}
+use Rattle.slot_tables.proofs.OfGiven.Settling.{record_set}
 use Rattle.slot_tables.proofs.tables.Tables.add.Goals as goal
 
 pub invariant_of-self : goal.invariant_of-self

@@ -1,7 +1,7 @@
 -- The blank slots are counted.
 use Rattle.std.proofs.Common.{◌∙◌}
 use Rattle.slot_tables.specs.Given.{kept_of}
-use Rattle.slot_tables.proofs.Garbage.{blank_fits, blank_count}
+use Rattle.slot_tables.proofs.OfNeeds.Garbage.{blank_fits, blank_count}
 use Rattle.slot_tables.proofs.tables.Tables.blanks.Goals as goal
 
 pub count-requires : goal.count-requires

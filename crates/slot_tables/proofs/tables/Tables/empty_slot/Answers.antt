@@ -3,7 +3,7 @@ use Rattle.std.proofs.Common.{◌≡◌, ◌<◌, true, false, length, ◌∙◌
 use Rattle.tx_types.specs.Config.{slots_of}
 use Rattle.slot_tables.specs.Kept.{is_needed}
 use Rattle.slot_tables.specs.Given.{kept_of}
-use Rattle.slot_tables.proofs.SlotSetting.{set_sized, none_below, slot_emptied, emptied_off, needs_moved, moved_lies}
+use Rattle.slot_tables.proofs.OfSlots.SlotSetting.{set_sized, none_below, slot_emptied, emptied_off, needs_moved, moved_lies}
 use Rattle.slot_tables.proofs.tables.Tables.empty_slot.Goals as goal
 
 pub move_need-requires-clause-sized : goal.move_need-requires-clause-sized

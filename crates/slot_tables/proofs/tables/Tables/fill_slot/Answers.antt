@@ -1,6 +1,6 @@
 -- The homes of the old and of the new record, before and after, are settled.
 use Rattle.std.proofs.Common.{◌<◌, length}
-use Rattle.slot_tables.proofs.SlotSetting.{slot_set, set_sized, old_lies}
+use Rattle.slot_tables.proofs.OfSlots.SlotSetting.{slot_set, set_sized, old_lies}
 use Rattle.slot_tables.proofs.tables.Tables.fill_slot.Goals as goal
 
 pub settle_moved-requires-clause-before : goal.settle_moved-requires-clause-before

@@ -1,7 +1,7 @@
 -- Where the block is not shut its blank slots are no garbage.
 use Rattle.std.proofs.Common.{sym, ◌∙◌, arith}
 use Rattle.slot_tables.specs.Given.{kept_of}
-use Rattle.slot_tables.proofs.Garbage.{blank_fits, blank_count, garbage_shut, garbage_spare, garbage_part}
+use Rattle.slot_tables.proofs.OfNeeds.Garbage.{blank_fits, blank_count, garbage_shut, garbage_spare, garbage_part}
 use Rattle.slot_tables.proofs.tables.Tables.garbage.Goals as goal
 
 pub returns-then-shut : goal.returns-then-shut

@@ -1,7 +1,7 @@
 -- No slot holds the record.
 use Rattle.std.proofs.Common.{length, ◌∙◌, ap}
 use Rattle.std.proofs.lemmas.List.{length-set}
-use Rattle.slot_tables.proofs.Settling.{record_gone}
+use Rattle.slot_tables.proofs.OfGiven.Settling.{record_gone}
 use Rattle.slot_tables.proofs.tables.Tables.give_up.Goals as goal
 
 pub invariant_of-self : goal.invariant_of-self

@@ -1,7 +1,7 @@
 -- The loop goes through the records that wait for the page.
 use Rattle.std.proofs.Common.{arith}
 use Rattle.slot_tables.specs.Given.{kept_of}
-use Rattle.slot_tables.proofs.WaitingFor.{so_far_first, so_far_next, lowest_some, lowest_none}
+use Rattle.slot_tables.proofs.OfWaits.WaitingFor.{so_far_first, so_far_next, lowest_some, lowest_none}
 use Rattle.slot_tables.proofs.tables.Tables.lowest_waiting.Goals as goal
 
 pub loop-next-init : goal.loop-next-init

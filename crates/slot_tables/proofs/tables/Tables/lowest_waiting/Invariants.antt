@@ -3,7 +3,7 @@ use Rattle.std.specs.List.{Contains}
 use Rattle.std.specs.Option.{IfSome}
 use Rattle.plain_tables.specs.ChainLists.{list_of, rest_from}
 use Rattle.slot_tables.specs.Given.{kept_of}
-use Rattle.slot_tables.proofs.WaitingFor.{IsLowestSoFar}
+use Rattle.slot_tables.proofs.OfWaits.WaitingFor.{IsLowestSoFar}
 use Rattle.slot_tables.proofs.tables.Tables.lowest_waiting.Given as goal
 
 abbrev pub invariant-loop-next : goal.invariant-loop-next

@@ -1,6 +1,6 @@
 -- The numbers are those of the marks.
 use Rattle.slot_tables.specs.Given.{kept_of}
-use Rattle.slot_tables.proofs.Garbage.{garbage_numbers_are}
+use Rattle.slot_tables.proofs.OfNeeds.Garbage.{garbage_numbers_are}
 use Rattle.slot_tables.proofs.tables.Tables.most_garbage_among.Goals as goal
 
 pub returns : goal.returns

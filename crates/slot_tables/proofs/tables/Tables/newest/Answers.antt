@@ -1,7 +1,7 @@
 use Rattle.std.proofs.Common.{ap, subst, ◌∙◌}
 use Rattle.std.specs.List.{slice_get}
 use Rattle.slot_tables.specs.Kept.{Kept, IsKept, numbers_at}
-use Rattle.slot_tables.proofs.Ranges.{newest_below}
+use Rattle.slot_tables.proofs.OfWaits.Ranges.{newest_below}
 use Rattle.slot_tables.proofs.tables.Tables.newest.Goals as goal
 
 pub returns-clause-within : goal.returns-clause-within

@@ -1,6 +1,6 @@
 -- The homes of the records that the old and the new pin name are settled.
 use Rattle.std.proofs.Common.{◌<◌, length, sym, ◌∙◌}
-use Rattle.slot_tables.proofs.Settling.{pin_set, found_lies}
+use Rattle.slot_tables.proofs.OfGiven.Settling.{pin_set, found_lies}
 use Rattle.slot_tables.proofs.tables.Tables.pin.Goals as goal
 
 pub pinned_number-before-requires-clause-above : goal.pinned_number-before-requires-clause-above

@@ -5,8 +5,8 @@ use Rattle.std.proofs.lemmas.List.{append-nil, length-append, length-map, map-ap
 use Rattle.plain_tables.specs.ChainLists.{list_of, rest_from}
 use Rattle.slot_tables.specs.Kept.{Kept, IsKept, number_at}
 use Rattle.slot_tables.specs.Gathered.{block_at, copies_below}
-use Rattle.slot_tables.proofs.GatheredSlots.{gathered, few_below}
-use Rattle.slot_tables.proofs.Rising.{rest_starts}
+use Rattle.slot_tables.proofs.OfSlots.GatheredSlots.{gathered, few_below}
+use Rattle.slot_tables.proofs.OfRecords.Rising.{rest_starts}
 use Rattle.slot_tables.proofs.tables.Tables.put_waiting.Goals as goal
 
 pub loop-next-init : goal.loop-next-init

@@ -1,6 +1,6 @@
 -- The homes of the old and of the new answerer are settled.
 use Rattle.std.proofs.Common.{sym, ◌∙◌}
-use Rattle.slot_tables.proofs.Settling.{answerer_set}
+use Rattle.slot_tables.proofs.OfGiven.Settling.{answerer_set}
 use Rattle.slot_tables.proofs.tables.Tables.set_answerer.Goals as goal
 
 pub settle_home-requires-clause-number : goal.settle_home-requires-clause-number

@@ -1,5 +1,5 @@
 -- The homes of the old and of the new current record are settled.
-use Rattle.slot_tables.proofs.Settling.{current_set}
+use Rattle.slot_tables.proofs.OfGiven.Settling.{current_set}
 use Rattle.slot_tables.proofs.tables.Tables.set_current.Goals as goal
 
 pub invariant_of-self : goal.invariant_of-self

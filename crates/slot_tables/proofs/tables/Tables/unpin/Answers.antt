@@ -1,6 +1,6 @@
 -- The home of the record that the old pin names is settled, and the new pin names none.
 use Rattle.std.proofs.Common.{◌<◌, None, length, sym, ◌∙◌, arith}
-use Rattle.slot_tables.proofs.Settling.{pin_set, found_lies}
+use Rattle.slot_tables.proofs.OfGiven.Settling.{pin_set, found_lies}
 use Rattle.slot_tables.proofs.tables.Tables.unpin.Goals as goal
 
 pub pinned_number-before-requires-clause-above : goal.pinned_number-before-requires-clause-above

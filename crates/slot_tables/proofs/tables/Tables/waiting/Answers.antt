@@ -1,8 +1,8 @@
 -- The first of the list of the page.
 use Rattle.std.proofs.Common.{subst}
 use Rattle.slot_tables.specs.Kept.{IsKept}
-use Rattle.slot_tables.proofs.Ranges.{waiting_below}
-use Rattle.slot_tables.proofs.WaitingFor.{some_waits, none_waits}
+use Rattle.slot_tables.proofs.OfWaits.Ranges.{waiting_below}
+use Rattle.slot_tables.proofs.OfWaits.WaitingFor.{some_waits, none_waits}
 use Rattle.slot_tables.proofs.tables.Tables.waiting.Goals as goal
 
 pub returns-clause-some : goal.returns-clause-some

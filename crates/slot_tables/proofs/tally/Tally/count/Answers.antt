@@ -1,6 +1,6 @@
 use Rattle.std.proofs.Common.{arith}
 use Rattle.std.proofs.lemmas.List.{get_or_read}
-use Rattle.slot_tables.proofs.Tallying.{marked_most, group_lies}
+use Rattle.slot_tables.proofs.OfNeeds.Tallying.{marked_most, group_lies}
 use Rattle.slot_tables.proofs.tally.Tally.count.Goals as goal
 
 pub returns-clause-most : goal.returns-clause-most

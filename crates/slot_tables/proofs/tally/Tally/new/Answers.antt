@@ -2,7 +2,7 @@
 use Rattle.std.proofs.Common.{◌≡◌, ℕ, ◌*◌, ◌<◌, Bool, length, replicate, refl, ◌∙◌, arith}
 use Rattle.std.proofs.lemmas.List.{get_or-replicate, length-replicate}
 use Rattle.slot_tables.specs.Counts.{marked_in}
-use Rattle.slot_tables.proofs.Tallying.{marked_all, marked_none}
+use Rattle.slot_tables.proofs.OfNeeds.Tallying.{marked_all, marked_none}
 use Rattle.slot_tables.proofs.tally.Tally.new.Goals as goal
 use Rattle.slot_tables.proofs.tally.Tally.new.Goals.{then-mark, else-mark}
 

@@ -1,6 +1,6 @@
 -- A mark that changes is counted in its group.
 use Rattle.std.proofs.Common.{arith}
-use Rattle.slot_tables.proofs.Tallying.{size_fits, risen, risen_fits, fallen, fallen_fits}
+use Rattle.slot_tables.proofs.OfNeeds.Tallying.{size_fits, risen, risen_fits, fallen, fallen_fits}
 use Rattle.slot_tables.proofs.tally.Tally.set.Goals as goal
 
 pub overflow_add-index_mut : goal.overflow_add-index_mut

@@ -1,6 +1,6 @@
 use Rattle.std.proofs.Common.{ap, ◌∙◌}
 use Rattle.version_index.specs.Noted.{blanks_of}
-use Rattle.version_index.proofs.MostGarbage.{read_blanks}
+use Rattle.version_index.proofs.OfReadings.MostGarbage.{read_blanks}
 use Rattle.version_index.proofs.index.Index.blanks.Goals as goal
 
 pub returns : goal.returns

@@ -2,7 +2,7 @@ use Rattle.std.proofs.Common.{◌≤◌, map, vec_capacity, ap, subst, sym, ◌�
 use Rattle.tx_types.specs.Config.{shape_of, slots_of}
 use Rattle.tx_types.specs.declared.config.Block.{Block}
 use Rattle.version_index.specs.Noted.{going_blocks}
-use Rattle.version_index.proofs.GoingBlocks.{going_are, none_blocks}
+use Rattle.version_index.proofs.OfGoing.GoingBlocks.{going_are, none_blocks}
 use Rattle.version_index.proofs.index.Index.blocks_to_go.Goals as goal
 
 pub put_going-requires-clause-room : goal.put_going-requires-clause-room

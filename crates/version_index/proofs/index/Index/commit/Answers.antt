@@ -1,6 +1,6 @@
 use Rattle.std.proofs.Common.{subst}
 use Rattle.version_index.specs.Noted.{IsNoted}
-use Rattle.version_index.proofs.Cycles.{cycle_current}
+use Rattle.version_index.proofs.OfCommit.Cycles.{cycle_current}
 use Rattle.version_index.proofs.index.Index.commit.Goals as goal
 
 pub returns-clause-current : goal.returns-clause-current

@@ -1,6 +1,6 @@
 use Rattle.std.proofs.Common.{ap, subst, sym, ◌∙◌, ◌<◌}
 use Rattle.version_index.specs.Noted.{current_of}
-use Rattle.version_index.proofs.KeptReadings.{read_current}
+use Rattle.version_index.proofs.OfReadings.KeptReadings.{read_current}
 use Rattle.version_index.proofs.index.Index.current.Goals as goal
 
 pub returns : goal.returns

@@ -1,6 +1,6 @@
 use Rattle.std.proofs.Common.{ap, subst, sym, ◌∙◌, ◌<◌}
 use Rattle.version_index.specs.Noted.{discarded_of}
-use Rattle.version_index.proofs.KeptReadings.{read_discard}
+use Rattle.version_index.proofs.OfReadings.KeptReadings.{read_discard}
 use Rattle.version_index.proofs.index.Index.discards.Goals as goal
 
 pub returns : goal.returns

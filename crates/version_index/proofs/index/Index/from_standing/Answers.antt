@@ -10,11 +10,11 @@ use Rattle.version_index.specs.Filling.{AreFilled}
 use Rattle.version_index.specs.Noted.{IsNotedFrom}
 use Rattle.version_index.specs.Tables.{noted_by, AreIndexed}
 use Rattle.std.specs.List.{range_with_len}
-use Rattle.version_index.proofs.Mentions.{mentions_sorted}
-use Rattle.version_index.proofs.NotedChanges.{fresh_noted}
-use Rattle.version_index.proofs.ScanFills.{can_fill}
-use Rattle.version_index.proofs.ScanJudged.{filled_indexed}
-use Rattle.version_index.proofs.ScanSizes.{complete_length, sorted_exist}
+use Rattle.version_index.proofs.OfChanges.Mentions.{mentions_sorted}
+use Rattle.version_index.proofs.OfChanges.NotedChanges.{fresh_noted}
+use Rattle.version_index.proofs.OfOpening.ScanFills.{can_fill}
+use Rattle.version_index.proofs.OfOpening.ScanJudged.{filled_indexed}
+use Rattle.version_index.proofs.OfOpening.ScanSizes.{complete_length, sorted_exist}
 use Rattle.version_index.proofs.index.Index.from_standing.Goals as goal
 
 pub fill-requires-clause-few : goal.fill-requires-clause-few
@@ -36,7 +36,8 @@ invariant_of-result g c =
     let same : c.in-Ok.shape ≡ shape_of its =
     ap (λ r. result_unwrap_or r (shape_of its)) (sym c.in-Ok.is ∙ c.check.ensures.exact ∙ c.requires.check) in
     let shape = ap (λ (u : Kept). u.shape) c.in_ok-filling.ensures ∙ same in
-    let can = can_fill g.R.CommitRule.protocol its c.in-Ok.shape c.args.seen.now c.requires.scan.0 c.args.standing.now c.in_ok-filling.filling c.in_ok-filling.ensures same c.requires.scan.1 in
+    let can = can_fill g.R.CommitRule.protocol its c.in-Ok.shape c.args.seen.now c.requires.scan.0 c.args.standing.now c.in_ok-filling.filling
+    c.in_ok-filling.ensures same c.requires.scan.1 in
     let found = c.in_ok-fill.ensures.found c.requires.scan.0 can in
     let filled = subst (λ p. AreFilled p c.args.standing.now.list (shape_of its) its.logical t) c.requires.protocol
     (subst (λ s. AreFilled c.args.standing.now.protocol c.args.standing.now.list s its.logical t) shape c.in_ok-fill.ensures.filled) in
@@ -48,7 +49,8 @@ invariant_of-result g c =
       pins = filled.pins;
       spare = filled.spare;
       mentions = c.in_ok-first_mentions.ensures
-          ∙ mentions_sorted c.requires.scan.0 c.args.standing.now.list c.records.result.now c.requires.scan.1.sorts (c.records.ensures.records ∙ c.chart.ensures) (range_with_len 0 its.logical);
+          ∙ mentions_sorted c.requires.scan.0 c.args.standing.now.list c.records.result.now c.requires.scan.1.sorts (c.records.ensures.records ∙
+          c.chart.ensures) (range_with_len 0 its.logical);
     }) in
     subst (λ (k : Kept). AreIndexed g.R.CommitRule.protocol its m k) (sym c.in_ok-tables.ensures)
     (filled_indexed _ its m t c.args.standing.now.list noted (subst (λ l. Sorts l c.args.standing.now.list) (sym found) c.requires.scan.1.sorts) filled)
@@ -60,7 +62,8 @@ returns g c own scan =
     let m = c.in_ok-first_mentions.field-0.items in
     let same : c.in-Ok.shape ≡ shape_of its =
     ap (λ r. result_unwrap_or r (shape_of its)) (sym c.in-Ok.is ∙ c.check.ensures.exact ∙ c.requires.check) in
-    let can = can_fill g.R.CommitRule.protocol its c.in-Ok.shape c.args.seen.now own c.args.standing.now c.in_ok-filling.filling c.in_ok-filling.ensures same scan in
+    let can = can_fill g.R.CommitRule.protocol its c.in-Ok.shape c.args.seen.now own c.args.standing.now c.in_ok-filling.filling c.in_ok-filling.ensures same
+    scan in
     let filled = c.in_ok-fill.ensures.filled in
     subst (λ (k : Kept). IsNotedFrom its c.args.seen.now own (noted_by its m k)) (sym c.in_ok-tables.ensures) (record {
       config = refl;
@@ -69,7 +72,8 @@ returns g c own scan =
       pins = filled.pins;
       spare = filled.spare;
       mentions = c.in_ok-first_mentions.ensures
-          ∙ mentions_sorted own c.args.standing.now.list c.records.result.now scan.sorts (c.records.ensures.records ∙ c.chart.ensures) (range_with_len 0 its.logical);
+          ∙ mentions_sorted own c.args.standing.now.list c.records.result.now scan.sorts (c.records.ensures.records ∙
+          c.chart.ensures) (range_with_len 0 its.logical);
     })
 
 pub new-requires-clause-pages : goal.new-requires-clause-pages
@@ -97,5 +101,8 @@ pub fill-requires-clause-fills : goal.fill-requires-clause-fills
 fill-requires-clause-fills g c =
     let its = c.args.config in
     let same : c.in-Ok.shape ≡ shape_of its =
-    ap (λ r. result_unwrap_or r (shape_of its)) (sym c.in-Ok.is ∙ c.check.ensures.exact ∙ c.requires.check) in
-    (c.requires.scan.0, can_fill g.R.CommitRule.protocol its c.in-Ok.shape c.args.seen.now c.requires.scan.0 c.args.standing.now c.in_ok-filling.filling c.in_ok-filling.ensures same c.requires.scan.1)
+    ap (λ r. result_unwrap_or r (shape_of its)) (sym c.in-Ok.is ∙ c.check.ensures.exact ∙ c.requires.check) in (
+      c.requires.scan.0,
+      can_fill g.R.CommitRule.protocol its c.in-Ok.shape c.args.seen.now c.requires.scan.0 c.args.standing.now c.in_ok-filling.filling
+          c.in_ok-filling.ensures same c.requires.scan.1,
+    )

@@ -1,6 +1,6 @@
 use Rattle.std.proofs.Common.{ap, ◌∙◌}
 use Rattle.version_index.specs.Noted.{garbage_of}
-use Rattle.version_index.proofs.KeptReadings.{read_garbage}
+use Rattle.version_index.proofs.OfReadings.KeptReadings.{read_garbage}
 use Rattle.version_index.proofs.index.Index.garbage.Goals as goal
 
 pub returns : goal.returns

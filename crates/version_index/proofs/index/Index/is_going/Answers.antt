@@ -1,7 +1,7 @@
 use Rattle.std.proofs.Common.{◌<◌, ap, subst, sym, ◌∙◌}
 use Rattle.tx_types.specs.Config.{shape_of, blocks_of}
 use Rattle.version_index.specs.Noted.{is_going}
-use Rattle.version_index.proofs.GoingBlocks.{read_going_block, none_going}
+use Rattle.version_index.proofs.OfGoing.GoingBlocks.{read_going_block, none_going}
 use Rattle.version_index.proofs.index.Index.is_going.Goals as goal
 
 pub block_goes-requires-clause-block : goal.block_goes-requires-clause-block

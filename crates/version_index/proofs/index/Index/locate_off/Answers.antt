@@ -1,7 +1,7 @@
 use Rattle.std.proofs.Common.{ap, subst, sym, ◌∙◌, ◌<◌}
 use Rattle.version_index.specs.Noted.{IsNoted, current_name_of, slot_off}
-use Rattle.version_index.proofs.KeptReadings.{read_off}
-use Rattle.version_index.proofs.NotedFacts.{off_located}
+use Rattle.version_index.proofs.OfReadings.KeptReadings.{read_off}
+use Rattle.version_index.proofs.OfTables.NotedFacts.{off_located}
 use Rattle.version_index.proofs.index.Index.locate_off.Goals as goal
 
 pub returns-clause-lowest : goal.returns-clause-lowest

@@ -1,6 +1,6 @@
 use Rattle.std.proofs.Common.{subst}
 use Rattle.version_index.specs.Noted.{FindsMostGarbage}
-use Rattle.version_index.proofs.MostGarbage.{finds_most}
+use Rattle.version_index.proofs.OfReadings.MostGarbage.{finds_most}
 use Rattle.version_index.proofs.index.Index.most_garbage.Goals as goal
 
 pub returns : goal.returns

@@ -1,7 +1,7 @@
 use Rattle.std.proofs.Common.{◌<◌, ◌*◌, subst, sym}
 use Rattle.tx_types.specs.Config.{shape_of, blocks_of}
 use Rattle.version_index.specs.Noted.{IsMostAmong}
-use Rattle.version_index.proofs.MostGarbage.{most_among}
+use Rattle.version_index.proofs.OfReadings.MostGarbage.{most_among}
 use Rattle.version_index.proofs.index.Index.most_garbage_among.Goals as goal
 
 pub returns : goal.returns

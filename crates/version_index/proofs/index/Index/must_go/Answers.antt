@@ -3,7 +3,7 @@ use Rattle.std.specs.Option.{option_map}
 use Rattle.tx_types.specs.declared.config.Shape.{Shape}
 use Rattle.tx_types.specs.declared.config.Slot.{Slot}
 use Rattle.version_index.specs.Noted.{block_to_go}
-use Rattle.version_index.proofs.KeptGoing.{read_going}
+use Rattle.version_index.proofs.OfGoing.KeptGoing.{read_going}
 use Rattle.version_index.proofs.index.Index.must_go.Goals as goal
 
 pub returns-in-None : goal.returns-in-None

@@ -1,6 +1,6 @@
 use Rattle.std.proofs.Common.{ap, ◌∙◌}
 use Rattle.version_index.specs.Noted.{needed_of}
-use Rattle.version_index.proofs.KeptReadings.{read_needed}
+use Rattle.version_index.proofs.OfReadings.KeptReadings.{read_needed}
 use Rattle.version_index.proofs.index.Index.needed.Goals as goal
 
 pub returns : goal.returns

@@ -5,7 +5,7 @@ use Rattle.version_index.specs.declared.note.Note.TheVariants as note
 use Rattle.version_index.specs.Notes.{note_at, rec_of}
 use Rattle.version_index.specs.Noted.{copied}
 use Rattle.version_index.specs.Tables.{noted_by, AreIndexed}
-use Rattle.version_index.proofs.KeptChanges.{copied_is, copied_indexed}
+use Rattle.version_index.proofs.OfChanges.KeptChanges.{copied_is, copied_indexed}
 use Rattle.version_index.proofs.index.Index.note_copy.Goals as goal
 
 pub invariant_of-self : goal.invariant_of-self

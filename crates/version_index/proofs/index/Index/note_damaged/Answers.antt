@@ -4,7 +4,7 @@ use Rattle.version_index.specs.declared.note.Note.TheVariants as note
 use Rattle.version_index.specs.Notes.{note_at}
 use Rattle.version_index.specs.Noted.{damaged_at}
 use Rattle.version_index.specs.Tables.{noted_by, AreIndexed}
-use Rattle.version_index.proofs.KeptChanges.{damaged_is, damaged_indexed}
+use Rattle.version_index.proofs.OfChanges.KeptChanges.{damaged_is, damaged_indexed}
 use Rattle.version_index.proofs.index.Index.note_damaged.Goals as goal
 
 pub invariant_of-self : goal.invariant_of-self

@@ -7,7 +7,7 @@ use Rattle.version_index.specs.declared.note.Note.TheVariants as note
 use Rattle.version_index.specs.Losing.{used_from}
 use Rattle.version_index.specs.Noted.{CanLose, erased}
 use Rattle.version_index.specs.Tables.{noted_by, AreIndexed}
-use Rattle.version_index.proofs.KeptLosses.{lost_is, lost_indexed}
+use Rattle.version_index.proofs.OfLosses.KeptLosses.{lost_is, lost_indexed}
 use Rattle.version_index.proofs.index.Index.note_erased.Goals as goal
 
 pub use_block-requires-clause-block : goal.use_block-requires-clause-block

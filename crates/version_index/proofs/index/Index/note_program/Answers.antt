@@ -8,8 +8,8 @@ use Rattle.version_index.specs.Committing.{LinksExist, OnlyJudges, IsSettledSo}
 use Rattle.version_index.specs.Notes.{note_at}
 use Rattle.version_index.specs.Noted.{IsNextRecord, programmed}
 use Rattle.version_index.specs.Tables.{noted_by, AreIndexed}
-use Rattle.version_index.proofs.NotedChanges.{next_spelled}
-use Rattle.version_index.proofs.KeptPrograms.{its_free, its_newest, with_links, whole_is, settled_indexed}
+use Rattle.version_index.proofs.OfChanges.NotedChanges.{next_spelled}
+use Rattle.version_index.proofs.OfProgram.KeptPrograms.{its_free, its_newest, with_links, whole_is, settled_indexed}
 use Rattle.version_index.proofs.index.Index.note_program.Goals as goal
 
 pub add-number-requires-clause-free : goal.add-number-requires-clause-free
@@ -37,7 +37,10 @@ set_waits-requires-clause-page g c =
     let spelled = next_spelled (noted_by d.config d.mentions.items k) rec next in
     let own = spelled.page in
     let link = spelled.next_page in
-    let long = ap (λ (t : Kept). length t.pages) (c.set_slot.ensures ∙ ap (λ (t : Kept). record t { slots = set t.slots c.args.at.0 (slot.Holds c.add-number.result) }) c.add-number.ensures.added)
+    let long = ap (λ (t : Kept). length t.pages) (c.set_slot.ensures ∙ ap (λ (t : Kept). record t {
+      slots =
+          set t.slots c.args.at.0 (slot.Holds c.add-number.result);
+    }) c.add-number.ensures.added)
     ∙ length-set k.pages rec.page _ ∙ c.self.invariant.pages in
     omega arith
 

@@ -1,0 +1,4 @@
+pub mod Arranged
+pub mod Sorting
+pub mod Order
+pub mod Alike

@@ -1,0 +1,7 @@
+pub mod NameReturns
+pub mod OneOrbit
+pub mod Noted
+pub mod Paths
+pub mod Pigeonhole
+pub mod Rings
+pub mod WalkOrbits

@@ -1,0 +1,4 @@
+pub mod OwnLinks
+pub mod SharedLinks
+pub mod NameOrbits
+pub mod Outside

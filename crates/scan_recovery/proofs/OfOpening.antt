@@ -1,0 +1,3 @@
+pub mod OpenedImages
+pub mod OpenedTable
+pub mod Used

@@ -1,0 +1,5 @@
+pub mod ComparedSteps
+pub mod ReadingSteps
+pub mod ScanSteps
+pub mod Upto
+pub mod SoundScans

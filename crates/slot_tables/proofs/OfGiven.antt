@@ -1,0 +1,5 @@
+pub mod Copying
+pub mod FirstTables
+pub mod Held
+pub mod SettledAll
+pub mod Settling

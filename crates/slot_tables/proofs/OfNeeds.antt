@@ -1,0 +1,5 @@
+pub mod Counting
+pub mod Needing
+pub mod Tallying
+pub mod Unneeded
+pub mod Garbage

@@ -1,0 +1,100 @@
+-- The garbage of a block, from the marks of its slots.
+use Rattle.std.proofs.Common.{◌≡◌, ℕ, zero, suc, ◌+◌, ◌-◌, ◌*◌, ◌<◌, ◌≤◌, Bool, true, false, not, ◌||◌, cond, length, map, count_by, refl, ap, arith}
+use Rattle.std.specs.List.{range_with_len}
+use Rattle.std.proofs.lemmas.Nat.{row_fits}
+use Rattle.std.proofs.lemmas.List.{get_or-map, length-map}
+use Rattle.list_facts.proofs.Counts.{count_first, one_of}
+use Rattle.list_facts.proofs.Ranges.{map_range}
+use Rattle.tx_types.specs.Config.{blocks_of}
+use Rattle.record_list.specs.Written.{is_slot}
+use Rattle.slot_tables.specs.declared.slots.SlotUse.{SlotUse}
+use Rattle.slot_tables.specs.declared.slots.SlotUse.TheVariants.{Blank, Damaged, Holds}
+use Rattle.slot_tables.specs.Kept.{Kept, IsKept, use_at, is_blank, is_needed, is_needed_for, number_in, slots_in, garbage_of, garbage_numbers, blanks_of}
+use Rattle.slot_tables.specs.Counts.{Marks, Needed, is_marked, marked_in, unmarked_in, unmarked_numbers}
+use Rattle.slot_tables.specs.Tables.{AreBlanks, AreMarked}
+use Rattle.slot_tables.proofs.OfNeeds.Counting.{count_same}
+
+-- those that pass and those that do not are all
+count_not : (f : ℕ → Bool) (a n : ℕ) → count_by (λ k. not (f k)) (range_with_len a n) + count_by f (range_with_len a n) ≡ n
+count_not f a zero = omega arith
+count_not f a (suc n) =
+    let rest = count_not f (a + 1) n in
+    let one = one_or (f a) in
+    omega (arith, count_first f a n, count_first (λ k. not (f k)) a n, rest, one)
+  where
+    one_or : (b : Bool) → one_of (not b) + one_of b ≡ 1
+    one_or true = omega arith
+    one_or false = omega arith
+
+-- those that pass one of two tests that exclude each other, and those that pass neither, are all
+count_apart : (f g : ℕ → Bool) (a n : ℕ) → ((k : ℕ) → f k ≡ true → g k ≡ false)
+    → count_by (λ k. not (f k || g k)) (range_with_len a n) + count_by f (range_with_len a n) + count_by g (range_with_len a n) ≡ n
+count_apart f g a zero apart = omega arith
+count_apart f g a (suc n) apart =
+    let rest = count_apart f g (a + 1) n apart in
+    let one = one_of_three (f a) (g a) (apart a) in
+    omega (arith, count_first f a n, count_first g a n, count_first (λ k. not (f k || g k)) a n, rest, one)
+  where
+    one_of_three : (b c : Bool) → (b ≡ true → c ≡ false) → one_of (not (b || c)) + one_of b + one_of c ≡ 1
+    one_of_three true c h = rw (h refl) (omega arith)
+    one_of_three false true h = omega arith
+    one_of_three false false h = omega arith
+
+-- a blank slot is not needed
+blank_unneeded : (k : Kept) (at : ℕ) → is_blank (use_at k.slots at) ≡ true → is_needed k at ≡ false
+unfolding is_needed
+blank_unneeded k at h = by (use_at k.slots at) refl
+  where
+    by : (u : SlotUse) → use_at k.slots at ≡ u → is_needed_for k at (number_in u) ≡ false
+    by Blank e = refl
+    by Damaged e = refl
+    by (Holds x) e = absurd (let no : false ≡ true = rw e at h in cc)
+
+module _ (k : Kept) (h : IsKept k) (n : Needed) (m : AreMarked k n) where
+  needed_count : (block : ℕ) → marked_in n.needed n.size block ≡ count_by (is_needed k) (slots_in k.shape block)
+  unfolding marked_in
+  needed_count block = rw m.size (count_same (is_marked n.needed) (is_needed k) (block * k.shape.pages_per_block) k.shape.pages_per_block
+      (λ at low high. m.needed at))
+
+  -- of a block that is shut it is what is not needed
+  pub garbage_shut : (block : ℕ) → garbage_of k true block ≡ unmarked_in n block
+  unfolding garbage_of
+  garbage_shut block =
+      let all = count_not (is_needed k) (block * k.shape.pages_per_block) k.shape.pages_per_block in
+      rw (m.spare, needed_count block, m.size)
+      (ap (cond (is_slot block k.spare) 0) (let left : count_by
+      (λ at. not (is_needed k at)) (slots_in k.shape block) ≡ k.shape.pages_per_block - count_by (is_needed k)
+      (slots_in k.shape block) = omega (arith, all) in left))
+
+  pub garbage_numbers_are : garbage_numbers k ≡ unmarked_numbers n
+  garbage_numbers_are = rw m.blocks (map_range (garbage_of k true) (unmarked_in n) 0 (blocks_of k.shape) (λ block low high. garbage_shut block))
+
+  -- of the spare there is none
+  pub garbage_spare : (block : ℕ) (shut : Bool) → is_slot block k.spare ≡ true → garbage_of k shut block ≡ unmarked_in n block
+  unfolding garbage_of
+  garbage_spare block shut is = rw (m.spare, is) refl
+
+  -- of another block that is not shut the blank slots are not garbage
+  pub garbage_part : (block : ℕ) → is_slot block k.spare ≡ false → garbage_of k false block + blanks_of k block ≡ unmarked_in n block
+  unfolding garbage_of blanks_of
+  garbage_part block is =
+      let all = count_apart (λ at. is_blank (use_at k.slots at)) (is_needed k) (block * k.shape.pages_per_block) k.shape.pages_per_block
+      (blank_unneeded k) in
+      rw (m.spare, is, needed_count block, m.size) (omega (arith, all))
+
+-- the blank slots are counted
+module _ (k : Kept) (h : IsKept k) (m : Marks) (b : AreBlanks k m) (block : ℕ) (low : block < blocks_of k.shape) where
+  block_fits : block * k.shape.pages_per_block + k.shape.pages_per_block ≤ length k.slots
+  block_fits =
+      let whole = row_fits block k.shape.pages_per_block (blocks_of k.shape) k.shape.pages_per_block low (omega arith) in
+      omega (arith, whole, h.slots)
+
+  pub blank_fits : block * m.size + m.size ≤ length m.marks
+  blank_fits = rw (b.size, b.marks, length-map k.slots is_blank) block_fits
+
+  pub blank_count : marked_in m.marks m.size block ≡ blanks_of k block
+  unfolding marked_in blanks_of
+  blank_count =
+      rw (b.size, b.marks)
+      (count_same (is_marked (map is_blank k.slots)) (λ at. is_blank (use_at k.slots at)) (block * k.shape.pages_per_block) k.shape.pages_per_block
+      (λ at first last. let fits = block_fits in get_or-map is_blank k.slots at Blank false (omega arith)))

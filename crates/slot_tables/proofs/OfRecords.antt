@@ -1,0 +1,4 @@
+pub mod Listed
+pub mod Numbering
+pub mod Renumbering
+pub mod Rising

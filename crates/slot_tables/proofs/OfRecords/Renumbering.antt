@@ -1,0 +1,359 @@
+-- The records of each page, after a number gets a record or loses it.
+use Rattle.std.proofs.Common.{◌≡◌, ◌≢◌, ℕ, zero, suc, ◌+◌, ◌<◌, ◌≤◌, ◌⊎◌, ◌↔◌, inl, inr, Option, Some, None, List, [], ◌∷◌, length, get_or, set, take}
+use Rattle.std.proofs.Common.{replicate, refl, sym, ◌∙◌, ap, subst, arith, length-set, length-take}
+use Rattle.std.specs.List.{AllPairs, Contains, remove}
+use Rattle.std.specs.Option.{IsSomeAnd}
+use Rattle.std.proofs.lemmas.Bool.{cases_eq, cases_lt}
+use Rattle.std.proofs.lemmas.List.{get_or-take, get_or_past, get_or-set_same, get_or-set_other, get_or-replicate, length-replicate, take-set-le, ext_get_or}
+use Rattle.std.proofs.lemmas.List.Elements.{Contains-get_or}
+use Rattle.std.proofs.lemmas.List.Quantifiers.{all_pairs_remove}
+use Rattle.list_facts.proofs.Membership.{Contains-nil}
+use Rattle.list_facts.proofs.Pairs.{pairs_cons}
+use Rattle.tx_types.specs.declared.record.Rec.{Rec}
+use Rattle.plain_tables.specs.ChainLists.{ChainLists, AreDisjoint, IsListed, list_of, index_in, with_first, without, empty_lists}
+use Rattle.plain_tables.proofs.Membership.{index_reads}
+use Rattle.slot_tables.specs.declared.records.Records.TheInside.{Inside}
+use Rattle.slot_tables.specs.Kept.{record_at, numbers_at, IsNewer, IsNewest}
+use Rattle.slot_tables.specs.KeptRecords.{AreNumbered}
+use Rattle.slot_tables.proofs.OfRecords.Listed.{in_without, in_with_first}
+use Rattle.slot_tables.proofs.OfRecords.Numbering.{page_list, record_listed, listed_record, list_falls, same_record}
+
+-- the list in which a number with this record stands
+abbrev pub key_of : Inside → Option Rec → ℕ
+key_of r None = r.pages
+key_of r (Some rec) = rec.page
+
+-- pairs of members stay in order where their records stay
+pairs_stay : (records records' : List (Option Rec)) (xs : List ℕ) → ((y : ℕ) → Contains xs y → record_at records' y ≡ record_at records y)
+    → AllPairs (IsNewer records) xs → AllPairs (IsNewer records') xs
+pairs_stay records records' xs same h i j d less low r s r_is s_is =
+    h i j d less low r s
+    (sym (same (get_or xs i d) (Contains-get_or xs i d (omega arith))) ∙ r_is)
+    (sym (same (get_or xs j d) (Contains-get_or xs j d low)) ∙ s_is)
+
+-- a number gets another record, or none, and stands in the list of that one alone
+module _ (r : Inside) (h : AreNumbered r) (number : ℕ) (new : Option Rec) (lists : ChainLists) (within : number < length r.records)
+    (places : lists.places ≡ r.lists.places) (disjoint : AreDisjoint lists) (keys : length lists.lists ≡ r.pages + 1)
+    (has : (k y : ℕ) → Contains (list_of lists k) y ↔ (((k ≡ key_of r new) × (y ≡ number)) ⊎ (Contains (list_of r.lists k) y × (y ≢ number))))
+    (key_low : (rec : Rec) → new ≡ Some rec → rec.page < r.pages)
+    (falls : (p : ℕ) → p < r.pages → AllPairs (IsNewer (set r.records number new)) (list_of lists p)) where
+  abbrev records : List (Option Rec)
+  records = set r.records number new
+
+  own : record_at records number ≡ new
+  own = get_or-set_same r.records number new None within
+
+  others : (y : ℕ) → y ≢ number → record_at records y ≡ record_at r.records y
+  others y other = get_or-set_other r.records number y new None other
+
+  long : length (take r.pages lists.lists) ≡ r.pages
+  long = length-take r.pages lists.lists ∙ (omega (arith, keys))
+
+  its_list : (p : ℕ) → p < r.pages → numbers_at (take r.pages lists.lists) p ≡ list_of lists p
+  its_list p low = get_or-take r.pages lists.lists p [] low
+
+  no_list : (p : ℕ) → r.pages ≤ p → numbers_at (take r.pages lists.lists) p ≡ []
+  no_list p past = get_or_past (take r.pages lists.lists) p [] (rw long past)
+
+  its_page : (p y : ℕ) → p < r.pages → Contains (list_of lists p) y → (rec : Rec) × (record_at records y ≡ Some rec) × (rec.page ≡ p)
+  its_page p y low is = elim ((has p y).0 is) [
+    | inl both ↦ by new refl both.0 both.1
+    | inr old ↦ (let found = listed_record r p y h low old.0 in (found.0, others y old.1 ∙ found.1, found.2))
+  ]
+    where
+      by : (n : Option Rec) → new ≡ n → p ≡ key_of r new → y ≡ number → (rec : Rec) × (record_at records y ≡ Some rec) × (rec.page ≡ p)
+      by None e key is_own = absurd (let at : p ≡ r.pages = rw e at key in omega (arith, low, at))
+      by (Some rec) e key is_own = (rec, rw is_own (own ∙ e), sym (rw e at key))
+
+  its_listed : (y : ℕ) (rec : Rec) → record_at records y ≡ Some rec → (rec.page < r.pages) × Contains (list_of lists rec.page) y
+  its_listed y rec is = elim (cases_eq y number) [
+    | inl is_own ↦
+        let e : new ≡ Some rec = sym own ∙ rw is_own at is in
+        (key_low rec e, (has rec.page y).1 (inl (rw e refl, is_own)))
+    | inr other ↦
+        let old = record_listed r y rec h (sym (others y other) ∙ is) in
+        (old.0, (has rec.page y).1 (inr (old.1, other)))
+  ]
+
+  its_free : (y : ℕ) → Contains (list_of lists r.pages) y ↔ ((y < length records) × (record_at records y ≡ None))
+  its_free y = (forth, back)
+    where
+      forth : Contains (list_of lists r.pages) y → (y < length records) × (record_at records y ≡ None)
+      forth is = elim ((has r.pages y).0 is) [
+        | inl both ↦ (rw (length-set r.records number new, both.1) within, by new refl both.0 both.1)
+        | inr old ↦ (let free = (h.free y).0 old.0 in (rw (length-set r.records number new) free.0, others y old.1 ∙ free.1))
+      ]
+        where
+          by : (n : Option Rec) → new ≡ n → r.pages ≡ key_of r new → y ≡ number → record_at records y ≡ None
+          by None e key is_own = rw is_own (own ∙ e)
+          by (Some rec) e key is_own = absurd (let at : r.pages ≡ rec.page = rw e at key in omega (arith, key_low rec e, at))
+
+      back : (y < length records) × (record_at records y ≡ None) → Contains (list_of lists r.pages) y
+      back (low, none) = elim (cases_eq y number) [
+        | inl is_own ↦ (let e : new ≡ None = sym own ∙ rw is_own at none in (has r.pages y).1 (inl (rw e refl, is_own)))
+        | inr other ↦ (has r.pages y).1 (inr ((h.free y).1 (rw (length-set r.records number new) at low, sym (others y other) ∙ none), other))
+      ]
+
+  pub renumbered : AreNumbered (record r { records = set r.records number new; lists = lists })
+  renumbered = record {
+    small = rw (length-set r.records number new) h.small;
+    few = h.few;
+    places = places ∙ h.places ∙ sym (length-set r.records number new);
+    keys = keys;
+    disjoint = disjoint;
+    versions = record {
+      page = λ p y is. elim (cases_lt p r.pages) [
+        | inl low ↦ its_page p y low (rw (its_list p low) at is)
+        | inr past ↦ absurd (Contains-nil y (rw (no_list p past) at is))
+      ];
+      listed = λ y rec is.
+          let found = its_listed y rec is in
+          (rw long found.0, rw (its_list rec.page found.0) found.1);
+      falls = λ p. elim (cases_lt p r.pages) [
+        | inl low ↦ rw (its_list p low) (falls p low)
+        | inr past ↦ rw (no_list p past) (λ i j d less low. absurd (omega arith))
+      ];
+    };
+    free = its_free;
+  }
+
+-- the front of a list after a write
+take_set : {X : Type 0} (n : ℕ) (xs : List X) (k : ℕ) (v : X) → take n (set xs k v) ≡ set (take n xs) k v
+take_set zero xs k v = refl
+take_set (suc n) [] k v = refl
+take_set (suc n) (x ∷ xs) zero v = refl
+take_set (suc n) (x ∷ xs) (suc k) v = ap (λ rest. x ∷ rest) (take_set n xs k v)
+
+-- a number without a record gets one that is newer than those of its page
+module _ (r : Inside) (h : AreNumbered r) (number : ℕ) (rec : Rec)
+    (free : Contains (list_of r.lists r.pages) number) (low : rec.page < r.pages) (newest : IsNewest r.records rec) where
+  abbrev rest : ChainLists
+  rest = without r.lists r.pages number
+
+  abbrev with_it : ChainLists
+  with_it = with_first rest rec.page number
+
+  rest_keys : length rest.lists ≡ r.pages + 1
+  rest_keys = length-set r.lists.lists r.pages _ ∙ h.keys
+
+  apart : rec.page ≢ r.pages
+  apart e = omega (arith, low)
+
+  has_it : (k y : ℕ) → Contains (list_of with_it k) y ↔ (((k ≡ rec.page) × (y ≡ number)) ⊎ (Contains (list_of r.lists k) y × (y ≢ number)))
+  has_it k y =
+      let first = in_with_first rest rec.page number (omega (arith, rest_keys)) k y in
+      let old = in_without r.lists r.pages number h.disjoint free k y in (
+        λ is. elim (first.0 is) [ inl both ↦ inl both | inr has ↦ inr (old.0 has) ],
+        λ either. elim either [ inl both ↦ first.1 (inl both) | inr both ↦ first.1 (inr (old.1 both)) ],
+      )
+
+  none : (number < length r.records) × (record_at r.records number ≡ None)
+  none = (h.free number).0 free
+
+  member_other : (p y : ℕ) → p < r.pages → Contains (list_of r.lists p) y → y ≢ number
+  member_other p y p_low has e =
+      let found = listed_record r p number h p_low (subst (Contains (list_of r.lists p)) e has) in
+      (let no : None ≡ Some found.0 = sym none.1 ∙ found.1 in cc)
+
+  entry : (y : ℕ) → y ≢ number → record_at (set r.records number (Some rec)) y ≡ record_at r.records y
+  entry y other = get_or-set_other r.records number y (Some rec) None other
+
+  rest_list : (p : ℕ) → p ≢ r.pages → list_of rest p ≡ list_of r.lists p
+  rest_list p other = get_or-set_other r.lists.lists r.pages p _ [] other
+
+  own_list : list_of with_it rec.page ≡ number ∷ list_of r.lists rec.page
+  own_list =
+      get_or-set_same rest.lists rec.page (number ∷ list_of rest rec.page) [] (omega (arith, rest_keys))
+      ∙ ap (λ xs. number ∷ xs) (rest_list rec.page apart)
+
+  its_falls : (p : ℕ) → p < r.pages → AllPairs (IsNewer (set r.records number (Some rec))) (list_of with_it p)
+  its_falls p p_low =
+      let old = pairs_stay r.records (set r.records number (Some rec)) (list_of r.lists p)
+      (λ y has. entry y (member_other p y p_low has)) (list_falls r p h p_low) in
+      elim (cases_eq p rec.page) [
+        | inl here ↦
+            rw (here, own_list)
+            (pairs_cons (IsNewer (set r.records number (Some rec))) number (list_of r.lists rec.page)
+            (λ y has a s a_is s_is.
+            let other = member_other rec.page y low has in
+            let found = listed_record r rec.page y h low has in
+            let one = same_record rec a (sym (get_or-set_same r.records number (Some rec) None none.0) ∙ a_is) in
+            let two = same_record found.0 s (sym found.1 ∙ sym (entry y other) ∙ s_is) in
+            let newer = newest y s (sym (entry y other) ∙ s_is) (ap (λ f. f.page) (sym two) ∙ found.2) in
+            rw (← one) newer)
+            (rw here at old))
+        | inr other ↦
+            let same = get_or-set_other rest.lists rec.page p (number ∷ list_of rest rec.page) [] other ∙ rest_list p (λ e. omega (arith, p_low)) in
+            rw same old
+      ]
+
+  pub numbered : AreDisjoint with_it → AreNumbered (record r { records = set r.records number (Some rec); lists = with_it })
+  numbered its_disjoint = renumbered r h number (Some rec) with_it none.0 refl its_disjoint (length-set rest.lists rec.page _ ∙ rest_keys) has_it
+      (λ its e. rw (← same_record rec its e) low) its_falls
+
+  pub numbered_pages : take r.pages with_it.lists ≡ set (take r.pages r.lists.lists) rec.page (number ∷ numbers_at
+      (take r.pages r.lists.lists) rec.page)
+  numbered_pages =
+      take_set r.pages rest.lists rec.page (number ∷ list_of rest rec.page)
+      ∙ ap (λ xs. set xs rec.page (number ∷ list_of rest rec.page)) (take-set-le r.pages r.lists.lists r.pages _ (omega arith))
+      ∙ ap (λ xs. set (take r.pages r.lists.lists) rec.page (number ∷ xs)) (rest_list rec.page apart ∙ sym (page_list r rec.page low))
+
+-- a number loses its record
+module _ (r : Inside) (h : AreNumbered r) (number : ℕ) (rec : Rec) (is : record_at r.records number ≡ Some rec)
+    (within : number < length r.records) where
+  abbrev left : ChainLists
+  left = without r.lists rec.page number
+
+  abbrev freed : ChainLists
+  freed = with_first left r.pages number
+
+  listed : (rec.page < r.pages) × Contains (list_of r.lists rec.page) number
+  listed = record_listed r number rec h is
+
+  left_keys : length left.lists ≡ r.pages + 1
+  left_keys = length-set r.lists.lists rec.page _ ∙ h.keys
+
+  has_left : (k y : ℕ) → Contains (list_of freed k) y ↔ (((k ≡ r.pages) × (y ≡ number)) ⊎ (Contains (list_of r.lists k) y × (y ≢ number)))
+  has_left k y =
+      let first = in_with_first left r.pages number (omega (arith, left_keys)) k y in
+      let old = in_without r.lists rec.page number h.disjoint listed.1 k y in (
+        λ has. elim (first.0 has) [ inl both ↦ inl both | inr one ↦ inr (old.0 one) ],
+        λ either. elim either [ inl both ↦ first.1 (inl both) | inr both ↦ first.1 (inr (old.1 both)) ],
+      )
+
+  freed_list : (p : ℕ) → p < r.pages → list_of freed p ≡ list_of left p
+  freed_list p low = get_or-set_other left.lists r.pages p _ [] (λ e. omega (arith, low))
+
+  left_falls : (p : ℕ) → p < r.pages → AllPairs (IsNewer (set r.records number None)) (list_of freed p)
+  left_falls p low =
+      pairs_stay r.records (set r.records number None) (list_of freed p)
+      (λ y has. get_or-set_other r.records number y None None (other y has)) old
+    where
+      other : (y : ℕ) → Contains (list_of freed p) y → y ≢ number
+      other y has = elim ((has_left p y).0 has) [ inl both ↦ absurd (let at = both.0 in omega (arith, low, at)) | inr both ↦ both.1 ]
+
+      old : AllPairs (IsNewer r.records) (list_of freed p)
+      old = rw (freed_list p low) (elim (cases_eq p rec.page) [
+        | inl here ↦
+            let own = get_or-set_same r.lists.lists rec.page (remove (list_of r.lists rec.page) (index_in
+            (list_of r.lists rec.page) number)) [] (omega (arith, h.keys, listed.0)) in
+            rw (here, own)
+            (all_pairs_remove (IsNewer r.records) (list_of r.lists rec.page) (index_in (list_of r.lists rec.page) number)
+            (index_reads (list_of r.lists rec.page) number listed.1).0 (list_falls r rec.page h listed.0))
+        | inr apart ↦
+            let same = get_or-set_other r.lists.lists rec.page p (remove (list_of r.lists rec.page) (index_in
+            (list_of r.lists rec.page) number)) [] apart in
+            rw same (list_falls r p h low)
+      ])
+
+  pub unnumbered : AreDisjoint freed → AreNumbered (record r { records = set r.records number None; lists = freed })
+  unnumbered its_disjoint = renumbered r h number None freed within refl its_disjoint (length-set left.lists r.pages _ ∙ left_keys) has_left
+      (λ its e. absurd (cc)) left_falls
+
+  pub unnumbered_pages : take r.pages freed.lists
+      ≡ set (take r.pages r.lists.lists) rec.page (remove (numbers_at (take r.pages r.lists.lists) rec.page) (index_in (numbers_at
+      (take r.pages r.lists.lists) rec.page) number))
+  unnumbered_pages =
+      take-set-le r.pages left.lists r.pages _ (omega arith)
+      ∙ take_set r.pages r.lists.lists rec.page _
+      ∙ ap (λ xs. set (take r.pages r.lists.lists) rec.page (remove xs (index_in xs number))) (sym (page_list r rec.page listed.0))
+
+-- while the last numbers are put into the list of those without a record
+pub record HasLast (pages count number : ℕ) (c : ChainLists) : Type 0 where
+  pub places : c.places ≡ count
+  pub keys : length c.lists ≡ pages + 1
+  pub disjoint : AreDisjoint c
+  pub free : (y : ℕ) → Contains (list_of c pages) y ↔ ((count ≤ y + number) × (y < count))
+  pub others : (k : ℕ) → k ≢ pages → list_of c k ≡ []
+
+pub first_none : (pages count : ℕ) → HasLast pages count 0 (empty_lists (pages + 1) count)
+first_none pages count = record {
+  places = refl;
+  keys = length-replicate {A = List ℕ} (pages + 1) [];
+  disjoint = record {
+    within = λ k y has. absurd (Contains-nil y (rw (empty k) at has));
+    apart = λ k j y has other. absurd (Contains-nil y (rw (empty k) at has));
+    once = λ k i j d less low. absurd (let none = empty k in let no = rw none at low in omega arith);
+  };
+  free = λ y. (λ has. absurd (Contains-nil y (rw (empty pages) at has)), λ both. absurd (let low = both.0 in let high = both.1 in omega arith));
+  others = λ k other. empty k;
+}
+  where
+    empty : (k : ℕ) → list_of (empty_lists (pages + 1) count) k ≡ []
+    empty k = elim (cases_lt k (pages + 1)) [
+      | inl low ↦ get_or-replicate {A = List ℕ} (pages + 1) k [] [] low
+      | inr past ↦ get_or_past {X = List ℕ} (replicate (pages + 1) []) k [] (rw (length-replicate {A = List ℕ} (pages + 1) []) past)
+    ]
+
+module _ (pages count number at : ℕ) (c : ChainLists) (h : HasLast pages count number c) (place : at + number + 1 ≡ count) where
+  pub first_unlisted : IsListed c at → ⊥
+  first_unlisted (k, has) = elim (cases_eq k pages) [
+    | inl here ↦ (let low = (h.free at).0 (rw here at has) in let least = low.0 in omega arith)
+    | inr other ↦ Contains-nil at (rw (h.others k other) at has)
+  ]
+
+  pub first_more : AreDisjoint (with_first c pages at) → HasLast pages count (number + 1) (with_first c pages at)
+  first_more its_disjoint =
+      let low : pages < length c.lists = omega (arith, h.keys) in
+      record {
+        places = h.places;
+        keys = length-set c.lists pages _ ∙ h.keys;
+        disjoint = its_disjoint;
+        free = λ y.
+            let either = in_with_first c pages at low pages y in (
+              λ has. elim (either.0 has) [
+                | inl both ↦ (let e = both.1 in (omega arith, omega arith))
+                | inr old ↦ (let both = (h.free y).0 old in let least = both.0 in let high = both.1 in (omega arith, omega arith))
+              ],
+              λ both. let least = both.0 in let high = both.1 in
+                  elim (cases_eq y at) [ inl e ↦ either.1 (inl (refl, e)) | inr other ↦ either.1 (inr ((h.free y).1 (omega arith, omega arith))) ],
+            );
+        others = λ k other. get_or-set_other c.lists pages k _ [] other ∙ h.others k other;
+      }
+
+-- then no number has a record
+pub none_numbered : (r : Inside) (count : ℕ) → HasLast r.pages count count r.lists → r.records ≡ replicate count None → count ≤ 65536
+    → r.pages ≤ 65536 → AreNumbered r
+none_numbered r count h none small few = record {
+  small = rw long small;
+  few = few;
+  places = h.places ∙ sym long;
+  keys = h.keys;
+  disjoint = h.disjoint;
+  versions = record {
+    page = λ p y is. absurd (Contains-nil y (rw (no_list p) at is));
+    listed = λ y rec is. absurd (let no : None ≡ Some rec = sym (no_record y) ∙ is in cc);
+    falls = λ p. rw (no_list p) (λ i j d less low. absurd (omega arith));
+  };
+  free = λ y. (λ has. (rw long ((h.free y).0 has).1, no_record y), λ both. (h.free y).1 (omega arith, rw long at both.0));
+}
+  where
+    long : length r.records ≡ count
+    long = rw none (length-replicate {A = Option Rec} count None)
+
+    no_record : (y : ℕ) → record_at r.records y ≡ None
+    no_record y = rw none (elim (cases_lt y count) [
+      | inl low ↦ get_or-replicate {A = Option Rec} count y None None low
+      | inr past ↦ get_or_past {X = Option Rec} (replicate count None) y None (rw (length-replicate {A = Option Rec} count None) past)
+    ])
+
+    no_list : (p : ℕ) → numbers_at (take r.pages r.lists.lists) p ≡ []
+    no_list p = elim (cases_lt p r.pages) [
+      | inl low ↦ page_list r p low ∙ h.others p (λ e. omega (arith, low))
+      | inr past ↦ get_or_past (take r.pages r.lists.lists) p [] (let keys = h.keys in rw (length-take r.pages r.lists.lists) (omega arith))
+    ]
+
+pub none_pages : (r : Inside) (count : ℕ) → HasLast r.pages count count r.lists → take r.pages r.lists.lists ≡ replicate r.pages []
+none_pages r count h =
+    ext_get_or [] (take r.pages r.lists.lists) (replicate r.pages []) (long ∙ sym (length-replicate {A = List ℕ} r.pages []))
+    (λ p low.
+    let lies : p < r.pages = rw long at low in
+    page_list r p lies ∙ h.others p (λ e. omega (arith, lies)) ∙ sym (get_or-replicate {A = List ℕ} r.pages p [] [] lies))
+  where
+    long : length (take r.pages r.lists.lists) ≡ r.pages
+    long = (let keys = h.keys in length-take r.pages r.lists.lists ∙ (omega arith))
+
+-- a number that has a record of a page
+pub some_record : (o : Option Rec) (page : ℕ) → IsSomeAnd o (λ r. r.page ≡ page) → (rec : Rec) × (o ≡ Some rec) × (rec.page ≡ page)
+some_record None page h = absurd h
+some_record (Some rec) page h = (rec, refl, h)

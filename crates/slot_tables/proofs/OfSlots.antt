@@ -1,0 +1,4 @@
+pub mod InBlocks
+pub mod Leaving
+pub mod SlotSetting
+pub mod GatheredSlots

@@ -1,0 +1,2 @@
+pub mod SpareFrame
+pub mod SpareSetting

@@ -1,0 +1,3 @@
+pub mod Waiters
+pub mod WaitingFor
+pub mod Ranges

@@ -1,0 +1,151 @@
+-- Pins, spares, damaged slots and copies leave tables that have what was noted.
+use Rattle.std.proofs.Common.{◌≡◌, ◌≢◌, ℕ, ◌<◌, List, length, set, IsSome, Some, refl, sym, ap, ap₂, ◌∙◌, subst, inl, inr, arith}
+use Rattle.std.proofs.lemmas.Bool.{cases_eq}
+use Rattle.std.proofs.lemmas.List.{length-set, get_or-set_same, get_or-set_other, map-set}
+use Rattle.tx_types.specs.declared.config.Config.{Config}
+use Rattle.tx_types.specs.declared.config.Protocol.{Protocol}
+use Rattle.tx_types.specs.declared.record.Rec.{Rec}
+use Rattle.tx_types.specs.Config.{shape_of, slots_of, blocks_of}
+use Rattle.record_list.specs.Current.{cur}
+use Rattle.record_list.specs.Changes.{CopyLaw}
+use Rattle.slot_tables.specs.declared.slots.SlotUse.{SlotUse}
+use Rattle.slot_tables.specs.declared.slots.SlotUse.TheVariants as slot
+use Rattle.slot_tables.specs.Kept.{Kept, use_at}
+use Rattle.version_index.specs.declared.note.Note.{Note}
+use Rattle.version_index.specs.declared.note.Note.TheVariants as note
+use Rattle.version_index.specs.Notes.{note_at, rec_of, found_in}
+use Rattle.version_index.specs.Noted.{Noted, IsNoted, current_of, damaged_at, copied}
+use Rattle.version_index.specs.Judged.{answerer, is_waiting, answerer_of, waits_of}
+use Rattle.version_index.specs.JudgedChanges.{Judged, judged_of, NothingMoves}
+use Rattle.version_index.specs.Numbered.{rec_at, AreJudged}
+use Rattle.version_index.specs.Tables.{note_in, notes_in, noted_by, numbered_of, AreHeld, AreIndexed}
+use Rattle.version_index.proofs.OfChanges.Copies.{copy_moves_nothing, damage_moves_nothing}
+use Rattle.version_index.proofs.OfTables.KeptNotes.{note_by, kept_noted, blank_slot, length-notes}
+use Rattle.version_index.proofs.OfChanges.NotedChanges.{damaged_noted, copied_noted}
+use Rattle.version_index.proofs.OfTables.Numbered.{judged_as}
+use Rattle.version_index.proofs.OfChanges.WholeJudged.{judged_still}
+
+-- what is judged is by the configuration and the notes alone
+pub judged_same : (n n' : Noted) → n'.config ≡ n.config → n'.notes ≡ n.notes → judged_of n' ≡ judged_of n
+unfolding current_of answerer_of waits_of
+judged_same n n' c s =
+    ap₂ {C = Judged} (λ (its : Config) (notes : List Note). record {
+      current = λ page. cur its.protocol (found_in notes) its.logical page;
+      answerer = λ r. answerer its.protocol (found_in notes) its.logical r;
+      waits = λ r. is_waiting its.protocol (found_in notes) its.logical r;
+    }) c s
+
+-- a blank slot that holds a number with a record, or none
+pub held_more : (k : Kept) (at : ℕ) (u : SlotUse) → AreHeld k → at < length k.slots → use_at k.slots at ≡ slot.Blank →
+    ((x : ℕ) → u ≡ slot.Holds x → (r : Rec) × (rec_at k.records x ≡ Some r)) → AreHeld (record k { slots = set k.slots at u })
+held_more k at u h within blank own = record {
+  held = λ a x e. elim (cases_eq a at) [
+    | inl here ↦ own x (sym (get_or-set_same k.slots at u slot.Blank within) ∙ ap (use_at (set k.slots at u)) (sym here) ∙ e)
+    | inr off ↦ h.held a x (sym (get_or-set_other k.slots at a u slot.Blank off) ∙ e)
+  ];
+  used = λ x r is. (
+      let old = h.used x r is in
+      let off : old.0 ≢ at = λ here. (let other : slot.Holds x ≡ slot.Blank = sym old.1 ∙ ap (use_at k.slots) here ∙ blank in cc) in
+      (old.0, get_or-set_other k.slots at old.0 u slot.Blank off ∙ old.1));
+  once = h.once;
+  unused = h.unused;
+}
+
+-- the notes of a slot that is used otherwise
+pub notes_set : (k : Kept) (at : ℕ) (u : SlotUse) →
+    notes_in (record k { slots = set k.slots at u }) ≡ set (notes_in k) at (note_in k.records u)
+notes_set k at u = map-set (note_in k.records) k.slots at u
+
+module _ (protocol : Protocol) (its : Config) (m : List ℕ) (k : Kept) (i : AreIndexed protocol its m k) where
+  -- where nothing moves, the tables are judged as before
+  pub still_indexed : (k' : Kept) → k'.shape ≡ k.shape → length k'.pages ≡ length k.pages → AreHeld k' →
+      AreJudged (numbered_of k') its.logical (judged_of (noted_by its m k)) → IsNoted protocol (noted_by its m k') →
+      NothingMoves (noted_by its m k) (noted_by its m k') → AreIndexed protocol its m k'
+  still_indexed k' shape pages held judged noted moves = record {
+    noted = noted;
+    shape = shape ∙ i.shape;
+    pages = pages ∙ i.pages;
+    held = held;
+    judged = judged_as (numbered_of k') (noted_by its m k') (judged_of (noted_by its m k)) judged
+        (judged_still (noted_by its m k) (noted_by its m k') refl moves) (kept_noted k' held);
+  }
+
+  -- another pin
+  pub pinned_indexed : (page version : ℕ) → AreIndexed protocol its m (record k { pins = set k.pins page version })
+  pinned_indexed page version =
+      let n = i.noted in
+      let k' : Kept = record k { pins = set k.pins page version } in
+      record {
+        noted = record {
+          check = n.check;
+          bounds = n.bounds;
+          rule = n.rule;
+          slots = n.slots;
+          pages = length-set k.pins page version ∙ n.pages;
+          mentions = n.mentions;
+          spare = n.spare;
+          scanned = n.scanned;
+          sound = n.sound;
+          mentioned = n.mentioned;
+        };
+        shape = i.shape;
+        pages = i.pages;
+        held = record { held = i.held.held; used = i.held.used; once = i.held.once; unused = i.held.unused };
+        judged = subst (AreJudged (numbered_of k) its.logical) (sym (judged_same (noted_by its m k) (noted_by its m k') refl refl)) i.judged;
+      }
+
+  -- another spare
+  pub spared_indexed : (block : ℕ) → block < blocks_of (shape_of its) → AreIndexed protocol its m (record k { spare = Some block })
+  spared_indexed block exists =
+      let n = i.noted in
+      let k' : Kept = record k { spare = Some block } in
+      record {
+        noted = record {
+          check = n.check;
+          bounds = n.bounds;
+          rule = n.rule;
+          slots = n.slots;
+          pages = n.pages;
+          mentions = n.mentions;
+          spare = exists;
+          scanned = n.scanned;
+          sound = n.sound;
+          mentioned = n.mentioned;
+        };
+        shape = i.shape;
+        pages = i.pages;
+        held = record { held = i.held.held; used = i.held.used; once = i.held.once; unused = i.held.unused };
+        judged = subst (AreJudged (numbered_of k) its.logical) (sym (judged_same (noted_by its m k) (noted_by its m k') refl refl)) i.judged;
+      }
+
+  slot_within : (at : ℕ) → at < slots_of (shape_of its) → at < length k.slots
+  slot_within at exists = let slots = i.noted.slots in let long = length-notes k in omega arith
+
+  -- a damaged slot
+  pub damaged_is : (at : ℕ) → noted_by its m (record k { slots = set k.slots at slot.Damaged }) ≡ damaged_at (noted_by its m k) at
+  damaged_is at = ap (λ notes. record (noted_by its m k) { notes = notes }) (notes_set k at slot.Damaged)
+
+  pub damaged_indexed : (at : ℕ) → at < slots_of (shape_of its) → note_at (notes_in k) at ≡ note.Blank →
+      AreIndexed protocol its m (record k { slots = set k.slots at slot.Damaged })
+  damaged_indexed at exists was =
+      let n = noted_by its m k in
+      let held = held_more k at slot.Damaged i.held (slot_within at exists) (blank_slot k at was) (λ x e. cc) in
+      still_indexed (record k { slots = set k.slots at slot.Damaged }) refl refl held i.judged
+      (subst (IsNoted protocol) (sym (damaged_is at)) (damaged_noted protocol n i.noted at exists was))
+      (subst (NothingMoves n) (sym (damaged_is at)) (damage_moves_nothing protocol n i.noted at exists was))
+
+  -- a copy
+  pub copied_is : (from to : ℕ) →
+      noted_by its m (record k { slots = set k.slots to (use_at k.slots from) }) ≡ copied (noted_by its m k) from to
+  copied_is from to =
+      ap (λ notes. record (noted_by its m k) { notes = notes })
+      (notes_set k to (use_at k.slots from) ∙ ap (set (notes_in k) to) (sym (note_by k from)))
+
+  pub copied_indexed : CopyLaw protocol → (from to : ℕ) → IsSome (rec_of (note_at (notes_in k) from)) → to < slots_of (shape_of its) →
+      note_at (notes_in k) to ≡ note.Blank → AreIndexed protocol its m (record k { slots = set k.slots to (use_at k.slots from) })
+  copied_indexed copy from to some exists was =
+      let n = noted_by its m k in
+      let held = held_more k to (use_at k.slots from) i.held (slot_within to exists) (blank_slot k to was) (i.held.held from) in
+      still_indexed (record k { slots = set k.slots to (use_at k.slots from) }) refl refl held i.judged
+      (subst (IsNoted protocol) (sym (copied_is from to)) (copied_noted protocol n i.noted copy from to some exists was))
+      (subst (NothingMoves n) (sym (copied_is from to)) (copy_moves_nothing protocol n i.noted copy from to some exists was))

@@ -1,0 +1,12 @@
+pub mod AnsweredRounds
+pub mod Answering
+pub mod KeptRounds
+pub mod KeptWalks
+pub mod RoundSteps
+pub mod WalkSteps
+pub mod Taking
+pub mod Newest
+pub mod Closing
+pub mod CycleOrder
+pub mod Cycles
+pub mod WholeCycles

@@ -1,0 +1,5 @@
+pub mod Going
+pub mod GatheredMore
+pub mod GoingBlocks
+pub mod KeptGoing
+pub mod OrderedBlocks

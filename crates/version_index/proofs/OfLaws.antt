@@ -1,0 +1,8 @@
+pub mod Examples
+pub mod JudgedExamples
+pub mod JudgedLaws
+pub mod ImageLaws
+pub mod ImageScans
+pub mod Mirror
+pub mod NotedImages
+pub mod FirstRecord

@@ -1,0 +1,3 @@
+pub mod KeptLosses
+pub mod Losses
+pub mod UsedSlots

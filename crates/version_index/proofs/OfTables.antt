@@ -1,0 +1,11 @@
+pub mod Blocks
+pub mod CurrentNames
+pub mod FoundIn
+pub mod Given
+pub mod HomeFacts
+pub mod Judged
+pub mod KeptNotes
+pub mod NotedFacts
+pub mod Numbered
+pub mod Places
+pub mod OneBreach
