@@ -1,5 +1,5 @@
 -- What holds of a device at every moment, and how often its pages were mentioned.
-use Rattle.std.specs.Prelude.{◌≡◌, ◌⊎◌, ◌≤◌, ℕ, Bool, Ok, Err}
+use Rattle.std.specs.Prelude.{◌≡◌, ◌⊎◌, ◌≤◌, ℕ, Bool, false, Ok, Err}
 use Rattle.tx_types.specs.declared.config.Protocol.{Protocol}
 use Rattle.tx_types.specs.Config.{checked, shape_of}
 use Rattle.tx_types.specs.Limits.{max_pending}
@@ -15,10 +15,11 @@ use Rattle.tx_engine.specs.Standing.{Standing, Stands}
 use Rattle.tx_engine.specs.Step.{StepsAs, CutLeaves, IsAtLast, settled}
 use Rattle.array_machine.specs.declared.answers.StepError.TheVariants as failed
 
--- What holds of a device at every moment: of its flash, and of what a power cut leaves that was met
--- in a call which led here.
+-- What holds of a device that is not dropped at every moment: of its flash, and of what a power cut leaves that was met in a
+-- call which led here.
 pub record HoldsAlways {F : Type 0} (state : F → FlashState) (protocol : Protocol)
     (s : Standing F) : Type 0 where
+  pub kept : s.dropped ≡ false
   pub rule : s.config.protocol ≡ protocol
   pub check : checked s.config ≡ Ok (state s.flash).shape
   pub shape : (state s.flash).shape ≡ shape_of s.config

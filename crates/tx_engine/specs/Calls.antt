@@ -23,11 +23,12 @@ use Rattle.collector.specs.Store.{IsSure, Store}
 use Rattle.array_machine.specs.declared.answers.Collected.{Collected}
 use Rattle.array_machine.specs.declared.answers.Collected.TheVariants as collected
 use Rattle.array_machine.specs.declared.answers.Progress.{Progress}
+use Rattle.array_machine.specs.declared.answers.Progress.TheVariants as progress
 use Rattle.tx_engine.specs.Breaking.{WritingBreaks}
 use Rattle.tx_engine.specs.Collections.{CollectsTables, HasNothingToCollect}
 use Rattle.tx_engine.specs.Costs.{StepCosts}
 use Rattle.tx_engine.specs.Exits.{Exits, is_there}
-use Rattle.tx_engine.specs.OpenTable.{OpenTable, HasLimitsOf, HasPlace, IsDueAt, bytes_due, entries_of, name_due, opening_at, with_opening}
+use Rattle.tx_engine.specs.OpenTable.{OpenTable, HasLimitsOf, HasPlace, IsDueAt, bytes_due, entries_of, name_due, opening_at, with_done, with_opening}
 use Rattle.tx_engine.specs.Settling.{AddsOnly, Advances, AdvanceRises, Counts, CountsOn, IsLeft, IsSettled, WriteFails, WritesNext, link_place, with_next}
 use Rattle.tx_engine.specs.Standing.{Stands, name_at, write_at}
 use Rattle.tx_engine.specs.Stored.{Stored, CanWrite, store_in}
@@ -175,6 +176,11 @@ pub record WritesPage {F : Type 0} (state : F → FlashState) (S S' : Stored F) 
   pub breaks : OnErr result (WritingBreaks state (standing_in state S O) (standing_in state S' O')
       (name_due O at))
 
+-- what is open where the transaction at an index counted a page, or was whole and went
+abbrev pub counted_on : OpenTable → ℕ → Progress → OpenTable
+counted_on O i (progress.Wrote done all) = with_opening O i (with_done (opening_at O i) done)
+counted_on O i progress.Done = record O { all = remove O.all i }
+
 -- A transaction went on by a page that is noted, or it was whole and is done. The flash stays.
 pub record CountsNext {F : Type 0} (state : F → FlashState) (S S' : Stored F) (O O' : OpenTable)
     (at : ℕ) (progress : Progress) : Type 0 where
@@ -186,6 +192,7 @@ pub record CountsNext {F : Type 0} (state : F → FlashState) (S S' : Stored F) 
   pub stays : S' ≡ record S { noted = record S.noted { pins = S'.noted.pins } }
   pub sure : S'.unsure ≡ unsure.Nothing
   pub limits : HasLimitsOf O O'
+  pub opens : O' ≡ counted_on O at progress
 
 -- A transaction of a settled device went on: its next page was written where it was not noted, and counted.
 pub record AdvancesTo {F : Type 0} (state : F → FlashState) (S S' : Stored F) (O O' : OpenTable)

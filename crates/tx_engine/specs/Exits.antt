@@ -1,5 +1,6 @@
 -- What each call of a device says of its flash, its versions and its mentions.
-use Rattle.std.specs.Prelude.{◌≡◌, ◌≢◌, ◌⊎◌, ℕ, ◌<◌, ◌≤◌, ◌==◌, Bool, true, false, not, ◌&&◌, List, [], ◌∷◌, ◌++◌, All, Any, Option, Some, Result, Ok, Err, if◌then◌else◌}
+use Rattle.std.specs.Prelude.{◌≡◌, ◌≢◌, ◌⊎◌, ℕ, ◌<◌, ◌≤◌, ◌==◌, Bool, true, false, not, ◌&&◌, List, [], ◌∷◌, ◌++◌, All, Any, Option, Some, Result, Ok, Err}
+use Rattle.std.specs.Prelude.{if◌then◌else◌}
 use Rattle.std.specs.List.{list_any, zip}
 use Rattle.tx_types.specs.Batch.{PageWrite}
 use Rattle.tx_types.specs.declared.record.Link.{Link}
@@ -118,12 +119,13 @@ VersionsTell old new =
     × (page_at new.machine.pages page ≡ page_at old.machine.pages page))
 
 -- What each call that works on the flash keeps of what is known: the configuration, the versions, the mentions, and that
--- no transaction is named anew.
+-- no transaction is named anew. The device is not dropped.
 pub record ExitsTables {F : Type 0} (old new : Standing F) : Type 0 where
   pub config : new.config ≡ old.config
   pub versions : VersionsTell old new
   pub mentions : MentionsRise old.noted new.noted old.namings
   pub names : All (λ x. Any (λ before. before.names ≡ x.names) old.namings) new.namings
+  pub kept : new.dropped ≡ false
 
 -- and with it what the flash carries over, and the operations by which its moment moves
 pub record Exits {F : Type 0} (state : F → FlashState) (old new : Standing F)

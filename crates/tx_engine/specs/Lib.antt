@@ -4,6 +4,8 @@ pub use Rattle.array_machine.specs.Step
 pub use Rattle.array_machine.specs.Collect
 pub use Rattle.array_machine.specs.UnbrokenCalls as Unbroken
 pub mod Always
+pub mod BatchCalls
+pub mod Batches
 pub mod Breaking
 pub mod Calls
 pub mod Collections

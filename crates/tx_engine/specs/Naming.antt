@@ -1,5 +1,5 @@
 -- The names that a transaction is opened with.
-use Rattle.std.specs.Prelude.{◌≡◌, ℕ, nat_le, Bool, List, [], ◌∷◌, ◌++◌, map, slice_index, slice_set, Result, Ok, Err}
+use Rattle.std.specs.Prelude.{◌≡◌, ℕ, nat_le, Bool, false, List, [], ◌∷◌, ◌++◌, map, slice_index, slice_set, Result, Ok, Err}
 use Rattle.tx_types.specs.Batch.{PageWrite}
 use Rattle.tx_types.specs.Limits.{max_version}
 use Rattle.tx_types.specs.declared.record.Link.{Link}
@@ -24,10 +24,11 @@ named_after n writes (Ok u) namings =
     namings ++ record { names = map (next_name n) writes; noted_count = 0 } ∷ []
 named_after n writes (Err e) namings = namings
 
--- only the array machine, the names and the pins may have changed
+-- Only the array machine, the names and the pins may have changed. The device is not dropped.
 pub record KeepsTables {F : Type 0} (old new : Standing F) : Type 0 where
   pub flash : new.flash ≡ old.flash
   pub config : new.config ≡ old.config
   pub table : new.table ≡ old.table
   pub unsure : new.unsure ≡ old.unsure
   pub noted : new.noted ≡ record old.noted { pins = new.noted.pins }
+  pub kept : new.dropped ≡ false

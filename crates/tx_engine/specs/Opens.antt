@@ -22,7 +22,7 @@ use Rattle.tx_engine.specs.declared.mount.MountError.TheVariants as mount
 abbrev pub mount_reads : Config → FlashState → ℕ
 mount_reads its s = slots_of s.shape + 2 * compared (records_in its.protocol s.image)
 
--- The device stands for the array of the image, with nothing open. Its tables are those of the image.
+-- The device stands for the array of the image, with nothing open. Its tables are those of the image, and it is not dropped.
 pub record Mounts {F : Type 0} (state : F → FlashState) (flash : F) (its : Config)
     (s : Standing F) : Type 0 where
   pub config : s.config ≡ its
@@ -33,6 +33,7 @@ pub record Mounts {F : Type 0} (state : F → FlashState) (flash : F) (its : Con
   pub moment : moment_of (state s.flash) ≡ moment_of (state flash)
   pub reads : (state s.flash).reads ≡ read_more (mount_reads its (state flash)) (state flash).reads
   pub carries : Carries (state flash) (state s.flash) false
+  pub kept : s.dropped ≡ false
 
 -- A flash that was not mounted comes back as it was: a read was broken, or its image is not sound, or memory ran out.
 abbrev pub FailsToMount : {F : Type 0} → (F → FlashState) → F → Config → F → MountError → Type 0

@@ -1,5 +1,6 @@
 -- The pages of an open transaction, and the room for those that may be pending beside them.
-use Rattle.std.specs.Prelude.{◌≡◌, ℕ, ◌+◌, ◌<◌, ◌≤◌, List, ◌++◌, [], ◌∷◌, length, map, slice_set, slice_index_or, option_map, Option, None, vec_capacity, All, Vec}
+use Rattle.std.specs.Prelude.{◌≡◌, ℕ, ◌+◌, ◌<◌, ◌≤◌, List, ◌++◌, [], ◌∷◌, length, map, slice_set, slice_index_or, option_map, Option, None, vec_capacity, All}
+use Rattle.std.specs.Prelude.{Vec}
 use Rattle.std.specs.declared.alloc.Global.{Global}
 use Rattle.tx_types.specs.Batch.{PageWrite, Writes, bytes_in}
 use Rattle.tx_types.specs.Entries.{value_if}

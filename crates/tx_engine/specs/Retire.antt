@@ -12,8 +12,8 @@ use Rattle.collector.specs.Looking.{reads_after}
 use Rattle.collector.specs.Preserves.{Preserves}
 use Rattle.collector.specs.Retiring.{RetiresBlock, RetiresNone, RetiringBreaks, moved_slots, retiring_first}
 use Rattle.collector.specs.Settling.{slots_read}
+use Rattle.collector.specs.Store.{IsSure}
 use Rattle.tx_engine.specs.ArrayState.{ArrayState}
-use Rattle.collector.specs.declared.unsure.Unsure.TheVariants as unsure
 use Rattle.tx_engine.specs.Breaking.{BreaksThen}
 use Rattle.tx_engine.specs.Calls.{IsReady}
 use Rattle.tx_engine.specs.Exits.{ExitsTables, VersionsRise, SettlesOrNot, settled_writes}
@@ -136,9 +136,10 @@ pub record RefusesRetiring (s : FlashState) (block : ℕ) (result : Option Retir
   pub exists : IfNone result (block < blocks_of s.shape)
   pub left : IfNone result (MayRetire s)
 
--- no place is unsure, and a block exists and may be retired
-pub record CanRetire {F : Type 0} (state : F → FlashState) (s : Stored F) (block : ℕ) : Type 0 where
-  pub nothing : s.unsure ≡ unsure.Nothing
+-- The tables match the flash and no place is unsure, and a block exists and may be retired.
+pub record CanRetire {F : Type 0} (state : F → FlashState) (p : Protocol) (s : Stored F)
+    (block : ℕ) : Type 0 where
+  pub sure : IsSure p (store_in state s)
   pub exists : block < blocks_of (shape_of s.noted.config)
   pub left : MayRetire (state s.flash)
 

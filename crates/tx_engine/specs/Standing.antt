@@ -1,5 +1,7 @@
 -- A device as its callers see it, and when it stands for an array.
-use Rattle.std.specs.Prelude.{◌≡◌, ◌≢◌, ◌↔◌, ℕ, ◌+◌, ◌<◌, ◌≤◌, ◌==◌, nat_lt, false, is_none, List, length, map, slice_index_or, slice_get, All, Any, AllPairs, Contains, Some}
+use Rattle.std.specs.Prelude.{◌≡◌, ◌≢◌, ◌↔◌, ℕ, ◌+◌, ◌<◌, ◌≤◌, ◌==◌, nat_lt, Bool, false, is_none, List, length, map, slice_index_or, slice_get, All, Any}
+use Rattle.std.specs.Prelude.{AllPairs}
+use Rattle.std.specs.Prelude.{Contains, Some}
 use Rattle.std.specs.List.{AllZip}
 use Rattle.tx_types.specs.Batch.{PageWrite, no_write, bytes_in}
 use Rattle.tx_types.specs.declared.config.Config.{Config}
@@ -30,6 +32,7 @@ pub record Naming : Type 0 where
 
 -- A device: its flash, its configuration, the array machine that it stands for, the names of each open transaction in the
 -- order of their opening, what is noted of its slots, what is kept of its blocks, and the place whose contents are not known.
+-- One that is dropped met a fault that left more of its slots unknown: of its flash and tables nothing more is said.
 pub record Standing (F : Type 0) : Type 0 where
   pub flash : F
   pub config : Config
@@ -38,6 +41,7 @@ pub record Standing (F : Type 0) : Type 0 where
   pub noted : Noted
   pub table : BlockTable
   pub unsure : Unsure
+  pub dropped : Bool
 
 abbrev pub limits_of : Config → Limits
 limits_of c = record { logical = c.logical; pending = c.pending }

@@ -18,6 +18,7 @@ use Rattle.collector.specs.Calls.{Clears, FindsSlot}
 use Rattle.collector.specs.Going.{IsNextName}
 use Rattle.collector.specs.Known.{page_known}
 use Rattle.collector.specs.Settling.{Settles}
+use Rattle.collector.specs.Store.{IsSure}
 use Rattle.tx_engine.specs.Opens.{StoresOpened, FailsToMount, ReadsUnmounted}
 use Rattle.tx_engine.specs.Read.{ShowsKnown, read_place}
 use Rattle.tx_engine.specs.Stored.{Stored, IsStored, store_in}
@@ -45,9 +46,10 @@ pub record SettlesStored {F : Type 0} (state : F → FlashState) (old new : Stor
   pub failed : OnErr result (new ≡ record old { flash = new.flash })
   pub idle : old.unsure ≡ unsure.Nothing → (result ≡ Ok found.Other) × (new ≡ old)
 
--- no place is unsure, and a transaction in progress writes this name next
-pub record CanClear {F : Type 0} (s : Stored F) (name : Link) : Type 0 where
-  pub nothing : s.unsure ≡ unsure.Nothing
+-- The tables match the flash and no place is unsure, and a transaction in progress writes this name next.
+pub record CanClear {F : Type 0} (state : F → FlashState) (p : Protocol) (s : Stored F)
+    (name : Link) : Type 0 where
+  pub sure : IsSure p (store_in state s)
   pub next : (names : List Link) × IsNextName s.noted names name
 
 -- The records went that had to before this version of a page is programmed. Where none had to nothing was done.
@@ -56,9 +58,10 @@ pub record ClearsStored {F : Type 0} (state : F → FlashState) (p : Protocol) (
   pub clears : Clears p (store_in state old) (store_in state new) page below result
   pub idle : block_to_go old.noted page below ≡ None → (result ≡ Ok tt) × (new ≡ old)
 
--- no place is unsure, and a transaction in progress writes some name next
-pub record CanFind {F : Type 0} (s : Stored F) : Type 0 where
-  pub nothing : s.unsure ≡ unsure.Nothing
+-- and one that writes some name next
+pub record CanFind {F : Type 0} (state : F → FlashState) (p : Protocol)
+    (s : Stored F) : Type 0 where
+  pub sure : IsSure p (store_in state s)
   pub next : (names : List Link) × (name : Link) × IsNextName s.noted names name
 
 -- A slot was found. Where a block has room only the cursor moved.

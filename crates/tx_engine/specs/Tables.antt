@@ -1,5 +1,5 @@
 -- How a device keeps what it stands for.
-use Rattle.std.specs.Prelude.{◌≡◌}
+use Rattle.std.specs.Prelude.{◌≡◌, false}
 use Rattle.tx_types.specs.declared.config.Protocol.{Protocol}
 use Rattle.flash_model.specs.Flash.{FlashState}
 use Rattle.collector.specs.Known.{array_known}
@@ -18,14 +18,17 @@ standing_in state s t = record {
   noted = s.noted;
   table = s.table;
   unsure = s.unsure;
+  dropped = false;
 }
 
 abbrev pub standing_of : {F R : Type 0} → (F → FlashState) → Inside F R → Standing F
-standing_of state d = standing_in state d.store d.openings
+standing_of state d = record (standing_in state d.store d.openings) { dropped = d.dropped }
+
+-- a device that is not dropped stands for its array
 
 pub record IsStanding {F R : Type 0} (state : F → FlashState) (protocol : Protocol)
     (d : Inside F R) : Type 0 where
-  pub stands : Stands state (standing_of state d)
+  pub stands : d.dropped ≡ false → Stands state (standing_in state d.store d.openings)
   pub rule : d.store.noted.config.protocol ≡ protocol
   pub page_bytes : d.openings.page_bytes ≡ d.store.noted.config.page_bytes
   pub logical : d.openings.logical ≡ d.store.noted.config.logical

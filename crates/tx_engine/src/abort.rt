@@ -1,3 +1,4 @@
+ghost use Rattle.std.specs.Prelude.{◌≡◌, false};
 ghost use Rattle.tx_engine.specs.DeviceCalls.{AbortsDevice};
 
 use crate::Device;
@@ -13,6 +14,7 @@ impl<F: Flash, R: CommitRule> Device<F, R> {
     /// read: as many slots as were not known. After a fault all is as before but the flash, whose
     /// slots stay.
     pub fn abort(&mut self, tag: u32) -> Result<Aborted, StepError>
+        requires kept { self.old.dropped ≡ false }
         ensures { AbortsDevice F.state self.old self.new tag result }
     {
         let Some(at) = self.openings.position(tag) else {

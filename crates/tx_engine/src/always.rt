@@ -1,4 +1,4 @@
-ghost use Rattle.std.specs.Prelude.{◌≡◌};
+ghost use Rattle.std.specs.Prelude.{◌≡◌, false};
 ghost use Rattle.tx_engine.specs.Always.{HoldsAlways};
 
 use crate::Device;
@@ -7,8 +7,9 @@ use flash_model::Flash;
 use record_list::CommitRule;
 use tx_types::Config;
 
-/// The configuration of a device, and what holds of its flash whatever was broken before.
+/// The configuration of a device that is not dropped, and what holds of its flash whatever was broken before.
 pub fn held_always<F: Flash, R: CommitRule>(device: &Device<F, R>) -> Config
+    requires kept { device.now.dropped ≡ false }
     ensures config { result ≡ device.now.config }
     ensures always { HoldsAlways F.state R.protocol device.now }
 {

@@ -1,4 +1,4 @@
-ghost use Rattle.std.specs.Prelude.{◌≡◌};
+ghost use Rattle.std.specs.Prelude.{◌≡◌, false};
 ghost use Rattle.tx_engine.specs.Calls.{CollectsSettled, IsReady};
 ghost use Rattle.tx_engine.specs.Collections.{answer_of};
 ghost use Rattle.tx_engine.specs.DeviceCalls.{CollectsDevice};
@@ -17,6 +17,7 @@ impl<F: Flash, R: CommitRule> Device<F, R> {
     /// operation left, and the spare is made blank. After a fault it is not known what a broken
     /// operation left, as before, or that is known and the blocks are kept as they were then.
     pub fn collect(&mut self) -> Result<Collected, Fault>
+        requires kept { self.old.dropped ≡ false }
         ensures { CollectsDevice F.state self.old self.new result }
     {
         let Ok(()) = settle(&mut self.store, &mut self.openings) else {

@@ -1,6 +1,7 @@
-ghost use Rattle.std.specs.Prelude.{◌≡◌};
+ghost use Rattle.std.specs.Prelude.{◌≡◌, false};
 ghost use Rattle.tx_engine.specs.Standing.{Stands};
 
+use crate::jobs::JobRoom;
 use crate::openings::Openings;
 use crate::store::Store;
 use flash_model::Flash;
@@ -9,10 +10,15 @@ use std::marker::Model;
 use tx_types::Config;
 
 /// A device over a flash: an array of logical pages, in which a transaction changes all its pages at once, whatever breaks.
+/// After a fault that drops the device only its flash is of use.
 #[derive(Drop)]
 pub struct Device<F: Flash, R: CommitRule> {
     pub(crate) store: Store<F, R>,
     pub(crate) openings: Openings,
+    /// Room for the programs that are done together.
+    pub(crate) room: JobRoom,
+    /// Whether it met a fault that left more of its flash unknown than its tables can say.
+    pub(crate) dropped: bool,
 }
 
 impl<F: Flash, R: CommitRule> Model for Device<F, R> {
@@ -28,8 +34,9 @@ impl<F: Flash, R: CommitRule> Model for Device<F, R> {
 }
 
 impl<F: Flash, R: CommitRule> Device<F, R> {
-    /// The configuration that the device was mounted with, and what holds of it at every moment.
+    /// The configuration that the device was mounted with, and what holds of it where it is not dropped.
     pub fn config(&self) -> Config
+        requires kept { self.now.dropped ≡ false }
         ensures config { result ≡ self.now.config }
         ensures stands { Stands F.state self.now }
         ensures rule { self.now.config.protocol ≡ R.protocol }

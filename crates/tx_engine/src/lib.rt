@@ -5,9 +5,11 @@
 mod abort;
 mod always;
 mod arms;
+mod batches;
 mod closing;
 mod collect;
 mod device;
+mod jobs;
 pub mod laws;
 mod mount;
 mod openings;
@@ -25,7 +27,7 @@ mod writing;
 
 pub use always::held_always;
 pub use array_machine::{
-    Aborted, Collected, Fault, Mark, Progress, ReadAnswer, ReadError, StepError, SubmitError,
+    Aborted, Collected, Fault, Mark, Moved, Progress, ReadAnswer, ReadError, StepError, SubmitError,
 };
 pub use device::Device;
 pub use mount::MountError;

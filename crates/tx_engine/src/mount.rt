@@ -3,6 +3,7 @@ ghost use Rattle.tx_types.specs.Config.{checked};
 ghost use Rattle.tx_engine.specs.DeviceCalls.{MountsDevice};
 
 use crate::Device;
+use crate::jobs::JobRoom;
 use crate::openings::Openings;
 use crate::store::Store;
 use flash_model::Flash;
@@ -30,10 +31,18 @@ impl<F: Flash, R: CommitRule> Device<F, R> {
         ensures { MountsDevice F.state flash config result }
     {
         collector::laws::images_stand::<R>();
+        let Ok(room) = JobRoom::new(alloc) else {
+            return Err((flash, MountError::Memory));
+        };
         let store = Store::<F, R>::open(alloc, flash, config)?;
         let known = store.config();
         match Openings::new(alloc, known) {
-            Ok(openings) => Ok(Device { store, openings }),
+            Ok(openings) => Ok(Device {
+                store,
+                openings,
+                room,
+                dropped: false,
+            }),
             Err(_) => Err((store.close(), MountError::Memory)),
         }
     }

@@ -1,4 +1,4 @@
-ghost use Rattle.std.specs.Prelude.{◌≡◌, length};
+ghost use Rattle.std.specs.Prelude.{◌≡◌, false, length};
 ghost use Rattle.tx_engine.specs.DeviceCalls.{ReadsDevice};
 
 use crate::Device;
@@ -12,7 +12,8 @@ impl<F: Flash, R: CommitRule> Device<F, R> {
     /// home of its current record; while it is not known whether a collected block was erased, of that
     /// record's lowest slot outside the block. After a fault the room holds any bytes.
     pub fn read(&mut self, page: u32, into: &mut [u8]) -> Result<ReadAnswer, ReadError>
-        requires { length into.old ≡ self.old.config.page_bytes }
+        requires kept { self.old.dropped ≡ false }
+        requires room { length into.old ≡ self.old.config.page_bytes }
         ensures { ReadsDevice F.state self.old self.new page into.old into.new result }
     {
         if page >= self.store.config().logical {

@@ -1,3 +1,4 @@
+ghost use Rattle.std.specs.Prelude.{◌≡◌, false};
 ghost use Rattle.collector.specs.Retiring.{RetiresBlock};
 ghost use Rattle.tx_engine.specs.DeviceCalls.{RetiresDevice};
 ghost use Rattle.tx_engine.specs.Retire.{CanRetire, CanRetireSettled, RefusesRetiring, RetiresSettled};
@@ -40,7 +41,7 @@ impl<F: Retire, R: CommitRule> Store<F, R> {
 
     /// Replaces a block by a fresh one, once what is needed in it was copied.
     fn retire(&mut self, block: Block) -> Result<(), Broken>
-        requires { CanRetire F.state self.old block.0 }
+        requires { CanRetire F.state R.protocol self.old block.0 }
         ensures { RetiresBlock R.protocol (store_in F.state self.old) (store_in F.state self.new)
             block.0 result }
     {
@@ -61,6 +62,7 @@ impl<F: Retire, R: CommitRule> Device<F, R> {
     /// it is not known what a broken operation left, as before, or that is known and the array is
     /// as it was then.
     pub fn retire(&mut self, block: Block) -> Result<(), RetireError>
+        requires kept { self.old.dropped ≡ false }
         ensures { RetiresDevice F.state self.old self.new block.0 result }
     {
         if let Some(refusal) = self.store.retire_refusal(block) {

@@ -1,4 +1,5 @@
 ghost use Rattle.std.specs.Prelude.{◌≡◌, ◌<◌, ◌+◌, All, length, position};
+ghost use Rattle.tx_engine.specs.ArrayState.{is_doubted};
 ghost use Rattle.tx_engine.specs.OpenTable.{opening_at, with_opening};
 ghost use Rattle.tx_engine.specs.Settling.{with_next, is_writing};
 ghost use Rattle.tx_engine.specs.Standing.{Stands};
@@ -26,6 +27,7 @@ pub(crate) fn settle<F: Flash, R: CommitRule>(
     laws::noted_writes::<R>();
     laws::arrays_stay::<R>();
     let writer = writer(store, openings);
+    let doubted = doubted(store, openings);
     let found = store.settle()?;
     match found {
         Settled::Present => {
@@ -34,7 +36,7 @@ pub(crate) fn settle<F: Flash, R: CommitRule>(
             }
         }
         Settled::Missing | Settled::Other => {
-            if let Some(at) = openings.doubtful() {
+            if let Some(at) = doubted {
                 openings.set_mark(at, Mark::Plain);
             }
         }
@@ -52,6 +54,17 @@ fn writer<F: Flash, R: CommitRule>(store: &Store<F, R>, openings: &Openings) -> 
     match store.unsure() {
         Unsure::Own { at: _, rec } => writing(openings, rec.page),
         _ => None,
+    }
+}
+
+/// Where the open transaction stands that is in doubt. Where nothing is unsure there is none.
+fn doubted<F: Flash, R: CommitRule>(store: &Store<F, R>, openings: &Openings) -> Option<usize>
+    requires { Stands F.state (standing_in F.state store.now openings.now) }
+    ensures { result ≡ position (λ o. is_doubted o.entry.mark) openings.now.all }
+{
+    match store.unsure() {
+        Unsure::Nothing => None,
+        _ => openings.doubtful(),
     }
 }
 

@@ -1,4 +1,4 @@
-ghost use Rattle.std.specs.Prelude.{◌≡◌, ◌<◌, length};
+ghost use Rattle.std.specs.Prelude.{◌≡◌, ◌<◌, false, length};
 ghost use Rattle.tx_engine.specs.Calls.{AdvancesTo, CanAdvance, CanCount, CountsNext};
 ghost use Rattle.tx_engine.specs.DeviceCalls.{StepsDevice};
 ghost use Rattle.tx_engine.specs.OpenTable.{opening_at};
@@ -20,6 +20,7 @@ impl<F: Flash, R: CommitRule> Device<F, R> {
     /// Before a page is written, records that must go are cleared away, and where no block has room one
     /// is collected. After a fault the transaction has as many pages written as before.
     pub fn step(&mut self, tag: u32) -> Result<Progress, StepError>
+        requires kept { self.old.dropped ≡ false }
         ensures { StepsDevice F.state self.old self.new tag result }
     {
         let Some(at) = self.openings.position(tag) else {
@@ -37,7 +38,7 @@ impl<F: Flash, R: CommitRule> Device<F, R> {
 
 /// The transaction at an index of a settled device goes on: its next page is written where it is not
 /// noted, and counted.
-fn advance<F: Flash, R: CommitRule>(
+pub(crate) fn advance<F: Flash, R: CommitRule>(
     store: &mut Store<F, R>,
     openings: &mut Openings,
     at: usize,
@@ -53,7 +54,7 @@ fn advance<F: Flash, R: CommitRule>(
 }
 
 /// Whether the next page of the transaction at an index is to be written.
-fn is_due(openings: &Openings, at: usize) -> bool
+pub(crate) fn is_due(openings: &Openings, at: usize) -> bool
     requires { at < length openings.now.all }
     ensures { result ≡ is_due (opening_at openings.now at) }
 {
@@ -64,7 +65,7 @@ fn is_due(openings: &Openings, at: usize) -> bool
 }
 
 /// A transaction whose next page is noted, or which is whole, goes on without the flash.
-fn count_next<F: Flash, R: CommitRule>(
+pub(crate) fn count_next<F: Flash, R: CommitRule>(
     store: &mut Store<F, R>,
     openings: &mut Openings,
     at: usize,

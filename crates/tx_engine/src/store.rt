@@ -1,12 +1,11 @@
-ghost use Rattle.std.specs.Prelude.{◌≡◌, ◌<◌, ◌≤◌, Ok, length, IfOk, sum_by, false};
+ghost use Rattle.std.specs.Prelude.{◌≡◌, ◌<◌, ◌≤◌, Ok, length, IfOk, sum_by};
 ghost use Rattle.std.specs.List.{range_with_len};
 ghost use Rattle.tx_types.specs.Config.{checked, shape_of, blocks_of};
-ghost use Rattle.record_list.specs.Records.{is_present};
 ghost use Rattle.version_index.specs.Notes.{found_in};
 ghost use Rattle.version_index.specs.Noted.{current_of, pinned, unpinned};
-ghost use Rattle.collector.specs.declared.unsure.Unsure.TheVariants as unsure;
 ghost use Rattle.collector.specs.Calls.{CollectsMost};
 ghost use Rattle.collector.specs.Matches.{CanTake};
+ghost use Rattle.collector.specs.Store.{IsSure};
 ghost use Rattle.collector.specs.Victim.{garbage_in};
 ghost use Rattle.tx_engine.specs.Read.{ReadsKnown};
 ghost use Rattle.tx_engine.specs.StoreCalls.{CanClear, CanFind, ClearsStored, FindsStored, OpensStore, PlacesPage, SettlesStored};
@@ -24,7 +23,7 @@ use std::marker::Model;
 use tx_types::{Block, BlockState, Config, Memory, Rec, Shape, Slot};
 use version_index::Index;
 
-/// A flash with the tables that match it. Whatever breaks, they match.
+/// A flash with its tables. Where they match it they do so still after each call here, whatever breaks.
 #[derive(Drop)]
 pub struct Store<F: Flash, R: CommitRule> {
     alloc: Global,
@@ -47,7 +46,7 @@ impl<F: Flash, R: CommitRule> Model for Store<F, R> {
 
     ghost view = { stored_of };
 
-    ghost invariant = { IsStoreKept F.state R.protocol };
+    ghost invariant = { IsStoreKept };
 }
 
 impl<F: Flash, R: CommitRule> Store<F, R> {
@@ -82,10 +81,9 @@ impl<F: Flash, R: CommitRule> Store<F, R> {
         }
     }
 
-    /// The configuration, and what holds of all that is kept.
+    /// The configuration.
     pub fn config(&self) -> Config
         ensures config { result ≡ self.now.noted.config }
-        ensures stored { IsStored F.state R.protocol self.now }
     {
         self.index.config()
     }
@@ -121,6 +119,7 @@ impl<F: Flash, R: CommitRule> Store<F, R> {
 
     /// The number of garbage slots outside the spare.
     pub fn garbage(&self) -> u32
+        requires stored { IsStored F.state R.protocol self.now }
         ensures { result ≡ sum_by (garbage_in self.now.noted self.now.table)
             (range_with_len 0 (blocks_of (shape_of self.now.noted.config))) }
     {
@@ -133,7 +132,8 @@ impl<F: Flash, R: CommitRule> Store<F, R> {
 
     /// The number of garbage slots of a block, none in the spare.
     fn garbage_in(&self, block: Block) -> u32
-        requires { block.0 < blocks_of (shape_of self.now.noted.config) }
+        requires stored { IsStored F.state R.protocol self.now }
+        requires exists { block.0 < blocks_of (shape_of self.now.noted.config) }
         ensures garbage { result ≡ garbage_in self.now.noted self.now.table block.0 }
         ensures few { result ≤ self.now.noted.config.pages_per_block }
     {
@@ -143,6 +143,7 @@ impl<F: Flash, R: CommitRule> Store<F, R> {
 
     /// The noted records, in the order of their slots.
     pub fn found(&self) -> Result<Vec<Found>, Memory>
+        requires stored { IsStored F.state R.protocol self.now }
         ensures { IfOk result (λ list. list.items ≡ found_in self.now.noted.notes) }
     {
         let slots = self.flash.shape().slots();
@@ -160,6 +161,7 @@ impl<F: Flash, R: CommitRule> Store<F, R> {
     /// answered without the flash. While the erase of a collected block is unsure, a
     /// page whose record stands there is read from its copy.
     pub fn read(&mut self, page: u32, into: &mut [u8]) -> Result<bool, Broken>
+        requires stored { IsStored F.state R.protocol self.old }
         requires page { page < self.old.noted.config.logical }
         requires room { length into.old ≡ self.old.noted.config.page_bytes }
         ensures reads { ReadsKnown F.state self.old self.new page into.old into.new result }
@@ -176,7 +178,8 @@ impl<F: Flash, R: CommitRule> Store<F, R> {
     /// The slot from which a page is read, if it is not blank. While the erase of a collected block
     /// is unsure it lies outside that block.
     fn place_of(&self, page: u32) -> Option<Slot>
-        requires { page < self.now.noted.config.logical }
+        requires stored { IsStored F.state R.protocol self.now }
+        requires page { page < self.now.noted.config.logical }
         ensures { PlacesPage F.state self.now page result }
     {
         laws::known_images_stand::<R>();
@@ -194,6 +197,7 @@ impl<F: Flash, R: CommitRule> Store<F, R> {
     /// Finds out what a broken operation left, if there was one. The image stays. After a failed
     /// read all is as before.
     pub fn settle(&mut self) -> Result<Settled, Broken>
+        requires stored { IsStored F.state R.protocol self.old }
         requires own { CanTake self.old.noted self.old.table self.old.unsure }
         ensures { SettlesStored F.state self.old self.new result }
     {
@@ -211,7 +215,7 @@ impl<F: Flash, R: CommitRule> Store<F, R> {
 
     /// Makes the spare blank and collects the block with the most garbage: whether there is any.
     pub fn collect(&mut self) -> Result<bool, Broken>
-        requires { self.old.unsure ≡ unsure.Nothing }
+        requires { IsSure R.protocol (store_in F.state self.old) }
         ensures { CollectsMost R.protocol (store_in F.state self.old) (store_in F.state self.new)
             result }
     {
@@ -227,7 +231,8 @@ impl<F: Flash, R: CommitRule> Store<F, R> {
     /// Treats each block that holds a record which must go before the version `below` of a page is
     /// programmed.
     pub fn clear(&mut self, page: u32, below: u64) -> Result<(), Broken>
-        requires { CanClear self.old (record { page = page; version = below }) }
+        requires { CanClear F.state R.protocol self.old
+            (record { page = page; version = below }) }
         ensures { ClearsStored F.state R.protocol self.old self.new page below result }
     {
         collector::clear(
@@ -244,7 +249,7 @@ impl<F: Flash, R: CommitRule> Store<F, R> {
 
     /// The slot that is programmed next. Where no block has room one is collected first.
     pub fn free_slot(&mut self) -> Result<Slot, Broken>
-        requires { CanFind self.old }
+        requires { CanFind F.state R.protocol self.old }
         ensures { FindsStored F.state R.protocol self.old self.new result }
     {
         collector::free_slot(
@@ -259,7 +264,7 @@ impl<F: Flash, R: CommitRule> Store<F, R> {
     /// Programs a record with its page's bytes in the first free slot of a block, and notes it.
     /// After a broken program it is not known what the slot holds.
     pub fn write(&mut self, at: Slot, rec: Rec, bytes: &[u8]) -> Result<(), Broken>
-        requires nothing { self.old.unsure ≡ unsure.Nothing }
+        requires sure { IsSure R.protocol (store_in F.state self.old) }
         requires can { CanWrite (store_in F.state self.old) at rec bytes.now }
         ensures { WritesOwn (store_in F.state self.old) (store_in F.state self.new)
             at rec bytes.now result }
@@ -275,11 +280,9 @@ impl<F: Flash, R: CommitRule> Store<F, R> {
         )
     }
 
-    /// Pins a page, which no open transaction has, at a version that is absent.
+    /// Pins a page at a version.
     pub fn pin(&mut self, page: u32, version: u64)
-        requires page { page < self.old.noted.config.logical }
-        requires absent { is_present (found_in self.old.noted.notes)
-            (record { page = page; version = version }) ≡ false }
+        requires { page < self.old.noted.config.logical }
         ensures { self.new ≡ record self.old { noted = pinned self.old.noted page version } }
     {
         self.index.pin(page, version);

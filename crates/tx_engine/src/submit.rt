@@ -1,4 +1,4 @@
-ghost use Rattle.std.specs.Prelude.{◌≡◌, ◌<◌, map, All};
+ghost use Rattle.std.specs.Prelude.{◌≡◌, ◌<◌, false, map, All};
 ghost use Rattle.tx_types.specs.Limits.{max_version};
 ghost use Rattle.version_index.specs.Noted.{mention_of};
 ghost use Rattle.tx_engine.specs.DeviceCalls.{SubmitsDevice};
@@ -32,6 +32,7 @@ impl<F: Flash, R: CommitRule> Store<F, R> {
 
     /// Pins each page of a batch one version above its greatest mention.
     fn pin_all(&mut self, batch: &Batch)
+        requires stored { IsStored F.state R.protocol self.old }
         requires range { All (λ w. w.page < self.old.noted.config.logical) batch.now.entries }
         requires unspent { All (λ w. mention_of self.old.noted w.page < max_version)
             batch.now.entries }
@@ -43,13 +44,10 @@ impl<F: Flash, R: CommitRule> Store<F, R> {
         ensures stored { IsStored F.state R.protocol self.new }
     {
         for at in 0..batch.len() {
-            // What holds of the store, whatever is pinned.
-            let _kept = self.config();
             let page = batch.page(at);
             let version = self.index().mention(page) + 1;
             self.pin(page, version);
         }
-        let _kept = self.config();
     }
 }
 
@@ -57,7 +55,8 @@ impl<F: Flash, R: CommitRule> Device<F, R> {
     /// Opens a transaction, with no page written. Each page is named one version above its greatest mention. The flash is
     /// not touched.
     pub fn submit(&mut self, tag: u32, batch: &Batch) -> Result<(), SubmitError>
-        requires { batch.now.page_bytes ≡ self.old.config.page_bytes }
+        requires kept { self.old.dropped ≡ false }
+        requires pages { batch.now.page_bytes ≡ self.old.config.page_bytes }
         ensures { SubmitsDevice self.old self.new tag batch.now.entries result }
     {
         if let Some(refusal) = self.openings.refusal(tag, batch) {

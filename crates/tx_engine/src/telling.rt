@@ -1,9 +1,10 @@
-ghost use Rattle.std.specs.Prelude.{◌≡◌, ◌<◌, IfOk, count_by, is_some};
+ghost use Rattle.std.specs.Prelude.{◌≡◌, ◌<◌, false, IfOk, count_by, is_some};
 ghost use Rattle.version_index.specs.Noted.{current_of};
 ghost use Rattle.version_index.specs.Notes.{found_in};
 ghost use Rattle.collector.specs.Known.{array_known};
 ghost use Rattle.tx_engine.specs.DeviceCalls.{TellsDevice};
 ghost use Rattle.tx_engine.specs.Read.{is_written};
+ghost use Rattle.tx_engine.specs.Stored.{IsStored};
 
 use crate::Device;
 use crate::store::Store;
@@ -22,6 +23,7 @@ impl<F: Flash, R: CommitRule> Store<F, R> {
 
     /// The number of pages that are not blank.
     fn written(&self) -> u32
+        requires stored { IsStored F.state R.protocol self.now }
         ensures { result
             ≡ count_by is_some (array_known self.now.noted (F.state self.now.flash).image) }
     {
@@ -40,7 +42,8 @@ impl<F: Flash, R: CommitRule> Store<F, R> {
 impl<F: Flash, R: CommitRule> Device<F, R> {
     /// The current version of a page, 0 for none. It rises whenever the array takes the page.
     pub fn version(&self, page: u32) -> u64
-        requires { page < self.now.config.logical }
+        requires kept { self.now.dropped ≡ false }
+        requires page { page < self.now.config.logical }
         ensures { result ≡ current_of self.now.noted page }
     {
         self.store.version(page)
@@ -48,6 +51,7 @@ impl<F: Flash, R: CommitRule> Device<F, R> {
 
     /// The numbers of the device.
     pub fn stats(&self) -> Stats
+        requires kept { self.now.dropped ≡ false }
         ensures { TellsDevice F.state self.now result }
     {
         Stats {
@@ -62,6 +66,7 @@ impl<F: Flash, R: CommitRule> Device<F, R> {
 
     /// The records that are noted, in the order of their slots.
     pub fn found(&self) -> Result<Vec<Found>, Memory>
+        requires kept { self.now.dropped ≡ false }
         ensures { IfOk result (λ list. list.items ≡ found_in self.now.noted.notes) }
     {
         self.store.found()

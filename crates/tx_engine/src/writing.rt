@@ -71,7 +71,11 @@ fn find_slot<F: Flash, R: CommitRule>(
 }
 
 /// The record that the transaction at an index writes next.
-fn next_record<F: Flash, R: CommitRule>(store: &Store<F, R>, openings: &Openings, at: usize) -> Rec
+pub(crate) fn next_record<F: Flash, R: CommitRule>(
+    store: &Store<F, R>,
+    openings: &Openings,
+    at: usize,
+) -> Rec
     requires next { HasPlace openings.now at (opening_at openings.now at).entry.done }
     requires page { (name_due openings.now at).page < store.now.noted.config.logical }
     ensures { IsRecordDue store.now.noted openings.now at result }

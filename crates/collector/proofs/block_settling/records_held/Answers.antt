@@ -7,7 +7,7 @@ use Rattle.tx_types.specs.declared.config.Config.{Config}
 use Rattle.version_index.specs.Notes.{note_at}
 use Rattle.flash_model.specs.declared.flash.Seen.TheVariants as seen
 use Rattle.collector.specs.Settling.{holds_record, reads_alike}
-use Rattle.collector.proofs.BlockReadings.{complete_holds}
+use Rattle.collector.proofs.OfSettle.BlockReadings.{complete_holds}
 use Rattle.collector.proofs.block_settling.records_held.Goals as goal
 use Rattle.collector.proofs.block_settling.records_held.Goals.{then-reads_alike, else-reads_alike}
 

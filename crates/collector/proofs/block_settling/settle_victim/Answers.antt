@@ -2,7 +2,7 @@ use Rattle.std.proofs.Common.{ap, ◌∙◌, arith}
 use Rattle.tx_types.specs.declared.config.Config.{Config}
 use Rattle.version_index.specs.Noted.{Noted}
 use Rattle.collector.specs.Settling.{records_held}
-use Rattle.collector.proofs.SettledImages.{changed_config, few}
+use Rattle.collector.proofs.OfSettle.SettledImages.{changed_config, few}
 use Rattle.collector.proofs.block_settling.settle_victim.Goals as goal
 
 pub exchange-requires-clause-within : goal.exchange-requires-clause-within

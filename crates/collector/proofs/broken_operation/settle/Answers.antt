@@ -1,6 +1,6 @@
 use Rattle.collector.specs.Store.{store_of}
-use Rattle.collector.proofs.SettleCalls.{settles_failed, settles_done}
-use Rattle.collector.proofs.SettledImages.{settled_stands}
+use Rattle.collector.proofs.OfSettle.SettleCalls.{settles_failed, settles_done}
+use Rattle.collector.proofs.OfSettle.SettledImages.{settled_stands}
 use Rattle.collector.proofs.broken_operation.settle.Goals as goal
 
 pub returns-in_err-found : goal.returns-in_err-found

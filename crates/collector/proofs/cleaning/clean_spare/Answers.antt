@@ -4,7 +4,7 @@ use Rattle.version_index.specs.Noted.{erased}
 use Rattle.collector.specs.Calls.{Cleans}
 use Rattle.collector.specs.Collecting.{is_noted_blank}
 use Rattle.collector.specs.Store.{store_of}
-use Rattle.collector.proofs.Cleanings.{cleans_blank, cleans_erased, cleans_torn}
+use Rattle.collector.proofs.OfClean.Cleanings.{cleans_blank, cleans_erased, cleans_torn}
 use Rattle.collector.proofs.cleaning.clean_spare.Goals as goal
 
 pub returns-then-is_noted_blank : goal.returns-then-is_noted_blank

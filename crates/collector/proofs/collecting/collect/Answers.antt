@@ -1,8 +1,8 @@
 use Rattle.collector.specs.Calls.{Collects}
-use Rattle.collector.proofs.CollectCalls.{collects_unclean, collects_cleaned}
-use Rattle.collector.proofs.Collections.{unneeded_cleaned}
-use Rattle.collector.proofs.KeepsLemmas.{by_err, sure_then}
-use Rattle.collector.proofs.RoomCalls.{blank_spare}
+use Rattle.collector.proofs.OfCollect.CollectCalls.{collects_unclean, collects_cleaned}
+use Rattle.collector.proofs.OfCollect.Collections.{unneeded_cleaned}
+use Rattle.collector.proofs.OfNotes.KeepsLemmas.{by_err, sure_then}
+use Rattle.collector.proofs.OfRoom.RoomCalls.{blank_spare}
 use Rattle.collector.proofs.collecting.collect.Goals as goal
 
 pub returns-in_err-clean_spare : goal.returns-in_err-clean_spare

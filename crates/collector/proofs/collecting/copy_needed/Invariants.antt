@@ -1,4 +1,4 @@
-use Rattle.collector.proofs.CopyingBlocks.{CopiedSoFar}
+use Rattle.collector.proofs.OfCopies.CopyingBlocks.{CopiedSoFar}
 use Rattle.collector.specs.Store.{store_of}
 use Rattle.collector.proofs.collecting.copy_needed.Given as goal
 

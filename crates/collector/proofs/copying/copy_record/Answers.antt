@@ -3,8 +3,8 @@ use Rattle.flash_model.specs.Calls.{Reads, Programs}
 use Rattle.version_index.specs.Noted.{Noted}
 use Rattle.collector.specs.Calls.{CopiesRecord}
 use Rattle.collector.specs.Store.{store_of}
-use Rattle.collector.proofs.CopyCalls.{can_program, copy_is_done, copy_breaks, copy_unread}
-use Rattle.collector.proofs.KeepsLemmas.{by_err}
+use Rattle.collector.proofs.OfCopies.CopyCalls.{can_program, copy_is_done, copy_breaks, copy_unread}
+use Rattle.collector.proofs.OfNotes.KeepsLemmas.{by_err}
 use Rattle.collector.proofs.copying.copy_record.Goals as goal
 
 pub returns-in_err-read : goal.returns-in_err-read

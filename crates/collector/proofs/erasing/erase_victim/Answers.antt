@@ -4,7 +4,7 @@ use Rattle.version_index.specs.Noted.{Noted, erased, with_spare}
 use Rattle.die_alloc.specs.BlockTable.{BlockTable, IsBlockTable}
 use Rattle.collector.specs.Calls.{ErasesVictim}
 use Rattle.collector.specs.Store.{store_of}
-use Rattle.collector.proofs.VictimCalls.{victim_done, victim_breaks}
+use Rattle.collector.proofs.OfErase.VictimCalls.{victim_done, victim_breaks}
 use Rattle.collector.proofs.erasing.erase_victim.Goals as goal
 
 pub returns-in-Err : goal.returns-in-Err

@@ -1,5 +1,5 @@
-use Rattle.collector.proofs.KeptArrays.{known_stays, pinned_texts}
-use Rattle.collector.proofs.NextNames.{next_stays}
+use Rattle.collector.proofs.OfImages.KeptArrays.{known_stays, pinned_texts}
+use Rattle.collector.proofs.OfRoom.NextNames.{next_stays}
 use Rattle.collector.proofs.laws.arrays_stay.Goals as goal
 
 pub returns : goal.returns

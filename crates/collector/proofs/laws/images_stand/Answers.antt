@@ -5,7 +5,7 @@ use Rattle.die_alloc.specs.BlockTable.{BlockTable}
 use Rattle.collector.specs.declared.unsure.Unsure.{Unsure}
 use Rattle.collector.specs.Matches.{Matches, CanTake}
 use Rattle.collector.specs.Settling.{settlement}
-use Rattle.collector.proofs.SettledImages.{Stands, settled_stands, settled_records, settled_current, settled_array, settled_kept}
+use Rattle.collector.proofs.OfSettle.SettledImages.{Stands, settled_stands, settled_records, settled_current, settled_array, settled_kept}
 use Rattle.collector.proofs.laws.images_stand.Given as given
 use Rattle.collector.proofs.laws.images_stand.Goals as goal
 

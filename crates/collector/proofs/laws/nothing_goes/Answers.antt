@@ -1,4 +1,4 @@
-use Rattle.collector.proofs.NothingGoes.{none_goes}
+use Rattle.collector.proofs.OfRoom.NothingGoes.{none_goes}
 use Rattle.collector.proofs.laws.nothing_goes.Goals as goal
 
 pub returns : goal.returns

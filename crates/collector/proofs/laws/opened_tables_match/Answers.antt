@@ -1,4 +1,4 @@
-use Rattle.collector.proofs.OpenedTables.{opened_match}
+use Rattle.collector.proofs.OfImages.OpenedTables.{opened_match}
 use Rattle.collector.proofs.laws.opened_tables_match.Goals as goal
 
 pub returns : goal.returns

@@ -1,4 +1,4 @@
-use Rattle.collector.proofs.TidyImages.{tidy}
+use Rattle.collector.proofs.OfImages.TidyImages.{tidy}
 use Rattle.collector.proofs.laws.tidy_images.Goals as goal
 
 pub returns : goal.returns

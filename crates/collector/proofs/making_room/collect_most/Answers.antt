@@ -1,6 +1,6 @@
 use Rattle.collector.specs.Calls.{CollectsMost}
-use Rattle.collector.proofs.KeepsLemmas.{by_err, sure_then}
-use Rattle.collector.proofs.RoomCalls.{most_unclean, most_none, most_broke, most_done, blank_spare, chosen_apart}
+use Rattle.collector.proofs.OfNotes.KeepsLemmas.{by_err, sure_then}
+use Rattle.collector.proofs.OfRoom.RoomCalls.{most_unclean, most_none, most_broke, most_done, blank_spare, chosen_apart}
 use Rattle.collector.proofs.making_room.collect_most.Goals as goal
 
 pub returns-in_err-clean_spare : goal.returns-in_err-clean_spare

@@ -4,7 +4,7 @@ use Rattle.tx_types.specs.declared.config.Config.{Config}
 use Rattle.tx_types.specs.declared.config.Shape.{Shape}
 use Rattle.collector.specs.Looking.{Looks}
 use Rattle.collector.specs.Settling.{reads_alike}
-use Rattle.collector.proofs.BlockReadings.{read_none, read_broken, read_more, read_all, in_block}
+use Rattle.collector.proofs.OfSettle.BlockReadings.{read_none, read_broken, read_more, read_all, in_block}
 use Rattle.collector.proofs.reading.read_block.Goals as goal
 
 pub loop-at-init : goal.loop-at-init

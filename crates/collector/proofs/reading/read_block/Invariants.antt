@@ -1,4 +1,4 @@
-use Rattle.collector.proofs.BlockReadings.{ReadSoFar}
+use Rattle.collector.proofs.OfSettle.BlockReadings.{ReadSoFar}
 use Rattle.collector.proofs.reading.read_block.Given as goal
 
 abbrev pub invariant-loop-at : goal.invariant-loop-at

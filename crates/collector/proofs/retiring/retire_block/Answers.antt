@@ -1,8 +1,8 @@
 use Rattle.std.proofs.Common.{refl, sym, ◌∙◌}
 use Rattle.collector.specs.Retiring.{RetiresBlock}
-use Rattle.collector.proofs.KeepsLemmas.{by_err}
-use Rattle.collector.proofs.RetireCalls.{retires_stopped, victim_retired}
-use Rattle.collector.proofs.RoomCalls.{blank_spare}
+use Rattle.collector.proofs.OfNotes.KeepsLemmas.{by_err}
+use Rattle.collector.proofs.OfRetire.RetireCalls.{retires_stopped, victim_retired}
+use Rattle.collector.proofs.OfRoom.RoomCalls.{blank_spare}
 use Rattle.collector.proofs.retiring.retire_block.Goals as goal
 
 pub copy_needed-requires-clause-blank : goal.copy_needed-requires-clause-blank

@@ -3,7 +3,7 @@ use Rattle.flash_model.specs.Retiring.{Retires}
 use Rattle.version_index.specs.Noted.{erased}
 use Rattle.collector.specs.Retiring.{RetiresSpare}
 use Rattle.collector.specs.Store.{store_of}
-use Rattle.collector.proofs.RetireParts.{spare_done, spare_broke}
+use Rattle.collector.proofs.OfRetire.RetireParts.{spare_done, spare_broke}
 use Rattle.collector.proofs.retiring.retire_spare.Goals as goal
 
 pub returns-in-Err : goal.returns-in-Err

@@ -4,7 +4,7 @@ use Rattle.version_index.specs.Noted.{Noted, erased, with_spare}
 use Rattle.die_alloc.specs.BlockTable.{BlockTable, IsBlockTable}
 use Rattle.collector.specs.Retiring.{RetiresVictim}
 use Rattle.collector.specs.Store.{store_of}
-use Rattle.collector.proofs.RetireParts.{replaced_done, replaced_broke}
+use Rattle.collector.proofs.OfRetire.RetireParts.{replaced_done, replaced_broke}
 use Rattle.collector.proofs.retiring.retire_victim.Goals as goal
 
 pub returns-in-Err : goal.returns-in-Err

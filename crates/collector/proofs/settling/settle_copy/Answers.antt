@@ -3,8 +3,8 @@ use Rattle.flash_model.specs.Calls.{Reads}
 use Rattle.collector.specs.declared.unsure.Unsure.TheVariants as unsure
 use Rattle.collector.specs.Settling.{Finds}
 use Rattle.collector.specs.Store.{store_of}
-use Rattle.collector.proofs.KeepsLemmas.{by_err}
-use Rattle.collector.proofs.SettleCalls.{finds_unread}
+use Rattle.collector.proofs.OfNotes.KeepsLemmas.{by_err}
+use Rattle.collector.proofs.OfSettle.SettleCalls.{finds_unread}
 use Rattle.collector.proofs.settling.settle_copy.Goals as goal
 
 pub returns-in_err-read : goal.returns-in_err-read

@@ -1,4 +1,4 @@
-use Rattle.tx_engine.proofs.HeldAlways.{holds_always}
+use Rattle.tx_engine.proofs.OfLaws.HeldAlways.{holds_always}
 use Rattle.tx_engine.proofs.always.held_always.Goals as goal
 
 pub returns-clause-always : goal.returns-clause-always
@@ -6,7 +6,7 @@ returns-clause-always g c =
     let s = c.args.device.now in
     let stands = c.config.ensures.stands in
     let rule = c.config.ensures.rule in
-    holds_always g.F.Flash.state g.R.CommitRule.protocol s stands rule (c.devices_stand.ensures.sound s stands rule)
+    holds_always g.F.Flash.state g.R.CommitRule.protocol s c.requires.kept stands rule (c.devices_stand.ensures.sound s stands rule)
     (c.devices_stand.ensures.array s stands rule)
     (c.devices_stand.ensures.records s stands rule) (c.devices_stand.ensures.mentions s stands rule)
     (λ old there tag. c.cuts_leave.ensures.step old s there tag stands rule) (λ old there. c.cuts_leave.ensures.settled old s there stands rule)

@@ -1,4 +1,4 @@
-use Rattle.tx_engine.proofs.Removal.{names_low, names_long, closed_stands}
+use Rattle.tx_engine.proofs.OfAbort.Removal.{names_low, names_long, closed_stands}
 use Rattle.tx_engine.proofs.closing.close.Goals as goal
 
 pub unpin-requires : goal.unpin-requires

@@ -6,8 +6,8 @@ use Rattle.version_index.specs.Noted.{pinned_names}
 use Rattle.tx_engine.specs.OpenTable.{opening_at}
 use Rattle.tx_engine.specs.Standing.{name_at, no_name}
 use Rattle.tx_engine.specs.Stored.{Stored}
-use Rattle.tx_engine.proofs.PinnedNames.{unpin_more}
-use Rattle.tx_engine.proofs.Removal.{pins_then}
+use Rattle.tx_engine.proofs.OfTables.PinnedNames.{unpin_more}
+use Rattle.tx_engine.proofs.OfAbort.Removal.{pins_then}
 use Rattle.tx_engine.proofs.closing.unpin.Goals as goal
 
 pub loop-place-preserved : goal.loop-place-preserved

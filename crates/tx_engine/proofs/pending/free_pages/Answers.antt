@@ -1,5 +1,5 @@
 use Rattle.std.proofs.Common.{◌≡◌, ◌++◌, ◌∷◌, [], subst, arith}
-use Rattle.tx_engine.proofs.PageMoves.{FreesFirst, frees_more, frees_all}
+use Rattle.tx_engine.proofs.OfOpenings.PageMoves.{FreesFirst, frees_more, frees_all}
 use Rattle.tx_engine.proofs.pending.free_pages.Goals as goal
 
 pub loop-preserved : goal.loop-preserved

@@ -1,4 +1,4 @@
-use Rattle.tx_engine.proofs.PageMoves.{FreesFirst}
+use Rattle.tx_engine.proofs.OfOpenings.PageMoves.{FreesFirst}
 use Rattle.tx_engine.proofs.pending.free_pages.Given as goal
 
 abbrev pub invariant-loop : goal.invariant-loop

@@ -2,7 +2,7 @@ use Rattle.std.proofs.Common.{◌≡◌, ◌+◌, [], ◌∷◌, ◌++◌, lengt
 use Rattle.tx_types.specs.Batch.{entry_at, bytes_in}
 use Rattle.tx_engine.specs.OpenTable.{next_name}
 use Rattle.tx_engine.specs.declared.pending.PendingPage.{PendingPage}
-use Rattle.tx_engine.proofs.PageMoves.{holds_more}
+use Rattle.tx_engine.proofs.OfOpenings.PageMoves.{holds_more}
 use Rattle.tx_engine.proofs.pending.hold_pages.Goals as goal
 
 pub loop-i-preserved : goal.loop-i-preserved

@@ -1,6 +1,6 @@
 use Rattle.std.proofs.Common.{List}
 use Rattle.tx_engine.specs.declared.pending.PendingPage.{PendingPage}
-use Rattle.tx_engine.proofs.PageMoves.{HoldsFirst}
+use Rattle.tx_engine.proofs.OfOpenings.PageMoves.{HoldsFirst}
 use Rattle.tx_engine.proofs.pending.hold_pages.Given as goal
 
 abbrev pub invariant-loop-i : goal.invariant-loop-i

@@ -1,6 +1,6 @@
 use Rattle.std.proofs.Common.{sym, ◌∙◌, arith}
 use Rattle.std.proofs.lemmas.List.{length-set}
-use Rattle.tx_engine.proofs.Owners.{with_more, with_all}
+use Rattle.tx_engine.proofs.OfOpenings.Owners.{with_more, with_all}
 use Rattle.tx_engine.proofs.pending.set_owner.Goals as goal
 
 pub loop-p-preserved : goal.loop-p-preserved

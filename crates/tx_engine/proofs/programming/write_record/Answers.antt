@@ -7,8 +7,8 @@ use Rattle.die_alloc.specs.BlockTable.{BlockTable, IsBlockTable}
 use Rattle.collector.specs.Matches.{Matches}
 use Rattle.collector.specs.Store.{store_of}
 use Rattle.tx_engine.specs.Stored.{WritesOwn}
-use Rattle.tx_engine.proofs.Programs.{free_program}
-use Rattle.tx_engine.proofs.ProgramCalls.{write_torn, write_done}
+use Rattle.tx_engine.proofs.OfWrite.Programs.{free_program}
+use Rattle.tx_engine.proofs.OfWrite.ProgramCalls.{write_torn, write_done}
 use Rattle.tx_engine.proofs.programming.write_record.Goals as goal
 
 pub program-requires-clause-blank : goal.program-requires-clause-blank

@@ -1,8 +1,13 @@
-use Rattle.tx_engine.proofs.Leaving.{tables_left}
+use Rattle.tx_engine.proofs.OfWrite.Leaving.{tables_left}
+use Rattle.tx_engine.proofs.OfStanding.KeptDevices.{ready_sure}
 use Rattle.tx_engine.proofs.retire.retire_settled.Goals as goal
 
 pub retire-requires : goal.retire-requires
-retire-requires g c = record { nothing = c.requires.ready.sure; exists = c.requires.exists; left = c.requires.left }
+retire-requires g c = record {
+  sure = ready_sure g.F.Flash.state g.R.CommitRule.protocol c.args.store.now c.args.openings.now c.requires.ready;
+  exists = c.requires.exists;
+  left = c.requires.left;
+}
 
 pub returns : goal.returns
 returns g c =

@@ -1,5 +1,5 @@
 use Rattle.std.proofs.Common.{ap, ◌∙◌, ◌+◌}
-use Rattle.tx_engine.proofs.NextSet.{next_whole}
+use Rattle.tx_engine.proofs.OfSettle.NextSet.{next_whole}
 use Rattle.tx_engine.proofs.settling.note_next.Goals as goal
 
 pub returns-then-noted-pages : goal.returns-then-noted-pages

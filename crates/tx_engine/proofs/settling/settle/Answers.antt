@@ -1,23 +1,27 @@
 use Rattle.std.proofs.Common.{sym, ap, refl, ◌∙◌}
 use Rattle.std.proofs.lemmas.List.Quantifiers.{position-Some}
-use Rattle.collector.proofs.KeepsLemmas.{by_err}
+use Rattle.collector.proofs.OfNotes.KeepsLemmas.{by_err}
 use Rattle.array_machine.specs.declared.mark.Mark.TheVariants.{Plain}
 use Rattle.tx_engine.specs.ArrayState.{is_doubted}
 use Rattle.tx_engine.specs.Calls.{SettlesDevice}
 use Rattle.tx_engine.specs.OpenTable.{OpenTable, Opening, no_opening}
 use Rattle.tx_engine.specs.Tables.{standing_in}
-use Rattle.tx_engine.proofs.Kept.{from_stands}
-use Rattle.tx_engine.proofs.OpenNames.{marked_names, noted_names}
-use Rattle.tx_engine.proofs.OpenOnes.{can_take}
-use Rattle.tx_engine.proofs.SettleExits.{settle_failed, settle_done, own_settled, own_within, own_short, own_none, doubt_gone, none_gone, none_doubted, not_present}
+use Rattle.tx_engine.proofs.OfStanding.Kept.{from_stands}
+use Rattle.tx_engine.proofs.OfOpenings.OpenNames.{marked_names, noted_names}
+use Rattle.tx_engine.proofs.OfStanding.OpenOnes.{can_take}
+use Rattle.tx_engine.proofs.OfSettle.SettleExits.{settle_failed, settle_done, own_settled, own_within, own_short, own_none, doubt_gone, none_gone, none_doubted}
+use Rattle.tx_engine.proofs.OfSettle.SettleExits.{not_present}
 use Rattle.tx_engine.proofs.settling.settle.Goals as goal
 
 pub writer-writer-requires : goal.writer-writer-requires
 writer-writer-requires g c = λ k d inside.
     ((from_stands g.F.Flash.state c.args.store.now c.args.openings.now c.requires.stands).each k d inside).named.within
 
-pub settle-requires : goal.settle-requires
-settle-requires g c = record { own = can_take g.F.Flash.state (standing_in g.F.Flash.state c.args.store.now c.args.openings.now) c.requires.stands }
+pub settle-requires-clause-stored : goal.settle-requires-clause-stored
+settle-requires-clause-stored g c = record { matches = c.requires.stands.matches; rule = c.requires.rule }
+
+pub settle-requires-clause-own : goal.settle-requires-clause-own
+settle-requires-clause-own g c = can_take g.F.Flash.state (standing_in g.F.Flash.state c.args.store.now c.args.openings.now) c.requires.stands
 
 pub returns-in_err-found : goal.returns-in_err-found
 returns-in_err-found g c =
@@ -63,30 +67,33 @@ returns-in_default g c = absurd
     c.settle.new.self.noted c.settle.new.self.table c.in_ok-found.found c.in_ok-found.ensures.settles.found c.noted_writes.ensures
     c.writer-writer.result c.writer-writer.ensures c.in-Present.is c.in_default.is)
 
-pub returns-in-Some-doubtful : goal.returns-in-Some-doubtful
-returns-in-Some-doubtful g c =
+pub doubted-doubted-requires : goal.doubted-doubted-requires
+doubted-doubted-requires g c = c.requires.stands
+
+pub returns-in-Some-doubted : goal.returns-in-Some-doubted
+returns-in-Some-doubted g c =
     let S = c.args.store.now in let O = c.args.openings.now in let O' = c.set_mark.new.self in let found = c.in_ok-found.ensures.settles in
-    let there = sym c.doubtful.ensures ∙ c.in-Some-doubtful.is in
+    let there = sym c.doubted-doubted.ensures ∙ c.in-Some-doubted.is in
     settle_done g.F.Flash.state S c.settle.new.self O O'
     (doubt_gone g.F.Flash.state S O c.requires.stands g.R.CommitRule.protocol c.requires.rule c.images_stand.ensures
     c.settle.new.self.noted c.settle.new.self.table c.in_ok-found.found found.found c.arrays_stay.ensures (not_present c.in_ok-found.found c.in-Missing.is)
-    c.in-Some-doubtful.at there O' c.set_mark.ensures)
+    c.in-Some-doubted.at there O' c.set_mark.ensures)
     found.sure found.moment found.carries c.in_ok-found.found found
     (record {
       page_bytes = ap (λ (o : OpenTable). o.page_bytes) c.set_mark.ensures;
       logical = ap (λ (o : OpenTable). o.logical) c.set_mark.ensures;
       pending = ap (λ (o : OpenTable). o.pending) c.set_mark.ensures;
     })
-    (marked_names O O' c.in-Some-doubtful.at Plain (position-Some (λ (o : Opening). is_doubted o.entry.mark) O.all c.in-Some-doubtful.at no_opening there).0
+    (marked_names O O' c.in-Some-doubted.at Plain (position-Some (λ (o : Opening). is_doubted o.entry.mark) O.all c.in-Some-doubted.at no_opening there).0
     c.set_mark.ensures)
-    (λ none. absurd (none_doubted g.F.Flash.state S O c.requires.stands none c.in-Some-doubtful.at there))
+    (λ none. absurd (none_doubted g.F.Flash.state S O c.requires.stands none c.in-Some-doubted.at there))
 
-pub returns-in_default-doubtful : goal.returns-in_default-doubtful
-returns-in_default-doubtful g c =
+pub returns-in_default-doubted : goal.returns-in_default-doubted
+returns-in_default-doubted g c =
     let S = c.args.store.now in let O = c.args.openings.now in let found = c.in_ok-found.ensures.settles in
     settle_done g.F.Flash.state S c.settle.new.self O O
     (none_gone g.F.Flash.state S O c.requires.stands g.R.CommitRule.protocol c.requires.rule c.images_stand.ensures
     c.settle.new.self.noted c.settle.new.self.table c.in_ok-found.found found.found c.arrays_stay.ensures (not_present c.in_ok-found.found c.in-Missing.is)
-    (sym c.doubtful.ensures ∙ c.in_default-doubtful.is))
+    (sym c.doubted-doubted.ensures ∙ c.in_default-doubted.is))
     found.sure found.moment found.carries c.in_ok-found.found found (record { page_bytes = refl; logical = refl; pending = refl }) refl
     (λ none. ((c.settle.ensures.idle none).1, refl))

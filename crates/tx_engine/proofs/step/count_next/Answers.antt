@@ -1,9 +1,9 @@
 use Rattle.std.proofs.Common.{◌≡◌, ◌+◌, ap, sym, ◌∙◌, refl, arith}
 use Rattle.tx_engine.specs.OpenTable.{OpenTable, no_opening, opening_at, with_opening, with_done}
 use Rattle.tx_engine.specs.Stored.{Stored}
-use Rattle.tx_engine.proofs.Aborting.{closed_machine, closed_exits, closed_current, ready_plain, either_mark}
-use Rattle.tx_engine.proofs.CountExits.{counted_stands, counted_machine, counted_exits}
-use Rattle.tx_engine.proofs.Kept.{from_stands}
+use Rattle.tx_engine.proofs.OfAbort.Aborting.{closed_machine, closed_exits, closed_current, ready_plain, either_mark}
+use Rattle.tx_engine.proofs.OfStep.CountExits.{counted_stands, counted_machine, counted_exits}
+use Rattle.tx_engine.proofs.OfStanding.Kept.{from_stands}
 use Rattle.tx_engine.proofs.step.count_next.Goals as goal
 
 pub overflow_add-done : goal.overflow_add-done
@@ -34,6 +34,7 @@ returns-in-Whole g c =
         logical = ap (λ (o : OpenTable). o.logical) gone;
         pending = ap (λ (o : OpenTable). o.pending) gone;
       };
+      opens = gone;
     }
 
 pub returns-in-Plain : goal.returns-in-Plain
@@ -58,4 +59,5 @@ returns-in-Plain g c =
         logical = ap (λ (o : OpenTable). o.logical) opens;
         pending = ap (λ (o : OpenTable). o.pending) opens;
       };
+      opens = c.set_done.ensures;
     }

@@ -1,6 +1,6 @@
 use Rattle.std.proofs.Common.{sym, ap, ◌∙◌}
 use Rattle.tx_types.specs.declared.config.Config.{Config}
-use Rattle.tx_engine.proofs.NextRecord.{current_back}
+use Rattle.tx_engine.proofs.OfStep.NextRecord.{current_back}
 use Rattle.tx_engine.proofs.writing.back_version.Goals as goal
 
 pub returns-in-Bpcc : goal.returns-in-Bpcc

@@ -6,9 +6,10 @@ use Rattle.collector.specs.Going.{IsNextName}
 use Rattle.tx_engine.specs.OpenTable.{HasPlace, opening_at}
 use Rattle.tx_engine.specs.Standing.{name_at}
 use Rattle.tx_engine.specs.Stored.{store_in}
-use Rattle.tx_engine.proofs.Leaving.{left_by}
-use Rattle.tx_engine.proofs.PageWrites.{place, next_of_due}
+use Rattle.tx_engine.proofs.OfWrite.Leaving.{left_by}
+use Rattle.tx_engine.proofs.OfWrite.PageWrites.{place, next_of_due}
 use Rattle.std.specs.Result.{is_err}
+use Rattle.tx_engine.proofs.OfStanding.KeptDevices.{ready_sure}
 use Rattle.tx_engine.proofs.writing.clear.Goals as goal
 
 pub name-name-requires : goal.name-name-requires
@@ -18,7 +19,7 @@ name-name-requires g c =
 
 pub clear-requires : goal.clear-requires
 clear-requires g c = record {
-  nothing = c.requires.ready.sure;
+  sure = ready_sure g.F.Flash.state g.R.CommitRule.protocol c.args.store.now c.args.openings.now c.requires.ready;
   next = (let is = c.name-name.ensures ∙ ap (name_at (opening_at c.args.openings.now c.args.at).naming) c.done.ensures in
       subst (λ (a : Link). (names : List Link) × IsNextName c.args.store.now.noted names a) (sym is)
       (next_of_due g.F.Flash.state g.R.CommitRule.protocol c.args.store.now c.args.openings.now c.args.at c.requires.ready c.requires.due));

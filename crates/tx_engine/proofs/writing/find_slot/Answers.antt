@@ -1,14 +1,15 @@
 use Rattle.std.proofs.Common.{ap}
 use Rattle.tx_engine.specs.Stored.{Stored}
-use Rattle.tx_engine.proofs.Leaving.{left_by}
-use Rattle.tx_engine.proofs.PageWrites.{next_of_due}
-use Rattle.tx_engine.proofs.RecordWrites.{finds_slot}
+use Rattle.tx_engine.proofs.OfWrite.Leaving.{left_by}
+use Rattle.tx_engine.proofs.OfWrite.PageWrites.{next_of_due}
+use Rattle.tx_engine.proofs.OfWrite.RecordWrites.{finds_slot}
 use Rattle.tx_engine.specs.OpenTable.{name_due}
+use Rattle.tx_engine.proofs.OfStanding.KeptDevices.{ready_sure}
 use Rattle.tx_engine.proofs.writing.find_slot.Goals as goal
 
 pub free_slot-requires : goal.free_slot-requires
 free_slot-requires g c = record {
-  nothing = c.requires.ready.sure;
+  sure = ready_sure g.F.Flash.state g.R.CommitRule.protocol c.args.store.now c.args.openings.now c.requires.ready;
   next = (let next = next_of_due g.F.Flash.state g.R.CommitRule.protocol c.args.store.now c.args.openings.now c.args.at c.requires.ready c.requires.due in
       (next.0, name_due c.args.openings.now c.args.at, next.1));
 }

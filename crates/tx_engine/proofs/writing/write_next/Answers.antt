@@ -1,7 +1,8 @@
 use Rattle.std.proofs.Common.{length, sym, subst, ◌<◌}
-use Rattle.collector.proofs.KeepsLemmas.{by_err}
+use Rattle.collector.proofs.OfNotes.KeepsLemmas.{by_err}
 use Rattle.tx_engine.specs.Calls.{WritesPage}
-use Rattle.tx_engine.proofs.PageWrites.{place, page_low, can_write, clearing_breaks, ready_cleared, slot_breaks, ready_found, size_found, program_breaks, page_written}
+use Rattle.tx_engine.proofs.OfWrite.PageWrites.{place, page_low, can_write, clearing_breaks, ready_cleared, slot_breaks, ready_found, size_found}
+use Rattle.tx_engine.proofs.OfWrite.PageWrites.{program_breaks, page_written}
 use Rattle.tx_engine.specs.OpenTable.{opening_at}
 use Rattle.tx_engine.proofs.writing.write_next.Goals as goal
 

@@ -14,10 +14,12 @@ use Rattle.tx_engine.specs.Standing.{Standing}
 use Rattle.tx_engine.specs.Step.{AbortsAs}
 use Rattle.tx_engine.specs.Stored.{Stored}
 use Rattle.tx_engine.specs.Tables.{standing_in}
-use Rattle.tx_engine.proofs.ExitsThen.{exits_still, exits_then}
-use Rattle.tx_engine.proofs.Aborting.{entry_found, entry_missing, entry_settled, closed_machine, closed_exits, closed_current, rises_on, abort_missing, abort_failed, abort_done, not_whole}
-use Rattle.tx_engine.proofs.SettleExits.{failed_machine, failed_stays, rises_unread}
-use Rattle.tx_engine.proofs.StepWrites.{has_tables}
+use Rattle.tx_engine.proofs.OfStanding.ExitsThen.{exits_still, exits_then}
+use Rattle.tx_engine.proofs.OfAbort.Aborting.{entry_found, entry_missing, entry_settled, closed_machine, closed_exits, closed_current, rises_on, abort_missing}
+use Rattle.tx_engine.proofs.OfAbort.Aborting.{abort_failed, abort_done, not_whole}
+use Rattle.tx_engine.proofs.OfSettle.SettleExits.{failed_machine, failed_stays, rises_unread}
+use Rattle.tx_engine.proofs.OfStep.StepWrites.{has_tables}
+use Rattle.tx_engine.proofs.OfStanding.KeptDevices.{as_kept, by_kept, kept_is, kept_stands, limits_then}
 use Rattle.tx_engine.proofs.device.Device.abort.Goals as goal
 use Rattle.tx_engine.proofs.device.Device.abort.Goals.{in-Whole, in-Plain}
 
@@ -27,10 +29,11 @@ returns-in_default g c =
     let now = c.args.self.now in
     let flash = state now.flash in
     record {
-      aborts = subst (λ (s : Standing _). AbortsAs (is_there state s) s.machine s.machine c.args.tag (Err failed.Unknown)) c.self.view_is
+      aborts = subst (λ (s : Standing _). AbortsAs (is_there state s) s.machine s.machine c.args.tag (Err failed.Unknown))
+          (as_kept state c.self.inside _ c.self.view_is c.requires.kept)
           (let s = standing_in state c.self.inside.store c.self.inside.openings in
           abort_missing (is_there state s) s.machine c.args.tag (entry_missing c.args.tag c.self.inside.openings (sym c.position.ensures ∙ c.in_default.is)));
-      exits = exits_still state now now.flash _ now refl (FlashMoves-nothing flash flash _ refl) (Carries-nothing flash);
+      exits = exits_still state now now.flash _ now c.requires.kept refl (FlashMoves-nothing flash flash _ refl) (Carries-nothing flash);
       moment = refl;
       rises = rises_unread now now refl;
       sure = tt;
@@ -57,19 +60,24 @@ close-requires g c = record {
       (entry_found c.args.tag c.self.inside.openings c.in-Some.at (sym c.position.ensures ∙ c.in-Some.is)).0).0;
 }
 
+pub settle-requires-clause-stands : goal.settle-requires-clause-stands
+settle-requires-clause-stands g c =
+    kept_stands g.F.Flash.state c.self.inside _ c.self.view_is c.requires.kept g.R.CommitRule.protocol c.self.invariant
+
+pub invariant_of-self : goal.invariant_of-self
+invariant_of-self g c =
+    kept_is g.F.Flash.state g.R.CommitRule.protocol c.self.inside c.settle.new.store c.settle.new.openings c.self.invariant
+    c.settle.ensures.stands c.settle.ensures.exits.tables.config c.settle.ensures.limits
+
 pub invariant_of-self-2 : goal.invariant_of-self-2
 invariant_of-self-2 g c =
-    let config = ap (λ (s : Stored _). s.noted.config) c.close.ensures.pins ∙ c.in-Ok.ensures.exits.tables.config in
-    record {
-      stands = c.close.ensures.stands;
-      rule = ap (λ k. k.protocol) config ∙ c.self.invariant.rule;
-      page_bytes = ap (λ (o : OpenTable). o.page_bytes) c.close.ensures.gone ∙ c.in-Ok.ensures.limits.page_bytes ∙ c.self.invariant.page_bytes
-          ∙ ap (λ k. k.page_bytes) (sym config);
-      logical = ap (λ (o : OpenTable). o.logical) c.close.ensures.gone ∙ c.in-Ok.ensures.limits.logical ∙ c.self.invariant.logical
-          ∙ ap (λ k. k.logical) (sym config);
-      pending = ap (λ (o : OpenTable). o.pending) c.close.ensures.gone ∙ c.in-Ok.ensures.limits.pending ∙ c.self.invariant.pending
-          ∙ ap (λ k. k.pending) (sym config);
-    }
+    let config = ap (λ (s : Stored _). s.noted.config) c.close.ensures.pins ∙ c.settle.ensures.exits.tables.config in
+    kept_is g.F.Flash.state g.R.CommitRule.protocol c.self.inside c.close.new.store c.close.new.openings c.self.invariant c.close.ensures.stands config
+    (limits_then _ _ _ c.settle.ensures.limits (record {
+      page_bytes = ap (λ (o : OpenTable). o.page_bytes) c.close.ensures.gone;
+      logical = ap (λ (o : OpenTable). o.logical) c.close.ensures.gone;
+      pending = ap (λ (o : OpenTable). o.pending) c.close.ensures.gone;
+    }))
 
 pub returns : goal.returns
 returns g c =
@@ -85,7 +93,8 @@ returns g c =
     let found = entry_found c.args.tag O i (sym c.position.ensures ∙ c.in-Some.is) in
     let at = entry_settled there O O1 i (ap (λ (m : ArrayState). m.entries) settles.settles.machine) found.0 in
     let machine = closed_machine state S1 S2 O1 O2 i pins gone settles.stands at.0 c.args.tag (found.2 ∙ sym (ap (λ e. e.tag) at.1)) in
-    subst (λ (s : Standing _). AbortsDevice state s new c.args.tag (Ok c.match-mark.aborted)) c.self.view_is
+    by_kept state c.self.inside _ c.self.view_is c.requires.kept S2 O2
+    (λ (s t : Standing _). AbortsDevice state s t c.args.tag (Ok c.match-mark.aborted))
     (record {
       aborts = abort_done there old.machine mid.machine new.machine c.args.tag (opening_at O i).entry (opening_at O1 i).entry c.match-mark.aborted found.1
           settles.settles.machine at.1 machine
@@ -112,7 +121,8 @@ returns-in_default-settle g c =
     let new = standing_in state c.settle.new.store c.settle.new.openings in
     let its = c.in_default-settle.ensures in
     let stays = failed_stays state S c.settle.new.store O c.settle.new.openings its.failed.0 its.failed.1 c.settle.ensures.moment in
-    subst (λ (s : Standing _). AbortsDevice state s new c.args.tag (Err failed.Fault)) c.self.view_is
+    by_kept state c.self.inside _ c.self.view_is c.requires.kept c.settle.new.store c.settle.new.openings
+    (λ (s t : Standing _). AbortsDevice state s t c.args.tag (Err failed.Fault))
     (record {
       aborts = abort_failed (is_there state old) old.machine new.machine c.args.tag (opening_at O c.in-Some.at).entry
           (entry_found c.args.tag O c.in-Some.at (sym c.position.ensures ∙ c.in-Some.is)).1

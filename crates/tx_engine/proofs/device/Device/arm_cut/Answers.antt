@@ -4,9 +4,9 @@ use Rattle.flash_model.specs.Flash.{FlashState}
 use Rattle.flash_model.specs.Operations.{moment_of}
 use Rattle.tx_engine.specs.DeviceCalls.{ArmsDevice}
 use Rattle.tx_engine.specs.Standing.{Standing}
-use Rattle.tx_engine.specs.Tables.{standing_in}
-use Rattle.tx_engine.proofs.SettleExits.{failed_stays}
-use Rattle.tx_engine.proofs.OtherFlash.{standing_same}
+use Rattle.tx_engine.specs.Tables.{standing_of}
+use Rattle.tx_engine.proofs.OfSettle.SettleExits.{failed_stays}
+use Rattle.tx_engine.proofs.OfStanding.OtherFlash.{standing_same}
 use Rattle.tx_engine.proofs.device.Device.arm_cut.Goals as goal
 
 pub invariant_of-self : goal.invariant_of-self
@@ -17,10 +17,12 @@ invariant_of-self g c =
 pub returns : goal.returns
 returns g c =
     let state = g.F.Flash.state in
-    subst (λ (s : Standing _). ArmsDevice s (standing_in state c.arm_cut.new.self c.self.inside.openings)
-    (ArmsCut (state s.flash) (state c.arm_cut.new.self.flash) c.args.count c.args.outcome))
+    let new = c.arm_cut.new.self in
+    subst (λ (s : Standing _). ArmsDevice s (standing_of state (record c.self.inside { store = new }))
+    (ArmsCut (state s.flash) (state new.flash) c.args.count c.args.outcome))
     c.self.view_is (record {
       arms = c.arm_cut.ensures.arms;
-      stays = failed_stays state c.self.inside.store c.arm_cut.new.self c.self.inside.openings c.self.inside.openings c.arm_cut.ensures.stays refl
-          (ap (λ (s : FlashState). moment_of s) c.arm_cut.ensures.arms.stays);
+      stays = ap (λ (s : Standing _). record s { dropped = c.self.inside.dropped })
+          (failed_stays state c.self.inside.store new c.self.inside.openings c.self.inside.openings c.arm_cut.ensures.stays refl
+          (ap (λ (s : FlashState). moment_of s) c.arm_cut.ensures.arms.stays));
     })

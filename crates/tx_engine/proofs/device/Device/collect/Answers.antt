@@ -12,11 +12,31 @@ use Rattle.tx_engine.specs.OpenTable.{entries_of}
 use Rattle.tx_engine.specs.Settling.{StaysUnread, settlement_of}
 use Rattle.tx_engine.specs.Standing.{Standing}
 use Rattle.tx_engine.specs.Tables.{standing_in}
-use Rattle.tx_engine.proofs.Breaking.{broke_then}
-use Rattle.tx_engine.proofs.SettleExits.{failed_machine, failed_stays, not_settled}
-use Rattle.tx_engine.proofs.ExitsThen.{exits_then}
-use Rattle.tx_engine.proofs.Collecting.{settled_low, rises_stay, collects_from}
+use Rattle.tx_engine.proofs.OfWrite.Breaking.{broke_then}
+use Rattle.tx_engine.proofs.OfSettle.SettleExits.{failed_machine, failed_stays, not_settled}
+use Rattle.tx_engine.proofs.OfStanding.ExitsThen.{exits_then}
+use Rattle.tx_engine.proofs.OfCollect.Collecting.{settled_low, rises_stay, collects_from}
+use Rattle.tx_engine.proofs.OfStanding.KeptDevices.{by_kept, kept_is, kept_stands}
 use Rattle.tx_engine.proofs.device.Device.collect.Goals as goal
+
+pub settle-requires-clause-stands : goal.settle-requires-clause-stands
+settle-requires-clause-stands g c =
+    kept_stands g.F.Flash.state c.self.inside _ c.self.view_is c.requires.kept g.R.CommitRule.protocol c.self.invariant
+
+pub invariant_of-self : goal.invariant_of-self
+invariant_of-self g c =
+    kept_is g.F.Flash.state g.R.CommitRule.protocol c.self.inside c.settle.new.store c.settle.new.openings c.self.invariant
+    c.settle.ensures.stands c.settle.ensures.exits.tables.config c.settle.ensures.limits
+
+pub invariant_of-self-in_default-collect_settled : goal.invariant_of-self-in_default-collect_settled
+invariant_of-self-in_default-collect_settled g c =
+    kept_is g.F.Flash.state g.R.CommitRule.protocol c.self.inside c.collect_settled.new.store c.settle.new.openings c.self.invariant
+    c.collect_settled.ensures.left.stands (c.collect_settled.ensures.left.exits.tables.config ∙ c.settle.ensures.exits.tables.config) c.settle.ensures.limits
+
+pub invariant_of-self-2 : goal.invariant_of-self-2
+invariant_of-self-2 g c =
+    kept_is g.F.Flash.state g.R.CommitRule.protocol c.self.inside c.collect_settled.new.store c.settle.new.openings c.self.invariant
+    c.collect_settled.ensures.left.stands (c.collect_settled.ensures.left.exits.tables.config ∙ c.settle.ensures.exits.tables.config) c.settle.ensures.limits
 
 pub returns-in_default : goal.returns-in_default
 returns-in_default g c =
@@ -27,7 +47,8 @@ returns-in_default g c =
     let its = c.in_default.ensures in
     let stays = failed_stays state S c.settle.new.store O c.settle.new.openings its.failed.0 its.failed.1 c.settle.ensures.moment in
     let unread : StaysUnread state old new = record { stays = stays; moment = c.settle.ensures.moment; reads = its.first_failed } in
-    subst (λ (s : Standing _). CollectsDevice state s new (Err (record {}))) c.self.view_is
+    by_kept state c.self.inside _ c.self.view_is c.requires.kept c.settle.new.store c.settle.new.openings
+    (λ (s t : Standing _). CollectsDevice state s t (Err (record {})))
     (record {
       collects = inl (failed_machine state S c.settle.new.store O c.settle.new.openings its.failed.0 its.failed.1 c.settle.ensures.moment);
       exits = its.exits;
@@ -48,13 +69,15 @@ returns-in_default-collect_settled g c =
     let new = standing_in state c.collect_settled.new.store c.settle.new.openings in
     let there = is_there state old in
     let settles = c.in-Ok.ensures in let its = c.in_default-collect_settled.ensures in
-    subst (λ (s : Standing _). CollectsDevice state s new (Err (record {}))) c.self.view_is
+    let stands = kept_stands state c.self.inside _ c.self.view_is c.requires.kept g.R.CommitRule.protocol c.self.invariant in
+    by_kept state c.self.inside _ c.self.view_is c.requires.kept c.collect_settled.new.store c.settle.new.openings
+    (λ (s t : Standing _). CollectsDevice state s t (Err (record {})))
     (record {
       collects = inr (its.left.machine ∙ settles.settles.machine);
       exits = exits_then state old mid new true refl refl settles.exits its.left.exits;
       rises = inr (
         ap (λ m. m.pages) (its.left.machine ∙ settles.settles.machine),
-        rises_stay old mid new (settled_writes there old.machine) settles.exits.tables.config (settled_low state S O there c.self.invariant.stands)
+        rises_stay old mid new (settled_writes there old.machine) settles.exits.tables.config (settled_low state S O there stands)
             settles.settles.rises its.left.versions,
       );
       sure = tt;
@@ -77,11 +100,13 @@ returns g c =
     let there = is_there state old in
     let settles = c.in-Ok.ensures in let its = c.in-Ok-collect_settled.ensures in
     let config : new.noted.config ≡ S.noted.config = its.left.exits.tables.config ∙ settles.exits.tables.config in
-    subst (λ (s : Standing _). CollectsDevice state s new (Ok collected)) c.self.view_is
+    let stands = kept_stands state c.self.inside _ c.self.view_is c.requires.kept g.R.CommitRule.protocol c.self.invariant in
+    by_kept state c.self.inside _ c.self.view_is c.requires.kept c.collect_settled.new.store O1
+    (λ (s t : Standing _). CollectsDevice state s t (Ok collected))
     (record {
       collects = its.left.machine ∙ settles.settles.machine;
       exits = exits_then state old mid new false refl refl settles.exits its.left.exits;
-      rises = rises_stay old mid new (settled_writes there old.machine) settles.exits.tables.config (settled_low state S O there c.self.invariant.stands)
+      rises = rises_stay old mid new (settled_writes there old.machine) settles.exits.tables.config (settled_low state S O there stands)
           settles.settles.rises its.left.versions;
       sure = its.sure;
       tables = collects_from (state S.flash) (state S1.flash) (state new.flash) (settlement_of state old).noted S1.noted new.noted

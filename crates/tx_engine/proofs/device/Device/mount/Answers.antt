@@ -2,24 +2,30 @@ use Rattle.std.proofs.Common.{false, ◌≡◌, ◌+◌, ◌≤◌, sym, ap, ◌
 use Rattle.flash_model.specs.Calls.{Carries}
 use Rattle.flash_model.specs.Operations.{moment_of}
 use Rattle.tx_engine.specs.OpenTable.{OpenTable}
-use Rattle.scan_recovery.proofs.ReadingSteps.{read_more-most}
+use Rattle.scan_recovery.proofs.OfScan.ReadingSteps.{read_more-most}
 use Rattle.tx_engine.specs.Opens.{Mounts, mount_reads}
-use Rattle.tx_engine.specs.Tables.{IsStanding, standing_in}
-use Rattle.tx_engine.proofs.Mounted.{empty_table, opened_stands, opened_mounts}
+use Rattle.tx_engine.specs.Standing.{Stands}
+use Rattle.tx_engine.specs.Tables.{standing_in}
+use Rattle.tx_engine.proofs.OfMount.Mounted.{empty_table, opened_stands, opened_mounts}
 use Rattle.tx_engine.proofs.device.Device.mount.Goals as goal
 
 pub invariant_of-result : goal.invariant_of-result
 invariant_of-result g c =
     let store = c.in_ok-store.store in
-    let is : c.in-Ok.openings ≡ empty_table store.noted.config = c.in-Ok.ensures ∙ ap empty_table c.config-known.ensures.config in
-    subst (λ (t : OpenTable). IsStanding {F = g.row.F.Denot} {R = g.row.R.Denot} g.F.Flash.state g.R.CommitRule.protocol
-    (record { store = store; openings = t })) (sym is)
-    (opened_stands g.F.Flash.state g.R.CommitRule.protocol c.args.flash c.args.config store c.in_ok-store.ensures.opened c.in_ok-store.ensures.stored)
+    let is : c.in-Ok-new.openings ≡ empty_table store.noted.config = c.in-Ok-new.ensures ∙ ap empty_table c.config-known.ensures.config in
+    record {
+      stands = λ kept. subst (λ (t : OpenTable). Stands g.F.Flash.state (standing_in g.F.Flash.state store t)) (sym is)
+          (opened_stands g.F.Flash.state g.R.CommitRule.protocol c.args.flash c.args.config store c.in_ok-store.ensures.opened c.in_ok-store.ensures.stored);
+      rule = c.in_ok-store.ensures.stored.rule;
+      page_bytes = ap (λ (t : OpenTable). t.page_bytes) is;
+      logical = ap (λ (t : OpenTable). t.logical) is;
+      pending = ap (λ (t : OpenTable). t.pending) is;
+    }
 
-pub returns-in-Ok : goal.returns-in-Ok
-returns-in-Ok g c =
+pub returns-in-Ok-new : goal.returns-in-Ok-new
+returns-in-Ok-new g c =
     let store = c.in_ok-store.store in
-    let is : c.in-Ok.openings ≡ empty_table store.noted.config = c.in-Ok.ensures ∙ ap empty_table c.config-known.ensures.config in
+    let is : c.in-Ok-new.openings ≡ empty_table store.noted.config = c.in-Ok-new.ensures ∙ ap empty_table c.config-known.ensures.config in
     record {
       mounted = subst (λ (t : OpenTable). Mounts g.F.Flash.state c.args.flash c.args.config (standing_in g.F.Flash.state store t)) (sym is)
           (opened_mounts g.F.Flash.state g.R.CommitRule.protocol c.args.flash c.args.config store c.in_ok-store.ensures.opened

@@ -14,17 +14,38 @@ use Rattle.tx_engine.specs.Standing.{Standing}
 use Rattle.tx_engine.specs.Tables.{standing_in}
 use Rattle.tx_engine.specs.declared.retire.RetireError.{RetireError}
 use Rattle.tx_engine.specs.declared.retire.RetireError.TheVariants.{Fault}
-use Rattle.tx_engine.proofs.Collecting.{settled_low, rises_stay}
-use Rattle.tx_engine.proofs.ExitsThen.{tables_then}
-use Rattle.tx_engine.proofs.Retirements.{broke_after, refused, retired_after, retired_blank, retired_known, retiring_broke, retiring_fails}
-use Rattle.tx_engine.proofs.SettleExits.{failed_machine, failed_stays, not_settled}
+use Rattle.tx_engine.proofs.OfCollect.Collecting.{settled_low, rises_stay}
+use Rattle.tx_engine.proofs.OfStanding.ExitsThen.{tables_then}
+use Rattle.tx_engine.proofs.OfRetire.Retirements.{broke_after, refused, retired_after, retired_blank, retired_known, retiring_broke, retiring_fails}
+use Rattle.tx_engine.proofs.OfSettle.SettleExits.{failed_machine, failed_stays, not_settled}
+use Rattle.tx_engine.proofs.OfStanding.KeptDevices.{as_kept, by_kept, kept_is, kept_stands}
 use Rattle.tx_engine.proofs.device.Device.retire.Goals as goal
 
 pub returns-in-Some : goal.returns-in-Some
 returns-in-Some g c =
     let state = g.F.Flash.state in
-    subst (λ (s : Standing _). RetiresDevice state s s c.args.block.0 (Err c.in-Some.refusal)) c.self.view_is
-    (refused state (standing_in state c.self.inside.store c.self.inside.openings) c.args.block.0 c.in-Some.refusal (sym c.in-Some.ensures.refusal))
+    subst (λ (s : Standing _). RetiresDevice state s s c.args.block.0 (Err c.in-Some.refusal))
+    (as_kept state c.self.inside _ c.self.view_is c.requires.kept)
+    (refused state (standing_in state c.self.inside.store c.self.inside.openings) c.args.block.0 c.in-Some.refusal refl (sym c.in-Some.ensures.refusal))
+
+pub settle-requires-clause-stands : goal.settle-requires-clause-stands
+settle-requires-clause-stands g c =
+    kept_stands g.F.Flash.state c.self.inside _ c.self.view_is c.requires.kept g.R.CommitRule.protocol c.self.invariant
+
+pub invariant_of-self : goal.invariant_of-self
+invariant_of-self g c =
+    kept_is g.F.Flash.state g.R.CommitRule.protocol c.self.inside c.settle.new.store c.settle.new.openings c.self.invariant
+    c.settle.ensures.stands c.settle.ensures.exits.tables.config c.settle.ensures.limits
+
+pub invariant_of-self-in_default-retire_settled : goal.invariant_of-self-in_default-retire_settled
+invariant_of-self-in_default-retire_settled g c =
+    kept_is g.F.Flash.state g.R.CommitRule.protocol c.self.inside c.retire_settled.new.store c.settle.new.openings c.self.invariant
+    c.retire_settled.ensures.left.stands (c.retire_settled.ensures.left.tables.config ∙ c.settle.ensures.exits.tables.config) c.settle.ensures.limits
+
+pub invariant_of-self-2 : goal.invariant_of-self-2
+invariant_of-self-2 g c =
+    kept_is g.F.Flash.state g.R.CommitRule.protocol c.self.inside c.retire_settled.new.store c.settle.new.openings c.self.invariant
+    c.retire_settled.ensures.left.stands (c.retire_settled.ensures.left.tables.config ∙ c.settle.ensures.exits.tables.config) c.settle.ensures.limits
 
 pub retire_settled-requires : goal.retire_settled-requires
 retire_settled-requires g c =
@@ -49,7 +70,8 @@ returns-in_default-settle g c =
     let new = standing_in state c.settle.new.store c.settle.new.openings in
     let its = c.in_default-settle.ensures in
     let stays = failed_stays state S c.settle.new.store O c.settle.new.openings its.failed.0 its.failed.1 c.settle.ensures.moment in
-    subst (λ (s : Standing _). RetiresDevice state s new c.args.block.0 (Err Fault)) c.self.view_is
+    by_kept state c.self.inside _ c.self.view_is c.requires.kept c.settle.new.store c.settle.new.openings
+    (λ (s t : Standing _). RetiresDevice state s t c.args.block.0 (Err Fault))
     (record {
       refusal = subst (λ (r : Option RetireError). AnswersRetire r old new (Err Fault)) c.in_default.ensures.refusal tt;
       retires = inl (failed_machine state S c.settle.new.store O c.settle.new.openings its.failed.0 its.failed.1 c.settle.ensures.moment);
@@ -75,7 +97,9 @@ returns-in_default-retire_settled g c =
     let new = standing_in state S2 O1 in
     let there = is_there state old in
     let settles = c.in-Ok.ensures in let its = c.in_default-retire_settled.ensures in
-    subst (λ (s : Standing _). RetiresDevice state s new c.args.block.0 (Err Fault)) c.self.view_is
+    let stands = kept_stands state c.self.inside _ c.self.view_is c.requires.kept g.R.CommitRule.protocol c.self.invariant in
+    by_kept state c.self.inside _ c.self.view_is c.requires.kept S2 O1
+    (λ (s t : Standing _). RetiresDevice state s t c.args.block.0 (Err Fault))
     (record {
       refusal = subst (λ (r : Option RetireError). AnswersRetire r old new (Err Fault)) c.in_default.ensures.refusal tt;
       retires = inr (its.left.machine ∙ settles.settles.machine);
@@ -87,7 +111,7 @@ returns-in_default-retire_settled g c =
       };
       rises = inr (
         ap (λ m. m.pages) (its.left.machine ∙ settles.settles.machine),
-        rises_stay old mid new (settled_writes there old.machine) settles.exits.tables.config (settled_low state S O there c.self.invariant.stands)
+        rises_stay old mid new (settled_writes there old.machine) settles.exits.tables.config (settled_low state S O there stands)
             settles.settles.rises its.left.versions,
       );
       sure = tt;
@@ -108,7 +132,9 @@ returns g c =
     let there = is_there state old in
     let settles = c.in-Ok.ensures in let its = c.in-Ok-retire_settled.ensures in let done = its.retires.done in
     let config : new.noted.config ≡ mid.noted.config = its.left.tables.config in
-    subst (λ (s : Standing _). RetiresDevice state s new c.args.block.0 (Ok tt)) c.self.view_is
+    let stands = kept_stands state c.self.inside _ c.self.view_is c.requires.kept g.R.CommitRule.protocol c.self.invariant in
+    by_kept state c.self.inside _ c.self.view_is c.requires.kept S2 O1
+    (λ (s t : Standing _). RetiresDevice state s t c.args.block.0 (Ok tt))
     (record {
       refusal = subst (λ (r : Option RetireError). AnswersRetire r old new (Ok tt)) c.in_default.ensures.refusal tt;
       retires = its.left.machine ∙ settles.settles.machine;
@@ -118,7 +144,7 @@ returns g c =
             c.settle.ensures.moment _ mid.noted _ mid.table settles.tables.0 settles.tables.1 done;
         carries = CarriesRetiring-then (state old.flash) (state mid.flash) (state new.flash) false settles.exits.carries its.retires.keeps.carries;
       };
-      rises = rises_stay old mid new (settled_writes there old.machine) settles.exits.tables.config (settled_low state S O there c.self.invariant.stands)
+      rises = rises_stay old mid new (settled_writes there old.machine) settles.exits.tables.config (settled_low state S O there stands)
           settles.settles.rises its.left.versions;
       sure = its.retires.keeps.tables.sure;
       tables = retired_known state S S1 S2 O O1 _ c.args.block.0 settles.exits.carries.shape c.settle.ensures.moment settles.reads

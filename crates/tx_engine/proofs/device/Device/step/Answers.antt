@@ -19,15 +19,16 @@ use Rattle.tx_engine.specs.Step.{StepsAs, settled}
 use Rattle.tx_engine.specs.Tables.{standing_in}
 use Rattle.tx_engine.specs.Breaking.{WritingBreaks}
 use Rattle.tx_engine.specs.Writing.{BringsPage, next_of}
-use Rattle.tx_engine.proofs.Aborting.{entry_found, entry_missing, entry_settled}
-use Rattle.tx_engine.proofs.Collecting.{settled_low, own_writes_low}
-use Rattle.tx_engine.proofs.ExitsThen.{exits_still, exits_then, rises_then}
-use Rattle.tx_engine.proofs.Kept.{from_stands}
-use Rattle.tx_engine.proofs.OpenList.{first_position, first_of_own, entry_first}
-use Rattle.tx_engine.proofs.SettleExits.{failed_machine, failed_stays, not_settled, rises_unread}
-use Rattle.tx_engine.proofs.CostFacts.{costs_still}
-use Rattle.tx_engine.proofs.StepExits.{step_missing, step_unsettled, step_settled, done_low, fault_rises, for_next, for_open, of_each, ok_as}
-use Rattle.tx_engine.proofs.StepWrites.{costs_then, found_then, brings_then, notes_then, breaks_then}
+use Rattle.tx_engine.proofs.OfAbort.Aborting.{entry_found, entry_missing, entry_settled}
+use Rattle.tx_engine.proofs.OfCollect.Collecting.{settled_low, own_writes_low}
+use Rattle.tx_engine.proofs.OfStanding.ExitsThen.{exits_still, exits_then, rises_then}
+use Rattle.tx_engine.proofs.OfStanding.Kept.{from_stands}
+use Rattle.tx_engine.proofs.OfOpenings.OpenList.{first_position, first_of_own, entry_first}
+use Rattle.tx_engine.proofs.OfSettle.SettleExits.{failed_machine, failed_stays, not_settled, rises_unread}
+use Rattle.tx_engine.proofs.OfStep.CostFacts.{costs_still}
+use Rattle.tx_engine.proofs.OfStep.StepExits.{step_missing, step_unsettled, step_settled, done_low, fault_rises, for_next, for_open, of_each, ok_as}
+use Rattle.tx_engine.proofs.OfStep.StepWrites.{costs_then, found_then, brings_then, notes_then, breaks_then}
+use Rattle.tx_engine.proofs.OfStanding.KeptDevices.{as_kept, by_kept, kept_is, kept_stands, limits_then}
 use Rattle.tx_engine.proofs.device.Device.step.Goals as goal
 
 pub returns-in_default : goal.returns-in_default
@@ -36,10 +37,11 @@ returns-in_default g c =
     let now = c.args.self.now in
     let flash = state now.flash in
     record {
-      steps = subst (λ (s : Standing _). StepsAs (is_there state s) s.machine s.machine c.args.tag (Err failed.Unknown)) c.self.view_is
+      steps = subst (λ (s : Standing _). StepsAs (is_there state s) s.machine s.machine c.args.tag (Err failed.Unknown))
+          (as_kept state c.self.inside _ c.self.view_is c.requires.kept)
           (let s = standing_in state c.self.inside.store c.self.inside.openings in step_missing (is_there state s) s.machine c.args.tag
           (entry_missing c.args.tag c.self.inside.openings (sym c.position.ensures ∙ c.in_default.is)));
-      exits = exits_still state now now.flash _ now refl (FlashMoves-nothing flash flash _ refl) (Carries-nothing flash);
+      exits = exits_still state now now.flash _ now c.requires.kept refl (FlashMoves-nothing flash flash _ refl) (Carries-nothing flash);
       rises = rises_unread now now refl;
       sure = tt;
       unknown = λ is. refl;
@@ -52,6 +54,15 @@ returns-in_default g c =
       failed = λ is. cc;
     }
 
+pub settle-requires-clause-stands : goal.settle-requires-clause-stands
+settle-requires-clause-stands g c =
+    kept_stands g.F.Flash.state c.self.inside _ c.self.view_is c.requires.kept g.R.CommitRule.protocol c.self.invariant
+
+pub invariant_of-self : goal.invariant_of-self
+invariant_of-self g c =
+    kept_is g.F.Flash.state g.R.CommitRule.protocol c.self.inside c.settle.new.store c.settle.new.openings c.self.invariant
+    c.settle.ensures.stands c.settle.ensures.exits.tables.config c.settle.ensures.limits
+
 pub returns-in_default-settle : goal.returns-in_default-settle
 returns-in_default-settle g c =
     let state = g.F.Flash.state in
@@ -61,7 +72,8 @@ returns-in_default-settle g c =
     let its = c.in_default-settle.ensures in
     let stays = failed_stays state S c.settle.new.store O c.settle.new.openings its.failed.0 its.failed.1 c.settle.ensures.moment in
     let unread : StaysUnread state old new = record { stays = stays; moment = c.settle.ensures.moment; reads = its.first_failed } in
-    subst (λ (s : Standing _). StepsDevice state s new c.args.tag (Err failed.Fault)) c.self.view_is
+    by_kept state c.self.inside _ c.self.view_is c.requires.kept c.settle.new.store c.settle.new.openings
+    (λ (s t : Standing _). StepsDevice state s t c.args.tag (Err failed.Fault))
     (record {
       steps = step_unsettled (is_there state old) old.machine new.machine c.args.tag (opening_at O c.in-Some.at).entry
           (entry_found c.args.tag O c.in-Some.at (sym c.position.ensures ∙ c.in-Some.is)).1
@@ -92,6 +104,18 @@ advance-requires g c = record {
   size = c.in-Ok.ensures.limits.page_bytes ∙ c.self.invariant.page_bytes ∙ ap (λ (k : Config). k.page_bytes) (sym c.in-Ok.ensures.exits.tables.config);
 }
 
+pub invariant_of-self-in_default-advance : goal.invariant_of-self-in_default-advance
+invariant_of-self-in_default-advance g c =
+    kept_is g.F.Flash.state g.R.CommitRule.protocol c.self.inside c.advance.new.store c.advance.new.openings c.self.invariant
+    c.advance.ensures.stands (c.advance.ensures.exits.tables.config ∙ c.settle.ensures.exits.tables.config)
+    (limits_then _ _ _ c.settle.ensures.limits c.advance.ensures.limits)
+
+pub invariant_of-self-2 : goal.invariant_of-self-2
+invariant_of-self-2 g c =
+    kept_is g.F.Flash.state g.R.CommitRule.protocol c.self.inside c.advance.new.store c.advance.new.openings c.self.invariant
+    c.advance.ensures.stands (c.advance.ensures.exits.tables.config ∙ c.settle.ensures.exits.tables.config)
+    (limits_then _ _ _ c.settle.ensures.limits c.advance.ensures.limits)
+
 pub returns-in_default-advance : goal.returns-in_default-advance
 returns-in_default-advance g c =
     let state = g.F.Flash.state in
@@ -106,14 +130,16 @@ returns-in_default-advance g c =
     let first = first_position c.args.tag O.all i (sym c.position.ensures ∙ c.in-Some.is) in
     let at = entry_settled there O O1 i (ap (λ (m : ArrayState). m.entries) settles.settles.machine) found.0 in
     let tags : (opening_at O1 i).entry.tag ≡ c.args.tag = ap (λ (e : Entry). e.tag) at.1 ∙ sym found.2 in
-    subst (λ (s : Standing _). StepsDevice state s new c.args.tag (Err failed.Fault)) c.self.view_is
+    let stands = kept_stands state c.self.inside _ c.self.view_is c.requires.kept g.R.CommitRule.protocol c.self.invariant in
+    by_kept state c.self.inside _ c.self.view_is c.requires.kept c.advance.new.store c.advance.new.openings
+    (λ (s t : Standing _). StepsDevice state s t c.args.tag (Err failed.Fault))
     (record {
       steps = step_settled there old.machine mid.machine new.machine c.args.tag (opening_at O i).entry (opening_at O1 i).entry c.advance.result
           (Err failed.Fault) found.1 settles.settles.machine at.1 tags c.advance.ensures.advances
           (λ p is. let no = sym c.in_default-advance.is ∙ is in cc) (λ is. refl);
       exits = exits_then state old mid new true refl refl settles.exits advances.exits;
       rises = fault_rises there old mid new c.args.tag (opening_at O1 i).entry.tag (opening_at O1 i).entry c.advance.result (Err failed.Fault)
-          (ap is_err c.in_default-advance.is) refl settles.exits.tables.config (settled_low state S O there c.self.invariant.stands)
+          (ap is_err c.in_default-advance.is) refl settles.exits.tables.config (settled_low state S O there stands)
           settles.settles.machine settles.settles.rises c.advance.ensures.advances c.advance.ensures.rises;
       sure = tt;
       unknown = λ is. cc;
@@ -150,7 +176,9 @@ returns g c =
     ap (λ (m : ArrayState). entry_of c.args.tag m.entries) (sym settles.settles.machine)
     ∙ ap (λ t. entry_of t (entries_of O1)) (sym tags)
     ∙ entry_first (opening_at O1 i).entry.tag O1.all i (first_of_own O1.all i kept.tags at.0) in
-    subst (λ (s : Standing _). StepsDevice state s new c.args.tag (Ok progress)) c.self.view_is
+    let stands = kept_stands state c.self.inside _ c.self.view_is c.requires.kept g.R.CommitRule.protocol c.self.invariant in
+    by_kept state c.self.inside _ c.self.view_is c.requires.kept c.advance.new.store c.advance.new.openings
+    (λ (s t : Standing _). StepsDevice state s t c.args.tag (Ok progress))
     (record {
       steps = step_settled there old.machine mid.machine new.machine c.args.tag (opening_at O i).entry (opening_at O1 i).entry c.advance.result
           (Ok progress) found.1 settles.settles.machine at.1 tags c.advance.ensures.advances
@@ -159,7 +187,7 @@ returns g c =
       exits = exits_then state old mid new false refl refl settles.exits advances.exits;
       rises = subst (λ o. VersionsRise old new (settled_writes there old.machine ++ done_writes o (Ok progress))) (sym mine)
           (rises_then state old mid new (settled_writes there old.machine) (done_writes (Some (opening_at O1 i).entry) (Ok progress))
-          settles.exits.tables.config (settled_low state S O there c.self.invariant.stands)
+          settles.exits.tables.config (settled_low state S O there stands)
           (subst (λ (k : Config). All (λ w. w.page < k.logical) (done_writes (Some (opening_at O1 i).entry) (Ok progress))) settles.exits.tables.config
           (done_low S1.noted.config.logical (opening_at O1 i).entry progress
           (own_writes_low (state S1.flash) S1.noted O1 S1.table S1.unsure kept i at.0)))

@@ -1,4 +1,4 @@
-use Rattle.std.proofs.Common.{◌≡◌, None, Ok, ◌++◌, ◌∷◌, [], sym, ap, ◌∙◌, subst}
+use Rattle.std.proofs.Common.{◌≡◌, None, Ok, ◌++◌, ◌∷◌, [], refl, sym, ap, ◌∙◌, subst}
 use Rattle.std.proofs.lemmas.List.{map-append}
 use Rattle.version_index.specs.Noted.{Noted}
 use Rattle.tx_engine.specs.ArrayState.{ArrayState}
@@ -10,8 +10,9 @@ use Rattle.tx_engine.specs.Submit.{spent_page}
 use Rattle.tx_engine.specs.Stored.{Stored}
 use Rattle.tx_engine.specs.Tables.{standing_in}
 use Rattle.array_machine.proofs.Accepting.{accepted}
-use Rattle.tx_engine.proofs.Submitted.{standing_then, machine_then}
-use Rattle.tx_engine.proofs.Submitting.{can_open, some_each, version_left, submits, not_refused}
+use Rattle.tx_engine.proofs.OfStanding.KeptDevices.{by_kept, kept_stands, kept_stored}
+use Rattle.tx_engine.proofs.OfSubmit.Submitted.{standing_then, machine_then}
+use Rattle.tx_engine.proofs.OfSubmit.Submitting.{can_open, some_each, version_left, submits, not_refused}
 use Rattle.tx_engine.proofs.device.Device.submit.Goals as goal
 
 pub spent-requires : goal.spent-requires
@@ -31,9 +32,14 @@ open-requires g c =
     let unspent : spent_page (is_spent n.mentions) c.args.batch.now.entries ≡ None = sym c.spent.ensures ∙ c.in_default-spent.is in
     subst (λ (m : Noted). CanOpen t m c.args.batch.now) (sym c.index.ensures)
     (can_open n t c.args.tag c.args.batch.now c.self.invariant.page_bytes c.self.invariant.logical c.self.invariant.pending
-    (rw (← c.self.view_is) at c.requires) (some_each _ _ t.all c.self.invariant.stands.each)
+    (rw (← c.self.view_is) at c.requires.pages)
+    (some_each _ _ t.all (kept_stands g.F.Flash.state c.self.inside _ c.self.view_is c.requires.kept g.R.CommitRule.protocol c.self.invariant).each)
     (accepted (limits_of n.config) (entries_of t) c.args.tag c.args.batch.now.entries none)
     (version_left n.mentions c.args.batch.now.entries unspent))
+
+pub pin_all-requires-clause-stored : goal.pin_all-requires-clause-stored
+pin_all-requires-clause-stored g c =
+    kept_stored g.F.Flash.state c.self.inside _ c.self.view_is c.requires.kept g.R.CommitRule.protocol c.self.invariant
 
 pub pin_all-requires-clause-range : goal.pin_all-requires-clause-range
 pin_all-requires-clause-range g c =
@@ -57,7 +63,8 @@ invariant_of-self g c =
     c.self.invariant.logical c.self.invariant.pending c.refusal.ensures c.in_default.is in
     let second : spent_page (is_spent n.mentions) c.args.batch.now.entries ≡ None = sym c.spent.ensures ∙ c.in_default-spent.is in
     let opens = c.open.ensures ∙ ap (λ (m : Noted). record t { all = t.all ++ begun m c.args.tag c.args.batch.now.entries ∷ [] }) c.index.ensures in
-    standing_then g.F.Flash.state g.R.CommitRule.protocol c.self.inside c.self.invariant c.args.tag c.args.batch.now.entries
+    standing_then g.F.Flash.state g.R.CommitRule.protocol c.self.inside c.self.invariant
+    (kept_stands g.F.Flash.state c.self.inside _ c.self.view_is c.requires.kept g.R.CommitRule.protocol c.self.invariant) c.args.tag c.args.batch.now.entries
     (accepted (limits_of n.config) (entries_of t) c.args.tag c.args.batch.now.entries first)
     (version_left n.mentions c.args.batch.now.entries second)
     c.pin_all.new.self c.pin_all.ensures.stored c.pin_all.ensures.pinned c.open.new.self c.count-open.ensures.kept opens
@@ -70,15 +77,16 @@ returns g c =
     c.self.invariant.logical c.self.invariant.pending c.refusal.ensures c.in_default.is in
     let second : spent_page (is_spent n.mentions) c.args.batch.now.entries ≡ None = sym c.spent.ensures ∙ c.in_default-spent.is in
     let opens = c.open.ensures ∙ ap (λ (m : Noted). record t { all = t.all ++ begun m c.args.tag c.args.batch.now.entries ∷ [] }) c.index.ensures in
-    let machine = machine_then g.F.Flash.state g.R.CommitRule.protocol c.self.inside c.self.invariant c.args.tag c.args.batch.now.entries
+    let machine = machine_then g.F.Flash.state g.R.CommitRule.protocol c.self.inside c.self.invariant
+    (kept_stands g.F.Flash.state c.self.inside _ c.self.view_is c.requires.kept g.R.CommitRule.protocol c.self.invariant) c.args.tag c.args.batch.now.entries
     (accepted (limits_of n.config) (entries_of t) c.args.tag c.args.batch.now.entries first)
     (version_left n.mentions c.args.batch.now.entries second)
     c.pin_all.new.self c.pin_all.ensures.stored c.pin_all.ensures.pinned c.open.new.self c.count-open.ensures.kept opens in
     let pinned = c.pin_all.ensures.pinned in
     let new : ArrayState = (standing_in g.F.Flash.state c.pin_all.new.self c.open.new.self).machine in
     let old : ArrayState = (standing_in g.F.Flash.state c.self.inside.store t).machine in
-    subst (λ (s : Standing g.row.F.Denot). SubmitsDevice s (standing_in g.F.Flash.state c.pin_all.new.self c.open.new.self) c.args.tag c.args.batch.now.entries
-    (Ok tt)) c.self.view_is (record {
+    by_kept g.F.Flash.state c.self.inside _ c.self.view_is c.requires.kept c.pin_all.new.self c.open.new.self
+    (λ (s t : Standing g.row.F.Denot). SubmitsDevice s t c.args.tag c.args.batch.now.entries (Ok tt)) (record {
       submits = submits (limits_of n.config) (is_spent n.mentions) old new c.args.tag c.args.batch.now.entries first second machine;
       named = ap (λ (x : OpenTable). namings_of x) opens ∙ map-append (λ (o : Opening). o.naming) t.all (begun n c.args.tag c.args.batch.now.entries ∷ []);
       keeps = record {
@@ -87,5 +95,6 @@ returns g c =
         table = ap (λ (x : Stored _). x.table) pinned;
         unsure = ap (λ (x : Stored _). x.unsure) pinned;
         noted = ap (λ (x : Stored _). x.noted) pinned ∙ ap (λ ps. record n { pins = ps }) (sym (ap (λ (x : Stored _). x.noted.pins) pinned));
+        kept = refl;
       };
     })

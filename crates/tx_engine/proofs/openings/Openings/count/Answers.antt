@@ -1,5 +1,5 @@
 use Rattle.std.proofs.Common.{arith}
-use Rattle.tx_engine.proofs.OpenPages.{openings_long, kept_is_table}
+use Rattle.tx_engine.proofs.OfOpenings.OpenPages.{openings_long, kept_is_table}
 use Rattle.tx_engine.proofs.openings.Openings.count.Goals as goal
 
 pub overflow_cast-result : goal.overflow_cast-result

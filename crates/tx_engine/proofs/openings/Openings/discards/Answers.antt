@@ -1,5 +1,5 @@
 use Rattle.std.proofs.Common.{arith}
-use Rattle.tx_engine.proofs.OpenPages.{openings_long, pages_read, discard_read}
+use Rattle.tx_engine.proofs.OfOpenings.OpenPages.{openings_long, pages_read, discard_read}
 use Rattle.tx_engine.proofs.openings.Openings.discards.Goals as goal
 
 pub index-requires : goal.index-requires

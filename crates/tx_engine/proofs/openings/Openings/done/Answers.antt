@@ -1,5 +1,5 @@
 use Rattle.std.proofs.Common.{sym, ap, arith}
-use Rattle.tx_engine.proofs.OpenPages.{openings_long, opening_read}
+use Rattle.tx_engine.proofs.OfOpenings.OpenPages.{openings_long, opening_read}
 use Rattle.tx_engine.proofs.openings.Openings.done.Goals as goal
 
 pub index-requires : goal.index-requires

@@ -1,6 +1,6 @@
 use Rattle.std.proofs.Common.{refl}
 use Rattle.tx_engine.specs.ArrayState.{is_doubted}
-use Rattle.tx_engine.proofs.OpenPages.{position_of_opening}
+use Rattle.tx_engine.proofs.OfOpenings.OpenPages.{position_of_opening}
 use Rattle.tx_engine.proofs.openings.Openings.doubtful.Goals as goal
 
 pub returns : goal.returns

@@ -2,9 +2,9 @@ use Rattle.std.proofs.Common.{◌≡◌, ◌<◌, ◌++◌, ◌∷◌, [], Some,
 use Rattle.array_machine.specs.declared.mark.Mark.TheVariants.{Plain}
 use Rattle.std.specs.Vec.{with_items}
 use Rattle.tx_engine.specs.PendingPages.{HasRoom, with_owner}
-use Rattle.tx_engine.proofs.OpenChanges.{IsTakenIn, refilled, list_empty, list_left, pages_low, kept_after_opening, table_after_opening}
-use Rattle.tx_engine.proofs.OpenPages.{pages_of_openings}
-use Rattle.tx_engine.proofs.Owners.{length-with_owner}
+use Rattle.tx_engine.proofs.OfOpenings.OpenChanges.{IsTakenIn, refilled, list_empty, list_left, pages_low, kept_after_opening, table_after_opening}
+use Rattle.tx_engine.proofs.OfOpenings.OpenPages.{pages_of_openings}
+use Rattle.tx_engine.proofs.OfOpenings.Owners.{length-with_owner}
 use Rattle.tx_engine.proofs.openings.Openings.open.Goals as goal
 
 pub unwrap-pages-requires : goal.unwrap-pages-requires

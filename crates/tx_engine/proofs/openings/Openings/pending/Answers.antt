@@ -1,5 +1,5 @@
 use Rattle.std.proofs.Common.{arith}
-use Rattle.tx_engine.proofs.OpenPages.{pages_of_openings}
+use Rattle.tx_engine.proofs.OfOpenings.OpenPages.{pages_of_openings}
 use Rattle.tx_engine.proofs.openings.Openings.pending.Goals as goal
 
 pub returns : goal.returns

@@ -1,6 +1,6 @@
 use Rattle.std.proofs.Common.{◌==◌, refl}
 use Rattle.tx_engine.specs.ArrayState.{has_tag}
-use Rattle.tx_engine.proofs.OpenPages.{position_of_opening}
+use Rattle.tx_engine.proofs.OfOpenings.OpenPages.{position_of_opening}
 use Rattle.tx_engine.proofs.openings.Openings.position.Goals as goal
 
 pub returns : goal.returns

@@ -1,9 +1,9 @@
 use Rattle.std.proofs.Common.{◌≡◌, None, length, refl, ap, ap₂, ◌∙◌, arith}
 use Rattle.std.specs.Vec.{with_items}
 use Rattle.tx_engine.specs.PendingPages.{with_owner}
-use Rattle.tx_engine.proofs.OpenChanges.{IsTakenAway, refilled, kept_after_removal, table_after_removal}
-use Rattle.tx_engine.proofs.OpenPages.{openings_long}
-use Rattle.tx_engine.proofs.Owners.{length-with_owner}
+use Rattle.tx_engine.proofs.OfOpenings.OpenChanges.{IsTakenAway, refilled, kept_after_removal, table_after_removal}
+use Rattle.tx_engine.proofs.OfOpenings.OpenPages.{openings_long}
+use Rattle.tx_engine.proofs.OfOpenings.Owners.{length-with_owner}
 use Rattle.tx_engine.proofs.openings.Openings.remove.Goals as goal
 
 taken_away : (c : goal.After-unwrap) → IsTakenAway c.self.inside

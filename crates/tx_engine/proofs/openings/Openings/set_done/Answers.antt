@@ -1,7 +1,7 @@
 use Rattle.std.proofs.Common.{refl, arith}
 use Rattle.tx_engine.specs.OpenTable.{with_done}
-use Rattle.tx_engine.proofs.OpenChanges.{kept_with, table_with}
-use Rattle.tx_engine.proofs.OpenPages.{openings_long}
+use Rattle.tx_engine.proofs.OfOpenings.OpenChanges.{kept_with, table_with}
+use Rattle.tx_engine.proofs.OfOpenings.OpenPages.{openings_long}
 use Rattle.tx_engine.proofs.openings.Openings.set_done.Goals as goal
 
 pub index_mut-requires : goal.index_mut-requires

@@ -1,9 +1,5 @@
 use Rattle.std.proofs.Common.{refl}
-use Rattle.tx_engine.proofs.OtherFlash.{armed_kept}
 use Rattle.tx_engine.proofs.store.Store.arm_cut.Goals as goal
-
-pub invariant_of-self : goal.invariant_of-self
-invariant_of-self g c = armed_kept _ _ c.self.inside _ c.self.invariant c.arm_cut.ensures.stays
 
 pub returns : goal.returns
 returns g c = rw (← c.self.view_is) (record { arms = c.arm_cut.ensures; stays = refl })

@@ -1,27 +1,15 @@
 use Rattle.std.proofs.Common.{ap, ◌∙◌, sym, refl}
 use Rattle.tx_types.specs.declared.config.Config.{Config}
-use Rattle.tx_engine.proofs.StoreCalls.{as_long}
+use Rattle.tx_engine.proofs.OfTables.StoreCalls.{as_long}
 use Rattle.tx_engine.proofs.store.Store.clear.Goals as goal
 
 pub clear-requires-clause-sure : goal.clear-requires-clause-sure
-clear-requires-clause-sure g c = record {
-  matches = c.self.invariant.stored.matches;
-  rule = c.self.invariant.stored.rule;
-  nothing = rw (← c.self.view_is) at c.requires.nothing;
-}
+clear-requires-clause-sure g c = rw (← c.self.view_is) at c.requires.sure
 
 pub invariant_of-self : goal.invariant_of-self
 invariant_of-self g c =
-    let k = c.self.invariant in
-    let keeps = c.clear.ensures.clears.keeps in
-    let same = keeps.preserves.config in
-    record {
-      stored = record {
-        matches = keeps.matches;
-        rule = ap (λ (x : Config). x.protocol) same ∙ k.stored.rule;
-      };
-      room = as_long c.self.inside.room c.clear.new.room _ (k.room ∙ ap (λ (x : Config). x.page_bytes) (sym same));
-    }
+    let same = c.clear.ensures.clears.keeps.preserves.config in
+    record { room = as_long c.self.inside.room c.clear.new.room _ (c.self.invariant.room ∙ ap (λ (x : Config). x.page_bytes) (sym same)) }
 
 pub returns : goal.returns
 returns g c = rw (← c.self.view_is) (record {

@@ -1,7 +1,7 @@
 use Rattle.std.proofs.Common.{◌<◌, length, ap, ◌∙◌, sym, arith}
 use Rattle.tx_types.specs.Config.{slots_of}
-use Rattle.version_index.proofs.FoundIn.{found_in_nil}
-use Rattle.tx_engine.proofs.FoundSlots.{with_record, without_record}
+use Rattle.version_index.proofs.OfTables.FoundIn.{found_in_nil}
+use Rattle.tx_engine.proofs.OfTables.FoundSlots.{with_record, without_record}
 use Rattle.tx_engine.proofs.store.Store.found.Goals as goal
 use Rattle.tx_engine.proofs.store.Store.found.Goals.{in-Some+in_ok-push, in_default}
 
@@ -10,7 +10,7 @@ loop-at-init g c = c.in_ok-list.ensures.items ∙ sym found_in_nil
 
 pub loop-at-preserved : goal.loop-at-preserved
 loop-at-preserved g c =
-    let m = c.self.invariant.stored.matches in
+    let m = (rw (← c.self.view_is) at c.requires.stored).matches in
     let slots = ap slots_of m.shape in
     let within : c.loop-at.at < length c.args.self.now.noted.notes =
     rw (← c.self.view_is)

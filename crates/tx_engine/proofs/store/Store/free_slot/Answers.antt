@@ -1,26 +1,15 @@
 use Rattle.std.proofs.Common.{ap, ◌∙◌, sym, refl}
 use Rattle.tx_types.specs.declared.config.Config.{Config}
-use Rattle.tx_engine.proofs.StoreCalls.{as_long}
+use Rattle.tx_engine.proofs.OfTables.StoreCalls.{as_long}
 use Rattle.tx_engine.proofs.store.Store.free_slot.Goals as goal
 
 pub free_slot-requires-clause-sure : goal.free_slot-requires-clause-sure
-free_slot-requires-clause-sure g c = record {
-  matches = c.self.invariant.stored.matches;
-  rule = c.self.invariant.stored.rule;
-  nothing = rw (← c.self.view_is) at c.requires.nothing;
-}
+free_slot-requires-clause-sure g c = rw (← c.self.view_is) at c.requires.sure
 
 pub invariant_of-self : goal.invariant_of-self
 invariant_of-self g c =
-    let k = c.self.invariant in
     let same = c.free_slot.ensures.finds.keeps.preserves.config in
-    record {
-      stored = record {
-        matches = c.free_slot.ensures.finds.keeps.matches;
-        rule = ap (λ (x : Config). x.protocol) same ∙ k.stored.rule;
-      };
-      room = as_long c.self.inside.room c.free_slot.new.room _ (k.room ∙ ap (λ (x : Config). x.page_bytes) (sym same));
-    }
+    record { room = as_long c.self.inside.room c.free_slot.new.room _ (c.self.invariant.room ∙ ap (λ (x : Config). x.page_bytes) (sym same)) }
 
 pub returns : goal.returns
 returns g c = rw (← c.self.view_is) (record {

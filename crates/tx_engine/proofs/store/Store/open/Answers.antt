@@ -2,7 +2,7 @@ use Rattle.std.proofs.Common.{sym, ap, ◌∙◌, rules, subst}
 use Rattle.tx_types.specs.declared.config.Shape.{Shape}
 use Rattle.version_index.specs.Images.{IsSoundImage}
 use Rattle.version_index.specs.Noted.{Noted}
-use Rattle.tx_engine.proofs.Mounted.{opened_matches}
+use Rattle.tx_engine.proofs.OfMount.Mounted.{opened_matches}
 use Rattle.tx_engine.proofs.store.Store.open.Goals as goal
 
 pub invariant_of-result : goal.invariant_of-result
@@ -13,13 +13,7 @@ invariant_of-result g c =
     (subst (λ q. IsSoundImage q c.args.config.logical (g.F.Flash.state c.args.flash).shape (g.F.Flash.state c.args.flash).image)
     (sym c.requires.rule) opened.sound)
     opened.tables opened.carries.shape opened.moment in
-    record {
-      stored = record {
-        matches = matches;
-        rule = ap (λ (n : Noted). n.config.protocol) opened.tables.noted_is ∙ c.requires.rule;
-      };
-      room = c.in-Ok.ensures ∙ ap (λ (s : Shape). s.page_bytes) (c.shape.ensures.shape ∙ sym opened.carries.shape ∙ matches.shape);
-    }
+    record { room = c.in-Ok.ensures ∙ ap (λ (s : Shape). s.page_bytes) (c.shape.ensures.shape ∙ sym opened.carries.shape ∙ matches.shape) }
 
 pub returns-in-Ok-recover : goal.returns-in-Ok-recover
 returns-in-Ok-recover g c =

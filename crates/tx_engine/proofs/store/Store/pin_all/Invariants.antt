@@ -1,9 +1,13 @@
 use Rattle.std.proofs.Common.{◌≡◌, map, take}
 use Rattle.tx_engine.specs.Naming.{with_pins}
 use Rattle.tx_engine.specs.OpenTable.{next_name}
+use Rattle.tx_engine.specs.Stored.{IsStored}
 use Rattle.tx_engine.proofs.store.Store.pin_all.Given as goal
 
 abbrev pub invariant-loop-at : goal.invariant-loop-at
 invariant-loop-at g l =
     let n = l.initial.self.noted in
-    l.self ≡ record l.initial.self { noted = record n { pins = with_pins n.pins (map (next_name n) (take l.at l.batch.entries)) } }
+    record {
+      pinned : l.self ≡ record l.initial.self { noted = record n { pins = with_pins n.pins (map (next_name n) (take l.at l.batch.entries)) } };
+      stored : IsStored g.F.Flash.state g.R.CommitRule.protocol l.self;
+    }

@@ -3,16 +3,16 @@ use Rattle.std.specs.Option.{option_map}
 use Rattle.collector.specs.Matches.{Matches}
 use Rattle.version_index.specs.Noted.{discarded_of}
 use Rattle.tx_engine.specs.Read.{current_place}
-use Rattle.tx_engine.proofs.Locating.{home_place, located, located_off, not_victim, nowhere, off_place, place_home}
-use Rattle.tx_engine.proofs.WrittenPages.{discard_known}
+use Rattle.tx_engine.proofs.OfTables.Locating.{home_place, located, located_off, not_victim, nowhere, off_place, place_home}
+use Rattle.tx_engine.proofs.OfTables.WrittenPages.{discard_known}
 use Rattle.tx_engine.proofs.store.Store.place_of.Goals as goal
 
 pub returns-then-discards : goal.returns-then-discards
 returns-then-discards g c =
     let s = g.F.Flash.state c.self.inside.flash in
     let d = c.self.inside in
-    let stored = c.self.invariant.stored in
-    let within = rw (← c.self.view_is) at c.requires in
+    let stored = rw (← c.self.view_is) at c.requires.stored in
+    let within = rw (← c.self.view_is) at c.requires.page in
     let notes = c.known_images_stand.ensures.notes s d.index d.blocks d.unsure stored.matches stored.rule in
     let array = c.known_images_stand.ensures.array s d.index d.blocks d.unsure stored.matches stored.rule in
     let discards : discarded_of d.index c.args.page ≡ true = sym c.if-discards.ensures in
@@ -26,7 +26,7 @@ pub returns-in-VictimErase : goal.returns-in-VictimErase
 returns-in-VictimErase g c =
     let s = g.F.Flash.state c.self.inside.flash in
     let d = c.self.inside in
-    let m = subst (Matches s d.index d.blocks) c.in-VictimErase.is c.self.invariant.stored.matches in
+    let m = subst (Matches s d.index d.blocks) c.in-VictimErase.is (rw (← c.self.view_is) at c.requires.stored).matches in
     let held : discarded_of d.index c.args.page ≡ false = sym c.if-discards.ensures in
     let off = located_off s d.index d.blocks c.in-VictimErase.block m c.args.page c.locate_off.result c.locate_off.ensures.lowest held
     c.locate_off.ensures.holds in
@@ -42,7 +42,7 @@ pub returns-in-Nothing : goal.returns-in-Nothing
 returns-in-Nothing g c =
     let s = g.F.Flash.state c.self.inside.flash in
     let d = c.self.inside in
-    let m = c.self.invariant.stored.matches in
+    let m = (rw (← c.self.view_is) at c.requires.stored).matches in
     let held : discarded_of d.index c.args.page ≡ false = sym c.if-discards.ensures in
     let place = place_home d.index c.args.page (option_map (λ at. at.0) c.locate.result) held c.locate.ensures.home in
     let home = located s d.index d.blocks d.unsure m c.args.page c.locate.result (not_victim d.unsure c.in-Nothing.is)

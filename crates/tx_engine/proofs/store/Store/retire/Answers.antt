@@ -1,27 +1,15 @@
 use Rattle.std.proofs.Common.{ap, ◌∙◌, sym}
 use Rattle.tx_types.specs.declared.config.Config.{Config}
-use Rattle.tx_engine.proofs.StoreCalls.{as_long}
+use Rattle.tx_engine.proofs.OfTables.StoreCalls.{as_long}
 use Rattle.tx_engine.proofs.store.Store.retire.Goals as goal
 
 pub retire_block-requires-clause-sure : goal.retire_block-requires-clause-sure
-retire_block-requires-clause-sure g c = record {
-  matches = c.self.invariant.stored.matches;
-  rule = c.self.invariant.stored.rule;
-  nothing = rw (← c.self.view_is) at c.requires.nothing;
-}
+retire_block-requires-clause-sure g c = rw (← c.self.view_is) at c.requires.sure
 
 pub invariant_of-self : goal.invariant_of-self
 invariant_of-self g c =
-    let k = c.self.invariant in
-    let keeps = c.retire_block.ensures.keeps.tables in
-    let same = keeps.preserves.config in
-    record {
-      stored = record {
-        matches = keeps.matches;
-        rule = ap (λ (x : Config). x.protocol) same ∙ k.stored.rule;
-      };
-      room = as_long c.self.inside.room c.retire_block.new.room _ (k.room ∙ ap (λ (x : Config). x.page_bytes) (sym same));
-    }
+    let same = c.retire_block.ensures.keeps.tables.preserves.config in
+    record { room = as_long c.self.inside.room c.retire_block.new.room _ (c.self.invariant.room ∙ ap (λ (x : Config). x.page_bytes) (sym same)) }
 
 pub returns : goal.returns
 returns g c = rw (← c.self.view_is) c.retire_block.ensures

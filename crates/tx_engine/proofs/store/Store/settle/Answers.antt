@@ -1,26 +1,17 @@
 use Rattle.std.proofs.Common.{ap, ◌∙◌, sym, rules}
 use Rattle.tx_types.specs.declared.config.Config.{Config}
-use Rattle.tx_engine.proofs.StoreCalls.{same_config, as_long}
+use Rattle.tx_engine.proofs.OfTables.StoreCalls.{same_config, as_long}
 use Rattle.tx_engine.proofs.store.Store.settle.Goals as goal
 
 pub settle-requires : goal.settle-requires
-settle-requires g c = record {
-  kept = record { matches = c.self.invariant.stored.matches; rule = c.self.invariant.stored.rule };
-  own = rw (← c.self.view_is) at c.requires.own;
-  room = search rules;
-}
+settle-requires g c =
+    let stored = rw (← c.self.view_is) at c.requires.stored in
+    record { kept = record { matches = stored.matches; rule = stored.rule }; own = rw (← c.self.view_is) at c.requires.own; room = search rules }
 
 pub invariant_of-self : goal.invariant_of-self
 invariant_of-self g c =
-    let k = c.self.invariant in
     let same = same_config _ _ c.settle.result c.settle.ensures in
-    record {
-      stored = record {
-        matches = c.settle.ensures.matches;
-        rule = ap (λ (x : Config). x.protocol) same ∙ k.stored.rule;
-      };
-      room = as_long c.self.inside.room c.settle.new.room _ (k.room ∙ ap (λ (x : Config). x.page_bytes) (sym same));
-    }
+    record { room = as_long c.self.inside.room c.settle.new.room _ (c.self.invariant.room ∙ ap (λ (x : Config). x.page_bytes) (sym same)) }
 
 pub returns : goal.returns
 returns g c = record {

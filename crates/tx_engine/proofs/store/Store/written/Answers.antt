@@ -2,7 +2,7 @@ use Rattle.std.proofs.Common.{◌≡◌, ◌<◌, ◌+◌, count_by, is_some, ma
 use Rattle.std.specs.List.{range_with_len}
 use Rattle.tx_types.specs.declared.config.Config.{Config}
 use Rattle.collector.specs.Known.{page_known}
-use Rattle.tx_engine.proofs.WrittenPages.{count_some, count_none, count_all}
+use Rattle.tx_engine.proofs.OfTables.WrittenPages.{count_some, count_none, count_all}
 use Rattle.tx_engine.proofs.store.Store.written.Goals as goal
 use Rattle.tx_engine.proofs.store.Store.written.Goals.{then-is_written, else-is_written}
 
@@ -10,7 +10,7 @@ pub loop-page-preserved : goal.loop-page-preserved
 loop-page-preserved g c =
     let n = c.args.self.now.noted in
     let s = g.F.Flash.state c.args.self.now.flash in
-    let stored = c.config-logical.ensures.stored in
+    let stored = c.requires.stored in
     let page = c.loop-page.page in
     let within : page < n.config.logical = subst (λ (k : Config). page < k.logical) c.config-logical.ensures.config c.loop-page-test.true in
     let notes = c.known_images_stand.ensures.notes s n c.args.self.now.table c.args.self.now.unsure stored.matches stored.rule in

@@ -1,0 +1,2 @@
+pub mod BlankNotes
+pub mod Cleanings

@@ -1,0 +1,6 @@
+pub mod EraseExits
+pub mod ErasedBlocks
+pub mod Emptying
+pub mod Exchange
+pub mod VictimCalls
+pub mod Victims

@@ -1,0 +1,2 @@
+pub mod RetireCalls
+pub mod RetireParts

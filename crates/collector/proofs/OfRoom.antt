@@ -1,0 +1,10 @@
+pub mod ClearRounds
+pub mod FoundSlots
+pub mod GoingCounts
+pub mod GoingOrder
+pub mod GoneRecords
+pub mod NothingGoes
+pub mod RoomCalls
+pub mod RoomMade
+pub mod Space
+pub mod NextNames

@@ -1,0 +1,10 @@
+pub mod BlockReadings
+pub mod Looked
+pub mod SettleCalls
+pub mod SettledBlocks
+pub mod SettledExits
+pub mod SettledImages
+pub mod OwnExits
+pub mod Programming
+pub mod DamagedNotes
+pub mod TableChanges

@@ -1,0 +1,4 @@
+pub mod CutsLeave
+pub mod DeviceMentions
+pub mod DevicesStand
+pub mod HeldAlways

@@ -1,0 +1,6 @@
+pub mod OpenChanges
+pub mod OpenList
+pub mod OpenNames
+pub mod OpenPages
+pub mod Owners
+pub mod PageMoves

@@ -1,0 +1,5 @@
+pub mod SettleExits
+pub mod Settlements
+pub mod SettledLists
+pub mod NextNoted
+pub mod NextSet

@@ -1,0 +1,10 @@
+pub mod Arrays
+pub mod Kept
+pub mod KeptDevices
+pub mod OpenOnes
+pub mod OtherFlash
+pub mod Noting
+pub mod Seen
+pub mod InDoubt
+pub mod ImageMoves
+pub mod ExitsThen

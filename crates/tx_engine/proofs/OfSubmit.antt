@@ -1,0 +1,3 @@
+pub mod Submitted
+pub mod Submitting
+pub mod RefusalSteps

@@ -1,0 +1,8 @@
+pub mod Breaking
+pub mod Leaving
+pub mod PageWrites
+pub mod RecordWrites
+pub mod WriteAfter
+pub mod WriteExits
+pub mod ProgramCalls
+pub mod Programs

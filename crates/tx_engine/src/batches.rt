@@ -1,0 +1,250 @@
+ghost use Rattle.std.specs.Prelude.{◌≡◌, ◌<◌, ◌≤◌, false, length, vec_capacity};
+ghost use Rattle.die_alloc.specs.BlockTable.{with_slot};
+ghost use Rattle.die_alloc.specs.NextSlot.{next_slot_in};
+ghost use Rattle.flash_model.specs.Firing.{loads_in};
+ghost use Rattle.flash_model.specs.Operations.{CanDo, fire};
+ghost use Rattle.version_index.specs.Noted.{programmed};
+ghost use Rattle.tx_engine.specs.BatchCalls.{CanCountAll, CanLoadAll, CanLoadJob, CanMove, CanNoteEach, CanNoteJob, CanWriteAll, ClearsRegisters, CountsAll, FiresStored, LoadsEach, LoadsJob, MovesAll, MovesFirst, NotesEach, WritesAll, finished_by, is_due_clear};
+ghost use Rattle.tx_engine.specs.Batches.{StepsAllDevice, chosen_in, jobs_of};
+ghost use Rattle.tx_engine.specs.Calls.{CanAdvance, IsReady};
+ghost use Rattle.tx_engine.specs.OpenTable.{opening_at};
+ghost use Rattle.tx_engine.specs.declared.jobs.TheConstants.{MOST_DIES};
+
+use crate::Device;
+use crate::jobs::Job;
+use crate::laws::{cuts_leave, devices_stand};
+use crate::openings::Openings;
+use crate::settling::{note_next, settle};
+use crate::step::{advance, count_next, is_due};
+use crate::store::Store;
+use crate::writing::next_record;
+use array_machine::{Fault, Moved, Progress};
+use collector::laws;
+use flash_model::{Broken, Flash, Wide, loads_come_in_order};
+use page_record::write_spare;
+use record_list::CommitRule;
+use tx_types::Slot;
+
+impl<F: Wide, R: CommitRule> Device<F, R> {
+    /// Open transactions go on together, the first ones in the order of their opening. First it becomes known what a broken
+    /// operation left. As many as are ready, and as there are dies with room, are written at once, each in a die of its own.
+    /// Where the first one is not ready, it takes a step by itself. After a fault only `live` and `close` are called.
+    pub fn step_all(&mut self) -> Result<Moved, Fault>
+        requires kept { self.old.dropped ≡ false }
+        ensures { StepsAllDevice F.state self.old self.new result }
+    {
+        devices_stand::<F, R>();
+        cuts_leave::<F, R>();
+        let Ok(()) = settle(&mut self.store, &mut self.openings) else {
+            self.dropped = true;
+            return Err(Fault);
+        };
+        let Ok(moved) = move_all(&mut self.store, &mut self.openings, &mut self.room.jobs) else {
+            self.dropped = true;
+            return Err(Fault);
+        };
+        Ok(moved)
+    }
+}
+
+/// Open transactions of a settled device go on together.
+fn move_all<F: Wide, R: CommitRule>(
+    store: &mut Store<F, R>,
+    openings: &mut Openings,
+    jobs: &mut Vec<Job>,
+) -> Result<Moved, Broken>
+    requires can { CanMove F.state R.protocol store.old openings.old }
+    requires room { MOST_DIES ≤ vec_capacity jobs.old }
+    ensures moves { MovesAll F.state store.old store.new openings.old openings.new result }
+    ensures room { vec_capacity jobs.old ≤ vec_capacity jobs.new }
+{
+    if openings.count() == 0 {
+        return Ok(Moved {
+            moved: 0,
+            finished: 0,
+        });
+    }
+    plan(store, openings, jobs);
+    if jobs.is_empty() {
+        return step_first(store, openings);
+    }
+    write_all(store, openings, jobs)?;
+    Ok(count_all(store, openings, jobs.len() as u32))
+}
+
+/// The programs of the first transactions that are ready, each in a die of its own.
+fn plan<F: Wide, R: CommitRule>(store: &mut Store<F, R>, openings: &Openings, jobs: &mut Vec<Job>)
+    requires ready { IsReady F.state R.protocol store.old openings.now }
+    requires room { MOST_DIES ≤ vec_capacity jobs.old }
+    ensures jobs { jobs.new.items ≡ jobs_of store.old.noted
+        (chosen_in store.old.noted store.old.table openings.now.all) }
+    ensures stays { store.new ≡ store.old }
+    ensures room { vec_capacity jobs.old ≤ vec_capacity jobs.new }
+{
+    jobs.clear();
+    for die in 0..store.dies() {
+        let at = jobs.len();
+        if at == openings.count() as usize || !is_ready(store, openings, at) {
+            return;
+        }
+        if let Some(slot) = store.slot_in(die) {
+            let rec = next_record(store, openings, at);
+            jobs.push(Job { slot, rec }).unwrap();
+        }
+    }
+}
+
+/// Whether the next page of the transaction at an index is to be written, and no record must go before.
+fn is_ready<F: Wide, R: CommitRule>(store: &Store<F, R>, openings: &Openings, at: usize) -> bool
+    requires ready { IsReady F.state R.protocol store.now openings.now }
+    requires at { at < length openings.now.all }
+    ensures { result ≡ is_due_clear store.now.noted (opening_at openings.now at) }
+{
+    if !is_due(openings, at) {
+        return false;
+    }
+    let name = openings.name(at, openings.done(at));
+    store.index().must_go(name.page, name.version).is_none()
+}
+
+/// The first open transaction of a settled device takes a step.
+fn step_first<F: Wide, R: CommitRule>(
+    store: &mut Store<F, R>,
+    openings: &mut Openings,
+) -> Result<Moved, Broken>
+    requires { CanAdvance F.state R.protocol store.old openings.old 0 }
+    ensures { MovesFirst F.state store.old store.new openings.old openings.new result }
+{
+    let progress = advance(store, openings, 0)?;
+    Ok(Moved {
+        moved: 1,
+        finished: finished(progress),
+    })
+}
+
+/// One where a transaction is done, else none.
+fn finished(progress: Progress) -> u32
+    ensures { result ≡ finished_by progress }
+{
+    match progress {
+        Progress::Done => 1,
+        Progress::Wrote { .. } => 0,
+    }
+}
+
+/// Writes the next page of each of the first transactions at once, and notes their records.
+fn write_all<F: Wide, R: CommitRule>(
+    store: &mut Store<F, R>,
+    openings: &mut Openings,
+    jobs: &[Job],
+) -> Result<(), Broken>
+    requires { CanWriteAll F.state R.protocol store.old openings.old jobs.now }
+    ensures { WritesAll F.state store.old store.new openings.old openings.new jobs.now result }
+{
+    laws::images_stand::<R>();
+    laws::noted_writes::<R>();
+    laws::arrays_stay::<R>();
+    load_all(store, openings, jobs);
+    store.fire()?;
+    note_all(store, openings, jobs);
+    Ok(())
+}
+
+/// Loads each of these programs.
+fn load_all<F: Wide, R: CommitRule>(store: &mut Store<F, R>, openings: &Openings, jobs: &[Job])
+    requires { CanLoadAll F.state store.old openings.now jobs.now }
+    ensures { LoadsEach F.state F.registers store.old store.new openings.now jobs.now }
+{
+    loads_come_in_order();
+    store.clear_registers();
+    for at in 0..jobs.len() {
+        store.load(jobs[at], openings.bytes(at, openings.done(at)));
+    }
+}
+
+/// Notes each of these records.
+fn note_all<F: Wide, R: CommitRule>(store: &mut Store<F, R>, openings: &mut Openings, jobs: &[Job])
+    requires { CanNoteEach store.old.noted store.old.table openings.old 0 jobs.now }
+    ensures { NotesEach store.old store.new openings.old openings.new jobs.now }
+{
+    for at in 0..jobs.len() {
+        store.note(jobs[at]);
+        note_next(openings, at);
+    }
+}
+
+/// So many of the first transactions, whose next pages are noted, go on without the flash.
+fn count_all<F: Wide, R: CommitRule>(
+    store: &mut Store<F, R>,
+    openings: &mut Openings,
+    moved: u32,
+) -> Moved
+    requires { CanCountAll F.state R.protocol store.old openings.old moved }
+    ensures { CountsAll F.state store.old store.new openings.old openings.new moved result }
+{
+    let mut gone = 0;
+    for turn in 0..moved {
+        let at = (turn - gone) as usize;
+        gone += finished(count_next(store, openings, at));
+    }
+    Moved {
+        moved,
+        finished: gone,
+    }
+}
+
+impl<F: Wide, R: CommitRule> Store<F, R> {
+    /// The number of dies.
+    fn dies(&self) -> u32
+        ensures { result ≡ (F.state self.now.flash).shape.dies }
+    {
+        self.flash.shape().dies
+    }
+
+    /// The slot of a die that is programmed next, if the die has room.
+    fn slot_in(&mut self, die: u32) -> Option<Slot>
+        requires { die < self.old.table.shape.dies }
+        ensures slot { result ≡ next_slot_in self.old.table die }
+        ensures stays { self.new ≡ self.old }
+    {
+        self.blocks.next_slot_in(die)
+    }
+
+    /// Empties all registers of the flash.
+    fn clear_registers(&mut self)
+        ensures { ClearsRegisters F.state F.registers self.old self.new }
+    {
+        self.flash.clear();
+    }
+
+    /// Loads the program of a record with its page's bytes.
+    fn load(&mut self, job: Job, bytes: &[u8])
+        requires { CanLoadJob F.state F.registers self.old job bytes.now }
+        ensures { LoadsJob F.state F.registers self.old self.new job bytes.now }
+    {
+        let mut spare_area = [0; 64];
+        write_spare(job.rec, self.index.config().protocol, &mut spare_area);
+        self.flash.load(job.slot, bytes, &spare_area);
+    }
+
+    /// Does all programs that are loaded.
+    fn fire(&mut self) -> Result<(), Broken>
+        requires { CanDo (F.state self.old.flash).shape (F.state self.old.flash).image
+            (fire (loads_in (F.registers self.old.flash))) }
+        ensures { FiresStored F.state F.registers self.old self.new result }
+    {
+        self.flash.fire()
+    }
+
+    /// Notes the record of a program that was done.
+    fn note(&mut self, job: Job)
+        requires { CanNoteJob self.old.noted self.old.table job }
+        ensures { self.new ≡ record self.old {
+          noted = programmed self.old.noted job.slot.0 job.rec;
+          table = with_slot self.old.table job.slot.0;
+        } }
+    {
+        self.index.note_program(job.slot, job.rec);
+        self.blocks.note_used(job.slot);
+    }
+}
