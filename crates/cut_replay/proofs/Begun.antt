@@ -22,17 +22,19 @@ use Rattle.cut_replay.specs.declared.session.Session.{Session}
 use Rattle.cut_replay.specs.declared.session.Session.TheVariants as session
 use Rattle.cut_replay.specs.declared.session.Ended.{Ended}
 use Rattle.cut_replay.proofs.Mountings.{mounted_stands, mounted_leaves, mounted_still}
-use Rattle.version_index.proofs.OneBreach.{sound_unbroken}
+use Rattle.version_index.proofs.OfTables.OneBreach.{sound_unbroken}
 use Rattle.cut_replay.proofs.MountingAgain.{mounts_none}
 use Rattle.cut_replay.proofs.Runs.{grew_none, least_none, spends_nothing, counts_later}
 
 -- at the opening point
-begun_point : {F R : Type 0} (state : F → FlashState) (its : Config) (flash : F) (s : Session F R) → Mounted state its flash s → (up : Bool) × (point_of state its s ≡ opening_point its up (moment_of (state flash)))
+begun_point : {F R : Type 0} (state : F → FlashState) (its : Config) (flash : F) (s : Session F R) → Mounted state its flash s → (up : Bool) ×
+    (point_of state its s ≡ opening_point its up (moment_of (state flash)))
 begun_point state its flash (session.Mounted s) h =
     (true, ap₂ (λ (m : ArrayState) (x : Moment). record { state = record { machine = m; up = true }; moment = x }) h.machine h.still.moment)
 begun_point state its flash (session.Unmounted new) h = (false, ap (λ (m : Moment). opening_point its false m) h.still.moment)
 
-begun_told : {F R : Type 0} (state : F → FlashState) (its : Config) (flash : F) (s : Session F R) → Mounted state its flash s → BothTell NoMoreToCome (state flash).told (state (flash_in s)).told
+begun_told : {F R : Type 0} (state : F → FlashState) (its : Config) (flash : F) (s : Session F R) → Mounted state its flash s →
+    BothTell NoMoreToCome (state flash).told (state (flash_in s)).told
 begun_told state its flash (session.Mounted s) h = h.still.told
 begun_told state its flash (session.Unmounted new) h = h.still.told
 
@@ -50,7 +52,8 @@ first_unbroken : (old new : FlashState) → old.live ≡ true → BeginsUnbroken
 first_unbroken old new on (inl off) h = cc
 first_unbroken old new on (inr steady) h = none_spent old.told new.told new.live steady.none h
 
-begun_faults : {F R : Type 0} (state : F → FlashState) (its : Config) (flash : F) (s : Session F R) → (state flash).live ≡ true → Mounted state its flash s → CountsBreaks [] (state flash) (state (flash_in s))
+begun_faults : {F R : Type 0} (state : F → FlashState) (its : Config) (flash : F) (s : Session F R) → (state flash).live ≡ true → Mounted state its flash s →
+    CountsBreaks [] (state flash) (state (flash_in s))
 begun_faults state its flash (session.Mounted s) on h = record {
   least = least_none (state flash).faults (state s.flash).faults h.still.later;
   quiet = λ unbroken all. h.quiet;
@@ -67,7 +70,8 @@ unfolding begun_point
 begun_up state its flash (session.Mounted s) h steady = refl
 begun_up state its flash (session.Unmounted new) h steady = absurd (none_spent (state flash).told (state new).told (state new).live steady.none h.spends)
 
-begun : {F R : Type 0} (state : F → FlashState) (its : Config) (flash : F) (s : Session F R) → (state flash).live ≡ true → Mounted state its flash s → IsSoundFlash its (state flash) → Begins state its (state flash) s
+begun : {F R : Type 0} (state : F → FlashState) (its : Config) (flash : F) (s : Session F R) → (state flash).live ≡ true → Mounted state its flash s →
+    IsSoundFlash its (state flash) → Begins state its (state flash) s
 begun state its flash s on h sound =
     let at = begun_point state its flash s h in
     record {
@@ -75,7 +79,8 @@ begun state its flash s on h sound =
       up = at.0;
       mounted = begun_up state its flash s h;
       point = at.1;
-      stands = mounted_stands state its flash (mentions_in its (moment_of (state flash))) false s (mounted_leaves state its flash s h) sound (λ page lt. omega arith);
+      stands = mounted_stands state its flash (mentions_in its (moment_of (state flash))) false s (mounted_leaves state its flash s h) sound
+          (λ page lt. omega arith);
       told = begun_told state its flash s h;
       faults = begun_faults state its flash s on h;
     }
@@ -84,7 +89,8 @@ begun state its flash s on h sound =
 abbrev Results : (F R : Type 0) → Type 0
 Results F R = Result (Session F R) (Ended F)
 
-pub begin_begins : {F R : Type 0} (state : F → FlashState) (its : Config) (flash : F) (result : Results F R) → (state flash).live ≡ true → IfOk result (Mounted state its flash) → IsSoundFlash its (state flash) →
+pub begin_begins : {F R : Type 0} (state : F → FlashState) (its : Config) (flash : F) (result : Results F R) → (state flash).live ≡ true →
+    IfOk result (Mounted state its flash) → IsSoundFlash its (state flash) →
     IfOk result (Begins state its (state flash))
 begin_begins state its flash (Ok s) on h sound = begun state its flash s on h sound
 begin_begins state its flash (Err e) on h sound = tt
@@ -94,7 +100,8 @@ same_told : (a : Option Told) → BothTell NoMoreToCome a a
 same_told None = tt
 same_told (Some x) = (omega arith, omega arith)
 
-pub dead_begins : {F : Type 0} (R : Type 0) (state : F → FlashState) (its : Config) (flash : F) → (state flash).live ≡ false → IsSoundFlash its (state flash) → Begins {R = R} state its (state flash) (session.Unmounted flash)
+pub dead_begins : {F : Type 0} (R : Type 0) (state : F → FlashState) (its : Config) (flash : F) → (state flash).live ≡ false → IsSoundFlash its (state flash) →
+    Begins {R = R} state its (state flash) (session.Unmounted flash)
 dead_begins R state its flash off sound = record {
   sound = sound;
   up = false;
@@ -106,7 +113,8 @@ dead_begins R state its flash off sound = record {
 }
 
 -- nothing was served, for want of memory
-nothing_served : {F : Type 0} (R : Type 0) (state : F → FlashState) (its : Config) (list : List Command) (flash new : F) (w : Watched) → IsSoundFlash its (state flash) → StaysQuiet (state flash) (state new) →
+nothing_served : {F : Type 0} (R : Type 0) (state : F → FlashState) (its : Config) (list : List Command) (flash new : F) (w : Watched) →
+    IsSoundFlash its (state flash) → StaysQuiet (state flash) (state new) →
     ServesSound its list (state flash) (state new) w w (Err failed.Memory)
 nothing_served R state its list flash new w sound still = (
   0,
@@ -125,13 +133,17 @@ nothing_served R state its list flash new w sound still = (
   }),
 )
 
-pub rooms_ended : {F : Type 0} (R : Type 0) (state : F → FlashState) (its : Config) (list : List Command) (flash : F) (w : Watched) → IsSoundFlash its (state flash) →
+pub rooms_ended : {F : Type 0} (R : Type 0) (state : F → FlashState) (its : Config) (list : List Command) (flash : F) (w : Watched) →
+    IsSoundFlash its (state flash) →
     ServesSound its list (state flash) (state flash) w w (Err failed.Memory)
-rooms_ended R state its list flash w sound = nothing_served R state its list flash flash w sound (record { still = record { moment = refl; shape = refl; later = omega arith; told = same_told (state flash).told; extras = refl }; quiet = refl })
+rooms_ended R state its list flash w sound = nothing_served R state its list flash flash w sound
+    (record { still = record { moment = refl; shape = refl; later = omega arith; told = same_told (state flash).told; extras = refl }; quiet = refl })
 
-pub begin_ended : {F : Type 0} (R : Type 0) (state : F → FlashState) (its : Config) (list : List Command) (flash new : F) (why : ServeError) (w : Watched) → IsSoundFlash its (state flash) → Unmounted state its flash new why →
+pub begin_ended : {F : Type 0} (R : Type 0) (state : F → FlashState) (its : Config) (list : List Command) (flash new : F) (why : ServeError) (w : Watched) →
+    IsSoundFlash its (state flash) → Unmounted state its flash new why →
     ServesSound its list (state flash) (state new) w w (Err why)
-begin_ended R state its list flash new (failed.Unsound law slot) w sound h = absurd (sound_unbroken its.protocol its.logical (shape_of its) (state flash).image (record { law = law; slot = slot }) sound h.1)
+begin_ended R state its list flash new (failed.Unsound law slot) w sound h = absurd
+    (sound_unbroken its.protocol its.logical (shape_of its) (state flash).image (record { law = law; slot = slot }) sound h.1)
 begin_ended R state its list flash new failed.Memory w sound h = nothing_served R state its list flash new w sound h
 
 -- the shape of the flash of a session, and of the flash that comes back
@@ -156,7 +168,8 @@ begun_extras state its flash (Ok s) h = (mounted_still state its flash s (mounte
 begun_extras state its flash (Err e) h = tt
 
 -- a live flash was mounted, and another one stays
-pub begun_first : {F R : Type 0} (state : F → FlashState) (its : Config) (flash : F) (result : Results F R) → (state flash).live ≡ true → IfOk result (Mounted state its flash) →
+pub begun_first : {F R : Type 0} (state : F → FlashState) (its : Config) (flash : F) (result : Results F R) → (state flash).live ≡ true →
+    IfOk result (Mounted state its flash) →
     IfOk result (MountsFirst state its flash)
 begun_first state its flash (Ok s) on h = subst (λ b. MatchBool b (Mounted state its flash s) (s ≡ session.Unmounted flash)) (sym on) h
 begun_first state its flash (Err e) on h = tt
@@ -167,7 +180,8 @@ dead_first {F = F} R state its flash off =
     let s : Session F R = session.Unmounted flash in
     subst (λ b. MatchBool b (Mounted state its flash s) (s ≡ session.Unmounted flash)) (sym off) refl
 
-pub begin_faults : {F R : Type 0} (state : F → FlashState) (its : Config) (flash : F) (result : Results F R) → (state flash).live ≡ true → IfOk result (Mounted state its flash) →
+pub begin_faults : {F R : Type 0} (state : F → FlashState) (its : Config) (flash : F) (result : Results F R) → (state flash).live ≡ true →
+    IfOk result (Mounted state its flash) →
     IfOk result (λ s. CountsBreaks [] (state flash) (state (flash_in s)))
 begin_faults state its flash (Ok s) on h = begun_faults state its flash s on h
 begin_faults state its flash (Err e) on h = tt
@@ -182,7 +196,8 @@ ended_as : (init final : FlashState) (why : ServeError) → StaysQuiet init fina
 ended_as init final (failed.Unsound law slot) still = counts_later [] init init final (none_counted init) still.quiet
 ended_as init final failed.Memory still = tt
 
-pub unsound_ended : (init final : FlashState) (list : List Command) (w : Watched) (why : ServeError) → StaysQuiet init final → ServesUnsound list init final w w (Err why)
+pub unsound_ended : (init final : FlashState) (list : List Command) (w : Watched) (why : ServeError) → StaysQuiet init final →
+    ServesUnsound list init final w w (Err why)
 unsound_ended init final list w why still = record {
   told = 0;
   replies = [];
@@ -196,20 +211,33 @@ unsound_ended init final list w why still = record {
 
 pub unsound_unserved : (init : FlashState) (list : List Command) (w : Watched) → ServesUnsound list init init w w (Err failed.Memory)
 unsound_unserved init list w =
-    unsound_ended init init list w failed.Memory (record { still = record { moment = refl; shape = refl; later = omega arith; told = same_told init.told; extras = refl }; quiet = refl })
+    unsound_ended init init list w failed.Memory (record {
+      still = record {
+        moment = refl;
+        shape = refl;
+        later = omega arith;
+        told = same_told init.told;
+        extras = refl;
+      };
+      quiet = refl;
+    })
 
-unmounted_quiet : {F : Type 0} (state : F → FlashState) (its : Config) (flash new : F) (why : ServeError) → Unmounted state its flash new why → StaysQuiet (state flash) (state new)
+unmounted_quiet : {F : Type 0} (state : F → FlashState) (its : Config) (flash new : F) (why : ServeError) → Unmounted state its flash new why →
+    StaysQuiet (state flash) (state new)
 unmounted_quiet state its flash new (failed.Unsound law slot) h = h.0
 unmounted_quiet state its flash new failed.Memory h = h
 
-pub begin_unsound : {F : Type 0} (state : F → FlashState) (its : Config) (list : List Command) (flash new : F) (why : ServeError) (w : Watched) → Unmounted state its flash new why →
+pub begin_unsound : {F : Type 0} (state : F → FlashState) (its : Config) (list : List Command) (flash new : F) (why : ServeError) (w : Watched) →
+    Unmounted state its flash new why →
     ServesUnsound list (state flash) (state new) w w (Err why)
 begin_unsound state its list flash new why w h = unsound_ended (state flash) (state new) list w why (unmounted_quiet state its flash new why h)
 
-pub begin_shape : {F : Type 0} (state : F → FlashState) (its : Config) (flash new : F) (why : ServeError) → Unmounted state its flash new why → (state new).shape ≡ (state flash).shape
+pub begin_shape : {F : Type 0} (state : F → FlashState) (its : Config) (flash new : F) (why : ServeError) → Unmounted state its flash new why →
+    (state new).shape ≡ (state flash).shape
 begin_shape state its flash new (failed.Unsound law slot) h = h.0.still.shape
 begin_shape state its flash new failed.Memory h = h.still.shape
 
-pub begin_extras : {F : Type 0} (state : F → FlashState) (its : Config) (flash new : F) (why : ServeError) → Unmounted state its flash new why → (state new).extras ≡ (state flash).extras
+pub begin_extras : {F : Type 0} (state : F → FlashState) (its : Config) (flash new : F) (why : ServeError) → Unmounted state its flash new why →
+    (state new).extras ≡ (state flash).extras
 begin_extras state its flash new (failed.Unsound law slot) h = h.0.still.extras
 begin_extras state its flash new failed.Memory h = h.still.extras

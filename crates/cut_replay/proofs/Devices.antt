@@ -14,13 +14,13 @@ use Rattle.tx_engine.specs.Exits.{Exits, VersionsTell}
 use Rattle.tx_engine.specs.Naming.{is_spent}
 use Rattle.tx_engine.specs.Submit.{is_of}
 use Rattle.tx_engine.specs.Standing.{Standing, limits_of}
-use Rattle.tx_engine.proofs.Seen.{exits_seen}
+use Rattle.tx_engine.proofs.OfStanding.Seen.{exits_seen}
 use Rattle.host_protocol.specs.declared.command.Command.{Command}
 use Rattle.host_protocol.specs.declared.reply.Reply.{Reply}
 use Rattle.collector.specs.declared.unsure.Unsure.TheVariants as unsure
 use Rattle.cut_replay.specs.Run.{DoesCommand, seen_after, is_break, is_opened, writes_in}
 use Rattle.cut_replay.specs.FlashRun.{Tells, is_fault, is_still}
-use Rattle.cut_replay.specs.Bounds.{is_cut}
+use Rattle.cut_replay.specs.Bounds.{is_lost}
 use Rattle.tx_engine.specs.Always.{IsSeen, HoldsAlways}
 use Rattle.cut_replay.specs.Mounted.{point_at, IsCachedAs, IsCached, MayHaveCut, ServesHere}
 
@@ -51,15 +51,19 @@ cached_stays_so old new same tell e h =
       }
     ]
 
-pub cached_stays : {F : Type 0} (old new : Standing F) (entries : List CachedPage) → new.config ≡ old.config → VersionsTell old new → IsCached old entries → IsCached new entries
+pub cached_stays : {F : Type 0} (old new : Standing F) (entries : List CachedPage) → new.config ≡ old.config → VersionsTell old new → IsCached old entries →
+    IsCached new entries
 cached_stays old new entries same tell h = All-weaker (IsCachedAs old) (IsCachedAs new) (cached_stays_so old new same tell) entries h
 
 -- what a command does that is one call which may settle, write and collect
 pub exits_serve : {F : Type 0} (state : F → FlashState) (protocol : Protocol) (c : Command) (old new : Standing F) (r : Reply) (broken : Bool) →
-    HoldsAlways state protocol old → HoldsAlways state protocol new → Exits state old new broken → is_break r ≡ broken → is_fault r ≡ broken → is_cut r ≡ false →
-    DoesCommand (limits_of old.config) (is_spent old.noted.mentions) c old.machine r new.machine → (is_still c ≡ true → moment_of (state new.flash) ≡ moment_of (state old.flash)) →
+    HoldsAlways state protocol old → HoldsAlways state protocol new → Exits state old new broken → is_break r ≡ broken → is_fault r ≡ broken →
+    is_lost r ≡ false →
+    DoesCommand (limits_of old.config) (is_spent old.noted.mentions) c old.machine r new.machine →
+    (is_still c ≡ true → moment_of (state new.flash) ≡ moment_of (state old.flash)) →
     ((faulted : Bool) → (faulted ≡ false → old.unsure ≡ unsure.Nothing) → Tells old.config faulted (point_at state old) r (point_at state new)) →
-    (old.unsure ≡ unsure.Nothing → is_fault r ≡ false → new.unsure ≡ unsure.Nothing) → (is_fault r ≡ true → MayHaveCut state c old new) → ServesHere state c old new r
+    (old.unsure ≡ unsure.Nothing → is_fault r ≡ false → new.unsure ≡ unsure.Nothing) → (is_fault r ≡ true → MayHaveCut state c old new) →
+    ServesHere state c old new r
 exits_serve state protocol c old new r broken was is exits breaks faults whole does still tells sure cut = record {
   config = exits.tables.config;
   does = does;

@@ -35,7 +35,11 @@ last_serves state old new tag r last h = record {
   sure = h.sure;
   seen = h.seen;
   versions = h.versions;
-  cut = λ fault. record { may = tt; leaves = at_last tag old.machine (idle (array_in new.config.protocol new.config.logical (state new.flash).image)) (h.cut fault).leaves };
+  cut = λ fault. record {
+    may = tt;
+    leaves = at_last tag old.machine (idle (array_in new.config.protocol new.config.logical (state new.flash).image))
+        (h.cut fault).leaves;
+  };
   whole = h.whole;
 }
 
@@ -52,19 +56,33 @@ versions_then old mid new same first second page lt = elim (first page lt) [
   ]
 ]
 
-finish_tells : (its : Config) (faulted : Bool) (old new : Point) (tag : ℕ) (r : Reply) (result : Result Progress StepError) → r ≡ step_reply tag result → Tells its faulted old r new
+finish_tells : (its : Config) (faulted : Bool) (old new : Point) (tag : ℕ) (r : Reply) (result : Result Progress StepError) → r ≡ step_reply tag result →
+    Tells its faulted old r new
 finish_tells its faulted old new tag r result told = subst (λ (q : Reply). Tells its faulted old q new) (sym told) (step_tells its faulted old new tag result)
 
 pub wrote_serves : {F : Type 0} (state : F → FlashState) (old mid new : Standing F) (own tag done all : ℕ) (r : Reply) →
-    ServesHere state (command.Step tag) old mid (reply.Wrote own done all) → ServesHere state (command.Finish tag) mid new r → ServesHere state (command.Finish tag) old new r
+    ServesHere state (command.Step tag) old mid (reply.Wrote own done all) → ServesHere state (command.Finish tag) mid new r →
+    ServesHere state (command.Finish tag) old new r
 wrote_serves state old mid new own tag done all r first rest =
     let told = told_wrote own tag done all first.does.0 first.does.2 in
     let w = step_writes old.machine mid.machine own tag done all first.does.0 first.does.1 first.does.2 in
     record {
       config = rest.config ∙ first.config;
-      does = (mid.machine ∷ rest.does.0, rest.does.1, (done, all, subst (λ (x : Result Progress StepError). Steps old.machine mid.machine tag x) told first.does.1, rest.does.2), rest.does.3);
+      does = (
+        mid.machine ∷ rest.does.0,
+        rest.does.1,
+        (
+          done,
+          all,
+          subst (λ (x : Result Progress StepError). Steps old.machine mid.machine tag x) told
+              first.does.1,
+          rest.does.2,
+        ),
+        rest.does.3,
+      );
       moves = record {
-        moves = Moves-then (shape_of old.config) (moment_of (state old.flash)) (moment_of (state mid.flash)) (moment_of (state new.flash)) (is_break r) first.moves.moves
+        moves = Moves-then (shape_of old.config) (moment_of (state old.flash)) (moment_of (state mid.flash)) (moment_of (state new.flash))
+            (is_break r) first.moves.moves
             (subst (λ (c : Config). Moves (shape_of c) (moment_of (state mid.flash)) (is_break r) (moment_of (state new.flash))) first.config rest.moves.moves);
         still = λ still. cc;
       };
@@ -75,13 +93,15 @@ wrote_serves state old mid new own tag done all r first rest =
       versions = versions_then old mid new first.config first.versions rest.versions;
       cut = λ fault. record {
         may = tt;
-        leaves = cut_before w.0 old.machine mid.machine (idle (array_in new.config.protocol new.config.logical (state new.flash).image)) tag w.1 w.2 (rest.cut fault).leaves;
+        leaves = cut_before w.0 old.machine mid.machine (idle (array_in new.config.protocol new.config.logical (state new.flash).image)) tag w.1 w.2
+            (rest.cut fault).leaves;
       };
       whole = rest.whole;
     }
 
 -- and a step of it has a page less to write
-pub step_fewer : {F : Type 0} (state : F → FlashState) (old new : Standing F) (own tag done all : ℕ) → ServesHere state (command.Step tag) old new (reply.Wrote own done all) →
+pub step_fewer : {F : Type 0} (state : F → FlashState) (old new : Standing F) (own tag done all : ℕ) →
+    ServesHere state (command.Step tag) old new (reply.Wrote own done all) →
     pages_left tag new.machine < pages_left tag old.machine
 step_fewer state old new own tag done all h =
     let w = step_writes old.machine new.machine own tag done all h.does.0 h.does.1 h.does.2 in (fewer_left old.machine new.machine w.0 tag w.1 w.2).0

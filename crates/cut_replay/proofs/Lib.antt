@@ -7,7 +7,9 @@ pub mod Rereading
 pub mod FinishCalls
 pub mod Spending
 pub mod Mountings
+pub mod Losing
 pub mod Followed
+pub mod Together
 pub mod Powering
 pub mod Lifted
 pub mod Arming

@@ -1,5 +1,5 @@
--- After a cut the device is mounted again, or a fault more was counted.
-use Rattle.std.proofs.Common.{◌≡◌, ℕ, ◌+◌, ◌≤◌, Bool, List, [], ◌∷◌, ◌++◌, refl, ap, ◌∙◌, subst, inl, inr, arith}
+-- After a cut or a drop the device is mounted again, or a fault more was counted.
+use Rattle.std.proofs.Common.{◌≡◌, ℕ, ◌+◌, ◌≤◌, Bool, true, List, [], ◌∷◌, ◌++◌, refl, ap, ◌∙◌, subst, inl, inr, arith}
 use Rattle.std.specs.Prelude.{count_by, MatchBool, if◌then◌else◌}
 use Rattle.std.proofs.lemmas.Bool.{cases_Bool}
 use Rattle.std.proofs.lemmas.List.Sums.{sum_by_push}
@@ -8,11 +8,11 @@ use Rattle.flash_model.specs.Flash.{FlashState, counted_by}
 use Rattle.flash_model.specs.Calls.{Rose}
 use Rattle.flash_model.specs.Operations.{moment_of}
 use Rattle.host_protocol.specs.declared.reply.Reply.{Reply}
-use Rattle.host_protocol.specs.declared.reply.Reply.TheVariants as reply
 use Rattle.cut_replay.specs.Run.{is_break}
 use Rattle.cut_replay.specs.FlashRun.{Point, opening_point, last_state}
-use Rattle.cut_replay.specs.Bounds.{CountsBreak}
+use Rattle.cut_replay.specs.Bounds.{is_lost, CountsBreak}
 use Rattle.cut_replay.specs.MountedAgain.{IsMountedAgain, MountsAfter, FailedMounts, CountsMounts}
+use Rattle.cut_replay.proofs.Losing.{lost_breaks}
 use Rattle.cut_replay.proofs.Runs.{last_point}
 
 -- one command more of a run
@@ -27,7 +27,7 @@ failed_same old (s ∷ rs) (q ∷ ps) n r p (inr h) again =
     inr (h.0, (h.1.0, h.1.1, failed_same q rs ps h.1.0 r p h.1.2 again))
 
 failed_more : (old : Point) (rs : List Reply) (ps : List Point) (n : ℕ) (r : Reply) (p : Point) →
-    FailedMounts old rs ps n → r ≡ reply.Cut → FailedMounts old (rs ++ r ∷ []) (ps ++ p ∷ []) (n + 1)
+    FailedMounts old rs ps n → is_lost r ≡ true → FailedMounts old (rs ++ r ∷ []) (ps ++ p ∷ []) (n + 1)
 failed_more old [] [] n r p h cut = inr (cut, (n, refl, h))
 failed_more old [] (q ∷ ps) n r p h cut = absurd h
 failed_more old (s ∷ rs) [] n r p h cut = absurd h
@@ -54,10 +54,10 @@ breaks_more rs r failed a b d h one = elim (cases_Bool (is_break r)) [
 ]
 
 twice_more : (rs : List Reply) (r : Reply) (failed a b d : ℕ) → counted_by (count_by is_break rs + failed) a ≤ b →
-    r ≡ reply.Cut → counted_by 2 b ≤ d → counted_by (count_by is_break (rs ++ r ∷ []) + (failed + 1)) a ≤ d
-twice_more rs r failed a b d h cut twice =
+    is_lost r ≡ true → counted_by 2 b ≤ d → counted_by (count_by is_break (rs ++ r ∷ []) + (failed + 1)) a ≤ d
+twice_more rs r failed a b d h lost twice =
     let more : count_by is_break (rs ++ r ∷ []) ≡ count_by is_break rs + 1 =
-    breaks_push rs r ∙ ap (λ (x : Bool). count_by is_break rs + (if x then 1 else 0)) (ap is_break cut) in omega (arith, h, twice, more)
+    breaks_push rs r ∙ ap (λ (x : Bool). count_by is_break rs + (if x then 1 else 0)) (lost_breaks r lost) in omega (arith, h, twice, more)
 
 pub mounts_none : (its : Config) (up : Bool) (old new : FlashState) → old.faults ≤ new.faults → CountsMounts its up [] [] old new
 mounts_none its up old new later = record { failed = 0; mounts = refl; faults = omega (arith, later) }

@@ -10,7 +10,7 @@ use Rattle.version_index.specs.Noted.{Noted}
 use Rattle.tx_engine.specs.ArrayState.{ArrayState, idle}
 use Rattle.tx_engine.specs.Standing.{Standing}
 use Rattle.cut_replay.specs.FlashRun.{IsPoint}
-use Rattle.tx_engine.proofs.Seen.{opened_seen}
+use Rattle.tx_engine.proofs.OfStanding.Seen.{opened_seen}
 use Rattle.tx_engine.specs.Always.{IsSeen}
 use Rattle.cut_replay.specs.Mounted.{MomentStays}
 use Rattle.cut_replay.specs.Sessions.{point_of, flash_in, IsSoundFlash, StandsAt, MountsIn, Mounted}
@@ -33,20 +33,24 @@ mounted_machine state its flash (session.Mounted s) h = h.machine
 mounted_machine state its flash (session.Unmounted new) h = ap (λ (m : Moment). idle (array_in its.protocol its.logical m.image)) h.moment
 
 -- and its moment
-pub mounted_still : {F R : Type 0} (state : F → FlashState) (its : Config) (flash : F) (s : Session F R) → Leaves state its flash s → MomentStays (state flash) (state (flash_in s))
+pub mounted_still : {F R : Type 0} (state : F → FlashState) (its : Config) (flash : F) (s : Session F R) → Leaves state its flash s →
+    MomentStays (state flash) (state (flash_in s))
 mounted_still state its flash (session.Mounted s) h = h.still
 mounted_still state its flash (session.Unmounted new) h = h
 
-pub mounted_moment : {F R : Type 0} (state : F → FlashState) (its : Config) (flash : F) (s : Session F R) → Leaves state its flash s → (point_of state its s).moment ≡ moment_of (state flash)
+pub mounted_moment : {F R : Type 0} (state : F → FlashState) (its : Config) (flash : F) (s : Session F R) → Leaves state its flash s →
+    (point_of state its s).moment ≡ moment_of (state flash)
 mounted_moment state its flash (session.Mounted s) h = h.still.moment
 mounted_moment state its flash (session.Unmounted new) h = h.moment
 
-pub mounted_point : {F R : Type 0} (state : F → FlashState) (its : Config) (flash : F) (s : Session F R) → Leaves state its flash s → IsSoundFlash its (state flash) → IsPoint its (point_of state its s)
+pub mounted_point : {F R : Type 0} (state : F → FlashState) (its : Config) (flash : F) (s : Session F R) → Leaves state its flash s →
+    IsSoundFlash its (state flash) → IsPoint its (point_of state its s)
 mounted_point state its flash s h sound =
     let moment = mounted_moment state its flash s h in
     record {
       sound = subst (λ (m : Moment). IsSoundImage its.protocol its.logical (shape_of its) m.image) (sym moment) sound;
-      array = inl (ap (λ (m : Moment). array_in its.protocol its.logical m.image) moment ∙ ap (λ (a : ArrayState). a.pages) (sym (mounted_machine state its flash s h)));
+      array = inl (ap (λ (m : Moment). array_in its.protocol its.logical m.image) moment ∙
+          ap (λ (a : ArrayState). a.pages) (sym (mounted_machine state its flash s h)));
     }
 
 -- each page is mentioned as the image mentions it
@@ -56,9 +60,14 @@ device_seen state its flash seen s h most =
     opened_seen seen (records_in its.protocol (state flash).image) its.logical s (ap (λ (n : Noted). n.mentions) h.tables.noted_is) h.namings
     (λ page ge. h.always.beyond page (subst (λ (c : Config). c.logical ≤ page) (sym h.config) ge)) most
 
-pub mounted_stands : {F R : Type 0} (state : F → FlashState) (its : Config) (flash : F) (seen : ℕ → ℕ) (faulted : Bool) (s : Session F R) → Leaves state its flash s → IsSoundFlash its (state flash) →
+pub mounted_stands : {F R : Type 0} (state : F → FlashState) (its : Config) (flash : F) (seen : ℕ → ℕ) (faulted : Bool) (s : Session F R) →
+    Leaves state its flash s → IsSoundFlash its (state flash) →
     ((page : ℕ) → page < its.logical → mention (records_in its.protocol (state flash).image) page ≤ seen page) → StandsAt state its seen faulted s
-mounted_stands state its flash seen faulted (session.Mounted s) h sound most = record { sure = λ whole. h.unsure; mentions = device_seen state its flash seen s h most }
+mounted_stands state its flash seen faulted (session.Mounted s) h sound most = record {
+  sure = λ whole. h.unsure;
+  mentions =
+      device_seen state its flash seen s h most;
+}
 mounted_stands state its flash seen faulted (session.Unmounted new) h sound most = record {
   sound = subst (λ (m : Moment). IsSoundImage its.protocol its.logical (shape_of its) m.image) (sym h.moment) sound;
   mentions = λ page lt. subst (λ (m : Moment). mention (records_in its.protocol m.image) page ≤ seen page) (sym h.moment) (most page lt);

@@ -42,7 +42,8 @@ powered_quiet old on new turned moment carries = record {
 pub powered_live : (old on : FlashState) → TurnsOn old on → on.live ≡ true
 powered_live old on turned = ap (λ (s : FlashState). s.live) turned
 
-pub powered_mounts : {F : Type 0} (state : F → FlashState) (its : Config) (protocol : Protocol) (old on : F) (s : Standing F) → its.protocol ≡ protocol → TurnsOn (state old) (state on) →
+pub powered_mounts : {F : Type 0} (state : F → FlashState) (its : Config) (protocol : Protocol) (old on : F) (s : Standing F) → its.protocol ≡ protocol →
+    TurnsOn (state old) (state on) →
     Mounts state on its s → HoldsAlways state protocol s → MountsIn state its old s
 powered_mounts state its protocol old on s rule turned mounts always =
     let image : (state on).image ≡ (state old).image = ap (λ (x : FlashState). x.image) turned in
@@ -60,20 +61,24 @@ powered_mounts state its protocol old on s rule turned mounts always =
     }
 
 -- a mount that met a fault
-pub powered_faults : {F : Type 0} (state : F → FlashState) (its : Config) (old on new : F) → TurnsOn (state old) (state on) → FailsToMount state on its new mount.Fault → MeetsFault (state old) (state new)
+pub powered_faults : {F : Type 0} (state : F → FlashState) (its : Config) (old on new : F) → TurnsOn (state old) (state on) →
+    FailsToMount state on its new mount.Fault → MeetsFault (state old) (state new)
 powered_faults state its old on new turned fails = record {
   still = powered_still (state old) (state on) (state new) true turned fails.0 fails.1;
   rose = subst (λ (s : FlashState). Rose s.faults (state new).faults) turned fails.1.cause;
-  spends = subst (λ (s : FlashState). BothTell (Spends (state new).live) s.told (state new).told) turned (fails.1.spends (powered_live (state old) (state on) turned));
+  spends = subst (λ (s : FlashState). BothTell (Spends (state new).live) s.told (state new).told) turned
+      (fails.1.spends (powered_live (state old) (state on) turned));
 }
 
 -- and one that found the image unsound, or no memory
-pub powered_unsound : {F : Type 0} (state : F → FlashState) (its : Config) (old on new : F) (law : ℕ) (slot : Slot) → TurnsOn (state old) (state on) → FailsToMount state on its new (mount.Unsound law slot) →
+pub powered_unsound : {F : Type 0} (state : F → FlashState) (its : Config) (old on new : F) (law : ℕ) (slot : Slot) → TurnsOn (state old) (state on) →
+    FailsToMount state on its new (mount.Unsound law slot) →
     Unmounted state its old new (failed.Unsound law slot)
 powered_unsound state its old on new law slot turned fails = (
   powered_quiet (state old) (state on) (state new) turned fails.0 fails.1,
   subst (λ (s : FlashState). IsLeastImageBreach its.protocol its.logical (shape_of its) s.image (record { law = law; slot = slot })) turned fails.2,
 )
 
-pub powered_full : {F : Type 0} (state : F → FlashState) (its : Config) (old on new : F) → TurnsOn (state old) (state on) → FailsToMount state on its new mount.Memory → Unmounted state its old new failed.Memory
+pub powered_full : {F : Type 0} (state : F → FlashState) (its : Config) (old on new : F) → TurnsOn (state old) (state on) →
+    FailsToMount state on its new mount.Memory → Unmounted state its old new failed.Memory
 powered_full state its old on new turned fails = powered_quiet (state old) (state on) (state new) turned fails.0 fails.1

@@ -1,5 +1,6 @@
 -- A session that has served the first commands of a list.
-use Rattle.std.proofs.Common.{◌≡◌, ℕ, ◌+◌, ◌<◌, ◌≤◌, Bool, true, false, List, [], ◌∷◌, ◌++◌, length, take, Option, Some, None, Result, Ok, Err, refl, sym, ap, ◌∙◌, subst, inl, inr, arith, get_or}
+use Rattle.std.proofs.Common.{◌≡◌, ℕ, ◌+◌, ◌<◌, ◌≤◌, Bool, true, false, List, [], ◌∷◌, ◌++◌, length, take, Option, Some, None, Result, Ok, Err, refl, sym, ap}
+use Rattle.std.proofs.Common.{◌∙◌, subst, inl, inr, arith, get_or}
 use Rattle.std.specs.Prelude.{IfSome, OnOk, OnErr}
 use Rattle.std.specs.Prelude.{map}
 use Rattle.std.specs.List.{AllZip}
@@ -18,7 +19,6 @@ use Rattle.flash_model.specs.Operations.{Moment, moment_of}
 use Rattle.version_index.specs.Images.{IsSoundImage, IsLeastImageBreach}
 use Rattle.host_protocol.specs.declared.command.Command.{Command}
 use Rattle.host_protocol.specs.declared.reply.Reply.{Reply}
-use Rattle.host_protocol.specs.declared.reply.Reply.TheVariants as reply
 use Rattle.host_protocol.specs.Replies.{text_of}
 use Rattle.cut_replay.specs.Run.{RunState, seen_after}
 use Rattle.cut_replay.specs.FlashRun.{Point, IsPoint, FlashRun, ServesFlash, opening_point, opening_state, mentions_in, last_moment, last_state}
@@ -26,15 +26,19 @@ use Rattle.cut_replay.specs.Watching.{ToldReply, Grew, text_of_all, replies_told
 use Rattle.cut_replay.specs.Bounds.{SpendsTold, LastIsSet, CountsBreak, CountsBreaks}
 use Rattle.cut_replay.specs.MountedAgain.{MountsAfter, CountsMounts}
 use Rattle.cut_replay.specs.Served.{Watched, ServesRun, ServesSound, ServesUnsound, CountsTold, RefusesUnsound}
-use Rattle.cut_replay.specs.Sessions.{flash_in, point_of, Fits, IsSoundFlash, StandsAt, ServesIn, ServesSession, EndsServing, EndsFor, EndsForMemory, Refuses, IsSpentBy, IsSoundOrSame, RepliesUnmounted}
+use Rattle.cut_replay.specs.Sessions.{flash_in, point_of, Fits, IsSoundFlash, StandsAt, ServesIn, ServesSession, EndsServing, EndsFor, EndsForMemory, Refuses}
+use Rattle.cut_replay.specs.Sessions.{IsSpentBy, IsSoundOrSame, RepliesUnmounted}
 use Rattle.cut_replay.specs.Beginning.{Begins}
 use Rattle.cut_replay.specs.declared.serving.ServeError.{ServeError}
 use Rattle.cut_replay.specs.declared.serving.ServeError.TheVariants as failed
 use Rattle.cut_replay.specs.declared.session.Session.{Session}
 use Rattle.cut_replay.specs.declared.session.Session.TheVariants as session
-use Rattle.version_index.proofs.OneBreach.{sound_unbroken}
+use Rattle.version_index.proofs.OfTables.OneBreach.{sound_unbroken}
 use Rattle.cut_replay.proofs.MountingAgain.{mounts_more, mounts_later, mounts_same, last_state_is}
-use Rattle.cut_replay.proofs.Runs.{last_point, seen_through, faulted_through, run_more, last_more, seen_more, faulted_more, last_moment_is, run_lengths, grew_none, grew_more, text_more, told_more, spends_nothing, spends_more, spends_later, counts_more, counts_later, last_sets, none_sets}
+use Rattle.cut_replay.proofs.Losing.{lost_counts}
+use Rattle.cut_replay.proofs.Runs.{last_point, seen_through, faulted_through, run_more, last_more, seen_more, faulted_more, last_moment_is, run_lengths}
+use Rattle.cut_replay.proofs.Runs.{grew_none, grew_more, text_more, told_more, spends_nothing, spends_more, spends_later, counts_more, counts_later, last_sets}
+use Rattle.cut_replay.proofs.Runs.{none_sets}
 
 -- the moment of a session is that of its flash
 pub point_moment : {F R : Type 0} (state : F → FlashState) (its : Config) (s : Session F R) → (point_of state its s).moment ≡ moment_of (state (flash_in s))
@@ -42,7 +46,8 @@ point_moment state its (session.Mounted s) = refl
 point_moment state its (session.Unmounted flash) = refl
 
 -- a run over commands that leads to this session
-pub record Runs {F R : Type 0} (state : F → FlashState) (its : Config) (init : FlashState) (cs : List Command) (rs : List Reply) (ps : List Point) (s : Session F R) : Type 0 where
+pub record Runs {F R : Type 0} (state : F → FlashState) (its : Config) (init : FlashState) (cs : List Command) (rs : List Reply) (ps : List Point)
+    (s : Session F R) : Type 0 where
   pub up : Bool
   pub first : IsPoint its (opening_point its up (moment_of init))
   pub run : FlashRun its (mentions_in its (moment_of init)) false (opening_point its up (moment_of init)) cs rs ps
@@ -52,7 +57,8 @@ pub record Runs {F R : Type 0} (state : F → FlashState) (its : Config) (init :
   pub faults : CountsBreaks rs init (state (flash_in s))
 
 -- and its replies were told
-pub record HasServed {F R : Type 0} (state : F → FlashState) (its : Config) (init : FlashState) (cs : List Command) (s : Session F R) (before after : Watched) : Type 0 where
+pub record HasServed {F R : Type 0} (state : F → FlashState) (its : Config) (init : FlashState) (cs : List Command) (s : Session F R)
+    (before after : Watched) : Type 0 where
   pub replies : List Reply
   pub points : List Point
   pub runs : Runs state its init cs replies points s
@@ -63,7 +69,8 @@ pub record HasServed {F R : Type 0} (state : F → FlashState) (its : Config) (i
   pub mounts : CountsMounts its runs.up replies points init (state (flash_in s))
 
 -- at the beginning
-pub served_none : {F R : Type 0} (state : F → FlashState) (its : Config) (init : FlashState) (s : Session F R) (w : Watched) → Begins state its init s → HasServed state its init [] s w w
+pub served_none : {F R : Type 0} (state : F → FlashState) (its : Config) (init : FlashState) (s : Session F R) (w : Watched) → Begins state its init s →
+    HasServed state its init [] s w w
 served_none state its init s w h = record {
   replies = [];
   points = [];
@@ -84,10 +91,13 @@ served_none state its init s w h = record {
 }
 
 -- one command more
-pub runs_more : {F R : Type 0} (state : F → FlashState) (its : Config) (init : FlashState) (cs : List Command) (rs : List Reply) (ps : List Point) (c : Command) (r : Reply) (s t : Session F R) →
+pub runs_more : {F R : Type 0} (state : F → FlashState) (its : Config) (init : FlashState) (cs : List Command) (rs : List Reply) (ps : List Point) (c : Command)
+    (r : Reply) (s t : Session F R) →
     Runs state its init cs rs ps s →
-    ((seen : ℕ → ℕ) → (faulted : Bool) → StandsAt state its seen faulted s → ServesIn state its seen faulted c s r t) → BothTell (IsSpentBy c r) (state (flash_in s)).told (state (flash_in t)).told →
-    CountsBreak r (state (flash_in s)).faults (state (flash_in t)).faults → Runs state its init (cs ++ c ∷ []) (rs ++ r ∷ []) (ps ++ point_of state its t ∷ []) t
+    ((seen : ℕ → ℕ) → (faulted : Bool) → StandsAt state its seen faulted s → ServesIn state its seen faulted c s r t) →
+    BothTell (IsSpentBy c r) (state (flash_in s)).told (state (flash_in t)).told →
+    CountsBreak r (state (flash_in s)).faults (state (flash_in t)).faults → Runs state its init (cs ++ c ∷ []) (rs ++ r ∷ [])
+    (ps ++ point_of state its t ∷ []) t
 runs_more state its init cs rs ps c r s t h served spends faults =
     let seen = mentions_in its (moment_of init) in
     let old = opening_point its h.up (moment_of init) in
@@ -107,8 +117,10 @@ runs_more state its init cs rs ps c r s t h served spends faults =
     }
 
 -- which was told
-pub served_more : {F R : Type 0} (state : F → FlashState) (its : Config) (init : FlashState) (cs : List Command) (c : Command) (r : Reply) (s t : Session F R) (a b d : Watched) →
-    HasServed state its init cs s a b → ServesSession state its c s r t → Grew b.text d.text (text_of r) → Grew b.kept d.kept (record { text = text_of r; moment = moment_of (state (flash_in t)) } ∷ []) →
+pub served_more : {F R : Type 0} (state : F → FlashState) (its : Config) (init : FlashState) (cs : List Command) (c : Command) (r : Reply) (s t : Session F R)
+    (a b d : Watched) →
+    HasServed state its init cs s a b → ServesSession state its c s r t → Grew b.text d.text (text_of r) →
+    Grew b.kept d.kept (record { text = text_of r; moment = moment_of (state (flash_in t)) } ∷ []) →
     HasServed state its init (cs ++ c ∷ []) t a d
 unfolding runs_more
 served_more state its init cs c r s t a b d h serves text kept =
@@ -118,7 +130,8 @@ served_more state its init cs c r s t a b d h serves text kept =
       replies = h.replies ++ r ∷ [];
       points = h.points ++ p ∷ [];
       runs = runs_more state its init cs h.replies h.points c r s t h.runs serves.in_run serves.spends serves.faults;
-      text = subst (λ (x : List ℕ). Grew a.text d.text x) (sym (text_more h.replies r)) (grew_more a.text b.text d.text (text_of_all h.replies) (text_of r) h.text text);
+      text = subst (λ (x : List ℕ). Grew a.text d.text x) (sym (text_more h.replies r))
+          (grew_more a.text b.text d.text (text_of_all h.replies) (text_of r) h.text text);
       kept = subst (λ (x : List ToldReply). Grew a.kept d.kept x) (sym (told_more h.replies h.points r p (same.0 ∙ sym same.1)))
           (grew_more a.kept b.kept d.kept (replies_told h.replies h.points) (record { text = text_of r; moment = p.moment } ∷ []) h.kept
           (subst (λ (m : Moment). Grew b.kept d.kept (record { text = text_of r; moment = m } ∷ [])) (sym (point_moment state its t)) kept));
@@ -129,13 +142,16 @@ served_more state its init cs c r s t a b d h serves text kept =
     }
 
 -- What has been served is what serving comes to
-run_parts : {F R : Type 0} (state : F → FlashState) (its : Config) (init : FlashState) (cs : List Command) (rs : List Reply) (ps : List Point) (s : Session F R) (final : FlashState) →
+run_parts : {F R : Type 0} (state : F → FlashState) (its : Config) (init : FlashState) (cs : List Command) (rs : List Reply) (ps : List Point) (s : Session F R)
+    (final : FlashState) →
     Runs state its init cs rs ps s → moment_of final ≡ moment_of (state (flash_in s)) → moment_of final ≡ last_moment (moment_of init) ps
 run_parts state its init cs rs ps s final h same =
     same ∙ sym (point_moment state its s) ∙ ap (λ (p : Point). p.moment) h.last ∙ last_moment_is (opening_point its h.up (moment_of init)) ps
 
-pub all_served : {F R : Type 0} (state : F → FlashState) (its : Config) (init : FlashState) (cs : List Command) (s : Session F R) (final : FlashState) (a b : Watched) → HasServed state its init cs s a b →
-    moment_of final ≡ moment_of (state (flash_in s)) → BothTell NoMoreToCome (state (flash_in s)).told final.told → final.faults ≡ (state (flash_in s)).faults → ServesRun its cs (length cs) init final a b
+pub all_served : {F R : Type 0} (state : F → FlashState) (its : Config) (init : FlashState) (cs : List Command) (s : Session F R) (final : FlashState)
+    (a b : Watched) → HasServed state its init cs s a b →
+    moment_of final ≡ moment_of (state (flash_in s)) → BothTell NoMoreToCome (state (flash_in s)).told final.told → final.faults ≡ (state (flash_in s)).faults →
+    ServesRun its cs (length cs) init final a b
 all_served state its init cs s final a b h same no_more quiet =
     let lengths = run_lengths its (mentions_in its (moment_of init)) false (opening_point its h.runs.up (moment_of init)) cs h.replies h.points h.runs.run in
     let replies = take_whole (length cs) h.replies lengths.0 in
@@ -157,9 +173,12 @@ all_served state its init cs s final a b h same no_more quiet =
     }
 
 -- where one command more was served whose reply was not told
-pub one_untold : {F R : Type 0} (state : F → FlashState) (its : Config) (init : FlashState) (cs : List Command) (c : Command) (r : Reply) (s t : Session F R) (a b d : Watched) → HasServed state its init cs s a b →
-    ((seen : ℕ → ℕ) → (faulted : Bool) → StandsAt state its seen faulted s → ServesIn state its seen faulted c s r t) → BothTell (IsSpentBy c r) (state (flash_in s)).told (state (flash_in t)).told →
-    CountsBreak r (state (flash_in s)).faults (state (flash_in t)).faults → d.text ≡ b.text → d.kept ≡ b.kept → ServesRun its (cs ++ c ∷ []) (length cs) init (state (flash_in t)) a d
+pub one_untold : {F R : Type 0} (state : F → FlashState) (its : Config) (init : FlashState) (cs : List Command) (c : Command) (r : Reply) (s t : Session F R)
+    (a b d : Watched) → HasServed state its init cs s a b →
+    ((seen : ℕ → ℕ) → (faulted : Bool) → StandsAt state its seen faulted s → ServesIn state its seen faulted c s r t) →
+    BothTell (IsSpentBy c r) (state (flash_in s)).told (state (flash_in t)).told →
+    CountsBreak r (state (flash_in s)).faults (state (flash_in t)).faults → d.text ≡ b.text → d.kept ≡ b.kept →
+    ServesRun its (cs ++ c ∷ []) (length cs) init (state (flash_in t)) a d
 unfolding runs_more
 one_untold state its init cs c r s t a b d h served spends faults text kept =
     let lengths = run_lengths its (mentions_in its (moment_of init)) false (opening_point its h.runs.up (moment_of init)) cs h.replies h.points h.runs.run in
@@ -172,9 +191,11 @@ one_untold state its init cs c r s t a b d h served spends faults text kept =
       points = h.points ++ p ∷ [];
       run = record { up = runs.up; first = runs.first; runs = runs.run };
       last = run_parts state its init (cs ++ c ∷ []) (h.replies ++ r ∷ []) (h.points ++ p ∷ []) t (state (flash_in t)) runs refl;
-      text = subst (λ (x : List Reply). Grew a.text d.text (text_of_all x)) (sym replies) (subst (λ (o : Option (List ℕ)). Grew a.text o (text_of_all h.replies)) (sym text) h.text);
+      text = subst (λ (x : List Reply). Grew a.text d.text (text_of_all x)) (sym replies)
+          (subst (λ (o : Option (List ℕ)). Grew a.text o (text_of_all h.replies)) (sym text) h.text);
       kept = subst (λ (x : List Reply). Grew a.kept d.kept (replies_told x (take (length cs) (h.points ++ p ∷ [])))) (sym replies)
-          (subst (λ (x : List Point). Grew a.kept d.kept (replies_told h.replies x)) (sym points) (subst (λ (o : Option (List ToldReply)). Grew a.kept o (replies_told h.replies h.points)) (sym kept) h.kept));
+          (subst (λ (x : List Point). Grew a.kept d.kept (replies_told h.replies x)) (sym points)
+          (subst (λ (o : Option (List ToldReply)). Grew a.kept o (replies_told h.replies h.points)) (sym kept) h.kept));
       spends = runs.spends;
       faults = runs.faults;
       up = λ steady. inr (h.mounted steady);
@@ -188,7 +209,8 @@ pub next_of : (list : List Command) (at : ℕ) (c : Command) → at < length lis
 next_of list at c lt read = take_more list at c lt ∙ ap (λ x. take at list ++ x ∷ []) (sym read)
 
 -- Serving ended before that command did anything, or in it
-pub ended_for_memory : {F R : Type 0} (state : F → FlashState) (its : Config) (init : FlashState) (list : List Command) (at : ℕ) (c : Command) (s : Session F R) (flash : F) (a b : Watched) → at < length list → c ≡ get_or list at c →
+pub ended_for_memory : {F R : Type 0} (state : F → FlashState) (its : Config) (init : FlashState) (list : List Command) (at : ℕ) (c : Command) (s : Session F R)
+    (flash : F) (a b : Watched) → at < length list → c ≡ get_or list at c →
     HasServed state its init (take at list) s a b → EndsForMemory state its c s flash → ServesSound its list init (state flash) a b (Err failed.Memory)
 ended_for_memory state its init list at c s flash a b lt read h (inl still) =
     let count : length (take at list) ≡ at = length-take-le at list (omega arith) in (
@@ -204,23 +226,31 @@ ended_for_memory {F = F} {R = R} state its init list at c s flash a b lt read h 
       omega arith,
       inr (subst (λ n. ServesRun its (take (at + 1) list) n init (state flash) a b) count
           (subst (λ (cs : List Command). ServesRun its cs (length (take at list)) init (state flash) a b) (sym (next_of list at c lt read))
-          (one_untold {R = R} state its init (take at list) c reply.Cut s after a b b h cut.0 cut.1 cut.2 refl refl))),
+          (one_untold {R = R} state its init (take at list) c cut.0 s after a b b h cut.2 cut.3
+          (lost_counts cut.0 (state (flash_in s)).faults (state flash).faults cut.1 cut.4) refl refl))),
     )
 
 -- a session that stands has no image that is refused
-unrefused : {F R : Type 0} (state : F → FlashState) (its : Config) (seen : ℕ → ℕ) (faulted : Bool) (s : Session F R) (flash : F) (law : ℕ) (slot : Slot) → StandsAt state its seen faulted s → Refuses state its s flash law slot → ⊥
+unrefused : {F R : Type 0} (state : F → FlashState) (its : Config) (seen : ℕ → ℕ) (faulted : Bool) (s : Session F R) (flash : F) (law : ℕ) (slot : Slot) →
+    StandsAt state its seen faulted s → Refuses state its s flash law slot → ⊥
 unrefused state its seen faulted (session.Mounted s) flash law slot stands h = h
-unrefused state its seen faulted (session.Unmounted old) flash law slot stands h = sound_unbroken its.protocol its.logical (shape_of its) (state old).image (record { law = law; slot = slot }) stands.sound h.1
+unrefused state its seen faulted (session.Unmounted old) flash law slot stands h =
+    sound_unbroken its.protocol its.logical (shape_of its) (state old).image (record { law = law; slot = slot }) stands.sound h.1
 
-pub ended_in : {F R : Type 0} (state : F → FlashState) (its : Config) (init : FlashState) (list : List Command) (at : ℕ) (c : Command) (s : Session F R) (flash : F) (why : ServeError) (a b : Watched) → at < length list →
-    c ≡ get_or list at c → HasServed state its init (take at list) s a b → EndsServing state its c s flash why → ServesSound its list init (state flash) a b (Err why)
+pub ended_in : {F R : Type 0} (state : F → FlashState) (its : Config) (init : FlashState) (list : List Command) (at : ℕ) (c : Command) (s : Session F R)
+    (flash : F) (why : ServeError) (a b : Watched) → at < length list →
+    c ≡ get_or list at c → HasServed state its init (take at list) s a b → EndsServing state its c s flash why →
+    ServesSound its list init (state flash) a b (Err why)
 ended_in state its init list at c s flash (failed.Unsound law slot) a b lt read h ends =
-    absurd (unrefused state its (seen_through (mentions_in its (moment_of init)) (take at list) h.replies) (faulted_through false h.replies) s flash law slot h.runs.stands ends.cause)
+    absurd (unrefused state its (seen_through (mentions_in its (moment_of init)) (take at list) h.replies)
+    (faulted_through false h.replies) s flash law slot h.runs.stands ends.cause)
 ended_in state its init list at c s flash failed.Memory a b lt read h ends = ended_for_memory state its init list at c s flash a b lt read h ends.cause
 
 -- the reply of it could not be told
-pub untold_in : {F R : Type 0} (state : F → FlashState) (its : Config) (init : FlashState) (list : List Command) (at : ℕ) (c : Command) (r : Reply) (s t : Session F R) (flash : F) (a b d : Watched) → at < length list →
-    c ≡ get_or list at c → HasServed state its init (take at list) s a b → ServesSession state its c s r t → flash ≡ flash_in t → d.text ≡ b.text → d.kept ≡ b.kept → ServesSound its list init (state flash) a d (Err failed.Memory)
+pub untold_in : {F R : Type 0} (state : F → FlashState) (its : Config) (init : FlashState) (list : List Command) (at : ℕ) (c : Command) (r : Reply)
+    (s t : Session F R) (flash : F) (a b d : Watched) → at < length list →
+    c ≡ get_or list at c → HasServed state its init (take at list) s a b → ServesSession state its c s r t → flash ≡ flash_in t → d.text ≡ b.text →
+    d.kept ≡ b.kept → ServesSound its list init (state flash) a d (Err failed.Memory)
 untold_in state its init list at c r s t flash a b d lt read h serves is text kept =
     let count : length (take at list) ≡ at = length-take-le at list (omega arith) in (
       at,
@@ -241,45 +271,64 @@ fits_live : {F R : Type 0} (state : F → FlashState) (its : Config) (cache : Li
 fits_live state its cache (session.Mounted t) fits up = fits.live
 fits_live state its cache (session.Unmounted flash) fits up = cc
 
-ends_live : {F R : Type 0} (state : F → FlashState) (its : Config) (init : FlashState) (cs : List Command) (cache : List CachedPage) (s : Session F R) (a b : Watched) →
+ends_live : {F R : Type 0} (state : F → FlashState) (its : Config) (init : FlashState) (cs : List Command) (cache : List CachedPage) (s : Session F R)
+    (a b : Watched) →
     Fits state its cache s → (h : HasServed state its init cs s a b) → (last_state (opening_state its h.runs.up (moment_of init)) h.points).up ≡ true →
     (state (flash_in s)).live ≡ true
 ends_live state its init cs cache s a b fits h up =
     fits_live state its cache s fits (ap (λ (p : Point). p.state.up) h.runs.last
     ∙ ap (λ (x : RunState). x.up) (last_state_is (opening_point its h.runs.up (moment_of init)) h.points) ∙ up)
 
-pub served_to_the_end : {F R : Type 0} (state : F → FlashState) (its : Config) (init : FlashState) (list : List Command) (at : ℕ) (cache : List CachedPage) (s : Session F R) (flash : F) (a b : Watched) → length list ≤ at →
+pub served_to_the_end : {F R : Type 0} (state : F → FlashState) (its : Config) (init : FlashState) (list : List Command) (at : ℕ) (cache : List CachedPage)
+    (s : Session F R) (flash : F) (a b : Watched) → length list ≤ at →
     Fits state its cache s → HasServed state its init (take at list) s a b → flash ≡ flash_in s → ServesSound its list init (state flash) a b (Ok tt)
 unfolding all_served
 served_to_the_end state its init list at cache s flash a b ge fits h is =
     let whole : take at list ≡ list = take_all at list ge in
     let end = subst (λ (cs : List Command). HasServed state its init cs s a b) whole h in
-    subst (λ x. ServesSound its list init (state x) a b (Ok tt)) (sym is)
-    (all_served state its init list s (state (flash_in s)) a b end refl (no_more_same (state (flash_in s)).told) refl, end.set, ends_live state its init list cache s a b fits end)
+    subst (λ x. ServesSound its list init (state x) a b (Ok tt)) (sym is) (
+      all_served state its init list s (state (flash_in s)) a b end refl (no_more_same (state (flash_in s)).told) refl,
+      end.set,
+      ends_live state its init list cache s a b fits end,
+    )
 
 -- Of the flash that was handed in
 pub kept_more : (its : Config) (init old new : FlashState) → IsSoundOrSame its init old → IsSoundOrSame its old new → IsSoundOrSame its init new
 kept_more its init old new (inl sound) (inl after) = inl (sound.0, after.1)
-kept_more its init old new (inr was) (inl sound) = inl (subst (λ (m : Moment). IsSoundImage its.protocol its.logical (shape_of its) m.image) was sound.0, sound.1)
-kept_more its init old new (inl sound) (inr same) = inl (sound.0, subst (λ (m : Moment). IsSoundImage its.protocol its.logical (shape_of its) m.image) (sym same) sound.1)
+kept_more its init old new (inr was) (inl sound) = inl (
+  subst (λ (m : Moment). IsSoundImage its.protocol its.logical (shape_of its) m.image) was sound.0,
+  sound.1,
+)
+kept_more its init old new (inl sound) (inr same) = inl (
+  sound.0,
+  subst (λ (m : Moment). IsSoundImage its.protocol its.logical (shape_of its) m.image)
+      (sym same) sound.1,
+)
 kept_more its init old new (inr was) (inr same) = inr (same ∙ was)
 
-refused_for : {F R : Type 0} (state : F → FlashState) (its : Config) (init : FlashState) (c : Command) (s : Session F R) (flash : F) (law : ℕ) (slot : Slot) → IsSoundOrSame its init (state (flash_in s)) →
+refused_for : {F R : Type 0} (state : F → FlashState) (its : Config) (init : FlashState) (c : Command) (s : Session F R) (flash : F) (law : ℕ) (slot : Slot) →
+    IsSoundOrSame its init (state (flash_in s)) →
     EndsFor state its c s flash (failed.Unsound law slot) → RefusesUnsound its init (state flash) (Err (failed.Unsound law slot))
 refused_for state its init c (session.Mounted s) flash law slot kept ends = absurd ends
 refused_for state its init c (session.Unmounted old) flash law slot (inl sound) ends =
     absurd (sound_unbroken its.protocol its.logical (shape_of its) (state old).image (record { law = law; slot = slot }) sound.1 ends.1)
-refused_for state its init c (session.Unmounted old) flash law slot (inr same) ends =
-    (ends.0.still.moment ∙ same, subst (λ (m : Moment). IsLeastImageBreach its.protocol its.logical (shape_of its) m.image (record { law = law; slot = slot })) same ends.1)
+refused_for state its init c (session.Unmounted old) flash law slot (inr same) ends = (
+  ends.0.still.moment ∙ same,
+  subst (λ (m : Moment). IsLeastImageBreach its.protocol its.logical (shape_of its) m.image (record { law = law; slot = slot }))
+      same ends.1,
+)
 
-pub refused_in : {F R : Type 0} (state : F → FlashState) (its : Config) (init : FlashState) (c : Command) (s : Session F R) (flash : F) (why : ServeError) → IsSoundOrSame its init (state (flash_in s)) → EndsServing state its c s flash why →
+pub refused_in : {F R : Type 0} (state : F → FlashState) (its : Config) (init : FlashState) (c : Command) (s : Session F R) (flash : F) (why : ServeError) →
+    IsSoundOrSame its init (state (flash_in s)) → EndsServing state its c s flash why →
     RefusesUnsound its init (state flash) (Err why)
 refused_in state its init c s flash failed.Memory kept ends = kept_more its init (state (flash_in s)) (state flash) kept ends.kept
 refused_in state its init c s flash (failed.Unsound law slot) kept ends = refused_for state its init c s flash law slot kept ends.cause
 
 -- While the image is not sound no command is done
-pub moment_stays : (its : Config) (init old new : FlashState) → (IsSoundFlash its init → ⊥) → moment_of old ≡ moment_of init → IsSoundOrSame its old new → moment_of new ≡ moment_of init
-moment_stays its init old new unsound was (inl sound) = absurd (unsound (subst (λ (m : Moment). IsSoundImage its.protocol its.logical (shape_of its) m.image) was sound.0))
+pub moment_stays : (its : Config) (init old new : FlashState) → (IsSoundFlash its init → ⊥) → moment_of old ≡ moment_of init → IsSoundOrSame its old new →
+    moment_of new ≡ moment_of init
+moment_stays its init old new unsound was (inl sound) = absurd (unsound (subst (λ (m : Moment). IsSoundImage its.protocol its.logical (shape_of its) m.image)
+    was sound.0))
 moment_stays its init old new unsound was (inr same) = same ∙ was
 
 abbrev pub told_at : Moment → Reply → ToldReply
@@ -296,17 +345,21 @@ pub record StaysUnmounted (cs : List Command) (init now : FlashState) (before af
 pub unmounted_none : (init now : FlashState) (w : Watched) → moment_of now ≡ moment_of init → CountsBreaks [] init now → StaysUnmounted [] init now w w
 unmounted_none init now w same faults = record { replies = []; unmounted = tt; still = same; text = grew_none w.text; kept = grew_none w.kept; faults = faults }
 
-pub unmounted_more : {F R : Type 0} (state : F → FlashState) (its : Config) (init : FlashState) (cs : List Command) (c : Command) (r : Reply) (s t : Session F R) (a b d : Watched) → (IsSoundFlash its init → ⊥) →
-    StaysUnmounted cs init (state (flash_in s)) a b → ServesSession state its c s r t → Grew b.text d.text (text_of r) → Grew b.kept d.kept (told_at (moment_of (state (flash_in t))) r ∷ []) →
+pub unmounted_more : {F R : Type 0} (state : F → FlashState) (its : Config) (init : FlashState) (cs : List Command) (c : Command) (r : Reply)
+    (s t : Session F R) (a b d : Watched) → (IsSoundFlash its init → ⊥) →
+    StaysUnmounted cs init (state (flash_in s)) a b → ServesSession state its c s r t → Grew b.text d.text (text_of r) →
+    Grew b.kept d.kept (told_at (moment_of (state (flash_in t))) r ∷ []) →
     StaysUnmounted (cs ++ c ∷ []) init (state (flash_in t)) a d
 unmounted_more state its init cs c r s t a b d unsound h serves text kept =
     let still = moment_stays its init (state (flash_in s)) (state (flash_in t)) unsound h.still serves.kept in
-    let here : IsSoundFlash its (state (flash_in s)) → ⊥ = λ sound. unsound (subst (λ (m : Moment). IsSoundImage its.protocol its.logical (shape_of its) m.image) h.still sound) in
+    let here : IsSoundFlash its (state (flash_in s)) → ⊥ = λ sound. unsound (subst
+    (λ (m : Moment). IsSoundImage its.protocol its.logical (shape_of its) m.image) h.still sound) in
     record {
       replies = h.replies ++ r ∷ [];
       unmounted = all_zipped_more RepliesUnmounted cs h.replies c r h.unmounted (serves.unsound here);
       still = still;
-      text = subst (λ (x : List ℕ). Grew a.text d.text x) (sym (text_more h.replies r)) (grew_more a.text b.text d.text (text_of_all h.replies) (text_of r) h.text text);
+      text = subst (λ (x : List ℕ). Grew a.text d.text x) (sym (text_more h.replies r))
+          (grew_more a.text b.text d.text (text_of_all h.replies) (text_of r) h.text text);
       kept = subst (λ (x : List ToldReply). Grew a.kept d.kept x) (sym (map-append (told_at (moment_of init)) h.replies (r ∷ [])))
           (grew_more a.kept b.kept d.kept (map (told_at (moment_of init)) h.replies) (told_at (moment_of init) r ∷ []) h.kept
           (subst (λ (m : Moment). Grew b.kept d.kept (told_at m r ∷ [])) still kept));
@@ -314,7 +367,8 @@ unmounted_more state its init cs c r s t a b d unsound h serves text kept =
     }
 
 -- and what serving comes to then
-pub unmounted_in : (init now final : FlashState) (list : List Command) (at : ℕ) (a b d : Watched) (why : ServeError) → (h : StaysUnmounted (take at list) init now a b) → moment_of final ≡ moment_of init →
+pub unmounted_in : (init now final : FlashState) (list : List Command) (at : ℕ) (a b d : Watched) (why : ServeError) →
+    (h : StaysUnmounted (take at list) init now a b) → moment_of final ≡ moment_of init →
     d.text ≡ b.text → d.kept ≡ b.kept → CountsTold h.replies init final (Err why) → ServesUnsound list init final a d (Err why)
 unmounted_in init now final list at a b d why h same text kept faults = record {
   told = at;
@@ -327,21 +381,25 @@ unmounted_in init now final list at a b d why h same text kept faults = record {
   faults = faults;
 }
 
-refused_counts : {F R : Type 0} (state : F → FlashState) (its : Config) (init : FlashState) (rs : List Reply) (s : Session F R) (flash : F) (law : ℕ) (slot : Slot) → CountsBreaks rs init (state (flash_in s)) →
+refused_counts : {F R : Type 0} (state : F → FlashState) (its : Config) (init : FlashState) (rs : List Reply) (s : Session F R) (flash : F) (law : ℕ)
+    (slot : Slot) → CountsBreaks rs init (state (flash_in s)) →
     Refuses state its s flash law slot → CountsBreaks rs init (state flash)
 refused_counts state its init rs (session.Mounted s) flash law slot h ends = absurd ends
 refused_counts state its init rs (session.Unmounted old) flash law slot h ends = counts_later rs init (state old) (state flash) h ends.0.quiet
 
-pub ended_counts : {F R : Type 0} (state : F → FlashState) (its : Config) (init : FlashState) (rs : List Reply) (c : Command) (s : Session F R) (flash : F) (why : ServeError) → CountsBreaks rs init (state (flash_in s)) →
+pub ended_counts : {F R : Type 0} (state : F → FlashState) (its : Config) (init : FlashState) (rs : List Reply) (c : Command) (s : Session F R) (flash : F)
+    (why : ServeError) → CountsBreaks rs init (state (flash_in s)) →
     EndsServing state its c s flash why → CountsTold rs init (state flash) (Err why)
 ended_counts state its init rs c s flash failed.Memory h ends = tt
 ended_counts state its init rs c s flash (failed.Unsound law slot) h ends = refused_counts state its init rs s flash law slot h ends.cause
 
-pub unmounted_to_the_end : (init now : FlashState) (list : List Command) (at : ℕ) (a b : Watched) → length list ≤ at → StaysUnmounted (take at list) init now a b → ServesUnsound list init now a b (Ok tt)
+pub unmounted_to_the_end : (init now : FlashState) (list : List Command) (at : ℕ) (a b : Watched) → length list ≤ at →
+    StaysUnmounted (take at list) init now a b → ServesUnsound list init now a b (Ok tt)
 unmounted_to_the_end init now list at a b ge h = record {
   told = length list;
   replies = h.replies;
-  unmounted = subst (λ (cs : List Command). AllZip RepliesUnmounted cs h.replies) (take_all at list ge ∙ sym (take_all (length list) list (omega arith))) h.unmounted;
+  unmounted = subst (λ (cs : List Command). AllZip RepliesUnmounted cs h.replies) (take_all at list ge ∙
+      sym (take_all (length list) list (omega arith))) h.unmounted;
   all = refl;
   still = h.still;
   text = h.text;

@@ -36,8 +36,10 @@ written_page : (logical : ℕ) (pages : Pages) (page : ℕ) → page < logical �
 written_page logical pages page lt some = rw (lt-ltb page logical lt) some
 
 -- a read of the device
-device_counts : {F : Type 0} (state : F → FlashState) (place : Option ℕ) (old new : F) (logical : ℕ) (pages : Pages) (page : ℕ) (before after : List ℕ) (result : Result ReadAnswer ReadError) →
-    ReadsPage logical pages page after result → ReadsFlash state place old new before after result → CountsOne (is_written logical pages page) (state old) (state new)
+device_counts : {F : Type 0} (state : F → FlashState) (place : Option ℕ) (old new : F) (logical : ℕ) (pages : Pages) (page : ℕ) (before after : List ℕ)
+    (result : Result ReadAnswer ReadError) →
+    ReadsPage logical pages page after result → ReadsFlash state place old new before after result →
+    CountsOne (is_written logical pages page) (state old) (state new)
 device_counts state place old new logical pages page before after (Ok answer.Blank) reads flash =
     unread_counts (is_written logical pages page) (state old) (state new) (blank_page logical pages page reads.1) (ap state flash.0)
 device_counts state place old new logical pages page before after (Ok answer.Page) reads flash =
@@ -49,18 +51,24 @@ device_counts state place old new logical pages page before after (Err unread.Fa
     read_counts (is_written logical pages page) (state old) (state new) (written_page logical pages page reads.0 reads.1) flash.4.reads
 
 -- and one through the cache
-through_counts : {F : Type 0} (state : F → FlashState) (old new : Standing F) (page : ℕ) (before after : List ℕ) (result : Result ReadAnswer ReadError) (held : Bool) →
-    ReadsPage old.config.logical old.machine.pages page after result → MatchBool held ((new ≡ old) × (result ≡ Ok answer.Page)) (ReadsFlash state (read_place old.noted old.unsure page) old.flash new.flash before after result) →
+through_counts : {F : Type 0} (state : F → FlashState) (old new : Standing F) (page : ℕ) (before after : List ℕ) (result : Result ReadAnswer ReadError)
+    (held : Bool) →
+    ReadsPage old.config.logical old.machine.pages page after result → MatchBool held ((new ≡ old) ×
+    (result ≡ Ok answer.Page)) (ReadsFlash state (read_place old.noted old.unsure page) old.flash new.flash before after result) →
     CountsOne (is_written old.config.logical old.machine.pages page && not held) (state old.flash) (state new.flash)
 through_counts {F = F} state old new page before after result true reads same =
-    unread_counts _ (state old.flash) (state new.flash) (and-false (is_written old.config.logical old.machine.pages page)) (ap (λ (s : Standing F). state s.flash) same.0)
+    unread_counts _ (state old.flash) (state new.flash) (and-false (is_written old.config.logical old.machine.pages page))
+    (ap (λ (s : Standing F). state s.flash) same.0)
 through_counts state old new page before after result false reads flash =
     subst (λ (b : Bool). CountsOne b (state old.flash) (state new.flash)) (sym (and-true (is_written old.config.logical old.machine.pages page)))
     (device_counts state (read_place old.noted old.unsure page) old.flash new.flash old.config.logical old.machine.pages page before after result reads flash)
 
-pub reads_once : {F : Type 0} (state : F → FlashState) (old new : Standing F) (entries : List CachedPage) (page : ℕ) (before after : List ℕ) (result : Result ReadAnswer ReadError) →
-    ReadsPage old.config.logical old.machine.pages page after result → ReadsThrough state old new entries page before after result → ReadsOnce state old new entries page
-reads_once state old new entries page before after result reads through = through_counts state old new page before after result (is_cached old entries page) reads through
+pub reads_once : {F : Type 0} (state : F → FlashState) (old new : Standing F) (entries : List CachedPage) (page : ℕ) (before after : List ℕ)
+    (result : Result ReadAnswer ReadError) →
+    ReadsPage old.config.logical old.machine.pages page after result → ReadsThrough state old new entries page before after result →
+    ReadsOnce state old new entries page
+reads_once state old new entries page before after result reads through = through_counts state old new page before after result
+    (is_cached old entries page) reads through
 
 -- What is left in the cache
 abbrev Leaves : {F : Type 0} → Standing F → CachedPages → CachedPages → ℕ → Bool → Type 0
@@ -68,24 +76,30 @@ Leaves s before after page held =
     MatchBool held (after ≡ brought_forward s page before)
     (((bytes : List ℕ) × (page_at s.machine.pages page ≡ Some bytes) × (after ≡ with_page s page bytes before)) ⊎ (after ≡ before))
 
-left_in : {F : Type 0} (s : Standing F) (before after : CachedPages) (page : ℕ) (bytes : List ℕ) (memory : Result (Unit {0}) Memory) (held : Bool) → page_at s.machine.pages page ≡ Some bytes →
+left_in : {F : Type 0} (s : Standing F) (before after : CachedPages) (page : ℕ) (bytes : List ℕ) (memory : Result (Unit {0}) Memory) (held : Bool) →
+    page_at s.machine.pages page ≡ Some bytes →
     MatchBool held (after ≡ brought_forward s page before) (KeepsPage s before after page bytes memory) → Leaves s before after page held
 left_in s before after page bytes memory true at h = h
 left_in s before after page bytes (Ok u) false at h = inl (bytes, at, h)
 left_in s before after page bytes (Err e) false at h = inr h
 
 -- where nothing was read that may be kept
-left_alone : {F : Type 0} (s : Standing F) (before after : CachedPages) (page : ℕ) (held : Bool) → held ≡ false → after ≡ before → Leaves s before after page held
+left_alone : {F : Type 0} (s : Standing F) (before after : CachedPages) (page : ℕ) (held : Bool) → held ≡ false → after ≡ before →
+    Leaves s before after page held
 left_alone s before after page true unheld same = cc
 left_alone s before after page false unheld same = inr same
 
-not_held : {F : Type 0} (state : F → FlashState) (old new : Standing F) (page : ℕ) (before after : List ℕ) (result : Result ReadAnswer ReadError) (held : Bool) →
-    MatchBool held ((new ≡ old) × (result ≡ Ok answer.Page)) (ReadsFlash state (read_place old.noted old.unsure page) old.flash new.flash before after result) → (result ≡ Ok answer.Page → ⊥) → held ≡ false
+not_held : {F : Type 0} (state : F → FlashState) (old new : Standing F) (page : ℕ) (before after : List ℕ) (result : Result ReadAnswer ReadError)
+    (held : Bool) →
+    MatchBool held ((new ≡ old) × (result ≡ Ok answer.Page)) (ReadsFlash state (read_place old.noted old.unsure page) old.flash new.flash before after result) →
+    (result ≡ Ok answer.Page → ⊥) → held ≡ false
 not_held state old new page before after result true through other = absurd (other through.1)
 not_held state old new page before after result false through other = refl
 
-pub page_left : {F : Type 0} (state : F → FlashState) (old new : Standing F) (cache left : CachedPages) (page : ℕ) (before after : List ℕ) (result : Result ReadAnswer ReadError) (memory : Result (Unit {0}) Memory) →
-    ReadsPage old.config.logical old.machine.pages page after result → ReadsThrough state old new cache.entries page before after result → CachesRead old cache left page after result memory →
+pub page_left : {F : Type 0} (state : F → FlashState) (old new : Standing F) (cache left : CachedPages) (page : ℕ) (before after : List ℕ)
+    (result : Result ReadAnswer ReadError) (memory : Result (Unit {0}) Memory) →
+    ReadsPage old.config.logical old.machine.pages page after result → ReadsThrough state old new cache.entries page before after result →
+    CachesRead old cache left page after result memory →
     CachesPage old cache left page
 page_left state old new cache left page before after (Ok answer.Page) memory reads through keeps =
     left_in old cache left page after memory (is_cached old cache.entries page) reads.1 keeps

@@ -1,5 +1,6 @@
 -- A run on a flash goes on by one command.
-use Rattle.std.proofs.Common.{◌≡◌, ℕ, zero, suc, ◌+◌, ◌≤◌, Bool, false, ◌||◌, List, [], ◌∷◌, ◌++◌, length, take, Option, Some, None, refl, sym, ap, ◌∙◌, subst, inl, inr, arith, append-nil, append_assoc, length-append}
+use Rattle.std.proofs.Common.{◌≡◌, ℕ, zero, suc, ◌+◌, ◌≤◌, Bool, false, ◌||◌, List, [], ◌∷◌, ◌++◌, length, take, Option, Some, None, refl, sym, ap, ◌∙◌, subst}
+use Rattle.std.proofs.Common.{inl, inr, arith, append-nil, append_assoc, length-append}
 use Rattle.std.specs.Prelude.{count_by, IfSome, MatchBool, if◌then◌else◌}
 use Rattle.std.specs.List.{flat_map}
 use Rattle.std.proofs.lemmas.Grind.{flat_map-append}
@@ -38,8 +39,10 @@ faulted_through faulted (r ∷ rs) = faulted_through (faulted || is_fault r) rs
 abbrev pub GoesOn : Config → (ℕ → ℕ) → Bool → Command → Point → Reply → Point → Type 0
 GoesOn its seen faulted c old r new = ((spent : ℕ → Bool) × MayBeSpent seen spent × ServesFlash its spent faulted c old r new) × IsPoint its new
 
-pub run_more : (its : Config) (seen : ℕ → ℕ) (faulted : Bool) (old : Point) (cs : List Command) (rs : List Reply) (ps : List Point) (c : Command) (r : Reply) (p : Point) → FlashRun its seen faulted old cs rs ps →
-    GoesOn its (seen_through seen cs rs) (faulted_through faulted rs) c (last_point old ps) r p → FlashRun its seen faulted old (cs ++ c ∷ []) (rs ++ r ∷ []) (ps ++ p ∷ [])
+pub run_more : (its : Config) (seen : ℕ → ℕ) (faulted : Bool) (old : Point) (cs : List Command) (rs : List Reply) (ps : List Point) (c : Command) (r : Reply)
+    (p : Point) → FlashRun its seen faulted old cs rs ps →
+    GoesOn its (seen_through seen cs rs) (faulted_through faulted rs) c (last_point old ps) r p →
+    FlashRun its seen faulted old (cs ++ c ∷ []) (rs ++ r ∷ []) (ps ++ p ∷ [])
 run_more its seen faulted old [] [] [] c r p run h = (h.0, h.1, tt)
 run_more its seen faulted old [] [] (q ∷ ps) c r p run h = absurd run
 run_more its seen faulted old [] (s ∷ rs) ps c r p run h = absurd run
@@ -52,7 +55,8 @@ pub last_more : (old : Point) (ps : List Point) (p : Point) → last_point old (
 last_more old [] p = refl
 last_more old (q ∷ ps) p = last_more q ps p
 
-pub seen_more : (seen : ℕ → ℕ) (cs : List Command) (rs : List Reply) (c : Command) (r : Reply) → length rs ≡ length cs → seen_through seen (cs ++ c ∷ []) (rs ++ r ∷ []) ≡ seen_after (seen_through seen cs rs) c r
+pub seen_more : (seen : ℕ → ℕ) (cs : List Command) (rs : List Reply) (c : Command) (r : Reply) → length rs ≡ length cs →
+    seen_through seen (cs ++ c ∷ []) (rs ++ r ∷ []) ≡ seen_after (seen_through seen cs rs) c r
 seen_more seen [] [] c r same = refl
 seen_more seen [] (s ∷ rs) c r same = absurd (omega arith)
 seen_more seen (d ∷ cs) [] c r same = absurd (omega arith)
@@ -67,7 +71,8 @@ last_moment_is old [] = refl
 last_moment_is old (p ∷ ps) = last_moment_is p ps
 
 -- how many replies and points there are
-pub run_lengths : (its : Config) (seen : ℕ → ℕ) (faulted : Bool) (old : Point) (cs : List Command) (rs : List Reply) (ps : List Point) → FlashRun its seen faulted old cs rs ps →
+pub run_lengths : (its : Config) (seen : ℕ → ℕ) (faulted : Bool) (old : Point) (cs : List Command) (rs : List Reply) (ps : List Point) →
+    FlashRun its seen faulted old cs rs ps →
     (length rs ≡ length cs) × (length ps ≡ length cs)
 run_lengths its seen faulted old [] [] [] run = (refl, refl)
 run_lengths its seen faulted old [] [] (q ∷ ps) run = absurd run
@@ -89,7 +94,8 @@ grew_more (Some a) b d xs ys ab bd = subst (λ o. Grew o d ys) ab bd ∙ ap (λ 
 pub text_more : (rs : List Reply) (r : Reply) → text_of_all (rs ++ r ∷ []) ≡ text_of_all rs ++ text_of r
 text_more rs r = flat_map-append text_of rs (r ∷ []) ∙ ap (λ t. flat_map text_of rs ++ t) (append-nil (text_of r))
 
-pub told_more : (rs : List Reply) (ps : List Point) (r : Reply) (p : Point) → length rs ≡ length ps → replies_told (rs ++ r ∷ []) (ps ++ p ∷ []) ≡ replies_told rs ps ++ record { text = text_of r; moment = p.moment } ∷ []
+pub told_more : (rs : List Reply) (ps : List Point) (r : Reply) (p : Point) → length rs ≡ length ps →
+    replies_told (rs ++ r ∷ []) (ps ++ p ∷ []) ≡ replies_told rs ps ++ record { text = text_of r; moment = p.moment } ∷ []
 told_more [] [] r p same = refl
 told_more [] (q ∷ ps) r p same = absurd (omega arith)
 told_more (s ∷ rs) [] r p same = absurd (omega arith)
@@ -102,7 +108,8 @@ ones test x = if test x then 1 else 0
 count_push : {X : Type 0} (test : X → Bool) (xs : List X) (x : X) → count_by test (xs ++ x ∷ []) ≡ count_by test xs + ones test x
 count_push test xs x = sum_by_push (ones test) xs x
 
-few_front : {X Y : Type 0} (this : X → Bool) (that : Y → Bool) (xs : List X) (ys : List Y) (x : X) (y : Y) (most j : ℕ) → length xs ≡ length ys → j ≤ length xs →
+few_front : {X Y : Type 0} (this : X → Bool) (that : Y → Bool) (xs : List X) (ys : List Y) (x : X) (y : Y) (most j : ℕ) → length xs ≡ length ys →
+    j ≤ length xs →
     count_by this (take j xs) ≤ most + count_by that (take j ys) → count_by this (take j (xs ++ x ∷ [])) ≤ most + count_by that (take j (ys ++ y ∷ []))
 few_front this that xs ys x y most j same le h =
     let front : take j (xs ++ x ∷ []) ≡ take j xs = take-append-le j xs (x ∷ []) le in
@@ -120,7 +127,8 @@ few_more : {X Y : Type 0} (this : X → Bool) (that : Y → Bool) (xs : List X) 
     count_by this (take j xs) ≤ most + count_by that (take j ys) → count_by this (xs ++ x ∷ []) ≤ most + count_by that (ys ++ y ∷ []) →
     count_by this (take j (xs ++ x ∷ [])) ≤ most + count_by that (take j (ys ++ y ∷ []))
 few_more this that xs ys x y most j same front whole = elim (cases_lt (length xs) j) [
-  | inl lt ↦ few_whole this that (xs ++ x ∷ []) (ys ++ y ∷ []) most j (omega (arith, length-append xs (x ∷ []))) (omega (arith, length-append ys (y ∷ []))) whole
+  | inl lt ↦ few_whole this that (xs ++ x ∷ []) (ys ++ y ∷ []) most j (omega (arith, length-append xs (x ∷ [])))
+      (omega (arith, length-append ys (y ∷ []))) whole
   | inr le ↦ few_front this that xs ys x y most j same le front
 ]
 
@@ -135,16 +143,21 @@ spent_nothing old new h = record {
   breaks = omega (arith, h.1);
 }
 
-spent_more : (cs : List Command) (rs : List Reply) (c : Command) (r : Reply) → length rs ≡ length cs → (x y z : Told) → AreSpent cs rs x y → IsSpentBy c r y z → AreSpent (cs ++ c ∷ []) (rs ++ r ∷ []) x z
+spent_more : (cs : List Command) (rs : List Reply) (c : Command) (r : Reply) → length rs ≡ length cs → (x y z : Told) → AreSpent cs rs x y → IsSpentBy c r y z →
+    AreSpent (cs ++ c ∷ []) (rs ++ r ∷ []) x z
 spent_more cs rs c r same x y z h k =
     let cut_count = count_push is_cut rs r in
     let fault_count = count_push is_fault rs r in
     let cut_arms = count_push arms_cut cs c in
     let fault_arms = count_push arms_fault cs c in
     let cuts : count_by is_cut (rs ++ r ∷ []) + z.cuts ≤ x.cuts + count_by arms_cut (cs ++ c ∷ []) = omega (arith, cut_count, cut_arms, h.cuts, k.cuts) in
-    let breaks : count_by is_fault (rs ++ r ∷ []) + z.breaks ≤ x.breaks + count_by arms_fault (cs ++ c ∷ []) = omega (arith, fault_count, fault_arms, h.breaks, k.breaks) in
+    let breaks : count_by is_fault (rs ++ r ∷ []) + z.breaks ≤ x.breaks + count_by arms_fault (cs ++ c ∷ []) =
+    omega (arith, fault_count, fault_arms, h.breaks, k.breaks) in
     record {
-      few = λ j. (few_more is_cut arms_cut rs cs r c x.cuts j same (h.few j).0 (omega (arith, cuts)), few_more is_fault arms_fault rs cs r c x.breaks j same (h.few j).1 (omega (arith, breaks)));
+      few = λ j. (
+        few_more is_cut arms_cut rs cs r c x.cuts j same (h.few j).0 (omega (arith, cuts)),
+        few_more is_fault arms_fault rs cs r c x.breaks j same (h.few j).1 (omega (arith, breaks)),
+      );
       cuts = cuts;
       breaks = breaks;
     }
@@ -155,7 +168,8 @@ spent_later cs rs x y z h k = record { few = h.few; cuts = omega (arith, h.cuts,
 pub spends_nothing : (a b : Option Told) → BothTell NoMoreToCome a b → SpendsTold [] [] a b
 spends_nothing a b = weaker_told NoMoreToCome (AreSpent [] []) spent_nothing a b
 
-pub spends_more : (cs : List Command) (rs : List Reply) (c : Command) (r : Reply) (a b d : Option Told) → length rs ≡ length cs → SpendsTold cs rs a b → BothTell (IsSpentBy c r) b d →
+pub spends_more : (cs : List Command) (rs : List Reply) (c : Command) (r : Reply) (a b d : Option Told) → length rs ≡ length cs → SpendsTold cs rs a b →
+    BothTell (IsSpentBy c r) b d →
     SpendsTold (cs ++ c ∷ []) (rs ++ r ∷ []) a d
 spends_more cs rs c r a b d same = both_tell (AreSpent cs rs) (IsSpentBy c r) (AreSpent (cs ++ c ∷ []) (rs ++ r ∷ [])) (spent_more cs rs c r same) a b d
 
@@ -173,14 +187,16 @@ pub counts_more : (rs : List Reply) (r : Reply) (x y z : FlashState) → CountsB
 counts_more rs r x y z h one = elim (cases_Bool (is_break r)) [
   | inl broken ↦ (
       let rose : Rose y.faults z.faults = subst (λ b. MatchBool b (Rose y.faults z.faults) (z.faults ≡ y.faults)) broken one in
-      let more : count_by is_break (rs ++ r ∷ []) ≡ count_by is_break rs + 1 = count_push is_break rs r ∙ ap (λ (b : Bool). count_by is_break rs + (if b then 1 else 0)) broken in
+      let more : count_by is_break (rs ++ r ∷ []) ≡ count_by is_break rs + 1 = count_push is_break rs r ∙
+      ap (λ (b : Bool). count_by is_break rs + (if b then 1 else 0)) broken in
       record {
         least = subst (λ n. counted_by n x.faults ≤ z.faults) (sym more) (rose_more (count_by is_break rs) x.faults y.faults z.faults h.least rose);
         quiet = λ unbroken all. (let not : is_break r ≡ false = all_right (λ q. is_break q ≡ false) rs (r ∷ []) all 0 r (omega arith) in absurd cc);
       })
   | inr whole ↦ (
       let same : z.faults ≡ y.faults = subst (λ b. MatchBool b (Rose y.faults z.faults) (z.faults ≡ y.faults)) whole one in
-      let more : count_by is_break (rs ++ r ∷ []) ≡ count_by is_break rs + 0 = count_push is_break rs r ∙ ap (λ (b : Bool). count_by is_break rs + (if b then 1 else 0)) whole in
+      let more : count_by is_break (rs ++ r ∷ []) ≡ count_by is_break rs + 0 = count_push is_break rs r ∙
+      ap (λ (b : Bool). count_by is_break rs + (if b then 1 else 0)) whole in
       let none : count_by is_break (rs ++ r ∷ []) ≡ count_by is_break rs = omega (arith, more) in
       record {
         least = subst (λ n. counted_by n x.faults ≤ z.faults) (sym none) (subst (λ n. counted_by (count_by is_break rs) x.faults ≤ n) (sym same) h.least);

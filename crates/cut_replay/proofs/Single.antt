@@ -34,61 +34,72 @@ use Rattle.host_protocol.specs.declared.command.Command.TheVariants as command
 use Rattle.host_protocol.specs.declared.reply.Reply.{Reply}
 use Rattle.cut_replay.specs.Run.{step_reply, abort_reply, collect_reply, is_break}
 use Rattle.cut_replay.specs.FlashRun.{Point, Tells, is_fault, HasErased, IsErase}
-use Rattle.cut_replay.specs.Bounds.{is_cut}
+use Rattle.cut_replay.specs.Bounds.{is_lost}
 use Rattle.tx_engine.specs.Always.{HoldsAlways}
 use Rattle.cut_replay.specs.Mounted.{point_at, MayHaveCut, ServesHere}
 use Rattle.cut_replay.proofs.Devices.{exits_serve}
 
 -- A step
-step_breaks : (tag : ℕ) (result : Result Progress StepError) → (is_break (step_reply tag result) ≡ is_step_fault result) × (is_fault (step_reply tag result) ≡ is_step_fault result) × (is_cut (step_reply tag result) ≡ false)
+step_breaks : (tag : ℕ) (result : Result Progress StepError) → (is_break (step_reply tag result) ≡ is_step_fault result) ×
+    (is_fault (step_reply tag result) ≡ is_step_fault result) × (is_lost (step_reply tag result) ≡ false)
 step_breaks tag (Ok (progress.Wrote done all)) = (refl, refl, refl)
 step_breaks tag (Ok progress.Done) = (refl, refl, refl)
 step_breaks tag (Err failed.Unknown) = (refl, refl, refl)
 step_breaks tag (Err failed.Fault) = (refl, refl, refl)
 
-pub step_tells : (its : Config) (faulted : Bool) (old new : Point) (tag : ℕ) (result : Result Progress StepError) → Tells its faulted old (step_reply tag result) new
+pub step_tells : (its : Config) (faulted : Bool) (old new : Point) (tag : ℕ) (result : Result Progress StepError) →
+    Tells its faulted old (step_reply tag result) new
 step_tells its faulted old new tag (Ok (progress.Wrote done all)) = tt
 step_tells its faulted old new tag (Ok progress.Done) = tt
 step_tells its faulted old new tag (Err failed.Unknown) = tt
 step_tells its faulted old new tag (Err failed.Fault) = tt
 
-step_sure : {F : Type 0} (old new : Standing F) (tag : ℕ) (result : Result Progress StepError) → OnOk result (new.unsure ≡ unsure.Nothing) → (result ≡ Err failed.Unknown → new ≡ old) →
+step_sure : {F : Type 0} (old new : Standing F) (tag : ℕ) (result : Result Progress StepError) → OnOk result (new.unsure ≡ unsure.Nothing) →
+    (result ≡ Err failed.Unknown → new ≡ old) →
     old.unsure ≡ unsure.Nothing → is_fault (step_reply tag result) ≡ false → new.unsure ≡ unsure.Nothing
 step_sure old new tag (Ok p) sure unknown was whole = sure
 step_sure old new tag (Err failed.Unknown) sure unknown was whole = ap (λ (s : Standing _). s.unsure) (unknown refl) ∙ was
 step_sure old new tag (Err failed.Fault) sure unknown was whole = cc
 
-step_cuts : {F : Type 0} (state : F → FlashState) (protocol : Protocol) (old new : Standing F) (there : Bool) (tag : ℕ) (result : Result Progress StepError) → HoldsAlways state protocol new →
+step_cuts : {F : Type 0} (state : F → FlashState) (protocol : Protocol) (old new : Standing F) (there : Bool) (tag : ℕ) (result : Result Progress StepError) →
+    HoldsAlways state protocol new →
     StepsAs there old.machine new.machine tag result → is_fault (step_reply tag result) ≡ true → MayHaveCut state (command.Step tag) old new
 step_cuts state protocol old new there tag (Ok (progress.Wrote done all)) is steps fault = cc
 step_cuts state protocol old new there tag (Ok progress.Done) is steps fault = cc
 step_cuts state protocol old new there tag (Err failed.Unknown) is steps fault = cc
 step_cuts state protocol old new there tag (Err failed.Fault) is steps fault = record { may = tt; leaves = is.step_cut old.machine there tag steps }
 
-pub step_serves : {F : Type 0} (state : F → FlashState) (protocol : Protocol) (old new : Standing F) (there : Bool) (tag : ℕ) (result : Result Progress StepError) (r : Reply) →
-    HoldsAlways state protocol old → HoldsAlways state protocol new → StepsAs there old.machine new.machine tag result → Exits state old new (is_step_fault result) →
-    OnOk result (new.unsure ≡ unsure.Nothing) → (result ≡ Err failed.Unknown → new ≡ old) → r ≡ step_reply tag result → ServesHere state (command.Step tag) old new r
+pub step_serves : {F : Type 0} (state : F → FlashState) (protocol : Protocol) (old new : Standing F) (there : Bool) (tag : ℕ)
+    (result : Result Progress StepError) (r : Reply) →
+    HoldsAlways state protocol old → HoldsAlways state protocol new → StepsAs there old.machine new.machine tag result →
+    Exits state old new (is_step_fault result) →
+    OnOk result (new.unsure ≡ unsure.Nothing) → (result ≡ Err failed.Unknown → new ≡ old) → r ≡ step_reply tag result →
+    ServesHere state (command.Step tag) old new r
 step_serves state protocol old new there tag result r was is steps exits sure unknown told =
     let breaks = step_breaks tag result in
     subst (λ (q : Reply). ServesHere state (command.Step tag) old new q) (sym told)
     (exits_serve state protocol (command.Step tag) old new (step_reply tag result) (is_step_fault result) was is exits breaks.0 breaks.1 breaks.2
-    (result, (there, steps), refl) (λ still. cc) (λ faulted h. step_tells old.config faulted (point_at state old) (point_at state new) tag result) (step_sure old new tag result sure unknown)
+    (result, (there, steps), refl) (λ still. cc) (λ faulted h. step_tells old.config faulted (point_at state old) (point_at state new) tag result)
+    (step_sure old new tag result sure unknown)
     (step_cuts state protocol old new there tag result is steps))
 
 -- An abort
-abort_breaks : (tag : ℕ) (result : Result Aborted StepError) → (is_break (abort_reply tag result) ≡ is_abort_fault result) × (is_fault (abort_reply tag result) ≡ is_abort_fault result) × (is_cut (abort_reply tag result) ≡ false)
+abort_breaks : (tag : ℕ) (result : Result Aborted StepError) → (is_break (abort_reply tag result) ≡ is_abort_fault result) ×
+    (is_fault (abort_reply tag result) ≡ is_abort_fault result) × (is_lost (abort_reply tag result) ≡ false)
 abort_breaks tag (Ok aborted.Gone) = (refl, refl, refl)
 abort_breaks tag (Ok aborted.Late) = (refl, refl, refl)
 abort_breaks tag (Err failed.Unknown) = (refl, refl, refl)
 abort_breaks tag (Err failed.Fault) = (refl, refl, refl)
 
-abort_tells : (its : Config) (faulted : Bool) (old new : Point) (tag : ℕ) (result : Result Aborted StepError) → Tells its faulted old (abort_reply tag result) new
+abort_tells : (its : Config) (faulted : Bool) (old new : Point) (tag : ℕ) (result : Result Aborted StepError) →
+    Tells its faulted old (abort_reply tag result) new
 abort_tells its faulted old new tag (Ok aborted.Gone) = tt
 abort_tells its faulted old new tag (Ok aborted.Late) = tt
 abort_tells its faulted old new tag (Err failed.Unknown) = tt
 abort_tells its faulted old new tag (Err failed.Fault) = tt
 
-abort_sure : {F : Type 0} (old new : Standing F) (tag : ℕ) (result : Result Aborted StepError) → OnOk result (new.unsure ≡ unsure.Nothing) → (result ≡ Err failed.Unknown → new ≡ old) →
+abort_sure : {F : Type 0} (old new : Standing F) (tag : ℕ) (result : Result Aborted StepError) → OnOk result (new.unsure ≡ unsure.Nothing) →
+    (result ≡ Err failed.Unknown → new ≡ old) →
     old.unsure ≡ unsure.Nothing → is_fault (abort_reply tag result) ≡ false → new.unsure ≡ unsure.Nothing
 abort_sure old new tag (Ok p) sure unknown was whole = sure
 abort_sure old new tag (Err failed.Unknown) sure unknown was whole = ap (λ (s : Standing _). s.unsure) (unknown refl) ∙ was
@@ -98,9 +109,11 @@ abort_sure old new tag (Err failed.Fault) sure unknown was whole = cc
 aborts_same : (o : Option Entry) (there : Bool) (old new : ArrayState) (tag : ℕ) (result : Result Aborted StepError) → result ≡ Err failed.Fault →
     MatchOption o ((result ≡ Err failed.Unknown) × (new ≡ old)) (λ e. AbortGives old (settled there old) tag (settled_entry there e) result new) → new ≡ old
 aborts_same None there old new tag result is h = cc
-aborts_same (Some e) there old new tag result is h = subst (λ (x : Result Aborted StepError). AbortGives old (settled there old) tag (settled_entry there e) x new) is h
+aborts_same (Some e) there old new tag result is h = subst (λ (x : Result Aborted StepError). AbortGives old (settled there old) tag
+    (settled_entry there e) x new) is h
 
-abort_cuts : {F : Type 0} (state : F → FlashState) (protocol : Protocol) (old new : Standing F) (there : Bool) (tag : ℕ) (result : Result Aborted StepError) → HoldsAlways state protocol new →
+abort_cuts : {F : Type 0} (state : F → FlashState) (protocol : Protocol) (old new : Standing F) (there : Bool) (tag : ℕ) (result : Result Aborted StepError) →
+    HoldsAlways state protocol new →
     AbortsAs there old.machine new.machine tag result → is_fault (abort_reply tag result) ≡ true → MayHaveCut state (command.Abort tag) old new
 abort_cuts state protocol old new there tag (Ok aborted.Gone) is aborts fault = cc
 abort_cuts state protocol old new there tag (Ok aborted.Late) is aborts fault = cc
@@ -111,8 +124,10 @@ abort_cuts state protocol old new there tag (Err failed.Fault) is aborts fault =
       subst (λ (m : ArrayState). CutLeaves (λ e. ⊥) m (idle (array_in new.config.protocol new.config.logical (state new.flash).image))) same is.same_cut;
 }
 
-pub abort_serves : {F : Type 0} (state : F → FlashState) (protocol : Protocol) (old new : Standing F) (there : Bool) (tag : ℕ) (result : Result Aborted StepError) (r : Reply) →
-    HoldsAlways state protocol old → HoldsAlways state protocol new → AbortsAs there old.machine new.machine tag result → Exits state old new (is_abort_fault result) →
+pub abort_serves : {F : Type 0} (state : F → FlashState) (protocol : Protocol) (old new : Standing F) (there : Bool) (tag : ℕ)
+    (result : Result Aborted StepError) (r : Reply) →
+    HoldsAlways state protocol old → HoldsAlways state protocol new → AbortsAs there old.machine new.machine tag result →
+    Exits state old new (is_abort_fault result) →
     moment_of (state new.flash) ≡ moment_of (state old.flash) → OnOk result (new.unsure ≡ unsure.Nothing) → (result ≡ Err failed.Unknown → new ≡ old) →
     r ≡ abort_reply tag result → ServesHere state (command.Abort tag) old new r
 abort_serves state protocol old new there tag result r was is aborts exits still sure unknown told =
@@ -123,16 +138,19 @@ abort_serves state protocol old new there tag result r was is aborts exits still
     (abort_sure old new tag result sure unknown) (abort_cuts state protocol old new there tag result is aborts))
 
 -- A collection
-collect_breaks : (result : Result Collected Fault) → (is_break (collect_reply result) ≡ is_err result) × (is_fault (collect_reply result) ≡ is_err result) × (is_cut (collect_reply result) ≡ false)
+collect_breaks : (result : Result Collected Fault) → (is_break (collect_reply result) ≡ is_err result) × (is_fault (collect_reply result) ≡ is_err result) ×
+    (is_lost (collect_reply result) ≡ false)
 collect_breaks (Ok collected.One) = (refl, refl, refl)
 collect_breaks (Ok collected.Nothing) = (refl, refl, refl)
 collect_breaks (Err fault) = (refl, refl, refl)
 
-collect_sure : {F : Type 0} (new : Standing F) (result : Result Collected Fault) → OnOk result (new.unsure ≡ unsure.Nothing) → is_fault (collect_reply result) ≡ false → new.unsure ≡ unsure.Nothing
+collect_sure : {F : Type 0} (new : Standing F) (result : Result Collected Fault) → OnOk result (new.unsure ≡ unsure.Nothing) →
+    is_fault (collect_reply result) ≡ false → new.unsure ≡ unsure.Nothing
 collect_sure new (Ok p) sure whole = sure
 collect_sure new (Err fault) sure whole = cc
 
-collect_cuts : {F : Type 0} (state : F → FlashState) (protocol : Protocol) (old new : Standing F) (there : Bool) (result : Result Collected Fault) → HoldsAlways state protocol new →
+collect_cuts : {F : Type 0} (state : F → FlashState) (protocol : Protocol) (old new : Standing F) (there : Bool) (result : Result Collected Fault) →
+    HoldsAlways state protocol new →
     CollectsAs there old.machine new.machine result → is_fault (collect_reply result) ≡ true → MayHaveCut state command.Collect old new
 collect_cuts state protocol old new there (Ok collected.One) is collects fault = cc
 collect_cuts state protocol old new there (Ok collected.Nothing) is collects fault = cc
@@ -145,23 +163,30 @@ collect_cuts state protocol old new there (Err fault) is (inr settles) met = rec
 -- the operations of a collection end in an erase
 erased_last : (its : Config) (shape : Shape) (old new : Moment) (first more : List Operation) (block : ℕ) → shape ≡ shape_of its →
     Does shape old (first ++ more ++ erase block ∷ []) new → HasErased its old new
-erased_last its shape old new first more block is does =
-    (first ++ more ++ erase block ∷ [], subst (λ (x : Shape). Does x old (first ++ more ++ erase block ∷ []) new) is does, Any-push IsErase (first ++ more) (erase block) tt)
+erased_last its shape old new first more block is does = (
+  first ++ more ++ erase block ∷ [],
+  subst (λ (x : Shape). Does x old (first ++ more ++ erase block ∷ []) new) is does,
+  Any-push IsErase (first ++ more) (erase block) tt,
+)
 
 abbrev Collections : {F : Type 0} → (F → FlashState) → Standing F → Standing F → Noted → BlockTable → Collected → Type 0
 Collections state old new n t answer = CollectsTables (state old.flash) (state new.flash) n new.noted t new.table answer
 
-collect_tells : {F : Type 0} (state : F → FlashState) (old new : Standing F) (n : Noted) (t : BlockTable) (faulted : Bool) (result : Result Collected Fault) → (state old.flash).shape ≡ shape_of old.config →
+collect_tells : {F : Type 0} (state : F → FlashState) (old new : Standing F) (n : Noted) (t : BlockTable) (faulted : Bool) (result : Result Collected Fault) →
+    (state old.flash).shape ≡ shape_of old.config →
     IfOk result (Collections state old new n t) →
     (result ≡ Ok collected.Nothing → HasNothingToCollect old.config.protocol old.config.logical (state new.flash).image new.machine.entries) →
     Tells old.config faulted (point_at state old) (collect_reply result) (point_at state new)
 collect_tells state old new n t faulted (Ok collected.One) shape tables nothing =
-    erased_last old.config (state old.flash).shape (moment_of (state old.flash)) (moment_of (state new.flash)) (cleaning n (state old.flash).image t.spare) _ tables.victim shape tables.does
+    erased_last old.config (state old.flash).shape (moment_of (state old.flash)) (moment_of (state new.flash))
+    (cleaning n (state old.flash).image t.spare) _ tables.victim shape tables.does
 collect_tells state old new n t faulted (Ok collected.Nothing) shape tables nothing = nothing refl
 collect_tells state old new n t faulted (Err fault) shape tables nothing = tt
 
-pub collect_serves : {F : Type 0} (state : F → FlashState) (protocol : Protocol) (old new : Standing F) (there : Bool) (n : Noted) (t : BlockTable) (result : Result Collected Fault) (r : Reply) →
-    HoldsAlways state protocol old → HoldsAlways state protocol new → CollectsAs there old.machine new.machine result → Exits state old new (is_err result) → OnOk result (new.unsure ≡ unsure.Nothing) →
+pub collect_serves : {F : Type 0} (state : F → FlashState) (protocol : Protocol) (old new : Standing F) (there : Bool) (n : Noted) (t : BlockTable)
+    (result : Result Collected Fault) (r : Reply) →
+    HoldsAlways state protocol old → HoldsAlways state protocol new → CollectsAs there old.machine new.machine result → Exits state old new (is_err result) →
+    OnOk result (new.unsure ≡ unsure.Nothing) →
     IfOk result (Collections state old new n t) →
     (result ≡ Ok collected.Nothing → HasNothingToCollect old.config.protocol old.config.logical (state new.flash).image new.machine.entries) →
     r ≡ collect_reply result → ServesHere state command.Collect old new r

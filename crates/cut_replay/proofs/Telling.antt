@@ -1,5 +1,6 @@
 -- Commands that ask for no program and no erase.
-use Rattle.std.proofs.Common.{◌≡◌, ℕ, ◌+◌, ◌≤◌, Bool, true, false, cond, List, [], ◌∷◌, length, map, Option, Some, None, Result, Ok, Err, refl, sym, ap, ◌∙◌, subst, inl, inr, arith, eq-eqb, Contains}
+use Rattle.std.proofs.Common.{◌≡◌, ℕ, ◌+◌, ◌≤◌, Bool, true, false, cond, List, [], ◌∷◌, length, map, Option, Some, None, Result, Ok, Err, refl, sym, ap, ◌∙◌}
+use Rattle.std.proofs.Common.{subst, inl, inr, arith, eq-eqb, Contains}
 use Rattle.std.specs.Prelude.{Any, count_by, IsSome, IfOk}
 use Rattle.std.proofs.lemmas.List.Sums.{sum_by-cons}
 use Rattle.std.proofs.lemmas.List.Elements.{Contains-push_cases}
@@ -43,7 +44,7 @@ use Rattle.host_protocol.specs.declared.reply.Reply.{Reply}
 use Rattle.host_protocol.specs.declared.reply.Reply.TheVariants as reply
 use Rattle.cut_replay.specs.Run.{DoesCommand, read_reply, submit_reply, is_break, seen_after}
 use Rattle.cut_replay.specs.FlashRun.{Point, Tells, MovesBy, is_fault}
-use Rattle.cut_replay.specs.Bounds.{is_cut}
+use Rattle.cut_replay.specs.Bounds.{is_lost}
 use Rattle.tx_engine.specs.Always.{IsSeen, HoldsAlways}
 use Rattle.cut_replay.specs.Mounted.{point_at, ServesHere}
 use Rattle.cut_replay.proofs.Devices.{seen_at, seen_later}
@@ -56,9 +57,11 @@ stays_moved its c r old new same = record {
 }
 
 -- nothing at all changed
-pub same_serves : {F : Type 0} (state : F → FlashState) (c : Command) (s : Standing F) (r : Reply) → is_break r ≡ false → is_fault r ≡ false → is_cut r ≡ false →
+pub same_serves : {F : Type 0} (state : F → FlashState) (c : Command) (s : Standing F) (r : Reply) → is_break r ≡ false → is_fault r ≡ false →
+    is_lost r ≡ false →
     DoesCommand (limits_of s.config) (is_spent s.noted.mentions) c s.machine r s.machine →
-    ((faulted : Bool) → (faulted ≡ false → s.unsure ≡ unsure.Nothing) → Tells s.config faulted (point_at state s) r (point_at state s)) → ServesHere state c s s r
+    ((faulted : Bool) → (faulted ≡ false → s.unsure ≡ unsure.Nothing) → Tells s.config faulted (point_at state s) r (point_at state s)) →
+    ServesHere state c s s r
 same_serves state c s r unbroken whole uncut does tells = record {
   config = refl;
   does = does;
@@ -72,12 +75,14 @@ same_serves state c s r unbroken whole uncut does tells = record {
   whole = uncut;
 }
 
-pub stats_serves : {F : Type 0} (state : F → FlashState) (s : Standing F) (told : Stats) → TellsStats s.machine told → told.programs ≡ (state s.flash).programs → told.erases ≡ (state s.flash).erases →
+pub stats_serves : {F : Type 0} (state : F → FlashState) (s : Standing F) (told : Stats) → TellsStats s.machine told →
+    told.programs ≡ (state s.flash).programs → told.erases ≡ (state s.flash).erases →
     ServesHere state command.Stats s s (reply.Stats told)
 stats_serves state s told machine programs erases =
     same_serves state command.Stats s (reply.Stats told) refl refl refl (told, machine, refl, refl) (λ faulted h. (programs, erases))
 
-pub report_serves : {F : Type 0} (state : F → FlashState) (protocol : Protocol) (s : Standing F) (list : List Found) (text : List ℕ) → HoldsAlways state protocol s → list ≡ found_in s.noted.notes →
+pub report_serves : {F : Type 0} (state : F → FlashState) (protocol : Protocol) (s : Standing F) (list : List Found) (text : List ℕ) →
+    HoldsAlways state protocol s → list ≡ found_in s.noted.notes →
     text ≡ report protocol list s.config.logical → ServesHere state command.Explain s s (reply.Report text)
 report_serves state protocol s list text is found told =
     same_serves state command.Explain s (reply.Report text) refl refl refl ((text, refl), refl)
@@ -92,19 +97,22 @@ report_serves state protocol s list text is found told =
 
 -- A read
 read_breaks : (page : ℕ) (bytes : List ℕ) (result : Result ReadAnswer ReadError) →
-    (is_break (read_reply page bytes result) ≡ is_read_fault result) × (is_fault (read_reply page bytes result) ≡ is_read_fault result) × (is_cut (read_reply page bytes result) ≡ false)
+    (is_break (read_reply page bytes result) ≡ is_read_fault result) × (is_fault (read_reply page bytes result) ≡ is_read_fault result) ×
+    (is_lost (read_reply page bytes result) ≡ false)
 read_breaks page bytes (Ok read.Blank) = (refl, refl, refl)
 read_breaks page bytes (Ok read.Page) = (refl, refl, refl)
 read_breaks page bytes (Err unread.Range) = (refl, refl, refl)
 read_breaks page bytes (Err unread.Fault) = (refl, refl, refl)
 
-read_tells : (its : Config) (faulted : Bool) (old new : Point) (page : ℕ) (bytes : List ℕ) (result : Result ReadAnswer ReadError) → Tells its faulted old (read_reply page bytes result) new
+read_tells : (its : Config) (faulted : Bool) (old new : Point) (page : ℕ) (bytes : List ℕ) (result : Result ReadAnswer ReadError) →
+    Tells its faulted old (read_reply page bytes result) new
 read_tells its faulted old new page bytes (Ok read.Blank) = tt
 read_tells its faulted old new page bytes (Ok read.Page) = tt
 read_tells its faulted old new page bytes (Err unread.Range) = tt
 read_tells its faulted old new page bytes (Err unread.Fault) = tt
 
-read_may : (logical : ℕ) (pages : Pages) (page : ℕ) (bytes : List ℕ) (result : Result ReadAnswer ReadError) → ReadsPage logical pages page bytes result → is_fault (read_reply page bytes result) ≡ true →
+read_may : (logical : ℕ) (pages : Pages) (page : ℕ) (bytes : List ℕ) (result : Result ReadAnswer ReadError) → ReadsPage logical pages page bytes result →
+    is_fault (read_reply page bytes result) ≡ true →
     IsSome (page_at pages page)
 read_may logical pages page bytes (Ok read.Blank) reads fault = cc
 read_may logical pages page bytes (Ok read.Page) reads fault = cc
@@ -112,7 +120,8 @@ read_may logical pages page bytes (Err unread.Range) reads fault = cc
 read_may logical pages page bytes (Err unread.Fault) reads fault = reads.1
 
 -- only the flash changed, and its moment stays
-pub flash_serves : {F : Type 0} (state : F → FlashState) (protocol : Protocol) (old : Standing F) (flash : F) (page : ℕ) (bytes : List ℕ) (result : Result ReadAnswer ReadError) →
+pub flash_serves : {F : Type 0} (state : F → FlashState) (protocol : Protocol) (old : Standing F) (flash : F) (page : ℕ) (bytes : List ℕ)
+    (result : Result ReadAnswer ReadError) →
     (let new : Standing F = record old { flash = flash } in
     HoldsAlways state protocol new → ReadsPage old.config.logical old.machine.pages page bytes result → moment_of (state flash) ≡ moment_of (state old.flash) →
     Carries (state old.flash) (state flash) (is_read_fault result) → ServesHere state (command.Read page) old new (read_reply page bytes result))
@@ -125,15 +134,22 @@ flash_serves state protocol old flash page bytes result is reads still carries =
       carries = subst (λ (b : Bool). Carries (state old.flash) (state flash) b) (sym breaks.1) carries;
       tells = λ faulted h. read_tells old.config faulted (point_at state old) (point_at state (record old { flash = flash })) page bytes result;
       sure = λ sure h. sure;
-      seen = λ seen h. record { mentions = (seen_later seen (command.Read page) (read_reply page bytes result) old h).mentions; names = (seen_later seen (command.Read page) (read_reply page bytes result) old h).names };
+      seen = λ seen h. record {
+        mentions = (seen_later seen (command.Read page) (read_reply page bytes result) old h).mentions;
+        names =
+            (seen_later seen (command.Read page) (read_reply page bytes result) old h).names;
+      };
       versions = λ p lt. inr (refl, refl);
       cut = λ fault. record { may = read_may old.config.logical old.machine.pages page bytes result reads fault; leaves = is.same_cut };
       whole = breaks.2;
     }
 
-pub read_serves : {F : Type 0} (state : F → FlashState) (protocol : Protocol) (old new : Standing F) (page : ℕ) (bytes : List ℕ) (result : Result ReadAnswer ReadError) (r : Reply) →
-    HoldsAlways state protocol new → ReadsPage old.config.logical old.machine.pages page bytes result → moment_of (state new.flash) ≡ moment_of (state old.flash) →
-    Carries (state old.flash) (state new.flash) (is_read_fault result) → new ≡ record old { flash = new.flash } → r ≡ read_reply page bytes result → ServesHere state (command.Read page) old new r
+pub read_serves : {F : Type 0} (state : F → FlashState) (protocol : Protocol) (old new : Standing F) (page : ℕ) (bytes : List ℕ)
+    (result : Result ReadAnswer ReadError) (r : Reply) →
+    HoldsAlways state protocol new → ReadsPage old.config.logical old.machine.pages page bytes result →
+    moment_of (state new.flash) ≡ moment_of (state old.flash) →
+    Carries (state old.flash) (state new.flash) (is_read_fault result) → new ≡ record old { flash = new.flash } → r ≡ read_reply page bytes result →
+    ServesHere state (command.Read page) old new r
 read_serves {F = F} state protocol old new page bytes result r is reads still carries stays told =
     subst (λ (q : Reply). ServesHere state (command.Read page) old new q) (sym told)
     (subst (λ (s : Standing F). ServesHere state (command.Read page) old s (read_reply page bytes result)) (sym stays)
@@ -141,7 +157,7 @@ read_serves {F = F} state protocol old new page bytes result r is reads still ca
 
 -- A write
 write_unbroken : (tag pages : ℕ) (result : Result (Unit {0}) SubmitError) →
-    (is_break (submit_reply tag pages result) ≡ false) × (is_fault (submit_reply tag pages result) ≡ false) × (is_cut (submit_reply tag pages result) ≡ false)
+    (is_break (submit_reply tag pages result) ≡ false) × (is_fault (submit_reply tag pages result) ≡ false) × (is_lost (submit_reply tag pages result) ≡ false)
 write_unbroken tag pages (Ok u) = (refl, refl, refl)
 write_unbroken tag pages (Err refused.Empty) = (refl, refl, refl)
 write_unbroken tag pages (Err (refused.Range page)) = (refl, refl, refl)
@@ -151,7 +167,8 @@ write_unbroken tag pages (Err (refused.Overlap page owner)) = (refl, refl, refl)
 write_unbroken tag pages (Err (refused.Full free)) = (refl, refl, refl)
 write_unbroken tag pages (Err (refused.Spent page)) = (refl, refl, refl)
 
-write_tells : (its : Config) (faulted : Bool) (old new : Point) (tag pages : ℕ) (result : Result (Unit {0}) SubmitError) → Tells its faulted old (submit_reply tag pages result) new
+write_tells : (its : Config) (faulted : Bool) (old new : Point) (tag pages : ℕ) (result : Result (Unit {0}) SubmitError) →
+    Tells its faulted old (submit_reply tag pages result) new
 write_tells its faulted old new tag pages (Ok u) = tt
 write_tells its faulted old new tag pages (Err refused.Empty) = tt
 write_tells its faulted old new tag pages (Err (refused.Range page)) = tt
@@ -174,11 +191,13 @@ counts_step : (b : Bool) (n : ℕ) → n ≤ cond b 1 0 + n
 counts_step true n = omega arith
 counts_step false n = omega arith
 
-named_in : (n : Noted) (ws : List PageWrite) (page version : ℕ) (name : Link) → Contains (map (next_name n) ws) name → name.page ≡ page → name.version ≡ version →
+named_in : (n : Noted) (ws : List PageWrite) (page version : ℕ) (name : Link) → Contains (map (next_name n) ws) name → name.page ≡ page →
+    name.version ≡ version →
     (version ≡ mention_of n page + 1) × (1 ≤ count_by (is_of page) ws)
 named_in n [] page version name c same at = absurd (Contains-nil name c)
 named_in n (w ∷ ws) page version name c same at =
-    let split : count_by (is_of page) (w ∷ ws) ≡ cond (is_of page w) 1 0 + count_by (is_of page) ws = sum_by-cons (λ (w : PageWrite). cond (is_of page w) 1 0) w ws in
+    let split : count_by (is_of page) (w ∷ ws) ≡ cond (is_of page w) 1 0 + count_by (is_of page) ws =
+    sum_by-cons (λ (w : PageWrite). cond (is_of page w) 1 0) w ws in
     elim (Contains-cases (next_name n w) (map (next_name n) ws) name c) [
       | inl e ↦ (
           let here : w.page ≡ page = ap (λ (x : Link). x.page) e ∙ same in
@@ -204,7 +223,8 @@ named_after_seen old new seen tag batch (Ok u) h names page version named =
     let mine : Naming = record { names = map (next_name old.noted) batch.entries; noted_count = 0 } in
     let where_from = Contains-push_cases old.namings mine at.0 (subst (λ (x : List Naming). Contains x at.0) names at.1) in
     elim where_from [
-      | inl before ↦ (let most = h.names page version (any_in (λ x. Any (λ name. (name.page ≡ page) × (name.version ≡ version)) x.names) old.namings at.0 before at.2) in omega arith)
+      | inl before ↦ (let most = h.names page version (any_in (λ x. Any (λ name. (name.page ≡ page) ×
+          (name.version ≡ version)) x.names) old.namings at.0 before at.2) in omega arith)
       | inr same ↦ (
           let name = in_any (λ (name : Link). (name.page ≡ page) × (name.version ≡ version)) (map (next_name old.noted) batch.entries)
           (subst (λ (x : Naming). Any (λ name. (name.page ≡ page) × (name.version ≡ version)) x.names) (sym same) at.2) in
@@ -212,8 +232,10 @@ named_after_seen old new seen tag batch (Ok u) h names page version named =
           let most = h.mentions page in omega (arith, both.0, both.1, most))
     ]
 
-pub write_serves : {F : Type 0} (state : F → FlashState) (old new : Standing F) (tag : ℕ) (batch : Writes) (result : Result (Unit {0}) SubmitError) (r : Reply) →
-    Submits (limits_of old.config) (is_spent old.noted.mentions) old.machine new.machine tag batch.entries result → new.namings ≡ named_after old.noted batch.entries result old.namings →
+pub write_serves : {F : Type 0} (state : F → FlashState) (old new : Standing F) (tag : ℕ) (batch : Writes) (result : Result (Unit {0}) SubmitError)
+    (r : Reply) →
+    Submits (limits_of old.config) (is_spent old.noted.mentions) old.machine new.machine tag batch.entries result →
+    new.namings ≡ named_after old.noted batch.entries result old.namings →
     KeepsTables old new → r ≡ submit_reply tag (length batch.entries) result → ServesHere state (command.Write tag batch) old new r
 write_serves {F = F} state old new tag batch result r submits names keeps told =
     let reply = submit_reply tag (length batch.entries) result in
@@ -223,7 +245,8 @@ write_serves {F = F} state old new tag batch result r submits names keeps told =
       config = keeps.config;
       does = (result, submits, refl);
       moves = stays_moved old.config (command.Write tag batch) reply (state old.flash) (state new.flash) (ap moment_of flash);
-      carries = subst (λ (b : Bool). Carries (state old.flash) (state new.flash) b) (sym breaks.1) (subst (λ (s : FlashState). Carries (state old.flash) s false) (sym flash) (Carries-nothing (state old.flash)));
+      carries = subst (λ (b : Bool). Carries (state old.flash) (state new.flash) b) (sym breaks.1)
+          (subst (λ (s : FlashState). Carries (state old.flash) s false) (sym flash) (Carries-nothing (state old.flash)));
       tells = λ faulted h. write_tells old.config faulted (point_at state old) (point_at state new) tag (length batch.entries) result;
       sure = λ sure h. keeps.unsure ∙ sure;
       seen = λ seen h. record {
@@ -233,23 +256,30 @@ write_serves {F = F} state old new tag batch result r submits names keeps told =
       };
       versions = λ page lt. inr (
         ap (λ (n : Noted). current_of n page) keeps.noted ∙ pins_current old.noted new.noted.pins page,
-        ap (λ (m : ArrayState). page_at m.pages page) submits.opens ∙ ap (λ (x : Pages). page_at x page) (opened_pages (refusal (limits_of old.config) (is_spent old.noted.mentions) old.machine.entries tag batch.entries) tag batch.entries old.machine),
+        ap (λ (m : ArrayState). page_at m.pages page) submits.opens ∙ ap (λ (x : Pages). page_at x page)
+            (opened_pages (refusal (limits_of old.config) (is_spent old.noted.mentions) old.machine.entries tag batch.entries) tag batch.entries old.machine),
       );
       cut = λ fault. (let not = breaks.1 in cc);
       whole = breaks.2;
     })
 
 -- the reply of a write whose answer is known
-pub told_opened : (tag pages count : ℕ) (u : Unit {0}) (result : Result (Unit {0}) SubmitError) → count ≡ pages → result ≡ Ok u → reply.Opened tag count ≡ submit_reply tag pages result
+pub told_opened : (tag pages count : ℕ) (u : Unit {0}) (result : Result (Unit {0}) SubmitError) → count ≡ pages → result ≡ Ok u →
+    reply.Opened tag count ≡ submit_reply tag pages result
 told_opened tag pages count u result same is = ap (λ n. reply.Opened tag n) same ∙ ap (submit_reply tag pages) (sym is)
 
-pub told_refused : (tag pages : ℕ) (e : SubmitError) (result : Result (Unit {0}) SubmitError) (r : Reply) → r ≡ submit_reply tag pages (Err e) → result ≡ Err e → r ≡ submit_reply tag pages result
+pub told_refused : (tag pages : ℕ) (e : SubmitError) (result : Result (Unit {0}) SubmitError) (r : Reply) → r ≡ submit_reply tag pages (Err e) →
+    result ≡ Err e → r ≡ submit_reply tag pages result
 told_refused tag pages e result r told is = told ∙ ap (submit_reply tag pages) (sym is)
 
 -- a read whose reply there was memory for
-pub reads_serve : {F : Type 0} (state : F → FlashState) (protocol : Protocol) (old new : Standing F) (page : ℕ) (bytes : List ℕ) (result : Result ReadAnswer ReadError) (r : Result Reply Memory) →
-    HoldsAlways state protocol new → ReadsPage old.config.logical old.machine.pages page bytes result → moment_of (state new.flash) ≡ moment_of (state old.flash) →
-    Carries (state old.flash) (state new.flash) (is_read_fault result) → new ≡ record old { flash = new.flash } → IfOk r (λ r. r ≡ read_reply page bytes result) →
+pub reads_serve : {F : Type 0} (state : F → FlashState) (protocol : Protocol) (old new : Standing F) (page : ℕ) (bytes : List ℕ)
+    (result : Result ReadAnswer ReadError) (r : Result Reply Memory) →
+    HoldsAlways state protocol new → ReadsPage old.config.logical old.machine.pages page bytes result →
+    moment_of (state new.flash) ≡ moment_of (state old.flash) →
+    Carries (state old.flash) (state new.flash) (is_read_fault result) → new ≡ record old { flash = new.flash } →
+    IfOk r (λ r. r ≡ read_reply page bytes result) →
     IfOk r (λ r. ServesHere state (command.Read page) old new r)
-reads_serve state protocol old new page bytes result (Ok r) is reads still carries stays told = read_serves state protocol old new page bytes result r is reads still carries stays told
+reads_serve state protocol old new page bytes result (Ok r) is reads still carries stays told =
+    read_serves state protocol old new page bytes result r is reads still carries stays told
 reads_serve state protocol old new page bytes result (Err e) is reads still carries stays told = tt

@@ -1,5 +1,5 @@
 -- How many cuts and faults a run has: no more than were to come and were armed, and no more than
--- the flash counts.
+-- the flash counts. A fault by which transactions were dropped is one of them.
 use Rattle.std.specs.Prelude.{◌≡◌, ◌⊎◌, ℕ, ◌+◌, ◌≤◌, false, List, [], ◌∷◌, count_by, All, Option, Some, MatchBool}
 use Rattle.flash_model.specs.Flash.{FlashState, Told, IsSteady, counted_by}
 use Rattle.flash_model.specs.Calls.{BothTell, Rose}
@@ -8,7 +8,7 @@ use Rattle.host_protocol.specs.declared.command.Command.TheVariants as command
 use Rattle.host_protocol.specs.declared.reply.Reply.{Reply}
 use Rattle.cut_replay.specs.Run.{is_break}
 use Rattle.cut_replay.specs.FlashRun.{is_fault}
-pub use Rattle.array_machine.specs.Breaks.{is_cut, arms_cut, arms_fault, AreFew}
+pub use Rattle.array_machine.specs.Breaks.{is_cut, is_lost, arms_cut, arms_fault, AreFew}
 
 -- and with what is to come still, of all commands
 pub record AreSpent (cs : List Command) (rs : List Reply) (old new : Told) : Type 0 where

@@ -18,7 +18,7 @@ use Rattle.tx_engine.specs.Collections.{HasNothingToCollect}
 use Rattle.tx_engine.specs.Exits.{StandsFor}
 use Rattle.tx_engine.specs.Standing.{limits_of}
 pub use Rattle.array_machine.specs.Breaks.{is_fault}
-use Rattle.cut_replay.specs.Run.{RunState, DoesCommand, NotDone, IsCut, MayBeSpent, is_arm, is_break, seen_after}
+use Rattle.cut_replay.specs.Run.{RunState, DoesCommand, NotDone, LosesOpen, MayBeSpent, is_arm, is_break, seen_after}
 
 -- where a run stands: its state, and what the flash holds and has counted
 pub record Point : Type 0 where
@@ -38,6 +38,7 @@ is_still (command.Write tag batch) = true
 is_still (command.Step tag) = false
 is_still (command.Finish tag) = false
 is_still (command.Abort tag) = true
+is_still command.StepAll = false
 is_still command.Collect = false
 is_still command.Stats = true
 is_still command.Explain = true
@@ -45,8 +46,8 @@ is_still (command.Cut count what) = true
 is_still (command.Fault count what) = true
 is_still (command.BadRead count) = true
 
--- the moment comes from the one before by operations, of which the last may be broken where power
--- is cut or a fault is met; by none where the command asks for none
+-- the moment comes from the one before by programs, erases and fires, of which the last may be
+-- broken where power is cut or a fault is met; by none where the command asks for none
 pub record MovesBy (its : Config) (c : Command) (r : Reply) (old new : Moment) : Type 0 where
   pub moves : Moves (shape_of its) old (is_break r) new
   pub still : is_still c ≡ true → new ≡ old
@@ -93,7 +94,7 @@ ServesFlash its spent faulted c old r new =
     MatchBool (is_arm c) ((r ≡ reply.Armed) × (new ≡ old))
     ((NotDone old.state r new.state × (new.moment ≡ old.moment))
     ⊎ (IsDone its spent faulted c old r new
-    ⊎ (IsCut c old.state r new.state × MovesBy its c r old.moment new.moment)))
+    ⊎ (LosesOpen c old.state r new.state × MovesBy its c r old.moment new.moment)))
 
 -- A run over a list of commands: one reply and one point for each. `seen` is at least the greatest
 -- mention of each page on the flash, and `faulted` says whether a fault was met before.

@@ -15,16 +15,20 @@ use Rattle.tx_engine.specs.Exits.{VersionsTell}
 use Rattle.tx_engine.specs.Naming.{is_spent}
 use Rattle.tx_engine.specs.Read.{ReadsFlash, read_place}
 use Rattle.tx_engine.specs.Standing.{Standing, limits_of}
-use Rattle.tx_engine.specs.Step.{CutLeaves}
 use Rattle.array_machine.specs.declared.answers.ReadAnswer.{ReadAnswer}
 use Rattle.array_machine.specs.declared.answers.ReadAnswer.TheVariants as answer
 use Rattle.array_machine.specs.declared.answers.ReadError.{ReadError}
 use Rattle.host_protocol.specs.declared.command.Command.{Command}
 use Rattle.host_protocol.specs.declared.command.Command.TheVariants as command
 use Rattle.host_protocol.specs.declared.reply.Reply.{Reply}
-use Rattle.cut_replay.specs.Run.{DoesCommand, MayBeCut, MayComplete, seen_after}
+use Rattle.cut_replay.specs.Run.{DoesCommand, MayBeCut, CutLeavesOf, seen_after}
 use Rattle.cut_replay.specs.FlashRun.{Point, MovesBy, Tells, is_fault}
-use Rattle.cut_replay.specs.Bounds.{is_cut}
+use Rattle.cut_replay.specs.Bounds.{is_lost}
+
+-- several transactions go on at once
+abbrev pub is_step_all : Command → Bool
+is_step_all command.StepAll = true
+is_step_all _ = false
 
 -- the point of a run at which a device is mounted
 abbrev pub point_at : {F : Type 0} → (F → FlashState) → Standing F → Point
@@ -46,7 +50,7 @@ IsCached s entries = All (IsCachedAs s) entries
 pub record MayHaveCut {F : Type 0} (state : F → FlashState) (c : Command)
     (old new : Standing F) : Type 0 where
   pub may : MayBeCut old.machine.pages c
-  pub leaves : CutLeaves (MayComplete c) old.machine
+  pub leaves : CutLeavesOf c old.machine
       (idle (array_in new.config.protocol new.config.logical (state new.flash).image))
 
 -- A command was done on a device, with this reply unless power was cut.
@@ -63,7 +67,7 @@ pub record ServesHere {F : Type 0}
   pub seen : (seen : ℕ → ℕ) → IsSeen seen old → IsSeen (seen_after seen c r) new
   pub versions : VersionsTell old new
   pub cut : is_fault r ≡ true → MayHaveCut state c old new
-  pub whole : is_cut r ≡ false
+  pub whole : is_lost r ≡ false
 
 -- moment, shape and what is told of retired blocks stay, the count of faults does not fall, and no more is to come
 pub record MomentStays (old new : FlashState) : Type 0 where

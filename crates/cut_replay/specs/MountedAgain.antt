@@ -1,30 +1,30 @@
--- That a device is mounted again once power was cut in a command.
+-- That a device is mounted again once power was cut in a command, or what was open was dropped.
 use Rattle.std.specs.Prelude.{◌≡◌, ◌⊎◌, ℕ, ◌+◌, ◌≤◌, Bool, true, List, [], ◌∷◌, count_by}
 use Rattle.tx_types.specs.declared.config.Config.{Config}
 use Rattle.flash_model.specs.Flash.{FlashState, counted_by}
 use Rattle.flash_model.specs.Operations.{moment_of}
 use Rattle.host_protocol.specs.declared.reply.Reply.{Reply}
-use Rattle.host_protocol.specs.declared.reply.Reply.TheVariants as reply
 use Rattle.cut_replay.specs.Run.{NotDone, is_break}
 use Rattle.cut_replay.specs.FlashRun.{Point, opening_point}
+use Rattle.cut_replay.specs.Bounds.{is_lost}
 
--- after a reply `cut` the device is mounted, unless the command was not done
+-- after a reply `cut` or `dropped` the device is mounted, unless the command was not done
 abbrev pub IsMountedAgain : Point → Reply → Point → Type 0
 IsMountedAgain old r new =
-    r ≡ reply.Cut →
+    is_lost r ≡ true →
     (NotDone old.state r new.state × (new.moment ≡ old.moment)) ⊎ (new.state.up ≡ true)
 
--- or the mount after the cut met a fault, which was counted beside the cut
+-- or the mount after it met a fault, which was counted beside the one of the reply
 abbrev pub MountsAfter : Point → Reply → Point → ℕ → ℕ → Type 0
 MountsAfter old r new before now =
-    IsMountedAgain old r new ⊎ ((r ≡ reply.Cut) × (counted_by 2 before ≤ now))
+    IsMountedAgain old r new ⊎ ((is_lost r ≡ true) × (counted_by 2 before ≤ now))
 
--- in a run from this point so many mounts after a cut met a fault
+-- in a run from this point so many mounts after such replies met a fault
 abbrev pub FailedMounts : Point → List Reply → List Point → ℕ → Type 0
 FailedMounts old [] [] failed = failed ≡ 0
 FailedMounts old (r ∷ rs) (p ∷ ps) failed =
     (IsMountedAgain old r p × FailedMounts p rs ps failed)
-    ⊎ ((r ≡ reply.Cut) × ((fewer : ℕ) × (failed ≡ fewer + 1) × FailedMounts p rs ps fewer))
+    ⊎ ((is_lost r ≡ true) × ((fewer : ℕ) × (failed ≡ fewer + 1) × FailedMounts p rs ps fewer))
 FailedMounts old _ _ failed = ⊥
 
 -- the flash counted each of these faults, beside those of the replies

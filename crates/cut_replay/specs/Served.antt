@@ -26,8 +26,8 @@ pub record Watched : Type 0 where
 -- There is one run on the flash over these commands. Its last moment is that of the flash that
 -- comes back. Of its replies the first so many were told, each with its moment. Where a command was
 -- served and the flash was live and told that no break was to come, the run begins mounted. When the
--- reply `cut` of a command that was done is told, the device is mounted again, unless the mount met
--- a fault.
+-- reply `cut` or `dropped` of a command that was done is told, the device is mounted again, unless the
+-- mount met a fault.
 pub record ServesRun
     (its : Config) (cs : List Command) (told : ℕ) (old new : FlashState)
     (before after : Watched) : Type 0 where

@@ -23,7 +23,7 @@ use Rattle.host_protocol.specs.declared.reply.Reply.{Reply}
 use Rattle.host_protocol.specs.declared.reply.Reply.TheVariants as reply
 use Rattle.cut_replay.specs.Run.{MayBeSpent, is_arm, seen_after}
 use Rattle.cut_replay.specs.FlashRun.{Point, IsPoint, ServesFlash, is_fault, opening_point}
-use Rattle.cut_replay.specs.Bounds.{is_cut, arms_cut, arms_fault, IsSet, CountsBreak}
+use Rattle.cut_replay.specs.Bounds.{is_cut, is_lost, arms_cut, arms_fault, IsSet, CountsBreak}
 use Rattle.cut_replay.specs.MountedAgain.{MountsAfter}
 use Rattle.tx_engine.specs.Always.{IsSeen, HoldsAlways}
 use Rattle.cut_replay.specs.Mounted.{point_at, IsCached, CachesCommand, MomentStays, StaysQuiet}
@@ -42,6 +42,11 @@ flash_in (session.Unmounted flash) = flash
 abbrev pub is_mounted : {F R : Type 0} → Session F R → Bool
 is_mounted (session.Mounted s) = true
 is_mounted (session.Unmounted flash) = false
+
+-- the device that it has is not dropped
+abbrev pub IsKept : {F R : Type 0} → Session F R → Type 0
+IsKept (session.Mounted s) = s.dropped ≡ false
+IsKept (session.Unmounted flash) = Unit {0}
 
 -- the point of a run that a session is at
 abbrev pub point_of : {F R : Type 0} → (F → FlashState) → Config → Session F R → Point
@@ -135,14 +140,15 @@ Refuses state its (session.Unmounted old) flash law slot =
     × IsLeastImageBreach its.protocol its.logical (shape_of its) (state old).image
     (record { law = law; slot = slot })
 
--- there was no memory before the command did anything, or after power was cut in it
+-- there was no memory before the command did anything, or after what was open was lost in it
 abbrev pub EndsForMemory : {F R : Type 0} → (F → FlashState) → Config → Command → Session F R → F →
     Type 0
 EndsForMemory state its c old flash =
     StaysQuiet (state (flash_in old)) (state flash)
-    ⊎ (((seen : ℕ → ℕ) → (faulted : Bool) → StandsAt state its seen faulted old →
-    ServesIn state its seen faulted c old reply.Cut (session.Unmounted flash))
-    × BothTell (IsSpentBy c reply.Cut) (state (flash_in old)).told (state flash).told
+    ⊎ ((r : Reply) × (is_lost r ≡ true)
+    × ((seen : ℕ → ℕ) → (faulted : Bool) → StandsAt state its seen faulted old →
+    ServesIn state its seen faulted c old r (session.Unmounted flash))
+    × BothTell (IsSpentBy c r) (state (flash_in old)).told (state flash).told
     × Rose (state (flash_in old)).faults (state flash).faults)
 
 -- Why no more commands are served.
@@ -193,11 +199,11 @@ Unmounted state its flash new (failed.Unsound law slot) =
 Unmounted state its flash new failed.Memory = StaysQuiet (state flash) (state new)
 
 -- What a command that is no arm does to the cache: on a device that is mounted still, without a
--- cut, what it does there; and else nothing is held.
+-- cut or a drop, what it does there; and else nothing is held.
 abbrev pub CachesServed : {F R : Type 0} → (F → FlashState) → Command → Standing F → Reply →
     Session F R → CachedPages → CachedPages → Type 0
 CachesServed state c s r (session.Mounted t) before after =
-    MatchBool (is_cut r) (after ≡ record before { entries = [] })
+    MatchBool (is_lost r) (after ≡ record before { entries = [] })
     (CachesCommand state c s t before after)
 CachesServed state c s r (session.Unmounted flash) before after =
     after ≡ record before { entries = [] }
@@ -239,17 +245,30 @@ SetsArm state protocol sets (session.Unmounted old) (session.Mounted new) = ⊥
 
 -- What comes of a call of a device: nothing more where it is live still, and else a mount of its
 -- flash.
-abbrev pub MountsAgain : {F R : Type 0} → (F → FlashState) → Config → F →
+abbrev pub MountsAgain : {F R : Type 0} → (F → FlashState) → Config → F → Reply →
     Result (Session F R × Reply) (Ended F) → Type 0
-MountsAgain state its flash (Ok done) = Mounted state its flash done.0 × (done.1 ≡ reply.Cut)
-MountsAgain state its flash (Err ended) = Unmounted state its flash ended.flash ended.why
+MountsAgain state its flash r (Ok done) = Mounted state its flash done.0 × (done.1 ≡ r)
+MountsAgain state its flash r (Err ended) = Unmounted state its flash ended.flash ended.why
+
+-- the reply where what was open is lost, by whether power is on
+abbrev pub lost_reply : Bool → Reply
+lost_reply true = reply.Dropped
+lost_reply false = reply.Cut
+
+-- and what comes of it: a mount of the flash
+pub record FollowsLoss {F R : Type 0}
+    (state : F → FlashState) (its : Config) (old : Session F R)
+    (result : Result (Session F R × Reply) (Ended F)) (before after : CachedPages) : Type 0 where
+  pub mounts : MountsAgain state its (flash_in old) (lost_reply (state (flash_in old)).live) result
+  pub emptied : after ≡ record before { entries = [] }
 
 pub record Follows {F R : Type 0}
     (state : F → FlashState) (its : Config) (old : Session F R) (r : Reply)
     (result : Result (Session F R × Reply) (Ended F)) (before after : CachedPages) : Type 0 where
   pub went_on : (state (flash_in old)).live ≡ true → (result ≡ Ok (old, r)) × (after ≡ before)
   pub was_cut : (state (flash_in old)).live ≡ false →
-      MountsAgain state its (flash_in old) result × (after ≡ record before { entries = [] })
+      MountsAgain state its (flash_in old) reply.Cut result
+      × (after ≡ record before { entries = [] })
 
 -- the session that is left with what was answered: it goes on, or ends with its flash
 abbrev pub left : {F R : Type 0} → Session F R → Result Reply ServeError →

@@ -1,4 +1,4 @@
-ghost use Rattle.std.specs.Prelude.{◌≡◌, ℕ, Err, IfOk};
+ghost use Rattle.std.specs.Prelude.{◌≡◌, ℕ, false, Err, IfOk};
 ghost use Rattle.tx_engine.specs.Always.{HoldsAlways};
 ghost use Rattle.cut_replay.specs.Mounted.{ServesHere};
 ghost use Rattle.cut_replay.specs.Run.{submit_reply, step_reply, abort_reply, collect_reply};
@@ -111,6 +111,7 @@ fn won_back(answer: Result<Collected, Fault>) -> Reply
 
 /// Tells the numbers of a device.
 pub fn stats<F: Flash, R: CommitRule>(device: &Device<F, R>) -> Reply
+    requires kept { device.now.dropped ≡ false }
     ensures { ServesHere F.state Command.Stats device.now device.now result }
 {
     Reply::Stats(device.stats())
@@ -121,6 +122,7 @@ pub fn report<F: Flash, R: CommitRule>(
     alloc: Global,
     device: &Device<F, R>,
 ) -> Result<Reply, Memory>
+    requires kept { device.now.dropped ≡ false }
     ensures { IfOk result (λ r. ServesHere F.state Command.Explain device.now device.now r) }
 {
     let logical = held_always(device).logical;

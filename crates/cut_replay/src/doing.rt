@@ -2,7 +2,7 @@ ghost use Rattle.std.specs.Prelude.{◌≡◌, false, length, IfOk, OnErr};
 ghost use Rattle.host_protocol.specs.Commands.{Suits};
 ghost use Rattle.tx_engine.specs.Always.{HoldsAlways};
 ghost use Rattle.cut_replay.specs.Mounted.{IsCached, StaysQuiet, ServesHere};
-ghost use Rattle.cut_replay.specs.Mounted.{CachesCommand};
+ghost use Rattle.cut_replay.specs.Mounted.{CachesCommand, is_step_all};
 ghost use Rattle.cut_replay.specs.Run.{is_arm};
 
 use crate::calls::{abort, collect, report, stats, step, write};
@@ -16,8 +16,8 @@ use std::alloc::Global;
 use tx_engine::Device;
 use tx_types::Memory;
 
-/// Does a command that is no arm on a device. Where power was cut the reply is to be `Cut` in place
-/// of this one.
+/// Does a command on a device, other than an arm and than going on with several transactions at once. Where power was
+/// cut the reply is to be `Cut` in place of this one.
 pub fn done<F: Flash, R: CommitRule>(
     alloc: Global,
     device: &mut Device<F, R>,
@@ -26,6 +26,7 @@ pub fn done<F: Flash, R: CommitRule>(
     command: &Command,
 ) -> Result<Reply, Memory>
     requires no_arm { is_arm command.now ≡ false }
+    requires one { is_step_all command.now ≡ false }
     requires suits { Suits device.old.config.page_bytes command.now }
     requires room { length room.old ≡ device.old.config.page_bytes }
     requires size { cache.old.page_bytes ≡ device.old.config.page_bytes }
@@ -47,6 +48,7 @@ pub fn done<F: Flash, R: CommitRule>(
         Command::Collect => Ok(collect(device)),
         Command::Stats => Ok(stats(device)),
         Command::Explain => report(alloc, device),
-        Command::Cut { .. } | Command::Fault { .. } | Command::BadRead { .. } => unreachable!(),
+        Command::StepAll | Command::Cut { .. } | Command::Fault { .. } | Command::BadRead { .. } =>
+            unreachable!(),
     }
 }

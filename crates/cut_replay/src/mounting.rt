@@ -2,6 +2,7 @@ ghost use Rattle.std.specs.Prelude.{◌≡◌, Ok, IfOk, IfErr, OnOk, [], false}
 ghost use Rattle.tx_types.specs.Config.{checked};
 ghost use Rattle.flash_model.specs.Arms.{TurnsOn};
 ghost use Rattle.cut_replay.specs.Sessions.{flash_in, left, Mounted, Unmounted, Follows};
+ghost use Rattle.cut_replay.specs.Sessions.{FollowsLoss};
 
 use crate::ServeError;
 use crate::session::{Ended, Session};
@@ -104,6 +105,26 @@ pub fn followed<F: Power, R: CommitRule>(
     if session.flash().live() {
         return Ok(reply);
     }
+    after_loss(alloc, config, session, cache)
+}
+
+/// What follows a call after which no transaction is open: power was cut in it, or the device dropped
+/// them. The device is mounted again at once, and the reply is `Cut` or `Dropped`.
+pub fn after_loss<F: Power, R: CommitRule>(
+    alloc: Global,
+    config: Config,
+    session: &mut Session<F, R>,
+    cache: &mut PageCache,
+) -> Result<Reply, ServeError>
+    requires check { checked config ≡ Ok (F.state (flash_in session.old)).shape }
+    requires rule { config.protocol ≡ R.protocol }
+    ensures { FollowsLoss F.state config session.old (left session.new result) cache.old cache.new }
+{
+    let reply = if session.flash().live() {
+        Reply::Dropped
+    } else {
+        Reply::Cut
+    };
     mount_again(alloc, config, session, cache)?;
-    Ok(Reply::Cut)
+    Ok(reply)
 }

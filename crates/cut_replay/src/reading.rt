@@ -72,6 +72,7 @@ fn read_through<F: Flash, R: CommitRule>(
     room: &mut [u8],
     page: u32,
 ) -> (Result<ReadAnswer, ReadError>, Result<(), Memory>)
+    requires kept { device.old.dropped ≡ false }
     requires room { length room.old ≡ device.old.config.page_bytes }
     requires size { cache.old.page_bytes ≡ device.old.config.page_bytes }
     requires cached { IsCached device.old cache.old.entries }
@@ -107,6 +108,7 @@ fn find<F: Flash, R: CommitRule>(
     room: &mut [u8],
     page: u32,
 ) -> bool
+    requires kept { device.now.dropped ≡ false }
     requires room { length room.old ≡ device.now.config.page_bytes }
     requires size { cache.old.page_bytes ≡ device.now.config.page_bytes }
     requires cached { IsCached device.now cache.old.entries }
@@ -132,6 +134,7 @@ fn keep<F: Flash, R: CommitRule>(
     room: &[u8],
     page: u32,
 ) -> Result<(), Memory>
+    requires kept { device.now.dropped ≡ false }
     requires room { length room.now ≡ device.now.config.page_bytes }
     requires size { cache.old.page_bytes ≡ device.now.config.page_bytes }
     requires cached { IsCached device.now cache.old.entries }

@@ -13,13 +13,14 @@ ghost use Rattle.cut_replay.specs.Served.{ServesSound, ServesUnsound, RefusesUns
 
 use crate::Watch;
 use crate::doing::done;
-use crate::mounting::{followed, mount, mount_again};
+use crate::mounting::{after_loss, followed, mount, mount_again};
 use crate::session::{Ended, Session};
-use flash_model::{Arms, Power};
+use flash_model::{Arms, Power, Wide};
 use host_protocol::{Command, Reply};
 use page_cache::PageCache;
 use record_list::CommitRule;
 use std::alloc::Global;
+use tx_engine::{Fault, Moved, held_always};
 use tx_types::{Config, Memory, Slot};
 
 /// Why the commands were not all served.
@@ -33,8 +34,33 @@ pub enum ServeError {
     Memory,
 }
 
+/// Goes on with several transactions at once on a mounted device. Where that meets a fault, none is
+/// open any more, and the device is mounted again.
+fn serve_together<F: Power + Wide, R: CommitRule>(
+    alloc: Global,
+    config: Config,
+    session: &mut Session<F, R>,
+    cache: &mut PageCache,
+) -> Result<Reply, ServeError>
+    requires mounted { is_mounted session.old ≡ true }
+    requires rule { config.protocol ≡ R.protocol }
+    requires fits { Fits F.state config cache.old.entries session.old }
+    ensures { Serves F.state config Command.StepAll session.old result session.new cache.old cache.new }
+{
+    let Session::Mounted(device) = session else {
+        unreachable!();
+    };
+    match device.step_all() {
+        Ok(Moved { moved, finished }) => {
+            held_always(device);
+            Ok(Reply::Moved(moved, finished))
+        }
+        Err(Fault) => after_loss(alloc, config, session, cache),
+    }
+}
+
 /// Serves a command that is no arm on a mounted device.
-fn serve_mounted<F: Power, R: CommitRule>(
+fn serve_mounted<F: Power + Wide, R: CommitRule>(
     alloc: Global,
     config: Config,
     session: &mut Session<F, R>,
@@ -51,6 +77,9 @@ fn serve_mounted<F: Power, R: CommitRule>(
     requires size { cache.old.page_bytes ≡ config.page_bytes }
     ensures { Serves F.state config command.now session.old result session.new cache.old cache.new }
 {
+    if matches!(command, Command::StepAll) {
+        return serve_together(alloc, config, session, cache);
+    }
     let Session::Mounted(device) = session else {
         unreachable!();
     };
@@ -61,7 +90,7 @@ fn serve_mounted<F: Power, R: CommitRule>(
 }
 
 /// Serves a command that is no arm where the device is to be mounted first.
-fn serve_unmounted<F: Power, R: CommitRule>(
+fn serve_unmounted<F: Power + Wide, R: CommitRule>(
     alloc: Global,
     config: Config,
     session: &mut Session<F, R>,
@@ -89,7 +118,7 @@ fn serve_unmounted<F: Power, R: CommitRule>(
 }
 
 /// Serves a command.
-fn serve_one<F: Power + Arms, R: CommitRule>(
+fn serve_one<F: Power + Arms + Wide, R: CommitRule>(
     alloc: Global,
     config: Config,
     session: &mut Session<F, R>,
@@ -123,7 +152,7 @@ fn serve_one<F: Power + Arms, R: CommitRule>(
 }
 
 /// Serves the commands in order, and tells each reply at the end of its command.
-fn serve_all<F: Power + Arms, R: CommitRule, W: Watch<F>>(
+fn serve_all<F: Power + Arms + Wide, R: CommitRule, W: Watch<F>>(
     alloc: Global,
     config: Config,
     mut session: Session<F, R>,
@@ -216,7 +245,9 @@ fn begin<F: Power, R: CommitRule>(
 ///   on and the device is mounted again, unless that mount meets a fault, which is counted. All open
 ///   transactions are gone.
 /// - Faults: where a command meets a fault and power stays on, its reply is `Fault`, and the device
-///   goes on. The flash counts at least as many faults as such replies, `Cut` included. Where none is
+///   goes on. Where this is a command by which several transactions go on at once, its reply is
+///   `Dropped`, all open transactions are gone, and the device is mounted again as after a cut. The
+///   flash counts at least as many faults as such replies, `Cut` included. Where none is
 ///   told, and the flash had no power at the beginning or told that no break was to come, it counts
 ///   none. Else the mount at the beginning may meet one, which is not told.
 /// - Mounts: a flash that is live and tells that no break is to come is mounted before the first
@@ -231,7 +262,7 @@ fn begin<F: Power, R: CommitRule>(
 ///   `Fault` and `Cut`.
 /// - `Memory` ends the run before a command, in it, or where its reply is to be told. The replies
 ///   before it were told.
-pub fn serve<F: Power + Arms, R: CommitRule, W: Watch<F>>(
+pub fn serve<F: Power + Arms + Wide, R: CommitRule, W: Watch<F>>(
     alloc: Global,
     flash: F,
     config: Config,

@@ -1,6 +1,6 @@
 ghost use Rattle.std.specs.Prelude.{◌≡◌, ◌≤◌};
 ghost use Rattle.flash_model.specs.Arms.{SetsCut, SetsFault, SetsBadRead};
-ghost use Rattle.cut_replay.specs.Sessions.{flash_in, is_mounted, SetsArm};
+ghost use Rattle.cut_replay.specs.Sessions.{flash_in, is_mounted, IsKept, SetsArm};
 
 use crate::ServeError;
 use flash_model::{Arms, Flash, Outcome};
@@ -56,7 +56,8 @@ impl<F: Arms, R: CommitRule> Session<F, R> {
     /// A program or an erase from now on, the one of this number from 1, will be cut with this
     /// outcome.
     pub fn arm_cut(&mut self, count: u32, outcome: Outcome)
-        requires { 1 ≤ count }
+        requires kept { IsKept self.old }
+        requires count { 1 ≤ count }
         ensures { SetsArm F.state R.protocol (SetsCut (record { count = count; outcome = outcome }))
             self.old self.new }
     {
@@ -72,7 +73,8 @@ impl<F: Arms, R: CommitRule> Session<F, R> {
     /// A program or an erase from now on, the one of this number from 1, will meet a fault with
     /// this outcome.
     pub fn arm_fault(&mut self, count: u32, outcome: Outcome)
-        requires { 1 ≤ count }
+        requires kept { IsKept self.old }
+        requires count { 1 ≤ count }
         ensures { SetsArm F.state R.protocol (SetsFault (record { count = count; outcome = outcome }))
             self.old self.new }
     {
@@ -87,7 +89,8 @@ impl<F: Arms, R: CommitRule> Session<F, R> {
 
     /// A read from now on, the one of this number from 1, will meet a fault.
     pub fn arm_bad_read(&mut self, count: u32)
-        requires { 1 ≤ count }
+        requires kept { IsKept self.old }
+        requires count { 1 ≤ count }
         ensures { SetsArm F.state R.protocol (SetsBadRead count) self.old self.new }
     {
         match self {

@@ -3,7 +3,8 @@ use Rattle.std.proofs.Common.{◌≡◌, ℕ, suc, ◌+◌, ◌∷◌, length, r
 use Rattle.std.proofs.lemmas.List.FromFn.{length-map-range_with_len}
 use Rattle.drive_gen.specs.Generator.{next_state, generator_after}
 use Rattle.drive_gen.specs.declared.kind.Kind.TheVariants as kind
-use Rattle.drive_gen.specs.Work.{aborted, drawn_batch, drawn_cut, drawn_kind, drawn_write, written_at_once, page_count, state_behind, state_behind_all, transaction}
+use Rattle.drive_gen.specs.Work.{aborted, drawn_batch, drawn_cut, drawn_kind, drawn_write, written_at_once, page_count, state_behind, state_behind_all}
+use Rattle.drive_gen.specs.Work.{transaction}
 use Rattle.tx_types.specs.declared.config.Config.{Config}
 
 next_is : (x k : ℕ) → next_state (generator_after x k) ≡ generator_after x (suc k)

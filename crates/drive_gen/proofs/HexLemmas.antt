@@ -29,4 +29,5 @@ pub sum_most : (digits : List ℕ) → sum_of_bytes digits ≤ 128 * length digi
 unfolding sum_of_bytes
 sum_most [] = omega arith
 sum_most (digit ∷ []) = omega arith
-sum_most (high ∷ low ∷ digits) = pair_more (digit_value high) (digit_value low) (sum_of_bytes digits) (length digits) (digit_most high) (digit_most low) (sum_most digits)
+sum_most (high ∷ low ∷ digits) = pair_more (digit_value high) (digit_value low) (sum_of_bytes digits) (length digits) (digit_most high) (digit_most low)
+    (sum_most digits)

@@ -1,5 +1,6 @@
 -- How long lines and words are, together.
-use Rattle.std.proofs.Common.{◌≡◌, ℕ, suc, ◌+◌, ◌<◌, ◌≤◌, Bool, true, false, cond, List, [], ◌∷◌, length, get_or, take, ◌-◌, ◌==◌, ◌⊎◌, inl, inr, refl, arith, map, slice_index}
+use Rattle.std.proofs.Common.{◌≡◌, ℕ, suc, ◌+◌, ◌<◌, ◌≤◌, Bool, true, false, cond, List, [], ◌∷◌, length, get_or, take, ◌-◌, ◌==◌, ◌⊎◌, inl, inr, refl, arith}
+use Rattle.std.proofs.Common.{map, slice_index}
 use Rattle.std.specs.List.{slice_split, onto_first, sum_by, filter}
 use Rattle.std.specs.Str.Lines.{strip_carriage_return}
 use Rattle.std.proofs.lemmas.Bool.{cases_lt}

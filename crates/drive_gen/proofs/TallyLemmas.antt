@@ -1,5 +1,6 @@
 -- Counting line by line.
-use Rattle.std.proofs.Common.{◌≡◌, ℕ, ◌+◌, ◌*◌, ◌^◌, ◌<◌, ◌≤◌, Bool, true, false, cond, List, [], ◌∷◌, length, refl, arith, zero-add, Some, None, unwrap_or, codes}
+use Rattle.std.proofs.Common.{◌≡◌, ℕ, ◌+◌, ◌*◌, ◌^◌, ◌<◌, ◌≤◌, Bool, true, false, cond, List, [], ◌∷◌, length, refl, arith, zero-add, Some, None, unwrap_or}
+use Rattle.std.proofs.Common.{codes}
 use Rattle.std.specs.List.{sum_by, count_by, filter, last_or}
 use Rattle.std.proofs.lemmas.List.Sums.{sum_by-cons, sum_by-le-sum_by}
 use Rattle.host_protocol.specs.Lines.{lines_of}
@@ -58,7 +59,8 @@ pages_most : (lines : List (List ℕ)) → sum_by page_sum lines ≤ 128 * sizes
 pages_most [] = omega arith
 pages_most (line ∷ lines) =
     let word = word_or line 2 [] in
-    let here : page_sum line ≤ 128 * (length line + 1) = page_most (begins_with (codes "page") line) (sum_of_bytes word) (length word) (length line) (sum_most word) (word_size line 2) in
+    let here : page_sum line ≤ 128 * (length line + 1) = page_most (begins_with (codes "page") line) (sum_of_bytes word) (length word) (length line)
+    (sum_most word) (word_size line 2) in
     let rest = pages_most lines in
     let all = sum_by-cons page_sum line lines in
     let long = sizes-cons line lines in

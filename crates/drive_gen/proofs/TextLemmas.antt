@@ -15,4 +15,5 @@ pub line_parts : (a b c : List (List ℕ)) (word : List ℕ) (more : List (List 
     → line_of (a ++ b ++ c ++ word ∷ more) ≡ spaced a ++ spaced b ++ spaced c ++ line_of (word ∷ more)
 line_parts a b c word more =
     let space = λ (w : List ℕ). w ++ 32 ∷ [] in
-    line_front (a ++ b ++ c) word more ∙ ap (λ text. text ++ line_of (word ∷ more)) (flat_map-append space (a ++ b) c ∙ ap (λ text. text ++ spaced c) (flat_map-append space a b))
+    line_front (a ++ b ++ c) word more ∙ ap (λ text. text ++ line_of (word ∷ more)) (flat_map-append space (a ++ b) c ∙
+    ap (λ text. text ++ spaced c) (flat_map-append space a b))

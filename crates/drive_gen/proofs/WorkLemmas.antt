@@ -30,8 +30,11 @@ either P false xs ys p q = q
 
 abort_suits : (size tag pages : ℕ) (batch : Writes) → batch.page_bytes ≡ size → AllByRecursion (Suits size) (aborted tag batch pages)
 abort_suits size tag pages batch e =
-    let P = AllByRecursion (Suits size) in
-    (e, all_append (Suits size) (cond (nat_le pages 1) [] (command.Step tag ∷ [])) (command.Abort tag ∷ []) (either P (nat_le pages 1) [] (command.Step tag ∷ []) tt (tt, tt)) (tt, tt))
+    let P = AllByRecursion (Suits size) in (
+      e,
+      all_append (Suits size) (cond (nat_le pages 1) [] (command.Step tag ∷ [])) (command.Abort tag ∷ [])
+          (either P (nat_le pages 1) [] (command.Step tag ∷ []) tt (tt, tt)) (tt, tt),
+    )
 
 kind_suits : (k : Kind) (c : Config) (x tag : ℕ) → AllByRecursion (Suits c.page_bytes) (of_kind k c x tag)
 kind_suits kind.Cut c x tag = (omega arith, (refl, (tt, tt)))

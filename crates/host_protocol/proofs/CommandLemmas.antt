@@ -28,6 +28,7 @@ same_verb verb.Write verb.Write h = refl
 same_verb verb.Step verb.Step h = refl
 same_verb verb.Finish verb.Finish h = refl
 same_verb verb.Abort verb.Abort h = refl
+same_verb verb.StepAll verb.StepAll h = refl
 same_verb verb.Collect verb.Collect h = refl
 same_verb verb.Stats verb.Stats h = refl
 same_verb verb.Explain verb.Explain h = refl
@@ -50,7 +51,8 @@ same_writes a b sizes entries =
     ap Sized sizes ∙ ap Filled entries
 
 -- the words behind `write` are one tag and one batch
-pub same_write : (size : ℕ) (words : List (List ℕ)) (t u : ℕ) (a b : Writes) → AreWriteOperands size words t a → AreWriteOperands size words u b → (t ≡ u) × (a ≡ b)
+pub same_write : (size : ℕ) (words : List (List ℕ)) (t u : ℕ) (a b : Writes) → AreWriteOperands size words t a → AreWriteOperands size words u b → (t ≡ u) ×
+    (a ≡ b)
 same_write size words t u a b x y =
     let both = sym x.all ∙ y.all in
     let first : x.first ≡ y.first = cc in
@@ -75,6 +77,7 @@ same_operands size words (command.Write t a) (command.Write u b) e x y = let h =
 same_operands size words (command.Step p) (command.Step q) e x y = let h : Some p ≡ Some q = sym x ∙ y in cc
 same_operands size words (command.Finish p) (command.Finish q) e x y = let h : Some p ≡ Some q = sym x ∙ y in cc
 same_operands size words (command.Abort p) (command.Abort q) e x y = let h : Some p ≡ Some q = sym x ∙ y in cc
+same_operands size words command.StepAll command.StepAll e x y = refl
 same_operands size words command.Collect command.Collect e x y = refl
 same_operands size words command.Stats command.Stats e x y = refl
 same_operands size words command.Explain command.Explain e x y = refl

@@ -1,5 +1,6 @@
 -- The page and the contents that an entry gives.
-use Rattle.std.proofs.Common.{◌≡◌, ℕ, ◌+◌, ◌*◌, ◌/◌, ◌<◌, ◌≤◌, ◌≢◌, true, false, ◌⊎◌, inl, inr, List, [], ◌∷◌, length, take, drop, refl, ap, ◌∙◌, arith, Some, None, Result, Ok, Err}
+use Rattle.std.proofs.Common.{◌≡◌, ℕ, ◌+◌, ◌*◌, ◌/◌, ◌<◌, ◌≤◌, ◌≢◌, true, false, ◌⊎◌, inl, inr, List, [], ◌∷◌, length, take, drop, refl, ap, ◌∙◌, arith, Some}
+use Rattle.std.proofs.Common.{None, Result, Ok, Err}
 use Rattle.std.specs.Prelude.{position, codes}
 use Rattle.std.specs.List.{slice_split}
 use Rattle.std.specs.Str.{bytes_eq}
@@ -97,7 +98,8 @@ by_decoding size text other out (Ok bytes) h =
 by_decoding size text other out (Err e) h = contents_err size text e other h
 
 -- no digits, or too many
-pub contents_out : (size : ℕ) (text : List ℕ) → bytes_eq text (codes "-") ≡ false → (length text ≡ 0) ⊎ (size < length text / 2) → page_contents size text ≡ None
+pub contents_out : (size : ℕ) (text : List ℕ) → bytes_eq text (codes "-") ≡ false → (length text ≡ 0) ⊎ (size < length text / 2) →
+    page_contents size text ≡ None
 contents_out size text other out = by_decoding size text other out (decode_of text) refl
 
 is_decoded : (d : Result (List ℕ) FromHexError) (bytes : List ℕ) → result_ok d ≡ Some bytes → d ≡ Ok bytes
@@ -131,6 +133,7 @@ unfolding page_value
 value_contents size text h = rw h refl
 
 -- what is no contents is no value
-pub value_fails : (size : ℕ) (text : List ℕ) (e : LineError) → bytes_eq text (codes "~") ≡ false → Fails e (page_contents size text) → Fails e (page_value size text)
+pub value_fails : (size : ℕ) (text : List ℕ) (e : LineError) → bytes_eq text (codes "~") ≡ false → Fails e (page_contents size text) →
+    Fails e (page_value size text)
 value_fails size text Bad other none = value_contents size text other ∙ ap (option_map Some) none
 value_fails size text Memory other none = tt

@@ -1,5 +1,6 @@
 -- How the commands of a file grow, line by line.
-use Rattle.std.proofs.Common.{◌≡◌, ℕ, ◌+◌, ◌-◌, ◌<◌, ◌≤◌, ◌⊎◌, inl, inr, true, false, List, [], ◌∷◌, ◌++◌, length, take, drop, refl, ap, ◌∙◌, arith, Option, Some, None, length-append}
+use Rattle.std.proofs.Common.{◌≡◌, ℕ, ◌+◌, ◌-◌, ◌<◌, ◌≤◌, ◌⊎◌, inl, inr, true, false, List, [], ◌∷◌, ◌++◌, length, take, drop, refl, ap, ◌∙◌, arith, Option}
+use Rattle.std.proofs.Common.{Some, None, length-append}
 use Rattle.std.specs.Prelude.{filter, sum_by, IfNone, IfSome}
 use Rattle.std.specs.List.{AllZip}
 use Rattle.std.specs.Option.{option_to_list}
@@ -24,10 +25,12 @@ use Rattle.host_protocol.proofs.CommandLemmas.{one_command}
 
 -- ---- the lines so far
 
-filter_idle : (lines : List (List ℕ)) (line : List ℕ) → is_command_line line ≡ false → filter is_command_line (lines ++ line ∷ []) ≡ filter is_command_line lines
+filter_idle : (lines : List (List ℕ)) (line : List ℕ) → is_command_line line ≡ false →
+    filter is_command_line (lines ++ line ∷ []) ≡ filter is_command_line lines
 filter_idle lines line h = filter-append is_command_line lines (line ∷ []) ∙ rw h (append-nil (filter is_command_line lines))
 
-filter_more : (lines : List (List ℕ)) (line : List ℕ) → is_command_line line ≡ true → filter is_command_line (lines ++ line ∷ []) ≡ filter is_command_line lines ++ line ∷ []
+filter_more : (lines : List (List ℕ)) (line : List ℕ) → is_command_line line ≡ true →
+    filter is_command_line (lines ++ line ∷ []) ≡ filter is_command_line lines ++ line ∷ []
 filter_more lines line h = filter-append is_command_line lines (line ∷ []) ∙ rw h refl
 
 -- a line, with the command that it has, if it has one
@@ -36,7 +39,11 @@ pub add_line : (size : ℕ) (lines : List (List ℕ)) (line : List ℕ) (command
     → entries_left + sum_by entries_in commands ≡ MAX_ENTRIES → AreCommands size lines commands
     → AreCommands size (lines ++ line ∷ []) (commands ++ option_to_list found)
 add_line size lines line commands entries_left None idle adds left good =
-    rw append-nil (record { all = record { each = rw (filter_idle lines line idle) good.all.each; most_commands = good.all.most_commands }; most_entries = good.most_entries })
+    rw append-nil (record {
+      all = record { each = rw (filter_idle lines line idle) good.all.each; most_commands = good.all.most_commands };
+      most_entries =
+          good.most_entries;
+    })
 add_line size lines line commands entries_left (Some what) idle adds left good = record {
   all = record {
     each = rw (filter_more lines line adds.asks) (zip_push (IsCommand size) (filter is_command_line lines) commands line what good.all.each adds.is);
@@ -64,8 +71,10 @@ pub add_none : (size : ℕ) (lines : List (List ℕ)) (line : List ℕ) (command
 add_none size lines line commands entries_left none left good others all =
     let each = rw (filter_more lines line none.asks) at all.all.each in
     let parts = zip_front (IsCommand size) (filter is_command_line lines) (line ∷ []) others each in
-    let before : parts.front ≡ commands = zip_same (IsCommand size) (one_command size) (filter is_command_line lines) parts.front commands parts.fronts good.all.each in
-    last_past size line commands entries_left none left parts.back parts.backs (rw (parts.whole, before) at all.all.most_commands) (rw (parts.whole, before) at all.most_entries)
+    let before : parts.front ≡ commands = zip_same (IsCommand size) (one_command size)
+    (filter is_command_line lines) parts.front commands parts.fronts good.all.each in
+    last_past size line commands entries_left none left parts.back parts.backs (rw (parts.whole, before) at all.all.most_commands)
+    (rw (parts.whole, before) at all.most_entries)
 
 -- ---- the whole file
 
@@ -88,7 +97,8 @@ file_bad size bytes commands n file bad =
 
 -- a file is one list of commands
 pub file_same : (size : ℕ) (bytes : List ℕ) (commands others : List Command) → IsFile size bytes commands → IsFile size bytes others → commands ≡ others
-file_same size bytes commands others a b = zip_same (IsCommand size) (one_command size) (filter is_command_line (lines_of bytes)) commands others a.all.each b.all.each
+file_same size bytes commands others a b = zip_same (IsCommand size) (one_command size)
+    (filter is_command_line (lines_of bytes)) commands others a.all.each b.all.each
 
 -- a file has one first bad line
 pub first_same : (size : ℕ) (bytes : List ℕ) (m n : ℕ) → IsFirstBad size bytes m → IsFirstBad size bytes n → m ≡ n

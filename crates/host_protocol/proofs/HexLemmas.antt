@@ -1,5 +1,6 @@
 -- Digits that are read before they are judged.
-use Rattle.std.proofs.Common.{◌≡◌, ◌⊎◌, ℕ, ◌+◌, ◌*◌, ◌<◌, ◌≤◌, false, List, length, slice_index, Option, Some, None, Result, Ok, Err, refl, sym, ap, inl, inr, max, arith}
+use Rattle.std.proofs.Common.{◌≡◌, ◌⊎◌, ℕ, ◌+◌, ◌*◌, ◌<◌, ◌≤◌, false, List, length, slice_index, Option, Some, None, Result, Ok, Err, refl, sym, ap, inl, inr}
+use Rattle.std.proofs.Common.{max, arith}
 use Rattle.std.specs.Prelude.{IsErr, is_some}
 use Rattle.std.specs.Option.{unwrap_or}
 use Rattle.std.proofs.lemmas.Bool.{cases_lt}
@@ -51,8 +52,9 @@ pub others_more : (text : List ℕ) (k before high low first second : ℕ) → k
     second ≡ max first low → 16 ≤ second → (16 ≤ before → HasOther text) →
     high ≡ unwrap_or (hex_digit_value (slice_index text k)) 255 →
     low ≡ unwrap_or (hex_digit_value (slice_index text (k + 1))) 255 → HasOther text
-others_more text k before high low first second within is_first is_second large old is_high is_low = elim (greatest_of before high low first second is_first is_second large) [
-  | inl great ↦ old great
-  | inr (inl great) ↦ other_at text k high (omega (arith, within)) is_high great
-  | inr (inr great) ↦ other_at text (k + 1) low within is_low great
-]
+others_more text k before high low first second within is_first is_second large old is_high is_low =
+    elim (greatest_of before high low first second is_first is_second large) [
+      | inl great ↦ old great
+      | inr (inl great) ↦ other_at text k high (omega (arith, within)) is_high great
+      | inr (inr great) ↦ other_at text (k + 1) low within is_low great
+    ]

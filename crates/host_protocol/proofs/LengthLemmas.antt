@@ -40,11 +40,14 @@ short_text (reply.Done tag) h p = few (reply_words (reply.Done tag)) (omega arit
 short_text (reply.Aborted tag) h p = few (reply_words (reply.Aborted tag)) (omega arith, (short32 tag h, tt)) (omega arith)
 short_text (reply.Late tag) h p = few (reply_words (reply.Late tag)) (omega arith, (short32 tag h, tt)) (omega arith)
 short_text (reply.Unknown tag) h p = few (reply_words (reply.Unknown tag)) (omega arith, (short32 tag h, tt)) (omega arith)
+short_text (reply.Moved moved finished) h p =
+    few (reply_words (reply.Moved moved finished)) (omega arith, (short32 moved h.0, (omega arith, (short32 finished h.1, tt)))) (omega arith)
 short_text reply.Collected h p = omega arith
 short_text reply.Nothing h p = omega arith
 short_text reply.Armed h p = omega arith
 short_text reply.Cut h p = omega arith
 short_text reply.Fault h p = omega arith
+short_text reply.Dropped h p = omega arith
 short_text reply.RefusedEmpty h p = omega arith
 short_text (reply.RefusedRange page) h p = few (reply_words (reply.RefusedRange page)) (omega arith, (omega arith, (short32 page h, tt))) (omega arith)
 short_text (reply.RefusedRepeated page) h p = few (reply_words (reply.RefusedRepeated page)) (omega arith, (omega arith, (short32 page h, tt))) (omega arith)

@@ -1,5 +1,6 @@
 -- The text of replies tells the replies.
-use Rattle.std.proofs.Common.{◌≡◌, ℕ, zero, suc, ◌/◌, ◌%◌, ◌^◌, ◌<◌, ◌≤◌, ◌≢◌, Bool, true, false, not, ◌||◌, ◌==◌, List, [], ◌∷◌, ◌++◌, length, get_or, refl, sym, ap, ◌∙◌, arith, append_assoc, length-append, codes, slice_index, slice_index_or, if◌then◌else◌}
+use Rattle.std.proofs.Common.{◌≡◌, ℕ, zero, suc, ◌/◌, ◌%◌, ◌^◌, ◌<◌, ◌≤◌, ◌≢◌, Bool, true, false, not, ◌||◌, ◌==◌, List, [], ◌∷◌, ◌++◌, length, get_or, refl}
+use Rattle.std.proofs.Common.{sym, ap, ◌∙◌, arith, append_assoc, length-append, codes, slice_index, slice_index_or, if◌then◌else◌}
 use Rattle.std.specs.Fmt.{decimal}
 use Rattle.std.specs.List.{list_all, flat_map, AllByRecursion}
 use Rattle.std.specs.Result.{result_unwrap_or}
@@ -116,11 +117,13 @@ plain_words (reply.Done tag) h = (refl, plain_decimal tag (wide tag h))
 plain_words (reply.Aborted tag) h = (refl, plain_decimal tag (wide tag h))
 plain_words (reply.Late tag) h = (refl, plain_decimal tag (wide tag h))
 plain_words (reply.Unknown tag) h = (refl, plain_decimal tag (wide tag h))
+plain_words (reply.Moved moved finished) h = (refl, (plain_decimal moved (wide moved h.0), (refl, plain_decimal finished (wide finished h.1))))
 plain_words reply.Collected h = refl
 plain_words reply.Nothing h = refl
 plain_words reply.Armed h = refl
 plain_words reply.Cut h = refl
 plain_words reply.Fault h = refl
+plain_words reply.Dropped h = refl
 plain_words reply.RefusedEmpty h = (refl, refl)
 plain_words (reply.RefusedRange page) h = (refl, (refl, plain_decimal page (wide page h)))
 plain_words (reply.RefusedRepeated page) h = (refl, (refl, plain_decimal page (wide page h)))
@@ -185,7 +188,15 @@ refusal_from (word ∷ words) =
     else reply.RefusedSpent (nth words 0)
 
 stats_from : List (List ℕ) → Stats
-stats_from words = record { written = nth words 1; tags = nth words 3; pending = nth words 5; programs = nth words 7; erases = nth words 9; garbage = nth words 11 }
+stats_from words = record {
+  written = nth words 1;
+  tags = nth words 3;
+  pending = nth words 5;
+  programs = nth words 7;
+  erases = nth words 9;
+  garbage =
+      nth words 11;
+}
 
 bytes_from : List ℕ → List ℕ
 bytes_from text = result_unwrap_or (decode_of text) []
@@ -201,10 +212,12 @@ reply_from (word ∷ words) =
     else if is word (codes "aborted") then reply.Aborted (nth words 0)
     else if is word (codes "late") then reply.Late (nth words 0)
     else if is word (codes "unknown") then reply.Unknown (nth words 0)
+    else if is word (codes "moved") then reply.Moved (nth words 0) (nth words 2)
     else if is word (codes "collected") then reply.Collected
     else if is word (codes "armed") then reply.Armed
     else if is word (codes "cut") then reply.Cut
     else if is word (codes "fault") then reply.Fault
+    else if is word (codes "dropped") then reply.Dropped
     else if is word (codes "refused") then refusal_from words
     else if is word (codes "stats") then reply.Stats (stats_from words)
     else reply.Nothing
@@ -225,11 +238,13 @@ read_back (reply.Done tag) h = ap (λ n. reply.Done n) (value32 tag h)
 read_back (reply.Aborted tag) h = ap (λ n. reply.Aborted n) (value32 tag h)
 read_back (reply.Late tag) h = ap (λ n. reply.Late n) (value32 tag h)
 read_back (reply.Unknown tag) h = ap (λ n. reply.Unknown n) (value32 tag h)
+read_back (reply.Moved moved finished) h = rw (value32 moved h.0, value32 finished h.1) refl
 read_back reply.Collected h = refl
 read_back reply.Nothing h = refl
 read_back reply.Armed h = refl
 read_back reply.Cut h = refl
 read_back reply.Fault h = refl
+read_back reply.Dropped h = refl
 read_back reply.RefusedEmpty h = refl
 read_back (reply.RefusedRange page) h = ap (λ n. reply.RefusedRange n) (value32 page h)
 read_back (reply.RefusedRepeated page) h = ap (λ n. reply.RefusedRepeated n) (value32 page h)
@@ -237,7 +252,14 @@ read_back (reply.RefusedTag tag) h = ap (λ n. reply.RefusedTag n) (value32 tag 
 read_back (reply.RefusedOverlap page tag) h = rw (value32 page h.0, value32 tag h.1) refl
 read_back (reply.RefusedFull free) h = ap (λ n. reply.RefusedFull n) (value32 free h)
 read_back (reply.RefusedSpent page) h = ap (λ n. reply.RefusedSpent n) (value32 page h)
-read_back (reply.Stats s) h = rw (value32 s.written h.0, value32 s.tags h.1, value32 s.pending h.2, value s.programs h.3, value s.erases h.4, value32 s.garbage h.5) refl
+read_back (reply.Stats s) h = rw (
+  value32 s.written h.0,
+  value32 s.tags h.1,
+  value32 s.pending h.2,
+  value s.programs h.3,
+  value s.erases h.4,
+  value32 s.garbage h.5,
+) refl
 read_back (reply.Report text) h = absurd h
 
 -- ---- the texts tell the replies

@@ -1,5 +1,6 @@
 -- The first word of a line.
-use Rattle.std.proofs.Common.{◌≡◌, ℕ, suc, ◌<◌, Bool, true, false, not, List, [], ◌∷◌, length, take, drop, get_or, refl, sym, ap, ◌∙◌, arith, Some, None, unwrap_or, length-drop, drop-cons}
+use Rattle.std.proofs.Common.{◌≡◌, ℕ, suc, ◌<◌, Bool, true, false, not, List, [], ◌∷◌, length, take, drop, get_or, refl, sym, ap, ◌∙◌, arith, Some, None}
+use Rattle.std.proofs.Common.{unwrap_or, length-drop, drop-cons}
 use Rattle.std.specs.Prelude.{position}
 use Rattle.std.specs.List.{position_or_len}
 use Rattle.std.proofs.Math.ListN.{drop_of_length-le}
@@ -35,7 +36,8 @@ word_take : (line : List ℕ) → 0 < length line → 0 < position_or_len is_spa
 unfolding words_of
 word_take line filled first =
     let h = parts is_space_or_tab line in
-    let some : has_bytes (take (position_or_len is_space_or_tab line) line) ≡ true = has_some (take (position_or_len is_space_or_tab line) line) (omega (arith, length-take {A = ℕ})) in
+    let some : has_bytes (take (position_or_len is_space_or_tab line) line) ≡ true =
+    has_some (take (position_or_len is_space_or_tab line) line) (omega (arith, length-take {A = ℕ})) in
     rw (h.all, h.behind, some) refl
 
 long_start : (b : ℕ) (bs : List ℕ) → is_space_or_tab b ≡ false → 0 < position_or_len is_space_or_tab (b ∷ bs)
@@ -43,7 +45,8 @@ long_start b bs e = rw (e, one_more) (omega arith)
 
 -- a word begins at a byte that is no blank
 word_at : (line : List ℕ) (i : ℕ) → i < length line → is_space_or_tab (get_or line i 0) ≡ false
-    → words_of (drop i line) ≡ take (position_or_len is_space_or_tab (drop i line)) (drop i line) ∷ words_of (drop (position_or_len is_space_or_tab (drop i line)) (drop i line))
+    → words_of (drop i line) ≡ take (position_or_len is_space_or_tab (drop i line)) (drop i line) ∷ words_of
+    (drop (position_or_len is_space_or_tab (drop i line)) (drop i line))
 word_at line i within e =
     let split : drop i line ≡ get_or line i 0 ∷ drop (suc i) line = drop-cons line i 0 within in
     word_take (drop i line) (omega (arith, length-drop i line)) (rw split (long_start (get_or line i 0) (drop (suc i) line) e))

@@ -17,6 +17,11 @@ line_of (word ∷ next ∷ words) = word ++ 32 ∷ line_of (next ∷ words)
 abbrev pub page_words : ℕ → List ℕ → List (List ℕ)
 page_words page bytes = codes "page" ∷ decimal page ∷ encode_lower bytes ∷ []
 
+-- the words of so many transactions that went on, and so many of these that went
+abbrev pub moved_words : ℕ → ℕ → List (List ℕ)
+moved_words moved finished =
+    codes "moved" ∷ decimal moved ∷ codes "finished" ∷ decimal finished ∷ []
+
 -- the words of the numbers of a device that tell of its flash
 abbrev pub flash_stats : Stats → List (List ℕ)
 flash_stats s =
@@ -40,11 +45,13 @@ reply_words (reply.Done tag) = codes "done" ∷ decimal tag ∷ []
 reply_words (reply.Aborted tag) = codes "aborted" ∷ decimal tag ∷ []
 reply_words (reply.Late tag) = codes "late" ∷ decimal tag ∷ []
 reply_words (reply.Unknown tag) = codes "unknown" ∷ decimal tag ∷ []
+reply_words (reply.Moved moved finished) = moved_words moved finished
 reply_words reply.Collected = codes "collected" ∷ []
 reply_words reply.Nothing = codes "nothing" ∷ []
 reply_words reply.Armed = codes "armed" ∷ []
 reply_words reply.Cut = codes "cut" ∷ []
 reply_words reply.Fault = codes "fault" ∷ []
+reply_words reply.Dropped = codes "dropped" ∷ []
 reply_words reply.RefusedEmpty = codes "refused" ∷ codes "empty" ∷ []
 reply_words (reply.RefusedRange page) = codes "refused" ∷ codes "range" ∷ decimal page ∷ []
 reply_words (reply.RefusedRepeated page) = codes "refused" ∷ codes "repeated" ∷ decimal page ∷ []
@@ -74,6 +81,7 @@ IsLine (reply.Done tag) = tag < 2 ^ 32
 IsLine (reply.Aborted tag) = tag < 2 ^ 32
 IsLine (reply.Late tag) = tag < 2 ^ 32
 IsLine (reply.Unknown tag) = tag < 2 ^ 32
+IsLine (reply.Moved moved finished) = (moved < 2 ^ 32) × (finished < 2 ^ 32)
 IsLine (reply.RefusedRange page) = page < 2 ^ 32
 IsLine (reply.RefusedRepeated page) = page < 2 ^ 32
 IsLine (reply.RefusedTag tag) = tag < 2 ^ 32

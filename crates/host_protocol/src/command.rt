@@ -14,6 +14,8 @@ pub enum Command {
     Finish { tag: u32 },
     /// `abort T`: the end of an open transaction, with none of its pages changed.
     Abort { tag: u32 },
+    /// `stepall`: one page more of several open transactions, in the order of their opening, written together.
+    StepAll,
     /// `collect`: one block of the flash is won back.
     Collect,
     /// `stats`: the numbers of the device.

@@ -9,23 +9,22 @@ use crate::error::LineError;
 use crate::hexadecimal::decoded;
 use crate::numbers::number;
 use memchr::memchr;
-use std::alloc::Global;
 
 /// The page that an entry gives, and the bytes, without the zeros that fill the page, or nothing where
-/// it discards the page.
-pub fn entry(
-    alloc: Global,
+/// it discards the page. The bytes are written into the room.
+pub fn entry<'a>(
     word: &[u8],
     page_bytes: u32,
-) -> Result<(u32, Option<Vec<u8>>), LineError>
+    room: &'a mut Vec<u8>,
+) -> Result<(u32, Option<&'a [u8]>), LineError>
     ensures entry { AnswersAs
-        (λ e. record { page = e.0; value = option_map (λ v. padded page_bytes v.items) e.1 })
+        (λ e. record { page = e.0; value = option_map (λ v. padded page_bytes v.now) e.1 })
         result (page_write_of page_bytes word.now) }
-    ensures within { IfOk result (λ e. IfSome e.1 (λ v. length v.items ≤ page_bytes)) }
+    ensures within { IfOk result (λ e. IfSome e.1 (λ v. length v.now ≤ page_bytes)) }
 {
     let (page, text) = texts(word).ok_or(LineError::Bad)?;
     let page = number(page).ok_or(LineError::Bad)?;
-    let value = value(alloc, text, page_bytes)?;
+    let value = value(text, page_bytes, room)?;
     Ok((page, value))
 }
 
@@ -66,28 +65,32 @@ fn first_equals(word: &[u8]) -> Option<usize>
 }
 
 /// What a page is to hold, by its text: nothing for a tilde, else the bytes.
-fn value(alloc: Global, text: &[u8], page_bytes: u32) -> Result<Option<Vec<u8>>, LineError>
-    ensures value { AnswersAs (λ o. option_map (λ v. padded page_bytes v.items) o)
+fn value<'a>(
+    text: &[u8],
+    page_bytes: u32,
+    room: &'a mut Vec<u8>,
+) -> Result<Option<&'a [u8]>, LineError>
+    ensures value { AnswersAs (λ o. option_map (λ v. padded page_bytes v.now) o)
         result (page_value page_bytes text.now) }
-    ensures within { IfOk result (λ o. IfSome o (λ v. length v.items ≤ page_bytes)) }
+    ensures within { IfOk result (λ o. IfSome o (λ v. length v.now ≤ page_bytes)) }
 {
     if text == b"~".as_slice() {
         return Ok(None);
     }
-    Ok(Some(contents(alloc, text, page_bytes)?))
+    Ok(Some(contents(text, page_bytes, room)?))
 }
 
 /// The bytes of a page, by their text: none for a dash, else one to all of them by hexadecimal digits.
-fn contents(alloc: Global, text: &[u8], page_bytes: u32) -> Result<Vec<u8>, LineError>
-    ensures contents { AnswersAs (λ v. padded page_bytes v.items)
+fn contents<'a>(text: &[u8], page_bytes: u32, room: &'a mut Vec<u8>) -> Result<&'a [u8], LineError>
+    ensures contents { AnswersAs (λ v. padded page_bytes v.now)
         result (page_contents page_bytes text.now) }
-    ensures within { IfOk result (λ v. length v.items ≤ page_bytes) }
+    ensures within { IfOk result (λ v. length v.now ≤ page_bytes) }
 {
     if text == b"-".as_slice() {
-        return Ok(Vec::new(alloc));
+        return Ok(&[]);
     }
     if text.is_empty() || text.len() / 2 > page_bytes as usize {
         return Err(LineError::Bad);
     }
-    decoded(alloc, text)
+    decoded(text, room)
 }

@@ -39,12 +39,14 @@ pub fn parse(alloc: Global, bytes: &[u8], page_bytes: u32) -> Result<Vec<Command
         → MatchResult result (λ list. ⊥) (λ e. (e ≡ TextError.Line n) ⊎ (e ≡ TextError.Memory)) }
 {
     let mut commands = no_commands(alloc, bytes)?;
+    let mut room = Vec::new(alloc);
     let mut entries_left = MAX_ENTRIES;
     let mut number = 0;
     let mut rest = bytes;
     while let Some((line, behind)) = first_line(rest) {
         number += 1;
-        match line_command(alloc, line, page_bytes, commands.len(), entries_left) {
+        let before = commands.len();
+        match line_command(alloc, line, page_bytes, before, entries_left, &mut room) {
             Ok(found) => keep(&mut commands, &mut entries_left, found)?,
             Err(e) => return Err(e.at(number)),
         }

@@ -1,37 +1,37 @@
 //! Hexadecimal digits, of which all are read before the first that is none is found out.
-ghost use Rattle.std.specs.Prelude.{◌≡◌, ◌*◌, true, false, Ok, IsErr, IfOk, length};
+ghost use Rattle.std.specs.Prelude.{◌≡◌, ◌*◌, true, false, Ok, IsErr, OnOk, length};
 ghost use Rattle.std.specs.Option.{unwrap_or};
 ghost use Rattle.std.specs.Result.{result_ok};
 ghost use Rattle.hex.specs.Hex.{decode_of, decode_pairs, hex_digit_value};
 ghost use Rattle.host_protocol.specs.Reading.{AnswersAs};
 
 use crate::error::LineError;
-use std::alloc::Global;
 use tx_types::Memory;
 
 /// What stands for the value of a byte that is no digit. The values of digits are below 16.
 const NO_DIGIT: u8 = 255;
 
-/// The bytes that a text of digits tells, two digits for each.
-pub fn decoded(alloc: Global, text: &[u8]) -> Result<Vec<u8>, LineError>
-    ensures { AnswersAs (λ v. v.items) result (result_ok (decode_of text.now)) }
+/// The bytes that a text of digits tells, two digits for each. They are written into the room.
+pub fn decoded<'a>(text: &[u8], room: &'a mut Vec<u8>) -> Result<&'a [u8], LineError>
+    ensures { AnswersAs (λ v. v.now) result (result_ok (decode_of text.now)) }
 {
     if text.len() % 2 != 0 {
         return Err(LineError::Bad);
     }
-    let mut bytes = zeros(alloc, text.len() / 2)?;
-    if decode_into(text, &mut bytes) {
-        Ok(bytes)
+    make_long(room, text.len() / 2)?;
+    if decode_into(text, room) {
+        Ok(room)
     } else {
         Err(LineError::Bad)
     }
 }
 
-/// So many zeros.
-fn zeros(alloc: Global, count: usize) -> Result<Vec<u8>, Memory>
-    ensures { IfOk result (λ v. length v.items ≡ count) }
+/// Makes the room as long as this.
+fn make_long(room: &mut Vec<u8>, count: usize) -> Result<(), Memory>
+    ensures { OnOk result (length room.new.items ≡ count) }
 {
-    Ok(vec![in alloc; 0; count]?)
+    room.resize(count, 0)?;
+    Ok(())
 }
 
 /// Reads a text twice as long as `bytes`, and says whether it is all digits. Where it is not, the bytes are no matter.

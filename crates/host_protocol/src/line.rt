@@ -25,13 +25,14 @@ use std::alloc::Global;
 use tx_types::Batch;
 
 /// The command of a line, none for a blank line or a comment. There are `before` commands before
-/// it, and a write may have at most `entries_left` entries.
+/// it, and a write may have at most `entries_left` entries. The room is used for the bytes of a page.
 pub(crate) fn line_command(
     alloc: Global,
     line: &[u8],
     page_bytes: u32,
     before: usize,
     entries_left: usize,
+    room: &mut Vec<u8>,
 ) -> Result<Option<Command>, LineError>
     ensures idle { IfOk result (λ found. IfNone found (is_command_line line.now ≡ false)) }
     ensures command { IfOk result
@@ -48,7 +49,8 @@ pub(crate) fn line_command(
         return Err(LineError::Bad);
     }
     let verb = Verb::from_word(word).ok_or(LineError::Bad)?;
-    Ok(Some(command(alloc, verb, words, page_bytes, entries_left)?))
+    let command = command(alloc, verb, words, page_bytes, entries_left, room)?;
+    Ok(Some(command))
 }
 
 /// The command of a verb and the words behind it. A write may have at most `entries_left` entries.
@@ -58,6 +60,7 @@ fn command(
     words: &[u8],
     page_bytes: u32,
     entries_left: usize,
+    room: &mut Vec<u8>,
 ) -> Result<Command, LineError>
     ensures ok { IfOk result (MakesCommand page_bytes verb (words_of words.now) entries_left) }
     ensures bad { IsErrOf result LineError.Bad →
@@ -65,7 +68,7 @@ fn command(
 {
     match verb {
         Verb::Write => {
-            let (tag, batch) = write(alloc, words, page_bytes, entries_left)?;
+            let (tag, batch) = write(alloc, words, page_bytes, entries_left, room)?;
             Ok(Command::Write { tag, batch })
         }
         _ => plain(verb, words).ok_or(LineError::Bad),
@@ -90,6 +93,7 @@ fn plain(verb: Verb, words: &[u8]) -> Option<Command>
         Verb::Abort => Command::Abort {
             tag: lone_number(words)?,
         },
+        Verb::StepAll => bare(words, Command::StepAll)?,
         Verb::Collect => bare(words, Command::Collect)?,
         Verb::Stats => bare(words, Command::Stats)?,
         Verb::Explain => bare(words, Command::Explain)?,
@@ -122,6 +126,7 @@ fn write(
     words: &[u8],
     page_bytes: u32,
     entries_left: usize,
+    room: &mut Vec<u8>,
 ) -> Result<(u32, Batch), LineError>
     ensures ok { IfOk result
         (λ w. IsWriteWithin page_bytes (words_of words.now) entries_left w.0 w.1) }
@@ -130,7 +135,7 @@ fn write(
 {
     let (first, behind) = first_word(words).ok_or(LineError::Bad)?;
     let tag = number(first).ok_or(LineError::Bad)?;
-    let batch = entries(alloc, behind, page_bytes, entries_left)?;
+    let batch = entries(alloc, behind, page_bytes, entries_left, room)?;
     Ok((tag, batch))
 }
 
@@ -140,6 +145,7 @@ fn entries(
     words: &[u8],
     page_bytes: u32,
     entries_left: usize,
+    room: &mut Vec<u8>,
 ) -> Result<Batch, LineError>
     ensures ok { IfOk result (HasEntries page_bytes (words_of words.now) entries_left) }
     ensures bad { IsErrOf result LineError.Bad →
@@ -151,9 +157,9 @@ fn entries(
         if batch.len() >= entries_left {
             return Err(LineError::Bad);
         }
-        let (page, value) = entry(alloc, word, page_bytes)?;
+        let (page, value) = entry(word, page_bytes, room)?;
         match value {
-            Some(bytes) => batch.add(page, &bytes)?,
+            Some(bytes) => batch.add(page, bytes)?,
             None => batch.add_discard(page)?,
         }
         rest = behind;

@@ -32,8 +32,12 @@ pub fn add_number(number: u32, out: &mut Vec<u8>)
     ensures len { vec_len out.new ≤ vec_len out.old + NUMBER_BYTES }
     ensures capacity { vec_capacity out.old ≤ vec_capacity out.new }
 {
-    let mut digits = Buffer::new();
     out.push_reserved(b' ');
+    if number < 10 {
+        out.push_reserved(b'0' + number as u8);
+        return;
+    }
+    let mut digits = Buffer::new();
     out.extend_from_slice(digits.format(number).as_bytes())
         .unwrap();
 }

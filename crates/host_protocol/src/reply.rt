@@ -1,6 +1,6 @@
 ghost use Rattle.std.specs.Prelude.{◌≡◌, ◌++◌, IfOk, IsOkAnd, OnOk, OnErr};
 ghost use Rattle.std.specs.String.{string_bytes};
-ghost use Rattle.host_protocol.specs.Replies.{text_of, line_of, stats_words, flash_stats};
+ghost use Rattle.host_protocol.specs.Replies.{text_of, line_of, moved_words, stats_words, flash_stats};
 
 use crate::numbers_line::add_line;
 use crate::page_line::add_page;
@@ -26,6 +26,8 @@ pub enum Reply {
     Late(u32),
     /// No open transaction has the tag.
     Unknown(u32),
+    /// How many open transactions went on by a page, and how many of these went.
+    Moved(u32, u32),
     /// A block was won back.
     Collected,
     /// There was nothing to win back.
@@ -36,6 +38,8 @@ pub enum Reply {
     Cut,
     /// The flash failed.
     Fault,
+    /// The flash failed while pages of several transactions were written together, and no transaction is open.
+    Dropped,
     /// A write without pages.
     RefusedEmpty,
     /// There is no such page.
@@ -70,11 +74,13 @@ pub fn reply_text(alloc: Global, reply: &Reply, out: &mut Vec<u8>) -> Result<(),
         Reply::Aborted(tag) => add_line(b"aborted", &[*tag], out),
         Reply::Late(tag) => add_line(b"late", &[*tag], out),
         Reply::Unknown(tag) => add_line(b"unknown", &[*tag], out),
+        Reply::Moved(moved, finished) => push(moved_line(alloc, *moved, *finished), out),
         Reply::Collected => append(b"collected\n", out),
         Reply::Nothing => append(b"nothing\n", out),
         Reply::Armed => append(b"armed\n", out),
         Reply::Cut => append(b"cut\n", out),
         Reply::Fault => append(b"fault\n", out),
+        Reply::Dropped => append(b"dropped\n", out),
         Reply::RefusedEmpty => append(b"refused empty\n", out),
         Reply::RefusedRange(page) => add_line(b"refused range", &[*page], out),
         Reply::RefusedRepeated(page) => add_line(b"refused repeated", &[*page], out),
@@ -102,6 +108,13 @@ fn push(line: Result<String, AllocError>, out: &mut Vec<u8>) -> Result<(), Memor
     ensures err { OnErr result (out.new.items ≡ out.old.items) }
 {
     append(line?.as_bytes(), out)
+}
+
+/// The line of how many transactions went on, and how many went.
+fn moved_line(alloc: Global, moved: u32, finished: u32) -> Result<String, AllocError>
+    ensures { IfOk result (λ l. string_bytes l ≡ line_of (moved_words moved finished)) }
+{
+    format!(in alloc; "moved {moved} finished {finished}\n")
 }
 
 /// The line of the numbers of a device.

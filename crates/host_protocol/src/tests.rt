@@ -17,7 +17,7 @@ fn read(alloc: Global, text: &[u8]) -> Result<String, AllocError> {
 
 const BAD: &str = "bad line 1";
 
-const LINES: [(&[u8], &str); 31] = [
+const LINES: [(&[u8], &str); 33] = [
     (b"", "[]"),
     (b"\n", "[]"),
     (b"\r", "[]"),
@@ -48,6 +48,8 @@ const LINES: [(&[u8], &str); 31] = [
     (b"\xff", BAD),
     (b"collect\nstats\nexplain", "[Collect, Stats, Explain]"),
     (b"collect 1", BAD),
+    (b"stepall\nstepall", "[StepAll, StepAll]"),
+    (b"stepall 1", BAD),
     (
         b"cut 1 bad\nfault 2 none",
         "[Cut { count: 1, outcome: Bad }, Fault { count: 2, outcome: None }]",
@@ -190,11 +192,13 @@ done 1
 aborted 2
 late 3
 unknown 0
+moved 4294967295 finished 2
 collected
 nothing
 armed
 cut
 fault
+dropped
 refused empty
 refused range 20
 refused repeated 5
@@ -208,7 +212,7 @@ verdict 0
 explained 1
 ";
 
-const REPLIES: [Reply; 20] = [
+const REPLIES: [Reply; 22] = [
     Reply::Blank(19),
     Reply::Opened(1, 7),
     Reply::Wrote(4294967295, 2, 3),
@@ -216,11 +220,13 @@ const REPLIES: [Reply; 20] = [
     Reply::Aborted(2),
     Reply::Late(3),
     Reply::Unknown(0),
+    Reply::Moved(4294967295, 2),
     Reply::Collected,
     Reply::Nothing,
     Reply::Armed,
     Reply::Cut,
     Reply::Fault,
+    Reply::Dropped,
     Reply::RefusedEmpty,
     Reply::RefusedRange(20),
     Reply::RefusedRepeated(5),

@@ -7,5 +7,6 @@ abbrev pub keyed_in : {F R : Type 0} → Inside F R → Keyed F
 keyed_in k = record { device = k.device; broken = k.broken }
 
 pub record IsKeyed {F R : Type 0} (k : Inside F R) : Type 0 where
+  pub kept : k.device.dropped ≡ false
   pub room : length k.room.items ≡ k.device.config.page_bytes
   pub keys : k.broken ≡ false → HasKeys k.device

@@ -1,6 +1,6 @@
 use crate::changes::Changes;
+use crate::short::Short;
 use flash_model::Outcome;
-use tx_types::Bytes;
 
 /// What a line of a key script asks for.
 #[derive(Debug, Drop)]
@@ -8,7 +8,7 @@ pub enum KeyCommand {
     /// `put K=V ..`: these changes, all at once.
     Put { changes: Changes },
     /// `get K`: the value of a key.
-    Get { key: Bytes },
+    Get { key: Short },
     /// `cut N O`: power is cut at the N-th change of the flash from now on, counted from 1.
     Cut { count: u32, outcome: Outcome },
 }

@@ -51,7 +51,7 @@ fn command(alloc: Global, verb: KeyVerb, words: &[u8]) -> Result<KeyCommand, Lin
             changes: changes(alloc, words)?,
         },
         KeyVerb::Get => KeyCommand::Get {
-            key: only_key(alloc, words)?,
+            key: only_key(words)?,
         },
         KeyVerb::Cut => {
             let (count, outcome) = arm(words).ok_or(LineError::Bad)?;

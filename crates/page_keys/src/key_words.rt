@@ -9,7 +9,6 @@ use crate::script_error::LineError;
 use crate::short::{MAX_SHORT, Short};
 use host_protocol::{around_equals, first_word, no_word};
 use std::alloc::Global;
-use tx_types::Bytes;
 
 /// The one to fifteen bytes that digits tell, two digits for each.
 fn short(digits: &[u8]) -> Option<Short>
@@ -36,16 +35,13 @@ fn decode(digits: &[u8], into: &mut [u8]) -> bool
 }
 
 /// The key that is the only word.
-pub(crate) fn only_key(alloc: Global, words: &[u8]) -> Result<Bytes, LineError>
+pub(crate) fn only_key(words: &[u8]) -> Result<Short, LineError>
     ensures ok { IfOk result (IsKeyWord (words_of words.now)) }
     ensures bad { IsErrOf result LineError.Bad → (key : List ℕ) → ¬ IsKeyWord (words_of words.now) key }
 {
     let (word, behind) = first_word(words).ok_or(LineError::Bad)?;
     no_word(behind).ok_or(LineError::Bad)?;
-    let key = short(word).ok_or(LineError::Bad)?;
-    let mut bytes = Bytes::new(alloc);
-    bytes.extend(key.as_slice())?;
-    Ok(bytes)
+    short(word).ok_or(LineError::Bad)
 }
 
 /// The changes of a put, by its words.
@@ -66,7 +62,7 @@ pub(crate) fn changes(alloc: Global, words: &[u8]) -> Result<Changes, LineError>
 }
 
 /// The change that a word is.
-#[tactic(auto, using(crate::proofs::KeyWordLemmas::change_parts, crate::proofs::KeyWordLemmas::change_none))]
+#[tactic(auto, using(crate::proofs::OfParse::KeyWordLemmas::change_parts, crate::proofs::OfParse::KeyWordLemmas::change_none))]
 fn change(word: &[u8]) -> Option<Change>
     ensures { result ≡ change_of word.now }
 {

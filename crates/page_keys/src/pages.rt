@@ -17,6 +17,7 @@ pub(crate) fn read_page<F: Flash, R: CommitRule>(
     room: &mut [u8],
     page: u32,
 ) -> Result<(), Fault>
+    requires kept { device.old.dropped ≡ false }
     requires room { length room.old ≡ device.old.config.page_bytes }
     requires exists { page < device.old.config.logical }
     ensures shown { OnOk result (room.new
@@ -49,7 +50,8 @@ pub(crate) fn check_all<F: Flash, R: CommitRule>(
     device: &mut Device<F, R>,
     room: &mut [u8],
 ) -> Result<(), KeyError>
-    requires { length room.old ≡ device.old.config.page_bytes }
+    requires kept { device.old.dropped ≡ false }
+    requires room { length room.old ≡ device.old.config.page_bytes }
     ensures ok { OnOk result (AreBuckets device.old.config device.old.machine.pages) }
     ensures read { OnOk result (OnlyReads F.state device.old device.new false) }
     ensures err { IfErr result (OpensNot device.old) }

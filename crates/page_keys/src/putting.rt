@@ -1,4 +1,4 @@
-ghost use Rattle.std.specs.Prelude.{◌≡◌, List, ◌<◌, ◌≤◌, ◌+◌, ◌^◌, [], None, Some, true, length, IfOk, IfErr, OnOk};
+ghost use Rattle.std.specs.Prelude.{◌≡◌, List, ◌<◌, ◌≤◌, ◌+◌, ◌^◌, [], None, Some, true, false, length, IfOk, IfErr, OnOk};
 ghost use Rattle.tx_engine.specs.ArrayState.{page_at};
 ghost use Rattle.page_keys.specs.Groups.{changes_of};
 ghost use Rattle.page_keys.specs.KeyMaps.{KeyMap, of_page, pages_of};
@@ -47,6 +47,7 @@ fn rewrite<F: Flash, R: CommitRule>(
     page: u32,
     changes: &[Placed<'_>],
 ) -> Result<(), PutError>
+    requires kept { device.old.dropped ≡ false }
     requires keys { HasKeys device.old }
     requires valid { AllByRecursion IsKeyChange (changes_of changes.now) }
     requires room { length room.old ≡ device.old.config.page_bytes }
@@ -90,6 +91,7 @@ pub(crate) fn rewritten_all<F: Flash, R: CommitRule>(
     pages: &[u32],
     changes: &[Change],
 ) -> Result<Batch, PutError>
+    requires kept { device.old.dropped ≡ false }
     requires keys { HasKeys device.old }
     requires valid { AllByRecursion IsKeyChange changes.now }
     requires differ { repeated [] changes.now ≡ None }
@@ -108,7 +110,7 @@ pub(crate) fn rewritten_all<F: Flash, R: CommitRule>(
 {
     let config = held_always(device);
     let placed = by_page(alloc, config.logical, changes)?;
-    let mut batch = Batch::new(alloc, config.page_bytes);
+    let mut batch = Batch::with_room(alloc, config.page_bytes, pages.len())?;
     for page in pages {
         rewrite(device, room, scratch, *page, of_page(&placed, *page))?;
         batch.add(*page, &scratch.bytes)?;

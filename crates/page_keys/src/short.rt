@@ -90,9 +90,10 @@ impl Short {
         ensures ok { OnOk result (out.new.items ≡ out.old.items ++ padded_short self.now) }
         ensures err { OnErr result (out.new.items ≡ out.old.items) }
     {
-        out.reserve(FIELD_BYTES)?;
-        out.push_reserved(self.len);
-        out.extend_from_slice(&self.room).unwrap();
+        let mut field = [0; FIELD_BYTES];
+        field[0] = self.len;
+        field[1..].copy_from_slice(&self.room);
+        out.extend_from_slice(&field)?;
         Ok(())
     }
 

@@ -64,7 +64,8 @@ impl<F: Flash, R: CommitRule> KeyStore<F, R> {
         alloc: Global,
         device: Device<F, R>,
     ) -> Result<KeyStore<F, R>, (Device<F, R>, KeyError)>
-        requires { device.machine.entries ≡ [] }
+        requires kept { device.dropped ≡ false }
+        requires closed { device.machine.entries ≡ [] }
         ensures keys { IfOk result (λ s. HasKeys s.device × (s.broken ≡ false)) }
         ensures opened { IfOk result (λ s. OnlyReads F.state device s.device false) }
         ensures cause { IfErr result (λ e. OpensNot device e.1) }

@@ -1,4 +1,4 @@
-ghost use Rattle.std.specs.Prelude.{◌≡◌, ℕ, [], None, OnOk, IfErr};
+ghost use Rattle.std.specs.Prelude.{◌≡◌, ℕ, false, [], None, OnOk, IfErr};
 ghost use Rattle.tx_engine.specs.Standing.{limits_of};
 ghost use Rattle.tx_engine.specs.Submit.{first_refusals};
 ghost use Rattle.page_keys.specs.Writing.{Writes, WritesNot};
@@ -14,11 +14,13 @@ pub(crate) fn write<F: Flash, R: CommitRule>(
     device: &mut Device<F, R>,
     batch: &Batch,
 ) -> Result<(), PutError>
+    requires kept { device.old.dropped ≡ false }
     requires closed { device.old.machine.entries ≡ [] }
     requires size { batch.now.page_bytes ≡ device.old.config.page_bytes }
     requires fits { first_refusals (limits_of device.old.config) [] 0 batch.now.entries ≡ None }
     ensures written { OnOk result (Writes F.state device.old device.new batch.now.entries) }
     ensures not_written { IfErr result (WritesNot F.state device.old device.new batch.now.entries) }
+    ensures kept { device.new.dropped ≡ false }
 {
     if let Err(refusal) = device.submit(0, batch) {
         return Err(spent(refusal));

@@ -1,5 +1,6 @@
 -- The pages whose newest records lead behind, chained by the pages to which they lead.
-use Rattle.std.proofs.Common.{◌≡◌, ◌≢◌, ℕ, suc, ◌+◌, ◌<◌, ◌≤◌, ◌==◌, eqb-true, Option, None, Some, List, length, set, get_or, sym, ap, ◌∙◌, subst, inl, inr, arith, get_or-set_same, get_or-set_other, lt-ltb, le-ltb}
+use Rattle.std.proofs.Common.{◌≡◌, ◌≢◌, ℕ, suc, ◌+◌, ◌<◌, ◌≤◌, ◌==◌, eqb-true, Option, None, Some, List, length, set, get_or, sym, ap, ◌∙◌, subst, inl, inr}
+use Rattle.std.proofs.Common.{arith, get_or-set_same, get_or-set_other, lt-ltb, le-ltb}
 use Rattle.std.specs.Prelude.{All}
 use Rattle.std.proofs.lemmas.Bool.{cases_eq, cond-true, cond-false}
 use Rattle.std.proofs.lemmas.List.{get_or_default, length-set}
@@ -7,7 +8,7 @@ use Rattle.list_facts.proofs.Values.{if_positive}
 use Rattle.record_list.specs.declared.found.Found.{Found}
 use Rattle.record_list.specs.Records.{newest, version_of, nothing}
 use Rattle.record_list.specs.Verdict.{is_behind}
-use Rattle.record_list.proofs.Names.{greatest_attained}
+use Rattle.record_list.proofs.OfFacts.Names.{greatest_attained}
 use Rattle.verdict_check.specs.Places.{place_at}
 use Rattle.verdict_check.specs.Straddlers.{newest_link, page_behind, IsLastInto, AreLast, AreBefore}
 
@@ -57,7 +58,8 @@ module _ (list : List Found) where
   pub last_more : (page into : ℕ) (last : List (Option ℕ)) → into < length last → page_behind list page ≡ Some into → AreLast list page last →
       AreLast list (page + 1) (set last into (Some page))
   last_more page into last within leads are other low = let size = length-set last into (Some page) in elim (cases_eq other into) [
-    | inl same ↦ subst (IsLastInto list other (page + 1)) (sym (ap (place_at (set last into (Some page))) same ∙ get_or-set_same last into (Some page) None within))
+    | inl same ↦ subst (IsLastInto list other (page + 1)) (sym (ap (place_at (set last into (Some page))) same ∙
+        get_or-set_same last into (Some page) None within))
         (omega arith, rw same leads, λ p high less. absurd (omega arith))
     | inr ne ↦ subst (IsLastInto list other (page + 1)) (sym (get_or-set_other last into other (Some page) None ne))
         (longer other page (place_at last other) (λ e. ne (let f : Some other ≡ Some into = cc in cc)) (are other (omega arith)))

@@ -1,16 +1,17 @@
 -- Courses along the links of newest records.
-use Rattle.std.proofs.Common.{◌≡◌, ◌≢◌, ℕ, suc, ◌+◌, ◌-◌, ◌<◌, ◌≤◌, Option, Some, None, List, length, set, position, leb, nat_le, if◌then◌else◌, refl, sym, ap, ◌∙◌, subst, inl, inr, arith, get_or-set_same, get_or-set_other}
+use Rattle.std.proofs.Common.{◌≡◌, ◌≢◌, ℕ, suc, ◌+◌, ◌-◌, ◌<◌, ◌≤◌, Option, Some, None, List, length, set, position, leb, nat_le, if◌then◌else◌, refl, sym, ap}
+use Rattle.std.proofs.Common.{◌∙◌, subst, inl, inr, arith, get_or-set_same, get_or-set_other}
 use Rattle.std.proofs.lemmas.Bool.{cases_eq, cases_lt, cond-true, cond-false, le-leb, lt-leb}
 use Rattle.std.proofs.lemmas.List.Quantifiers.{position-Some}
 use Rattle.tx_types.specs.declared.config.Protocol.TheVariants.{Scc}
 use Rattle.record_list.specs.declared.found.Found.{Found}
 use Rattle.record_list.specs.Records.{record_at, has_name, newest, nothing}
 use Rattle.record_list.specs.Verdict.{newest_name}
-use Rattle.record_list.proofs.Names.{has_name_true, same_name}
+use Rattle.record_list.proofs.OfFacts.Names.{has_name_true, same_name}
 use Rattle.record_chart.specs.Charts.{link_graph}
 use Rattle.record_chart.specs.Orbits.{next_of, steps, IsEnd, IsRound}
-use Rattle.record_chart.proofs.Steps.{steps_none, steps_more, steps_add, steps_before}
-use Rattle.record_chart.proofs.WalkOrbits.{end_never, leads, next_within}
+use Rattle.record_chart.proofs.OfChart.Steps.{steps_none, steps_more, steps_add, steps_before}
+use Rattle.record_chart.proofs.OfWalk.WalkOrbits.{end_never, leads, next_within}
 use Rattle.verdict_check.specs.declared.course.Course.{Course}
 use Rattle.verdict_check.specs.declared.course.Course.TheVariants.{Ends, Long}
 use Rattle.verdict_check.specs.Places.{newest_place, IsNewestAt}

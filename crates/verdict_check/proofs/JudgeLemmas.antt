@@ -8,12 +8,12 @@ use Rattle.record_list.specs.declared.found.Found.{Found}
 use Rattle.record_list.specs.declared.found.Why.TheVariants.{Cycle, Absent}
 use Rattle.record_list.specs.Records.{newest, has_name, record_at, nothing, IsScanned}
 use Rattle.record_list.specs.Verdict.{newest_name, walk, why, is_committed}
-use Rattle.record_list.proofs.Names.{newest_present}
+use Rattle.record_list.proofs.OfFacts.Names.{newest_present}
 use Rattle.record_list.specs.Current.{cur, fallback}
 use Rattle.record_chart.specs.declared.orbit.Orbit.TheVariants as orbit
 use Rattle.record_chart.specs.Charts.{ending, link_graph}
-use Rattle.record_chart.proofs.Steps.{steps_stay}
-use Rattle.record_chart.proofs.WalkOrbits.{why_is, link_at, to_none, end_within}
+use Rattle.record_chart.proofs.OfChart.Steps.{steps_stay}
+use Rattle.record_chart.proofs.OfWalk.WalkOrbits.{why_is, link_at, to_none, end_within}
 use Rattle.verdict_report.specs.Walks.{stays_at, walk_links, links_of}
 use Rattle.verdict_report.proofs.WalkLengths as lengths
 use Rattle.verdict_check.specs.declared.course.Course.{Course}

@@ -1,5 +1,6 @@
 -- What is read of a line, part by part.
-use Rattle.std.proofs.Common.{◌≡◌, ℕ, ◌+◌, ◌<◌, ◌||◌, min, add-one, Option, List, [], ◌∷◌, ◌++◌, length, get_or, map, take, refl, sym, ap, ◌∙◌, arith, append-nil, append_assoc, codes, decimal, false}
+use Rattle.std.proofs.Common.{◌≡◌, ℕ, ◌+◌, ◌<◌, ◌||◌, min, add-one, Option, List, [], ◌∷◌, ◌++◌, length, get_or, map, take, refl, sym, ap, ◌∙◌, arith}
+use Rattle.std.proofs.Common.{append-nil, append_assoc, codes, decimal, false}
 use Rattle.std.proofs.lemmas.Grind.{take_at_read}
 use Rattle.std.proofs.lemmas.Bool.{or_parts, ltb-false}
 use Rattle.std.proofs.lemmas.List.{map-append, take_min, get_or_default}
@@ -10,7 +11,7 @@ use Rattle.tx_types.specs.declared.config.Protocol.TheVariants.{Scc}
 use Rattle.record_list.specs.declared.found.Found.{Found}
 use Rattle.record_list.specs.declared.found.Why.{Why}
 use Rattle.record_list.specs.Records.{newest, is_same}
-use Rattle.record_list.proofs.Names.{same_name}
+use Rattle.record_list.proofs.OfFacts.Names.{same_name}
 use Rattle.record_list.specs.Verdict.{newest_name, link_of, verdict_of, is_ahead, is_behind, why}
 use Rattle.record_list.specs.Current.{cur}
 use Rattle.verdict_report.specs.Walks.{links_of, is_end}
@@ -71,7 +72,8 @@ one_read list page links shown from before now link next within read is then = r
       let goes = decides.next shown next (omega arith) in
       let here : get_or all shown next ≡ link = get_or_default all shown next link (omega arith) ∙ read.next logical size (omega arith) in
       let open_end : is_end list (newest_name list page) link ≡ false = ap (is_end list (newest_name list page)) (sym here) ∙ goes.0 in
-      let name : link ≡ newest_name list link.page = same_name link (newest_name list link.page) refl (sym (not_ended list (newest_name list page) link open_end)) in
+      let name : link ≡ newest_name list link.page = same_name link (newest_name list link.page) refl
+      (sym (not_ended list (newest_name list page) link open_end)) in
       ap (λ n. get_or all n next) (add-one shown) ∙ goes.1 ∙ ap (link_of list) (here ∙ name) ∙ sym then;
 }
 
@@ -112,7 +114,8 @@ pub line_of_page : (protocol : Protocol) (list : List Found) (logical : ℕ) (li
     q ≡ left_behind (after_spaces (verdict_word (verdict_of line.why) ∷ [])) p →
     r ≡ left_behind (after_spaces (reason_words line.why)) q →
     s ≡ left_behind (after_spaces (codes "current" ∷ decimal line.current ∷ codes "walk" ∷ [])) r →
-    ((n : ℕ) → line.links ≡ length (links_of list n line.page) → t ≡ left_behind (after_spaces (map link_word (take most_links (links_of list n line.page)))) s) →
+    ((n : ℕ) → line.links ≡ length (links_of list n line.page) → t ≡ left_behind (after_spaces (map link_word (take most_links (links_of list n line.page)))) s)
+    →
     u ≡ left_behind (after_spaces (more_words line.links)) t → v ≡ left_behind (10 ∷ []) u →
     v ≡ left_behind (verdict_line protocol list logical line.page) o
 line_of_page protocol list logical line o p q r s t u v is ep eq er es et eu ev =
@@ -121,5 +124,6 @@ line_of_page protocol list logical line o p q r s t u v is ep eq er es et eu ev 
     ∙ ap (λ n. left_behind (page_line line.page line.newest line.why line.current (words ++ more_words n)) o) is.links_are
     ∙ ap (λ n. left_behind (page_line line.page line.newest line.why n (walk_words (links_of list logical line.page))) o) is.current_is
     ∙ ap (λ w. left_behind (page_line line.page line.newest w (cur protocol list logical line.page) (walk_words (links_of list logical line.page))) o) is.why_is
-    ∙ ap (λ n. left_behind (page_line line.page n (why protocol list logical line.page) (cur protocol list logical line.page) (walk_words (links_of list logical line.page))) o)
+    ∙ ap (λ n. left_behind (page_line line.page n (why protocol list logical line.page) (cur protocol list logical line.page)
+    (walk_words (links_of list logical line.page))) o)
     is.newest_is

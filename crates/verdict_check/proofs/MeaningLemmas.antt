@@ -1,5 +1,6 @@
 -- The line of a page tells what it says.
-use Rattle.std.proofs.Common.{◌≡◌, ℕ, zero, suc, ◌-◌, ◌^◌, ◌<◌, ◌≤◌, ◌==◌, Bool, true, false, List, [], ◌∷◌, ◌++◌, length, get_or, drop, map, All, Contains, refl, sym, ap, ◌∙◌, subst, inl, inr, arith, append-nil, codes, decimal, if◌then◌else◌}
+use Rattle.std.proofs.Common.{◌≡◌, ℕ, zero, suc, ◌-◌, ◌^◌, ◌<◌, ◌≤◌, ◌==◌, Bool, true, false, List, [], ◌∷◌, ◌++◌, length, get_or, drop, map, All, Contains}
+use Rattle.std.proofs.Common.{refl, sym, ap, ◌∙◌, subst, inl, inr, arith, append-nil, codes, decimal, if◌then◌else◌}
 use Rattle.std.specs.List.{list_all, join_with_byte, concat, slice_split}
 use Rattle.std.proofs.lemmas.Bool.{cases_Bool, and_parts}
 use Rattle.std.proofs.lemmas.Fmt.{decimal_injective}
@@ -15,12 +16,14 @@ use Rattle.record_list.specs.declared.found.Found.{Found}
 use Rattle.record_list.specs.declared.found.Why.{Why}
 use Rattle.record_list.specs.declared.found.Why.TheVariants.{Cycle, Passed, Absent, Straddled}
 use Rattle.record_list.specs.Records.{greatest, version_of, version_below, newest, next_older, has_name}
-use Rattle.record_list.specs.Verdict.{newest_name, link_of, back_of, passed, is_ahead, is_behind, straddling, straddling_version, walk, why, verdict_of, is_committed}
+use Rattle.record_list.specs.Verdict.{newest_name, link_of, back_of, passed, is_ahead, is_behind, straddling, straddling_version, walk, why, verdict_of}
+use Rattle.record_list.specs.Verdict.{is_committed}
 use Rattle.record_list.specs.Records.{is_same}
 use Rattle.record_list.specs.Current.{cur, fallback}
-use Rattle.record_list.proofs.Names.{greatest_least}
+use Rattle.record_list.proofs.OfFacts.Names.{greatest_least}
 use Rattle.verdict_report.specs.Walks.{links_of}
-use Rattle.verdict_report.specs.Report.{line_of, reason_words, verdict_word, has_record, pages, page_line, verdict_line, walk_words, last_line, report_lines, report}
+use Rattle.verdict_report.specs.Report.{line_of, reason_words, verdict_word, has_record, pages, page_line, verdict_line, walk_words, last_line, report_lines}
+use Rattle.verdict_report.specs.Report.{report}
 use Rattle.verdict_report.specs.Lines.{IsReason}
 use Rattle.verdict_report.proofs.PageLemmas.{pages_each}
 use Rattle.verdict_check.specs.Texts.{text_lines}
@@ -132,11 +135,13 @@ reason_if : (b : Bool) (r s : Why) → IsReason r → IsReason s → IsReason (i
 reason_if true r s h k = h
 reason_if false r s h k = k
 
-walk_fits : (protocol : Protocol) (list : List Found) → HaveVersions list → (start : Link) (turns : ℕ) (link : Link) → IsReason (walk protocol list start turns link)
+walk_fits : (protocol : Protocol) (list : List Found) → HaveVersions list → (start : Link) (turns : ℕ) (link : Link) →
+    IsReason (walk protocol list start turns link)
 walk_fits protocol list fit start zero link = tt
 walk_fits protocol list fit start (suc turns) link =
     reason_if (is_ahead list link) Absent _ tt (reason_if (is_behind list link) (passed protocol list link) _ (passed_fits protocol)
-    (reason_if (is_same link start) Cycle (walk protocol list start turns (link_of list link)) tt (walk_fits protocol list fit start turns (link_of list link))))
+    (reason_if (is_same link start) Cycle (walk protocol list start turns (link_of list link)) tt
+    (walk_fits protocol list fit start turns (link_of list link))))
   where
     passed_fits : (p : Protocol) → IsReason (passed p list link)
     passed_fits Scc = tt
@@ -168,13 +173,16 @@ line_tells protocol list logical page version reason current links p fit low num
     let newest_is = newest list p in
     let why_is = why protocol list logical p in
     let cur_is = cur protocol list logical p in
-    let all = same_words (codes "verdict") (codes "verdict") (words_behind p newest_is why_is cur_is mine) (words_behind page version reason current (walk_words links))
-    (plain_page p newest_is why_is cur_is mine (plain_walk (links_of list logical p))) (plain_page page version reason current (walk_words links) (plain_walk links)) e in
+    let all = same_words (codes "verdict") (codes "verdict") (words_behind p newest_is why_is cur_is mine)
+    (words_behind page version reason current (walk_words links))
+    (plain_page p newest_is why_is cur_is mine (plain_walk (links_of list logical p)))
+    (plain_page page version reason current (walk_words links) (plain_walk links)) e in
     let page_e : decimal p ≡ decimal page = ap (λ ws. get_or ws 1 []) all in
     let version_e : decimal newest_is ≡ decimal version = ap (λ ws. get_or ws 3 []) all in
     let rest : reason_words why_is ++ codes "current" ∷ decimal cur_is ∷ codes "walk" ∷ mine
     ≡ reason_words reason ++ codes "current" ∷ decimal current ∷ codes "walk" ∷ walk_words links = ap (drop 5) all in
-    let told = reason_told why_is reason _ _ (walk_fits protocol list fit (newest_name list p) (suc logical) (link_of list (newest_name list p))) numbers.reason_fits rest in
+    let told = reason_told why_is reason _ _ (walk_fits protocol list fit (newest_name list p) (suc logical) (link_of list (newest_name list p)))
+    numbers.reason_fits rest in
     let current_e : decimal cur_is ≡ decimal current = ap (λ ws. get_or ws 1 []) told.rest in
     let walk_e : mine ≡ walk_words links = ap (drop 3) told.rest in
     let same : p ≡ page = decimal_injective p page low numbers.page_fits page_e in

@@ -5,7 +5,7 @@ use Rattle.std.proofs.lemmas.Bool.Decides.{nat_tests}
 use Rattle.tx_types.specs.declared.record.Rec.{Rec}
 use Rattle.record_list.specs.declared.found.Found.{Found}
 use Rattle.record_list.specs.Records.{newest, version_below, record_at}
-use Rattle.record_list.proofs.Greatest.{greatest_step}
+use Rattle.record_list.proofs.OfFacts.Greatest.{greatest_step}
 use Rattle.verdict_check.specs.Older.{version_at, AreOlder}
 
 -- a version below the newest of its page is taken in

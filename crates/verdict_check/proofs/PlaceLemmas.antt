@@ -1,5 +1,6 @@
 -- The first of the newest records of a page.
-use Rattle.std.proofs.Common.{◌≡◌, ◌≢◌, ℕ, ◌<◌, ◌≤◌, zero, suc, All, false, ◌==◌, Option, Some, None, List, length, get_or, position, refl, sym, ap, ◌∙◌, subst, inl, inr, arith, eqb-true, eq-eqb, ne_eqb}
+use Rattle.std.proofs.Common.{◌≡◌, ◌≢◌, ℕ, ◌<◌, ◌≤◌, zero, suc, All, false, ◌==◌, Option, Some, None, List, length, get_or, position, refl, sym, ap, ◌∙◌, subst}
+use Rattle.std.proofs.Common.{inl, inr, arith, eqb-true, eq-eqb, ne_eqb}
 use Rattle.std.proofs.lemmas.Bool.{cases_eq, cases_lt, cond-true, cond-false}
 use Rattle.std.proofs.lemmas.Bool.Decides.{nat_tests}
 use Rattle.std.proofs.lemmas.List.{get_or_default, get_or_past}
@@ -11,9 +12,9 @@ use Rattle.tx_types.specs.declared.record.Link.{Link}
 use Rattle.record_list.specs.declared.found.Found.{Found}
 use Rattle.record_list.specs.Records.{version_of, newest, has_name, record_at, nothing, IsScanned}
 use Rattle.record_list.specs.Verdict.{newest_name, link_of}
-use Rattle.record_list.proofs.Names.{greatest_attained, greatest_bound, greatest_least, has_name_true, same_name}
+use Rattle.record_list.proofs.OfFacts.Names.{greatest_attained, greatest_bound, greatest_least, has_name_true, same_name}
 use Rattle.record_chart.specs.Charts.{place_of}
-use Rattle.record_chart.proofs.WalkOrbits.{link_found, link_nowhere}
+use Rattle.record_chart.proofs.OfWalk.WalkOrbits.{link_found, link_nowhere}
 use Rattle.verdict_check.specs.Places.{newest_place, IsNewestAt, place_at, IsNewestOf, AreNewestOf, ArePlaces}
 
 -- what bounds the version of each record of a page bounds its newest

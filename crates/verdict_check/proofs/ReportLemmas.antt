@@ -1,5 +1,6 @@
 -- A report that is read line by line.
-use Rattle.std.proofs.Common.{◌≡◌, ◌≢◌, ℕ, zero, suc, ◌+◌, ◌-◌, ◌<◌, true, false, ◌==◌, cond, Some, None, List, [], ◌∷◌, ◌++◌, length, get_or, map, refl, sym, ap, ◌∙◌, subst, arith, append_assoc, append-nil}
+use Rattle.std.proofs.Common.{◌≡◌, ◌≢◌, ℕ, zero, suc, ◌+◌, ◌-◌, ◌<◌, true, false, ◌==◌, cond, Some, None, List, [], ◌∷◌, ◌++◌, length, get_or, map, refl, sym}
+use Rattle.std.proofs.Common.{ap, ◌∙◌, subst, arith, append_assoc, append-nil}
 use Rattle.std.specs.List.{concat, AllByRecursion}
 use Rattle.std.proofs.lemmas.Bool.{cond-true, cond-false, eq-eqb, ne_eqb}
 use Rattle.std.proofs.lemmas.List.{length-map, length_push, map-append}
@@ -8,7 +9,7 @@ use Rattle.std.proofs.lemmas.List.Folds.{list_any_at, list_any_none}
 use Rattle.tx_types.specs.declared.config.Protocol.{Protocol}
 use Rattle.record_list.specs.declared.found.Found.{Found}
 use Rattle.record_list.specs.Records.{version_of, nothing, IsScanned}
-use Rattle.record_list.proofs.Names.{greatest_bound}
+use Rattle.record_list.proofs.OfFacts.Names.{greatest_bound}
 use Rattle.verdict_report.specs.Report.{has_record, pages, verdict_line, last_line, report}
 use Rattle.verdict_report.proofs.PageLemmas.{pages_more}
 use Rattle.verdict_check.specs.Places.{newest_place}
@@ -155,17 +156,20 @@ module _ (protocol : Protocol) (list : List Found) (logical : ℕ) where
       (text ≡ report protocol list logical) × (count ≡ length (pages list logical))
   unfolding report
   all_read n text rest more count e empty read is = (
-    whole n text rest more count e read is ∙ ap (λ t. concat (map line (pages list logical) ++ last_line (length (pages list logical)) ∷ []) ++ t) empty ∙ append-nil _,
+    whole n text rest more count e read is ∙ ap (λ t. concat (map line (pages list logical) ++ last_line (length (pages list logical)) ∷ []) ++ t) empty ∙
+        append-nil _,
     read.count_is ∙ ap (λ m. length (pages list m)) e,
   )
 
   pub more_is_left : (n : ℕ) (text rest more : List ℕ) (count k : ℕ) → n ≡ logical → more ≢ [] →
-      AreLinesRead line list n text rest count → Some more ≡ behind (last_line count) rest → k ≡ count + 2 → IsFirstDifference (report protocol list logical) text k
+      AreLinesRead line list n text rest count → Some more ≡ behind (last_line count) rest → k ≡ count + 2 →
+      IsFirstDifference (report protocol list logical) text k
   unfolding report
   more_is_left n text rest more count k e some read is counts =
       let before = map line (pages list logical) in
       let end = last_line (length (pages list logical)) in
       let differs = one_too_many (before ++ end ∷ []) more k
       (lines_and_last before end (lines_of protocol list logical (pages list logical)) (last_is_line (length (pages list logical))))
-      (let c = read.count_is ∙ ap (λ m. length (pages list m)) e in let l = length-map (pages list logical) line in let m = length_push before end in omega arith) some in
+      (let c = read.count_is ∙ ap (λ m. length (pages list m)) e in let l = length-map (pages list logical) line in let m = length_push before end in
+      omega arith) some in
       subst (λ t. IsFirstDifference (concat (before ++ end ∷ [])) t k) (sym (whole n text rest more count e read is)) differs

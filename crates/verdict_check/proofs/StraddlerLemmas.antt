@@ -1,5 +1,6 @@
 -- The greatest versions that straddle the links of newest records, noted record by record along the chains.
-use Rattle.std.proofs.Common.{◌≡◌, ◌≢◌, ℕ, ◌+◌, ◌<◌, ◌≤◌, max, Option, None, Some, List, length, set, get_or, refl, sym, ap, ◌∙◌, subst, inl, inr, arith, get_or-set_same, le-ltb, lt-ltb, if◌then◌else◌}
+use Rattle.std.proofs.Common.{◌≡◌, ◌≢◌, ℕ, ◌+◌, ◌<◌, ◌≤◌, max, Option, None, Some, List, length, set, get_or, refl, sym, ap, ◌∙◌, subst, inl, inr, arith}
+use Rattle.std.proofs.Common.{get_or-set_same, le-ltb, lt-ltb, if◌then◌else◌}
 use Rattle.std.specs.Prelude.{All}
 use Rattle.std.proofs.lemmas.Bool.{cases_eq, cases_order, cond-true, cond-false}
 use Rattle.std.proofs.lemmas.Bool.Decides.{nat_tests}
@@ -13,8 +14,8 @@ use Rattle.record_list.specs.Records.{newest, name_of, record_at, nothing}
 use Rattle.record_list.specs.declared.found.Why.{Why}
 use Rattle.record_list.specs.declared.found.Why.TheVariants.{Absent}
 use Rattle.record_list.specs.Verdict.{straddling, straddling_version, passed, is_ahead, is_behind}
-use Rattle.record_list.proofs.Greatest.{greatest_step}
-use Rattle.record_list.proofs.Names.{newest_bound, present_in}
+use Rattle.record_list.proofs.OfFacts.Greatest.{greatest_step}
+use Rattle.record_list.proofs.OfFacts.Names.{newest_bound, present_in}
 use Rattle.record_chart.specs.Charts.{ending}
 use Rattle.verdict_check.specs.Older.{version_at}
 use Rattle.verdict_check.specs.Places.{IsNewestAt}

@@ -10,7 +10,7 @@ use Rattle.record_list.specs.Records.{newest, is_same}
 use Rattle.record_list.specs.Verdict.{newest_name, link_of, why}
 use Rattle.record_list.specs.Current.{cur}
 use Rattle.record_chart.specs.Charts.{Sorts}
-use Rattle.record_chart.proofs.Alike.{newest_alike, link_alike, why_alike, cur_alike}
+use Rattle.record_chart.proofs.OfSort.Alike.{newest_alike, link_alike, why_alike, cur_alike}
 use Rattle.verdict_report.specs.Walks.{is_end, walk_links, links_of}
 use Rattle.verdict_report.specs.Report.{has_record, pages, page_line, walk_words, verdict_line, last_line, report}
 

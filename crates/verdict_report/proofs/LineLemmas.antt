@@ -23,7 +23,8 @@ after_spaces-append : (xs ys : List (List ℕ)) → after_spaces (xs ++ ys) ≡ 
 after_spaces-append xs ys = flat_map-append (λ word. 32 ∷ word) xs ys
 
 parts_after_spaces : (a b c d e f : List (List ℕ)) →
-    after_spaces (a ++ (b ++ (c ++ (d ++ (e ++ f))))) ≡ after_spaces a ++ (after_spaces b ++ (after_spaces c ++ (after_spaces d ++ (after_spaces e ++ after_spaces f))))
+    after_spaces (a ++ (b ++ (c ++ (d ++ (e ++ f))))) ≡ after_spaces a ++ (after_spaces b ++
+    (after_spaces c ++ (after_spaces d ++ (after_spaces e ++ after_spaces f))))
 parts_after_spaces a b c d e f = simp after_spaces-append
 
 -- the parts of a line

@@ -1,5 +1,7 @@
 -- The newest record of each page, kept in a table as a list is gone through.
-use Rattle.std.proofs.Common.{◌≡◌, ℕ, ◌+◌, ◌<◌, ◌≤◌, max, Bool, true, false, cond, ◌||◌, ◌&&◌, eqb, ltb, Option, Some, None, is_some, List, [], ◌∷◌, ◌++◌, length, get_or, set, take, refl, sym, ap, ◌∙◌, subst, inl, inr, arith, eqb-true, eq-eqb, lt-ltb, get_or-set_same, get_or-set_other}
+use Rattle.std.proofs.Common.{◌≡◌, ℕ, ◌+◌, ◌<◌, ◌≤◌, max, Bool, true, false, cond, ◌||◌, ◌&&◌, eqb, ltb, Option, Some, None, is_some, List, [], ◌∷◌, ◌++◌}
+use Rattle.std.proofs.Common.{length, get_or, set, take, refl, sym, ap, ◌∙◌, subst, inl, inr, arith, eqb-true, eq-eqb, lt-ltb, get_or-set_same}
+use Rattle.std.proofs.Common.{get_or-set_other}
 use Rattle.std.proofs.Math.Nat.{max-eq_left, max-eq_right}
 use Rattle.std.proofs.lemmas.Bool.{false≢true, cases_Bool, cases_lt, cases_eq, cond-true, cond-false, and_parts, ne_eqb, le-ltb, or_left, or_right, or_parts}
 use Rattle.std.proofs.lemmas.Grind.{take_at_read}
@@ -11,7 +13,7 @@ use Rattle.tx_types.specs.declared.record.Rec.{Rec}
 use Rattle.record_list.specs.declared.found.Found.{Found}
 use Rattle.record_list.specs.Records.{greatest, version_of, newest, has_name, is_present, nothing}
 use Rattle.record_list.specs.Verdict.{newest_name, link_of, back_of}
-use Rattle.record_list.proofs.Names.{newest_bound, has_own_name, named}
+use Rattle.record_list.proofs.OfFacts.Names.{newest_bound, has_own_name, named}
 use Rattle.verdict_report.specs.Report.{has_record}
 use Rattle.verdict_report.specs.Newest.{IsNewestRecord, KeepsNewest, kept_at, newer, version_in, link_in, back_in}
 
@@ -125,7 +127,8 @@ module _ (xs : List Found) (f : Found) (page : ℕ) where
       (newest_push xs f page ∙ ap (λ n. max (newest xs page) n) version ∙ max-eq_right above)
       (sym (record_push xs f page ∙ or_right (has_record xs page) _ (ap (λ b. b || false) own)))
       refl
-      (new_name xs f (named page f.rec.version) out (has_own_name (named page f.rec.version) f.rec (ap (λ p. named p f.rec.version) (eqb-true f.rec.page page own))))
+      (new_name xs f (named page f.rec.version) out (has_own_name (named page f.rec.version) f.rec
+      (ap (λ p. named p f.rec.version) (eqb-true f.rec.page page own))))
 
   -- a record of the page that is no newer than the one that is kept
   page_old : (r : Rec) → IsNewestRecord xs page (Some r) → eqb f.rec.page page ≡ true → f.rec.version ≤ r.version →
@@ -157,12 +160,15 @@ module _ (xs : List Found) (f : Found) (page : ℕ) where
         | inr out ↦ out
       ]
   page_own (Some r) was own = elim (cases_lt r.version f.rec.version) [
-    | inl less ↦ subst (IsNewestRecord (xs ++ f ∷ []) page) (sym (cond-true (ltb r.version f.rec.version) (Some f.rec) (Some r) (lt-ltb r.version f.rec.version less))) (page_new own (newer_out r.version was.version less) (let e = was.version in omega arith))
-    | inr le ↦ subst (IsNewestRecord (xs ++ f ∷ []) page) (sym (cond-false (ltb r.version f.rec.version) (Some f.rec) (Some r) (le-ltb r.version f.rec.version le))) (page_old r was own le)
+    | inl less ↦ subst (IsNewestRecord (xs ++ f ∷ []) page) (sym (cond-true (ltb r.version f.rec.version) (Some f.rec) (Some r)
+        (lt-ltb r.version f.rec.version less))) (page_new own (newer_out r.version was.version less) (let e = was.version in omega arith))
+    | inr le ↦ subst (IsNewestRecord (xs ++ f ∷ []) page) (sym (cond-false (ltb r.version f.rec.version) (Some f.rec) (Some r)
+        (le-ltb r.version f.rec.version le))) (page_old r was own le)
   ]
 
   -- a record more
-  pub newest_record_push : (kept : Option Rec) → IsNewestRecord xs page kept → IsNewestRecord (xs ++ f ∷ []) page (cond (eqb f.rec.page page) (newer kept f.rec) kept)
+  pub newest_record_push : (kept : Option Rec) → IsNewestRecord xs page kept → IsNewestRecord (xs ++ f ∷ []) page
+      (cond (eqb f.rec.page page) (newer kept f.rec) kept)
   newest_record_push kept was = elim (cases_Bool (eqb f.rec.page page)) [
     | inl own ↦ subst (IsNewestRecord (xs ++ f ∷ []) page) (sym (cond-true (eqb f.rec.page page) (newer kept f.rec) kept own)) (page_own kept was own)
     | inr off ↦ subst (IsNewestRecord (xs ++ f ∷ []) page) (sym (cond-false (eqb f.rec.page page) (newer kept f.rec) kept off)) (page_else kept was off)
@@ -170,7 +176,8 @@ module _ (xs : List Found) (f : Found) (page : ℕ) where
 
 -- a table goes on with one record more
 pub keeps_more : (xs : List Found) (i : ℕ) (before after : List (Option Rec)) → i < length xs → KeepsNewest (take i xs) before →
-    ((page : ℕ) → kept_at after page ≡ cond (eqb (get_or xs i nothing).rec.page page) (newer (kept_at before page) (get_or xs i nothing).rec) (kept_at before page)) →
+    ((page : ℕ) → kept_at after page ≡ cond (eqb (get_or xs i nothing).rec.page page) (newer (kept_at before page) (get_or xs i nothing).rec)
+    (kept_at before page)) →
     KeepsNewest (take (i + 1) xs) after
 keeps_more xs i before after h was is page =
     let f = get_or xs i nothing in

@@ -1,5 +1,6 @@
 -- How many links a walk takes, by the orbit of the place at which it begins.
-use Rattle.std.proofs.Common.{◌≡◌, ◌≢◌, ℕ, zero, suc, ◌+◌, ◌<◌, ◌≤◌, min, Bool, true, false, if◌then◌else◌, ◌==◌, Option, Some, None, List, length, position, refl, sym, ap, ap₂, ◌∙◌, subst, inl, inr, arith, eq-eqb, lt-ltb}
+use Rattle.std.proofs.Common.{◌≡◌, ◌≢◌, ℕ, zero, suc, ◌+◌, ◌<◌, ◌≤◌, min, Bool, true, false, if◌then◌else◌, ◌==◌, Option, Some, None, List, length, position}
+use Rattle.std.proofs.Common.{refl, sym, ap, ap₂, ◌∙◌, subst, inl, inr, arith, eq-eqb, lt-ltb}
 use Rattle.std.proofs.Math.Nat.{min-eq_left, min-eq_right}
 use Rattle.std.proofs.lemmas.Bool.{cases_Bool, cases_eq, cases_lt, cases_order, cond-true, cond-false, le-ltb, ne_eqb}
 use Rattle.std.proofs.lemmas.List.Quantifiers.{position-Some}
@@ -8,13 +9,13 @@ use Rattle.tx_types.specs.declared.config.Protocol.TheVariants.{Scc}
 use Rattle.record_list.specs.declared.found.Found.{Found}
 use Rattle.record_list.specs.Records.{newest, has_name, is_present, is_same, record_at, nothing}
 use Rattle.record_list.specs.Verdict.{newest_name}
-use Rattle.record_list.proofs.Names.{absent_link, has_name_true}
+use Rattle.record_list.proofs.OfFacts.Names.{absent_link, has_name_true}
 use Rattle.record_chart.specs.declared.orbit.Orbit.{Orbit}
 use Rattle.record_chart.specs.declared.orbit.Orbit.TheVariants.{Ends, Round, Aside}
 use Rattle.record_chart.specs.Orbits.{next_of, steps, IsEnd, IsOrbit}
 use Rattle.record_chart.specs.Charts.{place_of, link_graph, IsOrbitOfNewest}
-use Rattle.record_chart.proofs.Steps.{some_or_none, steps_none, steps_stop, steps_more, round_goes_on}
-use Rattle.record_chart.proofs.WalkOrbits.{link_at, absent_at, same_as_itself, next_at, leads, same_place, next_within, end_never}
+use Rattle.record_chart.proofs.OfChart.Steps.{some_or_none, steps_none, steps_stop, steps_more, round_goes_on}
+use Rattle.record_chart.proofs.OfWalk.WalkOrbits.{link_at, absent_at, same_as_itself, next_at, leads, same_place, next_within, end_never}
 use Rattle.verdict_report.proofs.WalkLemmas.{one_less}
 use Rattle.verdict_report.specs.Walks.{stays_at, walk_links, links_of}
 
@@ -228,7 +229,8 @@ walk_stops list logical page after at orbit stops =
 pub counted_most : (most logical n : ℕ) → most ≡ logical → n ≡ suc logical → most + 1 ≡ n
 counted_most most logical n m e = omega arith
 
-pub counted_least : (most logical fewer less result n : ℕ) → most ≡ logical → fewer ≡ less → result ≡ min (most + 1) fewer → n ≡ min (suc logical) less → result ≡ n
+pub counted_least : (most logical fewer less result n : ℕ) → most ≡ logical → fewer ≡ less → result ≡ min (most + 1) fewer → n ≡ min (suc logical) less →
+    result ≡ n
 counted_least most logical fewer less result n m f is e =
     let bound : most + 1 ≡ suc logical = omega arith in is ∙ ap₂ min bound f ∙ sym e
 

@@ -10,7 +10,8 @@ use Rattle.cut_replay.proofs.finishing.finish.Given as goal
 abbrev pub invariant-steps : goal.invariant-steps
 invariant-steps g l =
     HoldsAlways g.F.Flash.state g.R.CommitRule.protocol l.device
-    × ((new : Standing _) (r : Reply) → ServesHere g.F.Flash.state (Finish l.tag) l.device new r → ServesHere g.F.Flash.state (Finish l.tag) l.initial.device new r)
+    × ((new : Standing _) (r : Reply) → ServesHere g.F.Flash.state (Finish l.tag) l.device new r →
+    ServesHere g.F.Flash.state (Finish l.tag) l.initial.device new r)
 
 abbrev pub decreases-steps : goal.decreases-steps
 decreases-steps g l = pages_left l.tag l.device.machine

@@ -6,7 +6,8 @@ use Rattle.cut_replay.proofs.serving.serve.Goals as goal
 
 pub returns-in_default-clause-serves : goal.returns-in_default-clause-serves
 returns-in_default-clause-serves g c = λ sound.
-    rooms_ended g.row.R.Denot g.F.Flash.state c.args.config c.args.list.now c.args.flash (record { text = g.W.Watch.text c.args.out.now; kept = g.W.Watch.kept c.args.out.now }) sound
+    rooms_ended g.row.R.Denot g.F.Flash.state c.args.config c.args.list.now c.args.flash
+    (record { text = g.W.Watch.text c.args.out.now; kept = g.W.Watch.kept c.args.out.now }) sound
 
 pub returns-in-Ok-begin-clause-serves : goal.returns-in-Ok-begin-clause-serves
 returns-in-Ok-begin-clause-serves g c = λ sound. c.serve_all.ensures.serves (g.F.Flash.state c.args.flash) (c.in-Ok-begin.ensures.begins sound)

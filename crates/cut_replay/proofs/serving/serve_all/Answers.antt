@@ -8,7 +8,9 @@ use Rattle.cut_replay.specs.Served.{Watched, ServesUnsound}
 use Rattle.cut_replay.specs.declared.serving.ServeError.TheVariants as failed
 use Rattle.cut_replay.specs.Sessions.{flash_in, IsSoundOrSame, EndsServing}
 use Rattle.cut_replay.specs.Watching.{Grew}
-use Rattle.cut_replay.proofs.Progress.{HasServed, StaysUnmounted, moment_stays, unmounted_none, unmounted_more, unmounted_in, ended_counts, unmounted_to_the_end, served_none, served_more, next_of, ended_in, untold_in, served_to_the_end, kept_more, refused_in, on_ok, on_err}
+use Rattle.cut_replay.proofs.Progress.{HasServed, StaysUnmounted, moment_stays, unmounted_none, unmounted_more, unmounted_in, ended_counts}
+use Rattle.cut_replay.proofs.Progress.{unmounted_to_the_end, served_none, served_more, next_of, ended_in, untold_in, served_to_the_end, kept_more, refused_in}
+use Rattle.cut_replay.proofs.Progress.{on_ok, on_err}
 use Rattle.cut_replay.proofs.Begun.{fits_shape}
 use Rattle.cut_replay.proofs.serving.serve_all.Goals as goal
 
@@ -17,16 +19,19 @@ loop-command-init g c = record {
   fits = c.requires.fits;
   size = c.requires.size;
   room = c.requires.room;
-  served = λ init begins. served_none g.F.Flash.state c.args.config init c.args.session (record { text = g.W.Watch.text c.args.out.now; kept = g.W.Watch.kept c.args.out.now }) begins;
+  served = λ init begins. served_none g.F.Flash.state c.args.config init c.args.session
+      (record { text = g.W.Watch.text c.args.out.now; kept = g.W.Watch.kept c.args.out.now }) begins;
   kept = λ init kept. kept;
   extras = refl;
-  unsound = λ init unsound same counted. unmounted_none init (g.F.Flash.state (flash_in c.args.session)) (record { text = g.W.Watch.text c.args.out.now; kept = g.W.Watch.kept c.args.out.now }) same counted;
+  unsound = λ init unsound same counted. unmounted_none init (g.F.Flash.state (flash_in c.args.session))
+      (record { text = g.W.Watch.text c.args.out.now; kept = g.W.Watch.kept c.args.out.now }) same counted;
 }
 
 pub returns-then-is_err-clause-serves : goal.returns-then-is_err-clause-serves
 returns-then-is_err-clause-serves g c = λ init begins.
     let none = on_err _ c.tell.result (sym c.is_err.ensures.value ∙ c.if-is_err.true) c.tell.ensures.err in
-    untold_in g.F.Flash.state c.args.config init c.args.list.now c.loop-command.command-index c.command-item.result c.in-Ok.reply c.loop-command.session c.serve_one.new.session c.close.result
+    untold_in g.F.Flash.state c.args.config init c.args.list.now c.loop-command.command-index c.command-item.result c.in-Ok.reply c.loop-command.session
+    c.serve_one.new.session c.close.result
     (record { text = g.W.Watch.text c.args.out.now; kept = g.W.Watch.kept c.args.out.now })
     (record { text = g.W.Watch.text c.loop-command.out; kept = g.W.Watch.kept c.loop-command.out })
     (record { text = g.W.Watch.text c.tell.new.self; kept = g.W.Watch.kept c.tell.new.self })
@@ -34,17 +39,20 @@ returns-then-is_err-clause-serves g c = λ init begins.
 
 pub returns-in-Err-clause-serves : goal.returns-in-Err-clause-serves
 returns-in-Err-clause-serves g c = λ init begins.
-    ended_in g.F.Flash.state c.args.config init c.args.list.now c.loop-command.command-index c.command-item.result c.loop-command.session c.close-in-Err.result c.in-Err.why
+    ended_in g.F.Flash.state c.args.config init c.args.list.now c.loop-command.command-index c.command-item.result c.loop-command.session c.close-in-Err.result
+    c.in-Err.why
     (record { text = g.W.Watch.text c.args.out.now; kept = g.W.Watch.kept c.args.out.now })
     (record { text = g.W.Watch.text c.loop-command.out; kept = g.W.Watch.kept c.loop-command.out })
     c.loop-command-test.true c.command-item.is (c.loop-command.invariant.served init begins)
-    (subst (λ flash. EndsServing {R = g.row.R.Denot} g.F.Flash.state c.args.config c.command-item.result c.loop-command.session flash c.in-Err.why) (sym c.close-in-Err.ensures) c.in-Err.ensures.ends)
+    (subst (λ flash. EndsServing {R = g.row.R.Denot} g.F.Flash.state c.args.config c.command-item.result c.loop-command.session flash c.in-Err.why)
+    (sym c.close-in-Err.ensures) c.in-Err.ensures.ends)
 
 pub returns-in-Err-clause-refuses : goal.returns-in-Err-clause-refuses
 returns-in-Err-clause-refuses g c = λ init kept.
     refused_in g.F.Flash.state c.args.config init c.command-item.result c.loop-command.session c.close-in-Err.result c.in-Err.why
     (c.loop-command.invariant.kept init kept)
-    (subst (λ flash. EndsServing {R = g.row.R.Denot} g.F.Flash.state c.args.config c.command-item.result c.loop-command.session flash c.in-Err.why) (sym c.close-in-Err.ensures) c.in-Err.ensures.ends)
+    (subst (λ flash. EndsServing {R = g.row.R.Denot} g.F.Flash.state c.args.config c.command-item.result c.loop-command.session flash c.in-Err.why)
+    (sym c.close-in-Err.ensures) c.in-Err.ensures.ends)
 
 pub returns-then-is_err-clause-refuses : goal.returns-then-is_err-clause-refuses
 returns-then-is_err-clause-refuses g c = λ init kept.
@@ -84,18 +92,24 @@ loop-command-preserved g c =
       served = λ init begins.
           let text = on_ok _ c.tell.result told c.tell.ensures.text in
           let kept = on_ok _ c.tell.result told c.tell.ensures.kept in
-          subst (λ (cs : List Command). HasServed state its init cs c.serve_one.new.session before after) (sym (next_of list at command c.loop-command-test.true c.command-item.is))
-          (served_more state its init (take at list) command c.in-Ok.reply c.loop-command.session c.serve_one.new.session before between after (c.loop-command.invariant.served init begins) c.in-Ok.ensures.serves text
-          (subst (λ flash. Grew between.kept after.kept (record { text = text_of c.in-Ok.reply; moment = moment_of (state flash) } ∷ [])) c.flash.ensures kept));
+          subst (λ (cs : List Command). HasServed state its init cs c.serve_one.new.session before after)
+          (sym (next_of list at command c.loop-command-test.true c.command-item.is))
+          (served_more state its init (take at list) command c.in-Ok.reply c.loop-command.session c.serve_one.new.session before between after
+          (c.loop-command.invariant.served init begins) c.in-Ok.ensures.serves text
+          (subst (λ flash. Grew between.kept after.kept (record { text = text_of c.in-Ok.reply; moment = moment_of (state flash) } ∷ [])) c.flash.ensures
+          kept));
       kept = λ init kept. kept_more its init (state (flash_in c.loop-command.session)) (state (flash_in c.serve_one.new.session))
           (c.loop-command.invariant.kept init kept) c.in-Ok.ensures.serves.kept;
       extras = c.in-Ok.ensures.serves.extras ∙ c.loop-command.invariant.extras;
       unsound = λ init unsound same counted.
           let text = on_ok _ c.tell.result told c.tell.ensures.text in
           let kept = on_ok _ c.tell.result told c.tell.ensures.kept in
-          subst (λ (cs : List Command). StaysUnmounted cs init (state (flash_in c.serve_one.new.session)) before after) (sym (next_of list at command c.loop-command-test.true c.command-item.is))
-          (unmounted_more state its init (take at list) command c.in-Ok.reply c.loop-command.session c.serve_one.new.session before between after unsound (c.loop-command.invariant.unsound init unsound same counted) c.in-Ok.ensures.serves text
-          (subst (λ flash. Grew between.kept after.kept (record { text = text_of c.in-Ok.reply; moment = moment_of (state flash) } ∷ [])) c.flash.ensures kept));
+          subst (λ (cs : List Command). StaysUnmounted cs init (state (flash_in c.serve_one.new.session)) before after)
+          (sym (next_of list at command c.loop-command-test.true c.command-item.is))
+          (unmounted_more state its init (take at list) command c.in-Ok.reply c.loop-command.session c.serve_one.new.session before between after unsound
+          (c.loop-command.invariant.unsound init unsound same counted) c.in-Ok.ensures.serves text
+          (subst (λ flash. Grew between.kept after.kept (record { text = text_of c.in-Ok.reply; moment = moment_of (state flash) } ∷ [])) c.flash.ensures
+          kept));
     }
 
 pub returns-then-is_err-clause-unsound : goal.returns-then-is_err-clause-unsound
@@ -108,7 +122,8 @@ returns-then-is_err-clause-unsound g c = λ init unsound same counted.
     (record { text = g.W.Watch.text c.loop-command.out; kept = g.W.Watch.kept c.loop-command.out })
     (record { text = g.W.Watch.text c.tell.new.self; kept = g.W.Watch.kept c.tell.new.self }) failed.Memory stays
     (subst (λ flash. moment_of (state flash) ≡ moment_of init) (sym c.close.ensures)
-    (moment_stays c.args.config init (state (flash_in c.loop-command.session)) (state (flash_in c.serve_one.new.session)) unsound stays.still c.in-Ok.ensures.serves.kept))
+    (moment_stays c.args.config init (state (flash_in c.loop-command.session)) (state (flash_in c.serve_one.new.session)) unsound stays.still
+    c.in-Ok.ensures.serves.kept))
     none.0 none.1 tt
 
 pub returns-in-Err-clause-unsound : goal.returns-in-Err-clause-unsound
@@ -116,7 +131,8 @@ returns-in-Err-clause-unsound g c = λ init unsound same counted.
     let state = g.F.Flash.state in
     let stays = c.loop-command.invariant.unsound init unsound same counted in
     let between : Watched = record { text = g.W.Watch.text c.loop-command.out; kept = g.W.Watch.kept c.loop-command.out } in
-    let ends = subst (λ flash. EndsServing {R = g.row.R.Denot} state c.args.config c.command-item.result c.loop-command.session flash c.in-Err.why) (sym c.close-in-Err.ensures) c.in-Err.ensures.ends in
+    let ends = subst (λ flash. EndsServing {R = g.row.R.Denot} state c.args.config c.command-item.result c.loop-command.session flash c.in-Err.why)
+    (sym c.close-in-Err.ensures) c.in-Err.ensures.ends in
     unmounted_in init (state (flash_in c.loop-command.session)) (state c.close-in-Err.result) c.args.list.now c.loop-command.command-index
     (record { text = g.W.Watch.text c.args.out.now; kept = g.W.Watch.kept c.args.out.now }) between between c.in-Err.why stays
     (moment_stays c.args.config init (state (flash_in c.loop-command.session)) (state c.close-in-Err.result) unsound stays.still ends.kept)
@@ -133,7 +149,8 @@ returns-clause-unsound g c = λ init unsound same counted.
 
 pub returns-clause-serves : goal.returns-clause-serves
 returns-clause-serves g c = λ init begins.
-    served_to_the_end g.F.Flash.state c.args.config init c.args.list.now c.loop-command.command-index c.loop-command.cache.entries c.loop-command.session c.close-2.result
+    served_to_the_end g.F.Flash.state c.args.config init c.args.list.now c.loop-command.command-index c.loop-command.cache.entries c.loop-command.session
+    c.close-2.result
     (record { text = g.W.Watch.text c.args.out.now; kept = g.W.Watch.kept c.args.out.now })
     (record { text = g.W.Watch.text c.loop-command.out; kept = g.W.Watch.kept c.loop-command.out })
     c.loop-command-test.false c.loop-command.invariant.fits (c.loop-command.invariant.served init begins) c.close-2.ensures
@@ -149,7 +166,8 @@ returns-then-is_err-clause-extras g c =
     ∙ c.in-Ok.ensures.serves.extras ∙ c.loop-command.invariant.extras
 
 pub returns-in-Err-clause-extras : goal.returns-in-Err-clause-extras
-returns-in-Err-clause-extras g c = ap (λ flash. (g.F.Flash.state flash).extras) c.close-in-Err.ensures ∙ c.in-Err.ensures.ends.extras ∙ c.loop-command.invariant.extras
+returns-in-Err-clause-extras g c = ap (λ flash. (g.F.Flash.state flash).extras) c.close-in-Err.ensures ∙ c.in-Err.ensures.ends.extras ∙
+    c.loop-command.invariant.extras
 
 pub returns-clause-extras : goal.returns-clause-extras
 returns-clause-extras g c = ap (λ flash. (g.F.Flash.state flash).extras) c.close-2.ensures ∙ c.loop-command.invariant.extras

@@ -14,12 +14,14 @@ invariant-loop-command g l = record {
   room : length l.room ≡ l.config.page_bytes;
   served : (init : FlashState) → Begins g.F.Flash.state l.config init l.initial.session →
       HasServed g.F.Flash.state l.config init (take l.command-index l.list) l.session
-      (record { text = g.W.Watch.text l.initial.out; kept = g.W.Watch.kept l.initial.out }) (record { text = g.W.Watch.text l.out; kept = g.W.Watch.kept l.out });
+      (record { text = g.W.Watch.text l.initial.out; kept = g.W.Watch.kept l.initial.out })
+      (record { text = g.W.Watch.text l.out; kept = g.W.Watch.kept l.out });
   kept : (init : FlashState) → IsSoundOrSame l.config init (g.F.Flash.state (flash_in l.initial.session)) →
       IsSoundOrSame l.config init (g.F.Flash.state (flash_in l.session));
   extras : (g.F.Flash.state (flash_in l.session)).extras ≡ (g.F.Flash.state (flash_in l.initial.session)).extras;
   unsound : (init : FlashState) → (IsSoundFlash l.config init → ⊥) → moment_of (g.F.Flash.state (flash_in l.initial.session)) ≡ moment_of init →
       CountsBreaks [] init (g.F.Flash.state (flash_in l.initial.session)) →
       StaysUnmounted (take l.command-index l.list) init (g.F.Flash.state (flash_in l.session))
-      (record { text = g.W.Watch.text l.initial.out; kept = g.W.Watch.kept l.initial.out }) (record { text = g.W.Watch.text l.out; kept = g.W.Watch.kept l.out });
+      (record { text = g.W.Watch.text l.initial.out; kept = g.W.Watch.kept l.initial.out })
+      (record { text = g.W.Watch.text l.out; kept = g.W.Watch.kept l.out });
 }

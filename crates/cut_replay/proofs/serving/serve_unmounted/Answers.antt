@@ -5,8 +5,10 @@ use Rattle.cut_replay.proofs.serving.serve_unmounted.Goals as goal
 
 pub returns-then-is_mounted : goal.returns-then-is_mounted
 returns-then-is_mounted g c =
-    lifted g.F.Flash.state c.args.config c.args.command.now c.args.session.now c.mount_again.new.session c.serve_mounted.result c.serve_mounted.new.session c.args.cache.now c.mount_again.new.cache c.serve_mounted.new.cache
-    c.requires.unmounted (sym c.is_mounted.ensures ∙ c.if-is_mounted.true) c.requires.no_arm c.in_ok-mount_again.ensures.mounted c.mount_again.ensures.cache c.serve_mounted.ensures
+    lifted g.F.Flash.state c.args.config c.args.command.now c.args.session.now c.mount_again.new.session c.serve_mounted.result c.serve_mounted.new.session
+    c.args.cache.now c.mount_again.new.cache c.serve_mounted.new.cache
+    c.requires.unmounted (sym c.is_mounted.ensures ∙ c.if-is_mounted.true) c.requires.no_arm c.in_ok-mount_again.ensures.mounted c.mount_again.ensures.cache
+    c.serve_mounted.ensures
 
 pub returns-then-live : goal.returns-then-live
 returns-then-live g c =

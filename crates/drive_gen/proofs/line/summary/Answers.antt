@@ -10,7 +10,18 @@ unfolding summary_line
 returns-clause-ok c =
     let replies = c.args.replies.now in
     let parts =
-    line_parts (asked_words c.args.start c.args.count c.args.protocol (length c.args.list.now)) (count_words replies) (flash_words (last_stats (lines_of replies)))
+    line_parts (asked_words c.args.start c.args.count c.args.protocol (length c.args.list.now)) (count_words replies)
+    (flash_words (last_stats (lines_of replies)))
     (codes "sum") (decimal (sum_of_pages replies) ∷ [])
     in
-    rw (c.in_ok-extend_from_slice.ensures.items, c.deref.ensures.value, c.in_ok-add_sum.ensures, c.in_ok-add_flash.ensures, c.in_ok-add_counts.ensures, c.in_ok-line.ensures, parts, c.count_lines.ensures.tally, c.count_lines.ensures.stats) refl
+    rw (
+      c.in_ok-extend_from_slice.ensures.items,
+      c.deref.ensures.value,
+      c.in_ok-add_sum.ensures,
+      c.in_ok-add_flash.ensures,
+      c.in_ok-add_counts.ensures,
+      c.in_ok-line.ensures,
+      parts,
+      c.count_lines.ensures.tally,
+      c.count_lines.ensures.stats,
+    ) refl

@@ -17,7 +17,8 @@ third : (x n a b : ℕ) → a ≡ generator_after x (n + 2) → b ≡ next_state
 third x n a b p q = q ∙ ap next_state p ∙ state_more x (n + 2) (n + 3) (omega arith)
 
 -- the kind that was drawn
-kind_is : (x n a : ℕ) (k : Kind) → a ≡ generator_after x (n + 2) → k ≡ kind_of (high_bits (next_state a) 50) → kind_of (high_bits (generator_after x (n + 3)) 50) ≡ k
+kind_is : (x n a : ℕ) (k : Kind) → a ≡ generator_after x (n + 2) → k ≡ kind_of (high_bits (next_state a) 50) →
+    kind_of (high_bits (generator_after x (n + 3)) 50) ≡ k
 kind_is x n a k p q = sym (q ∙ ap (λ s. kind_of (high_bits s 50)) (third x n a (next_state a) p refl))
 
 pub returns-in-Cut-clause-commands : goal.returns-in-Cut-clause-commands
@@ -45,7 +46,8 @@ returns-in-Abort-clause-commands c =
     let x = c.args.generator.now.state in
     let n = page_count c.args.config x in
     let third = third x n c.draw_batch.new.generator.state c.draw.new.generator.state c.in_ok-batch.ensures.state c.in-Abort.ensures.state in
-    let is = kind_abort c.args.config x c.args.tag (kind_is x n c.draw_batch.new.generator.state kind.Abort c.in_ok-batch.ensures.state c.in-Abort.ensures.kind) in
+    let is = kind_abort c.args.config x c.args.tag (kind_is x n c.draw_batch.new.generator.state kind.Abort c.in_ok-batch.ensures.state c.in-Abort.ensures.kind)
+    in
     rw is.0 (rw c.in_ok-batch.ensures.batch at c.add_abort.ensures)
 
 pub returns-in-Abort-clause-state : goal.returns-in-Abort-clause-state
@@ -53,7 +55,8 @@ returns-in-Abort-clause-state c =
     let x = c.args.generator.now.state in
     let n = page_count c.args.config x in
     let third = third x n c.draw_batch.new.generator.state c.draw.new.generator.state c.in_ok-batch.ensures.state c.in-Abort.ensures.state in
-    let is = kind_abort c.args.config x c.args.tag (kind_is x n c.draw_batch.new.generator.state kind.Abort c.in_ok-batch.ensures.state c.in-Abort.ensures.kind) in
+    let is = kind_abort c.args.config x c.args.tag (kind_is x n c.draw_batch.new.generator.state kind.Abort c.in_ok-batch.ensures.state c.in-Abort.ensures.kind)
+    in
     rw is.1 (on_ok c.add_abort.result third)
 
 pub returns-in-Finish-clause-commands : goal.returns-in-Finish-clause-commands
@@ -61,7 +64,8 @@ returns-in-Finish-clause-commands c =
     let x = c.args.generator.now.state in
     let n = page_count c.args.config x in
     let third = third x n c.draw_batch.new.generator.state c.draw.new.generator.state c.in_ok-batch.ensures.state c.in-Finish.ensures.state in
-    let is = kind_finish c.args.config x c.args.tag (kind_is x n c.draw_batch.new.generator.state kind.Finish c.in_ok-batch.ensures.state c.in-Finish.ensures.kind) in
+    let is = kind_finish c.args.config x c.args.tag (kind_is x n c.draw_batch.new.generator.state kind.Finish c.in_ok-batch.ensures.state
+    c.in-Finish.ensures.kind) in
     rw (is.0, ← c.in_ok-batch.ensures.batch) c.add_finish.ensures
 
 pub returns-in-Finish-clause-state : goal.returns-in-Finish-clause-state
@@ -69,5 +73,6 @@ returns-in-Finish-clause-state c =
     let x = c.args.generator.now.state in
     let n = page_count c.args.config x in
     let third = third x n c.draw_batch.new.generator.state c.draw.new.generator.state c.in_ok-batch.ensures.state c.in-Finish.ensures.state in
-    let is = kind_finish c.args.config x c.args.tag (kind_is x n c.draw_batch.new.generator.state kind.Finish c.in_ok-batch.ensures.state c.in-Finish.ensures.kind) in
+    let is = kind_finish c.args.config x c.args.tag (kind_is x n c.draw_batch.new.generator.state kind.Finish c.in_ok-batch.ensures.state
+    c.in-Finish.ensures.kind) in
     rw is.1 (on_ok c.add_finish.result third)

@@ -23,7 +23,8 @@ pub loop-k-init : goal.loop-k-init
 loop-k-init c = record {
   size = rw c.in_ok-batch.ensures refl;
   entries = rw c.in_ok-batch.ensures refl;
-  state = second c.args.generator.now.state c.draw_page_count-pages.new.generator.state c.draw-first.new.self.state c.draw_page_count-pages.ensures.state c.draw-first.ensures.state;
+  state = second c.args.generator.now.state c.draw_page_count-pages.new.generator.state c.draw-first.new.self.state c.draw_page_count-pages.ensures.state
+      c.draw-first.ensures.state;
 }
 
 pub loop-k-preserved : goal.loop-k-preserved
@@ -51,7 +52,8 @@ count_is c =
     rw (← state_first c.args.generator.now.state) (all ∙ c.draw_page_count-pages.ensures.count)
 
 pub returns-clause-batch : goal.returns-clause-batch
-returns-clause-batch c = batch_is c.loop-k.batch c.args.config c.args.generator.now.state c.loop-k.k c.loop-k.invariant.size c.loop-k.invariant.entries (count_is c)
+returns-clause-batch c = batch_is c.loop-k.batch c.args.config c.args.generator.now.state c.loop-k.k c.loop-k.invariant.size c.loop-k.invariant.entries
+    (count_is c)
 
 pub returns-clause-state : goal.returns-clause-state
 returns-clause-state c = rw (← count_is c) c.loop-k.invariant.state

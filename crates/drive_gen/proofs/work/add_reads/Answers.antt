@@ -5,4 +5,10 @@ use Rattle.drive_gen.proofs.work.add_reads.Goals as goal
 
 pub loop-page-preserved : goal.loop-page-preserved
 loop-page-preserved c =
-    rw (c.in_ok-push.ensures.items, c.loop-page.invariant, map-range_with_len_more (λ page. command.Read page) 0 c.loop-page.page c.loop-page.page (omega arith), append_assoc) refl
+    rw (
+      c.in_ok-push.ensures.items,
+      c.loop-page.invariant,
+      map-range_with_len_more (λ page. command.Read page) 0 c.loop-page.page c.loop-page.page
+          (omega arith),
+      append_assoc,
+    ) refl

@@ -9,6 +9,12 @@ loop-i-init c = record { commands = sym (append-nil c.args.list.now.items); stat
 
 pub loop-i-preserved : goal.loop-i-preserved
 loop-i-preserved c = record {
-  commands = rw (c.in_ok-add_transaction.ensures.commands, c.loop-i.invariant.state, c.loop-i.invariant.commands, flat_more (numbered c.args.config c.args.start) c.loop-i.i, append_assoc) refl;
+  commands = rw (
+    c.in_ok-add_transaction.ensures.commands,
+    c.loop-i.invariant.state,
+    c.loop-i.invariant.commands,
+    flat_more (numbered c.args.config c.args.start) c.loop-i.i,
+    append_assoc,
+  ) refl;
   state = rw (c.in_ok-add_transaction.ensures.state, c.loop-i.invariant.state) (behind_more c.args.config c.args.start c.loop-i.i);
 }

@@ -13,7 +13,13 @@ add_transactions-requires c = (checked_config c.args.config (shape_of c.args.con
 
 list_is : (c : goal.In_ok-push) → c.push.new.self.items ≡ generated c.args.start c.args.count c.args.config
 unfolding generated
-list_is c = rw (c.in_ok-push.ensures.items, c.in_ok-add_reads.ensures, c.in_ok-add_transactions.ensures, c.in_ok-add_fills.ensures, c.in_ok-list.ensures.items) refl
+list_is c = rw (
+  c.in_ok-push.ensures.items,
+  c.in_ok-add_reads.ensures,
+  c.in_ok-add_transactions.ensures,
+  c.in_ok-add_fills.ensures,
+  c.in_ok-list.ensures.items,
+) refl
 
 pub returns-clause-list : goal.returns-clause-list
 returns-clause-list c = list_is c

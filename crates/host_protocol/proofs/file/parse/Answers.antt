@@ -14,11 +14,13 @@ use Rattle.host_protocol.proofs.file.parse.Goals as goal
 -- where a line was bad, the reading ends at it
 ended : (c : goal.After-drop-commands-in-Err) → EndsAt c.args.page_bytes c.args.bytes.now c.at.result
 ended c =
-    let here = next (lines_of c.args.bytes.now) c.loop-line.number c.in-Some.line.now (lines_of c.in-Some.behind.now) (c.loop-line.invariant.lines ∙ c.in-Some.ensures.line) in
-    let count : c.len.result ≡ length c.loop-line.commands.items = c.len.ensures ∙ c.loop-line.commands.ok.0 in
+    let here = next (lines_of c.args.bytes.now) c.loop-line.number c.in-Some.line.now (lines_of c.in-Some.behind.now) (c.loop-line.invariant.lines ∙
+    c.in-Some.ensures.line) in
+    let count : c.len-before.result ≡ length c.loop-line.commands.items = c.len-before.ensures ∙ c.loop-line.commands.ok.0 in
     rw c.at.ensures (ends c.args.page_bytes c.args.bytes.now (c.loop-line.number + 1) c.in-Err.e (λ bad.
     let none = rw count at (c.in-Err.ensures.bad (ap Err bad)) in
-    first_bad c.args.page_bytes c.args.bytes.now c.loop-line.number c.in-Some.line.now (lines_of c.in-Some.behind.now) c.loop-line.commands.items c.loop-line.entries_left
+    first_bad c.args.page_bytes c.args.bytes.now c.loop-line.number c.in-Some.line.now
+    (lines_of c.in-Some.behind.now) c.loop-line.commands.items c.loop-line.entries_left
     here none c.loop-line.invariant.entries_left c.loop-line.invariant.good))
 
 pub returns-in-Err-clause-line : goal.returns-in-Err-clause-line
@@ -32,12 +34,14 @@ returns-in-Err-clause-first c = λ n bad. only_first c.args.page_bytes c.args.by
 
 pub loop-line-preserved : goal.loop-line-preserved
 loop-line-preserved c =
-    let here = next (lines_of c.args.bytes.now) c.loop-line.number c.in-Some.line.now (lines_of c.in-Some.behind.now) (c.loop-line.invariant.lines ∙ c.in-Some.ensures.line) in
-    let count : c.len.result ≡ length c.loop-line.commands.items = c.len.ensures ∙ c.loop-line.commands.ok.0 in
+    let here = next (lines_of c.args.bytes.now) c.loop-line.number c.in-Some.line.now (lines_of c.in-Some.behind.now) (c.loop-line.invariant.lines ∙
+    c.in-Some.ensures.line) in
+    let count : c.len-before.result ≡ length c.loop-line.commands.items = c.len-before.ensures ∙ c.loop-line.commands.ok.0 in
     record {
       lines = here.behind;
       good = rw (here.front, c.in_ok-keep-in-Ok.ensures.commands)
-          (add_line c.args.page_bytes (take c.loop-line.number (lines_of c.args.bytes.now)) c.in-Some.line.now c.loop-line.commands.items c.loop-line.entries_left c.in-Ok.found
+          (add_line c.args.page_bytes (take c.loop-line.number (lines_of c.args.bytes.now)) c.in-Some.line.now c.loop-line.commands.items
+          c.loop-line.entries_left c.in-Ok.found
           c.in-Ok.ensures.idle (rw count at c.in-Ok.ensures.command) c.loop-line.invariant.entries_left c.loop-line.invariant.good);
       entries_left =
           let taken = c.in_ok-keep-in-Ok.ensures.entries_left in
@@ -47,8 +51,9 @@ loop-line-preserved c =
     }
 
 -- at the end of the bytes all lines are read
-whole : (c : goal.In_default) → IsFile c.args.page_bytes c.args.bytes.now c.loop-line.commands.items
-whole c = rw (take_to_end (lines_of c.args.bytes.now) c.loop-line.number (c.loop-line.invariant.lines ∙ c.in_default.ensures.none)) at c.loop-line.invariant.good
+whole : (c : goal.After-drop-room-2) → IsFile c.args.page_bytes c.args.bytes.now c.loop-line.commands.items
+whole c = rw (take_to_end (lines_of c.args.bytes.now) c.loop-line.number (c.loop-line.invariant.lines ∙
+    c.in_default.ensures.none)) at c.loop-line.invariant.good
 
 pub returns-clause-file : goal.returns-clause-file
 returns-clause-file c = whole c

@@ -1,4 +1,4 @@
-use Rattle.page_keys.proofs.EntryLists.{set_found, remove_found, insert_gap, gap_stays}
+use Rattle.page_keys.proofs.OfBucket.EntryLists.{set_found, remove_found, insert_gap, gap_stays}
 use Rattle.page_keys.proofs.entries.change.Goals as goal
 
 pub returns-in-Some : goal.returns-in-Some

@@ -1,6 +1,6 @@
 use Rattle.std.proofs.Common.{◌≤◌, sym, rules, leb, nat_lt}
 use Rattle.std.proofs.lemmas.List.Sorted.{IsPartitionedBy-leb, IsPartitionedBy-ltb, IsPartitionPoint-from_clause}
-use Rattle.page_keys.proofs.PlacedChanges.{page_in, group_up, group_range}
+use Rattle.page_keys.proofs.OfPut.PlacedChanges.{page_in, group_up, group_range}
 use Rattle.page_keys.proofs.grouping.of_page.Goals as goal
 
 pub slice_bounds-result-count : goal.slice_bounds-result-count

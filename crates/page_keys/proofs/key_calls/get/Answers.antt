@@ -1,4 +1,4 @@
-use Rattle.page_keys.proofs.KeyCallLemmas.{got_fault, got_none, got_value}
+use Rattle.page_keys.proofs.OfServe.KeyCallLemmas.{got_fault, got_none, got_value}
 use Rattle.page_keys.proofs.key_calls.get.Goals as goal
 
 pub returns-in-Ok-Some : goal.returns-in-Ok-Some

@@ -1,8 +1,8 @@
 use Rattle.std.proofs.Common.{List, length, sym, ap, ◌∙◌}
 use Rattle.page_keys.specs.KeySessions.{reply_of}
 use Rattle.page_keys.specs.declared.changes.Change.{Change}
-use Rattle.page_keys.proofs.Existing.{shows_some}
-use Rattle.page_keys.proofs.KeyCallLemmas.{memory_here, put_here, stored_here}
+use Rattle.page_keys.proofs.OfPut.Existing.{shows_some}
+use Rattle.page_keys.proofs.OfServe.KeyCallLemmas.{memory_here, put_here, stored_here}
 use Rattle.page_keys.proofs.key_calls.put.Goals as goal
 
 pub returns-in-Ok-clause-ok : goal.returns-in-Ok-clause-ok

@@ -1,5 +1,5 @@
 use Rattle.std.proofs.Common.{sym, ◌∙◌}
-use Rattle.page_keys.proofs.KeyBeginLemmas.{begins_all, begins_off, steady_all}
+use Rattle.page_keys.proofs.OfServe.KeyBeginLemmas.{begins_all, begins_off, steady_all}
 use Rattle.page_keys.proofs.key_serving.begin.Goals as goal
 
 pub returns-then-live-clause-begins : goal.returns-then-live-clause-begins

@@ -3,7 +3,7 @@ use Rattle.flash_model.specs.Flash.{FlashState}
 use Rattle.flash_model.specs.Operations.{moment_of}
 use Rattle.page_keys.specs.KeyServed.{BeginsKeys}
 use Rattle.page_keys.specs.KeySessions.{flash_in, Fits, IsKeyImage}
-use Rattle.page_keys.proofs.KeyAllLemmas.{HasServed}
+use Rattle.page_keys.proofs.OfServe.KeyAllLemmas.{HasServed}
 use Rattle.page_keys.proofs.key_serving.serve_all.Given as goal
 
 abbrev pub invariant-loop-command : goal.invariant-loop-command

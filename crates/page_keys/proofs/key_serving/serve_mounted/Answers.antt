@@ -2,7 +2,7 @@ use Rattle.std.proofs.Common.{sym, ap, subst, ◌∙◌}
 use Rattle.page_keys.specs.KeyRuns.{is_key_fault}
 use Rattle.page_keys.specs.KeySessions.{Fits, FitsMounted, ServesOne, flash_in}
 use Rattle.page_keys.specs.declared.key_session.KeySession.TheVariants as session
-use Rattle.page_keys.proofs.KeyServeLemmas.{answered, broken_reply, closed, no_fault}
+use Rattle.page_keys.proofs.OfServe.KeyServeLemmas.{answered, broken_reply, closed, no_fault}
 use Rattle.page_keys.proofs.key_serving.serve_mounted.Goals as goal
 
 pub returns-in_default-reply : goal.returns-in_default-reply

@@ -1,6 +1,6 @@
 use Rattle.std.proofs.Common.{sym, subst, ◌∙◌}
 use Rattle.page_keys.specs.KeySessions.{ServesOne}
-use Rattle.page_keys.proofs.KeyServeLemmas.{serves_not_opened, serves_opened}
+use Rattle.page_keys.proofs.OfServe.KeyServeLemmas.{serves_not_opened, serves_opened}
 use Rattle.page_keys.proofs.key_serving.serve_unmounted.Goals as goal
 
 pub returns-then-is_mounted-clause-served : goal.returns-then-is_mounted-clause-served

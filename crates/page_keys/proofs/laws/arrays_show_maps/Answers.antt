@@ -1,6 +1,6 @@
-use Rattle.page_keys.proofs.Existing.{shows_some}
-use Rattle.page_keys.proofs.OneMap.{one_map}
-use Rattle.page_keys.proofs.Parts.{shown_buckets}
+use Rattle.page_keys.proofs.OfPut.Existing.{shows_some}
+use Rattle.page_keys.proofs.OfLaws.OneMap.{one_map}
+use Rattle.page_keys.proofs.OfBucket.Parts.{shown_buckets}
 use Rattle.page_keys.proofs.laws.arrays_show_maps.Goals as goal
 
 pub returns-clause-some : goal.returns-clause-some

@@ -1,4 +1,4 @@
-use Rattle.page_keys.proofs.KeyRunLemmas.{at_once, few_breaks}
+use Rattle.page_keys.proofs.OfServe.KeyRunLemmas.{at_once, few_breaks}
 use Rattle.page_keys.proofs.laws.puts_are_whole.Goals as goal
 
 pub returns-clause-at_once : goal.returns-clause-at_once

@@ -1,6 +1,6 @@
 use Rattle.page_keys.specs.KeyRuns.{mentions_in}
 use Rattle.flash_model.specs.Operations.{moment_of}
-use Rattle.page_keys.proofs.KeyRunLemmas.{last_is_point}
+use Rattle.page_keys.proofs.OfServe.KeyRunLemmas.{last_is_point}
 use Rattle.page_keys.proofs.laws.runs_leave_maps.Goals as goal
 
 pub returns : goal.returns

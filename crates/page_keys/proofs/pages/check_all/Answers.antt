@@ -4,7 +4,7 @@ use Rattle.tx_types.specs.declared.config.Config.{Config}
 use Rattle.tx_types.specs.declared.memory.Memory.{Memory}
 use Rattle.page_keys.specs.Buckets.{IsBucket, shown}
 use Rattle.tx_engine.specs.ArrayState.{page_at}
-use Rattle.page_keys.proofs.StoreReads.{reads_then, bucket_read, bucket_back}
+use Rattle.page_keys.proofs.OfStore.StoreReads.{reads_then, bucket_read, bucket_back}
 use Rattle.page_keys.proofs.pages.check_all.Goals as goal
 
 okay : (b d : Bool) → b ≡ d → let left : Result Bool Memory = Ok b in left ≡ Ok d
@@ -20,7 +20,7 @@ returns-then-not-branch-clause-err g c =
           (bucket_back c.args.device.now c.loop-page.device c.read_page.new.room
           c.held_always-logical.result.logical c.loop-page.page c.loop-page.invariant.reads.stays
           c.in_ok-read_page.ensures.shown
-          (c.read_page.auto.room ∙ c.loop-page.auto.room ∙ c.requires)
+          (c.read_page.auto.room ∙ c.loop-page.auto.room ∙ c.requires.room)
           (ap (λ (x : Config). x.logical) config) bucket);
       before = c.loop-page.invariant.buckets;
     }
@@ -33,7 +33,7 @@ loop-page-preserved g c =
     let found = bucket_read s c.loop-page.device c.read_page.new.room
     c.held_always-logical.result.logical c.loop-page.page i.reads.stays
     c.in_ok-read_page.ensures.shown
-    (c.read_page.auto.room ∙ c.loop-page.auto.room ∙ c.requires)
+    (c.read_page.auto.room ∙ c.loop-page.auto.room ∙ c.requires.room)
     (ap (λ (x : Config). x.logical) config)
     (c.read.new.into.items, c.in_ok-read.ensures.yes (okay _ _ c.if-not-branch.false)) in
     record {

@@ -1,5 +1,5 @@
 use Rattle.std.proofs.Common.{ap, List, set, ◌∙◌, ℕ}
-use Rattle.page_keys.proofs.StoreReads.{zeros_more}
+use Rattle.page_keys.proofs.OfStore.StoreReads.{zeros_more}
 use Rattle.page_keys.proofs.pages.clear.Goals as goal
 
 pub loop-i-preserved : goal.loop-i-preserved

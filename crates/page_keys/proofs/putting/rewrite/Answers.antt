@@ -6,10 +6,10 @@ use Rattle.std.specs.Prelude.{count_by}
 use Rattle.page_keys.specs.Groups.{puts_value}
 use Rattle.page_keys.specs.Buckets.{entry_bytes, IsEntry}
 use Rattle.page_keys.specs.Entries.{changed}
-use Rattle.page_keys.proofs.BucketChanges.{merged_are, each_after, each_changed}
-use Rattle.page_keys.proofs.Inserts.{puts_most}
-use Rattle.page_keys.proofs.EntriesLeft.{length_entries}
-use Rattle.page_keys.proofs.StoreReads.{entries_read, holds_read, is_over_by, is_more, is_within}
+use Rattle.page_keys.proofs.OfBucket.BucketChanges.{merged_are, each_after, each_changed}
+use Rattle.page_keys.proofs.OfBucket.Inserts.{puts_most}
+use Rattle.page_keys.proofs.OfPut.EntriesLeft.{length_entries}
+use Rattle.page_keys.proofs.OfStore.StoreReads.{entries_read, holds_read, is_over_by, is_more, is_within}
 use Rattle.page_keys.proofs.putting.rewrite.Goals as goal
 
 pub entries_in-requires-clause-bucket : goal.entries_in-requires-clause-bucket

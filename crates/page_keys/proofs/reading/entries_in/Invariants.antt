@@ -1,7 +1,7 @@
 use Rattle.std.proofs.Common.{◌≡◌, ◌++◌, ℕ, length, List}
 use Rattle.page_keys.specs.KeyMaps.{Pair}
 use Rattle.page_keys.specs.Buckets.{HoldsEntries}
-use Rattle.page_keys.proofs.EntriesLeft.{IsLeft}
+use Rattle.page_keys.proofs.OfPut.EntriesLeft.{IsLeft}
 use Rattle.page_keys.proofs.reading.entries_in.Given as goal
 
 abbrev pub decreases-entries : goal.decreases-entries

@@ -1,6 +1,6 @@
 use Rattle.std.proofs.Common.{◌∙◌, ap}
 use Rattle.std.specs.Ordering.{is_lt}
-use Rattle.page_keys.proofs.EntriesLeft.{follows, less_index}
+use Rattle.page_keys.proofs.OfPut.EntriesLeft.{follows, less_index}
 use Rattle.page_keys.proofs.reading.is_above.Goals as goal
 
 pub returns-in-len1-up : goal.returns-in-len1-up

@@ -1,5 +1,5 @@
 use Rattle.std.proofs.Common.{◌∙◌}
-use Rattle.page_keys.proofs.EntriesLeft.{halves}
+use Rattle.page_keys.proofs.OfPut.EntriesLeft.{halves}
 use Rattle.page_keys.proofs.reading.known_entry.Goals as goal
 
 pub of_field-requires : goal.of_field-requires

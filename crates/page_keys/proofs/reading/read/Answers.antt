@@ -1,8 +1,9 @@
 use Rattle.std.proofs.Common.{false, inl, inr, true, ◌≡◌, replicate, length, sym, ◌∙◌}
-use Rattle.page_keys.proofs.EntryLists.{not_in_page}
-use Rattle.page_keys.proofs.EntriesLeft.{unread, astray, no_zeros_left, all_read}
+use Rattle.page_keys.proofs.OfBucket.EntryLists.{not_in_page}
+use Rattle.page_keys.proofs.OfPut.EntriesLeft.{unread, astray, no_zeros_left, all_read}
 use Rattle.page_keys.proofs.reading.read.Goals as goal
-use Rattle.page_keys.proofs.reading.read.Goals.{then-bucket-page-via-then-bucket-page, then-bucket-page-via-else-bucket-page+then-not-is_above, then-entries-test+else-rest-ne0, else-entries-test}
+use Rattle.page_keys.proofs.reading.read.Goals.{then-bucket-page-via-then-bucket-page, then-bucket-page-via-else-bucket-page+then-not-is_above}
+use Rattle.page_keys.proofs.reading.read.Goals.{then-entries-test+else-rest-ne0, else-entries-test}
 
 apart : ¬ (true ≡ false)
 apart h = cc

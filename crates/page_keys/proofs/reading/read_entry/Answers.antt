@@ -1,5 +1,5 @@
 use Rattle.std.proofs.Common.{◌∙◌}
-use Rattle.page_keys.proofs.EntriesLeft.{halves}
+use Rattle.page_keys.proofs.OfPut.EntriesLeft.{halves}
 use Rattle.page_keys.proofs.reading.read_entry.Goals as goal
 
 pub returns-in_err-key-clause-none : goal.returns-in_err-key-clause-none

@@ -1,6 +1,6 @@
 use Rattle.std.proofs.Common.{sym, ap, ◌∙◌}
 use Rattle.page_keys.specs.Pages.{with_page}
-use Rattle.page_keys.proofs.PageLists.{no_pages, inserted_page, pages_more}
+use Rattle.page_keys.proofs.OfPut.PageLists.{no_pages, inserted_page, pages_more}
 use Rattle.page_keys.proofs.refusals.page_set.Goals as goal
 
 pub loop-change-init : goal.loop-change-init

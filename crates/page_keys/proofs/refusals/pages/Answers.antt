@@ -1,6 +1,6 @@
 use Rattle.std.proofs.Common.{take, sym, ap, ◌∙◌}
 use Rattle.page_keys.specs.Pages.{with_page}
-use Rattle.page_keys.proofs.PageLists.{no_pages, pages_more, few_pages}
+use Rattle.page_keys.proofs.OfPut.PageLists.{no_pages, pages_more, few_pages}
 use Rattle.page_keys.proofs.refusals.pages.Goals as goal
 
 pub loop-change-init : goal.loop-change-init

@@ -3,7 +3,7 @@ use Rattle.host_protocol.specs.Lines.{lines_of}
 use Rattle.list_facts.proofs.Lists.{next, take_to_end}
 use Rattle.page_keys.specs.Scripts.{IsScript}
 use Rattle.page_keys.specs.ScriptReading.{EndsAt}
-use Rattle.page_keys.proofs.ScriptLemmas.{add_line, add_suits, first_bad, script_bad, script_same, only_memory, only_first, ends, line_short}
+use Rattle.page_keys.proofs.OfParse.ScriptLemmas.{add_line, add_suits, first_bad, script_bad, script_same, only_memory, only_first, ends, line_short}
 use Rattle.page_keys.proofs.script.parse_keys.Goals as goal
 
 -- where a line was bad, the reading ends at it

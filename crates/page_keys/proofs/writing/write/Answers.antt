@@ -7,11 +7,11 @@ use Rattle.array_machine.specs.declared.answers.Progress.TheVariants as progress
 use Rattle.tx_engine.specs.Exits.{is_there}
 use Rattle.tx_engine.specs.ArrayState.{ArrayState}
 use Rattle.tx_engine.specs.Step.{StepsAs}
-use Rattle.tx_engine.proofs.Seen.{exits_seen}
+use Rattle.tx_engine.proofs.OfStanding.Seen.{exits_seen}
 use Rattle.page_keys.specs.Writing.{seen_more}
-use Rattle.page_keys.proofs.Mentions.{submitted_seen}
-use Rattle.page_keys.proofs.Steps.{wrote, done_writing}
-use Rattle.page_keys.proofs.WriteSteps.{accepted, moved_nothing, moved_then, breaks_off, named_spent, some_write}
+use Rattle.page_keys.proofs.OfStore.Mentions.{submitted_seen}
+use Rattle.page_keys.proofs.OfPut.Steps.{wrote, done_writing}
+use Rattle.page_keys.proofs.OfPut.WriteSteps.{accepted, moved_nothing, moved_then, breaks_off, named_spent, some_write}
 use Rattle.page_keys.proofs.writing.write.Goals as goal
 
 pub steps-preserved : goal.steps-preserved

@@ -3,7 +3,8 @@ use Rattle.record_chart.specs.Charts.{link_graph}
 use Rattle.record_list.specs.Records.{record_at}
 use Rattle.verdict_check.specs.declared.course.Course.TheVariants.{Ends}
 use Rattle.verdict_check.specs.Courses.{GoesOn, IsCourse}
-use Rattle.verdict_check.proofs.CourseLemmas.{way_begins, way_comes_back, way_goes_on, way_joins, way_is_long, next_is_newest, ending_is, known_is, known_of, step_after}
+use Rattle.verdict_check.proofs.CourseLemmas.{way_begins, way_comes_back, way_goes_on, way_joins, way_is_long, next_is_newest, ending_is, known_is, known_of}
+use Rattle.verdict_check.proofs.CourseLemmas.{step_after}
 use Rattle.verdict_check.proofs.courses.find.Goals as goal
 
 pub loop-taken-init : goal.loop-taken-init

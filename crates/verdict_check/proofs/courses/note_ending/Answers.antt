@@ -2,7 +2,7 @@ use Rattle.std.proofs.Common.{arith, refl, sym, ◌∙◌, ◌-◌, Some}
 use Rattle.std.proofs.lemmas.List.{length-set}
 use Rattle.record_list.specs.Records.{record_at, nothing}
 use Rattle.record_chart.specs.Charts.{link_graph}
-use Rattle.record_chart.proofs.Steps.{steps_none}
+use Rattle.record_chart.proofs.OfChart.Steps.{steps_none}
 use Rattle.verdict_check.specs.declared.course.Course.TheVariants.{Ends}
 use Rattle.verdict_check.proofs.CourseLemmas.{end_on_way, note_keeps, next_is_newest, step_after}
 use Rattle.verdict_check.proofs.courses.note_ending.Goals as goal
@@ -28,7 +28,9 @@ loop-taken-preserved c =
       step_after (link_graph list) c.args.place c.loop-taken.taken c.loop-taken.at c.in-Some.next leads is,
       to.0,
       to.1,
-      note_keeps list c.args.logical c.loop-taken.at (Ends (c.args.after - c.loop-taken.taken) c.args.end) c.loop-taken.courses (omega arith) newest_at
-          (end_on_way (link_graph list) c.args.place c.loop-taken.taken c.loop-taken.at c.args.after c.args.end leads c.requires.end (omega arith), omega arith) known,
+      note_keeps list c.args.logical c.loop-taken.at (Ends (c.args.after - c.loop-taken.taken) c.args.end) c.loop-taken.courses (omega arith) newest_at (
+        end_on_way (link_graph list) c.args.place c.loop-taken.taken c.loop-taken.at c.args.after c.args.end leads c.requires.end (omega arith),
+        omega arith,
+      ) known,
       length-set c.loop-taken.courses (record_at list c.loop-taken.at).page (Some ((Ends (c.args.after - c.loop-taken.taken) c.args.end))) ∙ size,
     )

@@ -2,7 +2,7 @@ use Rattle.std.proofs.Common.{arith, refl, sym, ◌∙◌, Some}
 use Rattle.std.proofs.lemmas.List.{length-set}
 use Rattle.record_list.specs.Records.{record_at, nothing}
 use Rattle.record_chart.specs.Charts.{link_graph}
-use Rattle.record_chart.proofs.Steps.{steps_none}
+use Rattle.record_chart.proofs.OfChart.Steps.{steps_none}
 use Rattle.verdict_check.specs.declared.course.Course.TheVariants.{Round}
 use Rattle.verdict_check.proofs.CourseLemmas.{round_on_way, note_keeps, next_is_newest, step_after}
 use Rattle.verdict_check.proofs.courses.note_round.Goals as goal
@@ -28,7 +28,9 @@ loop-taken-preserved c =
       step_after (link_graph list) c.args.place c.loop-taken._taken c.loop-taken.at c.in-Some.next leads is,
       to.0,
       to.1,
-      note_keeps list c.args.logical c.loop-taken.at (Round c.args.links) c.loop-taken.courses (omega arith) newest_at
-          (round_on_way (link_graph list) c.args.place c.loop-taken._taken c.loop-taken.at c.args.links leads c.requires.round (omega arith), omega arith) known,
+      note_keeps list c.args.logical c.loop-taken.at (Round c.args.links) c.loop-taken.courses (omega arith) newest_at (
+        round_on_way (link_graph list) c.args.place c.loop-taken._taken c.loop-taken.at c.args.links leads c.requires.round (omega arith),
+        omega arith,
+      ) known,
       length-set c.loop-taken.courses (record_at list c.loop-taken.at).page (Some ((Round c.args.links))) ∙ size,
     )

@@ -11,5 +11,6 @@ loop-shown-preserved c = one_read c.args.records.now.list.now c.args.page c.args
     (omega arith) c.loop-shown.invariant c.read_link-reading.ensures c.newest_link-link-in-loop-shown.ensures
 
 pub returns : goal.returns
-returns c = links_read c.args.records.now.list.now c.args.page c.args.links c.loop-shown._shown (left c.args.reading) (left c.loop-shown.reading) c.loop-shown.link
+returns c = links_read c.args.records.now.list.now c.args.page c.args.links c.loop-shown._shown (left c.args.reading)
+    (left c.loop-shown.reading) c.loop-shown.link
     (omega arith) c.loop-shown.invariant

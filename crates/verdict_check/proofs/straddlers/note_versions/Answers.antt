@@ -14,7 +14,8 @@ loop-found-preserved c = (
 )
 
 pub returns : goal.returns
-returns c = all_straddlers c.args.records.now.list.now c.loop-found.found-index c.args.logical c.loop-found.straddlers (omega arith) c.requires.pages c.loop-found.invariant.0
+returns c = all_straddlers c.args.records.now.list.now c.loop-found.found-index c.args.logical c.loop-found.straddlers
+    (omega arith) c.requires.pages c.loop-found.invariant.0
 
 pub note_version-requires-clause-known : goal.note_version-requires-clause-known
 note_version-requires-clause-known c = known c.args.records.now.list.now c.loop-found.found-index (omega arith)

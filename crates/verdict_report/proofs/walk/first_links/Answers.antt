@@ -25,4 +25,5 @@ returns c =
       | then-loop-turn-test+in_default w ↦ taking_ended c.args.records.now.chart start c.args.logical c.loop-turn._turn c.loop-turn.links.items
           c.loop-turn.last w.in_default.ensures c.loop-turn.invariant
     ] in
-    done ∙ ap (λ name. take 16 (walk_links c.args.records.now.chart name (suc c.args.logical) (link_of c.args.records.now.chart name))) c.newest_name-start.ensures
+    done ∙ ap (λ name. take 16 (walk_links c.args.records.now.chart name (suc c.args.logical) (link_of c.args.records.now.chart name)))
+    c.newest_name-start.ensures

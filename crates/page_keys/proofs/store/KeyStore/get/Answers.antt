@@ -5,10 +5,10 @@ use Rattle.page_keys.specs.Buckets.{ShowsMap}
 use Rattle.std.specs.FinMap as keys
 use Rattle.page_keys.specs.KeyMaps.{part, bucket_of}
 use Rattle.page_keys.specs.Entries.{GivesValue}
-use Rattle.page_keys.proofs.EntryLists.{in_page}
-use Rattle.page_keys.proofs.Parts.{get_in_part}
+use Rattle.page_keys.proofs.OfBucket.EntryLists.{in_page}
+use Rattle.page_keys.proofs.OfBucket.Parts.{get_in_part}
 use Rattle.page_keys.specs.Stores.{Keyed}
-use Rattle.page_keys.proofs.StoreReads.{keeps_keys, room_is, holds_read}
+use Rattle.page_keys.proofs.OfStore.StoreReads.{keeps_keys, room_is, holds_read}
 use Rattle.page_keys.proofs.store.KeyStore.get.Goals as goal
 
 pub invariant_of-self : goal.invariant_of-self
@@ -17,6 +17,7 @@ invariant_of-self g c =
     let size : length c.read_page.new.room ≡ length c.self.inside.room.items =
     c.read_page.auto.room ∙ ap length c.deref_mut.ensures.value in
     record {
+      kept = ap (λ (s : Standing g.row.F.Denot). s.dropped) reads.stays ∙ c.self.invariant.kept;
       room = ap length (room_is c.self.inside.room c.read_page.new.room size) ∙ size
           ∙ c.self.invariant.room
           ∙ sym (ap (λ (s : Standing g.row.F.Denot). s.config.page_bytes) reads.stays);
@@ -46,6 +47,7 @@ invariant_of-self-2 g c =
     let size : length c.read_page.new.room ≡ length c.self.inside.room.items =
     c.read_page.auto.room ∙ ap length c.deref_mut.ensures.value in
     record {
+      kept = ap (λ (s : Standing g.row.F.Denot). s.dropped) reads.stays ∙ c.self.invariant.kept;
       room = ap length (room_is c.self.inside.room c.read_page.new.room size) ∙ size
           ∙ c.self.invariant.room
           ∙ sym (ap (λ (s : Standing g.row.F.Denot). s.config.page_bytes) reads.stays);

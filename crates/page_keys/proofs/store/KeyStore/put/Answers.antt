@@ -15,11 +15,12 @@ use Rattle.page_keys.specs.Puts.{early_refusal}
 use Rattle.page_keys.specs.Stores.{Keyed}
 use Rattle.page_keys.specs.declared.answers.PutError.TheVariants as refused
 use Rattle.page_keys.specs.declared.changes.Change.{Change}
-use Rattle.page_keys.proofs.StoreReads.{keeps_keys, room_is}
-use Rattle.page_keys.proofs.Existing.{shows_some}
-use Rattle.page_keys.proofs.Parts.{shown_buckets}
-use Rattle.page_keys.proofs.PutWrites.{only_spent, shows_after}
-use Rattle.page_keys.proofs.PutGiven.{early_gives, gives_error, not_repeated, reads_alone, reads_none, reads_then_wrote, reads_give, write_gives, length_pages}
+use Rattle.page_keys.proofs.OfStore.StoreReads.{keeps_keys, room_is}
+use Rattle.page_keys.proofs.OfPut.Existing.{shows_some}
+use Rattle.page_keys.proofs.OfBucket.Parts.{shown_buckets}
+use Rattle.page_keys.proofs.OfPut.PutWrites.{only_spent, shows_after}
+use Rattle.page_keys.proofs.OfPut.PutGiven.{early_gives, gives_error, not_repeated, reads_alone, reads_none, reads_then_wrote, reads_give, write_gives}
+use Rattle.page_keys.proofs.OfPut.PutGiven.{length_pages}
 use Rattle.page_keys.proofs.store.KeyStore.put.Goals as goal
 
 pub returns-in_err-pages-clause-gives : goal.returns-in_err-pages-clause-gives
@@ -49,6 +50,7 @@ invariant_of-self g c =
     let size : length c.rewritten_all.new.room ≡ length c.self.inside.room.items =
     c.rewritten_all.auto.room ∙ ap length c.deref_mut.ensures.value in
     record {
+      kept = ap (λ (s : Standing g.row.F.Denot). s.dropped) reads.stays ∙ c.self.invariant.kept;
       room = ap length (room_is c.self.inside.room c.rewritten_all.new.room size) ∙ size
           ∙ c.self.invariant.room
           ∙ sym (ap (λ (s : Standing g.row.F.Denot). s.config.page_bytes) reads.stays);
@@ -63,6 +65,7 @@ invariant_of-self-in-Err g c =
     c.rewritten_all.auto.room ∙ ap length c.deref_mut.ensures.value in
     let open_keys = ap (λ (k : Keyed g.row.F.Denot). k.broken) c.self.view_is ∙ c.requires.usable in
     record {
+      kept = ap (λ (s : Standing g.row.F.Denot). s.dropped) reads.stays ∙ c.self.invariant.kept;
       room = ap length (room_is c.self.inside.room c.rewritten_all.new.room size) ∙ size
           ∙ c.self.invariant.room
           ∙ sym (ap (λ (s : Standing g.row.F.Denot). s.config.page_bytes) reads.stays);

@@ -3,7 +3,7 @@ use Rattle.tx_engine.specs.ArrayState.{put}
 use Rattle.page_keys.specs.Buckets.{AreBuckets}
 use Rattle.page_keys.specs.Stores.{HasKeys, Keyed}
 use Rattle.tx_types.specs.declared.config.Config.{Config}
-use Rattle.page_keys.proofs.StoreWrites.{has_after, has_not, config_not}
+use Rattle.page_keys.proofs.OfStore.StoreWrites.{has_after, has_not, config_not}
 use Rattle.page_keys.proofs.store.KeyStore.write.Goals as goal
 
 pub invariant_of-self : goal.invariant_of-self
@@ -11,6 +11,7 @@ invariant_of-self g c =
     let s = c.self.inside.device in
     let written = c.in-Ok.ensures.written in
     record {
+      kept = c.write.ensures.kept;
       room = c.self.invariant.room ∙ sym (ap (λ (x : Config). x.page_bytes) written.moved.config);
       keys = λ usable. has_after g.F.Flash.state s c.write.new.device c.args.batch.now.entries
           written
@@ -24,6 +25,7 @@ invariant_of-self-in-Err g c =
     let s = c.self.inside.device in
     let not = c.in-Err.ensures.not_written in
     record {
+      kept = c.write.ensures.kept;
       room = c.self.invariant.room ∙ sym (ap (λ (x : Config). x.page_bytes)
           (config_not g.F.Flash.state s c.write.new.device c.args.batch.now.entries c.in-Err.e not));
       keys = λ usable. has_not g.F.Flash.state s c.write.new.device c.args.batch.now.entries

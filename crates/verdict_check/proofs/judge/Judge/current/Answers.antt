@@ -1,7 +1,7 @@
 use Rattle.std.proofs.Common.{sym, inl, inr}
 use Rattle.record_list.specs.Records.{record_at}
 use Rattle.record_list.specs.Verdict.{newest_name}
-use Rattle.record_chart.proofs.WalkOrbits.{back_found}
+use Rattle.record_chart.proofs.OfWalk.WalkOrbits.{back_found}
 use Rattle.verdict_check.proofs.judge.Judge.current.Goals as goal
 
 pub returns-in-Bpcc : goal.returns-in-Bpcc

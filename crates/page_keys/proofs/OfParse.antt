@@ -1,0 +1,2 @@
+pub mod KeyWordLemmas
+pub mod ScriptLemmas

@@ -1,0 +1,5 @@
+pub mod KeyAllLemmas
+pub mod KeyBeginLemmas
+pub mod KeyCallLemmas
+pub mod KeyRunLemmas
+pub mod KeyServeLemmas

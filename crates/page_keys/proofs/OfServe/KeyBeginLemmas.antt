@@ -1,0 +1,158 @@
+-- The session that serving a key script begins with.
+use Rattle.std.proofs.Common.{◌≡◌, ◌≤◌, ℕ, Bool, true, false, List, Option, Some, None, Result, Ok, Err, refl, sym, ap, ◌∙◌, subst, arith}
+use Rattle.std.specs.Prelude.{IfOk, OnOk, IsSomeAnd, ◌<◌}
+use Rattle.tx_types.specs.declared.config.Config.{Config}
+use Rattle.tx_types.specs.declared.config.Shape.{Shape}
+use Rattle.tx_types.specs.Config.{checked, shape_of}
+use Rattle.flash_model.specs.Flash.{FlashState, IsSteady, Told}
+use Rattle.flash_model.specs.Calls.{BothTell, NoMoreToCome, Spends}
+use Rattle.flash_model.specs.Operations.{Moment, moment_of}
+use Rattle.tx_engine.specs.ArrayState.{ArrayState, Pages}
+use Rattle.version_index.specs.Images.{IsSoundImage, array_in}
+use Rattle.page_keys.specs.Buckets.{AreBuckets, ShowsMap}
+use Rattle.page_keys.specs.KeyMaps.{KeyMap}
+use Rattle.page_keys.specs.KeyRuns.{mentions_in}
+use Rattle.page_keys.specs.KeyServed.{BeginsKeys, ServesScript}
+use Rattle.page_keys.specs.KeySessions.{Ends, IsKeyImage, Mounts, StandsUnmounted}
+use Rattle.page_keys.specs.declared.command.KeyCommand.{KeyCommand}
+use Rattle.page_keys.specs.declared.key_error.KeyServeError.{KeyServeError}
+use Rattle.page_keys.specs.declared.key_session.KeySession.{KeySession}
+use Rattle.page_keys.specs.declared.key_session.KeySession.TheVariants as session
+use Rattle.page_keys.proofs.OfPut.Existing.{shows_some}
+use Rattle.page_keys.proofs.OfServe.KeyAllLemmas.{ended_first, served_none}
+use Rattle.page_keys.proofs.OfServe.KeyServeLemmas.{key_image}
+
+none_spent : (a b : Option Told) (live : Bool) →
+    IsSomeAnd a (λ told. (told.cuts ≡ 0) × (told.breaks ≡ 0)) → BothTell (Spends live) a b → ⊥
+none_spent None b live none h = absurd none
+none_spent (Some x) None live none h = h
+none_spent (Some x) (Some y) true none h = let most = none.1 in omega (arith, h, most)
+none_spent (Some x) (Some y) false none h = let most = none.0 in omega (arith, h, most)
+
+same_told : (a : Option Told) → BothTell NoMoreToCome a a
+same_told None = tt
+same_told (Some x) = (omega arith, omega arith)
+
+module _ {F : Type 0} (state : F → FlashState) (its : Config) (flash : F) where
+  -- an image that stays is an image of keys before and after
+  stays_image : (new : FlashState) → moment_of new ≡ moment_of (state flash) → IsKeyImage its new →
+      IsKeyImage its (state flash)
+  stays_image new same image = record {
+    sound = subst (λ (x : Moment). IsSoundImage its.protocol its.logical (shape_of its) x.image)
+        same image.sound;
+    buckets = subst (λ (x : Moment). AreBuckets its (array_in its.protocol its.logical x.image))
+        same image.buckets;
+  }
+
+  stands_still : (new : FlashState) → moment_of new ≡ moment_of (state flash) →
+      IsKeyImage its (state flash) → (m : KeyMap) →
+      ShowsMap its (array_in its.protocol its.logical (state flash).image) m →
+      StandsUnmounted its (mentions_in its (moment_of (state flash))) m new
+  stands_still new same image m shows = record {
+    sound = subst (λ (x : Moment). IsSoundImage its.protocol its.logical (shape_of its) x.image)
+        (sym same) image.sound;
+    shows = subst (λ (x : Moment). ShowsMap its (array_in its.protocol its.logical x.image) m)
+        (sym same) shows;
+    mentions = subst (λ (x : Moment). (page : ℕ) → page < its.logical →
+        mentions_in its x page ≤ mentions_in its (moment_of (state flash)) page) (sym same)
+        (λ page lt. omega arith);
+  }
+
+module _ {F R : Type 0} (state : F → FlashState) (its : Config) (flash : F) where
+  begins : (s : KeySession F R) → (state flash).live ≡ true → Mounts state its flash s →
+      IsKeyImage its (state flash) → BeginsKeys state its (state flash) s
+  begins (session.Mounted k) on opens image =
+      let shown = shows_some its (array_in its.protocol its.logical (state flash).image) image.buckets in
+      record {
+        image = image;
+        first = record {
+          moment = opens.still.still.moment;
+          told = opens.still.still.told;
+          steady = λ steady. (opens.fits.live, opens.still.quiet);
+        };
+        keys = shown.0;
+        stands = record {
+          shows = subst (λ (p : Pages). ShowsMap its p shown.0)
+              (sym (ap (λ (s : ArrayState). s.pages) opens.machine)) shown.1;
+          mentions = opens.seen (mentions_in its (moment_of (state flash))) (λ page lt. omega arith);
+        };
+      }
+  begins (session.Unmounted new) on meets image =
+      let shown = shows_some its (array_in its.protocol its.logical (state flash).image) image.buckets in
+      record {
+        image = image;
+        first = record {
+          moment = meets.still.moment;
+          told = meets.still.told;
+          steady = λ steady. absurd (none_spent (state flash).told (state new).told
+              (state new).live steady.none meets.spends);
+        };
+        keys = shown.0;
+        stands = stands_still state its flash (state new) meets.still.moment image shown.0 shown.1;
+      }
+
+  -- a flash without power, which is not opened
+  pub begins_off : (state flash).live ≡ false → IsKeyImage its (state flash) →
+      BeginsKeys {R = R} state its (state flash) (session.Unmounted flash)
+  begins_off off image =
+      let shown = shows_some its (array_in its.protocol its.logical (state flash).image) image.buckets in
+      record {
+        image = image;
+        first = record {
+          moment = refl;
+          told = same_told (state flash).told;
+          steady = λ steady. (let both = sym off ∙ steady.live in cc);
+        };
+        keys = shown.0;
+        stands = stands_still state its flash (state flash) refl image shown.0 shown.1;
+      }
+
+  steady_begun : (s : KeySession F R) → Mounts state its flash s → IsSteady (state flash) →
+      IsKeyImage its (state flash)
+  steady_begun (session.Mounted k) opens steady =
+      stays_image state its flash (state k.device.flash) opens.still.still.moment (key_image state its k opens.fits)
+  steady_begun (session.Unmounted new) meets steady =
+      absurd (none_spent (state flash).told (state new).told (state new).live steady.none meets.spends)
+
+  -- the same of each result
+  module _ {E : Type 0} where
+    pub begins_all : (result : Result (KeySession F R) E) → (state flash).live ≡ true →
+        IfOk result (Mounts state its flash) → IsKeyImage its (state flash) →
+        IfOk result (BeginsKeys state its (state flash))
+    begins_all (Ok s) on h image = begins s on h image
+    begins_all (Err e) on h image = tt
+
+    pub steady_all : (result : Result (KeySession F R) E) → IfOk result (Mounts state its flash) →
+        IsSteady (state flash) → OnOk result (IsKeyImage its (state flash))
+    steady_all (Ok s) h steady = steady_begun s h steady
+    steady_all (Err e) h steady = tt
+
+-- nothing was served, for want of memory
+pub begin_ended : {F : Type 0} (R : Type 0) (state : F → FlashState) (its : Config)
+    (list : List KeyCommand) (flash new : F) (why : KeyServeError) (out : List ℕ) →
+    checked its ≡ Ok (state flash).shape → IsKeyImage its (state flash) →
+    Ends its (state flash) (state new) why →
+    ServesScript its list (state flash) (state new) out out (Err why)
+begin_ended R state its list flash new why out check image ends =
+    let shown = shows_some its (array_in its.protocol its.logical (state flash).image) image.buckets in
+    let begun : BeginsKeys {R = R} state its (state flash) (session.Unmounted flash) =
+    record {
+      image = image;
+      first = record {
+        moment = refl;
+        told = same_told (state flash).told;
+        steady = λ steady. (steady.live, refl);
+      };
+      keys = shown.0;
+      stands = stands_still state its flash (state flash) refl image shown.0 shown.1;
+    } in
+    ended_first {R = R} state its (state flash) list (session.Unmounted flash) (session.Unmounted new) why out
+    out check (served_none {R = R} state its (state flash) (session.Unmounted flash) out check begun) ends
+
+pub on_each : {A E : Type 0} (P : Type 0) (r : Result A E) → P → OnOk r P
+on_each P (Ok a) h = h
+on_each P (Err e) h = tt
+
+pub same_shape : (its : Config) (old new : Shape) → checked its ≡ Ok old → checked its ≡ Ok new →
+    new ≡ old
+same_shape its old new was is = cc

@@ -1,0 +1,241 @@
+-- What a put and a get of a store do, by their answers.
+use Rattle.std.proofs.Common.{◌≡◌, ℕ, Bool, true, false, cond, ◌+◌, List, ◌++◌, length, take, drop, Option, Some, None, Err, refl, sym, ap, subst, ◌∙◌, inl}
+use Rattle.std.proofs.Common.{inr}
+use Rattle.std.specs.FinMap.{get}
+use Rattle.tx_types.specs.Config.{shape_of}
+use Rattle.tx_types.specs.declared.config.Config.{Config}
+use Rattle.tx_types.specs.declared.config.Protocol.{Protocol}
+use Rattle.tx_types.specs.declared.config.Shape.{Shape}
+use Rattle.flash_model.specs.Calls.{Carries}
+use Rattle.flash_model.specs.Flash.{FlashState}
+use Rattle.flash_model.specs.Moves.{Moves}
+use Rattle.flash_model.specs.Operations.{Moment, moment_of}
+use Rattle.version_index.specs.Images.{array_in}
+use Rattle.tx_engine.proofs.OfStanding.Seen.{seen_flash}
+use Rattle.tx_engine.specs.Always.{HoldsAlways, IsSeen}
+use Rattle.tx_engine.specs.ArrayState.{ArrayState, Pages}
+use Rattle.tx_engine.specs.Naming.{is_spent}
+use Rattle.std.proofs.Math.Seq.{take-append_seam}
+use Rattle.tx_engine.specs.Standing.{Standing}
+use Rattle.page_keys.specs.Buckets.{ShowsMap}
+use Rattle.page_keys.specs.Entries.{GivesValue}
+use Rattle.page_keys.specs.KeyMaps.{KeyMap, after}
+use Rattle.page_keys.specs.KeyRuns.{DoesGet, DoesPut, Stays, is_key_cut, is_key_fault, is_tried, key_at, seen_after}
+use Rattle.page_keys.specs.KeySessions.{DoesHere, MemoryLeaves, reply_of}
+use Rattle.page_keys.specs.PutAnswers.{MakesAll, MakesAllOrNone, PutGives, StaysPut}
+use Rattle.page_keys.specs.Stores.{HasKeys, Keyed, OnlyReads}
+use Rattle.page_keys.specs.declared.answers.PutError.{PutError}
+use Rattle.page_keys.specs.declared.answers.PutError.TheVariants as refused
+use Rattle.page_keys.specs.declared.changes.Change.{Change}
+use Rattle.page_keys.specs.declared.command.KeyCommand.TheVariants as command
+use Rattle.page_keys.specs.declared.key_reply.KeyReply.{KeyReply}
+use Rattle.page_keys.specs.declared.key_reply.KeyReply.TheVariants as reply
+use Rattle.page_keys.proofs.OfPut.PutGiven.{stands_idle}
+
+some_same : (a b : KeyReply) → Some a ≡ Some b → a ≡ b
+some_same a b h = cc
+
+-- the pages of a get are none
+seen_get : {F : Type 0} (its : Config) (key : List ℕ) (seen : ℕ → ℕ) (s : Standing F)
+    (r : KeyReply) → IsSeen seen s → IsSeen (seen_after its seen (command.Get key) r) s
+seen_get its key seen s r h = by (is_tried r)
+  where
+    by : (b : Bool) →
+        IsSeen (λ page. cond b (cond false (seen page + 1) (seen page)) (seen page)) s
+    by true = record { mentions = h.mentions; names = h.names }
+    by false = record { mentions = h.mentions; names = h.names }
+
+module _ {F : Type 0} (state : F → FlashState) (protocol : Protocol) (old new : Keyed F)
+    (always : HoldsAlways state protocol old.device) (cs : List Change) (m : KeyMap)
+    (shows : ShowsMap old.device.config old.device.machine.pages m) where
+  moves_by : (broken : Bool) →
+      Moves (state old.device.flash).shape (moment_of (state old.device.flash)) broken
+      (moment_of (state new.device.flash)) →
+      Moves (shape_of old.device.config) (moment_of (state old.device.flash)) broken
+      (moment_of (state new.device.flash))
+  moves_by broken moves =
+      subst (λ (x : Shape). Moves x (moment_of (state old.device.flash)) broken
+      (moment_of (state new.device.flash))) always.shape moves
+
+  -- a put that was done
+  pub stored_here : (n : ℕ) → n ≡ length cs → MakesAll state old new m cs →
+      DoesHere state (command.Put cs) m old new (reply.Stored n)
+  stored_here n count all = record {
+    left = after m cs;
+    does = (
+      record { allowed = all.taken; keys = refl },
+      count,
+      moves_by false all.moved.moves,
+    );
+    shows = λ h. all.shows;
+    image = λ h. cc;
+    config = all.moved.config;
+    carries = all.moved.carries;
+    usable = λ h. all.usable;
+    seen = all.seen;
+    whole = refl;
+  }
+
+  -- one that was broken
+  pub broken_here : MakesAllOrNone state old new m cs →
+      DoesHere state (command.Put cs) m old new reply.Fault
+  broken_here any = elim any.left [
+    | inl none ↦ record {
+      left = m;
+      does = record { whole = inl refl; moves = moves_by true any.moved.moves };
+      shows = λ h. cc;
+      image = λ h. none;
+      config = any.moved.config;
+      carries = any.moved.carries;
+      usable = λ h. cc;
+      seen = any.seen;
+      whole = refl;
+    }
+    | inr all ↦ record {
+      left = after m cs;
+      does = record {
+        whole = inr (record { allowed = all.0; keys = refl });
+        moves = moves_by true any.moved.moves;
+      };
+      shows = λ h. cc;
+      image = λ h. all.1;
+      config = any.moved.config;
+      carries = any.moved.carries;
+      usable = λ h. cc;
+      seen = any.seen;
+      whole = refl;
+    }
+  ]
+
+  -- the map is shown still
+  shown_still : StaysPut state old new →
+      ShowsMap new.device.config new.device.machine.pages m
+  shown_still stays =
+      subst (λ (c : Config). ShowsMap c new.device.machine.pages m) (sym stays.config)
+      (subst (λ (s : ArrayState). ShowsMap old.device.config s.pages m) (sym stays.machine) shows)
+
+  -- one that was refused
+  refused_here : (r : KeyReply) → is_key_fault r ≡ false → is_key_cut r ≡ false →
+      ((seen : ℕ → ℕ) → IsSeen seen new.device →
+      IsSeen (seen_after old.device.config seen (command.Put cs) r) new.device) →
+      StaysPut state old new →
+      (Stays (record { keys = m; flash = state old.device.flash })
+      (record { keys = m; flash = state new.device.flash }) →
+      DoesPut old.device.config (is_spent old.device.noted.mentions) cs
+      (record { keys = m; flash = state old.device.flash }) r
+      (record { keys = m; flash = state new.device.flash })) →
+      DoesHere state (command.Put cs) m old new r
+  refused_here r no_fault no_cut same stays does = record {
+    left = m;
+    does = does (record { keys = refl; moment = stays.moment });
+    shows = λ h. shown_still stays;
+    image = λ h. cc;
+    config = stays.config;
+    carries = subst (λ b. Carries (state old.device.flash) (state new.device.flash) b)
+        (sym no_fault) stays.carries;
+    usable = λ h. stays.usable;
+    seen = λ seen h. same seen (stays.seen seen h);
+    whole = no_cut;
+  }
+
+  -- each answer of a put but want of memory
+  pub put_here : (e : PutError) (r : KeyReply) → PutGives state old new m cs (Err e) →
+      reply_of cs e ≡ Some r → DoesHere state (command.Put cs) m old new r
+  put_here refused.Empty r gives is =
+      subst (DoesHere state (command.Put cs) m old new) (some_same reply.RefusedEmpty r is)
+      (refused_here reply.RefusedEmpty refl refl (λ seen h. h) gives.1 (λ s. (gives.0, s)))
+  put_here (refused.Repeated i) r gives is =
+      subst (DoesHere state (command.Put cs) m old new)
+      (some_same (reply.RefusedRepeated (key_at cs i)) r is)
+      (refused_here (reply.RefusedRepeated (key_at cs i)) refl refl (λ seen h. h) gives.1
+      (λ s. (i, (gives.0, s), refl)))
+  put_here (refused.Wide n) r gives is =
+      subst (DoesHere state (command.Put cs) m old new) (some_same (reply.RefusedWide n) r is)
+      (refused_here (reply.RefusedWide n) refl refl (λ seen h. h) gives.1 (λ s. (gives.0, s)))
+  put_here (refused.Bucket p) r gives is =
+      subst (DoesHere state (command.Put cs) m old new) (some_same (reply.RefusedBucket p) r is)
+      (refused_here (reply.RefusedBucket p) refl refl (λ seen h. h) gives.1 (λ s. (gives.0, s)))
+  put_here (refused.Spent p) r gives is =
+      subst (DoesHere state (command.Put cs) m old new) (some_same (reply.RefusedSpent p) r is)
+      (refused_here (reply.RefusedSpent p) refl refl (λ seen h. h) gives.1 (λ s. (gives.0, s)))
+  put_here refused.Fault r gives is =
+      subst (DoesHere state (command.Put cs) m old new) (some_same reply.Fault r is)
+      (broken_here gives)
+  put_here refused.Memory r gives is = cc
+
+  -- and want of memory
+  pub memory_here : (e : PutError) → PutGives state old new m cs (Err e) → reply_of cs e ≡ None →
+      MemoryLeaves state old new
+  memory_here refused.Empty gives is = cc
+  memory_here (refused.Repeated i) gives is = cc
+  memory_here (refused.Wide n) gives is = cc
+  memory_here (refused.Bucket p) gives is = cc
+  memory_here (refused.Spent p) gives is = cc
+  memory_here refused.Fault gives is = cc
+  memory_here refused.Memory gives is =
+      record { config = gives.1.config; moment = gives.1.moment; carries = gives.1.carries }
+
+-- the answers of a get
+module _ {F : Type 0} (state : F → FlashState) (protocol : Protocol) (old new : Keyed F)
+    (always : HoldsAlways state protocol old.device) (key : List ℕ) (m : KeyMap)
+    (shows : ShowsMap old.device.config old.device.machine.pages m)
+    (closed : HasKeys old.device) (usable : new.broken ≡ false) where
+  its_stays : (broken : Bool) → OnlyReads state old.device new.device broken →
+      Stays (record { keys = m; flash = state old.device.flash })
+      (record { keys = m; flash = state new.device.flash })
+  its_stays broken reads = record { keys = refl; moment = reads.moment }
+
+  got : (r : KeyReply) → is_key_cut r ≡ false →
+      OnlyReads state old.device new.device (is_key_fault r) →
+      DoesGet key (record { keys = m; flash = state old.device.flash }) r
+      (record { keys = m; flash = state new.device.flash }) →
+      DoesHere state (command.Get key) m old new r
+  got r no_cut reads does = record {
+    left = m;
+    does = does;
+    shows = λ h.
+        subst (λ (s : Standing F). ShowsMap s.config s.machine.pages m) (sym reads.stays) shows;
+    image = λ h.
+        subst (λ (s : Standing F). ShowsMap s.config
+        (array_in s.config.protocol s.config.logical (state new.device.flash).image) m)
+        (sym reads.stays)
+        (subst (λ (p : Pages). ShowsMap old.device.config p m)
+        (sym (ap (λ (x : Moment). array_in old.device.config.protocol old.device.config.logical
+        x.image) reads.moment ∙ stands_idle old.device.machine _ closed.closed always.array)) shows);
+    config = ap (λ (s : Standing F). s.config) reads.stays;
+    carries = reads.carries;
+    usable = λ h. usable;
+    seen = λ seen h. seen_get old.device.config key seen new.device r
+        (subst (IsSeen seen) (sym reads.stays) (seen_flash seen old.device new.device.flash h));
+    whole = no_cut;
+  }
+
+  pub got_value : (k : List ℕ) (len : ℕ) (room into value : List ℕ) → k ≡ key →
+      OnlyReads state old.device new.device false → GivesValue (get m key) (Some len) room into →
+      value ≡ take len into → DoesHere state (command.Get key) m old new (reply.Value k value)
+  got_value k len room into value its reads gives is = by (get m key) refl gives
+    where
+      by : (o : Option (List ℕ)) → get m key ≡ o → GivesValue o (Some len) room into →
+          DoesHere state (command.Get key) m old new (reply.Value k value)
+      by None told h = absurd h
+      by (Some v) told h =
+          let same : v ≡ value =
+          sym (is ∙ ap (take len) h.1
+          ∙ subst (λ n. take n (v ++ drop len room) ≡ v) (sym h.0) (take-append_seam v (drop len room)))
+          in
+          got (reply.Value k value) refl reads
+          (its, told ∙ ap (λ (x : List ℕ). Some x) same, its_stays false reads)
+
+  pub got_none : (k : List ℕ) (room into : List ℕ) → k ≡ key → OnlyReads state old.device new.device false →
+      GivesValue (get m key) None room into →
+      DoesHere state (command.Get key) m old new (reply.Absent k)
+  got_none k room into its reads gives = by (get m key) refl gives
+    where
+      by : (o : Option (List ℕ)) → get m key ≡ o → GivesValue o None room into →
+          DoesHere state (command.Get key) m old new (reply.Absent k)
+      by None told h = got (reply.Absent k) refl reads (its, told, its_stays false reads)
+      by (Some v) told h = absurd h
+
+  pub got_fault : OnlyReads state old.device new.device true →
+      DoesHere state (command.Get key) m old new reply.Fault
+  got_fault reads = got reply.Fault refl reads (its_stays true reads)

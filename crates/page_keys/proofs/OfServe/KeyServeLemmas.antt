@@ -1,0 +1,616 @@
+-- What serving a command of a key script comes to.
+use Rattle.std.proofs.Common.{◌≡◌, ℕ, ◌+◌, ◌<◌, ◌≤◌, Bool, true, false, not, cond, if◌then◌else◌, List, Option, Some, None, Result, Ok, Err, refl, sym, ap}
+use Rattle.std.proofs.Common.{subst, ◌∙◌, inl, inr, arith}
+use Rattle.std.specs.Prelude.{IfOk, MatchBool}
+use Rattle.std.proofs.lemmas.Bool.Decides.{nat_tests}
+use Rattle.tx_types.specs.Config.{checked, shape_of}
+use Rattle.tx_types.specs.Limits.{max_version}
+use Rattle.tx_types.specs.declared.config.Config.{Config}
+use Rattle.tx_types.specs.declared.config.Protocol.{Protocol}
+use Rattle.tx_types.specs.declared.config.Shape.{Shape}
+use Rattle.flash_model.specs.Arms.{ArmsCut, SetsCut as ArmOf}
+use Rattle.flash_model.specs.Calls.{BothTell, Carries, NoMoreToCome, Rose, Spends}
+use Rattle.flash_model.specs.Flash.{FlashState, Told}
+use Rattle.flash_model.specs.Moves.{Moves}
+use Rattle.flash_model.specs.Operations.{Moment, moment_of}
+use Rattle.flash_model.specs.declared.outcome.Outcome.{Outcome}
+use Rattle.flash_model.proofs.MoveLemmas.{Moves-nothing}
+use Rattle.version_index.specs.Images.{IsSoundImage, array_in}
+use Rattle.version_index.specs.Noted.{mention_of}
+use Rattle.array_machine.specs.Run.{MayBeSpent}
+use Rattle.tx_engine.proofs.OfStanding.Seen.{image_seen, seen_flash}
+use Rattle.tx_engine.specs.Always.{HoldsAlways, IsSeen}
+use Rattle.tx_engine.specs.ArrayState.{ArrayState, Pages}
+use Rattle.tx_engine.specs.Naming.{is_spent}
+use Rattle.page_keys.specs.Buckets.{AreBuckets, ShowsMap}
+use Rattle.page_keys.specs.KeyMaps.{KeyMap, is_touched}
+use Rattle.page_keys.specs.KeyRuns.{BreaksPut, DoesGet, DoesKeys, DoesPut, TakesPut, changes_in, is_tried, IsKeyPoint, IsKeySpent, KeyPoint, ServesKeys, Stays}
+use Rattle.page_keys.specs.KeyRuns.{arms_key_cut, is_key_break, is_key_cut, is_key_fault, mentions_in, seen_after}
+use Rattle.page_keys.specs.KeySessions.{DoesFor, DoesHere, Ends, Fits, FitsMounted, IsKeyImage, MeetsFault, MemoryLeaves, Mounts, Opens, ServesOne, SetsCut}
+use Rattle.page_keys.specs.KeySessions.{StandsUnmounted, StaysQuiet, flash_in, is_mounted, point_of}
+use Rattle.page_keys.specs.Stores.{HasKeys, Keyed}
+use Rattle.page_keys.specs.declared.changes.Change.{Change}
+use Rattle.page_keys.specs.declared.command.KeyCommand.{KeyCommand}
+use Rattle.page_keys.specs.declared.command.KeyCommand.TheVariants as command
+use Rattle.page_keys.specs.declared.key_error.KeyServeError.{KeyServeError}
+use Rattle.page_keys.specs.declared.key_error.KeyServeError.TheVariants as failed
+use Rattle.page_keys.specs.declared.key_reply.KeyReply.{KeyReply}
+use Rattle.page_keys.specs.declared.key_reply.KeyReply.TheVariants as reply
+use Rattle.page_keys.specs.declared.key_session.KeySession.{KeySession}
+use Rattle.page_keys.specs.declared.key_session.KeySession.TheVariants as session
+use Rattle.page_keys.proofs.OfPut.Existing.{shows_some}
+use Rattle.page_keys.proofs.OfPut.PutGiven.{stands_idle}
+
+-- ---- what is told
+
+both_map : (P Q : Told → Told → Type 0) → ((x y : Told) → P x y → Q x y) → (a b : Option Told) →
+    BothTell P a b → BothTell Q a b
+both_map P Q f None None h = tt
+both_map P Q f None (Some y) h = absurd h
+both_map P Q f (Some x) None h = absurd h
+both_map P Q f (Some x) (Some y) h = f x y h
+
+both_with : (P Q S : Told → Told → Type 0) → ((x y : Told) → P x y → Q x y → S x y) →
+    (a b : Option Told) → BothTell P a b → BothTell Q a b → BothTell S a b
+both_with P Q S f None None h k = tt
+both_with P Q S f None (Some y) h k = absurd h
+both_with P Q S f (Some x) None h k = absurd h
+both_with P Q S f (Some x) (Some y) h k = f x y h k
+
+both_then : (P Q S : Told → Told → Type 0) →
+    ((x y z : Told) → P x y → Q y z → S x z) → (a b c : Option Told) → BothTell P a b →
+    BothTell Q b c → BothTell S a c
+both_then P Q S f None None None h k = tt
+both_then P Q S f None None (Some z) h k = absurd k
+both_then P Q S f None (Some y) c h k = absurd h
+both_then P Q S f (Some x) None c h k = absurd h
+both_then P Q S f (Some x) (Some y) None h k = absurd k
+both_then P Q S f (Some x) (Some y) (Some z) h k = f x y z h k
+
+-- ---- replies
+
+no_break : (r : KeyReply) → is_key_cut r ≡ false → is_key_fault r ≡ false → is_key_break r ≡ false
+no_break reply.Cut cut fault = cc
+no_break reply.Fault cut fault = cc
+no_break (reply.Stored n) cut fault = refl
+no_break (reply.Value k v) cut fault = refl
+no_break (reply.Absent k) cut fault = refl
+no_break reply.Armed cut fault = refl
+no_break reply.RefusedEmpty cut fault = refl
+no_break (reply.RefusedRepeated k) cut fault = refl
+no_break (reply.RefusedWide n) cut fault = refl
+no_break (reply.RefusedBucket p) cut fault = refl
+no_break (reply.RefusedSpent p) cut fault = refl
+
+spent_none : (c : KeyCommand) (r : KeyReply) → is_key_cut r ≡ false → is_key_fault r ≡ false →
+    (x y : Told) → NoMoreToCome x y → IsKeySpent c r x y
+spent_none c r cut fault x y less = record {
+  cuts = rw cut (let most = less.0 in omega arith);
+  breaks = rw fault (let most = less.1 in omega arith);
+}
+
+spent_fault : (c : KeyCommand) (x y : Told) → NoMoreToCome x y → Spends true x y →
+    IsKeySpent c reply.Fault x y
+spent_fault c x y less spends =
+    record { cuts = omega (arith, less.0); breaks = omega (arith, spends) }
+
+spent_cut : (c : KeyCommand) (x y : Told) → NoMoreToCome x y → Spends false x y →
+    IsKeySpent c reply.Cut x y
+spent_cut c x y less spends =
+    record { cuts = omega (arith, spends); breaks = omega (arith, less.1) }
+
+spent_later : (c : KeyCommand) (r : KeyReply) (x y z : Told) → NoMoreToCome x y →
+    IsKeySpent c r y z → IsKeySpent c r x z
+spent_later c r x y z less spent = record {
+  cuts = let a = less.0 in let b = spent.cuts in omega arith;
+  breaks = let a = less.1 in let b = spent.breaks in omega arith;
+}
+
+-- what a command does where its reply is a fault it does where it is a cut
+does_cut : (its : Config) (spent : ℕ → Bool) (c : KeyCommand) (old new : KeyPoint) →
+    DoesKeys its spent c old reply.Fault new → DoesKeys its spent c old reply.Cut new
+does_cut its spent (command.Put cs) old new h = h
+does_cut its spent (command.Get key) old new h = h
+does_cut its spent (command.Cut count what) old new h = h
+
+-- nothing is done
+does_not : (its : Config) (spent : ℕ → Bool) (c : KeyCommand) (old new : KeyPoint) →
+    arms_key_cut c ≡ false → Stays old new → DoesKeys its spent c old reply.Fault new
+does_not its spent (command.Put cs) old new no_arm stays = record {
+  whole = inl stays.keys;
+  moves = subst (λ (x : Moment). Moves (shape_of its) (moment_of old.flash) true x) (sym stays.moment)
+      (Moves-nothing (shape_of its) (moment_of old.flash) true);
+}
+does_not its spent (command.Get key) old new no_arm stays = stays
+does_not its spent (command.Cut count what) old new no_arm stays = cc
+
+-- a reply that tells of a fault, by whether power is on
+abbrev pub broken_reply : Bool → KeyReply
+broken_reply live = if live then reply.Fault else reply.Cut
+
+-- a fault that was met, in a command that did this much
+module _ (its : Config) (spent : ℕ → Bool) (c : KeyCommand) (old new : KeyPoint)
+    (does : DoesKeys its spent c old reply.Fault new)
+    (rose : Rose old.flash.faults new.flash.faults)
+    (less : BothTell NoMoreToCome old.flash.told new.flash.told)
+    (spends : BothTell (Spends new.flash.live) old.flash.told new.flash.told) where
+  broken_by : (live : Bool) → new.flash.live ≡ live →
+      ServesKeys its spent c old (broken_reply live) new
+  broken_by true on = record {
+    does = does;
+    causes = λ arm. record { cut = sym (ap not on); faults = rose };
+    spends = both_with NoMoreToCome (Spends true) (IsKeySpent c reply.Fault) (spent_fault c)
+        old.flash.told new.flash.told less
+        (subst (λ b. BothTell (Spends b) old.flash.told new.flash.told) on spends);
+  }
+  broken_by false off = record {
+    does = does_cut its spent c old new does;
+    causes = λ arm. record { cut = sym (ap not off); faults = rose };
+    spends = both_with NoMoreToCome (Spends false) (IsKeySpent c reply.Cut) (spent_cut c)
+        old.flash.told new.flash.told less
+        (subst (λ b. BothTell (Spends b) old.flash.told new.flash.told) off spends);
+  }
+
+-- and what may be mentioned afterwards
+seen_broken : (its : Config) (seen : ℕ → ℕ) (c : KeyCommand) (live : Bool) →
+    seen_after its seen c (broken_reply live) ≡ seen_after its seen c reply.Fault
+seen_broken its seen c true = refl
+seen_broken its seen c false = refl
+
+-- ---- an open store
+
+module _ {F : Type 0} (state : F → FlashState) (its : Config) (k : Keyed F)
+    (fits : FitsMounted state its k) where
+  -- its image is sound, and shows what its array shows
+  array_is : array_in its.protocol its.logical (state k.device.flash).image ≡ k.device.machine.pages
+  array_is =
+      let stands = stands_idle k.device.machine _ fits.keys.closed fits.always.array in
+      subst (λ (c : Config).
+      array_in c.protocol c.logical (state k.device.flash).image ≡ k.device.machine.pages) fits.config
+      stands
+
+  sound_is : IsSoundImage its.protocol its.logical (shape_of its) (state k.device.flash).image
+  sound_is =
+      subst (λ (c : Config). IsSoundImage c.protocol c.logical (shape_of c)
+      (state k.device.flash).image) fits.config fits.always.sound
+
+  buckets_are : AreBuckets its k.device.machine.pages
+  buckets_are =
+      subst (λ (c : Config). AreBuckets c k.device.machine.pages) fits.config fits.keys.buckets
+
+  pub key_image : IsKeyImage its (state k.device.flash)
+  key_image = record {
+    sound = sound_is;
+    buckets = subst (AreBuckets its) (sym array_is) buckets_are;
+  }
+
+  pub mounted_point : (m : KeyMap) → ShowsMap its k.device.machine.pages m →
+      IsKeyPoint its (record { keys = m; flash = state k.device.flash })
+  mounted_point m shows = record {
+    sound = sound_is;
+    shows = subst (λ (p : Pages). ShowsMap its p m) (sym array_is) shows;
+  }
+
+  may_be : (seen : ℕ → ℕ) → IsSeen seen k.device →
+      MayBeSpent seen (is_spent k.device.noted.mentions)
+  may_be seen h page is =
+      let most = h.mentions page in
+      let least : max_version ≤ mention_of k.device.noted page = grind (arith, nat_tests) in
+      omega arith
+
+  module _ (protocol : Protocol) (rule : its.protocol ≡ protocol) (c : KeyCommand)
+      (no_arm : arms_key_cut c ≡ false) (l : Keyed F)
+      (always : HoldsAlways state protocol l.device) (r : KeyReply) (does : DoesFor state c k l r) where
+    -- the store shows some map
+    some : DoesHere state c (shows_some its k.device.machine.pages buckets_are).0 k l r
+    some =
+        let shown = shows_some its k.device.machine.pages buckets_are in
+        does shown.0
+        (subst (λ (x : Config). ShowsMap x k.device.machine.pages shown.0) (sym fits.config) shown.1)
+
+    config_is : l.device.config ≡ its
+    config_is = some.config ∙ fits.config
+
+    its_always : HoldsAlways state its.protocol l.device
+    its_always = subst (λ (p : Protocol). HoldsAlways state p l.device) (sym rule) always
+
+    check_is : checked its ≡ Ok (state l.device.flash).shape
+    check_is = fits.check ∙ ap (λ (x : Shape). Ok x) (sym some.carries.shape)
+
+    here : (m : KeyMap) → ShowsMap its k.device.machine.pages m → DoesHere state c m k l r
+    here m shows =
+        does m (subst (λ (x : Config). ShowsMap x k.device.machine.pages m) (sym fits.config) shows)
+
+    its_seen : (seen : ℕ → ℕ) (m : KeyMap) → ShowsMap its k.device.machine.pages m →
+        IsSeen seen k.device → IsSeen (seen_after its seen c r) l.device
+    its_seen seen m shows h =
+        subst (λ (x : Config). IsSeen (seen_after x seen c r) l.device) fits.config
+        ((here m shows).seen seen h)
+
+    -- a command that was answered
+    module _ (fine : is_key_fault r ≡ false)
+        (keys : l.broken ≡ false → HasKeys l.device) where
+      fine_carries : Carries (state k.device.flash) (state l.device.flash) false
+      fine_carries =
+          subst (λ b. Carries (state k.device.flash) (state l.device.flash) b) fine some.carries
+
+      live_is : (state l.device.flash).live ≡ true
+      live_is = fine_carries.lives ∙ fits.live
+
+      serves_fine : (m : KeyMap) (shows : ShowsMap its k.device.machine.pages m) →
+          ServesKeys its (is_spent k.device.noted.mentions) c
+          (record { keys = m; flash = state k.device.flash }) r
+          (record { keys = (here m shows).left; flash = state l.device.flash })
+      serves_fine m shows = record {
+        does = subst (λ (x : Config). DoesKeys x (is_spent k.device.noted.mentions) c
+            (record { keys = m; flash = state k.device.flash }) r
+            (record { keys = (here m shows).left; flash = state l.device.flash })) fits.config
+            (here m shows).does;
+        causes = λ arm. record {
+          cut = some.whole ∙ sym (ap not live_is);
+          faults = rw (no_break r some.whole fine) fine_carries.quiet;
+        };
+        spends = both_map NoMoreToCome (IsKeySpent c r) (spent_none c r some.whole fine)
+            (state k.device.flash).told (state l.device.flash).told fine_carries.no_more;
+      }
+
+      pub answered : (R : Type 0) → ServesOne {R = R} state its c (session.Mounted k) r (session.Mounted l)
+      answered R = record {
+        fits = record {
+          usable = some.usable fine;
+          config = config_is;
+          check = check_is;
+          live = live_is;
+          keys = keys (some.usable fine);
+          always = its_always;
+        };
+        in_run = λ seen m stands. record {
+          left = (here m stands.shows).left;
+          spent = is_spent k.device.noted.mentions;
+          may = may_be seen stands.mentions;
+          serves = serves_fine m stands.shows;
+          stands = record {
+            shows = subst (λ (x : Config). ShowsMap x l.device.machine.pages (here m stands.shows).left)
+                config_is ((here m stands.shows).shows fine);
+            mentions = its_seen seen m stands.shows stands.mentions;
+          };
+        };
+        unopened = λ not_keys. absurd (not_keys key_image);
+        extras = fine_carries.extras;
+      }
+
+    -- a command that met a fault, after which the store is closed
+    module _ (fault : is_key_fault r ≡ true) (is : r ≡ reply.Fault) where
+      torn : Carries (state k.device.flash) (state l.device.flash) true
+      torn = subst (λ b. Carries (state k.device.flash) (state l.device.flash) b) fault some.carries
+
+      stands_closed : (seen : ℕ → ℕ) (m : KeyMap) (shows : ShowsMap its k.device.machine.pages m) →
+          IsSeen seen k.device →
+          StandsUnmounted its (seen_after its seen c reply.Fault) (here m shows).left
+          (state l.device.flash)
+      stands_closed seen m shows h = record {
+        sound = subst (λ (x : Config). IsSoundImage x.protocol x.logical (shape_of x)
+            (state l.device.flash).image) config_is always.sound;
+        shows = subst (λ (x : Config). ShowsMap x
+            (array_in x.protocol x.logical (state l.device.flash).image) (here m shows).left) config_is
+            ((here m shows).image fault);
+        mentions = λ page lt.
+            subst (λ (x : Config). mentions_in x (moment_of (state l.device.flash)) page
+            ≤ seen_after its seen c reply.Fault page) config_is
+            (image_seen state protocol (seen_after its seen c reply.Fault) l.device page always
+            (subst (λ (q : KeyReply). IsSeen (seen_after its seen c q) l.device) is
+            (its_seen seen m shows h))
+            (subst (λ (x : Config). page < x.logical) (sym config_is) lt));
+      }
+
+      serves_fault : (m : KeyMap) (shows : ShowsMap its k.device.machine.pages m) (live : Bool) →
+          (state l.device.flash).live ≡ live →
+          ServesKeys its (is_spent k.device.noted.mentions) c
+          (record { keys = m; flash = state k.device.flash }) (broken_reply live)
+          (record { keys = (here m shows).left; flash = state l.device.flash })
+      serves_fault m shows live on =
+          broken_by its (is_spent k.device.noted.mentions) c
+          (record { keys = m; flash = state k.device.flash })
+          (record { keys = (here m shows).left; flash = state l.device.flash })
+          (subst (λ (x : Config). DoesKeys x (is_spent k.device.noted.mentions) c
+          (record { keys = m; flash = state k.device.flash }) reply.Fault
+          (record { keys = (here m shows).left; flash = state l.device.flash })) fits.config
+          (subst (λ (q : KeyReply). DoesKeys k.device.config (is_spent k.device.noted.mentions) c
+          (record { keys = m; flash = state k.device.flash }) q
+          (record { keys = (here m shows).left; flash = state l.device.flash })) is
+          (here m shows).does))
+          torn.cause torn.no_more (torn.spends fits.live) live on
+
+      pub closed : (R : Type 0) (live : Bool) → (state l.device.flash).live ≡ live →
+          ServesOne {R = R} state its c (session.Mounted k) (broken_reply live)
+          (session.Unmounted l.device.flash)
+      closed R live on = record {
+        fits = check_is;
+        in_run = λ seen m stands. record {
+          left = (here m stands.shows).left;
+          spent = is_spent k.device.noted.mentions;
+          may = may_be seen stands.mentions;
+          serves = serves_fault m stands.shows live on;
+          stands = subst (λ (s : ℕ → ℕ). StandsUnmounted its s (here m stands.shows).left
+              (state l.device.flash)) (sym (seen_broken its seen c live))
+              (stands_closed seen m stands.shows stands.mentions);
+        };
+        unopened = λ not_keys. absurd (not_keys key_image);
+        extras = torn.extras;
+      }
+
+  -- a put for which there was no memory
+  pub starved : (l : Keyed F) → MemoryLeaves state k l →
+      Ends its (state k.device.flash) (state l.device.flash) failed.Memory
+  starved l leaves = record {
+    cause = tt;
+    still = record {
+      still = record {
+        moment = leaves.moment;
+        shape = leaves.carries.shape;
+        extras = leaves.carries.extras;
+        told = leaves.carries.no_more;
+      };
+      quiet = leaves.carries.quiet;
+    };
+  }
+
+-- ---- a flash on which the store was opened before the command
+
+module _ (its : Config) (spent : ℕ → Bool) (m : KeyMap) (a b : FlashState) (new : KeyPoint)
+    (quiet : StaysQuiet a b) where
+  stays_later : Stays (record { keys = m; flash = b }) new → Stays (record { keys = m; flash = a }) new
+  stays_later h = record { keys = h.keys; moment = h.moment ∙ quiet.still.moment }
+
+  takes_later : (cs : List Change) → TakesPut its spent cs (record { keys = m; flash = b }) new →
+      TakesPut its spent cs (record { keys = m; flash = a }) new
+  takes_later cs h = record { allowed = h.allowed; keys = h.keys }
+
+  moves_later : (broken : Bool) → Moves (shape_of its) (moment_of b) broken (moment_of new.flash) →
+      Moves (shape_of its) (moment_of a) broken (moment_of new.flash)
+  moves_later broken h =
+      subst (λ (x : Moment). Moves (shape_of its) x broken (moment_of new.flash)) quiet.still.moment h
+
+  breaks_later : (cs : List Change) → BreaksPut its spent cs (record { keys = m; flash = b }) new →
+      BreaksPut its spent cs (record { keys = m; flash = a }) new
+  breaks_later cs h = record {
+    whole = elim h.whole [ inl none ↦ inl none | inr all ↦ inr (takes_later cs all) ];
+    moves = moves_later true h.moves;
+  }
+
+  put_later : (cs : List Change) (r : KeyReply) →
+      DoesPut its spent cs (record { keys = m; flash = b }) r new →
+      DoesPut its spent cs (record { keys = m; flash = a }) r new
+  put_later cs (reply.Stored n) h = (takes_later cs h.0, h.1, moves_later false h.2)
+  put_later cs reply.RefusedEmpty h = (h.0, stays_later h.1)
+  put_later cs (reply.RefusedRepeated k) h = (h.0, (h.1.0, stays_later h.1.1), h.2)
+  put_later cs (reply.RefusedWide n) h = (h.0, stays_later h.1)
+  put_later cs (reply.RefusedBucket p) h = (h.0, stays_later h.1)
+  put_later cs (reply.RefusedSpent p) h = (h.0, stays_later h.1)
+  put_later cs reply.Cut h = breaks_later cs h
+  put_later cs reply.Fault h = breaks_later cs h
+  put_later cs (reply.Value k v) h = absurd h
+  put_later cs (reply.Absent k) h = absurd h
+  put_later cs reply.Armed h = absurd h
+
+  get_later : (key : List ℕ) (r : KeyReply) → DoesGet key (record { keys = m; flash = b }) r new →
+      DoesGet key (record { keys = m; flash = a }) r new
+  get_later key (reply.Value k v) h = (h.0, h.1, stays_later h.2)
+  get_later key (reply.Absent k) h = (h.0, h.1, stays_later h.2)
+  get_later key reply.Cut h = stays_later h
+  get_later key reply.Fault h = stays_later h
+  get_later key (reply.Stored n) h = absurd h
+  get_later key reply.Armed h = absurd h
+  get_later key reply.RefusedEmpty h = absurd h
+  get_later key (reply.RefusedRepeated k) h = absurd h
+  get_later key (reply.RefusedWide n) h = absurd h
+  get_later key (reply.RefusedBucket p) h = absurd h
+  get_later key (reply.RefusedSpent p) h = absurd h
+
+  does_later : (c : KeyCommand) (r : KeyReply) → arms_key_cut c ≡ false →
+      DoesKeys its spent c (record { keys = m; flash = b }) r new →
+      DoesKeys its spent c (record { keys = m; flash = a }) r new
+  does_later (command.Put cs) r no_arm h = put_later cs r h
+  does_later (command.Get key) r no_arm h = get_later key r h
+  does_later (command.Cut count what) r no_arm h = cc
+
+  pub served_later : (c : KeyCommand) (r : KeyReply) → arms_key_cut c ≡ false →
+      ServesKeys its spent c (record { keys = m; flash = b }) r new →
+      ServesKeys its spent c (record { keys = m; flash = a }) r new
+  served_later c r no_arm serves = record {
+    does = does_later c r no_arm serves.does;
+    causes = λ arm. record {
+      cut = (serves.causes arm).cut;
+      faults = subst (λ n.
+          MatchBool (is_key_break r) (Rose n new.flash.faults) (new.flash.faults ≡ n)) quiet.quiet
+          (serves.causes arm).faults;
+    };
+    spends = both_then NoMoreToCome (IsKeySpent c r) (IsKeySpent c r) (spent_later c r) a.told b.told
+        new.flash.told quiet.still.told serves.spends;
+  }
+
+least_of : (tried touched : Bool) (n : ℕ) → n ≤ cond tried (cond touched (n + 1) n) n
+least_of true true n = omega arith
+least_of true false n = omega arith
+least_of false touched n = omega arith
+
+seen_least : (its : Config) (seen : ℕ → ℕ) (c : KeyCommand) (r : KeyReply) (page : ℕ) →
+    seen page ≤ seen_after its seen c r page
+seen_least its seen c r page =
+    least_of (is_tried r) (is_touched its.logical (changes_in c) page) (seen page)
+
+module _ {F R : Type 0} (state : F → FlashState) (its : Config) (c : KeyCommand)
+    (no_arm : arms_key_cut c ≡ false) (flash : F) where
+  -- it was opened, and the command was served
+  pub served_opened : (k : Keyed F) (r : KeyReply) (new : KeySession F R) → Opens state its flash k →
+      ServesOne {R = R} state its c (session.Mounted k) r new →
+      ServesOne {R = R} state its c (session.Unmounted flash) r new
+  served_opened k r new opens one = record {
+    fits = one.fits;
+    in_run = λ seen m stands.
+        let pages : array_in its.protocol its.logical (state flash).image ≡ k.device.machine.pages =
+        sym (ap (λ (s : ArrayState). s.pages) opens.machine) in
+        let inside = one.in_run seen m (record {
+          shows = subst (λ (p : Pages). ShowsMap its p m) pages stands.shows;
+          mentions = opens.seen seen stands.mentions;
+        }) in
+        record {
+          left = inside.left;
+          spent = inside.spent;
+          may = inside.may;
+          serves = served_later its inside.spent m (state flash) (state k.device.flash)
+              (point_of state inside.left new) opens.still c r no_arm inside.serves;
+          stands = inside.stands;
+        };
+    unopened = λ not_keys.
+        let image = key_image state its k opens.fits in
+        absurd (not_keys (record {
+          sound = subst (λ (x : Moment). IsSoundImage its.protocol its.logical (shape_of its) x.image)
+              opens.still.still.moment image.sound;
+          buckets = subst (λ (x : Moment). AreBuckets its (array_in its.protocol its.logical x.image))
+              opens.still.still.moment image.buckets;
+        }));
+    extras = one.extras ∙ opens.still.still.extras;
+  }
+
+  -- it could not be opened
+  pub not_opened : (new : F) (live : Bool) → checked its ≡ Ok (state flash).shape →
+      MeetsFault (state flash) (state new) → (state new).live ≡ live →
+      ServesOne {R = R} state its c (session.Unmounted flash) (broken_reply live)
+      (session.Unmounted new)
+  not_opened new live check meets on = record {
+    fits = check ∙ ap (λ (x : Shape). Ok x) (sym meets.still.shape);
+    in_run = λ seen m stands. record {
+      left = m;
+      spent = λ page. false;
+      may = λ page is. cc;
+      serves = broken_by its (λ page. false) c (record { keys = m; flash = state flash })
+          (record { keys = m; flash = state new })
+          (does_not its (λ page. false) c (record { keys = m; flash = state flash })
+          (record { keys = m; flash = state new }) no_arm
+          (record { keys = refl; moment = meets.still.moment }))
+          meets.rose meets.still.told meets.spends live on;
+      stands = record {
+        sound = subst (λ (x : Moment). IsSoundImage its.protocol its.logical (shape_of its) x.image)
+            (sym meets.still.moment) stands.sound;
+        shows = subst (λ (x : Moment). ShowsMap its (array_in its.protocol its.logical x.image) m)
+            (sym meets.still.moment) stands.shows;
+        mentions = λ page lt.
+            subst (λ (x : Moment). mentions_in its x page
+            ≤ seen_after its seen c (broken_reply live) page) (sym meets.still.moment)
+            (let least = seen_least its seen c (broken_reply live) page in
+            let most = stands.mentions page lt in omega arith);
+      };
+    };
+    unopened = λ not_keys. meets.still.moment;
+    extras = meets.still.extras;
+  }
+
+-- ---- a cut that is to come
+
+module _ (its : Config) (count : ℕ) (what : Outcome) where
+  arm_spent : (x y : Told) → ArmOf (record { count = count; outcome = what }) x y →
+      IsKeySpent (command.Cut count what) reply.Armed x y
+  arm_spent x y sets = record {
+    cuts = let a = sets.cuts in omega arith;
+    breaks = let a = sets.breaks in omega arith;
+  }
+
+  arm_serves : (m : KeyMap) (a b : FlashState) → ArmsCut a b count what →
+      ServesKeys its (λ page. false) (command.Cut count what) (record { keys = m; flash = a })
+      reply.Armed (record { keys = m; flash = b })
+  arm_serves m a b arms = record {
+    does = (refl, arms);
+    causes = λ h. cc;
+    spends = both_map (ArmOf (record { count = count; outcome = what }))
+        (IsKeySpent (command.Cut count what) reply.Armed) arm_spent a.told b.told arms.told;
+  }
+
+module _ {F R : Type 0} (state : F → FlashState) (its : Config) (count : ℕ) (what : Outcome) where
+  pub armed : (protocol : Protocol) (old new : KeySession F R) → its.protocol ≡ protocol →
+      Fits state its old → SetsCut state protocol count what old new →
+      ServesOne state its (command.Cut count what) old reply.Armed new
+  armed protocol (session.Mounted k) (session.Mounted l) rule fits sets =
+      let config : l.device.config ≡ its =
+      ap (λ (x : Keyed F). x.device.config) sets.stays ∙ fits.config in
+      let flash = sets.arms.stays in
+      record {
+        fits = record {
+          usable = ap (λ (x : Keyed F). x.broken) sets.stays ∙ fits.usable;
+          config = config;
+          check = fits.check ∙ ap (λ (s : FlashState). Ok s.shape) (sym flash);
+          live = ap (λ (s : FlashState). s.live) flash ∙ fits.live;
+          keys = sets.keys;
+          always = subst (λ (p : Protocol). HoldsAlways state p l.device) (sym rule) sets.always;
+        };
+        in_run = λ seen m stands. record {
+          left = m;
+          spent = λ page. false;
+          may = λ page is. cc;
+          serves = arm_serves its count what m (state k.device.flash) (state l.device.flash) sets.arms;
+          stands = record {
+            shows = subst (λ (x : Keyed F). ShowsMap its x.device.machine.pages m) (sym sets.stays)
+                stands.shows;
+            mentions = subst (λ (x : Keyed F). IsSeen seen x.device) (sym sets.stays)
+                (seen_flash seen k.device l.device.flash stands.mentions);
+          };
+        };
+        unopened = λ not_keys. absurd (not_keys (key_image state its k fits));
+        extras = ap (λ (s : FlashState). s.extras) flash;
+      }
+  armed protocol (session.Unmounted a) (session.Unmounted b) rule fits sets = record {
+    fits = fits ∙ ap (λ (s : FlashState). Ok s.shape) (sym sets.stays);
+    in_run = λ seen m stands. record {
+      left = m;
+      spent = λ page. false;
+      may = λ page is. cc;
+      serves = arm_serves its count what m (state a) (state b) sets;
+      stands = record {
+        sound = subst (λ (s : FlashState). IsSoundImage its.protocol its.logical (shape_of its)
+            s.image) (sym sets.stays) stands.sound;
+        shows = subst (λ (s : FlashState). ShowsMap its (array_in its.protocol its.logical s.image) m)
+            (sym sets.stays) stands.shows;
+        mentions = λ page lt. subst (λ (s : FlashState). mentions_in its (moment_of s) page
+            ≤ seen page) (sym sets.stays) (stands.mentions page lt);
+      };
+    };
+    unopened = λ not_keys. ap moment_of sets.stays;
+    extras = ap (λ (s : FlashState). s.extras) sets.stays;
+  }
+  armed protocol (session.Mounted k) (session.Unmounted b) rule fits sets = absurd sets
+  armed protocol (session.Unmounted a) (session.Mounted l) rule fits sets = absurd sets
+
+-- ---- a session without a store
+
+module _ {F R : Type 0} (state : F → FlashState) (its : Config) (c : KeyCommand)
+    (no_arm : arms_key_cut c ≡ false) where
+  pub serves_opened : (old mid new : KeySession F R) (result : Result KeyReply KeyServeError) →
+      is_mounted old ≡ false → is_mounted mid ≡ true → Mounts state its (flash_in old) mid →
+      IfOk result (λ r. ServesOne state its c mid r new) →
+      IfOk result (λ r. ServesOne state its c old r new)
+  serves_opened (session.Mounted k) mid new result off on opens one = cc
+  serves_opened (session.Unmounted flash) (session.Unmounted b) new result off on opens one = cc
+  serves_opened (session.Unmounted flash) (session.Mounted k) new (Err why) off on opens one = tt
+  serves_opened (session.Unmounted flash) (session.Mounted k) new (Ok r) off on opens one =
+      served_opened state its c no_arm flash k r new opens one
+
+  pub serves_not_opened : (old mid : KeySession F R) (live : Bool) → is_mounted old ≡ false →
+      is_mounted mid ≡ false → Fits state its old → Mounts state its (flash_in old) mid →
+      (state (flash_in mid)).live ≡ live → ServesOne state its c old (broken_reply live) mid
+  serves_not_opened (session.Mounted k) mid live off closed fits meets on = cc
+  serves_not_opened (session.Unmounted flash) (session.Mounted k) live off closed fits meets on = cc
+  serves_not_opened (session.Unmounted flash) (session.Unmounted new) live off closed fits meets on =
+      not_opened state its c no_arm flash new live fits meets on
+
+pub no_fault : (r : KeyReply) → (r ≡ reply.Fault → ⊥) → is_key_fault r ≡ false
+no_fault (reply.Stored n) not = refl
+no_fault reply.RefusedEmpty not = refl
+no_fault (reply.RefusedRepeated k) not = refl
+no_fault (reply.RefusedWide n) not = refl
+no_fault (reply.RefusedBucket p) not = refl
+no_fault (reply.RefusedSpent p) not = refl
+no_fault (reply.Value k v) not = refl
+no_fault (reply.Absent k) not = refl
+no_fault reply.Armed not = refl
+no_fault reply.Cut not = refl
+no_fault reply.Fault not = absurd (not refl)

@@ -1,0 +1,4 @@
+pub mod StoreReads
+pub mod StoreWrites
+pub mod Opening
+pub mod Mentions
