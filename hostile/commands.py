@@ -75,9 +75,15 @@ class Script:
         self.lines.append("stats")
         self.arm()
         self.write()
-        self.lines += [self.draw.choice((f"finish {self.tag()}", f"finish {self.tag()}", "collect")), "stats"]
+        last = self.draw.choice((f"finish {self.tag()}", f"finish {self.tag()}", "stepall", "collect"))
+        self.lines += [last, "stats"]
 
     def go_on(self) -> None:
+        if self.draw.random() < 0.25:
+            self.lines.append("stepall")
+            if self.draw.random() < 0.3:
+                self.open.clear()
+            return
         tag, how = self.tag(), self.draw.random()
         verb = "step" if how < 0.45 else "finish" if how < 0.85 else "abort"
         self.lines.append(f"{verb} {tag}")

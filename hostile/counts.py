@@ -13,6 +13,9 @@ QUIET = ("read", "write", "abort", "stats", "explain", "cut", "fault", "badread"
 class Counts:
     def __init__(self) -> None:
         self.programs = self.erases = 0
+        # Programs that were done together with others, and count as none of their own for the arms; and how many calls
+        # were broken in which several may have been.
+        self.together = self.broken_together = 0
         self.broken: Optional[int] = 0
         # How many calls were made, where that is known, and the call at which an arm comes due.
         self.calls: Optional[int] = 0
@@ -25,10 +28,14 @@ class Counts:
         verb, word = command.verb, reply.split(" ")[0]
         if verb not in QUIET:
             self.calls = self.came = None
+        if verb == "stepall" and word in ("dropped", "cut"):
+            self.broken_together += 1
         if word == "armed":
             self.arm(command)
-        elif word == "fault":
+        elif word in ("fault", "dropped"):
             self.fault(verb)
+        elif word == "moved":
+            self.together += max(0, int(reply.split(" ")[1]) - 1)
         elif word == "cut":
             self.cut()
         elif verb == "stats":
@@ -61,7 +68,7 @@ class Counts:
         programs, erases = int(words[8]), int(words[10])
         if programs < self.programs or erases < self.erases:
             return "a count of programs or erases fell"
-        calls = None if self.broken is None else programs + erases + self.broken
+        calls = None if self.broken is None else programs + erases + self.broken - self.together
         wrong = None
         if self.calls is not None and calls is not None and calls != self.calls:
             wrong = "programs or erases where nothing was done"

@@ -6,7 +6,7 @@ MAX_ENTRIES = 262144
 MAX_NUMBER = 2 ** 32 - 1
 OUTCOMES = ("none", "all", "bad")
 TAGGED = ("step", "finish", "abort")
-BARE = ("collect", "stats", "explain")
+BARE = ("stepall", "collect", "stats", "explain")
 
 # A page and its contents, none where it is discarded.
 Entry = Tuple[int, Optional[bytes]]

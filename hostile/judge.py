@@ -47,10 +47,10 @@ class Served:
         need(self.run.take(command, reply), f"command {number}, {command.verb}: no run is answered {reply[:200]!r}")
         wrong = self.counts.take(command, reply)
         need(wrong is None, f"command {number}, {command.verb}: {wrong}")
-        if command.verb in ("step", "finish", "collect"):
+        if command.verb in ("step", "finish", "stepall", "collect"):
             self.report, self.tidy = None, reply == "nothing"
             self.open_pages = self.run.open_pages()
-        if reply == "fault":
+        if reply in ("fault", "dropped"):
             self.is_whole = False
         elif command.verb == "explain" and self.is_whole:
             self.report = reply
@@ -63,22 +63,24 @@ class Served:
         need(left.image.config == old.config, "the saved image has another configuration")
         need(left.image.extras == old.extras, "the saved image has other retired blocks")
         need(self.counts.calls is None or self.counts.broken is None or
-             is_moved(old, left.image, self.counts.programs, self.counts.erases, self.counts.broken),
+             is_moved(old, left.image, self.counts.programs, self.counts.erases, self.counts.broken,
+                      self.counts.broken_together * old.config.dies),
              "more slots have changed than the programs and erases of `stats` can change")
         need(left.records.array() in self.run.last_arrays(), "the saved image has an array that no run ends with")
         need(self.report in (None, left.said[:-1]), "a report is not that of the records that were saved")
         need(not self.tidy or is_tidy(left.image, left.records, self.open_pages), "`nothing` over an untidy image")
 
 
-def is_moved(old: Image, new: Image, programs: int, erases: int, broken: int) -> bool:
-    """Whether so many programs and erases, and so many broken ones, may lead from one image to the other."""
+def is_moved(old: Image, new: Image, programs: int, erases: int, broken: int, more: int) -> bool:
+    """Whether so many programs and erases, and so many broken ones, may lead from one image to the other. So many more
+    programs may have been done together with broken ones."""
     size = old.config.pages_per_block
     changed = [slot for slot, (it, other) in enumerate(zip(old.slots, new.slots)) if it != other]
     erased = {slot // size for slot in changed if old.slots[slot].state != BLANK}
     programmed = [slot for slot in changed if slot // size not in erased]
     lost = {slot // size for slot in programmed if new.slots[slot].state == DAMAGED}
     whole = [slot for slot in programmed if new.slots[slot].state == COMPLETE]
-    return len(erased) <= erases + broken and len(whole) <= programs + broken and len(lost) <= broken
+    return len(erased) <= erases + broken and len(whole) <= programs + broken + more and len(lost) <= broken
 
 
 def is_tidy(image: Image, records: Records, open_pages: frozenset) -> bool:

@@ -195,6 +195,49 @@ def broken_writing(settled: State, places: List[Open]) -> Iterator[Answer]:
     yield from cut_answers(settled, [settled, *whole])
 
 
+def step_all_answers(state: State, dies: int) -> Iterator[Answer]:
+    """The first so many go on by a page each. A fault leaves none open."""
+    settled = state.settled()
+    for moved in range(min(1, len(settled.open)), min(dies, len(settled.open)) + 1):
+        after, finished = settled, 0
+        for it in settled.open[:moved]:
+            if it.mark == WHOLE:
+                after, finished = after.without(it.tag), finished + 1
+            elif it.written == len(it.writes) - 1:
+                after, finished = after.put(it.writes).without(it.tag), finished + 1
+            else:
+                after = after.having(it._replace(written=it.written + 1))
+        yield f"moved {moved} finished {finished}", after
+    if state.badread:
+        for it in (state, settled):
+            yield from dropped(it._replace(badread=False))
+    if settled.fault:
+        for it in broken_together(settled, dies, settled.fault):
+            yield from dropped(it._replace(fault=""))
+    if settled.cut:
+        yield from cut_answers(settled, broken_together(settled, dies, settled.cut))
+
+
+def broken_together(settled: State, dies: int, outcome: str) -> Set[State]:
+    """What the array may have taken: nothing, or what was at its last page and was written all the same."""
+    left, first = {settled}, {"none": len(settled.open), "all": 0, "bad": 1}[outcome]
+    for moved in range(1, min(dies, len(settled.open)) + 1):
+        after = settled
+        for it in settled.open[first:moved]:
+            if it.mark == PLAIN and it.written == len(it.writes) - 1:
+                after = after.put(it.writes)
+        left.add(after)
+    return left
+
+
+def dropped(state: State) -> Iterator[Answer]:
+    """The device is mounted again, where a bad read may come."""
+    closed = state.settled()._replace(open=())
+    yield "dropped", closed
+    if closed.badread:
+        yield "dropped", closed._replace(badread=False, mounted=False)
+
+
 def abort_answers(state: State, tag: int) -> Iterator[Answer]:
     if not state.find(tag):
         yield f"unknown {tag}", state
@@ -277,6 +320,8 @@ class Run:
             yield from write_answers(state, command, self.config, self.spending)
         elif verb in ("step", "finish"):
             yield from writing_answers(state, command)
+        elif verb == "stepall":
+            yield from step_all_answers(state, self.config.dies)
         elif verb == "abort":
             yield from abort_answers(state, command.number)
         elif verb == "collect":
@@ -294,8 +339,12 @@ class Run:
         word = reply.split(" ")[0]
         if word == "open":
             self.spending.opened(command.entries)
-        elif word == "cut":
+        elif word in ("cut", "dropped"):
             self.spending.lost_power()
+        elif word == "moved":
+            for it in before.open[:int(reply.split(" ")[1])]:
+                if it.written == len(it.writes) - 1:
+                    self.spending.done(it.writes)
         elif word in ("done", "late"):
             done = before.find(command.number)
             self.spending.done(done.writes if done else ())

@@ -12,7 +12,7 @@ use Rattle.record_list.specs.declared.found.Found.{Found}
 use Rattle.record_list.specs.Verdict.{straddles}
 use Rattle.record_list.specs.Current.{answers_for, is_held}
 use Rattle.record_chart.specs.Charts.{Sorts}
-use Rattle.record_chart.proofs.Alike.{cur_alike, responsible_alike}
+use Rattle.record_chart.proofs.OfSort.Alike.{cur_alike, responsible_alike}
 use Rattle.version_index.specs.declared.note.Note.{Note}
 use Rattle.version_index.specs.declared.note.Note.TheVariants as note
 use Rattle.version_index.specs.Notes.{found_in}
@@ -29,7 +29,8 @@ module _ (list sorted : List Found) (is : Sorts list sorted) where
   held_alike : (protocol : Protocol) (logical : ℕ) (r : Rec) → is_held protocol sorted logical r ≡ is_held protocol list logical r
   held_alike Scc logical r = refl
   held_alike Bpcc logical r =
-      ap (λ test. list_any test sorted) (fun_ext (λ f. ap₂ (λ a b. nat_lt a f.rec.version && (r.page == f.rec.next.page) && straddles r f.rec.next.version && (r.version == b))
+      ap (λ test. list_any test sorted) (fun_ext (λ f. ap₂ (λ a b. nat_lt a f.rec.version && (r.page == f.rec.next.page) && straddles r f.rec.next.version &&
+      (r.version == b))
       (cur_alike list sorted is Bpcc logical f.rec.page) (responsible_alike list sorted is Bpcc logical f.rec.next)))
       ∙ list_any-back (λ f. answers_for Bpcc list logical r f.rec)
     where

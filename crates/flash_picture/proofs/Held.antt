@@ -1,5 +1,6 @@
 -- A record is held where some loose record asks for its name, at a link above its back version.
-use Rattle.std.proofs.Common.{◌≡◌, ℕ, ◌+◌, ◌<◌, max, Bool, true, ◌&&◌, ◌||◌, nat_lt, Option, Some, None, List, [], ◌∷◌, length, get_or, slice_set, position, take, replicate, cond, refl, sym, ap, ap₂, ◌∙◌, inl, inr, arith, ltb-true, lt-ltb}
+use Rattle.std.proofs.Common.{◌≡◌, ℕ, ◌+◌, ◌<◌, max, Bool, true, ◌&&◌, ◌||◌, nat_lt, Option, Some, None, List, [], ◌∷◌, length, get_or, slice_set, position}
+use Rattle.std.proofs.Common.{take, replicate, cond, refl, sym, ap, ap₂, ◌∙◌, inl, inr, arith, ltb-true, lt-ltb}
 use Rattle.std.specs.List.{list_any}
 use Rattle.std.proofs.Math.Nat.{le-max_left, le-max_right, max-le, max-eq_left}
 use Rattle.std.proofs.lemmas.Bool.{false≢true, cases_Bool, cases_eq, cases_lt, cond-true, cond-false, and_parts, and_from, le-ltb}
@@ -11,13 +12,13 @@ use Rattle.tx_types.specs.declared.config.Protocol.TheVariants.{Scc, Bpcc}
 use Rattle.tx_types.specs.declared.record.Link.{Link}
 use Rattle.tx_types.specs.declared.record.Rec.{Rec}
 use Rattle.record_chart.specs.Standings.{Judged}
-use Rattle.record_chart.proofs.WalkOrbits.{absent_at}
+use Rattle.record_chart.proofs.OfWalk.WalkOrbits.{absent_at}
 use Rattle.record_list.specs.declared.found.Found.{Found}
 use Rattle.record_list.specs.Records.{greatest, has_name, is_present, is_same, name_of, nothing, record_at}
 use Rattle.record_list.specs.Current.{answers_for, cur, is_held, is_loose, responsible}
-use Rattle.record_list.proofs.Greatest.{greatest_step}
-use Rattle.record_list.proofs.Held.{answer_of, answers}
-use Rattle.record_list.proofs.Names.{greatest_least, has_name_true, is_same_own, is_same_true, present_in}
+use Rattle.record_list.proofs.OfFacts.Greatest.{greatest_step}
+use Rattle.record_list.proofs.OfFacts.Held.{answer_of, answers}
+use Rattle.record_list.proofs.OfFacts.Names.{greatest_least, has_name_true, is_same_own, is_same_true, present_in}
 use Rattle.straddle_sets.proofs.Responsibles.{has_responsible}
 use Rattle.flash_picture.specs.Held.{AreAsked, asked_name, asks_at, if_asked, place_named, raised}
 
@@ -116,7 +117,8 @@ asked_there Bpcc list logical f n asked =
       | inl holds ↦ (
           let e : Some its ≡ Some n = sym (cond-true those (Some its) None holds) ∙ asked in
           let is : its ≡ n = ap (λ (o : Option Link). elim o [ Some m ↦ m | None ↦ n ]) e in
-          let under = ltb-true f.next.version (responsible Bpcc list logical f.next) (and_parts (is_loose Bpcc list logical f) (nat_lt f.next.version (responsible Bpcc list logical f.next)) holds).1 in
+          let under = ltb-true f.next.version (responsible Bpcc list logical f.next)
+          (and_parts (is_loose Bpcc list logical f) (nat_lt f.next.version (responsible Bpcc list logical f.next)) holds).1 in
           let g = has_responsible list logical f.next (omega arith) in
           let named : name_of g.0.rec ≡ its =
           ap₂ (λ (p v : ℕ). record { page = p; version = v }) g.2.0 g.3 in

@@ -1,5 +1,6 @@
 -- Where a walk leaves the newest records, from the orbit of the place at which it begins.
-use Rattle.std.proofs.Common.{◌≡◌, ◌≢◌, ℕ, zero, suc, ◌<◌, ◌≤◌, true, false, nat_lt, cond, Some, None, List, length, position, refl, sym, ap, ◌∙◌, inl, inr, arith, eq-eqb, lt-ltb}
+use Rattle.std.proofs.Common.{◌≡◌, ◌≢◌, ℕ, zero, suc, ◌<◌, ◌≤◌, true, false, nat_lt, cond, Some, None, List, length, position, refl, sym, ap, ◌∙◌, inl, inr}
+use Rattle.std.proofs.Common.{arith, eq-eqb, lt-ltb}
 use Rattle.std.proofs.lemmas.Bool.{cases_Bool, cases_lt, cases_order, cond-true, cond-false, le-ltb, ne_eqb}
 use Rattle.std.proofs.lemmas.List.Quantifiers.{position-Some}
 use Rattle.tx_types.specs.declared.record.Link.{Link}
@@ -7,13 +8,13 @@ use Rattle.tx_types.specs.declared.config.Protocol.TheVariants.{Scc}
 use Rattle.record_list.specs.declared.found.Found.{Found}
 use Rattle.record_list.specs.Records.{newest, has_name, is_same, record_at, nothing}
 use Rattle.record_list.specs.Verdict.{newest_name, link_of}
-use Rattle.record_list.proofs.Names.{absent_link}
+use Rattle.record_list.proofs.OfFacts.Names.{absent_link}
 use Rattle.record_chart.specs.declared.orbit.Orbit.{Orbit}
 use Rattle.record_chart.specs.declared.orbit.Orbit.TheVariants.{Ends, Round, Aside}
 use Rattle.record_chart.specs.Orbits.{next_of, steps, IsEnd, IsOrbit}
 use Rattle.record_chart.specs.Charts.{place_of, link_graph, IsOrbitOfNewest}
-use Rattle.record_chart.proofs.Steps.{some_or_none, steps_none, steps_stop, steps_more, steps_before, round_goes_on}
-use Rattle.record_chart.proofs.WalkOrbits.{link_at, absent_at, same_as_itself, next_at, leads, same_place, next_within, end_never}
+use Rattle.record_chart.proofs.OfChart.Steps.{some_or_none, steps_none, steps_stop, steps_more, steps_before, round_goes_on}
+use Rattle.record_chart.proofs.OfWalk.WalkOrbits.{link_at, absent_at, same_as_itself, next_at, leads, same_place, next_within, end_never}
 use Rattle.flash_picture.specs.Walks.{leaving, left_at, left_by, left_from}
 
 module _ (list : List Found) (start : Link) where

@@ -1,5 +1,6 @@
 -- Which steps are shown of a walk.
-use Rattle.std.proofs.Common.{◌≡◌, ℕ, zero, suc, ◌+◌, ◌-◌, ◌<◌, ◌≤◌, min, true, false, ◌||◌, nat_lt, cond, Option, None, Some, List, [], ◌∷◌, ◌++◌, length, map, take, refl, sym, ap, ap₂, ◌∙◌, inl, inr, arith, append-nil, append_assoc, codes, lt-ltb}
+use Rattle.std.proofs.Common.{◌≡◌, ℕ, zero, suc, ◌+◌, ◌-◌, ◌<◌, ◌≤◌, min, true, false, ◌||◌, nat_lt, cond, Option, None, Some, List, [], ◌∷◌, ◌++◌, length, map}
+use Rattle.std.proofs.Common.{take, refl, sym, ap, ap₂, ◌∙◌, inl, inr, arith, append-nil, append_assoc, codes, lt-ltb}
 use Rattle.std.proofs.lemmas.Bool.{cases_Bool, cases_lt, cond-true, cond-false, le-ltb}
 use Rattle.std.specs.List.{flat_map}
 use Rattle.tx_types.specs.declared.record.Link.{Link}
@@ -8,7 +9,7 @@ use Rattle.record_list.specs.declared.found.Found.{Found}
 use Rattle.record_list.specs.Records.{is_same}
 use Rattle.record_list.specs.Verdict.{newest_name, link_of}
 use Rattle.record_chart.specs.Charts.{Sorts}
-use Rattle.record_chart.proofs.Alike.{newest_alike, newest_name_alike, link_alike, why_alike}
+use Rattle.record_chart.proofs.OfSort.Alike.{newest_alike, newest_name_alike, link_alike, why_alike}
 use Rattle.verdict_report.specs.Walks.{is_end, walk_links}
 use Rattle.flash_picture.specs.declared.walk.Step.{Step}
 use Rattle.flash_picture.specs.declared.walk.Step.TheVariants.{To}
@@ -37,7 +38,8 @@ module _ (list : List Found) (start : Link) (last : Option Link) where
   shown_over zero (suc shown) link = sym (cond-false (nat_lt (suc shown) 0) (last_steps last) [] (le-ltb (suc shown) 0 (omega arith)))
   shown_over (suc turns) zero link =
       let some : 0 < length (walk_links list start (suc turns) link) = omega arith in
-      sym (cond-true (nat_lt 0 (length (walk_links list start (suc turns) link))) (last_steps last) [] (lt-ltb 0 (length (walk_links list start (suc turns) link)) some))
+      sym (cond-true (nat_lt 0 (length (walk_links list start (suc turns) link))) (last_steps last) []
+      (lt-ltb 0 (length (walk_links list start (suc turns) link)) some))
   shown_over (suc turns) (suc shown) link = elim (cases_Bool (is_end list start link)) [
     | inl ends ↦ rw ends (rest_none shown)
     | inr goes ↦ rw goes (ap (λ l. To link ∷ l) (shown_over turns shown (link_of list link)
@@ -47,7 +49,8 @@ module _ (list : List Found) (start : Link) (last : Option Link) where
     where
       rest_none : (shown : ℕ) → To link ∷ [] ≡ map To (take (suc shown) (link ∷ [])) ++ cond (nat_lt (suc shown) 1) (last_steps last) []
       rest_none zero = refl
-      rest_none (suc shown) = ap (λ l. To link ∷ l) (sym (cond-false (nat_lt (suc (suc shown)) 1) (last_steps last) [] (le-ltb (suc (suc shown)) 1 (omega arith))))
+      rest_none (suc shown) = ap (λ l. To link ∷ l) (sym (cond-false (nat_lt (suc (suc shown)) 1) (last_steps last) []
+          (le-ltb (suc (suc shown)) 1 (omega arith))))
 
   -- the steps that were taken, and those that are still to come, where so many links are looked at
   abbrev pub IsShowing : ℕ → ℕ → List Step → Link → Type 0
@@ -105,11 +108,13 @@ module _ (list sorted : List Found) (is : Sorts list sorted) where
   left_alike : (start : Link) (turns : ℕ) (link : Link) → left_from sorted start turns link ≡ left_from list start turns link
   left_alike start zero link = refl
   left_alike start (suc turns) link =
-      ap₂ (λ n rest. cond (nat_lt n link.version || nat_lt link.version n) (Some link) (cond (is_same link start) None rest)) (newest_alike list sorted is link.page)
+      ap₂ (λ n rest. cond (nat_lt n link.version || nat_lt link.version n) (Some link) (cond (is_same link start) None rest))
+      (newest_alike list sorted is link.page)
       (left_alike start turns (link_of sorted link) ∙ ap (left_from list start turns) (link_alike list sorted is link))
 
   -- from the newest record of a page
-  first_alike : {X : Type 0} (f : List Found → Link → ℕ → Link → X) → ((start : Link) (turns : ℕ) (link : Link) → f sorted start turns link ≡ f list start turns link) →
+  first_alike : {X : Type 0} (f : List Found → Link → ℕ → Link → X) → ((start : Link) (turns : ℕ) (link : Link) →
+      f sorted start turns link ≡ f list start turns link) →
       (logical page : ℕ) → f sorted (newest_name sorted page) (suc logical) (link_of sorted (newest_name sorted page))
       ≡ f list (newest_name list page) (suc logical) (link_of list (newest_name list page))
   first_alike f same logical page =
@@ -130,7 +135,8 @@ module _ (list sorted : List Found) (is : Sorts list sorted) where
   pub line_alike : (logical page : ℕ) (end : Option End) → walk_line sorted logical page end ≡ walk_line list logical page end
   line_alike logical page None = refl
   line_alike logical page (Some end) =
-      ap₂ (λ start steps. start_text start ++ flat_map step_text steps ++ end_text end ++ 10 ∷ []) (newest_name_alike list sorted is page) (steps_alike logical page)
+      ap₂ (λ start steps. start_text start ++ flat_map step_text steps ++ end_text end ++ 10 ∷ []) (newest_name_alike list sorted is page)
+      (steps_alike logical page)
 
   pub rows_alike : (logical page : ℕ) (end : Option End) → walk_rows sorted logical page end ≡ walk_rows list logical page end
   rows_alike logical page None = refl

@@ -15,7 +15,8 @@ use Rattle.flash_picture.specs.declared.grid.Grid.{Grid}
 use Rattle.flash_picture.specs.declared.marks.Marks.{Marks}
 use Rattle.flash_picture.specs.Cells.{cell_at, cell_of, slot_text}
 use Rattle.flash_picture.specs.Grid.{height}
-use Rattle.flash_picture.specs.Svg.{above, arrow_to, arrows_svg, drawing, first_slot, grid_of, lines_svg, map_svg, svg, target, walk_rows, walk_takes, walks_svg, walks_take}
+use Rattle.flash_picture.specs.Svg.{above, arrow_to, arrows_svg, drawing, first_slot, grid_of, lines_svg, map_svg, svg, target, walk_rows, walk_takes}
+use Rattle.flash_picture.specs.Svg.{walks_svg, walks_take}
 use Rattle.flash_picture.specs.Walks.{end_of}
 use Rattle.flash_picture.proofs.Alike.{cells_alike}
 use Rattle.flash_picture.proofs.Shown.{end_alike, rows_alike, takes_alike}
@@ -25,7 +26,8 @@ module _ (list sorted : List Found) (is : Sorts list sorted) where
   take_alike protocol logical zero = refl
   take_alike protocol logical (suc pages) =
       ap₂ (λ a b. a + b) (take_alike protocol logical pages)
-      (takes_alike list sorted is logical pages (end_of protocol sorted logical pages) ∙ ap (walk_takes list logical pages) (end_alike list sorted is protocol logical pages))
+      (takes_alike list sorted is logical pages (end_of protocol sorted logical pages) ∙
+      ap (walk_takes list logical pages) (end_alike list sorted is protocol logical pages))
 
   target_alike : (cell : Cell) → target sorted cell ≡ target list cell
   target_alike Blank = refl

@@ -1,5 +1,6 @@
 -- The cells and labels of a picture in SVG are those of which the words tell.
-use Rattle.std.proofs.Common.{◌≡◌, ℕ, zero, suc, ◌+◌, ◌<◌, ◌≤◌, Bool, true, None, Some, List, [], ◌∷◌, ◌++◌, filter, flat_map, AllPairs, Contains, refl, sym, ap, ◌∙◌, append_assoc, codes, arith, inl, inr}
+use Rattle.std.proofs.Common.{◌≡◌, ℕ, zero, suc, ◌+◌, ◌<◌, ◌≤◌, Bool, true, None, Some, List, [], ◌∷◌, ◌++◌, filter, flat_map, AllPairs, Contains, refl, sym}
+use Rattle.std.proofs.Common.{ap, ◌∙◌, append_assoc, codes, arith, inl, inr}
 use Rattle.std.specs.List.{join_with_byte, range_with_len}
 use Rattle.std.proofs.lemmas.Bool.{false≢true, cases_Bool, cases_lt, cond-true, cond-false}
 use Rattle.list_facts.proofs.Membership.{Contains-cases, Contains-first, Contains-nil, Contains-rest}
@@ -11,10 +12,10 @@ use Rattle.tx_types.specs.Config.{blocks_of, shape_of, slots_of}
 use Rattle.version_index.specs.declared.note.Note.{Note}
 use Rattle.version_index.specs.declared.note.Note.TheVariants as note
 use Rattle.version_index.specs.Notes.{found_in, note_at}
-use Rattle.version_index.proofs.FoundIn.{found, found_in_ascending, holds_within, noted_from, noted_in}
+use Rattle.version_index.proofs.OfTables.FoundIn.{found, found_in_ascending, holds_within, noted_from, noted_in}
 use Rattle.record_list.specs.declared.found.Found.{Found}
 use Rattle.record_list.specs.Records.{has_name}
-use Rattle.record_list.proofs.Names.{has_name_true, has_own_name}
+use Rattle.record_list.proofs.OfFacts.Names.{has_name_true, has_own_name}
 use Rattle.flash_picture.specs.declared.marks.Marks.{Marks}
 use Rattle.flash_picture.specs.Cells.{cell_of, cell_words, is_named, slot_text, word_if}
 use Rattle.flash_picture.specs.Grid.{bottom, height}
@@ -22,7 +23,8 @@ use Rattle.flash_picture.specs.Laws.{ArrowTells, HoldsName, IsLowest, Shows, Svg
 use Rattle.flash_picture.specs.Pieces.{attribute}
 use Rattle.flash_picture.proofs.Tells.{cell_noted}
 use Rattle.flash_picture.specs.Picture.{cells_of}
-use Rattle.flash_picture.specs.Svg.{above, arrow_svg, arrow_to, arrows_svg, breach_svg, cell_svg, die_heading, first_slot, grid_of, label_svg, lines_svg, map_svg, slot_named, svg, target, walk_svg, walks_svg, walks_take}
+use Rattle.flash_picture.specs.Svg.{above, arrow_svg, arrow_to, arrows_svg, breach_svg, cell_svg, die_heading, first_slot, grid_of, label_svg, lines_svg}
+use Rattle.flash_picture.specs.Svg.{map_svg, slot_named, svg, target, walk_svg, walks_svg, walks_take}
 
 -- what a part of a text shows, the text shows
 shows_left : (x y part : List ℕ) → Shows x part → Shows (x ++ y) part
@@ -113,7 +115,8 @@ module _ (its : Config) (notes : List Note) (marks : Marks) where
       let grid = grid_of (shape_of its) cells marks in
       record {
         shown = shows_map (cell_svg grid cells marks slot)
-            (shows_right (flat_map (die_heading grid) (range_with_len 0 grid.shape.dies) ++ flat_map (label_svg grid marks) (range_with_len 0 (blocks_of grid.shape)))
+            (shows_right (flat_map (die_heading grid) (range_with_len 0 grid.shape.dies) ++ flat_map (label_svg grid marks)
+            (range_with_len 0 (blocks_of grid.shape)))
             (flat_map (cell_svg grid cells marks) (range_with_len 0 (slots_of grid.shape))) (cell_svg grid cells marks slot)
             (shows_piece (cell_svg grid cells marks) 0 (slots_of grid.shape) slot (omega arith) (omega arith)));
         words = ap (λ k. join_with_byte 32 (cell_words k ++ word_if (is_named marks.breach slot) (codes "!"))) (cell_noted its notes slot);
@@ -126,7 +129,8 @@ module _ (its : Config) (notes : List Note) (marks : Marks) where
       shows_map (label_svg grid marks block)
       (shows_left (flat_map (die_heading grid) (range_with_len 0 grid.shape.dies) ++ flat_map (label_svg grid marks) (range_with_len 0 (blocks_of grid.shape)))
       (flat_map (cell_svg grid cells marks) (range_with_len 0 (slots_of grid.shape))) (label_svg grid marks block)
-      (shows_right (flat_map (die_heading grid) (range_with_len 0 grid.shape.dies)) (flat_map (label_svg grid marks) (range_with_len 0 (blocks_of grid.shape))) (label_svg grid marks block)
+      (shows_right (flat_map (die_heading grid) (range_with_len 0 grid.shape.dies)) (flat_map (label_svg grid marks) (range_with_len 0 (blocks_of grid.shape)))
+      (label_svg grid marks block)
       (shows_piece (label_svg grid marks) 0 (blocks_of grid.shape) block (omega arith) (omega arith))))
 
   pub svg_walk_tells : (page : ℕ) → page < its.logical → SvgWalkTells its notes marks page
@@ -138,7 +142,8 @@ module _ (its : Config) (notes : List Note) (marks : Marks) where
       let walk = walk_svg its.protocol list its.logical in
       let walks = walks_svg its.protocol list its.logical in
       let part = walk page in
-      let top = above its (height grid (walks_take its.protocol list its.logical its.logical)) ++ map_svg grid cells marks ++ arrows_svg grid list cells marks in
+      let top = above its (height grid (walks_take its.protocol list its.logical its.logical)) ++ map_svg grid cells marks ++ arrows_svg grid list cells marks
+      in
       let begin = codes "<text" ++ attribute (codes "y") (bottom grid) ++ codes ">" in
       let lines = begin ++ walks ++ breach_svg marks.breach ++ codes "</text>\n" in
       shows_left (top ++ lines) (codes "</svg>\n") part

@@ -1,5 +1,6 @@
 -- What the words of cells and labels tell.
-use Rattle.std.proofs.Common.{◌≡◌, ◌⊎◌, ◌↔◌, ℕ, ◌<◌, Bool, true, false, ◌==◌, ◌||◌, nat_lt, cond, List, [], ◌∷◌, ◌++◌, get_or, Contains, Option, Some, None, codes, refl, sym, ap, ◌∙◌, subst, inl, inr, arith}
+use Rattle.std.proofs.Common.{◌≡◌, ◌⊎◌, ◌↔◌, ℕ, ◌<◌, Bool, true, false, ◌==◌, ◌||◌, nat_lt, cond, List, [], ◌∷◌, ◌++◌, get_or, Contains, Option, Some, None}
+use Rattle.std.proofs.Common.{codes, refl, sym, ap, ◌∙◌, subst, inl, inr, arith}
 use Rattle.std.specs.List.{list_any}
 use Rattle.std.specs.Fmt.{decimal}
 use Rattle.std.proofs.lemmas.Bool.{cases_Bool, cases_lt, cond-true, cond-false, lt-ltb, ltb-true, false≢true}
@@ -77,10 +78,12 @@ module _ (r : Rec) (rank : Rank) (held : Bool) where
   says_rank = Contains-rest _ (rank_word rank ∷ flags) _ (Contains-here (rank_word rank) flags _ refl)
 
   says_held : held ≡ true → Contains words (codes "held")
-  says_held e = Contains-rest _ (rank_word rank ∷ flags) _ (Contains-rest (rank_word rank) flags _ (Contains-append_left _ (word_if r.discard (codes "discard")) _ (of_flag held (codes "held") e)))
+  says_held e = Contains-rest _ (rank_word rank ∷ flags) _ (Contains-rest (rank_word rank) flags _
+      (Contains-append_left _ (word_if r.discard (codes "discard")) _ (of_flag held (codes "held") e)))
 
   says_discard : r.discard ≡ true → Contains words (codes "discard")
-  says_discard e = Contains-rest _ (rank_word rank ∷ flags) _ (Contains-rest (rank_word rank) flags _ (Contains-append_right (word_if held (codes "held")) _ _ (of_flag r.discard (codes "discard") e)))
+  says_discard e = Contains-rest _ (rank_word rank ∷ flags) _ (Contains-rest (rank_word rank) flags _
+      (Contains-append_right (word_if held (codes "held")) _ _ (of_flag r.discard (codes "discard") e)))
 
   -- a word that begins as no flag does is that of the rank
   only_rank : (word : List ℕ) → list_any (λ b. b == 46) word ≡ false → (head word ≡ 104 → ⊥) → (head word ≡ 100 → ⊥) →
@@ -161,15 +164,18 @@ cell_tells protocol list logical r =
     let held = is_held protocol list logical r in
     record {
       current = (
-        λ s. (rank_current c r.version).0 (is_current rank (ap head (only_rank r rank held (codes "current") refl (λ e. absurd (omega arith)) (λ e. absurd (omega arith)) s))),
+        λ s. (rank_current c r.version).0 (is_current rank (ap head (only_rank r rank held (codes "current") refl (λ e. absurd (omega arith))
+            (λ e. absurd (omega arith)) s))),
         λ h. subst (λ k. Contains (cell_words (Holds r rank held)) (rank_word k)) ((rank_current c r.version).1 h) (says_rank r rank held),
       );
       loose = (
-        λ s. (rank_loose c r.version).0 (is_loose rank (ap head (only_rank r rank held (codes "loose") refl (λ e. absurd (omega arith)) (λ e. absurd (omega arith)) s))),
+        λ s. (rank_loose c r.version).0 (is_loose rank (ap head (only_rank r rank held (codes "loose") refl (λ e. absurd (omega arith))
+            (λ e. absurd (omega arith)) s))),
         λ h. subst (λ k. Contains (cell_words (Holds r rank held)) (rank_word k)) ((rank_loose c r.version).1 h) (says_rank r rank held),
       );
       stale = (
-        λ s. (rank_stale c r.version).0 (is_stale rank (ap head (only_rank r rank held (codes "stale") refl (λ e. absurd (omega arith)) (λ e. absurd (omega arith)) s))),
+        λ s. (rank_stale c r.version).0 (is_stale rank (ap head (only_rank r rank held (codes "stale") refl (λ e. absurd (omega arith))
+            (λ e. absurd (omega arith)) s))),
         λ h. subst (λ k. Contains (cell_words (Holds r rank held)) (rank_word k)) ((rank_stale c r.version).1 h) (says_rank r rank held),
       );
       held = (
@@ -189,7 +195,8 @@ cell_tells protocol list logical r =
     }
 
 -- the label of a block
-label_spare : (spare : Option Block) (block : ℕ) → (cond (is_spare spare block) (codes "spare") (codes "block") ≡ codes "spare") ↔ (spare ≡ Some (record { 0 = block }))
+label_spare : (spare : Option Block) (block : ℕ) → (cond (is_spare spare block) (codes "spare") (codes "block") ≡ codes "spare") ↔ (spare ≡ Some
+    (record { 0 = block }))
 label_spare None block = (λ e. absurd (let n : 98 ≡ 115 = ap head e in omega arith), λ e. absurd cc)
 label_spare (Some spare) block = elim (eqb_tells spare.0 block) [
   | inl h ↦ (λ _. ap (λ n. Some (record { 0 = n })) h.1, λ _. ap (λ b. cond b (codes "spare") (codes "block")) h.0)

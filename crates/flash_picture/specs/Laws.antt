@@ -111,7 +111,8 @@ Shows text part = (before : List ℕ) × (behind : List ℕ) × (text ≡ before
 pub record SvgCellTells (its : Config) (notes : List Note) (marks : Marks) (slot : ℕ) : Type 0 where
   pub shown : Shows (svg its notes marks) (cell_svg (grid_of (shape_of its) (cells_of its notes) marks) (cells_of its notes) marks slot)
   pub words : slot_text (cells_of its notes) marks slot
-      ≡ join_with_byte 32 (cell_words (cell_of its.protocol (found_in notes) its.logical (note_at notes slot)) ++ word_if (is_named marks.breach slot) (codes "!"))
+      ≡ join_with_byte 32 (cell_words (cell_of its.protocol (found_in notes) its.logical (note_at notes slot)) ++ word_if (is_named marks.breach slot)
+      (codes "!"))
 
 -- the label of a block, of whose words `LabelTells` speaks, is in the picture
 abbrev pub SvgLabelTells : Config → List Note → Marks → ℕ → Type 0

@@ -35,8 +35,10 @@ unfolding picture
 picture_said its notes marks desk = by_protocol its.protocol
   where
     by_protocol : (protocol : Protocol) →
-        after_text (heading (record its { protocol = protocol }) ++ map_text (shape_of its) (cells_of its notes) marks ++ walks_text its.protocol (found_in notes) its.logical ++ breach_line marks.breach) desk
-        ≡ after_answer (with_said (heading (record its { protocol = protocol }) ++ map_text (shape_of its) (cells_of its notes) marks ++ walks_text its.protocol (found_in notes) its.logical ++ breach_line marks.breach)) desk
+        after_text (heading (record its { protocol = protocol }) ++ map_text (shape_of its) (cells_of its notes) marks ++ walks_text its.protocol
+        (found_in notes) its.logical ++ breach_line marks.breach) desk
+        ≡ after_answer (with_said (heading (record its { protocol = protocol }) ++ map_text (shape_of its) (cells_of its notes) marks ++ walks_text its.protocol
+        (found_in notes) its.logical ++ breach_line marks.breach)) desk
     by_protocol Scc = refl
     by_protocol Bpcc = refl
 

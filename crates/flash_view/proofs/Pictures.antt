@@ -1,5 +1,6 @@
 -- What the picture of an image tells of the image.
-use Rattle.std.proofs.Common.{◌≡◌, ◌↔◌, inl, inr, ℕ, Bool, true, false, List, Option, None, Some, Result, Ok, Err, Contains, IsTrue, codes, refl, sym, ap, ◌∙◌, subst}
+use Rattle.std.proofs.Common.{◌≡◌, ◌↔◌, inl, inr, ℕ, Bool, true, false, List, Option, None, Some, Result, Ok, Err, Contains, IsTrue, codes, refl, sym, ap, ◌∙◌}
+use Rattle.std.proofs.Common.{subst}
 use Rattle.std.proofs.Math.ListN.{get_or-map}
 use Rattle.std.proofs.lemmas.Bool.{cases_order}
 use Rattle.tx_types.specs.declared.config.Block.{Block}
@@ -12,8 +13,8 @@ use Rattle.record_list.specs.Current.{IsCurrent, IsLoose, IsStale, is_held}
 use Rattle.version_index.specs.Images.{IsLeastImageBreach, IsSoundImage, records_in}
 use Rattle.version_index.specs.Notes.{found_in, note_at, note_of, notes_of}
 use Rattle.version_index.specs.declared.note.Note.TheVariants as note
-use Rattle.version_index.proofs.NotedImages.{found_in_notes}
-use Rattle.version_index.proofs.OneBreach.{breach_one, sound_unbroken}
+use Rattle.version_index.proofs.OfLaws.NotedImages.{found_in_notes}
+use Rattle.version_index.proofs.OfTables.OneBreach.{breach_one, sound_unbroken}
 use Rattle.version_index.specs.Opening.{IsChosenSpare, IsHighest}
 use Rattle.image_file.specs.declared.error.ImageError.{ImageError}
 use Rattle.image_file.specs.Rules.{reading}

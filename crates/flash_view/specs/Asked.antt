@@ -1,5 +1,6 @@
 -- What the words of a call of the program ask for.
-use Rattle.std.specs.Prelude.{ℕ, nat_lt, Bool, true, false, ◌&&◌, ◌||◌, if◌then◌else◌, List, [], ◌∷◌, length, map, codes, string_bytes, String, Option, None, Some}
+use Rattle.std.specs.Prelude.{ℕ, nat_lt, Bool, true, false, ◌&&◌, ◌||◌, if◌then◌else◌, List, [], ◌∷◌, length, map, codes, string_bytes, String, Option, None}
+use Rattle.std.specs.Prelude.{Some}
 use Rattle.std.specs.Global.{Global}
 use Rattle.std.specs.Str.{bytes_eq}
 use Rattle.flash_view.specs.declared.words.Form.{Form}

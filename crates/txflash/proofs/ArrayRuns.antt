@@ -17,7 +17,7 @@ use Rattle.host_protocol.specs.declared.reply.Reply.{Reply}
 use Rattle.cut_replay.specs.Bounds.{AreFew}
 use Rattle.cut_replay.specs.FlashRun.{Point, FlashRun, IsFlashRun, IsPoint, is_fault, mentions_in, last_moment, last_state, opening_point, opening_state}
 use Rattle.cut_replay.specs.Run.{is_arm, seen_after}
-use Rattle.cut_replay.specs.Unbroken.{UnbrokenRun, AreMaybeSpent, FinishesAreDone}
+use Rattle.cut_replay.specs.Unbroken.{Handed, UnbrokenRun, AreMaybeSpent, FinishesAreDone}
 use Rattle.cut_replay.proofs.Quiet.{flash_run_is_run, none_broken, finishes_done}
 use Rattle.cut_replay.proofs.Unbroken.{run_fine}
 use Rattle.txflash.specs.Runs.{IsRun, first_moment, machine_left}
@@ -30,8 +30,8 @@ opening_in its from = idle (array_in its.protocol its.logical from.image)
 -- a run of the array machine in which nothing fails, at whose end nothing is in doubt
 unbroken : (its : Config) (from : Moment) (cs : List Command) (rs : List Reply) (ps : List Point) (run : IsFlashRun its from cs rs ps) →
     AreFew 0 0 cs rs → All (λ c. is_arm c ≡ false) cs →
-    (spents : List (ℕ → Bool)) × AreMaybeSpent (mentions_in its from) cs rs spents
-    × UnbrokenRun (limits_of its) spents (opening_in its from) cs rs (last_state (opening_state its run.up from) ps).machine
+    (hands : List Handed) × AreMaybeSpent (mentions_in its from) cs rs hands
+    × UnbrokenRun (limits_of its) hands (opening_in its from) cs rs (last_state (opening_state its run.up from) ps).machine
     × AllPlain (last_state (opening_state its run.up from) ps).machine
 unbroken its from cs rs ps run few none =
     run_fine (limits_of its) (mentions_in its from) (opening_state its run.up from) cs rs (last_state (opening_state its run.up from) ps)
@@ -40,9 +40,9 @@ unbroken its from cs rs ps run few none =
 
 pub unarmed : (its : Config) (from : Moment) (cs : List Command) (rs : List Reply) (ps : List Point) (run : IsFlashRun its from cs rs ps) →
     AreFew 0 0 cs rs → All (λ c. is_arm c ≡ false) cs →
-    (spents : List (ℕ → Bool)) × AreMaybeSpent (mentions_in its from) cs rs spents
-    × UnbrokenRun (limits_of its) spents (opening_in its from) cs rs (last_state (opening_state its run.up from) ps).machine
-    × FinishesAreDone (limits_of its) spents (opening_in its from) cs rs
+    (hands : List Handed) × AreMaybeSpent (mentions_in its from) cs rs hands
+    × UnbrokenRun (limits_of its) hands (opening_in its from) cs rs (last_state (opening_state its run.up from) ps).machine
+    × FinishesAreDone (limits_of its) hands (opening_in its from) cs rs
 unarmed its from cs rs ps run few none =
     let last = (last_state (opening_state its run.up from) ps).machine in
     let is = unbroken its from cs rs ps run few none in

@@ -14,7 +14,8 @@ use Rattle.txflash.specs.Fate.{Fate, status, refusal_line}
 use Rattle.txflash.specs.Gives.{Given, SavedFile, Gives}
 use Rattle.txflash.specs.Steps.{IsFate}
 use Rattle.txflash.specs.Stops.{Comes, Delivers, refused}
-use Rattle.txflash.specs.Top.{Decision, EndsCall, Decided, Faulted, Starved, IsExact, IsFaulted, Leaves, LeavesFiles, CallFails, FileStops, RunsOutOfMemory, TellsFate, after_loads, after_save, after_loading, after_saving}
+use Rattle.txflash.specs.Top.{Decision, EndsCall, Decided, Faulted, Starved, IsExact, IsFaulted, Leaves, LeavesFiles, CallFails, FileStops, RunsOutOfMemory}
+use Rattle.txflash.specs.Top.{TellsFate, after_loads, after_save, after_loading, after_saving}
 use Rattle.txflash.specs.Words.{Asked, file_of}
 use Rattle.txflash.specs.declared.refusal.Refusal.{Refusal}
 use Rattle.txflash.specs.declared.refusal.Refusal.TheVariants as refusal
@@ -91,7 +92,8 @@ files_loads (suc n) desk = same_files as_before (after_loads n desk).told (λ c.
 
 -- a call that changes a file changes that one
 other_files : (name : List ℕ) (left : Option (List ℕ)) (told : Option DeskContents) →
-    option_map (λ c. c.files) (option_map (called (with_file name left)) told) ≡ option_map (λ files. files_with files name left) (option_map (λ c. c.files) told)
+    option_map (λ c. c.files) (option_map (called (with_file name left)) told) ≡ option_map (λ files. files_with files name left)
+    (option_map (λ c. c.files) told)
 other_files name left None = refl
 other_files name left (Some c) = refl
 
@@ -130,13 +132,15 @@ leaves_saved task old it = by_file it.given.saved refl
     by_file : (file : Option SavedFile) → it.given.saved ≡ file → Leaves (file_of task) (files_in old) (files_in (after_save file (after_loading old it)))
     by_file None e = leaves_same (file_of task) (files_in old) (files_in (after_loading old it)) (files_loads it.loads old)
     by_file (Some file) e =
-        leaves_file task old (after_save (Some file) (after_loading old it)) it file (Some file.bytes) e (other_files file.name (Some file.bytes) (after_loading old it).told)
+        leaves_file task old (after_save (Some file) (after_loading old it)) it file (Some file.bytes) e
+        (other_files file.name (Some file.bytes) (after_loading old it).told)
 
 leaves_failed : (task : Option Asked) (old new : DeskState) (it : Decision task old) → FileStops sink.Failed it.given.saved (after_loading old it) new →
     Leaves (file_of task) (files_in old) (files_in new)
 leaves_failed task old new it fails = by_file it.given.saved refl fails
   where
-    by_file : (file : Option SavedFile) → it.given.saved ≡ file → FileStops sink.Failed file (after_loading old it) new → Leaves (file_of task) (files_in old) (files_in new)
+    by_file : (file : Option SavedFile) → it.given.saved ≡ file → FileStops sink.Failed file (after_loading old it) new →
+        Leaves (file_of task) (files_in old) (files_in new)
     by_file None e fails = absurd fails
     by_file (Some file) e fails =
         leaves_file task old new it file fails.0 e (ap files_in fails.1 ∙ other_files file.name fails.0 (after_loading old it).told)

@@ -1,5 +1,6 @@
 -- The fate of a comparison, from what is found.
-use Rattle.std.proofs.Common.{◌≡◌, ◌≢◌, ◌⊎◌, inl, inr, ℕ, ◌+◌, ◌-◌, ◌*◌, ◌<◌, ◌≤◌, List, length, Option, None, Some, Result, Ok, Err, refl, sym, ap, ◌∙◌, subst, arith, slice_index}
+use Rattle.std.proofs.Common.{◌≡◌, ◌≢◌, ◌⊎◌, inl, inr, ℕ, ◌+◌, ◌-◌, ◌*◌, ◌<◌, ◌≤◌, List, length, Option, None, Some, Result, Ok, Err, refl, sym, ap, ◌∙◌, subst}
+use Rattle.std.proofs.Common.{arith, slice_index}
 use Rattle.std.specs.Prelude.{All, IfErr, IfOk}
 use Rattle.std.specs.Result.{IsErrAnd}
 use Rattle.std.specs.List.{range_with_len}
@@ -16,7 +17,7 @@ use Rattle.record_list.specs.declared.found.Found.{Found}
 use Rattle.record_list.specs.Records.{IsScanned}
 use Rattle.record_list.specs.SoundList.{Pages as page_law, PagesExist}
 use Rattle.version_index.specs.Images.{IsSoundImage, array_in, records_in}
-use Rattle.version_index.proofs.ImageScans.{records_scanned}
+use Rattle.version_index.proofs.OfLaws.ImageScans.{records_scanned}
 use Rattle.array_machine.specs.ArrayState.{ArrayState, idle, page_at}
 use Rattle.verdict_report.specs.Report.{pages}
 use Rattle.txflash.specs.Fate.{Fate, Same, DifferBlank, DifferAt}

@@ -8,9 +8,9 @@ use Rattle.flash_model.specs.Flash.{Contents, Extras}
 use Rattle.flash_model.specs.Operations.{Moment, moment_of}
 use Rattle.mem_flash.specs.Memory.{MemoryState, loaded, state_of, told_of}
 use Rattle.version_index.specs.Images.{IsSoundImage, array_in}
-use Rattle.page_keys.proofs.KeyRunLemmas.{as_many}
-use Rattle.page_keys.proofs.Parts.{shown_buckets}
-use Rattle.page_keys.proofs.ScriptLemmas.{first_same, script_bad, script_same}
+use Rattle.page_keys.proofs.OfServe.KeyRunLemmas.{as_many}
+use Rattle.page_keys.proofs.OfBucket.Parts.{shown_buckets}
+use Rattle.page_keys.proofs.OfParse.ScriptLemmas.{first_same, script_bad, script_same}
 use Rattle.page_keys.specs.Buckets.{AreBuckets, ShowsMap}
 use Rattle.page_keys.specs.KeyRuns.{AreFewBreaks, mentions_in}
 use Rattle.page_keys.specs.KeyServed.{RefusesKeys, ServesKeyRun}

@@ -11,13 +11,14 @@ use Rattle.image_file.specs.declared.error.ImageError.{ImageError}
 use Rattle.desk_io.specs.Desk as found
 use Rattle.desk_io.specs.Desk.{DeskContents, DeskState, FileFound, file_at, file_found}
 use Rattle.txflash.specs.Fate.{Fate}
-use Rattle.txflash.specs.Steps.{AfterLoad, AfterOpening, AfterParsing, AfterReading, AfterOpened, Opening, ReadingOn, Judging, Comparing, Keying, Explaining, IsFate, Loading, OpensAndServes, Opens, Parses, Parsing, Reading, Retiring, Running, Trying, WithoutLoad}
+use Rattle.txflash.specs.Steps.{AfterLoad, AfterOpening, AfterParsing, AfterReading, AfterOpened, Opening, ReadingOn, Judging, Comparing, Keying, Explaining}
+use Rattle.txflash.specs.Steps.{IsFate, Loading, OpensAndServes, Opens, Parses, Parsing, Reading, Retiring, Running, Trying, WithoutLoad}
 use Rattle.txflash.specs.Top.{TellsFate}
 use Rattle.txflash.specs.Words.{Asked, Try, Format, Run, Explain, Drive, Check, Compare, Keys, Retire}
 use Rattle.txflash.specs.Checking.{check_fate, comparison_fate}
 use Rattle.txflash.proofs.KeyFates.{one_parsing_script, one_store}
 use Rattle.txflash.proofs.OneFinding.{one_check, one_comparison}
-use Rattle.version_index.proofs.OneBreach.{breach_one, sound_unbroken}
+use Rattle.version_index.proofs.OfTables.OneBreach.{breach_one, sound_unbroken}
 
 -- ---- each step comes to one thing
 
@@ -115,7 +116,8 @@ one_judging : (its : Config) (image : List Contents) (text : List ℕ) (a b : Fa
 one_judging its image text =
     one_opened_on its image _ (λ a b h k. h.2 ∙ ap check_fate (one_check its image text h.0 k.0 h.1 k.1) ∙ sym k.2)
 
-one_comparing : (a : Config) (image : List Contents) (b : Config) (other : List Contents) (x y : Fate) → Comparing a image b other x → Comparing a image b other y → x ≡ y
+one_comparing : (a : Config) (image : List Contents) (b : Config) (other : List Contents) (x y : Fate) → Comparing a image b other x →
+    Comparing a image b other y → x ≡ y
 one_comparing a image b other =
     one_opened_on a image _ (one_opened_on b other _
     (λ x y h k. h.2 ∙ ap (comparison_fate a) (one_comparison a image b other h.0 k.0 h.1 k.1) ∙ sym k.2))

@@ -14,7 +14,7 @@ use Rattle.txflash.specs.Runs.{IsRun, blank_image, default_config}
 use Rattle.txflash.specs.Steps.{Explaining, Running, Trying}
 use Rattle.image_desk.specs.Loading.{ReadsImage}
 use Rattle.txflash.specs.Stops.{RefusesDevice, RefusesLine}
-use Rattle.version_index.proofs.OneBreach.{sound_unbroken}
+use Rattle.version_index.proofs.OfTables.OneBreach.{sound_unbroken}
 use Rattle.txflash.proofs.Sound.{blank_sound}
 
 -- ---- a fresh default device

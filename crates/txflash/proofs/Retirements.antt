@@ -50,7 +50,8 @@ retires_idle old new block p none stands rule laws retires = record {
     shape = retires.exits.carries.carries.shape
 
     pages : new.machine.pages ≡ old.machine.pages
-    pages = ap (λ (s : ArrayState). s.pages) (retires.retires ∙ ap (settled (is_there state_of old)) none ∙ settled_idle (is_there state_of old) old.machine.pages)
+    pages = ap (λ (s : ArrayState). s.pages) (retires.retires ∙ ap (settled (is_there state_of old)) none ∙
+        settled_idle (is_there state_of old) old.machine.pages)
 
 -- ---- the flash that is left, from a device that was mounted
 

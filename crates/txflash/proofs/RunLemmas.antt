@@ -25,7 +25,8 @@ is_steady its flash e = record {
   none = let none = ap (λ (s : MemoryState). s.armed) e in subst (λ armed. ((told_of armed).cuts ≡ 0) × ((told_of armed).breaks ≡ 0)) (sym none) (refl, refl);
 }
 
-pub starts : (its : Config) (flash : MemoryState) → flash ≡ loaded (shape_of its) flash.image flash.extras → moment_of (state_of flash) ≡ first_moment flash.image
+pub starts : (its : Config) (flash : MemoryState) → flash ≡ loaded (shape_of its) flash.image flash.extras →
+    moment_of (state_of flash) ≡ first_moment flash.image
 starts its flash e =
     ap₂ (λ (a : ℕ) (b : ℕ). let m : Moment = record { image = flash.image; programs = a; erases = b } in m)
     (ap (λ (s : MemoryState). s.programs) e) (ap (λ (s : MemoryState). s.erases) e)
@@ -39,7 +40,8 @@ pub is_run : (its : Config) (flash left : MemoryState) (cs : List Command) (befo
 is_run its flash left cs before after e none is_sound served =
     let start = starts its flash e in
     let told : after ≡ before ++ text_of_all (take (length cs) served.replies) = cc (served.text) in
-    let whole = take_whole (length cs) served.replies (run_lengths its (mentions_in its (moment_of (state_of flash))) false (opening_point its served.run.up (moment_of (state_of flash))) cs served.replies served.points served.run.runs).0 in
+    let whole = take_whole (length cs) served.replies (run_lengths its (mentions_in its (moment_of (state_of flash))) false
+    (opening_point its served.run.up (moment_of (state_of flash))) cs served.replies served.points served.run.runs).0 in
     let from = subst (λ m. (run : IsFlashRun its m cs served.replies served.points) × ((cs ≡ []) ⊎ (run.up ≡ true))) start
     (served.run, served.up (is_steady its flash e)) in
     record {

@@ -1,5 +1,6 @@
 -- Which file the fate of a task saves.
-use Rattle.std.proofs.Common.{◌≡◌, ◌⊎◌, inl, inr, ℕ, ◌==◌, nat_lt, Bool, true, false, List, Option, None, Some, Result, Ok, Err, refl, ap, arith, if◌then◌else◌, unwrap_or}
+use Rattle.std.proofs.Common.{◌≡◌, ◌⊎◌, inl, inr, ℕ, ◌==◌, nat_lt, Bool, true, false, List, Option, None, Some, Result, Ok, Err, refl, ap, arith, if◌then◌else◌}
+use Rattle.std.proofs.Common.{unwrap_or}
 use Rattle.std.specs.Option.{option_map}
 use Rattle.tx_types.specs.declared.config.Config.{Config}
 use Rattle.tx_types.specs.declared.config.ConfigError.{ConfigError}
@@ -14,9 +15,11 @@ use Rattle.desk_io.specs.Desk as found
 use Rattle.desk_io.specs.Desk.{DeskState, FileFound}
 use Rattle.image_desk.specs.Refusals.{Missing, TooLong, BadImage, Unsound}
 use Rattle.image_desk.proofs.Refusing.{never_fault}
-use Rattle.txflash.specs.Fate.{Fate, Tried, Formatted, Ran, Explained, Driven, Keyed, Retired, RefusedBlock, RefusedWorn, Good, WrongLine, Same, DifferShape, DifferBlank, DifferAt, Image, BadLine, BadBucket, BadConfiguration, BadAllowance, status}
+use Rattle.txflash.specs.Fate.{Fate, Tried, Formatted, Ran, Explained, Driven, Keyed, Retired, RefusedBlock, RefusedWorn, Good, WrongLine, Same, DifferShape}
+use Rattle.txflash.specs.Fate.{DifferBlank, DifferAt, Image, BadLine, BadBucket, BadConfiguration, BadAllowance, status}
 use Rattle.txflash.specs.Gives.{Given, Gives}
-use Rattle.txflash.specs.Steps.{AfterLoad, AfterOpening, AfterParsing, AfterReading, AfterOpened, Opening, ReadingOn, Checking, Comparing, Keying, Explaining, IsFate, Loading, OpensAndServes, Parsing, Reading, Retiring, Running, Trying, formatting, WithoutLoad}
+use Rattle.txflash.specs.Steps.{AfterLoad, AfterOpening, AfterParsing, AfterReading, AfterOpened, Opening, ReadingOn, Checking, Comparing, Keying, Explaining}
+use Rattle.txflash.specs.Steps.{IsFate, Loading, OpensAndServes, Parsing, Reading, Retiring, Running, Trying, formatting, WithoutLoad}
 use Rattle.txflash.specs.Words.{Asked, Try, Format, Run, Explain, Drive, Check, Compare, Keys, Retire, file_of}
 use Rattle.txflash.proofs.KeyFates.{script_all, store_all}
 use Rattle.txflash.specs.Checking.{check_fate, Comparison, OneArray, Shapes, BlankAt, ByteAt, comparison_fate}
@@ -110,11 +113,13 @@ loading_all P desk name next missing long leads fate loads (there, finds, h) = a
     after (found.Bytes bytes) h = leads bytes fate h.0 h.1
 
 reading_all : (P : Fate → Type 0) (bytes : List ℕ) (next : Config → List Contents → Extras → Fate → Type 0) →
-    ((rule : ImageError) → P (Image (BadImage rule))) → ((its : Config) (image : List Contents) (extras : Extras) (fate : Fate) → next its image extras fate → P fate) →
+    ((rule : ImageError) → P (Image (BadImage rule))) → ((its : Config) (image : List Contents) (extras : Extras) (fate : Fate) → next its image extras fate →
+    P fate) →
     (fate : Fate) → Reading bytes next fate → P fate
 reading_all P bytes next bad leads fate (read, reads, h) = after read h
   where
-    after : (read : Result (Config × List Contents × Extras) ImageError) → AfterReading (λ its image extras. WithoutLoad (next its image extras)) read fate 0 → P fate
+    after : (read : Result (Config × List Contents × Extras) ImageError) → AfterReading (λ its image extras. WithoutLoad (next its image extras)) read fate 0 →
+        P fate
     after (Ok read) h = leads read.0 read.1 read.2 fate h.0
     after (Err rule) h = rw h.0 (bad rule)
 
@@ -188,7 +193,8 @@ compared_saves a Shapes = inl refl
 compared_saves a (BlankAt page) = inl refl
 compared_saves a (ByteAt page at) = inl refl
 
-comparison_saves : (a : Config) (image : List Contents) (b : Config) (other : List Contents) (fate : Fate) → Comparing a image b other fate → SavesAtMost None fate
+comparison_saves : (a : Config) (image : List Contents) (b : Config) (other : List Contents) (fate : Fate) → Comparing a image b other fate →
+    SavesAtMost None fate
 comparison_saves a image b other =
     opened_all (SavesAtMost None) a image _ (λ b. inl refl)
     (opened_all (SavesAtMost None) b other _ (λ b. inl refl) (λ fate h. rw h.2 (compared_saves a h.0)))

@@ -10,7 +10,8 @@ use Rattle.image_desk.specs.Refusals.{Unsound, image_refused}
 use Rattle.image_desk.specs.Saying.{FaultTold, MemoryTold, Speaks}
 use Rattle.image_desk.specs.declared.stop.ImageStop.{ImageStop}
 use Rattle.image_desk.specs.declared.stop.ImageStop.TheVariants as image
-use Rattle.txflash.specs.Fate.{Fate, Image, BadLine, BadBucket, BadConfiguration, BadAllowance, RefusedBlock, RefusedWorn, WrongLine, DifferShape, DifferBlank, DifferAt, status}
+use Rattle.txflash.specs.Fate.{Fate, Image, BadLine, BadBucket, BadConfiguration, BadAllowance, RefusedBlock, RefusedWorn, WrongLine, DifferShape, DifferBlank}
+use Rattle.txflash.specs.Fate.{DifferAt, status}
 use Rattle.txflash.specs.Gives.{Given, SavedFile, Gives}
 use Rattle.txflash.specs.KeyWork.{HoldsKeys, ParsesScript}
 use Rattle.txflash.specs.Retirements.{block_refusal}

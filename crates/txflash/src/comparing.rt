@@ -1,4 +1,4 @@
-ghost use Rattle.std.specs.Prelude.{◌≡◌, ◌==◌, ◌&&◌, ◌<◌, ◌++◌, ℕ, Ok, Some, IfOk, IfErr, IfSome, IfNone, codes, length};
+ghost use Rattle.std.specs.Prelude.{◌≡◌, ◌==◌, ◌&&◌, ◌<◌, ◌++◌, ℕ, false, Ok, Some, IfOk, IfErr, IfSome, IfNone, codes, length};
 ghost use Rattle.std.specs.Fmt.{decimal};
 ghost use Rattle.tx_types.specs.Config.{checked, shape_of};
 ghost use Rattle.flash_model.specs.Flash.{IsSteady};
@@ -147,6 +147,8 @@ fn compared_devices<R: CommitRule, S: CommitRule>(
     second: Config,
     two: &mut Device<MemFlash, S>,
 ) -> Result<u32, Stop<'static>>
+    requires kept { one.old.dropped ≡ false }
+    requires two_kept { two.old.dropped ≡ false }
     requires config { one.old.config ≡ config }
     requires second_config { two.old.config ≡ second }
     requires steady { IsSteady (state_of one.old.flash) }
@@ -189,6 +191,8 @@ fn first_difference_of<R: CommitRule, S: CommitRule>(
     two: &mut Device<MemFlash, S>,
     config: Config,
 ) -> Result<Option<Difference>, Memory>
+    requires kept { one.old.dropped ≡ false }
+    requires two_kept { two.old.dropped ≡ false }
     requires config { one.old.config ≡ config }
     requires shape { HaveOneShape config two.old.config }
     requires steady { IsSteady (state_of one.old.flash) }
@@ -213,6 +217,8 @@ fn difference_at<R: CommitRule, S: CommitRule>(
     here: &mut [u8],
     there: &mut [u8],
 ) -> Option<Difference>
+    requires kept { one.old.dropped ≡ false }
+    requires two_kept { two.old.dropped ≡ false }
     requires page { page < one.old.config.logical }
     requires shape { HaveOneShape one.old.config two.old.config }
     requires steady { IsSteady (state_of one.old.flash) }
@@ -254,6 +260,7 @@ fn byte_difference(page: u32, here: &[u8], there: &[u8]) -> Option<Difference>
 
 /// Reads a page of a device whose flash breaks no call.
 fn read<R: CommitRule>(device: &mut Device<MemFlash, R>, page: u32, into: &mut [u8]) -> ReadAnswer
+    requires kept { device.old.dropped ≡ false }
     requires page { page < device.old.config.logical }
     requires room { length into.old ≡ device.old.config.page_bytes }
     requires steady { IsSteady (state_of device.old.flash) }

@@ -1,4 +1,4 @@
-ghost use Rattle.std.specs.Prelude.{◌≡◌, ◌≤◌, All, Ok, IfOk, IfErr, OnOk, length};
+ghost use Rattle.std.specs.Prelude.{◌≡◌, ◌≤◌, false, All, Ok, IfOk, IfErr, OnOk, length};
 ghost use Rattle.tx_types.specs.Config.{checked, shape_of};
 ghost use Rattle.flash_model.specs.Flash.{IsSteady};
 ghost use Rattle.version_index.specs.Notes.{found_in};
@@ -171,6 +171,7 @@ fn explained_by<R: CommitRule>(
 
 /// The records that a device found, which is given up.
 fn records_of<R: CommitRule>(device: Device<MemFlash, R>) -> Result<Vec<Found>, Memory>
+    requires kept { device.dropped ≡ false }
     ensures { IfOk result (λ found. found.items ≡ found_in device.noted.notes) }
 {
     device.found()

@@ -1,6 +1,6 @@
 //! What holds of all runs of the program. The functions do nothing: each is there for what it
 //! ensures.
-ghost use Rattle.std.specs.Prelude.{◌≡◌, ◌<◌, ℕ, Bool, false, List, All, Result, Ok};
+ghost use Rattle.std.specs.Prelude.{◌≡◌, ◌<◌, ℕ, false, List, All, Result, Ok};
 ghost use Rattle.tx_types.specs.declared.config.Config.{Config};
 ghost use Rattle.tx_types.specs.Config.{shape_of};
 ghost use Rattle.flash_model.specs.Flash.{Contents, Extras};
@@ -18,24 +18,25 @@ ghost use Rattle.cut_replay.specs.Bounds.{AreFew};
 ghost use Rattle.cut_replay.specs.FlashRun.{Point, IsFlashRun, mentions_in};
 ghost use Rattle.cut_replay.specs.FlashRun.{opening_state, last_state};
 ghost use Rattle.cut_replay.specs.Run.{is_arm};
-ghost use Rattle.cut_replay.specs.Unbroken.{UnbrokenRun, AreMaybeSpent, FinishesAreDone};
+ghost use Rattle.cut_replay.specs.Unbroken.{Handed, UnbrokenRun, AreMaybeSpent};
+ghost use Rattle.cut_replay.specs.Unbroken.{FinishesAreDone};
 ghost use Rattle.txflash.specs.Runs.{IsRun, first_moment, machine_left};
 
 use image_file::spelled_images;
 
 /// Where no command arms a break, the replies are those of the array machine in which nothing
-/// fails, for some pages that may be spent at each command, and each `finish` of an open
-/// transaction replies `done`.
+/// fails, for some pages that may be spent at each command and some number of transactions that
+/// each `stepall` moves, and each `finish` of an open transaction replies `done`.
 pub fn unarmed_runs()
     ensures { (its : Config) (from : Moment)
         (cs : List Command) (rs : List Reply) (ps : List Point) →
         (run : IsFlashRun its from cs rs ps) → AreFew 0 0 cs rs →
         All (λ c. is_arm c ≡ false) cs →
         let opening = idle (array_in its.protocol its.logical from.image) in
-        (spents : List (ℕ → Bool)) × AreMaybeSpent (mentions_in its from) cs rs spents
-        × UnbrokenRun (limits_of its) spents opening cs rs
+        (hands : List Handed) × AreMaybeSpent (mentions_in its from) cs rs hands
+        × UnbrokenRun (limits_of its) hands opening cs rs
         (last_state (opening_state its run.up from) ps).machine
-        × FinishesAreDone (limits_of its) spents opening cs rs }
+        × FinishesAreDone (limits_of its) hands opening cs rs }
 {}
 
 /// The image with which a run ends is sound, and stands for the array of its last state. Where no

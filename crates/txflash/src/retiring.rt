@@ -1,4 +1,4 @@
-ghost use Rattle.std.specs.Prelude.{◌≡◌, ◌++◌, Ok, None, Some, IfOk, IfErr, OnOk, codes};
+ghost use Rattle.std.specs.Prelude.{◌≡◌, ◌++◌, false, Ok, None, Some, IfOk, IfErr, OnOk, codes};
 ghost use Rattle.std.specs.Fmt.{decimal};
 ghost use Rattle.tx_types.specs.Config.{checked, shape_of};
 ghost use Rattle.flash_model.specs.Flash.{IsSteady};
@@ -107,6 +107,7 @@ fn retire<R: CommitRule>(
     device: &mut Device<MemFlash, R>,
     block: Block,
 ) -> Result<(), Stop<'static>>
+    requires kept { device.old.dropped ≡ false }
     requires steady { IsSteady (state_of device.old.flash) }
     requires shape { device.old.flash.shape ≡ shape_of device.old.config }
     requires idle { device.old.machine ≡ idle device.old.machine.pages }

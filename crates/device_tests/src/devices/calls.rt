@@ -1,5 +1,7 @@
 //! Calls of a device over a flash that is told to break, and what they answer.
 
+ghost use Rattle.std.specs.Prelude.{◌≡◌, false, IfOk};
+
 use array_machine::{
     Aborted, Collected, Fault, Progress, ReadAnswer, ReadError, StepError, SubmitError,
 };
@@ -40,7 +42,9 @@ pub fn mounted<F: Flash + Drop, R: CommitRule>(
     alloc: Global,
     flash: F,
     config: Config,
-) -> Result<Device<F, R>, Fail> {
+) -> Result<Device<F, R>, Fail>
+    ensures kept { IfOk result (λ d. d.dropped ≡ false) }
+{
     assert_eq!(rt; config.check(), Ok(flash.shape()));
     assert_eq!(rt; config.protocol, R::protocol());
     let Ok(device) = Device::mount(alloc, flash, config) else {
@@ -55,7 +59,10 @@ pub fn powered<F: Power + Drop, R: CommitRule>(
     rt: &impl Abort,
     alloc: Global,
     device: Device<F, R>,
-) -> Result<Device<F, R>, Fail> {
+) -> Result<Device<F, R>, Fail>
+    requires kept { device.dropped ≡ false }
+    ensures kept { IfOk result (λ d. d.dropped ≡ false) }
+{
     if device.live() {
         return Ok(device);
     }
@@ -72,7 +79,10 @@ pub fn write<F: Flash, R: CommitRule>(
     device: &mut Device<F, R>,
     tag: u32,
     pages: &[(u32, u8)],
-) -> Result<Result<(), SubmitError>, Fail> {
+) -> Result<Result<(), SubmitError>, Fail>
+    requires kept { device.old.dropped ≡ false }
+    ensures kept { device.new.dropped ≡ false }
+{
     let mut batch = Batch::new(alloc, device.config().page_bytes);
     for (page, byte) in pages {
         assert!(rt; batch.page_bytes() >= 1);
@@ -86,8 +96,11 @@ pub fn write<F: Flash, R: CommitRule>(
 pub fn finish<F: Flash, R: CommitRule>(
     device: &mut Device<F, R>,
     tag: u32,
-) -> Result<Progress, StepError> {
-    for _ in 0..device.stats().pending {
+) -> Result<Progress, StepError>
+    requires kept { device.old.dropped ≡ false }
+    ensures kept { device.new.dropped ≡ false }
+{
+    'steps: for _ in 0..device.stats().pending {
         match device.step(tag) {
             Ok(Progress::Wrote { .. }) => {}
             answer => return answer,
@@ -102,7 +115,10 @@ pub fn read<F: Flash, R: CommitRule>(
     alloc: Global,
     device: &mut Device<F, R>,
     page: u32,
-) -> Result<Result<Option<u8>, ReadError>, Fail> {
+) -> Result<Result<Option<u8>, ReadError>, Fail>
+    requires kept { device.old.dropped ≡ false }
+    ensures kept { device.new.dropped ≡ false }
+{
     let mut room = vec![in alloc; 0xee; device.config().page_bytes as usize]?;
     let answer = match device.read(page, &mut room) {
         Ok(ReadAnswer::Blank) => Ok(None),
@@ -176,10 +192,9 @@ fn retire_text<F: Flash, R: CommitRule>(
 }
 
 /// The numbers of a device.
-fn stats_text<F: Flash, R: CommitRule>(
-    alloc: Global,
-    device: &Device<F, R>,
-) -> Result<String, Fail> {
+fn stats_text<F: Flash, R: CommitRule>(alloc: Global, device: &Device<F, R>) -> Result<String, Fail>
+    requires kept { device.now.dropped ≡ false }
+{
     let tx_types::Stats {
         written,
         tags,
@@ -194,10 +209,9 @@ fn stats_text<F: Flash, R: CommitRule>(
 }
 
 /// The records that a device knows.
-fn found_text<F: Flash, R: CommitRule>(
-    alloc: Global,
-    device: &Device<F, R>,
-) -> Result<String, Fail> {
+fn found_text<F: Flash, R: CommitRule>(alloc: Global, device: &Device<F, R>) -> Result<String, Fail>
+    requires kept { device.now.dropped ≡ false }
+{
     let mut text = String::from_str(alloc, "records")?;
     for found in device.found()? {
         let (slot, page, version) = (found.slot.0, found.rec.page, found.rec.version);
@@ -212,7 +226,10 @@ fn answer<F: Retire, R: CommitRule>(
     alloc: Global,
     device: &mut Device<F, R>,
     call: Call,
-) -> Result<String, Fail> {
+) -> Result<String, Fail>
+    requires kept { device.old.dropped ≡ false }
+    ensures kept { device.new.dropped ≡ false }
+{
     match call {
         Call::Write(tag, pages) => match write(rt, alloc, device, tag, pages)? {
             Ok(()) => Ok(String::from_str(alloc, "open")?),
@@ -251,7 +268,10 @@ fn answer<F: Retire, R: CommitRule>(
 }
 
 /// Sets an arm, where the call is one.
-fn arm<F: Arms, R: CommitRule>(rt: &impl Abort, device: &mut Device<F, R>, call: Call) {
+fn arm<F: Arms, R: CommitRule>(rt: &impl Abort, device: &mut Device<F, R>, call: Call)
+    requires kept { device.old.dropped ≡ false }
+    ensures kept { device.new.dropped ≡ false }
+{
     match call {
         Call::Cut(count, outcome) => {
             assert!(rt; count >= 1);
@@ -275,7 +295,9 @@ pub fn served<F: Arms + Power + Retire + Drop, R: CommitRule>(
     alloc: Global,
     device: Device<F, R>,
     calls: &[Call],
-) -> Result<String, Fail> {
+) -> Result<String, Fail>
+    requires kept { device.dropped ≡ false }
+{
     let mut device = device;
     let mut text = String::new(alloc);
     for call in calls {

@@ -1,5 +1,7 @@
 //! A device that is full, and one that is mounted again.
 
+ghost use Rattle.std.specs.Prelude.{◌≡◌, false};
+
 use super::calls::Call::{Read, Stats};
 use super::calls::{finish, mounted, served, write};
 use super::flashes::blank;
@@ -23,7 +25,10 @@ fn fill<F: Flash, R: CommitRule>(
     device: &mut Device<F, R>,
     page: u32,
     byte: u8,
-) -> Result<(), Fail> {
+) -> Result<(), Fail>
+    requires kept { device.old.dropped ≡ false }
+    ensures kept { device.new.dropped ≡ false }
+{
     assert_eq!(rt; write(rt, alloc, device, 9, &[(page, byte)])?, Ok(()));
     assert_eq!(rt; finish(device, 9), Ok(Progress::Done));
     Ok(())

@@ -4,7 +4,7 @@ use super::{call, desk, words};
 use std::test::Fail;
 
 /// The files of commands.
-const FILES: [(&str, &str); 14] = [
+const FILES: [(&str, &str); 15] = [
     (
         "examples/first.txt",
         "\
@@ -94,6 +94,23 @@ finish 3
 badread 1
 read 1
 read 1
+",
+    ),
+    (
+        "examples/together.txt",
+        "\
+# Two transactions go on by a page each. The first is done with it, the second has one page left.
+write 1 0=0a
+write 2 1=0b 2=0c
+stepall
+# The last page of the second and the page of a third are written together, and power fails in that.
+write 3 3=0d
+cut 1 bad
+stepall
+read 0
+read 1
+read 2
+read 3
 ",
     ),
     (
@@ -189,7 +206,7 @@ stats
 ];
 
 /// The calls, one after the other, and what is said.
-const CALLS: [(&str, &str); 17] = [
+const CALLS: [(&str, &str); 18] = [
     (
         "try examples/first.txt",
         "\
@@ -252,6 +269,21 @@ verdict 0 newest 2 uncommitted absent current 1 walk 1:2 2:2
 verdict 1 newest 2 uncommitted absent current 1 walk 2:2
 verdict 2 newest 1 committed passed current 1 walk 0:1
 explained 3
+",
+    ),
+    (
+        "try examples/together.txt",
+        "\
+open 1 1
+open 2 2
+moved 2 finished 1
+open 3 1
+armed
+cut
+page 0 0a000000000000000000000000000000
+blank 1
+blank 2
+page 3 0d000000000000000000000000000000
 ",
     ),
     (

@@ -12,7 +12,7 @@ use std::test::Fail;
 use tx_types::{Protocol, Slot};
 
 /// Commands for a fresh default device, and the replies to them.
-const TRIED: [(&str, &str); 36] = [
+const TRIED: [(&str, &str); 47] = [
     ("", ""),
     ("read 19; read 20", "blank 19; refused range 20"),
     ("write 1 20=41; finish 1", "refused range 20; unknown 1"),
@@ -52,6 +52,59 @@ const TRIED: [(&str, &str); 36] = [
          finish 2; read 0; explain",
         "open 1 1; done 1; open 2 1; armed; fault; page 0 41..; armed; fault; done 2; blank 0; \
          verdict 0 newest 2 committed cycle current 2 walk 0:2; explained 1",
+    ),
+    // Several transactions go on at once, each by a page.
+    (
+        "write 1 0=01; write 2 1=02 2=03; stepall; read 0; read 1; stepall; read 1; stepall",
+        "open 1 1; open 2 2; moved 2 finished 1; page 0 01..; blank 1; moved 1 finished 1; page 1 02..; \
+         moved 0 finished 0",
+    ),
+    // A break damages the slot in the lowest die, and the others are written: the pages are programmed
+    // together.
+    (
+        "write 1 0=01; write 2 1=02; cut 1 bad; stepall; read 0; read 1",
+        "open 1 1; open 2 1; armed; cut; blank 0; page 1 02..",
+    ),
+    (
+        "write 1 0=01; write 2 1=02; fault 1 bad; stepall; read 0; read 1; abort 1; write 1 0=04; finish 1; read 0",
+        "open 1 1; open 2 1; armed; dropped; blank 0; page 1 02..; unknown 1; open 1 1; done 1; page 0 04..",
+    ),
+    // One that is whole, or that needs a block to be won back first, goes on by itself.
+    (
+        "write 1 0=07; fault 1 all; finish 1; write 2 1=09; stepall; stepall; read 0; read 1",
+        "open 1 1; armed; fault; open 2 1; moved 1 finished 1; moved 1 finished 1; page 0 07..; page 1 09..",
+    ),
+    (
+        "write 1 0=01 1=02; step 1; abort 1; write 2 0=03; write 3 2=04; stepall; stepall; read 0; read 2; stats",
+        "open 1 2; wrote 1 1 2; aborted 1; open 2 1; open 3 1; moved 1 finished 1; moved 1 finished 1; \
+         page 0 03..; page 2 04..; stats written 2 open 0 pending 0 programs 3 erases 1 garbage 0",
+    ),
+    (
+        "stepall; badread 1; stepall",
+        "moved 0 finished 0; armed; moved 0 finished 0",
+    ),
+    // No more go on than there are dies, and after a fault none of them is open.
+    (
+        "write 1 0=01; write 2 1=02; write 3 2=03; stepall; stepall; stats",
+        "open 1 1; open 2 1; open 3 1; moved 2 finished 2; moved 1 finished 1; \
+         stats written 3 open 0 pending 0 programs 3 erases 0 garbage 0",
+    ),
+    (
+        "write 1 0=01 1=02; write 2 2=03; write 3 3=04; fault 1 all; stepall; read 0; read 2; read 3; finish 1",
+        "open 1 2; open 2 1; open 3 1; armed; dropped; blank 0; page 2 03..; blank 3; unknown 1",
+    ),
+    (
+        "write 1 0=01; write 2 1=02; cut 1 all; stepall; read 0; read 1; abort 1",
+        "open 1 1; open 2 1; armed; cut; page 0 01..; page 1 02..; unknown 1",
+    ),
+    // What is in doubt is found out in the mount that follows, which may meet a fault too.
+    (
+        "write 1 0=07; fault 1 all; finish 1; badread 1; stepall; read 0; stepall",
+        "open 1 1; armed; fault; armed; dropped; page 0 07..; moved 0 finished 0",
+    ),
+    (
+        "write 1 0=01; write 2 1=02; fault 1 none; badread 1; stepall; read 0; finish 2",
+        "open 1 1; open 2 1; armed; armed; dropped; blank 0; unknown 2",
     ),
     // Refusals.
     (

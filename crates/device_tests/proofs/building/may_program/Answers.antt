@@ -39,7 +39,8 @@ pub loop-slot-preserved : goal.loop-slot-preserved
 loop-slot-preserved c k low high = elim (cases_lt k c.loop-slot.slot) [
   | inl before ↦ c.loop-slot.invariant k low before
   | inr here ↦ subst (λ j. slot_at c.args.flash.now.image j ≡ blank) (let same : c.loop-slot.slot ≡ k = omega arith in same)
-      (blank_contents (slot_at c.args.flash.now.image c.loop-slot.slot) (ap reads_blank (sym c.seen.ensures) ∙ sym c.is_blank.ensures ∙ c.if-not-is_blank.false))
+      (blank_contents (slot_at c.args.flash.now.image c.loop-slot.slot) (ap reads_blank (sym c.seen.ensures) ∙ sym c.is_blank.ensures ∙
+      c.if-not-is_blank.false))
 ]
 
 pub returns : goal.returns

@@ -1,7 +1,7 @@
 use Rattle.std.proofs.Common.{◌∙◌, ◌++◌, [], sym, ap, arith}
 use Rattle.std.specs.List.{cons_option}
 use Rattle.version_index.specs.Notes.{found_at, note_at}
-use Rattle.version_index.proofs.FoundIn.{found_in_nil, found_in_more}
+use Rattle.version_index.proofs.OfTables.FoundIn.{found_in_nil, found_in_more}
 use Rattle.flash_picture.proofs.picture.found.Goals as goal
 
 pub loop-at-init : goal.loop-at-init

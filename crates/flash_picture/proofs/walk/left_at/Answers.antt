@@ -1,5 +1,5 @@
 use Rattle.std.proofs.Common.{◌∙◌}
-use Rattle.record_chart.proofs.WalkOrbits.{ends_below}
+use Rattle.record_chart.proofs.OfWalk.WalkOrbits.{ends_below}
 use Rattle.flash_picture.proofs.Leaving.{left_none, left_some}
 use Rattle.flash_picture.proofs.walk.left_at.Goals as goal
 

@@ -13,7 +13,8 @@ returns-in_err-pages c =
     let its = c.in_ok-config.config in
     let image = c.in_ok-config.flash.image in
     stopped (Judging its image c.args.text.now) (Checking c.args.bytes.items c.args.text.now) c.from_residual-in_err-pages.result c.in_err-pages.field-0.0
-    c.from_residual-in_err-pages.ensures.1 (λ fate h. (Ok (its, image, c.in_ok-config.flash.extras), c.in_ok-config.ensures.read, (h, refl))) c.in_err-pages.ensures.err
+    c.from_residual-in_err-pages.ensures.1 (λ fate h. (Ok (its, image, c.in_ok-config.flash.extras), c.in_ok-config.ensures.read, (h, refl)))
+    c.in_err-pages.ensures.err
 
 pub returns : goal.returns
 returns c =

@@ -1,4 +1,4 @@
-use Rattle.std.proofs.Common.{◌≡◌, ◌<◌, ℕ, length}
+use Rattle.std.proofs.Common.{◌≡◌, ◌<◌, ℕ, false, length}
 use Rattle.flash_model.specs.Flash.{IsSteady}
 use Rattle.mem_flash.specs.Memory.{state_of}
 use Rattle.array_machine.specs.ArrayState.{page_at}
@@ -6,6 +6,8 @@ use Rattle.txflash.proofs.comparing.first_difference_of.Given as goal
 
 abbrev pub invariant-loop-page : goal.invariant-loop-page
 invariant-loop-page g l = record {
+  kept : l.one.dropped ≡ false;
+  two_kept : l.two.dropped ≡ false;
   config : l.one.config ≡ l.fn.config;
   two_config : l.two.config ≡ l.initial.two.config;
   machine : l.one.machine ≡ l.initial.one.machine;

@@ -10,5 +10,6 @@ returns-clause-report g c =
     let mounts = c.in_ok-device.ensures.ok in
     let known = c.devices_stand.ensures.records s c.config.ensures.stands c.config.ensures.rule mounts.unsure in
     report_said c.explain.new.out.items c.new-text.result.items g.R.CommitRule.protocol c.args.config.protocol c.deref.result.now (found_in s.noted.notes)
-    s.flash.image c.args.flash.image c.args.config.logical c.in_ok-explain.ensures.text c.new-text.ensures.items (c.deref.ensures.value ∙ c.in_ok-found.ensures) known.0
+    s.flash.image c.args.flash.image c.args.config.logical c.in_ok-explain.ensures.text c.new-text.ensures.items (c.deref.ensures.value ∙
+    c.in_ok-found.ensures) known.0
     (ap (λ (m : Moment). m.image) mounts.moment) c.requires.rule

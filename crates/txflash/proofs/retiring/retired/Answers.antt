@@ -24,7 +24,8 @@ returns c =
     let flash = c.in_ok-config.flash in
     let leaves = c.in_ok-left.ensures.ok in (
       Retired c.args.name.now its flash.image flash.extras c.args.block.0,
-      retiring_done c.args.name.now c.args.bytes.items c.args.block.0 its flash.image flash.extras c.in_ok-config.ensures.read leaves.empties.sound leaves.refusal,
+      retiring_done c.args.name.now c.args.bytes.items c.args.block.0 its flash.image flash.extras c.in_ok-config.ensures.read leaves.empties.sound
+          leaves.refusal,
       refl,
       record {
         bytes = c.in_ok-saved.saved.items;

@@ -16,7 +16,8 @@ returns-in_err-list c =
     let image = c.in_ok-config.flash.image in
     stopped (RefusesLine its.page_bytes c.args.lines.now) (Running c.args.name.now c.args.bytes.items c.args.lines.now)
     c.from_residual-in_err-list.result c.in_err-list.field-0.0 c.from_residual-in_err-list.ensures.1
-    (running_line c.args.name.now c.args.bytes.items c.args.lines.now its image c.in_ok-config.flash.extras c.in_ok-config.ensures.read) c.in_err-list.ensures.err
+    (running_line c.args.name.now c.args.bytes.items c.args.lines.now its image c.in_ok-config.flash.extras c.in_ok-config.ensures.read)
+    c.in_err-list.ensures.err
 
 pub returns-in_err-flash : goal.returns-in_err-flash
 returns-in_err-flash c =
@@ -24,7 +25,8 @@ returns-in_err-flash c =
     let image = c.in_ok-config.flash.image in
     stopped (RefusesDevice its image) (Running c.args.name.now c.args.bytes.items c.args.lines.now)
     c.from_residual-in_err-flash.result c.in_err-flash.field-0.0 c.from_residual-in_err-flash.ensures.1
-    (running_device c.args.name.now c.args.bytes.items c.args.lines.now its image c.in_ok-config.flash.extras c.in_ok-list.list.items c.in_ok-config.ensures.read
+    (running_device c.args.name.now c.args.bytes.items c.args.lines.now its image c.in_ok-config.flash.extras c.in_ok-list.list.items
+    c.in_ok-config.ensures.read
     c.in_ok-list.ensures.file) c.in_err-flash.ensures.err
 
 pub returns : goal.returns
@@ -34,7 +36,8 @@ returns c =
     let list = c.in_ok-list.list.items in
     let is_run = rw c.deref.ensures.value at c.in_ok-flash.ensures.run in (
       Ran c.args.name.now its image c.in_ok-config.flash.extras list,
-      running_done c.args.name.now c.args.bytes.items c.args.lines.now its image c.in_ok-config.flash.extras list c.in_ok-config.ensures.read c.in_ok-list.ensures.file is_run.sound,
+      running_done c.args.name.now c.args.bytes.items c.args.lines.now its image c.in_ok-config.flash.extras list c.in_ok-config.ensures.read
+          c.in_ok-list.ensures.file is_run.sound,
       refl,
       record {
         bytes = c.in_ok-saved.saved.items;

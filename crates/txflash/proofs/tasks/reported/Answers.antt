@@ -15,7 +15,8 @@ returns-in_err-report c =
     let its = c.in_ok-config.config in
     let image = c.in_ok-config.flash.image in
     stopped (RefusesDevice its image) (Explaining c.args.bytes.items) c.from_residual-in_err-report.result c.in_err-report.field-0.0
-    c.from_residual-in_err-report.ensures.1 (explaining_device c.args.bytes.items its image c.in_ok-config.flash.extras c.in_ok-config.ensures.read) c.in_err-report.ensures.err
+    c.from_residual-in_err-report.ensures.1 (explaining_device c.args.bytes.items its image c.in_ok-config.flash.extras c.in_ok-config.ensures.read)
+    c.in_err-report.ensures.err
 
 pub returns : goal.returns
 returns c =

@@ -4,7 +4,7 @@ use Rattle.list_facts.proofs.Ranges.{in_range}
 use Rattle.tx_types.specs.Config.{shape_of}
 use Rattle.tx_types.specs.declared.config.Config.{Config}
 use Rattle.flash_model.proofs.ImageLemmas.{block_within}
-use Rattle.collector.proofs.GoingCounts.{has_unneeded}
+use Rattle.collector.proofs.OfRoom.GoingCounts.{has_unneeded}
 use Rattle.device_tests.proofs.collecting.steps.has_unneeded.Goals as goal
 
 pub needed-requires : goal.needed-requires

@@ -4,8 +4,8 @@ use Rattle.tx_types.specs.declared.config.Config.{Config}
 use Rattle.flash_model.specs.Operations.{Moment}
 use Rattle.mem_flash.specs.Memory.{MemoryState, state_of}
 use Rattle.version_index.specs.Images.{IsSoundImage}
-use Rattle.collector.proofs.SettledExits.{matches_still}
-use Rattle.tx_engine.proofs.Mounted.{opened_matches}
+use Rattle.collector.proofs.OfSettle.SettledExits.{matches_still}
+use Rattle.tx_engine.proofs.OfMount.Mounted.{opened_matches}
 use Rattle.device_tests.proofs.collecting.steps.reopen.Goals as goal
 
 pub returns-in_default-clause-matches : goal.returns-in_default-clause-matches
@@ -23,5 +23,6 @@ returns-clause-matches g c =
     (ap (λ (m : MemoryState). m.shape) c.power_on.ensures.exact) (ap (λ (m : MemoryState). m.image) c.power_on.ensures.exact) c.requires.matches in
     opened_matches c.opened_tables_match.ensures its before (state_of c.recover.new.flash) _ _
     (ap checked c.config-config.ensures.config ∙ still.noted.check ∙ ap Ok (sym still.shape)) still.flash
-    (subst (λ q. IsSoundImage q its.logical before.shape before.image) (sym (ap (λ (k : Config). k.protocol) c.config-config.ensures.config ∙ c.requires.rule)) opened.sound)
+    (subst (λ q. IsSoundImage q its.logical before.shape before.image) (sym (ap (λ (k : Config). k.protocol) c.config-config.ensures.config ∙
+    c.requires.rule)) opened.sound)
     opened.tables opened.carries.shape opened.moment

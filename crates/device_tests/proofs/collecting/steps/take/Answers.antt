@@ -1,6 +1,6 @@
 use Rattle.std.proofs.Common.{ap}
 use Rattle.mem_flash.specs.Memory.{MemoryState, state_of}
-use Rattle.collector.proofs.SettledExits.{matches_still}
+use Rattle.collector.proofs.OfSettle.SettledExits.{matches_still}
 use Rattle.device_tests.proofs.collecting.steps.take.Goals as goal
 
 pub returns-in-Fault-clause-matches : goal.returns-in-Fault-clause-matches

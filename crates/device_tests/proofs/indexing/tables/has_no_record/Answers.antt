@@ -5,7 +5,7 @@ use Rattle.std.proofs.lemmas.List.{take_all}
 use Rattle.tx_types.specs.declared.record.Rec.{Rec}
 use Rattle.tx_types.specs.Config.{slots_of}
 use Rattle.version_index.specs.Notes.{note_at, rec_of, found_in}
-use Rattle.version_index.proofs.FoundIn.{found_in_nil, found_in_more, no_record}
+use Rattle.version_index.proofs.OfTables.FoundIn.{found_in_nil, found_in_more, no_record}
 use Rattle.device_tests.proofs.indexing.tables.has_no_record.Goals as goal
 
 no_some : (o : Option Rec) → is_some o ≡ false → o ≡ None
