@@ -1,3 +1,2 @@
 mod DeskFiles
 mod Keeping
-mod Limits

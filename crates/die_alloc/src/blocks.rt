@@ -63,6 +63,7 @@ impl Blocks {
 
     /// The slot that is programmed next. The search for the one after it begins at the next die. Where
     /// each block but the spare is shut there is none, and nothing changes.
+    #[inline(always)]
     #[tactic(auto, using(crate::proofs::NextSlots::is_first_free_moved), unfolding(crate::specs::NextSlot::next_slot))]
     pub fn next_slot(&mut self) -> Option<Slot>
         ensures slot { result ≡ next_slot self.old }
@@ -237,6 +238,37 @@ impl Blocks {
             &mut self.ranks,
             old,
             BlockUse::CLEAN,
+        );
+        keep(
+            shape,
+            &self.die_blocks,
+            &mut self.blocks,
+            &mut self.ranks,
+            block.0,
+            BlockUse::SPARE,
+        );
+        self.spare = block;
+    }
+
+    /// Makes a block the spare that is not, and gives the one that was it this state and this number of used slots.
+    pub fn exchange(&mut self, block: Block, state: BlockState, used: u32)
+        requires exists { block.0 < blocks_of self.old.shape }
+        requires not_the_spare { block.0 ≢ self.old.spare }
+        requires no_spare { state ≢ BlockState.Spare }
+        requires fits { MayHave self.old.shape.pages_per_block state used }
+        ensures exchanged { self.new
+            ≡ with_use (table_with_spare self.old block.0) self.old.spare state used }
+        ensures between { IsBlockTable (table_with_spare self.old block.0) }
+        ensures table { IsBlockTable self.new }
+    {
+        let (shape, old) = (self.shape, self.spare.0);
+        keep(
+            shape,
+            &self.die_blocks,
+            &mut self.blocks,
+            &mut self.ranks,
+            old,
+            BlockUse { state, used },
         );
         keep(
             shape,

@@ -1,7 +1,7 @@
 -- Why a call failed, call after call.
 use Rattle.std.proofs.Common.{◌≡◌, ◌≢◌, ◌⊎◌, inl, inr, ℕ, ◌+◌, Bool, true, false, cond, ◌||◌, List, [], ◌∷◌, Option, None, Some, Result, Ok, Err, refl, sym, ap}
 use Rattle.std.proofs.Common.{◌∙◌, arith}
-use Rattle.std.specs.Result.{is_err, IsErr, IsErrAnd}
+use Rattle.std.specs.Result.{IsErr, IsErrAnd}
 use Rattle.std.specs.IoError.{error_kind}
 use Rattle.std.specs.declared.io.Error.{Error}
 use Rattle.std.specs.declared.io.ErrorKind.{ErrorKind}
@@ -46,9 +46,6 @@ then_failed a b c x y = omega (arith, x.1, y)
 
 pub failed_then : (a b c : Option History) → HasFailed a b → IsLater b c → HasFailed a c
 failed_then a b c x y = omega (arith, x, y.0, y.1)
-
-pub is_err_of : {T : Type 0} (r : Result T Error) (e : Error) → r ≡ Err e → IsErr r
-is_err_of r e is = ap is_err is
 
 -- what is synced, as far as it can be
 sync_err : (t : Bool) (e : Error) → IsErr (unless_unable t e) → t ≡ false
@@ -157,10 +154,6 @@ pub turn_back : (S : FolderState → FolderState → Type 0) (Q : FolderState �
 turn_back S Q n None b turn same at = tt
 turn_back S Q n (Some h) None turn same at = absurd turn
 turn_back S Q n (Some h) (Some k) turn same at = rw (same h.now k.now turn.0) at at
-
-pub now_map : (P Q : FolderState → Type 0) (a : Option History) → ((s : FolderState) → P s → Q s) → AtNow P a → AtNow Q a
-now_map P Q None f at = tt
-now_map P Q (Some h) f at = f h.now at
 
 -- the new file has its name
 same_name : (handle : Handle) (beside : List ℕ) (found other : Found) (s t u : FolderState) → IsNamed handle.file beside s →

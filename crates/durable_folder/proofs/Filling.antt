@@ -14,12 +14,8 @@ use Rattle.durable_folder.specs.InPlace.{AfterOk}
 use Rattle.durable_folder.specs.Saving.{Gives, Rests, WritesWhole, Fills}
 use Rattle.durable_folder.proofs.Heads.{after_err, then_synced}
 use Rattle.durable_folder.proofs.Making.{still_then}
-use Rattle.durable_folder.proofs.Passing.{runs_of, runs_none, runs_weaker, runs_then, runs_counted}
+use Rattle.durable_folder.proofs.Passing.{runs_of, runs_weaker, runs_then, runs_counted}
 use Rattle.durable_folder.proofs.Writing.{of_file_stays, of_file_weaker, file_turn, file_weaker, file_then}
-
--- nothing to give
-pub given_none : (a : Option History) → Gives true a a
-given_none a = runs_none a (λ h. (refl, λ no_leave. absurd (cc)))
 
 not_ok_counts : (r : Result (Unit {0}) Error) → is_ok r ≡ false → (answer_to_give r).refusals ≡ 1
 not_ok_counts (Ok done) is = absurd (cc)

@@ -1,5 +1,4 @@
 mod Bearing
-mod Besides
 mod Blocks
 mod Causing
 mod Filling
@@ -7,7 +6,6 @@ mod Finishing
 mod Heads
 mod Leading
 mod Making
-mod Over
 mod Passing
 mod Putting
 mod Replacements

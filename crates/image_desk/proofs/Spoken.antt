@@ -1,13 +1,10 @@
 -- What saying a text changes of a desk.
-use Rattle.std.proofs.Common.{◌≡◌, inl, inr, ℕ, List, [], ◌∷◌, take, Option, None, Some, Result, Ok, Err, refl, ap, ◌∙◌, arith}
-use Rattle.std.specs.Prelude.{String, string_bytes}
-use Rattle.std.specs.Global.{Global}
+use Rattle.std.proofs.Common.{◌≡◌, ℕ, List, [], ◌∷◌, take, Option, None, Some, Result, Ok, Err, refl, ap, ◌∙◌, arith}
 use Rattle.std.specs.Option.{option_map}
-use Rattle.std.specs.declared.alloc.AllocError.{AllocError}
 use Rattle.desk_io.specs.Desk.{DeskContents, DeskState, Rose, Says, after_memory, called, counted, once_asked, with_said}
 use Rattle.desk_io.specs.declared.desk.SinkError.{SinkError}
 use Rattle.desk_io.specs.declared.desk.SinkError.TheVariants as sink
-use Rattle.image_desk.specs.Saying.{Attempts, Refuses, Speaks, after_text, files_in}
+use Rattle.image_desk.specs.Saying.{Attempts, after_text, files_in}
 
 -- ---- the count of faults
 
@@ -47,15 +44,3 @@ files_said old new text (Err sink.Memory) says = ap files_in says ∙ files_aske
 
 pub files_tried : (old new : DeskState) (text : List ℕ) → Attempts old new text → files_in new ≡ files_in old
 files_tried old new text (result, says) = files_said old new text result says
-
-pub files_spoken : (old new : DeskState) (text : List ℕ) (status answer : ℕ) → Speaks old new text status answer → files_in new ≡ files_in old
-files_spoken old new text status answer (inl (same, after)) = ap files_in after ∙ files_text text old
-files_spoken old new text status answer (inr (inl (mid, stops, told))) =
-    files_tried mid new _ told.1 ∙ files_said old mid text (Err sink.Failed) stops.1
-files_spoken old new text status answer (inr (inr (mid, stops, told))) =
-    files_tried mid new _ told.1 ∙ files_said old mid text (Err sink.Memory) stops.1
-
-pub files_refused : (old new : DeskState) (line : Result (String Global) AllocError) (status answer : ℕ) → Refuses old new line status answer →
-    files_in new ≡ files_in old
-files_refused old new (Ok text) status answer speaks = files_spoken old new (string_bytes text) status answer speaks
-files_refused old new (Err none) status answer told = files_tried old new _ told.1

@@ -3,5 +3,3 @@ mod ImageLemmas
 mod HeaderLemmas
 mod SpellingLemmas
 mod RefusalLemmas
-mod BehindLemmas
-mod BlankLemmas

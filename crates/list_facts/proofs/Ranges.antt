@@ -3,7 +3,7 @@ use Rattle.std.proofs.Common.{◌≡◌, ℕ, zero, suc, ◌+◌, ◌<◌, ◌�
 use Rattle.std.proofs.Common.{◌++◌, append_assoc, flat_map, add-one, sum_by, cond, [], filter, length, Any, Contains}
 use Rattle.std.specs.List.{range_with_len, list_all}
 use Rattle.std.proofs.Math.Bool.{and-true}
-use Rattle.std.proofs.lemmas.Bool.{cases_lt, and_parts, and_from, both_ways, cond-false, cond-true, cond_both}
+use Rattle.std.proofs.lemmas.Bool.{cases_lt, and_parts, and_from, cond-false, cond-true, cond_both}
 use Rattle.std.proofs.lemmas.List.{append-nil, map-id}
 use Rattle.std.proofs.lemmas.List.Elements.{filter-append}
 use Rattle.std.proofs.lemmas.List.FromFn.{sum_by-map-range_with_len_more, filter_of_map_range_with_len_more, length-range_with_len, get_or-range_with_len}
@@ -25,14 +25,6 @@ range_all p a zero h = refl
 range_all p a (suc n) h =
     and_from (p a) (list_all p (range_with_len (a + 1) n)) (h a (omega arith) (omega arith))
     (range_all p (a + 1) n (λ k low high. h k (omega arith) (omega arith)))
-
--- a number that fails is enough
-pub range_fails : (p : ℕ → Bool) (a n k : ℕ) → a ≤ k → k < a + n → p k ≡ false → list_all p (range_with_len a n) ≡ false
-range_fails p a n k low high e = by (list_all p (range_with_len a n)) refl
-  where
-    by : (b : Bool) → list_all p (range_with_len a n) ≡ b → list_all p (range_with_len a n) ≡ false
-    by false h = h
-    by true h = absurd (both_ways (p k) e (all_range p a n h k low high))
 
 -- two tests that agree on a range
 pub range_same : (p q : ℕ → Bool) (a n : ℕ) → ((k : ℕ) → a ≤ k → k < a + n → p k ≡ q k) → list_all p (range_with_len a n) ≡ list_all q (range_with_len a n)

@@ -4,4 +4,3 @@ pub mod Programmed
 pub mod Filled
 mod Kept
 mod Loaded
-mod Fires

@@ -42,7 +42,7 @@ pub fn die_of(shape: Shape, at: Slot) -> usize
     ensures die { result ≡ die_of shape at.0 }
     ensures within { result < shape.dies }
 {
-    (at.0 / shape.pages_per_block / shape.blocks_per_die) as usize
+    (at.0 / (shape.pages_per_block * shape.blocks_per_die)) as usize
 }
 
 /// Puts a program into a register.

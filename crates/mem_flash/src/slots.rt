@@ -130,6 +130,7 @@ impl Slots {
     }
 
     /// Programs a slot, with this outcome.
+    #[inline(always)]
     pub fn program(&mut self, at: Slot, bytes: &[u8], spare_area: &[u8; 64], how: Outcome)
         requires exists { at.0 < slots_of self.old.shape }
         requires page { length bytes.now ≡ self.old.shape.page_bytes }

@@ -24,19 +24,20 @@ pub fn read_spare(spare_area: &[u8; 64], protocol: Protocol) -> Result<Rec, Spar
     ensures found { result_ok result ≡ record_of protocol spare_area.now }
     ensures error { result_err result ≡ first_broken protocol spare_area.now }
 {
-    match broken_rule(spare_area, protocol) {
+    let rec = fields(spare_area);
+    match broken_rule(spare_area, protocol, rec) {
         Some(rule) => Err(rule),
-        None => Ok(fields(spare_area)),
+        None => Ok(rec),
     }
 }
 
-/// The first rule that the bytes break.
+/// The first rule that the bytes break, of which these numbers are read.
 #[inline]
 #[tactic(auto, unfolding(crate::specs::Rules::first_broken))]
-fn broken_rule(spare_area: &[u8; 64], protocol: Protocol) -> Option<SpareError>
+fn broken_rule(spare_area: &[u8; 64], protocol: Protocol, rec: Rec) -> Option<SpareError>
+    requires { rec ≡ fields_of spare_area.now }
     ensures { result ≡ first_broken protocol spare_area.now }
 {
-    let rec = fields(spare_area);
     if !spare_area.starts_with(&MARK) {
         Some(SpareError::Mark)
     } else if spare_area[4] != PLAIN && spare_area[4] != COUNTED {

@@ -4,13 +4,14 @@ use Rattle.std.proofs.Common.{sym, ◌∙◌, ap, arith}
 use Rattle.std.specs.List.{All, position, position_or_len}
 use Rattle.std.proofs.lemmas.Bool.{cases_lt, cases_eq}
 use Rattle.std.proofs.lemmas.Bool.Decides.{nat_tests}
-use Rattle.std.proofs.lemmas.List.{length-drop, drop-drop, get_or-drop, get_or_default}
+use Rattle.std.proofs.Math.ListN.{length-set}
+use Rattle.std.proofs.lemmas.List.{length-drop, drop-drop, drop-set-lt, get_or-drop, get_or_default}
 use Rattle.std.proofs.lemmas.List.Quantifiers.{position-Some}
 use Rattle.std.proofs.lemmas.List.Sums.{fails_before_first}
 use Rattle.plain_tables.specs.Greatest.{greatest, sixteen_of, IsFirstGreatest}
-use Rattle.plain_tables.specs.Levels.{under, level_start, ArePeaks, IsShape}
+use Rattle.plain_tables.specs.Levels.{under, level_start, ArePeaks, IsShape, IsTop}
 use Rattle.plain_tables.proofs.GreatestNumbers.{at_most_greatest, greatest_stands}
-use Rattle.plain_tables.proofs.Tree.{length-under, get_or-under}
+use Rattle.plain_tables.proofs.Tree.{length-under, get_or-under, rooted, rooted_peaks, AreAllPeaks}
 
 -- a level begins before each later one
 pub level_start_below : (level levels : ℕ) → level < levels → 16 * level_start level + 1 ≤ level_start levels
@@ -42,7 +43,7 @@ pub record IsOnWay (cells : List ℕ) (level from place : ℕ) : Type 0 where
   pub here : get_or cells (from + place) 0 ≡ get_or cells 0 0
   pub first : (k : ℕ) → k < place → get_or cells (from + k) 0 < get_or cells 0 0
 
-module _ (cells : List ℕ) (levels start : ℕ) (shape : IsShape levels start (length cells)) (peaks : ArePeaks cells start) where
+module _ (cells : List ℕ) (levels start : ℕ) (shape : IsShape levels start (length cells)) (peaks : AreAllPeaks cells start) where
   -- no cell is greater than the one over it
   pub at_most_over : (cell : ℕ) → 0 < cell → cell < length cells → get_or cells cell 0 ≤ get_or cells ((cell - 1) / 16) 0
   at_most_over cell later l =
@@ -144,14 +145,33 @@ module _ (cells : List ℕ) (levels start : ℕ) (shape : IsShape levels start (
   pub all_zero : get_or cells 0 0 ≡ 0 → All (λ x. x ≡ 0) (drop start cells)
   all_zero none k d l = let most = number_at_most_first k l in rw (get_or_default (drop start cells) k d 0 l) (omega arith)
 
-  -- the greatest of a sixteen of the numbers is the cell over them
-  pub sixteen_peak : (sixteen : ℕ) → 16 * sixteen < length (drop start cells)
-      → ((start - 1) / 16 + sixteen < start) × (get_or cells ((start - 1) / 16 + sixteen) 0 ≡ greatest (sixteen_of (drop start cells) sixteen))
-  unfolding sixteen_of under
-  sixteen_peak sixteen l =
-      let long = length-drop start cells in
-      let below = level_start_below 0 levels shape.levels_least in
-      let rows = level_start_whole levels shape.levels_least in
-      let whole : 16 * ((start - 1) / 16 + sixteen) + 1 ≡ start + 16 * sixteen = omega (arith, shape.begins, rows.1) in
-      let low : (start - 1) / 16 + sixteen < start = omega (arith, shape.most) in
-      (low, peaks _ low ∙ ap (λ xs. greatest (take 16 xs)) (ap (λ n. drop n cells) whole ∙ sym (drop-drop (16 * sixteen) start cells)))
+-- under the cell over a sixteen of the numbers stand those
+pub sixteen_under : (cells : List ℕ) (levels start : ℕ) → IsShape levels start (length cells) → (sixteen : ℕ) → 16 * sixteen < length (drop start cells)
+    → ((start - 1) / 16 + sixteen < start) × (under cells ((start - 1) / 16 + sixteen) ≡ sixteen_of (drop start cells) sixteen)
+unfolding sixteen_of under
+sixteen_under cells levels start shape sixteen l =
+    let long = length-drop start cells in
+    let below = level_start_below 0 levels shape.levels_least in
+    let rows = level_start_whole levels shape.levels_least in
+    let whole : 16 * ((start - 1) / 16 + sixteen) + 1 ≡ start + 16 * sixteen = omega (arith, shape.begins, rows.1) in
+    let low : (start - 1) / 16 + sixteen < start = omega (arith, shape.most) in
+    (low, ap (take 16) (ap (λ n. drop n cells) whole ∙ sym (drop-drop (16 * sixteen) start cells)))
+
+-- there is a cell above the numbers
+pub some_cells : (cells : List ℕ) (levels start : ℕ) → IsShape levels start (length cells) → (0 < start) × (0 < length cells)
+some_cells cells levels start shape =
+    let below = level_start_below 0 levels shape.levels_least in
+    (omega (arith, shape.begins), omega (arith, shape.begins, shape.least))
+
+-- with the greatest of all in the first cell the numbers are the same
+pub rooted_shape : (cells : List ℕ) (levels start : ℕ) → IsShape levels start (length cells) → IsShape levels start (length (rooted cells))
+rooted_shape cells levels start shape = rw (length-set cells 0 (greatest (under cells 0))) shape
+
+pub rooted_numbers : (cells : List ℕ) (levels start : ℕ) → IsShape levels start (length cells) → drop start (rooted cells) ≡ drop start cells
+rooted_numbers cells levels start shape = drop-set-lt start cells 0 (greatest (under cells 0)) (some_cells cells levels start shape).0
+
+-- and each cell above them is the greatest of those under it
+pub all_peaks : (cells : List ℕ) (levels top start : ℕ) → IsShape levels start (length cells) → IsTop top → ArePeaks cells top start
+    → AreAllPeaks (rooted cells) start
+all_peaks cells levels top start shape one peaks =
+    rooted_peaks cells top start (elim one [ inl none ↦ omega arith | inr first ↦ omega arith ]) (some_cells cells levels start shape).1 peaks

@@ -5,4 +5,3 @@ pub mod Membership
 pub mod GreatestNumbers
 pub mod Tree
 pub mod Descent
-pub mod Division

@@ -164,10 +164,6 @@ module _ (next before : List ℕ) (root : ℕ) (xs : List ℕ) (h : IsLinked nex
   abbrev after : ℕ → ℕ
   after i = get_or next (ahead i) 0
 
-  ahead_lies : (i : ℕ) → i ≤ length xs → ahead i < length next
-  ahead_lies zero l = lies
-  ahead_lies (suc i) l = let low = h.within i (omega arith) in omega arith
-
   -- another place of the list is not what follows index i
   not_after : (i k : ℕ) → i ≤ length xs → k < length xs → k ≢ i → get_or xs k 0 ≢ after i
   not_after i k l m apart e =

@@ -1,10 +1,10 @@
 -- Which places stand in lists after a change.
-use Rattle.std.proofs.Common.{◌≡◌, ◌≢◌, ℕ, ◌+◌, ◌-◌, ◌<◌, ◌≤◌, ◌⊎◌, ◌↔◌, inl, inr, eqb, List, [], length, get_or, sym, ◌∙◌, subst, arith}
-use Rattle.std.specs.List.{Contains, AllPairs, insert, remove}
+use Rattle.std.proofs.Common.{◌≡◌, ◌≢◌, ℕ, ◌+◌, ◌-◌, ◌<◌, ◌↔◌, inl, inr, eqb, List, [], length, get_or, sym, ◌∙◌, subst, arith}
+use Rattle.std.specs.List.{Contains, AllPairs, remove}
 use Rattle.std.proofs.lemmas.Bool.{cases_lt, cases_eq}
 use Rattle.std.proofs.lemmas.Bool.Decides.{nat_tests}
 use Rattle.std.proofs.lemmas.List.{get_or-set_same, get_or-set_other, get_or_past, get_or_default}
-use Rattle.std.proofs.lemmas.List.Edits.{length-insert, get_or-insert_below, get_or-insert_at, get_or-insert_above, length-remove, get_or-remove_below}
+use Rattle.std.proofs.lemmas.List.Edits.{length-remove, get_or-remove_below}
 use Rattle.std.proofs.lemmas.List.Edits.{get_or-remove_above}
 use Rattle.std.proofs.lemmas.List.Sums.{fails_before_first, passes_at_first}
 use Rattle.plain_tables.specs.ChainLists.{ChainLists, list_of, IsListed, AreDisjoint, index_in, with_list, without}
@@ -70,31 +70,6 @@ contains_rest xs at x once has = (
   λ still. (was_in_list xs at x has still, λ e. not_in_rest xs at once has (subst (Contains (remove xs (index_in xs at))) e still)),
   λ both. still_in_rest xs at x has both.0 both.1,
 )
-
--- and where a place is put in, they are that one and those before
-pub contains_put : (xs : List ℕ) (i at x : ℕ) → i ≤ length xs → Contains (insert xs i at) x ↔ ((x ≡ at) ⊎ Contains xs x)
-contains_put xs i at x l = (forth, back)
-  where
-    long : length (insert xs i at) ≡ length xs + 1
-    long = length-insert xs i at l
-
-    forth : Contains (insert xs i at) x → (x ≡ at) ⊎ Contains xs x
-    forth (k, below, is) = elim (cases_lt k i) [
-      | inl sooner ↦ inr (k, omega arith, sym (get_or-insert_below xs i at x k sooner l) ∙ is)
-      | inr later ↦ elim (cases_eq k i) [
-        | inl here ↦ inl (sym is ∙ rw here (get_or-insert_at xs i at x l))
-        | inr apart ↦
-            let place : k - 1 + 1 ≡ k = omega arith in
-            inr (k - 1, omega (arith, below, long), sym (get_or-insert_above xs i at x (k - 1) (omega arith) l) ∙ rw place is)
-      ]
-    ]
-
-    back : (x ≡ at) ⊎ Contains xs x → Contains (insert xs i at) x
-    back (inl same) = (i, omega (arith, long), get_or-insert_at xs i at x l ∙ sym same)
-    back (inr (k, below, is)) = elim (cases_lt k i) [
-      | inl sooner ↦ (k, omega (arith, long), get_or-insert_below xs i at x k sooner l ∙ is)
-      | inr later ↦ (k + 1, omega (arith, long), get_or-insert_above xs i at x k later l ∙ is)
-    ]
 
 -- a list that is written for a key
 list_written : (c : ChainLists) (key : ℕ) (xs : List ℕ) → key < length c.lists → list_of (with_list c key xs) key ≡ xs

@@ -39,28 +39,24 @@ under-set_outside cells cell other k v l differ = elim (cases_lt cell other) [
       ∙ take-set-le 16 (drop (16 * other + 1) cells) (16 * cell + k - 16 * other) v (omega arith))
 ]
 
+-- a cell that is kept lies over none of the first ones
+under-set_top : (cells : List ℕ) (top cell other v : ℕ) → cell ≤ top → top ≤ 16 * other → under (set cells cell v) other ≡ under cells other
+unfolding under
+under-set_top cells top cell other v low kept = ap (take 16) (drop-set-lt (16 * other + 1) cells cell v (omega arith))
+
 -- no cell lies over the first one
 pub under-set_first : (cells : List ℕ) (other v : ℕ) → under (set cells 0 v) other ≡ under cells other
 unfolding under
 under-set_first cells other v = ap (take 16) (drop-set-lt (16 * other + 1) cells 0 v (omega arith))
 
--- one cell was changed: each cell was the greatest of those under it while that one had its old number
-pub record IsRising (cells : List ℕ) (start cell was : ℕ) : Type 0 where
+-- one cell was changed: each cell that is kept was the greatest of those under it while that one had its old number
+pub record IsRising (cells : List ℕ) (top start cell was : ℕ) : Type 0 where
   pub within : cell < length cells
-  pub peaks : (other : ℕ) → other < start → get_or cells other 0 ≡ greatest (under (set cells cell was) other)
+  pub peaks : (other : ℕ) → top ≤ 16 * other → other < start → get_or cells other 0 ≡ greatest (under (set cells cell was) other)
 
--- at the first cell all is done
-pub risen_first : (cells : List ℕ) (start was : ℕ) → IsRising cells start 0 was → ArePeaks cells start
-risen_first cells start was h other l = h.peaks other l ∙ ap greatest (under-set_first cells other was)
-
--- a number was written
-pub rising_from : (cells : List ℕ) (start cell now : ℕ) → ArePeaks cells start → start ≤ cell → cell < length cells
-    → IsRising (set cells cell now) start cell (get_or cells cell 0)
-rising_from cells start cell now h high l = record {
-  within = rw (length-set cells cell now) l;
-  peaks = λ other low.
-      rw (set-set cells cell now (get_or cells cell 0), set-get_or cells cell 0, get_or-set_other cells cell other now 0 (λ e. omega arith)) (h other low);
-}
+-- where no cell over that one is kept all is done
+pub risen_top : (cells : List ℕ) (top start cell was : ℕ) → cell ≤ top → IsRising cells top start cell was → ArePeaks cells top start
+risen_top cells top start cell was low h other kept l = h.peaks other kept l ∙ ap greatest (under-set_top cells top cell other was low kept)
 
 -- the cell over another one
 abbrev pub over : ℕ → ℕ
@@ -102,32 +98,32 @@ module _ (cells : List ℕ) (cell was : ℕ) (not_first : 0 < cell) (within : ce
   others_stay other differ =
       ap (λ c. under (set cells c was) other) parts.0 ∙ under-set_outside cells (over cell) other ((cell - 1) % 16) was parts.1 differ
 
-module _ (cells : List ℕ) (start cell was : ℕ) (h : IsRising cells start cell was) (not_first : 0 < cell) where
+module _ (cells : List ℕ) (top start cell was : ℕ) (h : IsRising cells top start cell was) (not_first : 0 < cell) where
   -- where the peak stays all is done
-  pub settled : greatest (under cells (over cell)) ≡ get_or cells (over cell) 0 → ArePeaks cells start
-  settled same other l = elim (cases_eq other (over cell)) [
+  pub settled : greatest (under cells (over cell)) ≡ get_or cells (over cell) 0 → ArePeaks cells top start
+  settled same other kept l = elim (cases_eq other (over cell)) [
     | inl here ↦ rw here (sym same)
-    | inr differ ↦ h.peaks other l ∙ ap greatest (others_stay cells cell was not_first h.within other differ)
+    | inr differ ↦ h.peaks other kept l ∙ ap greatest (others_stay cells cell was not_first h.within other differ)
   ]
 
   -- else the cell over it is the one that was changed
   pub rising_over : (next : ℕ) → next ≡ greatest (under cells (over cell))
-      → IsRising (set cells (over cell) next) start (over cell) (get_or cells (over cell) 0)
+      → IsRising (set cells (over cell) next) top start (over cell) (get_or cells (over cell) 0)
   rising_over next is = record {
     within = let l = h.within in rw (length-set cells (over cell) next) (omega arith);
-    peaks = λ other l.
+    peaks = λ other kept l.
         rw (set-set cells (over cell) next (get_or cells (over cell) 0), set-get_or cells (over cell) 0)
         (elim (cases_eq other (over cell)) [
           | inl here ↦ rw (here, get_or-set_same cells (over cell) next 0 (let m = h.within in omega arith)) is
           | inr differ ↦
-              rw (get_or-set_other cells (over cell) other next 0 differ) (h.peaks other l ∙
+              rw (get_or-set_other cells (over cell) other next 0 differ) (h.peaks other kept l ∙
               ap greatest (others_stay cells cell was not_first h.within other differ))
         ]);
   }
 
 -- where all are 0 each is the greatest of those under it
-pub zero_peaks : (size count : ℕ) → ArePeaks (replicate size 0) count
-zero_peaks size count cell l =
+pub zero_peaks : (size top count : ℕ) → ArePeaks (replicate size 0) top count
+zero_peaks size top count cell kept l =
     let none = greatest_at_most (under (replicate size 0) cell) 0 (λ k m.
     let low = rw (length-under (replicate size 0) cell) at m in
     rw (get_or-under (replicate size 0) cell k (omega arith)) (all_zero (16 * cell + 1 + k))) in
@@ -139,3 +135,20 @@ zero_peaks size count cell l =
       | inl inside ↦ rw (get_or-replicate {A = ℕ} size k 0 0 inside) (omega arith)
       | inr past ↦ rw (get_or_past {X = ℕ} (replicate size 0) k 0 (rw (length-replicate {A = ℕ} size 0) past)) (omega arith)
     ]
+
+-- each of these cells is the greatest of the cells under it
+abbrev pub AreAllPeaks : List ℕ → ℕ → Type 0
+AreAllPeaks cells count = (cell : ℕ) → cell < count → get_or cells cell 0 ≡ greatest (under cells cell)
+
+-- the cells with the greatest of all in the first one
+abbrev pub rooted : List ℕ → List ℕ
+rooted cells = set cells 0 (greatest (under cells 0))
+
+pub root : (cells : List ℕ) → 0 < length cells → get_or (rooted cells) 0 0 ≡ greatest (under cells 0)
+root cells some = get_or-set_same cells 0 (greatest (under cells 0)) 0 some
+
+pub rooted_peaks : (cells : List ℕ) (top start : ℕ) → top ≤ 16 → 0 < length cells → ArePeaks cells top start → AreAllPeaks (rooted cells) start
+rooted_peaks cells top start low some h zero l = root cells some ∙ ap greatest (sym (under-set_first cells 0 (greatest (under cells 0))))
+rooted_peaks cells top start low some h (suc cell) l =
+    get_or-set_other cells 0 (suc cell) (greatest (under cells 0)) 0 (λ e. omega arith) ∙ h (suc cell) (omega arith) l
+    ∙ ap greatest (sym (under-set_first cells (suc cell) (greatest (under cells 0))))

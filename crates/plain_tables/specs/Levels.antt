@@ -1,5 +1,5 @@
 -- How the numbers stand in the fields of `Peaks`.
-use Rattle.std.specs.Prelude.{◌≡◌, ℕ, zero, suc, ◌+◌, ◌*◌, ◌<◌, ◌≤◌, ◌^◌, List, length, take, drop, slice_index}
+use Rattle.std.specs.Prelude.{◌≡◌, ◌⊎◌, ℕ, zero, suc, ◌+◌, ◌*◌, ◌<◌, ◌≤◌, ◌^◌, List, length, take, drop, slice_index}
 use Rattle.plain_tables.specs.Greatest.{greatest}
 use Rattle.plain_tables.specs.declared.peaks.Peaks.TheInside.{Inside}
 
@@ -12,9 +12,14 @@ level_start (suc level) = 16 * level_start level + 1
 unfoldable pub under : List ℕ → ℕ → List ℕ
 under cells cell = take 16 (drop (16 * cell + 1) cells)
 
--- each of these cells is the greatest of the cells under it
-abbrev pub ArePeaks : List ℕ → ℕ → Type 0
-ArePeaks cells count = (cell : ℕ) → cell < count → slice_index cells cell ≡ greatest (under cells cell)
+-- the cell over the first so many ones is not kept: the first one, or none
+abbrev pub IsTop : ℕ → Type 0
+IsTop top = (top ≡ 0) ⊎ (top ≡ 16)
+
+-- each of these cells that is kept is the greatest of the cells under it
+abbrev pub ArePeaks : List ℕ → ℕ → ℕ → Type 0
+ArePeaks cells top count =
+    (cell : ℕ) → top ≤ 16 * cell → cell < count → slice_index cells cell ≡ greatest (under cells cell)
 
 -- so many levels stand above the numbers, which begin here, and each number is under a cell
 pub record IsShape (levels start count : ℕ) : Type 0 where
@@ -24,10 +29,11 @@ pub record IsShape (levels start count : ℕ) : Type 0 where
   pub most : count ≤ 16 * start + 1
   pub small : count < 2 ^ 40
 
--- each cell above the numbers is the greatest of those under it
+-- each cell above the numbers that is kept is the greatest of those under it
 pub record IsTree (p : Inside) : Type 0 where
   pub shape : IsShape p.levels p.start (length p.cells.items)
-  pub peaks : ArePeaks p.cells.items p.start
+  pub top : IsTop p.top
+  pub peaks : ArePeaks p.cells.items p.top p.start
 
 -- the numbers
 abbrev pub numbers_of : Inside → List ℕ

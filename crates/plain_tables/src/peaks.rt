@@ -1,7 +1,7 @@
 ghost use Rattle.std.specs.Prelude.{◌≡◌, ℕ, ◌+◌, ◌-◌, ◌*◌, ◌/◌, ◌<◌, ◌≤◌, ◌^◌, ◌↔◌, ◌==◌, length, replicate, slice_index, slice_set, IfOk, IfSome, IsNone};
 ghost use Rattle.std.specs.List.{All, position};
 ghost use Rattle.plain_tables.specs.Greatest.{greatest, sixteen_of, IsFirstGreatest};
-ghost use Rattle.plain_tables.specs.Levels.{under};
+ghost use Rattle.plain_tables.specs.Levels.{under, IsTop};
 
 use std::alloc::{AllocError, Global};
 use std::marker::Model;
@@ -9,7 +9,7 @@ use std::marker::Model;
 /// Numbers of which the greatest is known.
 ///
 /// Above the numbers there are levels of cells, each the greatest of sixteen cells of the level below it,
-/// up to a single cell. No call but `new` takes memory.
+/// up to a single cell. No call but those that make the levels takes memory.
 #[derive(Debug, Drop)]
 pub struct Peaks {
     /// The levels one after another from the single cell on, and behind them the numbers. Under the cell
@@ -19,6 +19,9 @@ pub struct Peaks {
     levels: usize,
     /// Where the numbers begin.
     start: usize,
+    /// The cell over the first so many ones is not kept: 16 where the single cell is found when it is asked for,
+    /// and else 0.
+    top: usize,
 }
 
 impl Model for Peaks {
@@ -40,6 +43,23 @@ impl Peaks {
         requires { count < 2 ^ 32 }
         ensures { IfOk result (λ p. p ≡ replicate count 0) }
     {
+        Peaks::with_top(alloc, count, 0)
+    }
+
+    /// The same for numbers that change more often than the greatest is asked for.
+    pub fn for_changes(alloc: Global, count: usize) -> Result<Peaks, AllocError>
+        requires { count < 2 ^ 32 }
+        ensures { IfOk result (λ p. p ≡ replicate count 0) }
+    {
+        Peaks::with_top(alloc, count, 16)
+    }
+
+    /// The same where the cell over the first `top` ones is not kept.
+    fn with_top(alloc: Global, count: usize, top: usize) -> Result<Peaks, AllocError>
+        requires count { count < 2 ^ 32 }
+        requires top { IsTop top }
+        ensures { IfOk result (λ p. p ≡ replicate count 0) }
+    {
         let mut levels = 1;
         let mut start = 1;
         while 15 * start + 1 < count {
@@ -50,6 +70,7 @@ impl Peaks {
             cells: vec![in alloc; 0; start + count]?,
             levels,
             start,
+            top,
         })
     }
 
@@ -71,7 +92,7 @@ impl Peaks {
         let mut cell = self.start + at;
         let mut was = self.cells[cell];
         self.cells[cell] = to;
-        while cell > 0 {
+        while cell > self.top {
             let above = (cell - 1) / 16;
             let peak = self.cells[above];
             let next = peak_over(&self.cells, cell, was);
@@ -90,7 +111,7 @@ impl Peaks {
         ensures none { IsNone result ↔ All (λ x. x ≡ 0) self.now }
         ensures first { IfSome result (IsFirstGreatest self.now) }
     {
-        let peak = self.cells[0];
+        let peak = peak_at(&self.cells, self.top, 0);
         if peak == 0 {
             return None;
         }
@@ -108,7 +129,21 @@ impl Peaks {
         requires { 16 * sixteen < length self.now }
         ensures { result ≡ greatest (sixteen_of self.now sixteen) }
     {
-        self.cells[(self.start - 1) / 16 + sixteen]
+        peak_at(&self.cells, self.top, (self.start - 1) / 16 + sixteen)
+    }
+}
+
+/// The greatest of the cells under a cell: what the cell has, where it is kept.
+fn peak_at(cells: &[u32], top: usize, cell: usize) -> u32
+    requires within { cell < length cells.now }
+    requires small { cell < 2 ^ 40 }
+    requires peak { top ≤ 16 * cell → slice_index cells.now cell ≡ greatest (under cells.now cell) }
+    ensures { result ≡ greatest (under cells.now cell) }
+{
+    if top <= 16 * cell {
+        cells[cell]
+    } else {
+        greatest_under(cells, cell)
     }
 }
 

@@ -157,21 +157,26 @@ fn plain_greatest(numbers: &[u32]) -> Option<usize> {
 #[test]
 fn the_first_greatest_number_is_known(rt: HostRuntime) -> Result<(), Fail> {
     let mut peaks = Peaks::new(rt.alloc(), COUNT)?;
+    let mut changing = Peaks::for_changes(rt.alloc(), COUNT)?;
     let mut numbers = vec![in rt.alloc(); 0; COUNT]?;
     assert_eq!(rt; peaks.first_greatest(), None);
+    assert_eq!(rt; changing.first_greatest(), None);
     let mut random: u32 = 7;
     for _ in 0..2000 {
         random = random.wrapping_mul(1664525).wrapping_add(1013904223);
         let at = (random >> 8) as usize % COUNT;
         let to = (random >> 24) % 5;
         peaks.set(at, to);
+        changing.set(at, to);
         numbers[at] = to;
         assert_eq!(rt; peaks.get(at), to);
         assert_eq!(rt; peaks.first_greatest(), plain_greatest(&numbers));
+        assert_eq!(rt; changing.first_greatest(), plain_greatest(&numbers));
         let sixteen = at / 16;
         let end = (16 * sixteen + 16).min(COUNT);
         let most = numbers[16 * sixteen..end].iter().copied().max();
         assert_eq!(rt; Some(peaks.greatest_of(sixteen)), most);
+        assert_eq!(rt; Some(changing.greatest_of(sixteen)), most);
     }
     Ok(())
 }

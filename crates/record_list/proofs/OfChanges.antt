@@ -7,6 +7,5 @@ pub mod WrittenChange
 pub mod WrittenLists
 pub mod CopyLaw
 pub mod Counting
-pub mod Flags
 pub mod Partial
 pub mod Completing

@@ -1,3 +1,2 @@
 pub mod SccCompleting
-pub mod SccCurrent
 pub mod SccPartial

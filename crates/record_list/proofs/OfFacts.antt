@@ -6,5 +6,4 @@ pub mod Safe
 pub mod Greatest
 pub mod Held
 pub mod Wanted
-pub mod Examples
 pub mod Breaches

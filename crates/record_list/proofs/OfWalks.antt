@@ -1,4 +1,3 @@
-pub mod Walk
 pub mod Follow
 pub mod Returns
 pub mod Rounds

@@ -60,7 +60,7 @@ fn passed(protocol: Protocol, list: &[Found], link: Link) -> Why
 }
 
 /// What decides the verdict on the newest record of a page: where the walk from it ends.
-#[tactic(auto, using(crate::proofs::OfWalks::Walk::walk_turn))]
+#[tactic(auto, using(crate::proofs::walks::reason::Answers::Walk::walk_turn))]
 pub fn reason(protocol: Protocol, list: &[Found], logical: u32, page: u32) -> Why
     ensures { result ≡ why protocol list.now logical page }
 {

@@ -1,6 +1,5 @@
 pub mod Straddle
 pub mod BpccLinks
-pub mod Between
 pub mod Ending
 pub mod BpccPartial
 pub mod BpccAnswers

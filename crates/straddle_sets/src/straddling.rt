@@ -1,4 +1,4 @@
-ghost use Rattle.std.specs.Prelude.{◌≡◌, ◌≢◌, ◌<◌, true, false, AllPairs, IfSome, IfNone, length, slice_index_or};
+ghost use Rattle.std.specs.Prelude.{◌≡◌, ◌<◌, true, false, IfSome, IfNone, length, slice_index_or};
 ghost use Rattle.tx_types.specs.declared.config.Protocol.TheVariants.{Bpcc};
 ghost use Rattle.record_list.specs.Records.{greatest, nothing, record_at};
 ghost use Rattle.record_list.specs.Verdict.{straddles};
@@ -71,9 +71,8 @@ pub fn responsible(list: &[Found], logical: u32, at: usize) -> Option<usize>
 
 /// The index of the record that answers for a link, by the current version of its page: of those of the
 /// page that straddle the link, with versions up to the current one, that of the greatest version, in its
-/// lowest slot. The slots of the list are distinct, in any order.
+/// lowest slot. The list may be in any order.
 pub fn responsible_of(list: &[Found], link: Link, current: u64) -> Option<usize>
-    requires { AllPairs (λ f g. f.slot.0 ≢ g.slot.0) list.now }
     ensures { FindsAnswer list.now link current (length list.now) result }
 {
     let mut answer = None;

@@ -1,5 +1,3 @@
-ghost use Rattle.std.specs.Prelude.{◌≢◌, IsTrue, AllPairs};
-
 use crate::straddling::straddling_up_to;
 use crate::{answers_for, responsible, responsible_of, responsible_version, straddles};
 use record_list::{Found, straddling};
@@ -120,20 +118,6 @@ fn straddlers_of_all_records_and_of_counted_ones(rt: HostRuntime) {
     assert!(rt; answers_for(&namesakes, 3, namesakes[2].rec, namesakes[0].rec));
 }
 
-/// Whether no two records of a list stand in one slot.
-fn has_distinct_slots(list: &[Found]) -> bool
-    ensures { IsTrue result → AllPairs (λ f g. f.slot.0 ≢ g.slot.0) list.now }
-{
-    let mut low = 0;
-    for found in list {
-        if u64::from(found.slot.0) < low {
-            return false;
-        }
-        low = u64::from(found.slot.0) + 1;
-    }
-    true
-}
-
 #[test]
 fn the_answer_of_a_few_records(rt: HostRuntime) {
     // page 1 has the current version 5, with versions 3 and 4 that straddle 2, the latter in two slots
@@ -145,7 +129,6 @@ fn the_answer_of_a_few_records(rt: HostRuntime) {
         found(4, (1, 5), (1, 5), 4),
         found(5, (1, 7), (2, 1), 0),
     ];
-    assert!(rt; has_distinct_slots(&list));
     for (name, current, want) in [
         (link(1, 2), 5, Some(0)),
         (link(1, 2), 3, Some(1)),

@@ -1,6 +1,7 @@
+mod Limits
 use Rattle.std.proofs.Common.{◌<◌, arith}
 use Rattle.desk_io.specs.Desk.{max_file_bytes}
-use Rattle.desk_io.proofs.Limits.{found_read}
+use Rattle.desk_io.proofs.real.first_bytes.Answers.Limits.{found_read}
 use Rattle.desk_io.proofs.real.first_bytes.Goals as goal
 
 pub returns : goal.returns

@@ -1,8 +1,9 @@
+mod Besides
 use Rattle.std.proofs.Common.{◌≡◌, ◌++◌, [], codes, append_assoc, append-nil}
 use Rattle.std.specs.Fmt.{decimal}
 use Rattle.std.specs.Prelude.{IfOk}
 use Rattle.std.specs.String.{string_bytes}
-use Rattle.durable_folder.proofs.Besides.{own_if_ok, numbered, not_numbered}
+use Rattle.durable_folder.proofs.beside.own_beside.Answers.Besides.{own_if_ok, numbered, not_numbered}
 use Rattle.durable_folder.proofs.beside.own_beside.Goals as goal
 
 pub returns-then-number-gt1 : goal.returns-then-number-gt1

@@ -1,6 +1,7 @@
+mod BehindLemmas
 use Rattle.std.proofs.Common.{sym, ap, ◌∙◌, arith}
 use Rattle.mem_flash.specs.Memory.{fresh}
-use Rattle.image_file.proofs.BehindLemmas.{IsBehind, cells_fit, rest_is, filled, slots_hold, image_is}
+use Rattle.image_file.proofs.image.take_slots.Answers.BehindLemmas.{IsBehind, cells_fit, rest_is, filled, slots_hold, image_is}
 use Rattle.image_file.proofs.image.take_slots.Goals as goal
 
 pub wrong_bytes-requires : goal.wrong_bytes-requires

@@ -20,15 +20,15 @@ pub returns-in-None-clause-spelled : goal.returns-in-None-clause-spelled
 returns-in-None-clause-spelled c =
     let fits : IsBytes c.args.spare_area.now = record { at = c.fits-spare_area } in
     let none = breaks_none c.args.protocol c.args.spare_area.now (sym c.broken_rule.ensures ∙ c.in-None.is) in
-    rw c.fields.ensures (
+    rw c.fields-rec.ensures (
       can_be_spelled c.args.protocol c.args.spare_area.now c.told-spare_area fits none,
       is_spelled c.args.protocol c.args.spare_area.now c.told-spare_area fits none,
     )
 
 pub returns-in-None-clause-only : goal.returns-in-None-clause-only
-returns-in-None-clause-only c = λ rec can is_spelling. rw (c.fields.ensures, is_spelling, fields_of-spelling c.args.protocol rec can) refl
+returns-in-None-clause-only c = λ rec can is_spelling. rw (c.fields-rec.ensures, is_spelling, fields_of-spelling c.args.protocol rec can) refl
 
 pub returns-in-None-clause-found : goal.returns-in-None-clause-found
 returns-in-None-clause-found c =
     let fits : IsBytes c.args.spare_area.now = record { at = c.fits-spare_area } in
-    rw c.fields.ensures (sym (record_of-fields c.args.protocol c.args.spare_area.now c.told-spare_area fits (sym c.broken_rule.ensures ∙ c.in-None.is)))
+    rw c.fields-rec.ensures (sym (record_of-fields c.args.protocol c.args.spare_area.now c.told-spare_area fits (sym c.broken_rule.ensures ∙ c.in-None.is)))

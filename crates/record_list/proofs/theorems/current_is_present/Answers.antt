@@ -1,4 +1,5 @@
-use Rattle.record_list.proofs.OfCycles.SccCurrent.{scc_current_present}
+mod SccCurrent
+use Rattle.record_list.proofs.theorems.current_is_present.Answers.SccCurrent.{scc_current_present}
 use Rattle.record_list.proofs.theorems.current_is_present.Goals as goal
 
 pub returns : goal.returns

@@ -1,4 +1,5 @@
-use Rattle.record_list.proofs.OfChanges.Flags.{write_keeps_flags, others_keep_flags, copy_keeps_flags, loss_keeps_flags}
+mod Flags
+use Rattle.record_list.proofs.theorems.flags_stay.Answers.Flags.{write_keeps_flags, others_keep_flags, copy_keeps_flags, loss_keeps_flags}
 use Rattle.record_list.proofs.theorems.flags_stay.Goals as goal
 
 pub returns-clause-write : goal.returns-clause-write

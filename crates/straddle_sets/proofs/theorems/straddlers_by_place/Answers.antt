@@ -1,5 +1,6 @@
+mod Between
 use Rattle.record_list.proofs.OfFacts.SoundNames.{sound_map, clear_from, clear_gives}
-use Rattle.straddle_sets.proofs.Between.{answers_straddle, current_clear, clear_high}
+use Rattle.straddle_sets.proofs.theorems.straddlers_by_place.Answers.Between.{answers_straddle, current_clear, clear_high}
 use Rattle.straddle_sets.proofs.Straddle.{none_above}
 use Rattle.tx_types.specs.declared.config.Protocol.TheVariants.{Bpcc}
 use Rattle.straddle_sets.proofs.theorems.straddlers_by_place.Goals as goal

@@ -1,5 +1,6 @@
+mod Division
 use Rattle.std.proofs.Common.{refl}
-use Rattle.plain_tables.proofs.Division.{quotient_is}
+use Rattle.plain_tables.proofs.divisor.Divisor.quotient.Answers.Division.{quotient_is}
 use Rattle.plain_tables.proofs.divisor.Divisor.quotient.Goals as goal
 
 pub returns : goal.returns

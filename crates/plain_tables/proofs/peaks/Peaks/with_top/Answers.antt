@@ -1,7 +1,7 @@
 use Rattle.std.proofs.Common.{◌≡◌, ℕ, ◌+◌, ◌-◌, replicate, length, rules, arith, ap}
 use Rattle.std.proofs.lemmas.List.{length-replicate, drop-replicate}
 use Rattle.plain_tables.proofs.Tree.{zero_peaks}
-use Rattle.plain_tables.proofs.peaks.Peaks.new.Goals as goal
+use Rattle.plain_tables.proofs.peaks.Peaks.with_top.Goals as goal
 
 pub invariant_of-result : goal.invariant_of-result
 invariant_of-result c =
@@ -15,7 +15,8 @@ invariant_of-result c =
         most = omega arith;
         small = omega arith;
       });
-      peaks = rw items (zero_peaks (c.loop-start.start + c.args.count) c.loop-start.start);
+      top = c.requires.top;
+      peaks = rw items (zero_peaks (c.loop-start.start + c.args.count) c.args.top c.loop-start.start);
     }
 
 pub returns : goal.returns

@@ -1,6 +1,6 @@
 use Rattle.std.proofs.Common.{◌≡◌, ◌+◌, ◌-◌, ◌*◌, ◌<◌, ◌≤◌}
 use Rattle.plain_tables.specs.Levels.{level_start}
-use Rattle.plain_tables.proofs.peaks.Peaks.new.Given as goal
+use Rattle.plain_tables.proofs.peaks.Peaks.with_top.Given as goal
 
 abbrev pub invariant-loop-start : goal.invariant-loop-start
 invariant-loop-start l =
