@@ -3,5 +3,4 @@ pub mod OneOrbit
 pub mod Noted
 pub mod Paths
 pub mod Pigeonhole
-pub mod Rings
 pub mod WalkOrbits

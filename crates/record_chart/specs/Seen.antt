@@ -1,5 +1,5 @@
 -- What is known of the nodes of a graph while their orbits are looked for.
-use Rattle.std.specs.Prelude.{◌≡◌, ◌≢◌, ℕ, suc, ◌<◌, ◌+◌, ◌^◌, Option, Some, None, List, [], ◌∷◌, length, slice_index_or, slice_set}
+use Rattle.std.specs.Prelude.{◌≡◌, ◌≢◌, ℕ, suc, ◌<◌, ◌+◌, ◌^◌, ◌⊎◌, Option, Some, None, List, [], ◌∷◌, length, slice_index_or, slice_set}
 use Rattle.record_chart.specs.declared.orbit.Orbit.{Orbit}
 use Rattle.record_chart.specs.declared.orbit.Orbit.TheVariants.{Ends, Round, Aside}
 use Rattle.record_chart.specs.declared.seen.Seen.{Seen}
@@ -26,9 +26,9 @@ IsKnown seen i = (orbit : Orbit) × (seen_at seen i ≡ Known orbit)
 abbrev pub LeadsToKnown : List (Option ℕ) → List Seen → ℕ → Type 0
 LeadsToKnown graph seen i = (j : ℕ) → next_of graph i ≡ Some j → IsKnown seen j
 
--- nothing follows this node but itself
-abbrev pub IsAlone : List (Option ℕ) → ℕ → Type 0
-IsAlone graph i = (j : ℕ) → next_of graph i ≡ Some j → j ≡ i
+-- nothing follows this node but itself, or what is known
+abbrev pub LeadsNoFurther : List (Option ℕ) → List Seen → ℕ → Type 0
+LeadsNoFurther graph seen i = (j : ℕ) → next_of graph i ≡ Some j → (j ≡ i) ⊎ IsKnown seen j
 
 -- a path is followed: each node of it but the first follows the one before, and the places of its nodes
 -- are noted. What is known is right, and leads to what is known

@@ -10,7 +10,9 @@ ghost use Rattle.record_chart.specs.Orbits.{IsGraph};
 
 use crate::arrange::arranged;
 use crate::group::{straddling, straddling_up_to, straddling_up_to_bound};
-use crate::in_order::{back_of, find, first_namesake, link_of, named, newest, next_older};
+use crate::in_order::{
+    back_of, find, find_near, first_namesake, link_of, named, newest, next_older,
+};
 use crate::minima::minima_of_many;
 use crate::search::page_starts;
 use crate::walks::{links, shown, targets};
@@ -95,6 +97,14 @@ impl Chart {
         find(&self.records, &self.starts, name)
     }
 
+    /// The same, where a search may well end beside the place at which the last one ended.
+    #[inline]
+    pub fn find_near(&self, name: Link, near: &mut usize) -> Option<u32>
+        ensures { result ≡ position (λ f. has_name name f.rec) self.now }
+    {
+        find_near(&self.records, &self.starts, name, near)
+    }
+
     /// The place of the first record that has the name of the one at this place.
     #[inline]
     pub fn first_namesake(&self, at: u32) -> u32
@@ -136,6 +146,7 @@ impl Chart {
     }
 
     /// The greatest version of a record that straddles this name, 0 for none.
+    #[inline(always)]
     pub fn straddling(&self, name: Link) -> u64
         ensures { result ≡ straddling self.now name }
     {

@@ -1,6 +1,6 @@
 ghost use Rattle.std.specs.Prelude.{◌≡◌, ◌≢◌, ℕ, ◌-◌, ◌<◌, ◌^◌, [], ◌∷◌, ◌++◌, All, IfOk, IfSome, OnOk, length, take, drop, slice_set};
 ghost use Rattle.record_chart.specs.Orbits.{IsGraph, IsOrbit};
-ghost use Rattle.record_chart.specs.Seen.{seen_at, noted, orbit_before, MayGrow, IsFollowed, EndsBy, StaysSeen, IsAlone};
+ghost use Rattle.record_chart.specs.Seen.{seen_at, noted, orbit_before, MayGrow, IsFollowed, EndsBy, StaysSeen, LeadsNoFurther};
 ghost use Rattle.record_chart.specs.declared.orbit.Orbit.TheVariants.{Round};
 ghost use Rattle.record_chart.specs.declared.seen.Seen.TheVariants.{New, OnPath};
 
@@ -29,7 +29,7 @@ pub fn find(
     ensures seen { OnOk result (StaysSeen seen.old seen.new) }
     ensures start { OnOk result (seen_at seen.new start ≢ New) }
 {
-    match orbit_alone(graph, start) {
+    match orbit_at_once(graph, start, seen) {
         Some(orbit) => {
             seen[start as usize] = Seen::Known(orbit);
             Ok(())
@@ -38,20 +38,27 @@ pub fn find(
     }
 }
 
-/// The orbit of a node that has no next one, or is its own; nothing for any other.
+/// The orbit of a node that is new, where it has no next one, or is its own, or the orbit of its next one is known;
+/// nothing for any other.
 #[inline(always)]
-fn orbit_alone(graph: &[Option<u32>], node: u32) -> Option<Orbit>
-    requires { node < length graph.now }
+fn orbit_at_once(graph: &[Option<u32>], node: u32, seen: &[Seen]) -> Option<Orbit>
+    requires graph { IsGraph graph.now }
+    requires size { length graph.now < 2 ^ 32 }
+    requires node { node < length graph.now }
+    requires new { seen_at seen.now node ≡ New }
+    requires followed { IsFollowed graph.now seen.now [] }
     ensures orbit { IfSome result (IsOrbit graph.now node) }
-    ensures alone { IfSome result (λ _. IsAlone graph.now node) }
+    ensures leads { IfSome result (λ _. LeadsNoFurther graph.now seen.now node) }
 {
     match graph[node as usize] {
         None => Some(Orbit::Ends { after: 0, at: node }),
         Some(next) => {
             if next == node {
-                Some(Orbit::Round { length: 1 })
-            } else {
-                None
+                return Some(Orbit::Round { length: 1 });
+            }
+            match seen[next as usize] {
+                Seen::Known(orbit) => Some(orbit_before(node, Some(orbit))),
+                Seen::New | Seen::OnPath(_) => None,
             }
         }
     }

@@ -8,16 +8,36 @@ ghost use Rattle.record_chart.specs.Charts.{IsInOrder};
 ghost use Rattle.record_chart.specs.Minima.{AreMinima};
 ghost use Rattle.record_chart.specs.Starts.{AreStarts};
 
-use crate::in_order::names_up_to;
+use crate::in_order::{names_up_to, newest};
 use crate::minima::{count_below, last_above};
 use crate::search::{pages_below, pages_up_to};
 use record_list::Found;
-use straddle_sets::straddles;
+use straddle_sets::{responsible_of, straddles};
 use tx_types::Link;
 
-/// The greatest version of a record that straddles this name, 0 for none, by the least back versions of
-/// the records, where they are noted.
+/// The greatest version of a record that straddles this name, 0 for none: there is none where the page has no
+/// newer version.
+#[inline(always)]
 pub fn straddling(records: &[Found], starts: &[u32], least: &Option<Vec<u64>>, name: Link) -> u64
+    requires order { IsInOrder records.now }
+    requires starts { AreStarts records.now starts.now }
+    requires minima { IfSome least.now (λ m. AreMinima records.now [] m.items) }
+    ensures { result ≡ straddling records.now name }
+{
+    if newest(records, starts, name.page) <= name.version {
+        return 0;
+    }
+    straddling_below_newest(records, starts, least, name)
+}
+
+/// The same by the least back versions of the records, where they are noted.
+#[inline(never)]
+fn straddling_below_newest(
+    records: &[Found],
+    starts: &[u32],
+    least: &Option<Vec<u64>>,
+    name: Link,
+) -> u64
     requires order { IsInOrder records.now }
     requires starts { AreStarts records.now starts.now }
     requires minima { IfSome least.now (λ m. AreMinima records.now [] m.items) }
@@ -126,19 +146,15 @@ pub fn straddling_up_to(records: &[Found], starts: &[u32], name: Link, top: u64)
     greatest_up_to(group(records, starts, name.page), name, top)
 }
 
-/// The greatest version, up to `top`, of one of these records that straddles this name, 0 for none.
-#[tactic(auto, using(record_list::proofs::OfFacts::Greatest::greatest_step))]
+/// The greatest version, up to `top`, of one of these records that straddles this name, 0 for none: that of the
+/// record that answers for the name.
 fn greatest_up_to(group: &[Found], name: Link, top: u64) -> u64
     ensures { result ≡ greatest (straddling_upto top name) group.now }
 {
-    let mut best = 0;
-    for found in group {
-        let rec = found.rec;
-        if rec.page == name.page && straddles(rec, name.version) && rec.version <= top {
-            best = rec.version.max(best);
-        }
+    match responsible_of(group, name, top) {
+        Some(at) => group[at].rec.version,
+        None => 0,
     }
-    best
 }
 
 /// The records of a page: what is 0 for those of other pages has the same greatest value among them.

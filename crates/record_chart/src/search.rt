@@ -38,7 +38,10 @@ fn fill(numbers: &mut Vec<u32>, size: usize, number: u32) -> Result<(), AllocErr
     ensures { OnOk result (numbers.new.items
         ≡ numbers.old.items ++ replicate (size - length numbers.old.items) number) }
 {
-    numbers.resize(size, number)
+    while numbers.len() < size {
+        numbers.push(number)?;
+    }
+    Ok(())
 }
 
 /// How many of the records are of pages below this one: they are the first.

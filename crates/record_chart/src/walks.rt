@@ -109,6 +109,7 @@ fn newest_target(records: &[Found], starts: &[u32], target: Option<u32>) -> Opti
 }
 
 /// What decides the verdict on the newest record of a page, from the orbit of its place.
+#[inline(always)]
 pub fn shown(
     protocol: Protocol,
     records: &[Found],
@@ -139,6 +140,7 @@ pub fn shown(
 }
 
 /// What a link shows at which a walk ends, if it is not that to its start.
+#[inline(never)]
 fn ending(
     protocol: Protocol,
     records: &[Found],

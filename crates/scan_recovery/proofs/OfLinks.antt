@@ -1,4 +1,3 @@
 pub mod OwnLinks
 pub mod SharedLinks
-pub mod NameOrbits
 pub mod Outside

@@ -1,3 +1,1 @@
-pub mod OpenedImages
-pub mod OpenedTable
 pub mod Used

@@ -19,42 +19,48 @@ pub fn endless(standing: &Standing, orbits: &Option<Orbits>, records: &[Found]) 
 {
     records
         .iter()
-        .position(|found| !is_ending(standing, orbits, found))
+        .position(|found| !is_ending(standing, orbits, found, &mut 0))
 }
 
-/// Whether the links of a record, if it is loose, lead to an absent name.
+/// Whether the links of a record, if it is loose, lead to an absent name. The first may well lead to a place near the
+/// one before.
 #[inline(always)]
 #[tactic(auto, unfolding(record_list::specs::SoundList::LooseEnds))]
-pub fn is_ending(standing: &Standing, orbits: &Option<Orbits>, found: &Found) -> bool
+pub fn is_ending(
+    standing: &Standing,
+    orbits: &Option<Orbits>,
+    found: &Found,
+    near: &mut usize,
+) -> bool
     requires { KnowsOrbits standing.now orbits.now }
     ensures { let s = standing.now in
         IsTrue result ↔ LooseEnds s.protocol s.list s.logical found.now }
 {
     match orbits {
         None => true,
-        Some(orbits) => is_ending_by(standing, orbits, found),
+        Some(orbits) => is_ending_by(standing, orbits, found, near),
     }
 }
 
 /// Whether the links of a record, if it is loose, lead to an absent name, by the orbits of all links.
 #[inline(always)]
 #[tactic(auto, unfolding(record_list::specs::SoundList::LooseEnds))]
-fn is_ending_by(standing: &Standing, orbits: &Orbits, found: &Found) -> bool
+fn is_ending_by(standing: &Standing, orbits: &Orbits, found: &Found, near: &mut usize) -> bool
     requires { AreOrbits (name_graph standing.now.list) orbits.now }
     ensures { let s = standing.now in
         IsTrue result ↔ LooseEnds s.protocol s.list s.logical found.now }
 {
     standing.protocol() == Protocol::Scc
         || !standing.is_loose(found.rec)
-        || leads_out(standing.chart(), orbits, found.rec.next)
+        || leads_out(standing.chart(), orbits, found.rec.next, near)
 }
 
 /// Whether the links from a name lead to an absent one.
-fn leads_out(chart: &Chart, orbits: &Orbits, name: Link) -> bool
+fn leads_out(chart: &Chart, orbits: &Orbits, name: Link, near: &mut usize) -> bool
     requires { AreOrbits (name_graph chart.now) orbits.now }
     ensures { IsTrue result ↔ LeadsOut chart.now name }
 {
-    match chart.find(name) {
+    match chart.find_near(name, near) {
         None => true,
         Some(place) => match orbits.orbit(place) {
             Orbit::Ends { .. } => true,

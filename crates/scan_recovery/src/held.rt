@@ -31,8 +31,11 @@ fn answerer(standing: &Standing, rec: Rec) -> Option<u32>
     match standing.protocol() {
         Protocol::Scc => None,
         Protocol::Bpcc => {
+            if !standing.is_loose(rec) {
+                return None;
+            }
             let version = standing.responsible(rec.next);
-            if standing.is_loose(rec) && 0 < version {
+            if 0 < version {
                 let page = rec.next.page;
                 standing.chart().find(Link { page, version })
             } else {

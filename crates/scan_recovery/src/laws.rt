@@ -70,24 +70,41 @@ fn are_kept(standing: &Standing, orbits: &Option<Orbits>, records: &[Found]) -> 
     requires { KnowsOrbits standing.now orbits.now }
     ensures { result ≡ true → AreKept standing.now records.now }
 {
+    let mut near = 0;
     for found in records {
-        if !is_kept(standing, orbits, found) {
+        if !is_kept(standing, orbits, found, &mut near) {
             return false;
         }
     }
     true
 }
 
-/// Whether a record keeps laws 4 to 7.
+/// Whether a record keeps laws 4 to 7. Its link may well lead to a place near the one before.
 #[inline(always)]
-fn is_kept(standing: &Standing, orbits: &Option<Orbits>, found: &Found) -> bool
+fn is_kept(standing: &Standing, orbits: &Option<Orbits>, found: &Found, near: &mut usize) -> bool
+    requires { KnowsOrbits standing.now orbits.now }
+    ensures { result ≡ true → IsKept standing.now found.now }
+{
+    if found.rec.version == standing.current(found.rec.page) {
+        return has_current(standing, found) && has_counted(standing, found);
+    }
+    is_kept_aside(standing, orbits, found, near)
+}
+
+/// Whether a record keeps laws 4 to 7 that is not current.
+fn is_kept_aside(
+    standing: &Standing,
+    orbits: &Option<Orbits>,
+    found: &Found,
+    near: &mut usize,
+) -> bool
     requires { KnowsOrbits standing.now orbits.now }
     ensures { result ≡ true → IsKept standing.now found.now }
 {
     has_current(standing, found)
         && has_counted(standing, found)
         && is_shown(standing, found)
-        && is_ending(standing, orbits, found)
+        && is_ending(standing, orbits, found, near)
 }
 
 /// The index of the first of these records that breaks law 4: where it is the newest of its page, the

@@ -1,7 +1,6 @@
 pub mod OfRecords
 pub mod OfNeeds
 pub mod OfSlots
-pub mod OfSpare
 pub mod OfAnswerers
 pub mod OfWaits
 pub mod OfGiven

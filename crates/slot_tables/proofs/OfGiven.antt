@@ -1,5 +1,4 @@
 pub mod Copying
-pub mod FirstTables
 pub mod Held
 pub mod SettledAll
 pub mod Settling

@@ -1,4 +1,3 @@
-pub mod InBlocks
 pub mod Leaving
 pub mod SlotSetting
 pub mod GatheredSlots

@@ -11,6 +11,7 @@ use tx_types::{Block, Rec, Slot};
 
 impl Tables {
     /// Gives a record, newer than those of its page, a number that has none.
+    #[inline(always)]
     pub fn add(&mut self, rec: Rec) -> u32
         requires page { rec.page < length self.old.pages }
         requires free { HasFree self.old.records }
@@ -35,6 +36,7 @@ impl Tables {
     }
 
     /// Says what a slot holds. Where it is a record this goes through its copies below the slot.
+    #[inline(always)]
     pub fn set_slot(&mut self, at: Slot, to: SlotUse)
         requires slot { at.0 < slots_of self.old.shape }
         requires number { NumbersBelow (slots_of self.old.shape) to }
@@ -47,6 +49,7 @@ impl Tables {
     }
 
     /// Says that a slot holds no record. Where it was needed, another slot is now in its place.
+    #[inline(always)]
     fn empty_slot(&mut self, at: Slot, to: SlotUse)
         requires slot { at.0 < slots_of self.old.shape }
         requires none { HoldsNone to }
@@ -90,6 +93,7 @@ impl Tables {
     }
 
     /// Says which record answers for a record.
+    #[inline(always)]
     pub fn set_answerer(&mut self, number: u32, to: Option<u32>)
         requires number { number < slots_of self.old.shape }
         requires answerer { IfSome to (λ other. other < slots_of self.old.shape) }
@@ -106,6 +110,7 @@ impl Tables {
     }
 
     /// Says for which page a record waits.
+    #[inline(always)]
     pub fn set_waits(&mut self, number: u32, to: Option<u32>)
         requires number { number < slots_of self.old.shape }
         requires page { IfSome to (λ page. page < length self.old.pages) }
@@ -116,6 +121,7 @@ impl Tables {
 
     /// Pins a page at a version, in place of an older one. Version 0 pins none, and no record of the page
     /// has it. This goes through the records of the page that are above the lower one of the two versions.
+    #[inline(always)]
     pub fn pin(&mut self, page: u32, version: u64)
         requires page { page < length self.old.pages }
         requires above { (number : ℕ) (r : Rec) → record_at self.old.records number ≡ Some r →
@@ -130,6 +136,7 @@ impl Tables {
     }
 
     /// Pins a page at no version. None of its records has version 0.
+    #[inline(always)]
     pub fn unpin(&mut self, page: u32)
         requires page { page < length self.old.pages }
         requires above { (number : ℕ) (r : Rec) → record_at self.old.records number ≡ Some r →

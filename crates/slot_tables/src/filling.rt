@@ -103,6 +103,19 @@ impl Filling {
         requires number { NumbersBelow (slots_of self.old.shape) to }
         ensures { self.new ≡ record self.old { slots = slice_set self.old.slots at.0 to } }
     {
+        if is_blank(to) && is_blank(self.given.slots.get(at.0)) {
+            return;
+        }
+        self.change_slot(at, to);
+    }
+
+    /// The same where the slot is not to stay blank.
+    #[inline(always)]
+    fn change_slot(&mut self, at: Slot, to: SlotUse)
+        requires slot { at.0 < slots_of self.old.shape }
+        requires number { NumbersBelow (slots_of self.old.shape) to }
+        ensures { self.new ≡ record self.old { slots = slice_set self.old.slots at.0 to } }
+    {
         self.given.slots.set(at.0, to);
         self.blanks.set(at.0, is_blank(to));
     }

@@ -89,6 +89,7 @@ impl Given {
     }
 
     /// Whether a slot is the home of a record that is wanted.
+    #[inline(never)]
     pub fn is_needed(&self, at: u32) -> bool
         requires sized { IsSized self.now }
         requires slot { at < length self.now.slots }
@@ -191,6 +192,7 @@ impl Given {
     }
 
     /// Says anew whether the home of a record before and the one now are needed.
+    #[inline(always)]
     fn settle_both(
         &self,
         needs: &mut Needs,
@@ -214,6 +216,7 @@ impl Given {
     }
 
     /// A slot is not needed any more, but the home of this record is, if it has one.
+    #[inline(always)]
     pub fn move_need(&self, needs: &mut Needs, at: u32, number: Option<u32>)
         requires sized { IsSized self.now }
         requires slot { at < length self.now.slots }
@@ -229,6 +232,7 @@ impl Given {
     }
 
     /// Says anew whether a slot is needed, if there is one.
+    #[inline(always)]
     pub fn settle(&self, needs: &mut Needs, at: Option<u32>)
         requires sized { IsSized self.now }
         requires slot { IfSome at (λ at. at < length self.now.slots) }

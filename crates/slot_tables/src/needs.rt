@@ -40,7 +40,7 @@ impl Needs {
             ≡ record { needed = needed.marks; size = needed.size; blocks = blocks; spare = None }) }
     {
         let size = needed.size();
-        let mut unneeded = Peaks::new(alloc, blocks as usize)?;
+        let mut unneeded = Peaks::for_changes(alloc, blocks as usize)?;
         for block in 0..blocks {
             unneeded.set(block as usize, size - needed.count(block));
         }

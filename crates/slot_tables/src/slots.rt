@@ -118,6 +118,7 @@ impl Slots {
     }
 
     /// Says what a slot holds. Where it is a record this goes through the copies below the slot.
+    #[inline(always)]
     pub fn set(&mut self, at: u32, to: SlotUse)
         requires slot { at < length self.old }
         requires number { NumbersBelow (length self.old) to }

@@ -1,9 +1,5 @@
-pub mod AnsweredRounds
-pub mod Answering
 pub mod KeptRounds
-pub mod KeptWalks
 pub mod RoundSteps
-pub mod WalkSteps
 pub mod Taking
 pub mod Newest
 pub mod Closing

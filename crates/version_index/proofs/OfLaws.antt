@@ -1,5 +1,3 @@
-pub mod Examples
-pub mod JudgedExamples
 pub mod JudgedLaws
 pub mod ImageLaws
 pub mod ImageScans

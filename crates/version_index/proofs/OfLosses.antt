@@ -1,3 +1,2 @@
 pub mod KeptLosses
 pub mod Losses
-pub mod UsedSlots

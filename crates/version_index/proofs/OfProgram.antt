@@ -1,3 +1,2 @@
 pub mod FreeNumbers
-pub mod KeptPrograms
 pub mod PartialWrites

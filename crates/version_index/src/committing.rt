@@ -104,6 +104,7 @@ fn has_name(rec: Rec, other: Rec) -> bool
 }
 
 /// Where a record completes its cycle, the records of the cycle are current.
+#[inline(always)]
 pub fn settle_cycle(tables: &mut Tables, logical: u32, protocol: Protocol, rec: Rec)
     requires links { LinksExist tables.old }
     requires page { rec.page < length tables.old.pages }
@@ -131,6 +132,7 @@ fn name_of(rec: Rec) -> Link
 
 /// Makes the records of a whole cycle current. Under Back Pointer Cyclic Commit they then answer for the
 /// records that wait for their pages.
+#[inline(never)]
 fn take_cycle(tables: &mut Tables, logical: u32, protocol: Protocol, start: Link)
     requires links { LinksExist tables.old }
     requires page { start.page < length tables.old.pages }

@@ -8,6 +8,13 @@ use record_chart::Standing;
 use slot_tables::Filling;
 use tx_types::{Link, Protocol, Rec};
 
+/// The number of the record that answers for a record, if one does, and the page that it waits for, if it waits.
+#[derive(Clone, Copy)]
+struct Decided {
+    answerer: Option<u32>,
+    awaited: Option<u32>,
+}
+
 /// Says of each page which record is current.
 pub fn decide_current(tables: &mut Filling, logical: u32, standing: &Standing, numbers: &[u32])
     requires logical { standing.now.logical ≡ logical }
@@ -20,7 +27,7 @@ pub fn decide_current(tables: &mut Filling, logical: u32, standing: &Standing, n
     let _ = tables.shape();
     for page in 0..logical {
         let name = name_at(page, standing.current(page));
-        tables.set_current(page, number_by(standing, numbers, name));
+        tables.set_current(page, number_by(standing, numbers, name, &mut 0));
     }
 }
 
@@ -36,11 +43,33 @@ pub fn decide_records(tables: &mut Filling, logical: u32, standing: &Standing, n
 {
     let _ = tables.shape();
     let records = standing.chart().records();
+    let mut near = 0;
     for i in 0..records.len() {
-        let rec = records[i].rec;
-        let name = answerer(standing, rec);
-        tables.set_answerer(numbers[i], number_by(standing, numbers, name));
-        tables.set_waits(numbers[i], awaited(standing, rec));
+        let decided = decide(standing, numbers, records[i].rec, &mut near);
+        tables.set_answerer(numbers[i], decided.answerer);
+        tables.set_waits(numbers[i], decided.awaited);
+    }
+}
+
+/// Which record answers for a record, and for which page it waits: none where it is not loose.
+#[inline(always)]
+fn decide(standing: &Standing, numbers: &[u32], rec: Rec, near: &mut usize) -> Decided
+    requires { length numbers.now ≡ length standing.now.list }
+    ensures answerer { let s = standing.now in
+        result.answerer ≡ number_by s.list numbers.now (answerer s.protocol s.list s.logical rec) }
+    ensures awaited { let s = standing.now in
+        result.awaited ≡ awaited (judged_by s.protocol s.list s.logical) rec }
+{
+    if !standing.is_loose(rec) {
+        return Decided {
+            answerer: None,
+            awaited: None,
+        };
+    }
+    let name = answerer(standing, rec);
+    Decided {
+        answerer: number_by(standing, numbers, name, near),
+        awaited: awaited(standing, rec),
     }
 }
 
@@ -55,14 +84,19 @@ fn name_at(page: u32, version: u64) -> Option<Link>
     }
 }
 
-/// The number at the place of a name, if there is a name that has a place.
-fn number_by(standing: &Standing, numbers: &[u32], name: Option<Link>) -> Option<u32>
+/// The number at the place of a name, if there is a name that has a place. It may well be near the one before.
+fn number_by(
+    standing: &Standing,
+    numbers: &[u32],
+    name: Option<Link>,
+    near: &mut usize,
+) -> Option<u32>
     requires { length numbers.now ≡ length standing.now.list }
     ensures { result ≡ number_by standing.now.list numbers.now name }
 {
     match name {
         None => None,
-        Some(name) => match standing.chart().find(name) {
+        Some(name) => match standing.chart().find_near(name, near) {
             None => None,
             Some(place) => Some(numbers[place as usize]),
         },

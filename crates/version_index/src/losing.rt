@@ -23,6 +23,7 @@ pub fn use_block(tables: &mut Tables, block: Block, to: SlotUse)
 }
 
 /// A slot is used so. A record that has no slot left is given up.
+#[inline(always)]
 fn use_slot(tables: &mut Tables, at: Slot, to: SlotUse)
     requires slot { at.0 < slots_of tables.old.shape }
     requires none { HoldsNone to }
@@ -51,6 +52,7 @@ fn give_up_bare(tables: &mut Tables, number: u32)
 }
 
 /// A record waits no more, and none answers for it.
+#[inline(always)]
 pub fn let_go(tables: &mut Tables, number: u32)
     requires { number < slots_of tables.old.shape }
     ensures { tables.new ≡ freed tables.old number }

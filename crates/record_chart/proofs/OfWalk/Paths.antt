@@ -8,7 +8,7 @@ use Rattle.record_chart.specs.declared.orbit.Orbit.TheVariants.{Ends, Round, Asi
 use Rattle.record_chart.specs.declared.seen.Seen.{Seen}
 use Rattle.record_chart.specs.declared.seen.Seen.TheVariants.{New, OnPath, Known}
 use Rattle.record_chart.specs.Orbits.{IsGraph, next_of, steps, IsOrbit}
-use Rattle.record_chart.specs.Seen.{seen_at, IsKnown, LeadsToKnown, IsFollowed, IsBehind, Continues, StaysSeen, IsStarted, IsAlone, orbit_before, MayGrow}
+use Rattle.record_chart.specs.Seen.{seen_at, IsKnown, LeadsToKnown, IsFollowed, IsBehind, Continues, StaysSeen, IsStarted, LeadsNoFurther, orbit_before, MayGrow}
 use Rattle.record_chart.proofs.OfWalk.Noted.{seen_same, seen_other}
 use Rattle.record_chart.proofs.OfWalk.Pigeonhole.{pigeonhole}
 use Rattle.record_chart.proofs.OfChart.Steps.{steps_none, steps_stay}
@@ -193,7 +193,7 @@ module _ (graph : List (Option ℕ)) where
 
   -- a new node that nothing follows but itself is settled at once
   pub settled_alone : (seen : List Seen) (i : ℕ) (orbit : Orbit) → IsFollowed graph seen [] → seen_at seen i ≡ New → i < length seen →
-      IsOrbit graph i orbit → IsAlone graph i → IsFollowed graph (set seen i (Known orbit)) []
+      IsOrbit graph i orbit → LeadsNoFurther graph seen i → IsFollowed graph (set seen i (Known orbit)) []
   settled_alone seen i orbit is fresh within right alone = record {
     size = length-set seen i (Known orbit) ∙ is.size;
     right = λ j o known. elim (cases_eq j i) [
@@ -204,7 +204,10 @@ module _ (graph : List (Option ℕ)) where
       | inr apart ↦ is.right j o (sym (seen_other seen i j (Known orbit) apart) ∙ known)
     ];
     closed = λ j known k next. let (o, e) = known in elim (cases_eq j i) [
-      | inl same ↦ (orbit, rw (alone k (rw same at next)) (seen_same seen i (Known orbit) within))
+      | inl same ↦ elim (alone k (rw same at next)) [
+        | inl itself ↦ (orbit, rw itself (seen_same seen i (Known orbit) within))
+        | inr other ↦ known_set seen i k (Known orbit) (λ o was. cc) other
+      ]
       | inr apart ↦ known_set seen i k (Known orbit) (λ o was. cc)
           (is.closed j (o, sym (seen_other seen i j (Known orbit) apart) ∙ e) k next)
     ];

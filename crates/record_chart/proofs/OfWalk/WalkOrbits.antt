@@ -95,10 +95,6 @@ pub kept_links : (l : List Found) → map (newest_target l) (name_graph l) ≡ l
 kept_links l = map_alike (newest_target l) (λ f. position (λ g. has_name f.rec.next g.rec) l) (λ f. place_of l f.rec.next) l
     (λ f. kept_place l f.rec.next (position (λ g. has_name f.rec.next g.rec) l) refl)
 
--- what a record says that was found
-pub found_within : (l : List Found) (name : Link) (i : ℕ) → Some i ≡ position (λ f. has_name name f.rec) l → i < length l
-found_within l name i at = (position-Some (λ f. has_name name f.rec) l i nothing (sym at)).0
-
 pub link_found : (l : List Found) (name : Link) (i : ℕ) → Some i ≡ position (λ f. has_name name f.rec) l → (record_at l i).next ≡ link_of l name
 link_found l name i at =
     let found = position-Some (λ f. has_name name f.rec) l i nothing (sym at) in sym (link_at l name i found.0 found.1 found.2)

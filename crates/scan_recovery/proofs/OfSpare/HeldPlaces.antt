@@ -1,5 +1,5 @@
 -- A record is responsible for a loose one where the first record of its name is marked.
-use Rattle.std.proofs.Common.{◌≡◌, ◌≢◌, ℕ, ◌<◌, Bool, true, false, ◌==◌, ◌&&◌, Option, Some, None, List, [], ◌∷◌, length, get_or, position, Contains, All, refl}
+use Rattle.std.proofs.Common.{◌≡◌, ◌≢◌, ℕ, ◌<◌, Bool, true, false, ◌&&◌, Option, Some, None, List, [], ◌∷◌, length, get_or, position, Contains, All, refl}
 use Rattle.std.proofs.Common.{sym, ap, ◌∙◌, inl, inr, arith, eqb-true, eq-eqb, ltb-true, lt-ltb, nat_lt}
 use Rattle.std.specs.List.{list_any}
 use Rattle.std.proofs.lemmas.Bool.{false≢true, cases_Bool, cond-true, cond-false, and_parts, and_from}
@@ -28,13 +28,6 @@ none_at (f ∷ fs) = none_at fs
 place_true : (n : ℕ) (o : Option ℕ) → is_place n o ≡ true → o ≡ Some n
 place_true n None e = absurd (false≢true e)
 place_true n (Some place) e = ap Some (eqb-true place n e)
-
--- a place is that of one number, or of none
-pub place_is : (n place : ℕ) (o : Option ℕ) → Some place ≡ o → is_place n o ≡ (place == n)
-place_is n place o e = ap (is_place n) (sym e)
-
-pub place_none : (n : ℕ) (o : Option ℕ) → None ≡ o → is_place n o ≡ false
-place_none n o e = ap (is_place n) (sym e)
 
 module _ (l : List Found) (logical : ℕ) (copies : AreCopies l) where
   abbrev answer_name : Rec → Link

@@ -1,8 +1,7 @@
 -- The records of each page by their numbers.
 use Rattle.std.proofs.Common.{◌≡◌, ℕ, ◌+◌, ◌<◌, inl, inr, Option, Some, None, List, [], ◌∷◌, length, take, drop, sym, ◌∙◌, ap, arith, length-take}
 use Rattle.std.specs.List.{AllPairs, Contains}
-use Rattle.std.proofs.lemmas.Bool.{cases_lt}
-use Rattle.std.proofs.lemmas.List.{get_or-take, get_or-drop, get_or_past, length-drop}
+use Rattle.std.proofs.lemmas.List.{get_or-take, get_or-drop, length-drop}
 use Rattle.list_facts.proofs.Membership.{Contains-nil, Contains-cases}
 use Rattle.list_facts.proofs.Pairs.{in_order, pairs_head}
 use Rattle.tx_types.specs.declared.record.Rec.{Rec}
@@ -24,13 +23,6 @@ page_list r page low = get_or-take r.pages r.lists.lists page [] low
 -- there are as many lists as pages
 pub pages_long : (r : Inside) → AreNumbered r → length (take r.pages r.lists.lists) ≡ r.pages
 pages_long r h = (let keys = h.keys in length-take r.pages r.lists.lists ∙ (omega arith))
-
--- a page that has a record is one of them
-pub page_lies : (r : Inside) (page x : ℕ) → AreNumbered r → Contains (numbers_at (take r.pages r.lists.lists) page) x → page < r.pages
-page_lies r page x h has = elim (cases_lt page r.pages) [
-  | inl low ↦ low
-  | inr past ↦ absurd (Contains-nil x (let none = get_or_past (take r.pages r.lists.lists) page [] (rw (pages_long r h) past) in rw none at has))
-]
 
 -- a record stands in the list of its page
 pub record_listed : (r : Inside) (number : ℕ) (rec : Rec) → AreNumbered r → record_at r.records number ≡ Some rec

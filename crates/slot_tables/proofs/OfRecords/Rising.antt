@@ -6,7 +6,6 @@ use Rattle.std.proofs.lemmas.Bool.{cases_lt}
 use Rattle.std.proofs.lemmas.Bool.Decides.{nat_tests}
 use Rattle.std.proofs.lemmas.List.{drop_more}
 use Rattle.std.proofs.lemmas.List.Sums.{position_or_len_is}
-use Rattle.std.proofs.lemmas.List.Elements.{Contains-get_or}
 use Rattle.std.proofs.lemmas.Option.{slice_get-get_or, slice_get_past}
 use Rattle.plain_tables.specs.ChainLists.{index_in, next_in, rest_from}
 use Rattle.plain_tables.proofs.Membership.{index_reads}
@@ -74,12 +73,6 @@ stops_end xs at slot below h is = elim (cases_lt h.index (length xs)) [
       (λ l. absurd (omega arith)) in
       h.last ∙ ap (last_of xs) (sym index)
 ]
-
--- the place that the loop has come to stands in the list
-pub place_listed : (xs : List ℕ) (at other : ℕ) (slot below : Option ℕ) → AtPlace xs at slot below → slot ≡ Some other → Contains xs other
-place_listed xs at other slot below h is =
-    let found = some_within xs h.index other (sym h.here ∙ is) in
-    rw (← found.1) (Contains-get_or xs h.index 0 found.0)
 
 -- the last place before an index has the index below it, and where there is none it is the first one
 pub last_place : (xs : List ℕ) (i below : ℕ) → Rises xs → i ≤ length xs → last_of xs i ≡ Some below → index_in xs below + 1 ≡ i

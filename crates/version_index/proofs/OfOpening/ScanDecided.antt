@@ -75,9 +75,6 @@ pub record IsCurrentSo (protocol : Protocol) (list : List Found) (numbers : List
   pub each : (page : ℕ) → page < count → number_at t.current page ≡ number_by list numbers (name_at page (cur protocol list logical page))
 
 module _ (protocol : Protocol) (list : List Found) (numbers : List ℕ) (logical : ℕ) where
-  pub start_current : (k : Kept) → IsCurrentSo protocol list numbers logical k k 0
-  start_current k = record { rest = refl; long = refl; each = λ page low. absurd (omega arith) }
-
   pub current_more : (k t : Kept) (page : ℕ) (o : Option ℕ) → IsCurrentSo protocol list numbers logical k t page → page < length k.current →
       o ≡ number_by list numbers (name_at page (cur protocol list logical page)) →
       IsCurrentSo protocol list numbers logical k (record t { current = set t.current page o }) (page + 1)

@@ -11,12 +11,12 @@ use Rattle.tx_types.specs.declared.config.Protocol.TheVariants.{Scc, Bpcc}
 use Rattle.tx_types.specs.Config.{shape_of}
 use Rattle.record_list.specs.declared.found.Found.{Found}
 use Rattle.record_list.specs.Records.{nothing, version_of, newest, name_of, mentions_below}
-use Rattle.record_list.specs.Verdict.{record_named, link_of}
+use Rattle.record_list.specs.Verdict.{record_named}
 use Rattle.record_list.specs.Current.{cur, is_loose, must_go, is_held}
 use Rattle.record_list.specs.SoundList.{Pages, PagesExist}
 use Rattle.record_list.specs.Written.{is_slot, is_wanted, home}
 use Rattle.record_list.proofs.OfFacts.Names.{present_in, newest_bound, greatest_least}
-use Rattle.record_list.proofs.OfFacts.SoundNames.{IsSoundMap, map_link}
+use Rattle.record_list.proofs.OfFacts.SoundNames.{IsSoundMap}
 use Rattle.record_list.proofs.OfFacts.Facts.{scc_loose}
 use Rattle.version_index.specs.declared.note.Note.TheVariants.{Holds}
 use Rattle.version_index.specs.Notes.{note_at, rec_of, found_in}
@@ -166,7 +166,3 @@ module _ (protocol : Protocol) (n : Noted) (k : IsNoted protocol n) where
       m.copies (found at r) (noted_in n.notes at r (holds_within n.notes at r here) here)
       ∙ ap (record_named l) e
       ∙ sym (m.copies (found other s) (noted_in n.notes other s (holds_within n.notes other s there) there))
-
-  -- and links where its name does
-  pub record_link : (at : ℕ) (r : Rec) → note_at n.notes at ≡ Holds r → link_of (found_in n.notes) (name_of r) ≡ r.next
-  record_link at r here = sym (map_link (noted_map protocol n k) (found at r) (noted_in n.notes at r (holds_within n.notes at r here) here))

@@ -1,4 +1,4 @@
--- A node that nothing follows but itself is settled at once.
+-- A node that nothing follows but itself, or what is known, is settled at once.
 use Rattle.std.proofs.Common.{◌≢◌, ◌<◌, length, arith}
 use Rattle.record_chart.specs.declared.seen.Seen.TheVariants.{New, Known}
 use Rattle.record_chart.proofs.OfWalk.Noted.{seen_same}
@@ -9,7 +9,7 @@ pub returns-in-Some-clause-followed : goal.returns-in-Some-clause-followed
 returns-in-Some-clause-followed c =
     let within : c.args.start < length c.args.seen.now = let s = c.requires.followed.size in let w = c.requires.start in omega arith in
     settled_alone c.args.graph.now c.args.seen.now c.args.start c.in-Some.orbit c.requires.followed c.requires.new within
-    c.in-Some.ensures.orbit c.in-Some.ensures.alone
+    c.in-Some.ensures.orbit c.in-Some.ensures.leads
 
 pub returns-in-Some-clause-seen : goal.returns-in-Some-clause-seen
 returns-in-Some-clause-seen c =

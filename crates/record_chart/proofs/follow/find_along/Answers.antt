@@ -1,8 +1,9 @@
 -- The nodes of the path are settled from the last one to the first.
+mod Rings
 use Rattle.std.proofs.Common.{◌≢◌, refl, arith}
 use Rattle.record_chart.specs.declared.seen.Seen.TheVariants.{New, Known}
 use Rattle.record_chart.proofs.OfWalk.Paths.{path_short, path_less, last_orbit, may_grow, behind_settled, last_within, stays_on, stays_set}
-use Rattle.record_chart.proofs.OfWalk.Rings.{path_within, ring_followed, ring_behind, ring_seen}
+use Rattle.record_chart.proofs.follow.find_along.Answers.Rings.{path_within, ring_followed, ring_behind, ring_seen}
 use Rattle.record_chart.proofs.follow.find_along.Goals as goal
 use Rattle.record_chart.proofs.follow.find_along.Goals.{in-Stops, in-Reaches, in-Closes}
 

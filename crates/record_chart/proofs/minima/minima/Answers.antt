@@ -1,6 +1,7 @@
+mod MinimaSteps
 use Rattle.std.proofs.Common.{◌≡◌, ◌+◌, ◌-◌, length, subst, arith}
 use Rattle.record_chart.specs.Minima.{AreMinimaFrom}
-use Rattle.record_chart.proofs.OfGroup.MinimaSteps.{minima_none, minima_more}
+use Rattle.record_chart.proofs.minima.minima.Answers.MinimaSteps.{minima_none, minima_more}
 use Rattle.record_chart.proofs.minima.minima.Goals as goal
 
 pub loop-at-init : goal.loop-at-init

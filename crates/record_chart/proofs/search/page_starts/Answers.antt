@@ -1,6 +1,6 @@
 -- The pages up to that of the record begin at it, if they are not noted yet.
 use Rattle.std.proofs.Common.{◌<◌, ◌≤◌, length, arith}
-use Rattle.record_chart.proofs.OfGroup.Starts.{none_more, some_more}
+use Rattle.record_chart.proofs.search.page_starts.Invariants.Starts.{none_more, some_more}
 use Rattle.record_chart.proofs.search.page_starts.Goals as goal
 use Rattle.record_chart.proofs.search.page_starts.Goals.{then-len-end+in_ok-fill, else-len-end}
 

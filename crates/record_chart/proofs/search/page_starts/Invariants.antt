@@ -1,4 +1,5 @@
-use Rattle.record_chart.proofs.OfGroup.Starts.{HaveStarts}
+pub mod Starts
+use Rattle.record_chart.proofs.search.page_starts.Invariants.Starts.{HaveStarts}
 use Rattle.record_chart.proofs.search.page_starts.Given as goal
 
 abbrev pub invariant-loop-at : goal.invariant-loop-at

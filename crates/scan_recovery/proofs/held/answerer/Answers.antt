@@ -9,4 +9,4 @@ returns-then-version-gt0 c =
     c.find.ensures
     ∙ ap (position (λ f. has_name record { page = c.args.rec.next.page; version = c.responsible-version.result } f.rec)) c.chart.ensures
     ∙ answerer_some s.protocol s.list s.logical c.responsible-version.result c.args.rec (sym c.protocol.ensures ∙ c.in-Bpcc.is)
-    c.responsible-version.ensures (sym c.is_loose.ensures ∙ c.if-is_loose.true) c.if-version-gt0.true
+    c.responsible-version.ensures (sym c.is_loose.ensures ∙ c.if-not-is_loose.false) c.if-version-gt0.true

@@ -1,7 +1,7 @@
 use Rattle.std.proofs.Common.{◌+◌, sym, ap, ◌∙◌, subst, arith}
 use Rattle.die_alloc.specs.BlockTable.{IsBlockTable}
 use Rattle.die_alloc.specs.Opening.{with_slots}
-use Rattle.scan_recovery.proofs.OfOpening.OpenedTable.{IsOpenedTo, opened_next, opened_all}
+use Rattle.scan_recovery.proofs.opening.block_table.Invariants.OpenedTable.{IsOpenedTo, opened_next, opened_all}
 use Rattle.scan_recovery.proofs.opening.block_table.Goals as goal
 
 pub loop-block-preserved : goal.loop-block-preserved

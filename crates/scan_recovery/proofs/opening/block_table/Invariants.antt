@@ -1,4 +1,5 @@
-use Rattle.scan_recovery.proofs.OfOpening.OpenedTable.{IsOpenedTo}
+pub mod OpenedTable
+use Rattle.scan_recovery.proofs.opening.block_table.Invariants.OpenedTable.{IsOpenedTo}
 use Rattle.scan_recovery.proofs.opening.block_table.Given as goal
 
 -- the blocks so far are as the slots have them

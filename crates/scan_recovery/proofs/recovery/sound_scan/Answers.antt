@@ -1,3 +1,5 @@
+mod SoundScans
+mod Upto
 use Rattle.std.proofs.Common.{◌<◌, ◌*◌, true, All, Some, sym, ap, ◌∙◌, subst, arith}
 use Rattle.std.proofs.lemmas.Result.{err_from_is_err_and}
 use Rattle.std.proofs.lemmas.List.{get_or_read}
@@ -8,7 +10,7 @@ use Rattle.tx_types.specs.declared.config.Shape.{Shape}
 use Rattle.tx_types.specs.Config.{slots_of}
 use Rattle.scan_recovery.specs.Reading.{ReadsAll, ReadsSome}
 use Rattle.scan_recovery.specs.Twins.{AgreesWithLowest, compared, compared_to}
-use Rattle.scan_recovery.proofs.OfScan.SoundScans.{scan_exists, scan_copies, scan_breach, reads_whole, reads_until, reads_fault}
+use Rattle.scan_recovery.proofs.recovery.sound_scan.Answers.SoundScans.{scan_exists, scan_copies, scan_breach, reads_whole, reads_until, reads_fault}
 use Rattle.scan_recovery.proofs.recovery.sound_scan.Goals as goal
 
 pub first_contradiction-requires-clause-exists : goal.first_contradiction-requires-clause-exists

@@ -1,10 +1,11 @@
+mod Marks
 use Rattle.std.proofs.Common.{◌≡◌, ◌<◌, ◌/◌, List, get_or, length, sym, ap, ◌∙◌, subst, arith}
 use Rattle.std.proofs.lemmas.List.Elements.{Contains-get_or}
 use Rattle.tx_types.specs.Config.{blocks_of}
 use Rattle.record_list.specs.declared.found.Found.{Found}
 use Rattle.record_list.specs.Records.{nothing}
 use Rattle.scan_recovery.specs.Removable.{is_fixed}
-use Rattle.scan_recovery.proofs.OfSpare.Marks.{marked_same, marked_more}
+use Rattle.scan_recovery.proofs.removable.fixed_blocks.Answers.Marks.{marked_same, marked_more}
 use Rattle.scan_recovery.proofs.OfSpare.RemovableBlocks.{block_exists, fixed_only, fixed_none}
 use Rattle.scan_recovery.proofs.removable.fixed_blocks.Goals as goal
 use Rattle.scan_recovery.proofs.removable.fixed_blocks.Goals.{then-is_fixed, else-is_fixed}

@@ -4,7 +4,7 @@ use Rattle.flash_model.specs.Flash.{slot_at}
 use Rattle.scan_recovery.specs.Scans.{IsNote}
 use Rattle.scan_recovery.proofs.OfScan.ReadingSteps.{reads_nothing, reads_all_then}
 use Rattle.scan_recovery.proofs.OfScan.ComparedSteps.{as_before}
-use Rattle.scan_recovery.proofs.OfScan.ScanSteps.{scan_first, found_note, found_unread}
+use Rattle.scan_recovery.proofs.scan.scan.Invariants.ScanSteps.{scan_first, found_note, found_unread}
 use Rattle.scan_recovery.proofs.scan.scan.Goals as goal
 use Rattle.scan_recovery.proofs.scan.scan.Goals.{in-Some, in-None}
 

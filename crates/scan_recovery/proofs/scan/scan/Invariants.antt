@@ -1,7 +1,8 @@
+pub mod ScanSteps
 use Rattle.std.proofs.Common.{◌≡◌, ◌≤◌, vec_len, vec_capacity}
 use Rattle.std.specs.Prelude.{MatchOption}
 use Rattle.scan_recovery.specs.Reading.{ReadsAll}
-use Rattle.scan_recovery.proofs.OfScan.ScanSteps.{IsScanTo, IsUnreadTo}
+use Rattle.scan_recovery.proofs.scan.scan.Invariants.ScanSteps.{IsScanTo, IsUnreadTo}
 use Rattle.scan_recovery.proofs.scan.scan.Given as goal
 
 -- the slots so far were read, and either each keeps law 1 and is noted, or the first that breaks it is known

@@ -1,4 +1,5 @@
-use Rattle.slot_tables.proofs.OfSlots.InBlocks.{in_block}
+mod InBlocks
+use Rattle.slot_tables.proofs.slots.is_in_block.Answers.InBlocks.{in_block}
 use Rattle.slot_tables.proofs.slots.is_in_block.Goals as goal
 
 pub returns-then-first-at : goal.returns-then-first-at

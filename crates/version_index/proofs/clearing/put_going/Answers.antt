@@ -1,9 +1,10 @@
 -- The newest record of the page comes to those that wait for the page.
+mod GatheredMore
 use Rattle.std.proofs.Common.{sym, ◌∙◌, subst, inl, inr, arith}
 use Rattle.std.proofs.lemmas.Option.{same_Some}
 use Rattle.slot_tables.specs.Kept.{WaitsBelow}
 use Rattle.slot_tables.specs.Gathered.{AreGathered}
-use Rattle.version_index.proofs.OfGoing.GatheredMore.{room_more, gathered_more}
+use Rattle.version_index.proofs.clearing.put_going.Answers.GatheredMore.{room_more, gathered_more}
 use Rattle.version_index.specs.Going.{Goes}
 use Rattle.version_index.proofs.clearing.put_going.Goals as goal
 

@@ -1,4 +1,5 @@
-use Rattle.version_index.proofs.OfCommit.AnsweredRounds.{IsAnsweringRound}
+pub mod AnsweredRounds
+use Rattle.version_index.proofs.committing.answer_all.Invariants.AnsweredRounds.{IsAnsweringRound}
 use Rattle.version_index.proofs.committing.answer_all.Given as goal
 
 abbrev pub invariant-loop : goal.invariant-loop

@@ -1,6 +1,6 @@
 use Rattle.std.proofs.Common.{◌<◌, None, set, count_by, ap, sym, subst, ◌∙◌}
 use Rattle.slot_tables.specs.Kept.{Kept, is_number}
-use Rattle.version_index.proofs.OfCommit.Answering.{IsAnswering, one_answered, fewer_wait, all_answering, answering_judges}
+use Rattle.version_index.proofs.committing.answer_waiting.Invariants.Answering.{IsAnswering, one_answered, fewer_wait, all_answering, answering_judges}
 use Rattle.version_index.proofs.committing.answer_waiting.Goals as goal
 
 pub returns-clause-judges : goal.returns-clause-judges

@@ -1,6 +1,7 @@
+pub mod Answering
 use Rattle.std.proofs.Common.{count_by}
 use Rattle.slot_tables.specs.Kept.{is_number}
-use Rattle.version_index.proofs.OfCommit.Answering.{IsAnswering}
+use Rattle.version_index.proofs.committing.answer_waiting.Invariants.Answering.{IsAnswering}
 use Rattle.version_index.proofs.committing.answer_waiting.Given as goal
 
 abbrev pub invariant-loop-number : goal.invariant-loop-number

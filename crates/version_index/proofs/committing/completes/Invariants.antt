@@ -1,4 +1,6 @@
-use Rattle.version_index.proofs.OfCommit.KeptWalks.{IsWalking}
+mod WalkSteps
+pub mod KeptWalks
+use Rattle.version_index.proofs.committing.completes.Invariants.KeptWalks.{IsWalking}
 use Rattle.version_index.proofs.committing.completes.Given as goal
 
 abbrev pub invariant-loop : goal.invariant-loop

@@ -26,9 +26,11 @@ set_answerer-requires-clause-number c =
 pub set_answerer-requires-clause-answerer : goal.set_answerer-requires-clause-answerer
 set_answerer-requires-clause-answerer c =
     let shape = ap (λ (t : Kept). t.shape) c.loop-i.invariant.rest in
-    subst (λ s. IfSome c.number_by.result (λ x. x < slots_of s)) (sym shape)
-    (name_below c.args.standing.now.list c.args.numbers.now c.args.tables.now c.requires.numbered c.requires.whole c.shape.ensures.kept
-    c.answerer-name.result c.number_by.result c.number_by.ensures)
+    let s = c.args.standing.now in
+    subst (λ s. IfSome c.decide-decided.result.answerer (λ x. x < slots_of s)) (sym shape)
+    (name_below s.list c.args.numbers.now c.args.tables.now c.requires.numbered c.requires.whole c.shape.ensures.kept
+    (answerer s.protocol s.list s.logical (records.record_at c.records-records.result.now c.loop-i.i)) c.decide-decided.result.answerer
+    c.decide-decided.ensures.answerer)
 
 pub set_waits-requires-clause-number : goal.set_waits-requires-clause-number
 set_waits-requires-clause-number c =
@@ -50,10 +52,10 @@ set_waits-requires-clause-page c =
     let pages = ap (λ (t : Kept). length t.pages) c.set_answerer.ensures ∙ ap (λ (t : Kept). length t.pages) c.loop-i.invariant.rest ∙ c.requires.pages in
     let exist = All-contains (PagesExist c.args.logical) list (get_or list i nothing) c.requires.exist (Contains-get_or list i nothing within) in
     let protocol = c.args.standing.now.protocol in
-    let is = c.awaited.ensures ∙ ap (λ g. awaited (judged_by protocol list g) (records.record_at c.records-records.result.now c.loop-i.i)) c.requires.logical
+    let is = c.decide-decided.ensures.awaited ∙ ap (λ g. awaited (judged_by protocol list g) (records.record_at c.records-records.result.now c.loop-i.i)) c.requires.logical
     ∙ ap (λ l. awaited (judged_by protocol list c.args.logical) (records.record_at l i)) (c.records-records.ensures.records ∙ c.chart.ensures) in
-    subst (λ count. IfSome c.awaited.result (λ page. page < count)) (sym pages)
-    (awaited_exists (judged_by c.args.standing.now.protocol list c.args.logical) rec c.args.logical c.awaited.result is exist.1)
+    subst (λ count. IfSome c.decide-decided.result.awaited (λ page. page < count)) (sym pages)
+    (awaited_exists (judged_by c.args.standing.now.protocol list c.args.logical) rec c.args.logical c.decide-decided.result.awaited is exist.1)
 
 pub loop-i-preserved : goal.loop-i-preserved
 loop-i-preserved c =
@@ -67,12 +69,12 @@ loop-i-preserved c =
     let same = c.records-records.ensures.records ∙ c.chart.ensures in
     let long = ap length same in
     let below = c.loop-i-test.true in
-    let a = c.number_by.result in
-    let w = c.awaited.result in
-    let is_a = c.number_by.ensures ∙ ap (number_by list numbers)
-    (c.answerer-name.ensures ∙ ap (λ g. answerer protocol list g (records.record_at c.records-records.result.now c.loop-i.i)) c.requires.logical
+    let a = c.decide-decided.result.answerer in
+    let w = c.decide-decided.result.awaited in
+    let is_a = c.decide-decided.ensures.answerer ∙ ap (number_by list numbers)
+    (ap (λ g. answerer protocol list g (records.record_at c.records-records.result.now c.loop-i.i)) c.requires.logical
     ∙ ap (λ l. answerer protocol list logical (records.record_at l i)) same) in
-    let is_w = c.awaited.ensures ∙ ap (λ g. awaited (judged_by protocol list g) (records.record_at c.records-records.result.now c.loop-i.i)) c.requires.logical
+    let is_w = c.decide-decided.ensures.awaited ∙ ap (λ g. awaited (judged_by protocol list g) (records.record_at c.records-records.result.now c.loop-i.i)) c.requires.logical
     ∙ ap (λ l. awaited (judged_by protocol list logical) (records.record_at l i)) same in
     let both = c.set_waits.ensures ∙ ap (λ (u : Kept). record u { waits = set u.waits (get_or numbers i 0) w }) c.set_answerer.ensures in
     subst (λ u. AreDecided protocol list numbers logical k u (i + 1)) (sym both)

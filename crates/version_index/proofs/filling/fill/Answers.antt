@@ -1,4 +1,5 @@
 -- The slots are used by the numbers of their records, and what is decided of these leaves them.
+mod ScanFilled
 use Rattle.std.proofs.Common.{List, [], length, map, ap, sym, subst, ◌∙◌, arith}
 use Rattle.std.proofs.lemmas.List.{length-replicate}
 use Rattle.tx_types.specs.Config.{slots_of}
@@ -7,7 +8,7 @@ use Rattle.slot_tables.specs.Kept.{Kept}
 use Rattle.version_index.specs.Filling.{NamesAgree, AreNumbered, AreBlankBut, AreCurrent, AreDecided}
 use Rattle.version_index.specs.Notes.{seen_as, found_in}
 use Rattle.version_index.specs.Tables.{notes_in}
-use Rattle.version_index.proofs.OfOpening.ScanFilled.{filled_from}
+use Rattle.version_index.proofs.filling.fill.Answers.ScanFilled.{filled_from}
 use Rattle.version_index.proofs.OfOpening.ScanSlots.{all_held, all_placed, each_below, put_used, put_within, uses_held}
 use Rattle.version_index.proofs.filling.fill.Goals as goal
 

@@ -1,4 +1,5 @@
-use Rattle.version_index.proofs.OfLaws.JudgedExamples.{begun_waits, whole_answers, steps_answer}
+mod JudgedExamples
+use Rattle.version_index.proofs.judging.judged_examples.Answers.JudgedExamples.{begun_waits, whole_answers, steps_answer}
 use Rattle.version_index.proofs.judging.judged_examples.Goals as goal
 
 pub returns-clause-begun : goal.returns-clause-begun

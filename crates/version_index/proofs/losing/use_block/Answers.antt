@@ -1,10 +1,11 @@
+mod UsedSlots
 use Rattle.std.proofs.Common.{◌≡◌, ◌<◌, ◌+◌, ◌*◌, ap, subst, sym, ◌∙◌, arith}
 use Rattle.tx_types.specs.declared.config.Shape.{Shape}
 use Rattle.tx_types.specs.Config.{slots_of, blocks_of}
 use Rattle.flash_model.proofs.ImageLemmas.{block_within}
 use Rattle.slot_tables.specs.Kept.{Kept}
 use Rattle.version_index.specs.Losing.{used_so, used_from}
-use Rattle.version_index.proofs.OfLosses.UsedSlots.{used_none, used_next, used_shape}
+use Rattle.version_index.proofs.losing.use_block.Answers.UsedSlots.{used_none, used_next, used_shape}
 use Rattle.version_index.proofs.losing.use_block.Goals as goal
 
 pub use_slot-requires-clause-slot : goal.use_slot-requires-clause-slot

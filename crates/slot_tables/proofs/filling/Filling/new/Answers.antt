@@ -1,6 +1,7 @@
 -- At first all slots are blank.
+mod FirstTables
 use Rattle.std.proofs.Common.{rules, arith}
-use Rattle.slot_tables.proofs.OfGiven.FirstTables.{first_filling}
+use Rattle.slot_tables.proofs.filling.Filling.new.Answers.FirstTables.{first_filling}
 use Rattle.slot_tables.proofs.filling.Filling.new.Goals as goal
 
 pub new-requires-6-clause-small : goal.new-requires-6-clause-small

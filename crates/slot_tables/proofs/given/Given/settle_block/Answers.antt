@@ -3,7 +3,7 @@ use Rattle.std.proofs.Common.{◌≡◌, ◌+◌, ◌*◌, arith}
 use Rattle.std.specs.Option.{option_map}
 use Rattle.slot_tables.specs.Given.{kept_of}
 use Rattle.slot_tables.proofs.OfNeeds.Needing.{home_lies}
-use Rattle.slot_tables.proofs.OfSpare.SpareSetting.{none_settled, more_settled, all_settled}
+use Rattle.slot_tables.proofs.given.Given.settle_block.Invariants.SpareSetting.{none_settled, more_settled, all_settled}
 use Rattle.slot_tables.proofs.given.Given.settle_block.Goals as goal
 
 pub settle_moved-requires-clause-before : goal.settle_moved-requires-clause-before

@@ -1,6 +1,7 @@
+pub mod SpareSetting
 use Rattle.std.specs.Option.{option_map}
 use Rattle.slot_tables.specs.Given.{kept_of}
-use Rattle.slot_tables.proofs.OfSpare.SpareSetting.{AreSettled}
+use Rattle.slot_tables.proofs.given.Given.settle_block.Invariants.SpareSetting.{AreSettled}
 use Rattle.slot_tables.proofs.given.Given.settle_block.Given as goal
 
 abbrev pub invariant-loop-at : goal.invariant-loop-at

@@ -1,8 +1,9 @@
 -- The homes of the records in the old spare are settled, and then those in the new one.
+mod SpareFrame
 use Rattle.std.proofs.Common.{◌<◌, Some}
 use Rattle.tx_types.specs.Config.{blocks_of}
 use Rattle.slot_tables.specs.Given.{kept_of, IsSettledFrom}
-use Rattle.slot_tables.proofs.OfSpare.SpareFrame.{IsMiddle, spare_set, no_middle, middle}
+use Rattle.slot_tables.proofs.tables.Tables.set_spare.Answers.SpareFrame.{IsMiddle, spare_set, no_middle, middle}
 use Rattle.slot_tables.proofs.tables.Tables.set_spare.Goals as goal
 use Rattle.slot_tables.proofs.tables.Tables.set_spare.Goals.{in-Some, in_default}
 

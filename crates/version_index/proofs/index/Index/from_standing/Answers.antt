@@ -1,3 +1,6 @@
+mod ScanJudged
+mod ScanFills
+mod ScanSizes
 use Rattle.std.proofs.Common.{◌≡◌, ◌≤◌, ◌-◌, ◌*◌, length, ap, sym, subst, refl, ◌∙◌, arith}
 use Rattle.std.specs.Result.{result_unwrap_or}
 use Rattle.std.proofs.Math.Nat.{mul-le-mul_right}
@@ -12,9 +15,9 @@ use Rattle.version_index.specs.Tables.{noted_by, AreIndexed}
 use Rattle.std.specs.List.{range_with_len}
 use Rattle.version_index.proofs.OfChanges.Mentions.{mentions_sorted}
 use Rattle.version_index.proofs.OfChanges.NotedChanges.{fresh_noted}
-use Rattle.version_index.proofs.OfOpening.ScanFills.{can_fill}
-use Rattle.version_index.proofs.OfOpening.ScanJudged.{filled_indexed}
-use Rattle.version_index.proofs.OfOpening.ScanSizes.{complete_length, sorted_exist}
+use Rattle.version_index.proofs.index.Index.from_standing.Answers.ScanFills.{can_fill}
+use Rattle.version_index.proofs.index.Index.from_standing.Answers.ScanJudged.{filled_indexed}
+use Rattle.version_index.proofs.index.Index.from_standing.Answers.ScanSizes.{complete_length, sorted_exist}
 use Rattle.version_index.proofs.index.Index.from_standing.Goals as goal
 
 pub fill-requires-clause-few : goal.fill-requires-clause-few

@@ -1,3 +1,4 @@
+mod KeptPrograms
 use Rattle.std.proofs.Common.{◌≡◌, ◌<◌, length, set, Some, ap, subst, sym, ◌∙◌, arith}
 use Rattle.std.proofs.lemmas.List.{length-set}
 use Rattle.tx_types.specs.Config.{shape_of, slots_of}
@@ -9,7 +10,7 @@ use Rattle.version_index.specs.Notes.{note_at}
 use Rattle.version_index.specs.Noted.{IsNextRecord, programmed}
 use Rattle.version_index.specs.Tables.{noted_by, AreIndexed}
 use Rattle.version_index.proofs.OfChanges.NotedChanges.{next_spelled}
-use Rattle.version_index.proofs.OfProgram.KeptPrograms.{its_free, its_newest, with_links, whole_is, settled_indexed}
+use Rattle.version_index.proofs.index.Index.note_program.Answers.KeptPrograms.{its_free, its_newest, with_links, whole_is, settled_indexed}
 use Rattle.version_index.proofs.index.Index.note_program.Goals as goal
 
 pub add-number-requires-clause-free : goal.add-number-requires-clause-free

@@ -17,7 +17,7 @@ use Rattle.scan_recovery.specs.Twins.{AgreesWithLowest, compared, compared_upto,
 use Rattle.scan_recovery.proofs.OfScan.ReadingSteps.{reads_all_then, reads_some_then}
 use Rattle.scan_recovery.proofs.OfScan.ComparedSteps.{as_before}
 use Rattle.scan_recovery.proofs.OfLaws.LawTwo.{two_holds, two_broken, records_within}
-use Rattle.scan_recovery.proofs.OfScan.Upto.{compared_until}
+use Rattle.scan_recovery.proofs.recovery.sound_scan.Answers.Upto.{compared_until}
 
 module _ (p : Protocol) (logical : ℕ) (a b c : FlashState) (slots : List Seen) (list : List Found)
     (scan : IsScanOf p logical a.image slots list) (read : ReadsAll a b (slots_of a.shape)) where

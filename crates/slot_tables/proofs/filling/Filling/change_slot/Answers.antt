@@ -1,7 +1,7 @@
 use Rattle.std.proofs.Common.{◌<◌, length}
 use Rattle.slot_tables.proofs.OfSlots.SlotSetting.{slot_set}
 use Rattle.slot_tables.proofs.OfGiven.SettledAll.{as_tables, are_tables}
-use Rattle.slot_tables.proofs.filling.Filling.set_slot.Goals as goal
+use Rattle.slot_tables.proofs.filling.Filling.change_slot.Goals as goal
 
 pub invariant_of-self : goal.invariant_of-self
 invariant_of-self c =

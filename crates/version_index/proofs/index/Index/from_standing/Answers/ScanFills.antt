@@ -10,7 +10,7 @@ use Rattle.record_list.specs.declared.found.Found.{Found}
 use Rattle.record_chart.specs.Standings as standing
 use Rattle.slot_tables.specs.Kept.{Kept, blank_tables}
 use Rattle.version_index.specs.Scanned.{AreScanned, CanFill}
-use Rattle.version_index.proofs.OfOpening.ScanSizes.{sorted_agree}
+use Rattle.version_index.proofs.index.Index.from_standing.Answers.ScanSizes.{sorted_agree}
 
 pub can_fill : (protocol : Protocol) (its : Config) (shape : Shape) (scanned : List Seen) (list : List Found) (judged : standing.Judged) (k : Kept)
     → k ≡ blank_tables shape its.logical → shape ≡ shape_of its → AreScanned protocol its scanned list judged

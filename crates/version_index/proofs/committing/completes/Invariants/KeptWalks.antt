@@ -21,7 +21,7 @@ use Rattle.version_index.proofs.OfTables.FoundIn.{found}
 use Rattle.version_index.proofs.OfTables.KeptNotes.{kept_found, kept_noted}
 use Rattle.version_index.proofs.OfCommit.KeptRounds.{named_rec}
 use Rattle.version_index.proofs.OfCommit.Newest.{newest_number, no_newest}
-use Rattle.version_index.proofs.OfCommit.WalkSteps.{LeadsTo, walk_closes, walk_goes}
+use Rattle.version_index.proofs.committing.completes.Invariants.WalkSteps.{LeadsTo, walk_closes, walk_goes}
 
 -- what is still to be looked at says whether the record completes its cycle
 pub record IsWalking (k : Kept) (r : Rec) (logical n : ℕ) (link : Link) : Type 0 where

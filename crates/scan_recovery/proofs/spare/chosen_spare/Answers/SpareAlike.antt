@@ -26,7 +26,7 @@ use Rattle.record_chart.proofs.OfSort.Alike.{cur_alike, responsible_alike}
 use Rattle.version_index.specs.Notes.{complete_slots}
 use Rattle.scan_recovery.specs.Opening.{FindsHighest}
 use Rattle.scan_recovery.specs.Removable.{AreCopies}
-use Rattle.scan_recovery.proofs.OfSpare.BlankBlocks.{slot_within}
+use Rattle.scan_recovery.proofs.spare.chosen_spare.Answers.BlankBlocks.{slot_within}
 use Rattle.scan_recovery.proofs.OfLinks.Outside.{present_left}
 use Rattle.scan_recovery.proofs.OfLaws.TwinsAlike.{all_alike}
 

@@ -1,2 +1,0 @@
-pub mod SpareFrame
-pub mod SpareSetting
