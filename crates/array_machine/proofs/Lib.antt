@@ -6,13 +6,9 @@ pub mod Taking
 pub mod Apart
 pub mod Each
 pub mod Changes
-pub mod AtOnce
 pub mod Atomic
 pub mod Closed
 pub mod Unbroken
 pub mod Quiet
-pub mod Doubts
-pub mod Leaving
 pub mod Clinging
 pub mod AbortLaws
-pub mod BatchLaws

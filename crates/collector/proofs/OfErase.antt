@@ -3,4 +3,3 @@ pub mod ErasedBlocks
 pub mod Emptying
 pub mod Exchange
 pub mod VictimCalls
-pub mod Victims

@@ -1,7 +1,3 @@
 pub mod KeptArrays
 pub mod KnownArrays
-pub mod KnownImages
 pub mod WantedImages
-pub mod TidyImages
-pub mod NotedWrites
-pub mod OpenedTables

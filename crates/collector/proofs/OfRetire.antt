@@ -1,2 +1,1 @@
-pub mod RetireCalls
 pub mod RetireParts

@@ -1,9 +1,5 @@
-pub mod ClearRounds
-pub mod FoundSlots
 pub mod GoingCounts
-pub mod GoingOrder
 pub mod GoneRecords
-pub mod NothingGoes
 pub mod RoomCalls
 pub mod RoomMade
 pub mod Space

@@ -59,6 +59,7 @@ pub(crate) fn collect_clean<F: Flash, R: CommitRule>(
 
 /// Copies what is needed in a block to the blank spare, from its first slot on and in the order of
 /// slots, and answers how many slots that takes.
+#[inline(always)]
 pub(crate) fn copy_needed<F: Flash, R: CommitRule>(
     flash: &mut F,
     index: &mut Index<R>,

@@ -12,6 +12,7 @@ use version_index::Index;
 /// Copies the record of a slot to the next blank slot of the spare: reads it, and programs the same
 /// bytes. A failed read changes nothing; after a broken program it is not known what the slot of
 /// the copy holds.
+#[inline(always)]
 pub(crate) fn copy_record<F: Flash, R: CommitRule>(
     flash: &mut F,
     index: &mut Index<R>,

@@ -11,6 +11,7 @@ use version_index::Index;
 
 /// Makes a block the spare. So many first slots of the old spare are used, and more programs may go
 /// there where some are not.
+#[inline(always)]
 pub(crate) fn exchange<R: CommitRule>(
     index: &mut Index<R>,
     blocks: &mut Blocks,
@@ -26,11 +27,9 @@ pub(crate) fn exchange<R: CommitRule>(
     ensures between { IsBlockTable (table_with_spare blocks.old block.0) }
     ensures table { IsBlockTable blocks.new }
 {
-    let old = blocks.spare();
     let pages = index.config().pages_per_block;
     index.set_spare(block);
-    blocks.make_spare(block);
-    blocks.set(old, open_state(pages, used), used);
+    blocks.exchange(block, open_state(pages, used), used);
 }
 
 /// The state of a block of so many slots of which so many first ones are used.

@@ -3,14 +3,10 @@ pub mod Devices
 pub mod Single
 pub mod Telling
 pub mod Caching
-pub mod Rereading
-pub mod FinishCalls
 pub mod Spending
 pub mod Mountings
 pub mod Losing
 pub mod Followed
-pub mod Together
-pub mod Powering
 pub mod Lifted
 pub mod Arming
 pub mod Runs
@@ -18,4 +14,3 @@ pub mod MountingAgain
 pub mod Progress
 pub mod Begun
 pub mod Quiet
-pub mod Opening

@@ -18,11 +18,7 @@ use Rattle.flash_model.specs.Operations.{moment_of}
 use Rattle.flash_model.specs.Moves.{Moves}
 use Rattle.flash_model.proofs.CallLemmas.{Carries-nothing}
 use Rattle.flash_model.proofs.MoveLemmas.{Moves-nothing}
-use Rattle.record_list.specs.declared.found.Found.{Found}
-use Rattle.version_index.specs.Images.{records_in}
-use Rattle.version_index.specs.Notes.{found_in}
 use Rattle.version_index.specs.Noted.{Noted, current_of, mention_of}
-use Rattle.verdict_report.specs.Report.{report}
 use Rattle.collector.specs.declared.unsure.Unsure.TheVariants as unsure
 use Rattle.tx_engine.specs.ArrayState.{ArrayState, Pages, page_at}
 use Rattle.tx_engine.specs.Collect.{TellsStats}
@@ -80,20 +76,6 @@ pub stats_serves : {F : Type 0} (state : F → FlashState) (s : Standing F) (tol
     ServesHere state command.Stats s s (reply.Stats told)
 stats_serves state s told machine programs erases =
     same_serves state command.Stats s (reply.Stats told) refl refl refl (told, machine, refl, refl) (λ faulted h. (programs, erases))
-
-pub report_serves : {F : Type 0} (state : F → FlashState) (protocol : Protocol) (s : Standing F) (list : List Found) (text : List ℕ) →
-    HoldsAlways state protocol s → list ≡ found_in s.noted.notes →
-    text ≡ report protocol list s.config.logical → ServesHere state command.Explain s s (reply.Report text)
-report_serves state protocol s list text is found told =
-    same_serves state command.Explain s (reply.Report text) refl refl refl ((text, refl), refl)
-    (λ faulted h.
-    let rule : protocol ≡ s.config.protocol = sym is.rule in
-    let on : text ≡ report s.config.protocol list s.config.logical = told ∙ ap (λ p. report p list s.config.logical) rule in (
-      (list, on),
-      λ whole.
-          let from : records_in s.config.protocol (state s.flash).image ≡ list = is.records (h whole) ∙ sym found in
-          on ∙ ap (λ l. report s.config.protocol l s.config.logical) (sym from),
-    ))
 
 -- A read
 read_breaks : (page : ℕ) (bytes : List ℕ) (result : Result ReadAnswer ReadError) →

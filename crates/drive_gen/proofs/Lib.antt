@@ -1,6 +1,2 @@
 pub mod DrawLemmas
 pub mod HexLemmas
-pub mod SizeLemmas
-pub mod TallyLemmas
-pub mod TextLemmas
-pub mod WorkLemmas

@@ -4,7 +4,7 @@ ghost use Rattle.drive_gen.specs.Summary.{begins_with, last_stats, page_sum, wor
 ghost use Rattle.drive_gen.specs.Tally.{IsCounted, plus, tally_of};
 
 use crate::hexadecimal::sum_of_bytes;
-use crate::words::word_at;
+use crate::words::{leading_word, word_at};
 use host_protocol::first_line;
 
 /// What is counted of the lines of replies.
@@ -40,7 +40,7 @@ pub fn count_lines(replies: &[u8]) -> (Tally, &[u8])
     let mut stats = &replies[..0];
     let mut rest = replies;
     while let Some((line, behind)) = first_line(rest) {
-        let word = word_at(line, 0, b"");
+        let word = leading_word(line);
         tally = tally.plus(tally_of(line, word));
         stats = later_stats(stats, line, word);
         rest = behind;

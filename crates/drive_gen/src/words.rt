@@ -1,5 +1,6 @@
-ghost use Rattle.std.specs.Prelude.{◌≡◌, slice_index_or};
+ghost use Rattle.std.specs.Prelude.{◌≡◌, [], slice_index_or};
 ghost use Rattle.host_protocol.specs.Lines.{words_of};
+ghost use Rattle.drive_gen.specs.Summary.{word_or};
 
 use host_protocol::first_word;
 
@@ -17,5 +18,19 @@ pub fn word_at<'a>(line: &'a [u8], place: usize, other: &'a [u8]) -> &'a [u8]
     match first_word(rest) {
         Some((word, _)) => word,
         None => other,
+    }
+}
+
+/// The first word of a line, empty where the line has none. The lines that come most often are known by their first
+/// bytes.
+pub fn leading_word(line: &[u8]) -> &[u8]
+    ensures { result.now ≡ word_or line.now 0 [] }
+{
+    if line == b"done".as_slice() {
+        line
+    } else if line.len() > 5 && &line[..5] == b"open ".as_slice() {
+        &line[..4]
+    } else {
+        word_at(line, 0, b"")
     }
 }

@@ -1,12 +1,15 @@
 -- The page and the contents that an entry gives.
-use Rattle.std.proofs.Common.{◌≡◌, ℕ, ◌+◌, ◌*◌, ◌/◌, ◌<◌, ◌≤◌, ◌≢◌, true, false, ◌⊎◌, inl, inr, List, [], ◌∷◌, length, take, drop, refl, ap, ◌∙◌, arith, Some}
+use Rattle.std.proofs.Common.{◌≡◌, ℕ, ◌+◌, ◌*◌, ◌/◌, ◌<◌, ◌≤◌, ◌≢◌, true, false, ◌⊎◌, inl, inr, List, [], ◌∷◌, length, take, drop, refl, ap, sym, ◌∙◌, arith, Option, Some}
 use Rattle.std.proofs.Common.{None, Result, Ok, Err}
 use Rattle.std.specs.Prelude.{position, codes}
-use Rattle.std.specs.List.{slice_split}
+use Rattle.std.specs.List.{slice_split, position_or_len}
 use Rattle.std.specs.Str.{bytes_eq}
-use Rattle.std.proofs.lemmas.Bool.{le-leb, lt-leb}
+use Rattle.std.proofs.lemmas.Bool.{eqb-true, false_from_ne_true, le-leb, lt-leb}
+use Rattle.std.proofs.lemmas.List.Sums.{passes_at_first}
+use Rattle.std.proofs.lemmas.Slice.Eq.{bytes_eq-Decides}
+use Rattle.list_facts.proofs.Positions.{position_some}
 use Rattle.hex.proofs.HexLemmas.{decode_of-ok}
-use Rattle.hex.specs.Hex.{decode_of}
+use Rattle.hex.specs.Hex.{decode_of, is_hex_digit}
 use Rattle.hex.specs.declared.error.FromHexError.{FromHexError}
 use Rattle.std.specs.Prelude.{IfOk}
 use Rattle.std.specs.Option.{unwrap_or, option_map}
@@ -15,6 +18,7 @@ use Rattle.host_protocol.specs.Reading.{AnswersAs, Fails}
 use Rattle.host_protocol.specs.declared.error.LineError.{LineError}
 use Rattle.host_protocol.specs.declared.error.LineError.TheVariants.{Bad, Memory}
 use Rattle.tx_types.specs.Batch.{padded}
+use Rattle.host_protocol.specs.Numbers.{number_of}
 use Rattle.host_protocol.specs.Commands.{page_contents, page_value, contents_from, page_write_of, page_write_from, write_of_texts, is_equals}
 use Rattle.host_protocol.proofs.PartLemmas.{parts, split_some, split_none}
 
@@ -38,7 +42,7 @@ parts_one word i first second =
     rw (split_some is_equals word i first, split_none is_equals (drop (i + 1) word) second) refl
 
 -- two parts are the page and its contents
-pub entry_parts : (size : ℕ) (word page text : List ℕ) → slice_split is_equals word ≡ page ∷ text ∷ []
+entry_parts : (size : ℕ) (word page text : List ℕ) → slice_split is_equals word ≡ page ∷ text ∷ []
     → page_write_of size word ≡ write_of_texts size page text
 unfolding page_write_of
 entry_parts size word page text two = ap (page_write_from size) two
@@ -50,7 +54,7 @@ from_others size (x ∷ y ∷ []) other = absurd (other x y refl)
 from_others size (x ∷ y ∷ z ∷ more) other = refl
 
 -- and where there are not two, it is no entry
-pub entry_others : (size : ℕ) (word : List ℕ) → ((x y : List ℕ) → slice_split is_equals word ≢ x ∷ y ∷ [])
+entry_others : (size : ℕ) (word : List ℕ) → ((x y : List ℕ) → slice_split is_equals word ≢ x ∷ y ∷ [])
     → page_write_of size word ≡ None
 unfolding page_write_of
 entry_others size word other = from_others size (slice_split is_equals word) other
@@ -137,3 +141,44 @@ pub value_fails : (size : ℕ) (text : List ℕ) (e : LineError) → bytes_eq te
     Fails e (page_value size text)
 value_fails size text Bad other none = value_contents size text other ∙ ap (option_map Some) none
 value_fails size text Memory other none = tt
+
+-- a text that is one byte, no equals sign, has none
+no_sign : (text one : List ℕ) (i : ℕ) → position is_equals one ≡ None → position is_equals text ≡ Some i → bytes_eq text one ≡ false
+no_sign text one i none some =
+    let other : bytes_eq text one ≢ true = λ same. (let is = (bytes_eq-Decides text one).0 same in let h = ap (position is_equals) is in absurd (cc)) in
+    false_from_ne_true (bytes_eq text one) other
+
+not_digits : (text : List ℕ) (i : ℕ) → position is_equals text ≡ Some i → (d : Result (List ℕ) FromHexError) → decode_of text ≡ d → result_ok d ≡ None
+not_digits text i h (Err e) is = refl
+not_digits text i h (Ok bytes) is =
+    let at = position_some is_equals text i h in
+    let inside : position_or_len is_equals text < length text = omega (arith, at.0, at.1) in
+    let sign = eqb-true _ 61 (passes_at_first is_equals text 0 inside) in
+    let digit = (decode_of-ok text bytes is).1 (position_or_len is_equals text) 0 inside in
+    absurd (let digit' : is_hex_digit 61 ≡ true = rw sign at digit in cc)
+
+-- a text with an equals sign is no value
+value_none : (size : ℕ) (text : List ℕ) (i : ℕ) → position is_equals text ≡ Some i → page_value size text ≡ None
+value_none size text i h =
+    value_contents size text (no_sign text (codes "~") i refl h)
+    ∙ ap (option_map Some) (not_decoded size text (no_sign text (codes "-") i refl h) (not_digits text i h (decode_of text) refl))
+
+write_none : (size : ℕ) (page text : List ℕ) (o : Option ℕ) → number_of page ≡ o → page_value size text ≡ None → write_of_texts size page text ≡ None
+write_none size page text None is none = rw is refl
+write_none size page text (Some p) is none = rw (is, none) refl
+
+by_rest : (size : ℕ) (word : List ℕ) (i : ℕ) → position is_equals word ≡ Some i → (o : Option ℕ) → position is_equals (drop (i + 1) word) ≡ o
+    → page_write_of size word ≡ write_of_texts size (take i word) (drop (i + 1) word)
+by_rest size word i first None h = entry_parts size word (take i word) (drop (i + 1) word) (parts_one word i first h)
+by_rest size word i first (Some j) h =
+    entry_others size word (parts_many word i j first h)
+    ∙ sym (write_none size (take i word) (drop (i + 1) word) (number_of (take i word)) refl (value_none size (drop (i + 1) word) j h))
+
+-- an entry by the texts before and behind its first equals sign
+pub entry_around : (size : ℕ) (word : List ℕ) (i : ℕ) → position is_equals word ≡ Some i
+    → page_write_of size word ≡ write_of_texts size (take i word) (drop (i + 1) word)
+entry_around size word i first = by_rest size word i first (position is_equals (drop (i + 1) word)) refl
+
+-- a word without one is no entry
+pub entry_none : (size : ℕ) (word : List ℕ) → position is_equals word ≡ None → page_write_of size word ≡ None
+entry_none size word none = entry_others size word (parts_none word none)

@@ -28,17 +28,15 @@ pub fn entry<'a>(
     Ok((page, value))
 }
 
-/// The texts of the page and of what it is to hold that an entry gives.
-#[tactic(auto, using(crate::proofs::EntryLemmas::entry_parts, crate::proofs::EntryLemmas::entry_others))]
+/// The texts of the page and of what it is to hold that an entry gives. Where the second one has an equals sign too,
+/// it is no value.
 fn texts(word: &[u8]) -> Option<(&[u8], &[u8])>
     ensures some { IfSome result (λ f. (size : ℕ) →
         page_write_of size word.now ≡ write_of_texts size f.0.now f.1.now) }
     ensures none { IfNone result ((size : ℕ) → page_write_of size word.now ≡ None) }
 {
-    match around_equals(word) {
-        Some((page, text)) => Some((page, text)),
-        None => None,
-    }
+    let place = first_equals(word)?;
+    Some((&word[..place], &word[place + 1..]))
 }
 
 /// The two parts of a word around its one equals sign.

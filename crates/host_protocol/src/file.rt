@@ -9,7 +9,6 @@ use crate::command::Command;
 use crate::error::TextError;
 use crate::line::line_command;
 use crate::lines::first_line;
-use memchr::memchr_iter;
 use std::alloc::Global;
 use tx_types::Memory;
 
@@ -55,12 +54,15 @@ pub fn parse(alloc: Global, bytes: &[u8], page_bytes: u32) -> Result<Vec<Command
     Ok(commands)
 }
 
-/// No commands, with room for as many as a file with so many lines may have.
+/// The fewest bytes of a line with a command, and of its line feed.
+const MIN_LINE_BYTES: usize = 6;
+
+/// No commands, with room for as many as a file of so many bytes may have.
 pub fn no_commands<T>(alloc: Global, bytes: &[u8]) -> Result<Vec<T>, Memory>
     ensures { IfOk result (λ list. list.items ≡ []) }
 {
-    let lines = memchr_iter(b'\n', bytes).count();
-    Ok(Vec::with_capacity(alloc, MAX_COMMANDS.min(lines.saturating_add(1)))?)
+    let most = bytes.len() / MIN_LINE_BYTES + 1;
+    Ok(Vec::with_capacity(alloc, MAX_COMMANDS.min(most))?)
 }
 
 /// Keeps the command of a line, if it has one, and takes its entries from those that are left.

@@ -1,4 +1,4 @@
-ghost use Rattle.std.specs.Prelude.{◌≡◌, ◌≢◌, [], false, IfOk, IfNone, IfSome, IsErrOf};
+ghost use Rattle.std.specs.Prelude.{◌≡◌, ◌≢◌, ◌≤◌, [], false, IfOk, IfNone, IfSome, IsErrOf};
 ghost use Rattle.host_protocol.specs.Files.{is_command_line};
 ghost use Rattle.host_protocol.specs.Lines.{words_of};
 ghost use Rattle.host_protocol.specs.Reading.{
@@ -151,7 +151,7 @@ fn entries(
     ensures bad { IsErrOf result LineError.Bad →
         HasNoEntries page_bytes (words_of words.now) entries_left }
 {
-    let mut batch = Batch::new(alloc, page_bytes);
+    let mut batch = Batch::with_room(alloc, page_bytes, near_entries(words))?;
     let mut rest = words;
     while let Some((word, behind)) = first_word(rest) {
         if batch.len() >= entries_left {
@@ -165,4 +165,18 @@ fn entries(
         rest = behind;
     }
     Ok(batch)
+}
+
+/// The bytes behind a tag in which entries are counted beforehand.
+const NEAR_BYTES: usize = 64;
+
+/// How many equals signs stand near the beginning: room for so many entries is taken at once.
+fn near_entries(words: &[u8]) -> usize
+    ensures { result ≤ NEAR_BYTES }
+{
+    let mut count: u32 = 0;
+    for byte in &words[..words.len().min(NEAR_BYTES)] {
+        count += u32::from(*byte == b'=');
+    }
+    count as usize
 }

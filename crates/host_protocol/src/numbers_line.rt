@@ -1,7 +1,7 @@
 //! Lines of a few numbers behind some words.
 ghost use Rattle.std.specs.Prelude.{◌≡◌, ◌+◌, ◌*◌, ◌<◌, ◌≤◌, ◌∷◌, ◌++◌, length, map, vec_len, vec_capacity, OnOk, OnErr};
 ghost use Rattle.std.specs.Fmt.{decimal};
-ghost use Rattle.host_protocol.specs.Replies.{line_of};
+ghost use Rattle.host_protocol.specs.Replies.{line_of, moved_words};
 
 use itoa::Buffer;
 use tx_types::Memory;
@@ -10,6 +10,7 @@ use tx_types::Memory;
 pub(crate) const NUMBER_BYTES: usize = 11;
 
 /// Appends the line of these words and of the numbers behind them, or nothing where there is no memory.
+#[inline(always)]
 pub fn add_line(words: &[u8], numbers: &[u32], out: &mut Vec<u8>) -> Result<(), Memory>
     requires { length words.now + NUMBER_BYTES * length numbers.now < 100 }
     ensures ok { OnOk result
@@ -25,7 +26,25 @@ pub fn add_line(words: &[u8], numbers: &[u32], out: &mut Vec<u8>) -> Result<(), 
     Ok(())
 }
 
+/// The most bytes of the line of how many transactions went on, and how many went, but for the numbers.
+const MOVED_BYTES: usize = 15;
+
+/// Appends the line of how many transactions went on, and how many went, or nothing where there is no memory.
+pub fn add_moved(moved: u32, finished: u32, out: &mut Vec<u8>) -> Result<(), Memory>
+    ensures ok { OnOk result (out.new.items ≡ out.old.items ++ line_of (moved_words moved finished)) }
+    ensures err { OnErr result (out.new.items ≡ out.old.items) }
+{
+    out.reserve(MOVED_BYTES + 2 * NUMBER_BYTES)?;
+    out.extend_from_slice(b"moved").unwrap();
+    add_number(moved, out);
+    out.extend_from_slice(b" finished").unwrap();
+    add_number(finished, out);
+    out.push_reserved(b'\n');
+    Ok(())
+}
+
 /// Appends a space and a number, for which there is room.
+#[inline(always)]
 pub fn add_number(number: u32, out: &mut Vec<u8>)
     requires { vec_len out.old + NUMBER_BYTES ≤ vec_capacity out.old }
     ensures items { out.new.items ≡ out.old.items ++ 32 ∷ decimal number }

@@ -1,8 +1,8 @@
 ghost use Rattle.std.specs.Prelude.{◌≡◌, ◌++◌, IfOk, IsOkAnd, OnOk, OnErr};
 ghost use Rattle.std.specs.String.{string_bytes};
-ghost use Rattle.host_protocol.specs.Replies.{text_of, line_of, moved_words, stats_words, flash_stats};
+ghost use Rattle.host_protocol.specs.Replies.{text_of, line_of, stats_words, flash_stats};
 
-use crate::numbers_line::add_line;
+use crate::numbers_line::{add_line, add_moved};
 use crate::page_line::add_page;
 use std::alloc::{AllocError, Global};
 use tx_types::{Bytes, Memory, Stats};
@@ -74,7 +74,7 @@ pub fn reply_text(alloc: Global, reply: &Reply, out: &mut Vec<u8>) -> Result<(),
         Reply::Aborted(tag) => add_line(b"aborted", &[*tag], out),
         Reply::Late(tag) => add_line(b"late", &[*tag], out),
         Reply::Unknown(tag) => add_line(b"unknown", &[*tag], out),
-        Reply::Moved(moved, finished) => push(moved_line(alloc, *moved, *finished), out),
+        Reply::Moved(moved, finished) => add_moved(*moved, *finished, out),
         Reply::Collected => append(b"collected\n", out),
         Reply::Nothing => append(b"nothing\n", out),
         Reply::Armed => append(b"armed\n", out),
@@ -108,13 +108,6 @@ fn push(line: Result<String, AllocError>, out: &mut Vec<u8>) -> Result<(), Memor
     ensures err { OnErr result (out.new.items ≡ out.old.items) }
 {
     append(line?.as_bytes(), out)
-}
-
-/// The line of how many transactions went on, and how many went.
-fn moved_line(alloc: Global, moved: u32, finished: u32) -> Result<String, AllocError>
-    ensures { IfOk result (λ l. string_bytes l ≡ line_of (moved_words moved finished)) }
-{
-    format!(in alloc; "moved {moved} finished {finished}\n")
 }
 
 /// The line of the numbers of a device.

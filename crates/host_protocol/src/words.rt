@@ -4,6 +4,7 @@ ghost use Rattle.host_protocol.specs.Lines.{words_of, is_space_or_tab};
 use memchr::memchr2;
 
 /// The first word of a line, and what is behind it.
+#[inline(always)]
 pub fn first_word(line: &[u8]) -> Option<(&[u8], &[u8])>
     ensures word { let words = words_of line.now in
         IfSome result (λ found. words ≡ found.0.now ∷ words_of found.1.now) }
@@ -23,9 +24,34 @@ fn first_filled(line: &[u8]) -> Option<usize>
     line.iter().position(|b| *b != b' ' && *b != b'\t')
 }
 
+/// The bytes in which the end of a word is looked for one by one.
+const NEAR_BYTES: usize = 16;
+
 /// Where the first space or tab stands.
-#[tactic(auto, using(crate::proofs::SearchLemmas::found_first))]
+#[inline(always)]
 fn first_blank(line: &[u8]) -> Option<usize>
+    ensures { result ≡ position is_space_or_tab line.now }
+{
+    let near = &line[..line.len().min(NEAR_BYTES)];
+    let found = near_blank(near);
+    if found.is_some() || near.len() == line.len() {
+        return found;
+    }
+    far_blank(line)
+}
+
+/// The same, byte by byte.
+#[inline(always)]
+fn near_blank(line: &[u8]) -> Option<usize>
+    ensures { result ≡ position is_space_or_tab line.now }
+{
+    line.iter().position(|b| *b == b' ' || *b == b'\t')
+}
+
+/// Where the first space or tab stands, which is far behind.
+#[inline(never)]
+#[tactic(auto, using(crate::proofs::SearchLemmas::found_first))]
+fn far_blank(line: &[u8]) -> Option<usize>
     ensures { result ≡ position is_space_or_tab line.now }
 {
     memchr2(b' ', b'\t', line)

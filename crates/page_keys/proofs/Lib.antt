@@ -3,4 +3,3 @@ pub mod OfPut
 pub mod OfStore
 pub mod OfServe
 pub mod OfParse
-pub mod OfLaws

@@ -3,8 +3,4 @@ pub mod Existing
 pub mod PageLists
 pub mod PlacedChanges
 pub mod PutGiven
-pub mod PutLoop
 pub mod PutWrites
-pub mod RepeatedKeys
-pub mod Steps
-pub mod WriteSteps

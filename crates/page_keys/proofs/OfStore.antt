@@ -1,4 +1,2 @@
 pub mod StoreReads
-pub mod StoreWrites
-pub mod Opening
 pub mod Mentions

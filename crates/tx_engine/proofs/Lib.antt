@@ -5,7 +5,6 @@ pub mod OfWrite
 pub mod OfSubmit
 pub mod OfAbort
 pub mod OfCollect
-pub mod OfRetire
 pub mod OfMount
 pub mod OfTables
 pub mod OfOpenings

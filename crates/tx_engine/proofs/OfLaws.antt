@@ -1,4 +1,1 @@
-pub mod CutsLeave
-pub mod DeviceMentions
 pub mod DevicesStand
-pub mod HeldAlways

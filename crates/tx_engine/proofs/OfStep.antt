@@ -1,7 +1,4 @@
 pub mod AdvanceExits
-pub mod Advancing
-pub mod NextThere
-pub mod CountExits
 pub mod CostFacts
 pub mod StepExits
 pub mod StepWrites

@@ -4,17 +4,6 @@ pub mod JobsStay
 pub mod Chosen
 pub mod Loading
 pub mod Counting
-pub mod Planning
 pub mod JobsBeside
-pub mod Wholes
-pub mod BatchLeaves
-pub mod Firing
 pub mod Nexts
 pub mod Moving
-pub mod AllMoved
-pub mod KnownChoice
-pub mod Dropping
-pub mod AllDone
-pub mod FirstSteps
-pub mod Movings
-pub mod DeviceMoves

@@ -1,3 +1,2 @@
 pub mod Submitted
 pub mod Submitting
-pub mod RefusalSteps

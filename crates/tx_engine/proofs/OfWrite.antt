@@ -4,5 +4,4 @@ pub mod PageWrites
 pub mod RecordWrites
 pub mod WriteAfter
 pub mod WriteExits
-pub mod ProgramCalls
 pub mod Programs

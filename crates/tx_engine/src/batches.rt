@@ -83,14 +83,15 @@ fn plan<F: Wide, R: CommitRule>(store: &mut Store<F, R>, openings: &Openings, jo
 {
     jobs.clear();
     for die in 0..store.dies() {
+        let Some(slot) = store.slot_in(die) else {
+            continue;
+        };
         let at = jobs.len();
         if at == openings.count() as usize || !is_ready(store, openings, at) {
             return;
         }
-        if let Some(slot) = store.slot_in(die) {
-            let rec = next_record(store, openings, at);
-            jobs.push(Job { slot, rec }).unwrap();
-        }
+        let rec = next_record(store, openings, at);
+        jobs.push(Job { slot, rec }).unwrap();
     }
 }
 

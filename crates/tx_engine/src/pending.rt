@@ -25,11 +25,11 @@ pub struct OpenTransaction {
 /// A page that an open transaction writes or discards.
 #[derive(Debug, Drop)]
 pub struct PendingPage {
+    /// Zeros where it is discarded.
+    pub bytes: Vec<u8>,
     /// The page, and the version at which it is written.
     pub name: Link,
     pub discard: bool,
-    /// Zeros where it is discarded.
-    pub bytes: Vec<u8>,
 }
 
 /// A page of room for each page that may be pending.

@@ -15,6 +15,7 @@ use record_list::CommitRule;
 
 /// Finds out what a broken operation left, and what that makes of the open transactions. The
 /// flash is only read. After a failed read all is as before.
+#[inline(always)]
 pub(crate) fn settle<F: Flash, R: CommitRule>(
     store: &mut Store<F, R>,
     openings: &mut Openings,

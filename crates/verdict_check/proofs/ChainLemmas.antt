@@ -76,16 +76,6 @@ module _ (list : List Found) where
     | inr ne ↦ subst (IsLastInto list other p) (sym (get_or-set_other before page p o None ne)) (are p other (omega arith) e)
   ]
 
-  -- and one that does not
-  pub last_same : (page : ℕ) (last : List (Option ℕ)) → page_behind list page ≡ None → AreLast list page last → AreLast list (page + 1) last
-  last_same page last none are other low = longer other page (place_at last other) (λ e. absurd cc) (are other low)
-
-  pub before_same : (page : ℕ) (before : List (Option ℕ)) → page_behind list page ≡ None → AreBefore list page before → AreBefore list (page + 1) before
-  before_same page before none are p other low e = elim (cases_eq p page) [
-    | inl same ↦ absurd (let f : page_behind list page ≡ Some other = subst (λ q. page_behind list q ≡ Some other) same e in cc)
-    | inr ne ↦ are p other (omega arith) e
-  ]
-
   -- what comes before is lower
   pub above_less : (into at : ℕ) (o : Option ℕ) → IsLastInto list into at o → above o < suc at
   above_less into at None none = omega arith

@@ -1,12 +1,10 @@
 pub mod TextLemmas
 pub mod PlaceLemmas
-pub mod OlderLemmas
 pub mod ChainLemmas
 pub mod StraddlerLemmas
 pub mod CourseLemmas
 pub mod LineLemmas
-pub mod JudgeLemmas
 pub mod DifferenceLemmas
 pub mod PlainLemmas
 pub mod ReportLemmas
-pub mod MeaningLemmas
+mod OlderLemmas

@@ -1,8 +1,5 @@
-pub mod NewestLemmas
 pub mod WalkLemmas
 pub mod WalkLengths
 pub mod LineLemmas
 pub mod PageLemmas
-pub mod Alike
-pub mod Examples
-pub mod LengthLemmas
+mod NewestLemmas

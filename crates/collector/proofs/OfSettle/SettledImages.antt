@@ -43,7 +43,8 @@ use Rattle.collector.proofs.OfSettle.DamagedNotes.{damaged_preserves}
 use Rattle.collector.proofs.OfSettle.OwnExits.{own_there, own_damaged}
 use Rattle.collector.proofs.OfSettle.SettledBlocks.{settled_spare, settled_victim}
 use Rattle.collector.proofs.OfSettle.SettledExits.{matches_surely, settled_slot, damaged_spared}
-use Rattle.collector.proofs.OfSettle.TableChanges.{slot_table, spare_table, exchanged_table}
+use Rattle.die_alloc.proofs.Exchanges.{spare_table}
+use Rattle.collector.proofs.OfSettle.TableChanges.{slot_table, exchanged_table}
 use Rattle.collector.proofs.OfErase.VictimCalls.{spare_noted, with_spare_preserves}
 
 -- what is known then matches, and nothing but the record of an open transaction changes what is preserved

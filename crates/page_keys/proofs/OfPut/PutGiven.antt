@@ -150,10 +150,6 @@ stands_idle s arr closed (inr h) =
 
 module _ {F : Type 0} (state : F → FlashState) (old : Keyed F) (t : Standing F) (m : KeyMap)
     (cs : List Change) (usable : old.broken ≡ false) where
-  -- after reads alone, with the store broken or not
-  after_reads : Bool → Keyed F
-  after_reads b = record { device = t; broken = b }
-
   read_seen : t ≡ record old.device { flash = t.flash } → (seen : ℕ → ℕ) →
       IsSeen seen old.device → IsSeen seen t
   read_seen stays seen h =

@@ -1,5 +1,5 @@
 -- Transactions that go on at once go on as one after another: first all records were noted, and then each was counted.
-use Rattle.std.proofs.Common.{◌≡◌, ◌≢◌, ◌⊎◌, ℕ, ◌+◌, ◌<◌, ◌==◌, Bool, true, false, List, [], ◌∷◌, ◌++◌, length, map, All, AllPairs, Some, refl, sym, ap, ap₂}
+use Rattle.std.proofs.Common.{◌≡◌, ◌≢◌, ◌⊎◌, ℕ, ◌+◌, ◌<◌, ◌==◌, true, false, List, [], ◌∷◌, ◌++◌, length, map, All, AllPairs, Some, refl, sym, ap, ap₂}
 use Rattle.std.proofs.Common.{◌∙◌, subst, inl, inr, eq-eqb, ne_eqb}
 use Rattle.std.specs.Prelude.{if◌then◌else◌}
 use Rattle.std.proofs.lemmas.Bool.{cases_eq, cond-true, cond-false}
@@ -10,8 +10,7 @@ use Rattle.list_facts.proofs.Pairs.{pairs_head, pairs_tail}
 use Rattle.array_machine.specs.Batches.{GoInTurn}
 use Rattle.array_machine.specs.declared.answers.Progress.{Progress}
 use Rattle.array_machine.specs.declared.answers.Progress.TheVariants as progress
-use Rattle.array_machine.specs.declared.mark.Mark.{Mark}
-use Rattle.array_machine.specs.declared.mark.Mark.TheVariants.{Plain, Doubt, Whole}
+use Rattle.array_machine.specs.declared.mark.Mark.TheVariants.{Plain, Whole}
 use Rattle.tx_engine.specs.ArrayState.{ArrayState, Entry, Pages, entry_of, has_tag, put, with_entry, without}
 use Rattle.tx_engine.specs.BatchCalls.{CountInTurn}
 use Rattle.tx_engine.specs.Batches.{taken_writes, takes_each}

@@ -1,9 +1,9 @@
 -- Which transactions are chosen: die after die, and that their programs may be done together.
-use Rattle.std.proofs.Common.{◌≡◌, ◌≢◌, ℕ, zero, suc, ◌+◌, ◌-◌, ◌<◌, ◌≤◌, ◌==◌, Bool, true, false, ◌&&◌, eqb-true, List, [], ◌∷◌, ◌++◌, length, map, drop}
-use Rattle.std.proofs.Common.{get_or, All, AllPairs, Option, Some, None, refl, sym, ap, ◌∙◌, subst, inl, inr, arith}
+use Rattle.std.proofs.Common.{◌≡◌, ◌≢◌, ℕ, zero, suc, ◌+◌, ◌-◌, ◌<◌, ◌≤◌, ◌==◌, Bool, true, false, ◌&&◌, eqb-true, List, [], ◌∷◌, ◌++◌, length, drop}
+use Rattle.std.proofs.Common.{All, Option, Some, None, refl, sym, ap, ◌∙◌, subst, inl, inr, arith}
 use Rattle.std.specs.Prelude.{is_none, not, option_map, take, take_while}
 use Rattle.std.specs.List.{cons_option, prefix_len, range_with_len, zip}
-use Rattle.std.proofs.lemmas.Bool.{and_parts, cases_Bool, cases_eq, cases_lt, cond-true, cond-false, both_ways, eq-eqb, le-ltb, lt-ltb, ne_eqb}
+use Rattle.std.proofs.lemmas.Bool.{and_parts, cases_Bool, cases_eq, cases_lt, cond-true, cond-false, eq-eqb, le-ltb, lt-ltb, ne_eqb}
 use Rattle.std.proofs.lemmas.List.{drop_all, drop_more}
 use Rattle.std.proofs.lemmas.List.Elements.{All-nil, All-cons, All-head, All-tail}
 use Rattle.list_facts.proofs.Options.{cases_Option}
@@ -28,7 +28,7 @@ use Rattle.tx_engine.specs.BatchCalls.{AreJobsDue, CanWriteAll, InOrderOfDies, I
 use Rattle.tx_engine.specs.Calls.{IsReady}
 use Rattle.tx_engine.specs.Stored.{Stored}
 use Rattle.tx_engine.specs.Batches.{chosen_from, chosen_in, is_ready, jobs_of, record_due, slots_next}
-use Rattle.tx_engine.specs.OpenTable.{OpenTable, Opening, IsDueAt, no_opening, opening_at}
+use Rattle.tx_engine.specs.OpenTable.{OpenTable, Opening, no_opening, opening_at}
 use Rattle.tx_engine.specs.Settling.{is_due, is_whole}
 use Rattle.tx_engine.specs.Standing.{IsAsMarked, Naming, name_at}
 use Rattle.tx_engine.proofs.OfStanding.Arrays.{as_many_names}

@@ -1,7 +1,7 @@
 -- The first transactions, whose next pages are noted, go on without the flash, one after another.
-use Rattle.std.proofs.Common.{◌≡◌, ◌≢◌, ℕ, ◌+◌, ◌-◌, ◌<◌, ◌≤◌, Bool, true, false, List, [], ◌∷◌, ◌++◌, length, map, get_or, refl, sym, ap, ap₂, ◌∙◌, subst, inl}
-use Rattle.std.proofs.Common.{inr, arith}
-use Rattle.std.specs.Prelude.{count_by, if◌then◌else◌, remove, take}
+use Rattle.std.proofs.Common.{◌≡◌, ◌≢◌, ℕ, ◌+◌, ◌-◌, ◌<◌, ◌≤◌, false, List, [], ◌∷◌, ◌++◌, length, get_or, refl, sym, ap, ap₂, ◌∙◌, subst}
+use Rattle.std.proofs.Common.{arith}
+use Rattle.std.specs.Prelude.{count_by, if◌then◌else◌, take}
 use Rattle.std.proofs.lemmas.List.{get_or-map, get_or-set_other, length-map, length-set, take_more}
 use Rattle.std.proofs.lemmas.List.Edits.{get_or-remove_above, length-remove}
 use Rattle.std.proofs.lemmas.List.Sums.{sum_by-append}
@@ -9,17 +9,15 @@ use Rattle.tx_types.specs.declared.config.Protocol.{Protocol}
 use Rattle.flash_model.specs.Flash.{FlashState}
 use Rattle.flash_model.proofs.CallLemmas.{Carries-nothing}
 use Rattle.flash_model.proofs.MoveLemmas.{FlashMoves-nothing}
-use Rattle.version_index.specs.Noted.{Noted}
 use Rattle.array_machine.specs.Batches.{is_done}
 use Rattle.array_machine.specs.declared.answers.Progress.{Progress}
 use Rattle.array_machine.specs.declared.answers.Progress.TheVariants as progress
 use Rattle.tx_engine.specs.ArrayState.{ArrayState, Entry}
-use Rattle.tx_engine.specs.BatchCalls.{CanCountAll, CountInTurn, CountsAll, finished_by}
-use Rattle.tx_engine.specs.Calls.{CanCount, CountsNext, IsReady, counted_on}
+use Rattle.tx_engine.specs.BatchCalls.{CanCountAll, CountInTurn, finished_by}
+use Rattle.tx_engine.specs.Calls.{CountsNext, IsReady, counted_on}
 use Rattle.tx_engine.specs.Exits.{Exits}
 use Rattle.tx_engine.specs.OpenTable.{OpenTable, Opening, HasLimitsOf, entries_of, no_opening, opening_at, with_done}
-use Rattle.tx_engine.specs.Settling.{Counts, CountsOn}
-use Rattle.tx_engine.specs.Standing.{Standing}
+use Rattle.tx_engine.specs.Settling.{Counts}
 use Rattle.tx_engine.specs.Stored.{Stored}
 use Rattle.tx_engine.specs.Tables.{standing_in}
 use Rattle.tx_engine.proofs.OfStanding.ExitsThen.{exits_still, exits_then}
@@ -91,9 +89,6 @@ module _ {F : Type 0} (state : F → FlashState) (p : Protocol) (S0 : Stored F) 
     pub at_within : at < length O.all
     at_within = let w = can.within in let l = h.long in let low = h.low in omega (arith, is)
 
-    pub counts_here : CanCount state p S O at
-    counts_here = record { ready = h.ready; at = at_within; counts = subst CountsOn (sym same_opening) (can.counts turn less) }
-
     module _ (progress : Progress) (next : CountsNext state S S' O O' at progress) (gone' : ℕ) (sum : gone' ≡ gone + finished_by progress) where
       abbrev its : Entry
       its = (opening_at O0 turn).entry
@@ -143,17 +138,3 @@ module _ {F : Type 0} (state : F → FlashState) (p : Protocol) (S0 : Stored F) 
             ∙ ap (λ j. get_or (counted_on O at progress).all j no_opening) (let same : k - gone' ≡ k - gone - finished_by progress = omega (arith, sum) in same)
             ∙ counted_later O at (k - gone) progress at_within (omega (arith, is)) ∙ h.later k (omega arith) inside;
       }
-
-  pub counted_all : (S : Stored F) (O : OpenTable) (gone turn moved : ℕ) → CountedTo state p S0 S O0 O gone turn → turn ≡ moved →
-      CountsAll state S0 S O0 O moved (record { moved = moved; finished = gone })
-  counted_all S O gone turn moved h is = record {
-    told = refl;
-    each = h.each;
-    counts = subst (λ m. CountInTurn (standing_in state S0 O0).machine (take m (entries_of O0)) h.each (standing_in state S O).machine) is h.counts;
-    finished = h.finished;
-    stands = h.ready.stands;
-    exits = h.exits;
-    stays = h.stays;
-    sure = h.ready.sure;
-    limits = h.limits;
-  }

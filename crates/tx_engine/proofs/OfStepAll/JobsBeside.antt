@@ -2,14 +2,13 @@
 use Rattle.std.proofs.Common.{◌≡◌, ◌≢◌, ◌⊎◌, ℕ, ◌+◌, ◌<◌, ◌≤◌, false, List, [], ◌∷◌, length, All, Contains, None, refl, sym, ap, ap₂, ◌∙◌, subst, inl, inr}
 use Rattle.std.proofs.Common.{arith}
 use Rattle.std.proofs.lemmas.Bool.{cases_eq}
-use Rattle.std.proofs.lemmas.List.Elements.{All-contains, All-head, All-tail, All-get_or}
+use Rattle.std.proofs.lemmas.List.Elements.{All-contains, All-head, All-tail}
 use Rattle.list_facts.proofs.Membership.{all_from}
 use Rattle.page_record.specs.Spelling.{spelling}
 use Rattle.tx_types.specs.Batch.{bytes_in}
 use Rattle.tx_types.specs.declared.config.Config.{Config}
 use Rattle.tx_types.specs.declared.config.Shape.{Shape}
 use Rattle.tx_types.specs.declared.record.Link.{Link}
-use Rattle.tx_types.specs.declared.record.Rec.{Rec}
 use Rattle.flash_model.specs.declared.outcome.Outcome.TheVariants as outcome
 use Rattle.flash_model.specs.Flash.{FlashState}
 use Rattle.flash_model.specs.Operations.{Load, die_of, load_left}
@@ -18,24 +17,23 @@ use Rattle.record_list.specs.Records.{mentions_below, name_of}
 use Rattle.record_list.specs.SoundList.{Pages, PagesExist}
 use Rattle.record_list.proofs.OfChanges.OneMore.{inserted_in}
 use Rattle.version_index.specs.Notes.{found_in}
-use Rattle.version_index.specs.Noted.{Noted, block_to_go, current_of, damaged_at, programmed}
+use Rattle.version_index.specs.Noted.{Noted, block_to_go, damaged_at, programmed}
 use Rattle.version_index.proofs.OfTables.FoundIn.{found, found_in_programmed}
 use Rattle.die_alloc.specs.BlockTable.{BlockTable, with_slot}
 use Rattle.collector.specs.declared.unsure.Unsure.TheVariants as unsure
-use Rattle.tx_engine.specs.BatchCalls.{AreJobsDue, InOrderOfDies, IsJobDue, load_of, loads_for}
+use Rattle.tx_engine.specs.BatchCalls.{AreJobsDue, IsJobDue, load_of, loads_for}
 use Rattle.tx_engine.specs.Batches.{record_due}
-use Rattle.tx_engine.specs.OpenTable.{OpenTable, Opening, HasPlace, bytes_due, name_due, no_opening, opening_at, with_opening}
-use Rattle.tx_engine.specs.Settling.{with_next}
+use Rattle.tx_engine.specs.OpenTable.{OpenTable, Opening, HasPlace, bytes_due, name_due, no_opening, opening_at}
 use Rattle.tx_engine.specs.Standing.{Stands, name_at, no_name, write_at}
 use Rattle.tx_engine.specs.Stored.{Stored}
 use Rattle.tx_engine.specs.Tables.{standing_in}
 use Rattle.tx_engine.specs.declared.jobs.Job.{Job}
-use Rattle.tx_engine.proofs.OfSettle.NextNoted.{IsNextOf, apart_at, last_elsewhere, next_stays, next_versions}
+use Rattle.tx_engine.proofs.OfSettle.NextNoted.{apart_at, last_elsewhere, next_stays, next_versions}
 use Rattle.tx_engine.proofs.OfStanding.Arrays.{as_many_names}
 use Rattle.tx_engine.proofs.OfStanding.Kept.{IsKept, from_stands}
 use Rattle.tx_engine.proofs.OfStanding.Noting.{next_named}
-use Rattle.tx_engine.proofs.OfStepAll.JobsStay.{KeepsOff, blocks_apart, clear_off, due_at_beside, due_beside, due_off, first_off, mentions_off}
-use Rattle.tx_engine.proofs.OfStepAll.LoadLeft.{HasLaws, damaged_records, job_take, left_stay, spoilt_preserves, whole_next}
+use Rattle.tx_engine.proofs.OfStepAll.JobsStay.{KeepsOff, blocks_apart, clear_off, due_off, first_off, mentions_off}
+use Rattle.tx_engine.proofs.OfStepAll.LoadLeft.{HasLaws, damaged_records, left_stay, spoilt_preserves, whole_next}
 
 -- each record that is noted is of a page that exists
 pub pages_low : (s : FlashState) (n : Noted) (t : BlockTable) (O : OpenTable) → IsKept s n t unsure.Nothing O →

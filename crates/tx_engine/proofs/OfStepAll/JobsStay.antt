@@ -1,27 +1,21 @@
 -- What a program that was done, or damaged its slot, leaves of another transaction's: its record, that nothing must go before
 -- it, and its slot.
-use Rattle.std.proofs.Common.{◌≡◌, ◌≢◌, ◌⊎◌, ℕ, ◌/◌, ◌%◌, ◌<◌, ◌≤◌, ◌==◌, Bool, true, false, ◌&&◌, ltb, ltb-true, List, length, map, All, Contains, Some, None}
+use Rattle.std.proofs.Common.{◌≡◌, ◌≢◌, ◌⊎◌, ℕ, ◌/◌, ◌%◌, ◌<◌, ◌≤◌, ◌==◌, Bool, true, false, ◌&&◌, ltb-true, List, All, Contains, None}
 use Rattle.std.proofs.Common.{refl, sym, ap, ap₂, ◌∙◌, subst, inl, inr, arith}
-use Rattle.std.specs.Prelude.{◌||◌, nat_lt, is_none}
-use Rattle.std.specs.Option.{option_map}
-use Rattle.std.proofs.lemmas.Bool.{cases_Bool, cases_eq, both_ways, lt-ltb, ne_eqb, and_parts}
+use Rattle.std.specs.Prelude.{◌||◌, nat_lt}
+use Rattle.std.proofs.lemmas.Bool.{cases_Bool, lt-ltb, ne_eqb}
 use Rattle.std.proofs.lemmas.List.{length-set, get_or-set_other}
-use Rattle.std.proofs.lemmas.List.Elements.{All-contains, All-from_get_or}
-use Rattle.list_facts.proofs.Membership.{all_from}
-use Rattle.tx_types.specs.Config.{shape_of, slots_of}
+use Rattle.std.proofs.lemmas.List.Elements.{All-contains}
 use Rattle.tx_types.specs.declared.config.BlockState.TheVariants as state
 use Rattle.tx_types.specs.declared.config.Config.{Config}
 use Rattle.tx_types.specs.declared.config.Protocol.{Protocol}
 use Rattle.tx_types.specs.declared.config.Protocol.TheVariants.{Scc, Bpcc}
 use Rattle.tx_types.specs.declared.config.Shape.{Shape}
-use Rattle.tx_types.specs.declared.record.Link.{Link}
 use Rattle.tx_types.specs.declared.record.Rec.{Rec}
 use Rattle.record_list.specs.declared.found.Found.{Found}
 use Rattle.record_list.specs.Current.{cur, is_loose, must_go}
-use Rattle.record_list.specs.Records.{mentions_below, name_of}
-use Rattle.record_list.specs.SoundList.{PagesExist}
-use Rattle.record_list.specs.Transaction.{ShareNoPage, back_version}
-use Rattle.record_list.specs.Written.{first_slot}
+use Rattle.record_list.specs.Records.{mentions_below}
+use Rattle.record_list.specs.Transaction.{back_version}
 use Rattle.version_index.specs.Notes.{found_in}
 use Rattle.version_index.specs.Noted.{Noted, block_to_go, current_of}
 use Rattle.die_alloc.specs.BlockTable.{BlockTable, IsFirstFree, block_of_slot, use_of, with_slot}

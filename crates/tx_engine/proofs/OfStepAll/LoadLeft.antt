@@ -1,15 +1,14 @@
 -- One of several programs that are done together: how it leaves a device, whole, damaged or blank, over states in which no flash
 -- was.
-use Rattle.std.proofs.Common.{◌≡◌, ◌≢◌, ℕ, ◌+◌, ◌<◌, Bool, true, false, List, length, All, Some, None, refl, sym, ap, ◌∙◌, subst, inl, inr, arith, eqb-true}
+use Rattle.std.proofs.Common.{◌≡◌, ◌≢◌, ℕ, ◌+◌, ◌<◌, true, List, length, All, Some, None, refl, sym, ap, ◌∙◌, subst, arith}
 use Rattle.std.specs.Prelude.{is_none}
 use Rattle.std.proofs.lemmas.List.{get_or-set_same}
 use Rattle.std.proofs.lemmas.List.Elements.{All-from_get_or, All-get_or}
 use Rattle.tx_types.specs.Batch.{PageWrite, bytes_in, no_write}
-use Rattle.tx_types.specs.Config.{slots_of, shape_of}
+use Rattle.tx_types.specs.Config.{slots_of}
 use Rattle.tx_types.specs.declared.config.Protocol.{Protocol}
 use Rattle.tx_types.specs.declared.config.Shape.{Shape}
 use Rattle.tx_types.specs.declared.config.Slot.{Slot}
-use Rattle.tx_types.specs.declared.record.Link.{Link}
 use Rattle.tx_types.specs.declared.record.Rec.{Rec}
 use Rattle.flash_model.specs.declared.outcome.Outcome.{Outcome}
 use Rattle.flash_model.specs.declared.outcome.Outcome.TheVariants as outcome
@@ -21,7 +20,6 @@ use Rattle.page_record.proofs.Spellings.{length-spelling}
 use Rattle.record_list.specs.Records.{is_present, name_of}
 use Rattle.record_list.specs.Transaction.{back_version}
 use Rattle.record_list.specs.Written.{text_at}
-use Rattle.version_index.specs.ImageChanges.{TextsStay}
 use Rattle.version_index.specs.ImageLaws.{ImagePartialLaw, ImageCompletingLaw}
 use Rattle.version_index.specs.Images.{array_in, records_in, written_in}
 use Rattle.version_index.specs.Notes.{found_in}
@@ -34,11 +32,10 @@ use Rattle.collector.specs.declared.unsure.Unsure.TheVariants as unsure
 use Rattle.collector.specs.Known.{array_known}
 use Rattle.collector.specs.Laws.{ArraysStay, ImagesStand, NotedWrites}
 use Rattle.collector.specs.Matches.{Matches, CanTakeOwn}
-use Rattle.collector.specs.Preserves.{IsThere, KeepsArray, Preserves}
+use Rattle.collector.specs.Preserves.{KeepsArray, Preserves}
 use Rattle.collector.specs.Settling.{Settlement, own_settled}
 use Rattle.collector.proofs.OfSettle.SettledExits.{matches_still}
 use Rattle.tx_engine.specs.BatchCalls.{IsJobDue, load_of}
-use Rattle.tx_engine.specs.Batches.{record_due}
 use Rattle.tx_engine.specs.OpenTable.{OpenTable, Opening, bytes_due, entries_of, namings_of, no_opening, opening_at, with_opening}
 use Rattle.tx_engine.specs.Settling.{link_place, with_next}
 use Rattle.tx_engine.specs.Standing.{DoubtsAs, IsNamed, name_at, text_in, text_with, write_at}

@@ -1,14 +1,13 @@
 -- Loading the programs of several records, and noting these records: what is left to do comes to the same.
-use Rattle.std.proofs.Common.{◌≡◌, ◌≢◌, ℕ, suc, ◌+◌, ◌/◌, ◌<◌, ◌≤◌, false, List, [], ◌∷◌, ◌++◌, length, drop, get_or, All, AllPairs, Option, refl, sym, ap, ap₂}
+use Rattle.std.proofs.Common.{◌≡◌, ◌≢◌, ℕ, suc, ◌+◌, ◌/◌, ◌<◌, ◌≤◌, false, List, [], ◌∷◌, ◌++◌, length, drop, get_or, All, Option, refl, sym, ap, ap₂}
 use Rattle.std.proofs.Common.{◌∙◌, subst, arith}
 use Rattle.std.proofs.lemmas.List.{append_assoc, append-nil, drop_all, drop_more, length-replicate, length-set}
-use Rattle.std.proofs.lemmas.List.Elements.{All-head, All-tail, All-from_get_or}
+use Rattle.std.proofs.lemmas.List.Elements.{All-head}
 use Rattle.std.proofs.lemmas.Nat.{div_below}
 use Rattle.list_facts.proofs.Membership.{all_from}
 use Rattle.list_facts.proofs.Pairs.{pairs_head, pairs_tail}
 use Rattle.tx_types.specs.Config.{IsShape, blocks_of, slots_of}
 use Rattle.tx_types.specs.declared.config.Shape.{Shape}
-use Rattle.tx_types.specs.declared.record.Rec.{Rec}
 use Rattle.page_record.specs.Spelling.{CanBeSpelled}
 use Rattle.flash_model.specs.Firing.{AreFreeFrom, IsFreeAt, loads_in, no_loads, with_load}
 use Rattle.flash_model.specs.Flash.{FlashState}

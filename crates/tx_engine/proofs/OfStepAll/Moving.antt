@@ -1,5 +1,5 @@
 -- Several open transactions that go on together: from what is planned to what is counted.
-use Rattle.std.proofs.Common.{◌≡◌, ◌≢◌, ℕ, ◌+◌, ◌<◌, ◌≤◌, ◌==◌, false, eq-eqb, List, [], ◌∷◌, length, map, Ok, Err, refl, sym, ap, ◌∙◌, subst, arith}
+use Rattle.std.proofs.Common.{◌≡◌, ◌≢◌, ℕ, ◌+◌, ◌<◌, ◌≤◌, ◌==◌, false, eq-eqb, List, [], ◌∷◌, length, Ok, Err, refl, sym, ap, ◌∙◌, subst, arith}
 use Rattle.std.proofs.lemmas.Bool.{both_ways}
 use Rattle.std.proofs.lemmas.List.{length-map}
 use Rattle.tx_types.specs.declared.config.Config.{Config}
@@ -8,10 +8,10 @@ use Rattle.tx_types.specs.declared.config.Slot.{Slot}
 use Rattle.flash_model.specs.Flash.{FlashState}
 use Rattle.flash_model.specs.declared.flash.Broken.{Broken}
 use Rattle.array_machine.specs.declared.answers.Moved.{Moved}
-use Rattle.tx_engine.specs.BatchCalls.{CanCountAll, CanWriteAll, CountsAll, DroppedAll, MovesAll, WrittenAll, chosen_now, nexts_noted}
+use Rattle.tx_engine.specs.BatchCalls.{CanCountAll, CanWriteAll, CountsAll, DroppedAll, MovesAll, WrittenAll, chosen_now}
 use Rattle.tx_engine.specs.Batches.{jobs_of}
 use Rattle.tx_engine.specs.OpenTable.{OpenTable, Opening, opening_at}
-use Rattle.tx_engine.specs.Settling.{CountsOn, with_next}
+use Rattle.tx_engine.specs.Settling.{CountsOn}
 use Rattle.tx_engine.specs.Stored.{Stored}
 use Rattle.tx_engine.specs.declared.jobs.Job.{Job}
 use Rattle.tx_engine.proofs.OfStep.AdvanceExits.{next_ready}

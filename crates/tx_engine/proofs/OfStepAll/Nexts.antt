@@ -1,19 +1,18 @@
 -- The open transactions where the next records of the first ones are noted.
-use Rattle.std.proofs.Common.{◌≡◌, ◌≢◌, ℕ, ◌+◌, ◌<◌, ◌≤◌, ◌==◌, true, false, List, [], ◌∷◌, ◌++◌, length, map, take, drop, get_or, All, refl, sym, ap, ap₂, ◌∙◌}
+use Rattle.std.proofs.Common.{◌≡◌, ◌≢◌, ℕ, ◌+◌, ◌<◌, ◌≤◌, ◌==◌, List, [], ◌∷◌, ◌++◌, length, map, take, drop, get_or, All, refl, sym, ap, ap₂, ◌∙◌}
 use Rattle.std.proofs.Common.{subst, inl, inr, arith}
 use Rattle.std.specs.Prelude.{if◌then◌else◌, slice_set}
-use Rattle.std.specs.List.{range_with_len}
-use Rattle.std.proofs.lemmas.Bool.{cases_eq, cond-true, cond-false, cond_both, eq-eqb, ne_eqb}
+use Rattle.std.proofs.lemmas.Bool.{cases_eq, cond-true, cond-false, eq-eqb, ne_eqb}
 use Rattle.std.proofs.lemmas.List.{append_assoc, get_or_append_left, get_or-map, get_or-take, get_or_default, length-append, length-drop, length-map}
 use Rattle.std.proofs.lemmas.List.{length-take-le, set_at, get_or_at, map-append, take-map, drop-map}
-use Rattle.std.proofs.lemmas.List.Elements.{All-nil, All-cons, All-head, All-tail}
+use Rattle.std.proofs.lemmas.List.Elements.{All-head, All-tail}
 use Rattle.array_machine.specs.declared.mark.Mark.TheVariants.{Plain, Whole}
 use Rattle.version_index.specs.Noted.{Noted}
 use Rattle.die_alloc.specs.BlockTable.{BlockTable}
 use Rattle.tx_engine.specs.ArrayState.{Entry}
 use Rattle.tx_engine.specs.BatchCalls.{AreJobsDue, nexts_noted}
 use Rattle.tx_engine.specs.OpenTable.{OpenTable, Opening, HasLimitsOf, entries_of, no_opening, opening_at, with_mark, with_noted_count, with_opening}
-use Rattle.tx_engine.specs.Settling.{CountsOn, is_at_last, with_next}
+use Rattle.tx_engine.specs.Settling.{is_at_last, with_next}
 use Rattle.tx_engine.specs.declared.jobs.Job.{Job}
 use Rattle.tx_engine.proofs.OfStepAll.BatchSteps.{marked}
 

@@ -1,4 +1,5 @@
-use Rattle.array_machine.proofs.Leaving.{array_left, state_left}
+mod Leaving
+use Rattle.array_machine.proofs.laws.arrays_are_left.Answers.Leaving.{array_left, state_left}
 use Rattle.array_machine.proofs.laws.arrays_are_left.Goals as goal
 
 pub returns-clause-array : goal.returns-clause-array

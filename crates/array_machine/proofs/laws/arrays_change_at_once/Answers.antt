@@ -1,4 +1,5 @@
-use Rattle.array_machine.proofs.AtOnce.{serves_at_once, serves_stays}
+mod AtOnce
+use Rattle.array_machine.proofs.laws.arrays_change_at_once.Answers.AtOnce.{serves_at_once, serves_stays}
 use Rattle.array_machine.proofs.laws.arrays_change_at_once.Goals as goal
 
 pub returns-clause-at_once : goal.returns-clause-at_once

@@ -1,4 +1,5 @@
-use Rattle.array_machine.proofs.Doubts.{idle_one_doubt, run_one_doubt, doubt_arises}
+mod Doubts
+use Rattle.array_machine.proofs.laws.doubtful_transactions.Answers.Doubts.{idle_one_doubt, run_one_doubt, doubt_arises}
 use Rattle.array_machine.proofs.laws.doubtful_transactions.Goals as goal
 
 pub returns-clause-idle : goal.returns-clause-idle

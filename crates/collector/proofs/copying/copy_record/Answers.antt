@@ -1,9 +1,10 @@
+mod CopyCalls
 use Rattle.std.proofs.Common.{sym, subst}
 use Rattle.flash_model.specs.Calls.{Reads, Programs}
 use Rattle.version_index.specs.Noted.{Noted}
 use Rattle.collector.specs.Calls.{CopiesRecord}
 use Rattle.collector.specs.Store.{store_of}
-use Rattle.collector.proofs.OfCopies.CopyCalls.{can_program, copy_is_done, copy_breaks, copy_unread}
+use Rattle.collector.proofs.copying.copy_record.Answers.CopyCalls.{can_program, copy_is_done, copy_breaks, copy_unread}
 use Rattle.collector.proofs.OfNotes.KeepsLemmas.{by_err}
 use Rattle.collector.proofs.copying.copy_record.Goals as goal
 

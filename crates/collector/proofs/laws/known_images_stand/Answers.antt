@@ -1,8 +1,9 @@
+mod KnownImages
 use Rattle.std.proofs.Common.{◌≡◌, subst}
 use Rattle.version_index.specs.Images.{IsSoundImage, array_in}
 use Rattle.version_index.specs.Notes.{notes_of}
 use Rattle.collector.specs.Known.{known_image, array_known}
-use Rattle.collector.proofs.OfImages.KnownImages.{known_sound, known_notes, known_array, unsure_spelled}
+use Rattle.collector.proofs.laws.known_images_stand.Answers.KnownImages.{known_sound, known_notes, known_array, unsure_spelled}
 use Rattle.collector.proofs.laws.known_images_stand.Goals as goal
 
 pub returns : goal.returns

@@ -1,4 +1,5 @@
-use Rattle.collector.proofs.OfImages.NotedWrites.{names_there, partial_noted, completing_noted}
+mod NotedWrites
+use Rattle.collector.proofs.laws.noted_writes.Answers.NotedWrites.{names_there, partial_noted, completing_noted}
 use Rattle.collector.proofs.laws.noted_writes.Goals as goal
 
 pub returns : goal.returns

@@ -1,4 +1,5 @@
-use Rattle.collector.proofs.OfRoom.NothingGoes.{none_goes}
+mod NothingGoes
+use Rattle.collector.proofs.laws.nothing_goes.Answers.NothingGoes.{none_goes}
 use Rattle.collector.proofs.laws.nothing_goes.Goals as goal
 
 pub returns : goal.returns

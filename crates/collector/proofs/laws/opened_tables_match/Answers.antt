@@ -1,4 +1,5 @@
-use Rattle.collector.proofs.OfImages.OpenedTables.{opened_match}
+mod OpenedTables
+use Rattle.collector.proofs.laws.opened_tables_match.Answers.OpenedTables.{opened_match}
 use Rattle.collector.proofs.laws.opened_tables_match.Goals as goal
 
 pub returns : goal.returns

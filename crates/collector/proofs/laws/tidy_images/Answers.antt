@@ -1,4 +1,5 @@
-use Rattle.collector.proofs.OfImages.TidyImages.{tidy}
+mod TidyImages
+use Rattle.collector.proofs.laws.tidy_images.Answers.TidyImages.{tidy}
 use Rattle.collector.proofs.laws.tidy_images.Goals as goal
 
 pub returns : goal.returns

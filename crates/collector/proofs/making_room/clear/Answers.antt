@@ -3,8 +3,8 @@ use Rattle.std.specs.Option.{option_map}
 use Rattle.tx_types.specs.declared.config.Block.{Block}
 use Rattle.tx_types.specs.declared.config.Config.{Config}
 use Rattle.collector.specs.Calls.{Clears}
-use Rattle.collector.proofs.OfRoom.ClearRounds.{clears_none, clears_all, block_unneeded, round_broke, round_still, round_done}
-use Rattle.collector.proofs.OfRoom.GoingOrder.{numbers, all_ahead, next_exists, next_found, next_passed, next_treated, none_next}
+use Rattle.collector.proofs.making_room.clear.Invariants.ClearRounds.{clears_none, clears_all, block_unneeded, round_broke, round_still, round_done}
+use Rattle.collector.proofs.making_room.clear.Invariants.GoingOrder.{numbers, all_ahead, next_exists, next_found, next_passed, next_treated, none_next}
 use Rattle.collector.proofs.OfNotes.KeepsLemmas.{by_err, sure_then}
 use Rattle.collector.proofs.making_room.clear.Goals.{then-is_going+in_ok-treat, else-is_going}
 use Rattle.collector.proofs.making_room.clear.Goals as goal

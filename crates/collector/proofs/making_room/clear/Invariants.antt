@@ -1,6 +1,8 @@
+pub mod GoingOrder
+pub mod ClearRounds
 use Rattle.collector.specs.Store.{store_of}
-use Rattle.collector.proofs.OfRoom.ClearRounds.{ClearsSoFar}
-use Rattle.collector.proofs.OfRoom.GoingOrder.{AreAhead, numbers}
+use Rattle.collector.proofs.making_room.clear.Invariants.ClearRounds.{ClearsSoFar}
+use Rattle.collector.proofs.making_room.clear.Invariants.GoingOrder.{AreAhead, numbers}
 use Rattle.collector.proofs.making_room.clear.Given as goal
 
 -- what is so between two rounds, which blocks were treated, and that those which are left are ahead

@@ -1,8 +1,9 @@
+mod FoundSlots
 use Rattle.std.proofs.Common.{Ok, Err, refl, sym, subst}
 use Rattle.die_alloc.specs.BlockTable.{BlockTable}
 use Rattle.collector.specs.Calls.{CollectsMost, FindsSlot}
 use Rattle.collector.specs.Store.{store_of}
-use Rattle.collector.proofs.OfRoom.FoundSlots.{found_at_once, found_none, found_then}
+use Rattle.collector.proofs.making_room.free_slot.Answers.FoundSlots.{found_at_once, found_none, found_then}
 use Rattle.collector.proofs.OfNotes.KeepsLemmas.{by_err}
 use Rattle.collector.proofs.OfRoom.RoomCalls.{full_collects}
 use Rattle.collector.proofs.making_room.free_slot.Goals as goal

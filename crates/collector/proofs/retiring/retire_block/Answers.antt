@@ -1,7 +1,8 @@
+mod RetireCalls
 use Rattle.std.proofs.Common.{refl, sym, ◌∙◌}
 use Rattle.collector.specs.Retiring.{RetiresBlock}
 use Rattle.collector.proofs.OfNotes.KeepsLemmas.{by_err}
-use Rattle.collector.proofs.OfRetire.RetireCalls.{retires_stopped, victim_retired}
+use Rattle.collector.proofs.retiring.retire_block.Answers.RetireCalls.{retires_stopped, victim_retired}
 use Rattle.collector.proofs.OfRoom.RoomCalls.{blank_spare}
 use Rattle.collector.proofs.retiring.retire_block.Goals as goal
 

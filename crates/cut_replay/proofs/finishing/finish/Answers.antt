@@ -1,4 +1,5 @@
-use Rattle.cut_replay.proofs.FinishCalls.{last_serves, wrote_serves, step_fewer}
+mod FinishCalls
+use Rattle.cut_replay.proofs.finishing.finish.Answers.FinishCalls.{last_serves, wrote_serves, step_fewer}
 use Rattle.cut_replay.proofs.finishing.finish.Goals as goal
 
 pub steps-smaller : goal.steps-smaller

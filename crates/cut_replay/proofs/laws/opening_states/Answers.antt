@@ -1,4 +1,5 @@
-use Rattle.cut_replay.proofs.Opening.{opening_length, opening_closed}
+mod Opening
+use Rattle.cut_replay.proofs.laws.opening_states.Answers.Opening.{opening_length, opening_closed}
 use Rattle.cut_replay.proofs.laws.opening_states.Goals as goal
 
 pub returns-clause-pages : goal.returns-clause-pages

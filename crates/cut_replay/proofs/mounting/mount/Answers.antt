@@ -1,4 +1,5 @@
-use Rattle.cut_replay.proofs.Powering.{powered_mounts}
+mod Powering
+use Rattle.cut_replay.proofs.mounting.mount.Answers.Powering.{powered_mounts}
 use Rattle.cut_replay.proofs.mounting.mount.Goals as goal
 
 pub returns-in-Ok-clause-mounted : goal.returns-in-Ok-clause-mounted

@@ -1,5 +1,6 @@
+mod Rereading
 use Rattle.cut_replay.proofs.Telling.{reads_serve}
-use Rattle.cut_replay.proofs.Rereading.{reads_once, page_left, size_left}
+use Rattle.cut_replay.proofs.reading.read.Answers.Rereading.{reads_once, page_left, size_left}
 use Rattle.cut_replay.proofs.reading.read.Goals as goal
 
 pub returns-clause-ok : goal.returns-clause-ok

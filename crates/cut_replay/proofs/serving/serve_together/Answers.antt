@@ -1,9 +1,10 @@
+mod Together
 use Rattle.std.proofs.Common.{sym, subst, Ok}
 use Rattle.host_protocol.specs.declared.command.Command.TheVariants as command
 use Rattle.host_protocol.specs.declared.reply.Reply.TheVariants as reply
 use Rattle.cut_replay.specs.Sessions.{Fits, Serves}
 use Rattle.cut_replay.specs.declared.session.Session.TheVariants as session
-use Rattle.cut_replay.proofs.Together.{moved_session, dropped_session}
+use Rattle.cut_replay.proofs.serving.serve_together.Answers.Together.{moved_session, dropped_session}
 use Rattle.cut_replay.proofs.serving.serve_together.Goals as goal
 
 pub returns-in-Ok : goal.returns-in-Ok

@@ -1,7 +1,8 @@
+pub mod HexLemmas
 use Rattle.std.proofs.Common.{◌≡◌, ◌*◌, ◌<◌, ◌≤◌, take, drop}
 use Rattle.hex.specs.Hex.{decode_pairs}
 use Rattle.hex.proofs.Pairs.{prepend}
-use Rattle.host_protocol.proofs.HexLemmas.{HasOther}
+use Rattle.host_protocol.proofs.hexadecimal.decode_into.Invariants.HexLemmas.{HasOther}
 use Rattle.host_protocol.proofs.hexadecimal.decode_into.Given as goal
 
 abbrev pub invariant-loop-i : goal.invariant-loop-i

@@ -1,4 +1,5 @@
-use Rattle.host_protocol.proofs.LengthLemmas.{short_text}
+mod LengthLemmas
+use Rattle.host_protocol.proofs.laws.lines_are_short.Answers.LengthLemmas.{short_text}
 use Rattle.host_protocol.proofs.laws.lines_are_short.Goals as goal
 
 pub returns : goal.returns

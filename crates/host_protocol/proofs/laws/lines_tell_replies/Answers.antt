@@ -1,4 +1,5 @@
-use Rattle.host_protocol.proofs.ReplyLemmas.{texts_tell}
+mod ReplyLemmas
+use Rattle.host_protocol.proofs.laws.lines_tell_replies.Answers.ReplyLemmas.{texts_tell}
 use Rattle.host_protocol.proofs.laws.lines_tell_replies.Goals as goal
 
 pub returns : goal.returns

@@ -1,4 +1,5 @@
-use Rattle.page_keys.proofs.OfStore.Opening.{opened, not_opened_bucket, not_opened_fault, not_opened_memory}
+mod Opening
+use Rattle.page_keys.proofs.key_session.mount.Answers.Opening.{opened, not_opened_bucket, not_opened_fault, not_opened_memory}
 use Rattle.page_keys.proofs.key_session.mount.Goals as goal
 
 pub returns-in-Ok-over-clause-mounted : goal.returns-in-Ok-over-clause-mounted

@@ -1,5 +1,6 @@
+mod OneMap
 use Rattle.page_keys.proofs.OfPut.Existing.{shows_some}
-use Rattle.page_keys.proofs.OfLaws.OneMap.{one_map}
+use Rattle.page_keys.proofs.laws.arrays_show_maps.Answers.OneMap.{one_map}
 use Rattle.page_keys.proofs.OfBucket.Parts.{shown_buckets}
 use Rattle.page_keys.proofs.laws.arrays_show_maps.Goals as goal
 

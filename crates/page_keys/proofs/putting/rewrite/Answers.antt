@@ -1,3 +1,4 @@
+mod Inserts
 use Rattle.std.proofs.Common.{ℕ, List, ◌++◌, length, flat_map, refl, ap, sym, subst, ◌∙◌, arith}
 use Rattle.tx_types.specs.declared.config.Config.{Config}
 use Rattle.std.specs.List.{AllByRecursion}
@@ -7,7 +8,7 @@ use Rattle.page_keys.specs.Groups.{puts_value}
 use Rattle.page_keys.specs.Buckets.{entry_bytes, IsEntry}
 use Rattle.page_keys.specs.Entries.{changed}
 use Rattle.page_keys.proofs.OfBucket.BucketChanges.{merged_are, each_after, each_changed}
-use Rattle.page_keys.proofs.OfBucket.Inserts.{puts_most}
+use Rattle.page_keys.proofs.putting.rewrite.Answers.Inserts.{puts_most}
 use Rattle.page_keys.proofs.OfPut.EntriesLeft.{length_entries}
 use Rattle.page_keys.proofs.OfStore.StoreReads.{entries_read, holds_read, is_over_by, is_more, is_within}
 use Rattle.page_keys.proofs.putting.rewrite.Goals as goal

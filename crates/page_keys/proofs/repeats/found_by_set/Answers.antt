@@ -1,8 +1,9 @@
+mod RepeatedKeys
 use Rattle.std.proofs.Common.{◌≡◌, ℕ, Bool, true, false, not, List, take, sym, ap, subst, ◌∙◌}
 use Rattle.std.specs.List.{list_any}
 use Rattle.page_keys.specs.Puts.{has_key}
 use Rattle.page_keys.specs.declared.changes.Change.{Change}
-use Rattle.page_keys.proofs.OfPut.RepeatedKeys.{seen_more, repeated_here, repeated_later}
+use Rattle.page_keys.proofs.repeats.found_by_set.Answers.RepeatedKeys.{seen_more, repeated_here, repeated_later}
 use Rattle.page_keys.proofs.repeats.found_by_set.Goals as goal
 
 -- a key is new where the set lacks it

@@ -1,7 +1,7 @@
 use Rattle.std.proofs.Common.{◌≡◌, ◌&&◌, Bool, true, false, length, drop, refl, sym, ap, ◌∙◌, arith}
 use Rattle.std.proofs.Math.Seq.{drop-length}
 use Rattle.std.specs.List.{list_all}
-use Rattle.page_keys.proofs.OfBucket.Zeros.{is_zero, all_zeros}
+use Rattle.page_keys.proofs.short.all_zero.Invariants.Zeros.{is_zero, all_zeros}
 use Rattle.page_keys.proofs.short.all_zero.Goals as goal
 
 and_true : (b : Bool) → (b && true) ≡ b

@@ -1,3 +1,5 @@
+mod WriteSteps
+mod Steps
 use Rattle.std.proofs.Common.{◌+◌, Ok, Some, false, ap, subst, ◌∙◌}
 use Rattle.version_index.specs.Noted.{Noted}
 use Rattle.tx_engine.specs.Naming.{is_spent}
@@ -10,8 +12,8 @@ use Rattle.tx_engine.specs.Step.{StepsAs}
 use Rattle.tx_engine.proofs.OfStanding.Seen.{exits_seen}
 use Rattle.page_keys.specs.Writing.{seen_more}
 use Rattle.page_keys.proofs.OfStore.Mentions.{submitted_seen}
-use Rattle.page_keys.proofs.OfPut.Steps.{wrote, done_writing}
-use Rattle.page_keys.proofs.OfPut.WriteSteps.{accepted, moved_nothing, moved_then, breaks_off, named_spent, some_write}
+use Rattle.page_keys.proofs.writing.write.Answers.Steps.{wrote, done_writing}
+use Rattle.page_keys.proofs.writing.write.Answers.WriteSteps.{accepted, moved_nothing, moved_then, breaks_off, named_spent, some_write}
 use Rattle.page_keys.proofs.writing.write.Goals as goal
 
 pub steps-preserved : goal.steps-preserved

@@ -1,4 +1,5 @@
-use Rattle.tx_engine.proofs.OfLaws.HeldAlways.{holds_always}
+mod HeldAlways
+use Rattle.tx_engine.proofs.always.held_always.Answers.HeldAlways.{holds_always}
 use Rattle.tx_engine.proofs.always.held_always.Goals as goal
 
 pub returns-clause-always : goal.returns-clause-always

@@ -1,6 +1,7 @@
+pub mod Planning
 use Rattle.std.proofs.Common.{◌≡◌, ◌≤◌}
 use Rattle.std.specs.Prelude.{vec_capacity}
-use Rattle.tx_engine.proofs.OfStepAll.Planning.{PlannedTo}
+use Rattle.tx_engine.proofs.batches.plan.Invariants.Planning.{PlannedTo}
 use Rattle.tx_engine.proofs.batches.plan.Given as goal
 
 abbrev pub invariant-loop-die : goal.invariant-loop-die

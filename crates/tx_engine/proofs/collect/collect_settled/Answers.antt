@@ -1,3 +1,4 @@
+mod NothingLeft
 use Rattle.std.proofs.Common.{true, false, sym, ap, ◌∙◌, subst, refl}
 use Rattle.tx_types.specs.declared.config.Config.{Config}
 use Rattle.collector.specs.Laws.{ImagesStand}
@@ -6,7 +7,7 @@ use Rattle.tx_engine.specs.Calls.{CollectsSettled}
 use Rattle.tx_engine.specs.Stored.{store_in}
 use Rattle.tx_engine.proofs.OfCollect.Collecting.{collects_tables}
 use Rattle.tx_engine.proofs.OfWrite.Leaving.{left_by}
-use Rattle.tx_engine.proofs.OfCollect.NothingLeft.{nothing_left, nothing_of}
+use Rattle.tx_engine.proofs.collect.collect_settled.Answers.NothingLeft.{nothing_left, nothing_of}
 use Rattle.tx_engine.proofs.collect.collect_settled.Goals as goal
 
 pub returns-in_err-any : goal.returns-in_err-any

@@ -1,6 +1,7 @@
+mod CutsLeave
 use Rattle.std.proofs.Common.{refl}
 use Rattle.tx_engine.specs.ArrayState.{entry_of}
-use Rattle.tx_engine.proofs.OfLaws.CutsLeave.{cut_step, cut_settled}
+use Rattle.tx_engine.proofs.laws.cuts_leave.Answers.CutsLeave.{cut_step, cut_settled}
 use Rattle.tx_engine.proofs.laws.cuts_leave.Goals as goal
 
 pub returns : goal.returns

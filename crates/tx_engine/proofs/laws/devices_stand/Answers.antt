@@ -1,9 +1,10 @@
+mod DeviceMentions
 use Rattle.std.proofs.Common.{◌≡◌, ap, ◌∙◌, rules, subst, sym}
 use Rattle.tx_types.specs.declared.config.Config.{Config}
 use Rattle.version_index.specs.Images.{IsSoundImage, array_in}
 use Rattle.collector.specs.Known.{known_image}
 use Rattle.tx_engine.proofs.OfLaws.DevicesStand.{device_array, known_records, known_versions}
-use Rattle.tx_engine.proofs.OfLaws.DeviceMentions.{device_mentions}
+use Rattle.tx_engine.proofs.laws.devices_stand.Answers.DeviceMentions.{device_mentions}
 use Rattle.tx_engine.proofs.laws.devices_stand.Goals as goal
 
 pub returns : goal.returns

@@ -1,3 +1,4 @@
+mod ProgramCalls
 use Rattle.std.proofs.Common.{subst, sym, ap, ◌∙◌}
 use Rattle.tx_types.specs.declared.config.Config.{Config}
 use Rattle.flash_model.specs.Calls.{Programs}
@@ -8,7 +9,7 @@ use Rattle.collector.specs.Matches.{Matches}
 use Rattle.collector.specs.Store.{store_of}
 use Rattle.tx_engine.specs.Stored.{WritesOwn}
 use Rattle.tx_engine.proofs.OfWrite.Programs.{free_program}
-use Rattle.tx_engine.proofs.OfWrite.ProgramCalls.{write_torn, write_done}
+use Rattle.tx_engine.proofs.programming.write_record.Answers.ProgramCalls.{write_torn, write_done}
 use Rattle.tx_engine.proofs.programming.write_record.Goals as goal
 
 pub program-requires-clause-blank : goal.program-requires-clause-blank

@@ -1,8 +1,10 @@
+mod Advancing
+mod NextThere
 use Rattle.std.proofs.Common.{sym, ◌∙◌}
 use Rattle.collector.proofs.OfNotes.KeepsLemmas.{by_err}
 use Rattle.tx_engine.specs.Calls.{AdvancesTo}
 use Rattle.tx_engine.proofs.OfStep.AdvanceExits.{not_due_ready}
-use Rattle.tx_engine.proofs.OfStep.Advancing.{is_due_at, counted_on, advance_breaks, counts_then, exists_then, ready_then, advanced}
+use Rattle.tx_engine.proofs.step.advance.Answers.Advancing.{is_due_at, counted_on, advance_breaks, counts_then, exists_then, ready_then, advanced}
 use Rattle.tx_engine.proofs.step.advance.Goals as goal
 
 pub count_next-requires : goal.count_next-requires

@@ -1,8 +1,9 @@
+mod CountExits
 use Rattle.std.proofs.Common.{◌≡◌, ◌+◌, ap, sym, ◌∙◌, refl, arith}
 use Rattle.tx_engine.specs.OpenTable.{OpenTable, no_opening, opening_at, with_opening, with_done}
 use Rattle.tx_engine.specs.Stored.{Stored}
 use Rattle.tx_engine.proofs.OfAbort.Aborting.{closed_machine, closed_exits, closed_current, ready_plain, either_mark}
-use Rattle.tx_engine.proofs.OfStep.CountExits.{counted_stands, counted_machine, counted_exits}
+use Rattle.tx_engine.proofs.step.count_next.Answers.CountExits.{counted_stands, counted_machine, counted_exits}
 use Rattle.tx_engine.proofs.OfStanding.Kept.{from_stands}
 use Rattle.tx_engine.proofs.step.count_next.Goals as goal
 

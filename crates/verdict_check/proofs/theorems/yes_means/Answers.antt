@@ -1,4 +1,5 @@
-use Rattle.verdict_check.proofs.MeaningLemmas.{says, all_said}
+mod MeaningLemmas
+use Rattle.verdict_check.proofs.theorems.yes_means.Answers.MeaningLemmas.{says, all_said}
 use Rattle.verdict_check.proofs.theorems.yes_means.Goals as goal
 
 pub returns-clause-says : goal.returns-clause-says

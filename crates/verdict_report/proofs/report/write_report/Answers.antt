@@ -1,7 +1,8 @@
+mod Alike
 use Rattle.std.proofs.Common.{arith, ◌∙◌, ◌++◌, ap, length, ◌≡◌}
 use Rattle.verdict_report.specs.Report.{pages}
 use Rattle.verdict_report.proofs.PageLemmas.{length-pages, lines_with, lines_without, lines_report}
-use Rattle.verdict_report.proofs.Alike.{pages_alike, report_alike}
+use Rattle.verdict_report.proofs.report.write_report.Answers.Alike.{pages_alike, report_alike}
 use Rattle.verdict_report.proofs.report.write_report.Goals as goal
 use Rattle.verdict_report.proofs.report.write_report.Goals.{in-Some+in_ok-line+in_ok-write, in_default}
 

@@ -1,4 +1,5 @@
-use Rattle.verdict_report.proofs.Examples.{empty_report, straddled_report, twice_straddled_report, endless_report}
+mod Examples
+use Rattle.verdict_report.proofs.theorems.worked_reports.Answers.Examples.{empty_report, straddled_report, twice_straddled_report, endless_report}
 use Rattle.verdict_report.proofs.theorems.worked_reports.Goals as goal
 
 pub returns-clause-empty : goal.returns-clause-empty

@@ -1,9 +1,10 @@
+mod StoreWrites
 use Rattle.std.proofs.Common.{ap, sym, subst, ◌∙◌}
 use Rattle.tx_engine.specs.ArrayState.{put}
 use Rattle.page_keys.specs.Buckets.{AreBuckets}
 use Rattle.page_keys.specs.Stores.{HasKeys, Keyed}
 use Rattle.tx_types.specs.declared.config.Config.{Config}
-use Rattle.page_keys.proofs.OfStore.StoreWrites.{has_after, has_not, config_not}
+use Rattle.page_keys.proofs.store.KeyStore.write.Answers.StoreWrites.{has_after, has_not, config_not}
 use Rattle.page_keys.proofs.store.KeyStore.write.Goals as goal
 
 pub invariant_of-self : goal.invariant_of-self

@@ -1,11 +1,18 @@
-use Rattle.std.proofs.Common.{◌≡◌, Ok, Err, true, sym, ap, ◌∙◌, subst}
+mod DeviceMoves
+mod Movings
+mod AllDone
+mod FirstSteps
+mod AllMoved
+mod Dropping
+mod KnownChoice
+use Rattle.std.proofs.Common.{◌≡◌, true, sym, ap, ◌∙◌, subst}
 use Rattle.tx_types.specs.declared.config.Config.{Config}
 use Rattle.tx_engine.specs.Batches.{DropsDevice, MovesDevice}
 use Rattle.tx_engine.specs.Standing.{Standing}
 use Rattle.tx_engine.specs.Tables.{standing_in}
 use Rattle.tx_engine.proofs.OfStanding.KeptDevices.{as_kept, by_kept, kept_is, kept_stands, limits_then}
-use Rattle.tx_engine.proofs.OfStepAll.DeviceMoves.{all_dropped, all_moved}
-use Rattle.tx_engine.proofs.OfStepAll.Dropping.{drops_unsettled}
+use Rattle.tx_engine.proofs.device.Device.step_all.Answers.DeviceMoves.{all_dropped, all_moved}
+use Rattle.tx_engine.proofs.device.Device.step_all.Answers.Dropping.{drops_unsettled}
 use Rattle.tx_engine.proofs.device.Device.step_all.Goals as goal
 
 pub returns-in_default : goal.returns-in_default

@@ -1,8 +1,9 @@
+mod RefusalSteps
 use Rattle.std.proofs.Common.{◌≡◌, None, length, sym, ap, ◌∙◌, arith}
 use Rattle.tx_engine.specs.Submit.{or_else, full, free_of}
 use Rattle.tx_engine.proofs.OfOpenings.OpenPages.{pages_of_openings, tag_among}
 use Rattle.tx_engine.proofs.OfOpenings.Owners.{entries_in, owned_refusal}
-use Rattle.tx_engine.proofs.OfSubmit.RefusalSteps.{refused_by_tag, refused_behind, batch_refused, pages_exist}
+use Rattle.tx_engine.proofs.openings.Openings.refusal.Answers.RefusalSteps.{refused_by_tag, refused_behind, batch_refused, pages_exist}
 use Rattle.tx_engine.proofs.openings.Openings.refusal.Goals as goal
 
 pub returns-then-is_tag_used : goal.returns-then-is_tag_used

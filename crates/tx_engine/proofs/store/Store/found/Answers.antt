@@ -1,7 +1,8 @@
+mod FoundSlots
 use Rattle.std.proofs.Common.{◌<◌, length, ap, ◌∙◌, sym, arith}
 use Rattle.tx_types.specs.Config.{slots_of}
 use Rattle.version_index.proofs.OfTables.FoundIn.{found_in_nil}
-use Rattle.tx_engine.proofs.OfTables.FoundSlots.{with_record, without_record}
+use Rattle.tx_engine.proofs.store.Store.found.Answers.FoundSlots.{with_record, without_record}
 use Rattle.tx_engine.proofs.store.Store.found.Goals as goal
 use Rattle.tx_engine.proofs.store.Store.found.Goals.{in-Some+in_ok-push, in_default}
 

@@ -1,5 +1,6 @@
+mod GarbageSums
 use Rattle.std.proofs.Common.{arith}
-use Rattle.tx_engine.proofs.OfTables.GarbageSums.{garbage_few}
+use Rattle.tx_engine.proofs.store.Store.garbage_in.Answers.GarbageSums.{garbage_few}
 use Rattle.tx_engine.proofs.store.Store.garbage_in.Goals as goal
 
 pub returns-clause-few : goal.returns-clause-few

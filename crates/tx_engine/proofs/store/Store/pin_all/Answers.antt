@@ -1,3 +1,4 @@
+mod Pinning
 use Rattle.std.proofs.Common.{◌≡◌, ℕ, List, length, ◌+◌, ◌<◌, get_or, ap, sym, ◌∙◌, subst, arith}
 use Rattle.std.proofs.lemmas.List.Elements.{All-get_or}
 use Rattle.tx_types.specs.Batch.{PageWrite, no_write}
@@ -6,7 +7,7 @@ use Rattle.version_index.specs.Noted.{Noted, mention_of, pinned}
 use Rattle.tx_engine.specs.Stored.{Stored, IsStored}
 use Rattle.tx_engine.proofs.OfSubmit.Submitted.{above_mention}
 use Rattle.tx_engine.proofs.OfSubmit.Submitting.{pins_more}
-use Rattle.tx_engine.proofs.OfTables.Pinning.{pinned_matches}
+use Rattle.tx_engine.proofs.store.Store.pin_all.Answers.Pinning.{pinned_matches}
 use Rattle.tx_engine.proofs.store.Store.pin_all.Goals as goal
 
 pub loop-at-preserved : goal.loop-at-preserved

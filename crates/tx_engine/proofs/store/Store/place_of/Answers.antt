@@ -1,9 +1,10 @@
+mod Locating
 use Rattle.std.proofs.Common.{◌≡◌, true, false, subst, sym}
 use Rattle.std.specs.Option.{option_map}
 use Rattle.collector.specs.Matches.{Matches}
 use Rattle.version_index.specs.Noted.{discarded_of}
 use Rattle.tx_engine.specs.Read.{current_place}
-use Rattle.tx_engine.proofs.OfTables.Locating.{home_place, located, located_off, not_victim, nowhere, off_place, place_home}
+use Rattle.tx_engine.proofs.store.Store.place_of.Answers.Locating.{home_place, located, located_off, not_victim, nowhere, off_place, place_home}
 use Rattle.tx_engine.proofs.OfTables.WrittenPages.{discard_known}
 use Rattle.tx_engine.proofs.store.Store.place_of.Goals as goal
 

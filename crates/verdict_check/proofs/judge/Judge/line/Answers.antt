@@ -1,6 +1,7 @@
+mod JudgeLemmas
 use Rattle.std.proofs.Common.{refl, sym}
 use Rattle.verdict_check.proofs.PlaceLemmas.{newest_stands}
-use Rattle.verdict_check.proofs.JudgeLemmas.{ends_within, is_expected}
+use Rattle.verdict_check.proofs.judge.Judge.line.Answers.JudgeLemmas.{ends_within, is_expected}
 use Rattle.verdict_check.proofs.judge.Judge.line.Goals as goal
 
 pub course-course-requires-clause-newest : goal.course-course-requires-clause-newest

@@ -1,0 +1,119 @@
+-- Retiring a block, as a call: the spare is replaced at once; else the spare is made blank, what is needed is copied, and the
+-- block is replaced.
+use Rattle.std.proofs.Common.{◌≡◌, ◌≢◌, ℕ, ◌*◌, ◌==◌, true, false, List, [], ◌++◌, length, Ok, Err, Result, refl, sym, ap, ◌∙◌, subst}
+use Rattle.std.proofs.lemmas.Bool.{cond-false, ne_eqb}
+use Rattle.tx_types.specs.declared.config.Block.{Block}
+use Rattle.tx_types.specs.declared.config.Protocol.{Protocol}
+use Rattle.flash_model.specs.declared.flash.Broken.{Broken}
+use Rattle.flash_model.specs.Flash.{FlashState}
+use Rattle.flash_model.specs.Moves.{Does}
+use Rattle.flash_model.specs.Operations.{Operation, moment_of}
+use Rattle.flash_model.proofs.RetireLemmas.{CarriesRetiring-then}
+use Rattle.record_list.specs.Changes.{LossLaw}
+use Rattle.version_index.specs.Noted.{Noted}
+use Rattle.collector.specs.declared.unsure.Unsure.{Unsure}
+use Rattle.collector.specs.declared.unsure.Unsure.TheVariants as unsure
+use Rattle.collector.specs.BreakingOff.{CopiesBreakOff}
+use Rattle.collector.specs.Calls.{Cleans, CopiesNeeded, Keeps}
+use Rattle.collector.specs.Collecting.{cleaning, copies, needed_slots, noted_cleaned}
+use Rattle.collector.specs.Looking.{reads_after}
+use Rattle.collector.specs.Retiring.{RetiresVictim, RetiresBlock, RetiresNone, EndsRetiring, retiring_first}
+use Rattle.collector.specs.Store.{Store, IsSure}
+use Rattle.collector.proofs.OfCollect.BreakingOff.{copies_broke, victim_broke}
+use Rattle.collector.proofs.OfCollect.CollectCalls.{noted_so, table_so, reads_so}
+use Rattle.collector.proofs.OfCollect.Collections.{all_copied}
+use Rattle.collector.proofs.OfErase.Emptying.{retires_torn}
+use Rattle.collector.proofs.OfNotes.KeepsLemmas.{keeps_then, keeps_retiring, tables_of, tables_then}
+
+-- nothing was replaced by a call that broke off before
+none_retired : (p : Protocol) (a b : Store) → Keeps p a b true → RetiresNone a.flash b.flash
+none_retired p a b k = (k.moves, k.carries.extras)
+
+-- where the copies broke off nothing was replaced
+ends_copying : (n : Noted) (s old new : FlashState) (before : List Operation) (spare block : ℕ) (n' : Noted) (u : Unsure) →
+    CopiesBreakOff n s new before spare block n' u →
+    RetiresNone old new → EndsRetiring old new block u
+ends_copying n s old new before spare block n' unsure.Nothing b none = none
+ends_copying n s old new before spare block n' (unsure.Copy from to) b none = none
+ends_copying n s old new before spare block n' (unsure.Own at rec) b none = none
+ends_copying n s old new before spare block n' unsure.SpareErase b none = none
+ends_copying n s old new before spare block n' (unsure.VictimErase at) b none = absurd b
+
+module _ (p : Protocol) (loss : LossLaw p) (a m : Store) (k : IsSure p a) (cleaned : Cleans p a m (Ok tt)) (block : Block)
+    (apart : block.0 ≢ a.table.spare) where
+  not_spare : (block.0 == a.table.spare) ≡ false
+  not_spare = ne_eqb block.0 a.table.spare apart
+
+  -- a copy broke off
+  pub retires_stopped : (b : Store) (x y : Broken) → CopiesNeeded p m b block.0 (Err x) → b.table ≡ m.table → RetiresBlock p a b block.0 (Err y)
+  retires_stopped b x y c same =
+      let both = keeps_then p a m b true cleaned.keeps c.keeps in
+      record {
+        keeps = keeps_retiring p a b true both;
+        done = tt;
+        noted = tt;
+        reads = tt;
+        broken = (
+          λ spare. absurd (apart spare),
+          λ other. (
+            copies_broke p loss a.flash a.noted a.table a.unsure k.rule k.matches m.flash m.noted m.table block.0 cleaned.noted cleaned.blocks apart
+                cleaned.keeps.carries.shape cleaned.done cleaned.reads cleaned.keeps.carries.lives b.flash b.noted b.unsure c.broken,
+            ends_copying m.noted m.flash a.flash b.flash [] m.table.spare block.0 b.noted b.unsure c.broken (none_retired p a b both),
+          ),
+        );
+        stays = same ∙ cleaned.blocks;
+      }
+
+  module _ (h b : Store) (used : ℕ) (c : CopiesNeeded p m h block.0 (Ok used)) (same : h.table ≡ m.table) where
+    before : Keeps p a h false
+    before = keeps_then p a m h false cleaned.keeps c.keeps
+
+    its_first : retiring_first a.noted a.flash.image a.table.spare block.0 ≡ cleaning a.noted a.flash.image a.table.spare
+        ++ copies a.noted.config.page_bytes a.flash.image (a.table.spare * a.noted.config.pages_per_block)
+        (needed_slots (noted_cleaned a.noted a.table.spare) block.0)
+    its_first = cond-false (block.0 == a.table.spare) [] _ not_spare
+
+    -- all was copied, and the block was replaced, or that broke
+    pub victim_retired : (r : Result (Unit {0}) Broken) → RetiresVictim p h b block used r → RetiresBlock p a b block.0 r
+    victim_retired (Ok x) e = record {
+      keeps = record {
+        tables = tables_then p a h b false (tables_of p a h false before) e.keeps.tables;
+        carries = CarriesRetiring-then a.flash h.flash b.flash false before.carries e.keeps.carries;
+      };
+      done = record {
+        between = h.flash;
+        does = subst (λ l. Does a.flash.shape (moment_of a.flash) l (moment_of h.flash)) (sym its_first)
+            (all_copied p loss a.flash a.noted a.table a.unsure k.rule k.matches m.flash m.noted m.table block.0 cleaned.noted cleaned.blocks apart
+            cleaned.keeps.carries.shape cleaned.done h.flash h.noted used c.copied);
+        carries = before.carries;
+        replaced = e.retires.done;
+      };
+      noted = (
+        λ spare. absurd (apart spare),
+        λ other. (e.noted ∙ noted_so p a m h cleaned block used c, e.blocks ∙ table_so p a m h cleaned block used c same),
+      );
+      reads = e.retires.reads ∙ reads_so p a m h cleaned block used c
+          ∙ ap (λ l. reads_after (length l) a.flash.reads) (sym (cond-false (block.0 == a.table.spare) [] _ not_spare));
+      broken = tt;
+      stays = tt;
+    }
+    victim_retired (Err x) e = record {
+      keeps = record {
+        tables = tables_then p a h b true (tables_of p a h false before) e.keeps.tables;
+        carries = CarriesRetiring-then a.flash h.flash b.flash true before.carries e.keeps.carries;
+      };
+      done = tt;
+      noted = tt;
+      reads = tt;
+      broken = (
+        λ spare. absurd (apart spare),
+        λ other. (
+          victim_broke p loss a.flash a.noted a.table a.unsure k.rule k.matches m.flash m.noted m.table block.0 cleaned.noted cleaned.blocks apart
+              cleaned.keeps.carries.shape cleaned.done cleaned.reads h.flash b.flash h.noted used before.carries.shape c.copied block refl b.noted b.unsure
+              (retires_torn h.flash b.flash block.0 x e.retires) e.retires.reads e.torn.0 e.torn.1,
+          subst (EndsRetiring a.flash b.flash block.0) (sym e.torn.0)
+              (record { between = h.flash; moves = before.moves; carries = before.carries; left = e.retires.torn }),
+        ),
+      );
+      stays = e.torn.2 ∙ same ∙ cleaned.blocks;
+    }

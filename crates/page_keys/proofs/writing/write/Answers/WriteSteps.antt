@@ -1,0 +1,122 @@
+-- What the steps of a put keep of a device.
+use Rattle.std.proofs.Common.{◌≡◌, ℕ, ◌<◌, length, arith, Bool, true, false, List, [], ◌∷◌, ◌++◌, if◌then◌else◌, Option, Some, None, Ok, Err, refl, sym, ap}
+use Rattle.std.proofs.Common.{subst, ◌∙◌}
+use Rattle.tx_types.specs.Batch.{PageWrite}
+use Rattle.flash_model.specs.Flash.{FlashState}
+use Rattle.flash_model.specs.Calls.{Carries}
+use Rattle.flash_model.specs.Operations.{moment_of}
+use Rattle.flash_model.proofs.CallLemmas.{Carries-nothing, Carries-then}
+use Rattle.flash_model.proofs.MoveLemmas.{FlashMoves-nothing, FlashMoves-then}
+use Rattle.tx_engine.specs.ArrayState.{ArrayState, Entry, opening}
+use Rattle.tx_engine.specs.Always.{IsSeen}
+use Rattle.tx_engine.specs.Exits.{Exits}
+use Rattle.tx_engine.specs.Standing.{Standing}
+use Rattle.tx_engine.specs.Submit.{Limits, Submits, first_refusals, or_else, spent_page, answer, opened, refusal}
+use Rattle.array_machine.specs.declared.answers.SubmitError.{SubmitError}
+use Rattle.array_machine.specs.declared.answers.SubmitError.TheVariants as submit
+use Rattle.version_index.specs.Images.{array_in}
+use Rattle.tx_engine.specs.ArrayState.{StandsFor}
+use Rattle.tx_engine.specs.Exits.{is_step_fault}
+use Rattle.tx_engine.specs.Naming.{is_spent}
+use Rattle.tx_engine.specs.Step.{StepsAs}
+use Rattle.array_machine.specs.declared.answers.StepError.{StepError}
+use Rattle.array_machine.specs.declared.answers.StepError.TheVariants as failed
+use Rattle.page_keys.specs.Writing.{Moved, Breaks, writing, seen_more}
+use Rattle.page_keys.proofs.writing.write.Answers.Steps.{not_unknown, fault_leaves}
+
+module _ {F : Type 0} (state : F → FlashState) where
+  pub moved_nothing : (s t : Standing F) → t.config ≡ s.config → t.flash ≡ s.flash →
+      Moved state s t false
+  moved_nothing s t config flash = record {
+    config = config;
+    moves = FlashMoves-nothing (state s.flash) (state t.flash) false (ap (λ (f : F). moment_of (state f)) flash);
+    carries = subst (λ (f : F). Carries (state s.flash) (state f) false) (sym flash)
+        (Carries-nothing (state s.flash));
+  }
+
+  pub moved_then : (a b c : Standing F) (broken : Bool) → Moved state a b false →
+      Exits state b c broken → Moved state a c broken
+  moved_then a b c broken first second = record {
+    config = second.tables.config ∙ first.config;
+    moves = FlashMoves-then (state a.flash) (state b.flash) (state c.flash) broken first.carries.shape first.moves second.moves;
+    carries = Carries-then (state a.flash) (state b.flash) (state c.flash) broken first.carries second.carries;
+  }
+
+-- a fault in a step leaves the array of the image, or that with all writes
+pub breaks_off : {F : Type 0} (state : F → FlashState) (old mid new : Standing F)
+    (ws : List PageWrite) (k : ℕ) (there : Bool) (e : StepError) →
+    ((seen : ℕ → ℕ) → IsSeen seen old → IsSeen (seen_more seen ws) new) →
+    mid.machine ≡ writing old.machine.pages ws k →
+    spent_page (is_spent old.noted.mentions) ws ≡ None → Moved state old mid false →
+    StepsAs there mid.machine new.machine 0 (Err e) →
+    Exits state mid new (is_step_fault (Err e)) →
+    StandsFor new.machine
+    (array_in new.config.protocol new.config.logical (state new.flash).image) →
+    Breaks state old new ws
+breaks_off state old mid new ws k there failed.Unknown seen machine unspent moved steps exits stands =
+    absurd (not_unknown old.machine.pages ws k new.machine there
+    (subst (λ (m : ArrayState). StepsAs there m new.machine 0 (Err failed.Unknown)) machine steps))
+breaks_off state old mid new ws k there failed.Fault seen machine unspent moved steps exits stands =
+    record {
+      unspent = unspent;
+      moved = moved_then state old mid new true moved exits;
+      seen = seen;
+      left = fault_leaves old.machine.pages ws k new.machine _ stands there
+          (subst (λ (m : ArrayState). StepsAs there m new.machine 0 (Err failed.Fault)) machine
+          steps);
+    }
+
+-- only a spent page is named
+spent_head : (b : Bool) (page : ℕ) (rest : Option SubmitError) (e : SubmitError) →
+    or_else (if b then Some (submit.Spent page) else None) rest ≡ Some e →
+    (rest ≡ Some e → (p : ℕ) × (e ≡ submit.Spent p)) → (p : ℕ) × (e ≡ submit.Spent p)
+spent_head true page rest e h later = (page, cc)
+spent_head false page rest e h later = later h
+
+only_spent_page : (spent : ℕ → Bool) (ws : List PageWrite) (e : SubmitError) →
+    spent_page spent ws ≡ Some e → (p : ℕ) × (e ≡ submit.Spent p)
+only_spent_page spent [] e is = cc
+only_spent_page spent (w ∷ ws) e is =
+    spent_head (spent w.page) w.page (spent_page spent ws) e is (only_spent_page spent ws e)
+
+-- a batch that only a spent page may refuse, where nothing is open
+module _ (limits : Limits) (spent : ℕ → Bool) (old new : ArrayState) (ws : List PageWrite)
+    (closed : old.entries ≡ []) (fits : first_refusals limits [] 0 ws ≡ None) where
+  its_refusal : refusal limits spent old.entries 0 ws ≡ spent_page spent ws
+  its_refusal =
+      ap (λ (es : List Entry). refusal limits spent es 0 ws) closed
+      ∙ ap (λ (o : Option SubmitError). or_else o (spent_page spent ws)) fits
+
+  accepted_of : (o : Option SubmitError) (u : Unit {0}) → Ok u ≡ answer o → o ≡ None
+  accepted_of None u h = refl
+  accepted_of (Some e) u h = cc
+
+  refused_of : (o : Option SubmitError) (e : SubmitError) → Err e ≡ answer o → o ≡ Some e
+  refused_of None e h = cc
+  refused_of (Some x) e h = cc
+
+  pub accepted : (u : Unit {0}) → Submits limits spent old new 0 ws (Ok u) →
+      (spent_page spent ws ≡ None)
+      × (new ≡ record old { entries = opening 0 ws ∷ [] })
+  accepted u submits =
+      let none = accepted_of _ u submits.answers in (
+        sym its_refusal ∙ none,
+        submits.opens ∙ ap (λ (o : Option SubmitError). opened o 0 ws old) none
+            ∙ ap (λ (es : List Entry). record old { entries = es ++ opening 0 ws ∷ [] }) closed,
+      )
+
+  pub named_spent : (e : SubmitError) → Submits limits spent old new 0 ws (Err e) →
+      ((p : ℕ) × (e ≡ submit.Spent p)) × (spent_page spent ws ≡ Some e) × (new ≡ old)
+  named_spent e submits =
+      let some = refused_of _ e submits.answers in
+      let page = sym its_refusal ∙ some in (
+        only_spent_page spent ws e page,
+        page,
+        submits.opens ∙ ap (λ (o : Option SubmitError). opened o 0 ws old) some,
+      )
+
+-- a batch that is not refused has a write
+pub some_write : (limits : Limits) (ws : List PageWrite) → first_refusals limits [] 0 ws ≡ None →
+    0 < length ws
+some_write limits [] fits = cc
+some_write limits (w ∷ ws) fits = omega arith
