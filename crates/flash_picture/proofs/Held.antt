@@ -1,10 +1,10 @@
 -- A record is held where some loose record asks for its name, at a link above its back version.
 use Rattle.std.proofs.Common.{◌≡◌, ℕ, ◌+◌, ◌<◌, max, Bool, true, ◌&&◌, ◌||◌, nat_lt, Option, Some, None, List, [], ◌∷◌, length, get_or, slice_set, position}
-use Rattle.std.proofs.Common.{take, replicate, cond, refl, sym, ap, ap₂, ◌∙◌, inl, inr, arith, ltb-true, lt-ltb}
+use Rattle.std.proofs.Common.{take, cond, refl, sym, ap, ap₂, ◌∙◌, inl, inr, arith, ltb-true, lt-ltb}
 use Rattle.std.specs.List.{list_any}
 use Rattle.std.proofs.Math.Nat.{le-max_left, le-max_right, max-le, max-eq_left}
 use Rattle.std.proofs.lemmas.Bool.{false≢true, cases_Bool, cases_eq, cases_lt, cond-true, cond-false, and_parts, and_from, le-ltb}
-use Rattle.std.proofs.lemmas.List.{length-set, get_or-set_same, get_or-set_other, get_or-replicate, length-replicate}
+use Rattle.std.proofs.lemmas.List.{length-set, get_or-set_same, get_or-set_other}
 use Rattle.std.proofs.lemmas.List.Quantifiers.{position-Some}
 use Rattle.list_facts.proofs.Values.{one_test}
 use Rattle.tx_types.specs.declared.config.Protocol.{Protocol}
@@ -155,15 +155,6 @@ size_raised (Some place) version xs = length-set xs place (max (get_or xs place 
 module _ (j : Judged) where
   abbrev of : Link → Rec → ℕ
   of name = asks_at j.protocol j.list j.logical name
-
-  -- nothing is asked for at first
-  pub asked_none : (asked : List ℕ) → asked ≡ replicate (length j.list) 0 → AreAsked j (take 0 j.list) asked
-  asked_none asked is = record {
-    size = ap length is ∙ length-replicate (length j.list) 0;
-    each = λ name place none at.
-        ap (λ l. get_or l place none) is
-        ∙ get_or-replicate (length j.list) place 0 none (position-Some (λ f. has_name name f.rec) j.list place nothing at).0;
-  }
 
   module _ (asked : List ℕ) (i : ℕ) (within : i < length j.list) (before : AreAsked j (take i j.list) asked) where
     abbrev rec : Rec

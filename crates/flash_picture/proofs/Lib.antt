@@ -1,9 +1,7 @@
 pub mod Texts
 pub mod Held
-pub mod Leaving
 pub mod Shown
 pub mod Alike
-pub mod SvgAlike
 pub mod Tells
 pub mod WalkTells
 pub mod SvgTells

@@ -1,33 +1,21 @@
 -- What comes of the bytes of an image.
-use Rattle.std.proofs.Common.{◌≡◌, inl, inr, ℕ, Bool, List, Some, Result, Ok, Err, refl, sym, ap, subst}
+use Rattle.std.proofs.Common.{◌≡◌, inl, inr, ℕ, Bool, List, Some, Result, Ok, Err, refl, sym, ap}
 use Rattle.std.specs.Prelude.{IfOk, IfErr, Vec}
 use Rattle.std.specs.Global.{Global}
 use Rattle.std.specs.Result.{IsErrAnd}
 use Rattle.tx_types.specs.declared.config.Config.{Config}
-use Rattle.flash_model.specs.Flash.{Contents, Extras}
+use Rattle.flash_model.specs.Flash.{Contents}
 use Rattle.version_index.specs.Notes.{notes_of}
-use Rattle.image_file.specs.Rules.{reading}
 use Rattle.desk_io.specs.Desk as found
 use Rattle.desk_io.specs.Desk.{DeskState, Finds, after_answer, as_before}
-use Rattle.image_desk.specs.Loading.{Fetches, ImageStops, RefusesImage}
-use Rattle.image_desk.specs.Refusals.{ImageFate}
+use Rattle.image_desk.specs.Loading.{Fetches, ImageStops}
 use Rattle.image_desk.specs.declared.stop.ImageStop.{ImageStop}
 use Rattle.image_desk.specs.declared.stop.ImageStop.TheVariants as stop
 use Rattle.flash_view.specs.Asked.{Asked}
 use Rattle.flash_view.specs.declared.words.Form.{Form}
 use Rattle.flash_view.specs.declared.opening.Opening.{Opening}
-use Rattle.flash_view.specs.Fate.{Fate, Drawn, Refused, AfterReading, Drawing, Gives, IsOpening, Opens, fate_of, marks_of, picture_in}
+use Rattle.flash_view.specs.Fate.{Drawn, Refused, Drawing, Gives, IsOpening, Opens, fate_of, marks_of, picture_in}
 use Rattle.flash_view.specs.Top.{Works}
-
--- bytes that spell an image come to what the image comes to
-module _ (form : Form) (unsound : Bool) (bytes : List ℕ) (its : Config) (image : List Contents) (extras : Extras)
-    (read : reading bytes ≡ Ok (its, image, extras)) where
-  pub drawing_opens : (fate : Fate) → Opens form unsound its image fate → Drawing form unsound bytes fate
-  drawing_opens fate opens = subst (λ r. AfterReading form unsound r fate) (sym read) opens
-
--- and those that break a rule are refused
-pub drawing_refused : (form : Form) (unsound : Bool) (bytes : List ℕ) (why : ImageFate) → RefusesImage bytes why → Drawing form unsound bytes (Refused why)
-drawing_refused form unsound bytes why (rule, read, is) = subst (λ r. AfterReading form unsound r (Refused why)) (sym read.0) (ap Refused is)
 
 -- what is drawn of an opening that may be drawn
 pub opens_drawn : (form : Form) (unsound : Bool) (its : Config) (image : List Contents) (opened : Opening) (text : List ℕ) → IsOpening its image opened →

@@ -7,7 +7,7 @@ use Rattle.std.proofs.lemmas.List.Elements.{All-cons, All-nil}
 use Rattle.tx_types.specs.declared.config.Config.{Config}
 use Rattle.flash_model.specs.Flash.{Contents, Extras}
 use Rattle.desk_io.specs.Desk as found
-use Rattle.desk_io.specs.Desk.{DeskContents, DeskState, FileFound, Finds, IsShort, after_answer, after_memory, as_before, called, file_at, file_found}
+use Rattle.desk_io.specs.Desk.{DeskContents, DeskState, FileFound, Finds, after_answer, after_memory, as_before, called, file_at, file_found}
 use Rattle.image_desk.specs.Loading.{Fetches, ImageStops, RefusesImage}
 use Rattle.image_desk.specs.Refusals.{ImageFate, Missing, TooLong, image_refused}
 use Rattle.image_desk.specs.declared.stop.ImageStop.{ImageStop}

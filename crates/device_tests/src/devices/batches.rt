@@ -1,10 +1,12 @@
 //! Several open transactions that go on at once, and what is left where that is broken.
 
-use super::calls::{mounted, read, write};
+ghost use Rattle.std.specs.Prelude.{◌≡◌, false, IfOk};
+
+use super::calls::{Call, answer, arm, mounted, powered};
 use super::flashes::blank;
 use crate::building::{BACK_POINTER, SIMPLE};
 use bpcc_commit::Bpcc;
-use flash_model::{Arms, Outcome, Power, Wide};
+use flash_model::{Arms, Outcome, Power, Retire, Wide};
 use mem_flash::MemFlash;
 use record_list::CommitRule;
 use scc_commit::Scc;
@@ -16,110 +18,74 @@ use tx_types::{Config, Protocol};
 
 /// What is asked of a device.
 #[derive(Clone, Copy, Debug)]
-enum Call {
-    /// Opens a transaction with this tag. Of each of its pages the first byte is given.
-    Write(u32, &'static [(u32, u8)]),
-    StepAll,
-    Step(u32),
-    Read(u32),
-    /// How many programs and erases were done.
-    Counts,
-    Cut(u32, Outcome),
-    Fault(u32, Outcome),
-    BadRead(u32),
+enum Asked {
+    /// All open transactions go on together.
+    All,
+    One(Call),
 }
 
-use Call::{BadRead, Counts, Cut, Fault, Read, Step, StepAll, Write};
+use Asked::{All, One};
+use Call::{BadRead, Cut, Fault, Read, Stats, Step, Write};
 
-/// A device, calls of it, and the answers to them.
-type Row = (Config, &'static [Call], &'static str);
+/// A device, what is asked of it, and the answers.
+type Row = (Config, &'static [Asked], &'static str);
 
-/// The device, mounted again from its flash with power on.
-fn again<F: Power + Drop, R: CommitRule>(
+/// What going on together answers, and the device, mounted again where that met a power cut or a fault.
+fn together<F: Power + Wide + Drop, R: CommitRule>(
     rt: &impl Abort,
     alloc: Global,
     device: Device<F, R>,
     config: Config,
-) -> Result<Device<F, R>, Fail> {
+) -> Result<(Device<F, R>, String), Fail>
+    requires kept { device.dropped ≡ false }
+    ensures kept { IfOk result (λ r. r.0.dropped ≡ false) }
+{
+    let mut device = device;
+    if let Ok(Moved { moved, finished }) = device.step_all() {
+        let text = format!(in alloc; "moved {moved} finished {finished}")?;
+        return Ok((device, text));
+    }
+    let text = if device.live() { "dropped" } else { "cut" };
     let mut flash = device.close();
     if !flash.live() {
         flash.power_on();
     }
-    mounted(rt, alloc, flash, config)
+    Ok((
+        mounted(rt, alloc, flash, config)?,
+        String::from_str(alloc, text)?,
+    ))
 }
 
-/// What a call answers. The device is mounted again after a power cut, and where several programs met a fault.
-fn answer<F: Arms + Power + Wide + Drop, R: CommitRule>(
+/// What one call answers, and the device, mounted again after a power cut.
+fn alone<F: Arms + Power + Retire + Drop, R: CommitRule>(
     rt: &impl Abort,
     alloc: Global,
     device: Device<F, R>,
-    config: Config,
     call: Call,
-) -> Result<(Device<F, R>, String), Fail> {
+) -> Result<(Device<F, R>, String), Fail>
+    requires kept { device.dropped ≡ false }
+    ensures kept { IfOk result (λ r. r.0.dropped ≡ false) }
+{
     let mut device = device;
-    let text = match call {
-        Call::Write(tag, pages) => match write(rt, alloc, &mut device, tag, pages)? {
-            Ok(()) => String::from_str(alloc, "open")?,
-            Err(refusal) => format!(in alloc; "{refusal:?}")?,
-        },
-        Call::StepAll => {
-            let answer = device.step_all();
-            match answer {
-                Ok(Moved { moved, finished }) => format!(in alloc;
-                    "moved {moved} finished {finished}"
-                )?,
-                Err(_) => {
-                    let text = if device.live() { "dropped" } else { "cut" };
-                    return Ok((
-                        again(rt, alloc, device, config)?,
-                        String::from_str(alloc, text)?,
-                    ));
-                }
-            }
-        }
-        Call::Step(tag) => format!(in alloc; "{:?}", device.step(tag))?,
-        Call::Read(page) => match read(rt, alloc, &mut device, page)? {
-            Ok(None) => String::from_str(alloc, "blank")?,
-            Ok(Some(byte)) => format!(in alloc; "{byte}")?,
-            Err(error) => format!(in alloc; "{error:?}")?,
-        },
-        Call::Counts => {
-            let stats = device.stats();
-            format!(in alloc;
-                "programs {} erases {} open {}",
-                stats.programs, stats.erases, stats.tags
-            )?
-        }
-        Call::Cut(count, outcome) => {
-            assert!(rt; count >= 1);
-            device.arm_cut(count, outcome);
-            String::new(alloc)
-        }
-        Call::Fault(count, outcome) => {
-            assert!(rt; count >= 1);
-            device.arm_fault(count, outcome);
-            String::new(alloc)
-        }
-        Call::BadRead(count) => {
-            assert!(rt; count >= 1);
-            device.arm_bad_read(count);
-            String::new(alloc)
-        }
-    };
-    Ok((device, text))
+    arm(rt, &mut device, call);
+    let text = answer(rt, alloc, &mut device, call)?;
+    Ok((powered(rt, alloc, device)?, text))
 }
 
-/// The answers to calls of a device over a new flash.
+/// The answers of a device over a new flash.
 fn served<R: CommitRule>(
     rt: &impl Abort,
     alloc: Global,
     config: Config,
-    calls: &[Call],
+    asked: &[Asked],
 ) -> Result<String, Fail> {
     let mut device = mounted::<MemFlash, R>(rt, alloc, blank(alloc, config)?, config)?;
     let mut text = String::new(alloc);
-    for call in calls {
-        let (next, said) = answer(rt, alloc, device, config, *call)?;
+    for one in asked {
+        let (next, said) = match one {
+            All => together(rt, alloc, device, config)?,
+            One(call) => alone(rt, alloc, device, *call)?,
+        };
         device = next;
         if !text.is_empty() && !said.is_empty() {
             text.push_str("; ")?;
@@ -131,12 +97,12 @@ fn served<R: CommitRule>(
 
 /// Expects the answers of rows.
 fn expect(rt: &impl Abort, alloc: Global, rows: &[Row]) -> Result<(), Fail> {
-    for (config, calls, want) in rows {
+    for (config, asked, want) in rows {
         let got = match config.protocol {
-            Protocol::Scc => served::<Scc>(rt, alloc, *config, calls)?,
-            Protocol::Bpcc => served::<Bpcc>(rt, alloc, *config, calls)?,
+            Protocol::Scc => served::<Scc>(rt, alloc, *config, asked)?,
+            Protocol::Bpcc => served::<Bpcc>(rt, alloc, *config, asked)?,
         };
-        assert_eq!(rt; got.as_str(), *want, "{calls:?}");
+        assert_eq!(rt; got.as_str(), *want, "{asked:?}");
     }
     Ok(())
 }
@@ -146,62 +112,62 @@ const TOGETHER: [Row; 4] = [
     (
         SIMPLE,
         &[
-            Write(1, &[(0, 1)]),
-            Write(2, &[(1, 2), (2, 3)]),
-            StepAll,
-            Read(0),
-            Read(1),
-            StepAll,
-            Read(1),
-            StepAll,
+            One(Write(1, &[(0, 1)])),
+            One(Write(2, &[(1, 2), (2, 3)])),
+            All,
+            One(Read(0)),
+            One(Read(1)),
+            All,
+            One(Read(1)),
+            All,
         ],
         "open; open; moved 2 finished 1; 1; blank; moved 1 finished 1; 2; moved 0 finished 0",
     ),
     (
         BACK_POINTER,
         &[
-            Write(1, &[(0, 1)]),
-            Write(2, &[(1, 2), (2, 3)]),
-            Write(3, &[(3, 4)]),
-            StepAll,
-            Counts,
-            StepAll,
-            Counts,
-            Read(0),
-            Read(2),
-            Read(3),
+            One(Write(1, &[(0, 1)])),
+            One(Write(2, &[(1, 2), (2, 3)])),
+            One(Write(3, &[(3, 4)])),
+            All,
+            One(Stats),
+            All,
+            One(Stats),
+            One(Read(0)),
+            One(Read(2)),
+            One(Read(3)),
         ],
-        "open; open; open; moved 2 finished 1; programs 2 erases 0 open 2; moved 2 finished 2; \
-        programs 4 erases 0 open 0; 1; 3; 4",
+        "open; open; open; moved 2 finished 1; written 1 open 2 pending 3 programs 2 erases 0 garbage 0; \
+        moved 2 finished 2; written 4 open 0 pending 0 programs 4 erases 0 garbage 0; 1; 3; 4",
     ),
     (
         SIMPLE,
         &[
-            Write(1, &[(0, 1)]),
-            StepAll,
-            Write(2, &[(0, 2)]),
-            Write(3, &[(1, 3)]),
-            StepAll,
-            Read(0),
-            Read(1),
+            One(Write(1, &[(0, 1)])),
+            All,
+            One(Write(2, &[(0, 2)])),
+            One(Write(3, &[(1, 3)])),
+            All,
+            One(Read(0)),
+            One(Read(1)),
         ],
         "open; moved 1 finished 1; open; open; moved 2 finished 2; 2; 3",
     ),
     (
         SIMPLE,
         &[
-            Write(1, &[(0, 1), (1, 2)]),
-            Write(2, &[(2, 3)]),
-            Fault(1, Outcome::All),
-            Step(1),
-            StepAll,
-            Counts,
-            StepAll,
-            Read(0),
-            Read(1),
-            Read(2),
+            One(Write(1, &[(0, 1), (1, 2)])),
+            One(Write(2, &[(2, 3)])),
+            One(Fault(1, Outcome::All)),
+            One(Step(1)),
+            All,
+            One(Stats),
+            All,
+            One(Read(0)),
+            One(Read(1)),
+            One(Read(2)),
         ],
-        "open; open; Err(Fault); moved 1 finished 0; programs 0 erases 0 open 2; moved 2 finished 2; 1; 2; 3",
+        "open; open; fault; moved 1 finished 0; written 0 open 2 pending 3 programs 0 erases 0 garbage 0; moved 2 finished 2; 1; 2; 3",
     ),
 ];
 
@@ -210,76 +176,76 @@ const BROKEN: [Row; 6] = [
     (
         SIMPLE,
         &[
-            Write(1, &[(0, 1)]),
-            Write(2, &[(1, 2)]),
-            Cut(1, Outcome::Bad),
-            StepAll,
-            Read(0),
-            Read(1),
+            One(Write(1, &[(0, 1)])),
+            One(Write(2, &[(1, 2)])),
+            One(Cut(1, Outcome::Bad)),
+            All,
+            One(Read(0)),
+            One(Read(1)),
         ],
         "open; open; cut; blank; 2",
     ),
     (
         SIMPLE,
         &[
-            Write(1, &[(0, 1)]),
-            Write(2, &[(1, 2)]),
-            Fault(1, Outcome::Bad),
-            StepAll,
-            Read(0),
-            Read(1),
-            Step(1),
+            One(Write(1, &[(0, 1)])),
+            One(Write(2, &[(1, 2)])),
+            One(Fault(1, Outcome::Bad)),
+            All,
+            One(Read(0)),
+            One(Read(1)),
+            One(Step(1)),
         ],
-        "open; open; dropped; blank; 2; Err(Unknown)",
+        "open; open; dropped; blank; 2; unknown",
     ),
     (
         BACK_POINTER,
         &[
-            Write(1, &[(0, 1)]),
-            Write(2, &[(1, 2)]),
-            Fault(1, Outcome::None),
-            StepAll,
-            Read(0),
-            Read(1),
-            Counts,
+            One(Write(1, &[(0, 1)])),
+            One(Write(2, &[(1, 2)])),
+            One(Fault(1, Outcome::None)),
+            All,
+            One(Read(0)),
+            One(Read(1)),
+            One(Stats),
         ],
-        "open; open; dropped; blank; blank; programs 0 erases 0 open 0",
+        "open; open; dropped; blank; blank; written 0 open 0 pending 0 programs 0 erases 0 garbage 0",
     ),
     (
         BACK_POINTER,
         &[
-            Write(1, &[(0, 1)]),
-            Write(2, &[(1, 2)]),
-            Fault(1, Outcome::All),
-            StepAll,
-            Read(0),
-            Read(1),
-            Counts,
+            One(Write(1, &[(0, 1)])),
+            One(Write(2, &[(1, 2)])),
+            One(Fault(1, Outcome::All)),
+            All,
+            One(Read(0)),
+            One(Read(1)),
+            One(Stats),
         ],
-        "open; open; dropped; 1; 2; programs 0 erases 0 open 0",
+        "open; open; dropped; 1; 2; written 2 open 0 pending 0 programs 0 erases 0 garbage 6",
     ),
     (
         SIMPLE,
         &[
-            Write(1, &[(0, 1)]),
-            Fault(1, Outcome::All),
-            Step(1),
-            StepAll,
-            Read(0),
+            One(Write(1, &[(0, 1)])),
+            One(Fault(1, Outcome::All)),
+            One(Step(1)),
+            All,
+            One(Read(0)),
         ],
-        "open; Err(Fault); moved 1 finished 1; 1",
+        "open; fault; moved 1 finished 1; 1",
     ),
     (
         SIMPLE,
         &[
-            Write(1, &[(0, 1)]),
-            Fault(1, Outcome::All),
-            Step(1),
-            BadRead(1),
-            StepAll,
-            Read(0),
+            One(Write(1, &[(0, 1)])),
+            One(Fault(1, Outcome::All)),
+            One(Step(1)),
+            One(BadRead(1)),
+            All,
+            One(Read(0)),
         ],
-        "open; Err(Fault); dropped; 1",
+        "open; fault; dropped; 1",
     ),
 ];
 

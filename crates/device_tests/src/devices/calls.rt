@@ -221,7 +221,7 @@ fn found_text<F: Flash, R: CommitRule>(alloc: Global, device: &Device<F, R>) -> 
 }
 
 /// Makes a call that works on the flash or tells of the device, and gives its answer.
-fn answer<F: Retire, R: CommitRule>(
+pub fn answer<F: Retire, R: CommitRule>(
     rt: &impl Abort,
     alloc: Global,
     device: &mut Device<F, R>,
@@ -268,7 +268,7 @@ fn answer<F: Retire, R: CommitRule>(
 }
 
 /// Sets an arm, where the call is one.
-fn arm<F: Arms, R: CommitRule>(rt: &impl Abort, device: &mut Device<F, R>, call: Call)
+pub fn arm<F: Arms, R: CommitRule>(rt: &impl Abort, device: &mut Device<F, R>, call: Call)
     requires kept { device.old.dropped ≡ false }
     ensures kept { device.new.dropped ≡ false }
 {

@@ -1,8 +1,9 @@
+mod SvgAlike
 use Rattle.std.proofs.Common.{◌∙◌, ◌++◌, ap, ap₂, map}
 use Rattle.std.proofs.lemmas.Result.{on_ok_weaker}
 use Rattle.flash_picture.specs.Cells.{cell_of}
 use Rattle.flash_picture.specs.Svg.{drawing, grid_of}
-use Rattle.flash_picture.proofs.SvgAlike.{svg_drawn}
+use Rattle.flash_picture.proofs.svg.write_svg.Answers.SvgAlike.{svg_drawn}
 use Rattle.flash_picture.proofs.svg.write_svg.Goals as goal
 
 pub returns : goal.returns

@@ -1,6 +1,7 @@
+mod Leaving
 use Rattle.std.proofs.Common.{◌∙◌}
 use Rattle.record_chart.proofs.OfWalk.WalkOrbits.{ends_below}
-use Rattle.flash_picture.proofs.Leaving.{left_none, left_some}
+use Rattle.flash_picture.proofs.walk.left_at.Answers.Leaving.{left_none, left_some}
 use Rattle.flash_picture.proofs.walk.left_at.Goals as goal
 
 pub left_by-requires : goal.left_by-requires

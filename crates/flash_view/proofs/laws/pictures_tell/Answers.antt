@@ -1,3 +1,4 @@
+mod Pictures
 use Rattle.std.proofs.Common.{◌++◌, ap}
 use Rattle.tx_types.specs.Config.{shape_of}
 use Rattle.version_index.specs.Images.{records_in}
@@ -7,7 +8,7 @@ use Rattle.flash_picture.specs.Map.{map_text}
 use Rattle.flash_picture.specs.Picture.{breach_line, cells_of, heading, picture}
 use Rattle.flash_picture.specs.Walks.{walks_text}
 use Rattle.flash_picture.proofs.WalkTells.{walk_says, walk_tells}
-use Rattle.flash_view.proofs.Pictures.{bare_tells, breach_tells, rows_tell, slots_tell}
+use Rattle.flash_view.proofs.laws.pictures_tell.Answers.Pictures.{bare_tells, breach_tells, rows_tell, slots_tell}
 use Rattle.flash_view.proofs.laws.pictures_tell.Goals as goal
 
 pub returns-clause-rows : goal.returns-clause-rows

@@ -1,10 +1,9 @@
-use Rattle.std.proofs.Common.{◌≡◌, ℕ, ◌+◌, ◌<◌, ◌≤◌, ◌++◌, [], length, take, ap₂, Option, Some, None, is_some, false, true, refl, sym, ap, ◌∙◌, arith}
+use Rattle.std.proofs.Common.{◌≡◌, ℕ, ◌+◌, ◌<◌, ◌≤◌, ◌++◌, [], length, ap₂, Option, Some, None, is_some, false, true, refl, sym, ap, ◌∙◌, arith}
 use Rattle.std.specs.List.{cons_option}
 use Rattle.std.proofs.lemmas.Bool.{false≢true}
 use Rattle.std.proofs.lemmas.List.{take_all}
 use Rattle.tx_types.specs.declared.record.Rec.{Rec}
-use Rattle.tx_types.specs.Config.{slots_of}
-use Rattle.version_index.specs.Notes.{note_at, rec_of, found_in}
+use Rattle.version_index.specs.Notes.{note_at, found_in}
 use Rattle.version_index.proofs.OfTables.FoundIn.{found_in_nil, found_in_more, no_record}
 use Rattle.device_tests.proofs.indexing.tables.has_no_record.Goals as goal
 

@@ -1,4 +1,4 @@
-use Rattle.std.proofs.Common.{◌<◌, ap, subst, eqb-true}
+use Rattle.std.proofs.Common.{◌<◌, subst, eqb-true}
 use Rattle.record_list.proofs.OfFacts.Names.{same_name}
 use Rattle.record_list.specs.Records.{name_of}
 use Rattle.version_index.proofs.OfLaws.FirstRecord.{first_next}
