@@ -1,6 +1,6 @@
 //! Several open transactions that go on at once, and what is left where that is broken.
 
-ghost use Rattle.std.specs.Prelude.{◌≡◌, false, IfOk};
+ghost use Rattle.std.specs.Prelude.{◌≡◌, false, IfOk, IfSome};
 
 use super::calls::{Call, answer, arm, mounted, powered};
 use super::flashes::blank;
@@ -30,78 +30,118 @@ use Call::{BadRead, Cut, Fault, Read, Stats, Step, Write};
 /// A device, what is asked of it, and the answers.
 type Row = (Config, &'static [Asked], &'static str);
 
-/// What going on together answers, and the device, mounted again where that met a power cut or a fault.
+/// What it answers that all open transactions go on together, and nothing where that met a power cut or a fault.
+fn gone_on<F: Wide, R: CommitRule>(device: &mut Device<F, R>) -> Option<Moved>
+    requires kept { device.old.dropped ≡ false }
+    ensures kept { IfSome result (λ moved. device.new.dropped ≡ false) }
+{
+    match device.step_all() {
+        Ok(moved) => Some(moved),
+        Err(_) => None,
+    }
+}
+
+/// All open transactions go on together. Says what that answers, behind what was said, and gives the device, mounted
+/// again where that met a power cut or a fault.
 fn together<F: Power + Wide + Drop, R: CommitRule>(
     rt: &impl Abort,
     alloc: Global,
     device: Device<F, R>,
     config: Config,
-) -> Result<(Device<F, R>, String), Fail>
+    text: &mut String,
+) -> Result<Device<F, R>, Fail>
     requires kept { device.dropped ≡ false }
-    ensures kept { IfOk result (λ r. r.0.dropped ≡ false) }
+    ensures kept { IfOk result (λ d. d.dropped ≡ false) }
 {
     let mut device = device;
-    if let Ok(Moved { moved, finished }) = device.step_all() {
-        let text = format!(in alloc; "moved {moved} finished {finished}")?;
-        return Ok((device, text));
+    if let Some(Moved { moved, finished }) = gone_on(&mut device) {
+        say_moved(alloc, text, moved, finished)?;
+        return Ok(device);
     }
-    let text = if device.live() { "dropped" } else { "cut" };
+    say(text, if device.live() { "dropped" } else { "cut" })?;
     let mut flash = device.close();
     if !flash.live() {
         flash.power_on();
     }
-    Ok((
-        mounted(rt, alloc, flash, config)?,
-        String::from_str(alloc, text)?,
-    ))
+    mounted(rt, alloc, flash, config)
 }
 
-/// What one call answers, and the device, mounted again after a power cut.
+/// Says what one call answers, behind what was said, and gives the device, mounted again after a power cut.
 fn alone<F: Arms + Power + Retire + Drop, R: CommitRule>(
     rt: &impl Abort,
     alloc: Global,
     device: Device<F, R>,
     call: Call,
-) -> Result<(Device<F, R>, String), Fail>
+    text: &mut String,
+) -> Result<Device<F, R>, Fail>
     requires kept { device.dropped ≡ false }
-    ensures kept { IfOk result (λ r. r.0.dropped ≡ false) }
+    ensures kept { IfOk result (λ d. d.dropped ≡ false) }
 {
     let mut device = device;
     arm(rt, &mut device, call);
-    let text = answer(rt, alloc, &mut device, call)?;
-    Ok((powered(rt, alloc, device)?, text))
+    say(text, answer(rt, alloc, &mut device, call)?.as_str())?;
+    powered(rt, alloc, device)
+}
+
+/// Appends an answer to others.
+fn say(text: &mut String, answer: &str) -> Result<(), Fail> {
+    if !text.is_empty() && !answer.is_empty() {
+        text.push_str("; ")?;
+    }
+    Ok(text.push_str(answer)?)
+}
+
+/// Appends how many transactions went on and were finished.
+fn say_moved(alloc: Global, text: &mut String, moved: u32, finished: u32) -> Result<(), Fail> {
+    let answer = format!(in alloc; "moved {moved} finished {finished}")?;
+    say(text, answer.as_str())
+}
+
+/// The answers of a device.
+fn served<F: Arms + Power + Retire + Wide + Drop, R: CommitRule>(
+    rt: &impl Abort,
+    alloc: Global,
+    device: Device<F, R>,
+    config: Config,
+    asked: &[Asked],
+) -> Result<String, Fail>
+    requires kept { device.dropped ≡ false }
+{
+    let mut device = device;
+    let mut text = String::new(alloc);
+    for one in asked {
+        device = match one {
+            All => together(rt, alloc, device, config, &mut text)?,
+            One(call) => alone(rt, alloc, device, *call, &mut text)?,
+        };
+    }
+    Ok(text)
 }
 
 /// The answers of a device over a new flash.
-fn served<R: CommitRule>(
+fn answers(
     rt: &impl Abort,
     alloc: Global,
     config: Config,
     asked: &[Asked],
 ) -> Result<String, Fail> {
-    let mut device = mounted::<MemFlash, R>(rt, alloc, blank(alloc, config)?, config)?;
-    let mut text = String::new(alloc);
-    for one in asked {
-        let (next, said) = match one {
-            All => together(rt, alloc, device, config)?,
-            One(call) => alone(rt, alloc, device, *call)?,
-        };
-        device = next;
-        if !text.is_empty() && !said.is_empty() {
-            text.push_str("; ")?;
+    let flash = blank(alloc, config)?;
+    match config.protocol {
+        Protocol::Scc => {
+            let device = mounted::<MemFlash, Scc>(rt, alloc, flash, config)?;
+            served(rt, alloc, device, config, asked)
         }
-        text.push_str(said.as_str())?;
+        Protocol::Bpcc => {
+            let device = mounted::<MemFlash, Bpcc>(rt, alloc, flash, config)?;
+            served(rt, alloc, device, config, asked)
+        }
     }
-    Ok(text)
 }
 
 /// Expects the answers of rows.
 fn expect(rt: &impl Abort, alloc: Global, rows: &[Row]) -> Result<(), Fail> {
     for (config, asked, want) in rows {
-        let got = match config.protocol {
-            Protocol::Scc => served::<Scc>(rt, alloc, *config, asked)?,
-            Protocol::Bpcc => served::<Bpcc>(rt, alloc, *config, asked)?,
-        };
+        let got = answers(rt, alloc, *config, asked)?;
         assert_eq!(rt; got.as_str(), *want, "{asked:?}");
     }
     Ok(())

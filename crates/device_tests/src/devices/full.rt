@@ -8,7 +8,7 @@ use super::flashes::blank;
 use crate::building::{BACK_POINTER, SIMPLE};
 use array_machine::Progress;
 use bpcc_commit::Bpcc;
-use flash_model::Flash;
+use flash_model::{Arms, Flash, Power, Retire};
 use mem_flash::MemFlash;
 use record_list::CommitRule;
 use scc_commit::Scc;
@@ -16,7 +16,6 @@ use std::alloc::Global;
 use std::process::Abort;
 use std::test::Fail;
 use tx_engine::{Device, MountError};
-use tx_types::Config;
 
 /// Fills a page with a byte in a transaction of its own.
 fn fill<F: Flash, R: CommitRule>(
@@ -35,12 +34,14 @@ fn fill<F: Flash, R: CommitRule>(
 }
 
 /// Each page is written, and then one page again and again, where only collections make room.
-fn rewritten<R: CommitRule>(
+fn rewritten<F: Arms + Power + Retire + Drop, R: CommitRule>(
     rt: &impl Abort,
     alloc: Global,
-    config: Config,
-) -> Result<String, Fail> {
-    let mut device = mounted::<MemFlash, R>(rt, alloc, blank(alloc, config)?, config)?;
+    device: Device<F, R>,
+) -> Result<String, Fail>
+    requires kept { device.dropped ≡ false }
+{
+    let mut device = device;
     for page in 0..20 {
         fill(rt, alloc, &mut device, page, 0xff)?;
     }
@@ -54,9 +55,11 @@ fn rewritten<R: CommitRule>(
 fn a_full_device_is_rewritten(rt: HostRuntime) -> Result<(), Fail> {
     let alloc = rt.alloc();
     let want = "28; 255; written 20 open 0 pending 0 programs 55 erases 7 garbage 7";
-    let simple = rewritten::<Scc>(&rt, alloc, SIMPLE)?;
+    let device = mounted::<MemFlash, Scc>(&rt, alloc, blank(alloc, SIMPLE)?, SIMPLE)?;
+    let simple = rewritten(&rt, alloc, device)?;
     assert_eq!(rt; simple.as_str(), want);
-    let back_pointer = rewritten::<Bpcc>(&rt, alloc, BACK_POINTER)?;
+    let device = mounted::<MemFlash, Bpcc>(&rt, alloc, blank(alloc, BACK_POINTER)?, BACK_POINTER)?;
+    let back_pointer = rewritten(&rt, alloc, device)?;
     assert_eq!(rt; back_pointer.as_str(), want);
     Ok(())
 }

@@ -285,8 +285,7 @@ fn expect_first(
 
 /// Under Back Pointer Cyclic Commit: an aborted record of page 0, a superseded one of page 1 that
 /// straddles its link, and pages that were written since.
-#[test]
-fn a_held_record(rt: HostRuntime) -> Result<(), Fail> {
+fn held(rt: &impl Abort, alloc: Global) -> Result<Index<Bpcc>, Memory> {
     let seen = [
         Complete, Complete, Complete, Complete, Blank, Blank, Blank, Blank, Blank, Blank, Blank,
         Blank, Blank, Blank, Blank, Blank, Complete, Complete, Complete, Complete, Blank, Blank,
@@ -302,7 +301,13 @@ fn a_held_record(rt: HostRuntime) -> Result<(), Fail> {
         found(18, rec((2, 2), (2, 2), 1)),
         found(19, rec((2, 3), (2, 3), 2)),
     ];
-    let mut index = opened::<Bpcc>(&rt, rt.alloc(), BACK_POINTER, &seen, &list)?;
+    opened::<Bpcc>(rt, alloc, BACK_POINTER, &seen, &list)
+}
+
+/// The superseded record is needed while the aborted one stands.
+#[test]
+fn a_held_record(rt: HostRuntime) -> Result<(), Fail> {
+    let mut index = held(&rt, rt.alloc())?;
     assert!(rt; has_block(&index, Block(7)));
     index.set_spare(Block(7));
     expect_pages(
