@@ -8,7 +8,8 @@ use Rattle.record_chart.specs.declared.orbit.Orbit.TheVariants.{Ends, Round, Asi
 use Rattle.record_chart.specs.declared.seen.Seen.{Seen}
 use Rattle.record_chart.specs.declared.seen.Seen.TheVariants.{New, OnPath, Known}
 use Rattle.record_chart.specs.Orbits.{IsGraph, next_of, steps, IsOrbit}
-use Rattle.record_chart.specs.Seen.{seen_at, IsKnown, LeadsToKnown, IsFollowed, IsBehind, Continues, StaysSeen, IsStarted, LeadsNoFurther, orbit_before, MayGrow}
+use Rattle.record_chart.specs.Seen.{seen_at, IsKnown, LeadsToKnown, IsFollowed, IsBehind, Continues, StaysSeen, IsStarted, LeadsNoFurther, orbit_before}
+use Rattle.record_chart.specs.Seen.{MayGrow}
 use Rattle.record_chart.proofs.OfWalk.Noted.{seen_same, seen_other}
 use Rattle.record_chart.proofs.OfWalk.Pigeonhole.{pigeonhole}
 use Rattle.record_chart.proofs.OfChart.Steps.{steps_none, steps_stay}

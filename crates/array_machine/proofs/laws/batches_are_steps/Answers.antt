@@ -1,5 +1,6 @@
 mod BatchLaws
-use Rattle.array_machine.proofs.laws.batches_are_steps.Answers.BatchLaws.{one_is_step, none_moves, first_two_move, second_moves, none_move, second_is_taken, unfinished_stays}
+use Rattle.array_machine.proofs.laws.batches_are_steps.Answers.BatchLaws.{one_is_step, none_moves, first_two_move, second_moves, none_move, second_is_taken}
+use Rattle.array_machine.proofs.laws.batches_are_steps.Answers.BatchLaws.{unfinished_stays}
 use Rattle.array_machine.proofs.laws.batches_are_steps.Goals as goal
 
 pub returns-clause-one : goal.returns-clause-one

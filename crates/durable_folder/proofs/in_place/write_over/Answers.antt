@@ -1,7 +1,8 @@
 mod Over
 use Rattle.std.proofs.Common.{◌∙◌, length, refl}
 use Rattle.durable_folder.proofs.Causing.{turn_later, later_then, then_failed, file_sync_failed}
-use Rattle.durable_folder.proofs.in_place.write_over.Answers.Over.{not_found, no_file_found, no_file_written, no_file_synced, no_file_over, found_and_cleared, not_cleared, rest_put}
+use Rattle.durable_folder.proofs.in_place.write_over.Answers.Over.{not_found, no_file_found, no_file_written, no_file_synced, no_file_over, found_and_cleared}
+use Rattle.durable_folder.proofs.in_place.write_over.Answers.Over.{not_cleared, rest_put}
 use Rattle.durable_folder.proofs.in_place.write_over.Answers.Over.{rest_not_put, head_put}
 use Rattle.durable_folder.proofs.in_place.write_over.Goals as goal
 

@@ -15,7 +15,8 @@ use Rattle.page_keys.specs.Puts.{IsKeyChange, is_over}
 use Rattle.page_keys.proofs.OfBucket.BucketChanges.{all_filtered}
 use Rattle.page_keys.proofs.OfPut.PlacedChanges.{page_in, group_is}
 use Rattle.page_keys.proofs.OfStore.StoreReads.{keeps_keys, reads_then}
-use Rattle.page_keys.proofs.putting.rewritten_all.Answers.PutLoop.{page_exists, find_past, is_full, all_written, entry_added, shows_there, bytes_back, much_back}
+use Rattle.page_keys.proofs.putting.rewritten_all.Answers.PutLoop.{page_exists, find_past, is_full, all_written, entry_added, shows_there, bytes_back}
+use Rattle.page_keys.proofs.putting.rewritten_all.Answers.PutLoop.{much_back}
 use Rattle.page_keys.proofs.putting.rewritten_all.Goals as goal
 
 if_err : {X E : Type 0} (r : Result X E) (P Q : E → Type 0) → IsErrAnd r P →

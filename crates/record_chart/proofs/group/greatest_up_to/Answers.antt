@@ -29,7 +29,8 @@ module _ (list : List Found) (name : Link) (top : ℕ) where
       ((k : ℕ) → k < length list → may_answer name top (at_place k).rec ≡ true → IsBehind (at_place k) (at_place at)) →
       (at_place at).rec.version ≡ greatest (straddling_upto top name) list
   answers at below may first =
-      let own : straddling_upto top name (at_place at).rec ≡ (at_place at).rec.version = cond-true (may_answer name top (at_place at).rec) (at_place at).rec.version 0 may in
+      let own : straddling_upto top name (at_place at).rec ≡ (at_place at).rec.version =
+      cond-true (may_answer name top (at_place at).rec) (at_place at).rec.version 0 may in
       let low = greatest_bound (straddling_upto top name) list (at_place at) (Contains-get_or list at nothing below) in
       let high = bounded (at_place at).rec.version (λ k less has. elim (first k less has) [ inl lower ↦ omega arith | inr same ↦ omega (arith, same.0) ]) in
       omega (arith, own)

@@ -1,5 +1,6 @@
 mod Examples
-use Rattle.record_list.proofs.theorems.worked_examples.Answers.Examples.{straddled_verdict, straddled_is_held, namesake_is_held, copied_home, unanswered_breaks, misled_breaks}
+use Rattle.record_list.proofs.theorems.worked_examples.Answers.Examples.{straddled_verdict, straddled_is_held, namesake_is_held, copied_home, unanswered_breaks}
+use Rattle.record_list.proofs.theorems.worked_examples.Answers.Examples.{misled_breaks}
 use Rattle.record_list.proofs.theorems.worked_examples.Answers.Examples.{closed_breaks, twice_mentioned}
 use Rattle.record_list.proofs.theorems.worked_examples.Goals as goal
 

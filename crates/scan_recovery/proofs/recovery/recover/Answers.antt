@@ -1,7 +1,8 @@
 mod OpenedImages
 use Rattle.std.proofs.Common.{◌∙◌}
 use Rattle.std.proofs.lemmas.Result.{IfOk-weaker}
-use Rattle.scan_recovery.proofs.recovery.recover.Answers.OpenedImages.{scan_complete, scan_scanned, scan_pages, copies_agree, opened_image, recovered_sound, recovered_unsound}
+use Rattle.scan_recovery.proofs.recovery.recover.Answers.OpenedImages.{scan_complete, scan_scanned, scan_pages, copies_agree, opened_image, recovered_sound}
+use Rattle.scan_recovery.proofs.recovery.recover.Answers.OpenedImages.{recovered_unsound}
 use Rattle.scan_recovery.proofs.recovery.recover.Answers.OpenedImages.{recovered_reads}
 use Rattle.scan_recovery.proofs.recovery.recover.Goals as goal
 

@@ -8,7 +8,8 @@ use Rattle.flash_model.specs.Operations.{CanDo, Load, fire}
 use Rattle.collector.proofs.OfNotes.KeepsLemmas.{by_err}
 use Rattle.tx_engine.specs.BatchCalls.{CanNoteEach, WritesAll}
 use Rattle.tx_engine.specs.Stored.{Stored}
-use Rattle.tx_engine.proofs.batches.write_all.Answers.Firing.{can_fire_all, can_load_all, can_note_all, dropped_all, fired, laws_of, same_tables, then_is, written_all}
+use Rattle.tx_engine.proofs.batches.write_all.Answers.Firing.{can_fire_all, can_load_all, can_note_all, dropped_all, fired, laws_of, same_tables, then_is}
+use Rattle.tx_engine.proofs.batches.write_all.Answers.Firing.{written_all}
 use Rattle.tx_engine.proofs.batches.write_all.Goals as goal
 
 pub load_all-requires : goal.load_all-requires

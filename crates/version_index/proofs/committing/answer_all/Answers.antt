@@ -1,5 +1,6 @@
 use Rattle.std.proofs.Common.{sym}
-use Rattle.version_index.proofs.committing.answer_all.Invariants.AnsweredRounds.{start_answering, answering_ends, answering_fails, answering_more, answering_whole}
+use Rattle.version_index.proofs.committing.answer_all.Invariants.AnsweredRounds.{start_answering, answering_ends, answering_fails, answering_more}
+use Rattle.version_index.proofs.committing.answer_all.Invariants.AnsweredRounds.{answering_whole}
 use Rattle.version_index.proofs.committing.answer_all.Goals as goal
 
 pub loop-init : goal.loop-init

@@ -52,7 +52,8 @@ set_waits-requires-clause-page c =
     let pages = ap (λ (t : Kept). length t.pages) c.set_answerer.ensures ∙ ap (λ (t : Kept). length t.pages) c.loop-i.invariant.rest ∙ c.requires.pages in
     let exist = All-contains (PagesExist c.args.logical) list (get_or list i nothing) c.requires.exist (Contains-get_or list i nothing within) in
     let protocol = c.args.standing.now.protocol in
-    let is = c.decide-decided.ensures.awaited ∙ ap (λ g. awaited (judged_by protocol list g) (records.record_at c.records-records.result.now c.loop-i.i)) c.requires.logical
+    let is = c.decide-decided.ensures.awaited ∙ ap (λ g. awaited (judged_by protocol list g) (records.record_at c.records-records.result.now c.loop-i.i))
+    c.requires.logical
     ∙ ap (λ l. awaited (judged_by protocol list c.args.logical) (records.record_at l i)) (c.records-records.ensures.records ∙ c.chart.ensures) in
     subst (λ count. IfSome c.decide-decided.result.awaited (λ page. page < count)) (sym pages)
     (awaited_exists (judged_by c.args.standing.now.protocol list c.args.logical) rec c.args.logical c.decide-decided.result.awaited is exist.1)
@@ -74,7 +75,8 @@ loop-i-preserved c =
     let is_a = c.decide-decided.ensures.answerer ∙ ap (number_by list numbers)
     (ap (λ g. answerer protocol list g (records.record_at c.records-records.result.now c.loop-i.i)) c.requires.logical
     ∙ ap (λ l. answerer protocol list logical (records.record_at l i)) same) in
-    let is_w = c.decide-decided.ensures.awaited ∙ ap (λ g. awaited (judged_by protocol list g) (records.record_at c.records-records.result.now c.loop-i.i)) c.requires.logical
+    let is_w = c.decide-decided.ensures.awaited ∙ ap (λ g. awaited (judged_by protocol list g) (records.record_at c.records-records.result.now c.loop-i.i))
+    c.requires.logical
     ∙ ap (λ l. awaited (judged_by protocol list logical) (records.record_at l i)) same in
     let both = c.set_waits.ensures ∙ ap (λ (u : Kept). record u { waits = set u.waits (get_or numbers i 0) w }) c.set_answerer.ensures in
     subst (λ u. AreDecided protocol list numbers logical k u (i + 1)) (sym both)

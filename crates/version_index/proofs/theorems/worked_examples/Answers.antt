@@ -1,5 +1,6 @@
 mod Examples
-use Rattle.version_index.proofs.theorems.worked_examples.Answers.Examples.{doubled_homes, doubled_goes, doubled_garbage, doubled_pinned, mentions_raised, least_slots, written_array}
+use Rattle.version_index.proofs.theorems.worked_examples.Answers.Examples.{doubled_homes, doubled_goes, doubled_garbage, doubled_pinned, mentions_raised}
+use Rattle.version_index.proofs.theorems.worked_examples.Answers.Examples.{least_slots, written_array}
 use Rattle.version_index.proofs.theorems.worked_examples.Goals as goal
 
 pub returns : goal.returns

@@ -30,7 +30,8 @@ use Rattle.tx_engine.proofs.OfStanding.ExitsThen.{before_itself, tables_then}
 use Rattle.tx_engine.proofs.OfStanding.Kept.{IsKept}
 use Rattle.tx_engine.proofs.OfStepAll.JobsBeside.{jobs_beside, loads_beside, pages_low, spoilt_off}
 use Rattle.tx_engine.proofs.OfStepAll.LoadLeft.{HasLaws, kept_same, spoilt_kept, spoilt_pages, spoilt_preserves, whole_kept}
-use Rattle.tx_engine.proofs.batches.write_all.Answers.Wholes.{entries_for, standing_with, taken_next, whole_beside, whole_entries, whole_loads, whole_pages, whole_tables}
+use Rattle.tx_engine.proofs.batches.write_all.Answers.Wholes.{entries_for, standing_with, taken_next, whole_beside, whole_entries, whole_loads, whole_pages}
+use Rattle.tx_engine.proofs.batches.write_all.Answers.Wholes.{whole_tables}
 
 -- tables that match what was left: each transaction at its last page was taken or not
 pub record SomeLeft {F : Type 0} (f : F) (s s' : FlashState) (n : Noted) (t : BlockTable) (O : OpenTable) (i : ℕ) (jobs : List Job) : Type 0 where

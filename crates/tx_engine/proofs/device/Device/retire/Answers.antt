@@ -17,7 +17,8 @@ use Rattle.tx_engine.specs.declared.retire.RetireError.{RetireError}
 use Rattle.tx_engine.specs.declared.retire.RetireError.TheVariants.{Fault}
 use Rattle.tx_engine.proofs.OfCollect.Collecting.{settled_low, rises_stay}
 use Rattle.tx_engine.proofs.OfStanding.ExitsThen.{tables_then}
-use Rattle.tx_engine.proofs.device.Device.retire.Answers.Retirements.{broke_after, refused, retired_after, retired_blank, retired_known, retiring_broke, retiring_fails}
+use Rattle.tx_engine.proofs.device.Device.retire.Answers.Retirements.{broke_after, refused, retired_after, retired_blank, retired_known, retiring_broke}
+use Rattle.tx_engine.proofs.device.Device.retire.Answers.Retirements.{retiring_fails}
 use Rattle.tx_engine.proofs.OfSettle.SettleExits.{failed_machine, failed_stays, not_settled}
 use Rattle.tx_engine.proofs.OfStanding.KeptDevices.{as_kept, by_kept, kept_is, kept_stands}
 use Rattle.tx_engine.proofs.device.Device.retire.Goals as goal
