@@ -58,7 +58,7 @@ impl<F: Flash, R: CommitRule> Device<F, R> {
         self.store.flash.live()
     }
 
-    /// The flash, as it stands.
+    /// Ends the device, and gives its flash as it stands.
     pub fn close(self) -> F
         ensures { result ≡ self.flash }
     {
