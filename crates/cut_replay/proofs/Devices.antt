@@ -5,10 +5,12 @@ use Rattle.std.proofs.lemmas.List.Elements.{All-weaker}
 use Rattle.tx_types.specs.declared.config.Config.{Config}
 use Rattle.tx_types.specs.declared.config.Protocol.{Protocol}
 use Rattle.tx_types.specs.declared.config.Shape.{Shape}
+use Rattle.tx_types.specs.Config.{shape_of}
 use Rattle.flash_model.specs.Flash.{FlashState}
 use Rattle.flash_model.specs.Calls.{Carries}
 use Rattle.flash_model.specs.Moves.{Moves}
 use Rattle.flash_model.specs.Operations.{moment_of}
+use Rattle.flash_model.proofs.MoveLemmas.{together_of}
 use Rattle.page_cache.specs.CachedPages.{CachedPage}
 use Rattle.tx_engine.specs.Exits.{Exits, VersionsTell}
 use Rattle.tx_engine.specs.Naming.{is_spent}
@@ -19,7 +21,7 @@ use Rattle.host_protocol.specs.declared.command.Command.{Command}
 use Rattle.host_protocol.specs.declared.reply.Reply.{Reply}
 use Rattle.collector.specs.declared.unsure.Unsure.TheVariants as unsure
 use Rattle.cut_replay.specs.Run.{DoesCommand, seen_after, is_break, is_opened, writes_in}
-use Rattle.cut_replay.specs.FlashRun.{Tells, is_fault, is_still}
+use Rattle.cut_replay.specs.FlashRun.{Tells, is_fault, is_still, is_together}
 use Rattle.cut_replay.specs.Bounds.{is_lost}
 use Rattle.tx_engine.specs.Always.{IsSeen, HoldsAlways}
 use Rattle.cut_replay.specs.Mounted.{point_at, IsCachedAs, IsCached, MayHaveCut, ServesHere}
@@ -68,8 +70,9 @@ exits_serve state protocol c old new r broken was is exits breaks faults whole d
   config = exits.tables.config;
   does = does;
   moves = record {
-    moves = subst (λ (x : Shape). Moves x (moment_of (state old.flash)) (is_break r) (moment_of (state new.flash))) was.shape
-        (subst (λ (b : Bool). Moves (state old.flash).shape (moment_of (state old.flash)) b (moment_of (state new.flash))) (sym breaks) exits.moves);
+    moves = together_of (is_together c) (shape_of old.config) (moment_of (state old.flash)) (moment_of (state new.flash)) (is_break r)
+        (subst (λ (x : Shape). Moves x (moment_of (state old.flash)) (is_break r) (moment_of (state new.flash))) was.shape
+        (subst (λ (b : Bool). Moves (state old.flash).shape (moment_of (state old.flash)) b (moment_of (state new.flash))) (sym breaks) exits.moves));
     still = still;
   };
   carries = subst (λ (b : Bool). Carries (state old.flash) (state new.flash) b) (sym faults) exits.carries;

@@ -26,7 +26,7 @@ use Rattle.cut_replay.specs.Bounds.{is_lost, CountsBreak}
 use Rattle.tx_engine.specs.Always.{IsSeen, HoldsAlways}
 use Rattle.cut_replay.specs.Mounted.{point_at, IsCached, CachesCommand, ServesHere}
 use Rattle.cut_replay.specs.Sessions.{flash_in, IsSoundFlash, Fits, FitsMounted, StandsMounted, IsSpentBy, ServesIn, ServesSession}
-use Rattle.cut_replay.specs.Sessions.{EndsServing, Mounted, Follows, Serves, left, CachesSession}
+use Rattle.cut_replay.specs.Sessions.{EndsServing, Follows, Serves, left, CachesSession}
 use Rattle.cut_replay.specs.declared.serving.ServeError.{ServeError}
 use Rattle.cut_replay.specs.declared.session.Session.{Session}
 use Rattle.cut_replay.specs.declared.session.Session.TheVariants as session

@@ -15,9 +15,9 @@ use Rattle.tx_types.specs.Config.{shape_of}
 use Rattle.flash_model.specs.Flash.{FlashState}
 use Rattle.flash_model.specs.Calls.{Carries}
 use Rattle.flash_model.specs.Operations.{moment_of}
-use Rattle.flash_model.specs.Moves.{Moves}
+use Rattle.flash_model.specs.Moves.{MovesTogether}
 use Rattle.flash_model.proofs.CallLemmas.{Carries-nothing}
-use Rattle.flash_model.proofs.MoveLemmas.{Moves-nothing}
+use Rattle.flash_model.proofs.MoveLemmas.{Moves-nothing, together_of}
 use Rattle.version_index.specs.Noted.{Noted, current_of, mention_of}
 use Rattle.collector.specs.declared.unsure.Unsure.TheVariants as unsure
 use Rattle.tx_engine.specs.ArrayState.{ArrayState, Pages, page_at}
@@ -39,7 +39,7 @@ use Rattle.host_protocol.specs.declared.command.Command.TheVariants as command
 use Rattle.host_protocol.specs.declared.reply.Reply.{Reply}
 use Rattle.host_protocol.specs.declared.reply.Reply.TheVariants as reply
 use Rattle.cut_replay.specs.Run.{DoesCommand, read_reply, submit_reply, is_break, seen_after}
-use Rattle.cut_replay.specs.FlashRun.{Point, Tells, MovesBy, is_fault}
+use Rattle.cut_replay.specs.FlashRun.{Point, Tells, MovesBy, is_fault, is_together}
 use Rattle.cut_replay.specs.Bounds.{is_lost}
 use Rattle.tx_engine.specs.Always.{IsSeen, HoldsAlways}
 use Rattle.cut_replay.specs.Mounted.{point_at, ServesHere}
@@ -48,7 +48,8 @@ use Rattle.cut_replay.proofs.Devices.{seen_at, seen_later}
 -- the moment stays
 stays_moved : (its : Config) (c : Command) (r : Reply) (old new : FlashState) → moment_of new ≡ moment_of old → MovesBy its c r (moment_of old) (moment_of new)
 stays_moved its c r old new same = record {
-  moves = subst (λ m. Moves (shape_of its) (moment_of old) (is_break r) m) (sym same) (Moves-nothing (shape_of its) (moment_of old) (is_break r));
+  moves = subst (λ m. MovesTogether (is_together c) (shape_of its) (moment_of old) (is_break r) m) (sym same)
+      (together_of (is_together c) (shape_of its) (moment_of old) (moment_of old) (is_break r) (Moves-nothing (shape_of its) (moment_of old) (is_break r)));
   still = λ h. same;
 }
 

@@ -4,7 +4,7 @@ use Rattle.std.specs.Prelude.{◌≡◌, ◌⊎◌, ℕ, ◌||◌, Bool, true, f
 use Rattle.tx_types.specs.declared.config.Config.{Config}
 use Rattle.tx_types.specs.Config.{shape_of}
 use Rattle.flash_model.specs.Operations.{Operation, program, erase, fire, Moment}
-use Rattle.flash_model.specs.Moves.{Does, Moves}
+use Rattle.flash_model.specs.Moves.{Does, MovesTogether}
 use Rattle.record_list.specs.Records.{mention}
 use Rattle.record_list.specs.declared.found.Found.{Found}
 use Rattle.version_index.specs.Images.{records_in, array_in, IsSoundImage}
@@ -46,10 +46,25 @@ is_still (command.Cut count what) = true
 is_still (command.Fault count what) = true
 is_still (command.BadRead count) = true
 
--- the moment comes from the one before by programs, erases and fires, of which the last may be
--- broken where power is cut or a fault is met; by none where the command asks for none
+-- a command that may start the programs of several transactions together
+abbrev pub is_together : Command → Bool
+is_together (command.Read page) = false
+is_together (command.Write tag batch) = false
+is_together (command.Step tag) = false
+is_together (command.Finish tag) = false
+is_together (command.Abort tag) = false
+is_together command.StepAll = true
+is_together command.Collect = false
+is_together command.Stats = false
+is_together command.Explain = false
+is_together (command.Cut count what) = false
+is_together (command.Fault count what) = false
+is_together (command.BadRead count) = false
+
+-- The moment comes from the one before by programs and erases, of which the last may be broken where power is cut or a
+-- fault is met, or there by several programs that are started together; by none where the command asks for none.
 pub record MovesBy (its : Config) (c : Command) (r : Reply) (old new : Moment) : Type 0 where
-  pub moves : Moves (shape_of its) old (is_break r) new
+  pub moves : MovesTogether (is_together c) (shape_of its) old (is_break r) new
   pub still : is_still c ≡ true → new ≡ old
 
 abbrev pub IsErase : Operation → Type 0

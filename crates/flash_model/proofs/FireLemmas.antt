@@ -2,8 +2,9 @@
 use Rattle.std.proofs.Common.{◌≡◌, ◌≢◌, ℕ, zero, suc, ◌/◌, ◌<◌, ◌≤◌, List, [], ◌∷◌, ◌++◌, length, get_or, set, replicate, Option, None, Some, refl, ap, sym}
 use Rattle.std.proofs.Common.{◌∙◌, arith}
 use Rattle.std.proofs.lemmas.List.{get_or-set_other}
-use Rattle.std.proofs.lemmas.Nat.{div-add-mod'}
+use Rattle.std.proofs.lemmas.Nat.{div-add-mod', div_below}
 use Rattle.std.proofs.Math.Nat.{div-eq_of_lt-le}
+use Rattle.tx_types.specs.Config.{IsShape, slots_of, blocks_of}
 use Rattle.tx_types.specs.declared.config.Shape.{Shape}
 use Rattle.flash_model.specs.declared.outcome.Outcome.{Outcome}
 use Rattle.flash_model.specs.declared.outcome.Outcome.TheVariants as outcome
@@ -95,3 +96,10 @@ pub AreFreeFrom-more : (registers : List (Option Load)) (die : ℕ) (load : Load
     → AreFreeFrom (set registers die (Some load)) (suc die)
 AreFreeFrom-more registers die load free k low =
     get_or-set_other registers die k (Some load) None (λ same. absurd (omega (arith, same))) ∙ free k (omega arith)
+
+-- a slot lies in one of the dies
+pub die_within : (shape : Shape) (at : ℕ) → IsShape shape → at < slots_of shape → die_of shape at < shape.dies
+die_within shape at bounds within =
+    let block : at / shape.pages_per_block < blocks_of shape =
+    div_below at shape.pages_per_block (blocks_of shape) (let b = bounds.pages_least in omega arith) (omega (arith, within)) in
+    div_below (at / shape.pages_per_block) shape.blocks_per_die shape.dies (let b = bounds.blocks_least in omega arith) (omega (arith, block))

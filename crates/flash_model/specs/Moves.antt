@@ -1,17 +1,23 @@
--- How a flash gets from one moment to another: by operations, of which at most the last one is broken.
+-- How a flash gets from one moment to another: by programs and erases, of which at most the last one is broken.
 use Rattle.std.specs.Prelude.{◌≡◌, ◌⊎◌, Bool, true, false, ℕ, List, [], ◌∷◌, All}
 use Rattle.tx_types.specs.declared.config.Shape.{Shape}
 use Rattle.flash_model.specs.Flash.{FlashState}
-use Rattle.flash_model.specs.Operations.{Operation, Moment, moment_of, CanDo, WorksIn, after, Torn}
+use Rattle.flash_model.specs.Operations.{Operation, Load, program, erase, fire, Moment, moment_of, CanDo, WorksIn, after, Torn}
 
 -- the operations are done in turn, each where it has what it needs
 abbrev pub Does : Shape → Moment → List Operation → Moment → Type 0
 Does shape old [] new = new ≡ old
 Does shape old (o ∷ rest) new = CanDo shape old.image o × Does shape (after shape old o) rest new
 
--- one more operation is asked for, and broken
+-- a program or an erase, which is started by itself
+abbrev pub IsLone : Operation → Type 0
+IsLone (program at bytes spare_area) = Unit {0}
+IsLone (erase block) = Unit {0}
+IsLone (fire loads) = ⊥
+
+-- one more program or erase is asked for, and broken
 abbrev pub LeavesTorn : Shape → Moment → Moment → Type 0
-LeavesTorn shape old new = (o : Operation) × CanDo shape old.image o × Torn shape old o new
+LeavesTorn shape old new = (o : Operation) × IsLone o × CanDo shape old.image o × Torn shape old o new
 
 -- what comes after the operations that were done: nothing, or, where a call was broken, perhaps one that was broken
 abbrev pub Ends : Shape → Moment → Bool → Moment → Type 0
@@ -20,6 +26,7 @@ Ends shape old true new = (new ≡ old) ⊎ LeavesTorn shape old new
 
 pub record Moves (shape : Shape) (old : Moment) (broken : Bool) (new : Moment) : Type 0 where
   pub done : List Operation
+  pub lone : All IsLone done
   pub between : Moment
   pub does : Does shape old done between
   pub ends : Ends shape between broken new
@@ -27,6 +34,20 @@ pub record Moves (shape : Shape) (old : Moment) (broken : Bool) (new : Moment) :
 -- from one state of a flash to another
 abbrev pub FlashMoves : FlashState → FlashState → Bool → Type 0
 FlashMoves old new broken = Moves old.shape (moment_of old) broken (moment_of new)
+
+-- The same, and then several programs are started together, each of which may be broken by itself.
+pub record FiresTorn (shape : Shape) (old new : Moment) : Type 0 where
+  pub between : Moment
+  pub moves : Moves shape old false between
+  pub loads : List Load
+  pub can : CanDo shape between.image (fire loads)
+  pub torn : Torn shape between (fire loads) new
+
+-- one or the other, where the programs of several transactions may be started together
+abbrev pub MovesTogether : Bool → Shape → Moment → Bool → Moment → Type 0
+MovesTogether false shape old broken new = Moves shape old broken new
+MovesTogether true shape old broken new =
+    Moves shape old broken new ⊎ ((broken ≡ true) × FiresTorn shape old new)
 
 -- no operation works in this block
 abbrev pub StayOff : Shape → ℕ → List Operation → Type 0

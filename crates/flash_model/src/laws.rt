@@ -1,12 +1,13 @@
 //! What holds of the calls of each flash. The functions do nothing: each is there for what it ensures.
-ghost use Rattle.std.specs.Prelude.{◌≡◌, ◌<◌, ◌/◌, ℕ, suc, Bool, false, List, [], ◌∷◌, ◌++◌, length, map, Option, Result};
+ghost use Rattle.std.specs.Prelude.{◌≡◌, ◌≢◌, ◌<◌, ◌/◌, ℕ, suc, Bool, false, List, [], ◌∷◌, ◌++◌, length, map, Option, Result, Ok};
 ghost use Rattle.std.specs.Result.{is_err};
+ghost use Rattle.tx_types.specs.Config.{IsShape, slots_of};
 ghost use Rattle.tx_types.specs.declared.config.Shape.{Shape};
 ghost use Rattle.flash_model.specs.declared.flash.Broken.{Broken};
 ghost use Rattle.flash_model.specs.declared.outcome.Outcome.{Outcome};
 ghost use Rattle.flash_model.specs.Flash.{FlashState, Contents, slot_at, IsImage, IsSteady};
 ghost use Rattle.flash_model.specs.Operations.{Operation, Load, fire, program_of, Moment, CanDo, WorksIn, die_of, image_left, left_each, after, Torn};
-ghost use Rattle.flash_model.specs.Moves.{Does, Moves, FlashMoves, StayOff};
+ghost use Rattle.flash_model.specs.Moves.{Does, IsLone, Moves, FiresTorn, FlashMoves, StayOff};
 ghost use Rattle.flash_model.specs.Calls.{Carries, Operates};
 ghost use Rattle.flash_model.specs.Retiring.{CarriesRetiring};
 ghost use Rattle.flash_model.specs.Firing.{no_loads, loads_in, with_load, AreFreeFrom};
@@ -19,11 +20,15 @@ pub fn calls_compose()
         FlashMoves a b false → FlashMoves b c broken → FlashMoves a c broken }
 {}
 
-/// A program, an erase or a fire moves the flash by one operation, done or broken.
+/// A program or an erase moves the flash by one operation, done or broken, and so does a fire that is done, by its
+/// programs.
 pub fn operations_move()
-    ensures { (old new : FlashState) (o : Operation) (result : Result (Unit {0}) Broken) →
-        CanDo old.shape old.image o → Operates old new o result →
+    ensures lone { (old new : FlashState) (o : Operation) (result : Result (Unit {0}) Broken) →
+        IsLone o → CanDo old.shape old.image o → Operates old new o result →
         FlashMoves old new (is_err result) }
+    ensures fired { (old new : FlashState) (loads : List Load) → loads ≢ [] →
+        CanDo old.shape old.image (fire loads) → Operates old new (fire loads) (Ok tt) →
+        FlashMoves old new false }
 {}
 
 /// An image stays one, whatever is done and however it is broken, and operations that stay off a block leave
@@ -31,6 +36,8 @@ pub fn operations_move()
 pub fn images_stay()
     ensures whole { (shape : Shape) (old new : Moment) (broken : Bool) →
         IsImage shape old.image → Moves shape old broken new → IsImage shape new.image }
+    ensures fired { (shape : Shape) (old new : Moment) →
+        IsImage shape old.image → FiresTorn shape old new → IsImage shape new.image }
     ensures elsewhere { (shape : Shape) (old new : Moment) (list : List Operation) (slot : ℕ) →
         IsImage shape old.image → Does shape old list new →
         StayOff shape (slot / shape.pages_per_block) list →
@@ -76,7 +83,8 @@ pub fn fires_are_programs()
         ≡ left_each (image_left shape image (program_of load) how) loads hows }
 {}
 
-/// Programs that are loaded die after die, from empty registers on, stand in the order in which they were loaded.
+/// Programs that are loaded die after die, from empty registers on, stand in the order in which they were loaded. Each
+/// slot lies in a die.
 pub fn loads_come_in_order()
     ensures none { (shape : Shape) → (loads_in (no_loads shape) ≡ []) × AreFreeFrom (no_loads shape) 0 }
     ensures more { (shape : Shape) (registers : List (Option Load)) (load : Load) →
@@ -85,4 +93,6 @@ pub fn loads_come_in_order()
     ensures behind { (shape : Shape) (registers : List (Option Load)) (load : Load) →
         AreFreeFrom registers (die_of shape load.at) →
         AreFreeFrom (with_load shape registers load) (suc (die_of shape load.at)) }
+    ensures within { (shape : Shape) (at : ℕ) →
+        IsShape shape → at < slots_of shape → die_of shape at < shape.dies }
 {}

@@ -19,13 +19,14 @@ pub trait Wide: Flash {
         ensures stays { Self.state self.new ≡ Self.state self.old };
 
     /// Puts a program into the register of its slot's die, which must be empty. The other registers and all else are
-    /// as before.
+    /// as before. There is a register for each die.
     fn load(&mut self, at: Slot, bytes: &[u8], spare_area: &[u8; 64])
         requires exists { at.0 < slots_of (Self.state self.old).shape }
         requires page { length bytes.now ≡ (Self.state self.old).shape.page_bytes }
         requires free { IsFreeAt (Self.state self.old).shape (registers self.old) at.0 }
         ensures loaded { registers self.new ≡ with_load (Self.state self.old).shape (registers self.old)
             (record { at = at.0; bytes = bytes.now; spare_area = spare_area.now }) }
+        ensures whole { length (registers self.new) ≡ (Self.state self.new).shape.dies }
         ensures stays { Self.state self.new ≡ Self.state self.old };
 
     /// Does all programs that are loaded, and empties the registers. Where the call is broken, each of the programs

@@ -50,6 +50,7 @@ impl Wide for MemFlash {
           registers = with_load self.old.shape self.old.registers
               (record { at = at.0; bytes = bytes.now; spare_area = spare_area.now });
         } }
+        ensures whole { length self.new.registers ≡ self.new.shape.dies }
     {
         let die = die_of(self.slots.shape(), at);
         put(&mut self.registers[die], at, bytes, spare_area);

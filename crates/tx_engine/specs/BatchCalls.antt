@@ -1,8 +1,7 @@
 -- What the calls among themselves ask for and do by which several open transactions go on at once.
-use Rattle.std.specs.Prelude.{◌≡◌, ◌≢◌, ◌⊎◌, ℕ, ◌+◌, ◌<◌, ◌≤◌, true, false, List, [], ◌∷◌, ◌++◌, length, map, take, drop, count_by, None, Ok, Err, Result, IfOk}
+use Rattle.std.specs.Prelude.{◌≡◌, ◌≢◌, ℕ, ◌+◌, ◌<◌, ◌≤◌, true, false, List, [], ◌∷◌, length, take, count_by, None, Ok, Err, Result, IfOk}
 use Rattle.std.specs.Prelude.{OnOk, OnErr}
 use Rattle.std.specs.List.{flat_map}
-use Rattle.std.specs.Result.{is_err}
 use Rattle.std.specs.Prelude.{All, AllPairs, Option, Bool, ◌&&◌, is_none}
 use Rattle.tx_types.specs.Config.{shape_of, slots_of}
 use Rattle.tx_types.specs.declared.config.Protocol.{Protocol}
@@ -12,7 +11,7 @@ use Rattle.flash_model.specs.declared.flash.Broken.{Broken}
 use Rattle.flash_model.specs.Calls.{Carries, Operates}
 use Rattle.flash_model.specs.Firing.{IsFreeAt, loads_in, no_loads, with_load}
 use Rattle.flash_model.specs.Flash.{FlashState}
-use Rattle.flash_model.specs.Moves.{Does, FlashMoves}
+use Rattle.flash_model.specs.Moves.{Does}
 use Rattle.flash_model.specs.Operations.{CanDo, Load, Torn, die_of, fire, moment_of}
 use Rattle.page_record.specs.Spelling.{CanBeSpelled, spelling}
 use Rattle.version_index.specs.declared.note.Note.TheVariants as note
@@ -32,7 +31,7 @@ use Rattle.tx_engine.specs.Calls.{IsReady, AdvancesTo}
 use Rattle.tx_engine.specs.Exits.{Exits, MentionsAtMost, VersionsRise}
 use Rattle.tx_engine.specs.OpenTable.{OpenTable, Opening, HasLimitsOf, HasPlace, IsDueAt, bytes_due, entries_of, name_due, namings_of, opening_at, with_opening}
 use Rattle.tx_engine.specs.Settling.{Counts, CountsOn, is_due, with_next}
-use Rattle.tx_engine.specs.Standing.{Standing, Stands, name_at}
+use Rattle.tx_engine.specs.Standing.{Stands, name_at}
 use Rattle.tx_engine.specs.Stored.{Stored}
 use Rattle.tx_engine.specs.Tables.{standing_in}
 use Rattle.tx_engine.specs.declared.jobs.Job.{Job}
@@ -191,9 +190,9 @@ pub record DroppedAll {F : Type 0} (state : F → FlashState) (S S' : Stored F) 
   pub array : MayTakeEach (standing_in state S O).machine.pages IsAtLast (entries_of O)
       (array_in S.noted.config.protocol S.noted.config.logical (state S'.flash).image)
   pub mentions : MentionsAtMost S.noted (namings_of O) (state S'.flash).image
+  pub can : CanDo (state S.flash).shape (state S.flash).image (fire (loads_for S.noted O 0 jobs))
   pub torn : Torn (state S.flash).shape (moment_of (state S.flash)) (fire (loads_for S.noted O 0 jobs))
       (moment_of (state S'.flash))
-  pub moves : FlashMoves (state S.flash) (state S'.flash) true
   pub carries : Carries (state S.flash) (state S'.flash) true
   pub stays : S' ≡ record S { flash = S'.flash }
 

@@ -7,7 +7,7 @@ use Rattle.tx_types.specs.declared.config.Slot.{Slot}
 use Rattle.tx_types.specs.declared.record.Rec.{Rec}
 use Rattle.flash_model.specs.Calls.{Carries}
 use Rattle.flash_model.specs.Flash.{FlashState}
-use Rattle.flash_model.specs.Moves.{Does, FlashMoves}
+use Rattle.flash_model.specs.Moves.{Does, MovesTogether}
 use Rattle.flash_model.specs.Operations.{Load, Torn, fire, moment_of}
 use Rattle.page_record.specs.Spelling.{spelling}
 use Rattle.record_list.specs.Records.{is_present}
@@ -158,7 +158,8 @@ pub record DropsDevice {F : Type 0} (state : F → FlashState) (old new : Standi
   pub array : CutLeavesEach old.machine
       (idle (array_in old.config.protocol old.config.logical (state new.flash).image))
   pub mentions : MentionsAtMost old.noted old.namings (state new.flash).image
-  pub moves : FlashMoves (state old.flash) (state new.flash) true
+  pub moves : MovesTogether true (state old.flash).shape (moment_of (state old.flash)) true
+      (moment_of (state new.flash))
   pub carries : Carries (state old.flash) (state new.flash) true
   pub torn : chosen_of state old ≢ [] →
       (moment_of (state new.flash) ≡ moment_of (state old.flash))

@@ -1,12 +1,11 @@
 -- Loading the programs of several records, and noting these records: what is left to do comes to the same.
-use Rattle.std.proofs.Common.{◌≡◌, ◌≢◌, ℕ, suc, ◌+◌, ◌/◌, ◌<◌, ◌≤◌, false, List, [], ◌∷◌, ◌++◌, length, drop, get_or, All, Option, refl, sym, ap, ap₂}
+use Rattle.std.proofs.Common.{◌≡◌, ℕ, suc, ◌+◌, ◌<◌, ◌≤◌, false, List, [], ◌∷◌, ◌++◌, length, drop, get_or, All, Option, refl, sym, ap, ap₂}
 use Rattle.std.proofs.Common.{◌∙◌, subst, arith}
 use Rattle.std.proofs.lemmas.List.{append_assoc, append-nil, drop_all, drop_more, length-replicate, length-set}
 use Rattle.std.proofs.lemmas.List.Elements.{All-head}
-use Rattle.std.proofs.lemmas.Nat.{div_below}
 use Rattle.list_facts.proofs.Membership.{all_from}
 use Rattle.list_facts.proofs.Pairs.{pairs_head, pairs_tail}
-use Rattle.tx_types.specs.Config.{IsShape, blocks_of, slots_of}
+use Rattle.tx_types.specs.Config.{slots_of}
 use Rattle.tx_types.specs.declared.config.Shape.{Shape}
 use Rattle.page_record.specs.Spelling.{CanBeSpelled}
 use Rattle.flash_model.specs.Firing.{AreFreeFrom, IsFreeAt, loads_in, no_loads, with_load}
@@ -28,13 +27,6 @@ no_job = record {
   slot = record { 0 = 0 };
   rec = record { page = 0; version = 0; next = record { page = 0; version = 0 }; back = 0; count = 0; discard = false };
 }
-
--- a slot lies in one of the dies
-pub die_within : (shape : Shape) (at : ℕ) → IsShape shape → at < slots_of shape → die_of shape at < shape.dies
-die_within shape at bounds within =
-    let block : at / shape.pages_per_block < blocks_of shape =
-    div_below at shape.pages_per_block (blocks_of shape) (let b = bounds.pages_least in omega arith) (omega (arith, within)) in
-    div_below (at / shape.pages_per_block) shape.blocks_per_die shape.dies (let b = bounds.blocks_least in omega arith) (omega (arith, block))
 
 module _ {F : Type 0} (state : F → FlashState) (registers : F → List (Option Load)) (S0 : Stored F) (O : OpenTable) (jobs : List Job) where
   abbrev shape : Shape

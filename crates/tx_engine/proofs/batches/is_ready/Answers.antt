@@ -1,4 +1,4 @@
-use Rattle.std.proofs.Common.{◌≡◌, ◌<◌, sym, ap, ◌∙◌, subst, arith}
+use Rattle.std.proofs.Common.{sym, ap, ◌∙◌, subst, arith}
 use Rattle.tx_types.specs.declared.record.Link.{Link}
 use Rattle.version_index.specs.Noted.{Noted}
 use Rattle.tx_engine.specs.OpenTable.{HasPlace, opening_at}

@@ -1,4 +1,4 @@
-use Rattle.std.proofs.Common.{◌<◌, get_or, ap, sym, ◌∙◌, subst, arith}
+use Rattle.std.proofs.Common.{get_or, ap, sym, ◌∙◌, subst, arith}
 use Rattle.tx_types.specs.Batch.{bytes_in}
 use Rattle.tx_engine.specs.OpenTable.{HasPlace, opening_at}
 use Rattle.tx_engine.specs.Standing.{write_at}

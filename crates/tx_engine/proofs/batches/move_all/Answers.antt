@@ -1,4 +1,4 @@
-use Rattle.std.proofs.Common.{◌≡◌, ◌≢◌, ◌<◌, [], sym, ◌∙◌, subst, arith}
+use Rattle.std.proofs.Common.{◌≢◌, [], sym, ◌∙◌, subst, arith}
 use Rattle.collector.proofs.OfNotes.KeepsLemmas.{by_err}
 use Rattle.tx_engine.specs.BatchCalls.{CanCountAll, CanWriteAll, MovesAll}
 use Rattle.tx_engine.specs.Calls.{CanAdvance}

@@ -1,5 +1,5 @@
 use Rattle.std.proofs.Common.{◌≡◌, ◌<◌, ◌+◌, length, sym, ap, ◌∙◌, subst, inl, inr, arith}
-use Rattle.std.specs.Prelude.{◌++◌, ◌∷◌, [], true, Vec}
+use Rattle.std.specs.Prelude.{◌++◌, ◌∷◌, [], true}
 use Rattle.tx_types.specs.declared.config.Shape.{Shape}
 use Rattle.die_alloc.specs.NextSlot.{next_slot_in}
 use Rattle.tx_engine.specs.BatchCalls.{is_due_clear}

@@ -1,5 +1,5 @@
 -- Mounting a flash on which power was turned on.
-use Rattle.std.proofs.Common.{◌≡◌, ℕ, ◌≤◌, Bool, true, false, List, sym, ap, ◌∙◌, subst}
+use Rattle.std.proofs.Common.{◌≡◌, ◌≤◌, Bool, true, false, List, sym, ap, ◌∙◌, subst}
 use Rattle.tx_types.specs.declared.config.Config.{Config}
 use Rattle.tx_types.specs.declared.config.Protocol.{Protocol}
 use Rattle.flash_model.specs.Flash.{FlashState, Contents}
@@ -12,11 +12,9 @@ use Rattle.scan_recovery.specs.Reading.{read_more}
 use Rattle.tx_engine.specs.ArrayState.{idle}
 use Rattle.tx_engine.specs.Standing.{Standing}
 use Rattle.tx_engine.specs.Opens.{Mounts, mount_reads}
-use Rattle.tx_engine.specs.declared.mount.MountError.TheVariants as mount
 use Rattle.tx_engine.specs.Always.{HoldsAlways}
 use Rattle.cut_replay.specs.Mounted.{MomentStays}
 use Rattle.cut_replay.specs.Sessions.{MountsIn}
-use Rattle.cut_replay.specs.declared.serving.ServeError.TheVariants as failed
 
 -- a call on the powered flash that leaves its moment
 pub powered_still : (old on new : FlashState) (broken : Bool) → TurnsOn old on → moment_of new ≡ moment_of on → Carries on new broken → MomentStays old new

@@ -6,7 +6,7 @@ use Rattle.tx_types.specs.declared.config.Shape.{Shape}
 use Rattle.tx_types.specs.Config.{shape_of}
 use Rattle.flash_model.specs.Flash.{FlashState}
 use Rattle.flash_model.specs.Calls.{BothTell, Spends}
-use Rattle.flash_model.specs.Moves.{Moves}
+use Rattle.flash_model.specs.Moves.{MovesTogether}
 use Rattle.flash_model.specs.Operations.{moment_of}
 use Rattle.record_list.specs.Records.{mention}
 use Rattle.version_index.specs.Images.{IsSoundImage, records_in}
@@ -96,7 +96,7 @@ dropped_lost state s t entries b is fits drops =
       leaves = drops.array;
       most = dropped_seen state its.protocol s t always drops;
       moves = record {
-        moves = subst (λ (x : Shape). Moves x (moment_of (state s.flash)) (is_break (lost_reply b)) (moment_of (state t.flash))) always.shape (by_moves b);
+        moves = subst (λ (x : Shape). MovesTogether true x (moment_of (state s.flash)) (is_break (lost_reply b)) (moment_of (state t.flash))) always.shape (by_moves b);
         still = λ still. cc;
       };
       carries = drops.carries;
@@ -111,7 +111,7 @@ dropped_lost state s t entries b is fits drops =
     by_may true = inr (refl, refl)
     by_may false = inl (refl, tt)
 
-    by_moves : (b : Bool) → Moves (state s.flash).shape (moment_of (state s.flash)) (is_break (lost_reply b)) (moment_of (state t.flash))
+    by_moves : (b : Bool) → MovesTogether true (state s.flash).shape (moment_of (state s.flash)) (is_break (lost_reply b)) (moment_of (state t.flash))
     by_moves true = drops.moves
     by_moves false = drops.moves
 

@@ -1,5 +1,5 @@
 use Rattle.std.proofs.Common.{List, map, set, Option, ap, ap₂, ◌∙◌}
-use Rattle.std.proofs.lemmas.List.{map-set}
+use Rattle.std.proofs.lemmas.List.{map-set, length-map, length-set}
 use Rattle.tx_types.specs.declared.config.Shape.{Shape}
 use Rattle.flash_model.specs.Operations.{Load, die_of}
 use Rattle.mem_flash.specs.Registers.{load_in}
@@ -16,4 +16,7 @@ returns c =
           ap (λ (registers : List (Option Load)). record (memory_of c.self.inside) { registers = registers })
           (map-set load_in all c.die_of-die.result c.put.new.register
           ∙ ap₂ (λ k load. set (map load_in all) k load) die c.put.ensures.loaded);
+      whole =
+          length-map (set all c.die_of-die.result c.put.new.register) load_in
+          ∙ length-set all c.die_of-die.result c.put.new.register ∙ c.self.invariant.registers.dies;
     })

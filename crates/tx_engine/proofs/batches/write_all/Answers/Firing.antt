@@ -15,7 +15,8 @@ use Rattle.flash_model.specs.Calls.{Operates}
 use Rattle.flash_model.specs.Flash.{FlashState}
 use Rattle.flash_model.specs.Moves.{Does}
 use Rattle.flash_model.specs.Operations.{CanDo, CanLoad, Load, after, die_of, fire, left_each, moment_of}
-use Rattle.flash_model.proofs.MoveLemmas.{FlashMoves-operates, same_moments}
+use Rattle.flash_model.proofs.FireLemmas.{die_within}
+use Rattle.flash_model.proofs.MoveLemmas.{FlashMoves-fires, same_moments}
 use Rattle.tx_types.specs.Batch.{PageWrite}
 use Rattle.version_index.specs.Images.{array_in}
 use Rattle.version_index.specs.Noted.{Noted, current_of}
@@ -37,7 +38,6 @@ use Rattle.tx_engine.specs.declared.jobs.Job.{Job}
 use Rattle.tx_engine.proofs.OfStanding.Kept.{IsKept, from_stands, to_stands}
 use Rattle.tx_engine.proofs.batches.write_all.Answers.BatchLeaves.{SomeLeft, left_array, left_mentions, left_sound, some_left, take_fewer}
 use Rattle.tx_engine.proofs.OfStepAll.LoadLeft.{HasLaws, job_can, job_named, job_page, job_spelled}
-use Rattle.tx_engine.proofs.OfStepAll.Loading.{die_within}
 use Rattle.tx_engine.proofs.batches.write_all.Answers.Wholes.{AllWhole, all_whole, entries_for}
 
 -- the transactions to which the programs belong are the first ones
@@ -114,6 +114,10 @@ module _ (s : FlashState) (n : Noted) (t : BlockTable) (O : OpenTable) (laws : H
       same_moments (moment_of s') (after s.shape (moment_of s) (fire (loads_for n O 0 jobs))) done.done.image done.done.programs done.done.erases,
     )
 
+loads_some : (n : Noted) (O : OpenTable) (jobs : List Job) → jobs ≢ [] → loads_for n O 0 jobs ≢ []
+loads_some n O [] some none = some refl
+loads_some n O (job ∷ jobs) some none = (let long = ap length none in absurd (omega arith))
+
 -- what holds under the rule of a protocol
 pub laws_of : (p : Protocol) → ImagesStand p → NotedWrites p → ArraysStay p → WrittenPartialWriteLaw p → WrittenCompletingWriteLaw p → HasLaws p
 laws_of p images notes arrays partial completing = record {
@@ -186,7 +190,7 @@ module _ {F : Type 0} (state : F → FlashState) (p : Protocol) (S S' : Stored F
               names = whole.tables.names;
               kept = refl;
             };
-            moves = FlashMoves-operates (state S.flash) (state S'.flash) (fire (loads_for S.noted O 0 jobs)) (Ok x) can_fire_all done;
+            moves = FlashMoves-fires (state S.flash) (state S'.flash) (loads_for S.noted O 0 jobs) x (loads_some S.noted O jobs can.some) can_fire_all done;
             carries = done.carries;
           };
           rises = record {
@@ -216,8 +220,8 @@ module _ {F : Type 0} (state : F → FlashState) (p : Protocol) (S S' : Stored F
             (subst (λ es. MayTakeEach pages IsAtLast es after_it) (entries_first O jobs 0 S.noted S.table can.due)
             (left_array S.flash (state S.flash) (state S'.flash) S.noted S.table O 0 jobs its left)));
         mentions = left_mentions S.flash (state S.flash) (state S'.flash) S.noted S.table O 0 jobs its left;
+        can = can_fire_all;
         torn = torn.torn;
-        moves = FlashMoves-operates (state S.flash) (state S'.flash) (fire (loads_for S.noted O 0 jobs)) (Err b) can_fire_all torn;
         carries = torn.carries;
         stays = same;
       }

@@ -86,7 +86,7 @@ module _ (q : Protocol) (partial : PartialWriteLaw q) (completing : CompletingWr
       config = refl;
       written = tt;
       broken = record { noted = refl; table = refl; unsure = refl; slot = torn_left.slot; stay = torn_left.stay };
-      moves = FlashMoves-operates s s' (program at.0 bytes spare) (Err x) can broken;
+      moves = FlashMoves-operates s s' (program at.0 bytes spare) (Err x) tt can broken;
       carries = broken.carries;
       costs = (omega (arith, broken.torn.programs), broken.torn.erases);
     }
@@ -134,7 +134,7 @@ module _ (q : Protocol) (partial : PartialWriteLaw q) (completing : CompletingWr
       config = refl;
       written = record { noted = refl; table = refl; unsure = k.nothing; image = done_image; does = done_does; stay = done_stay; come = done_come };
       broken = tt;
-      moves = FlashMoves-operates s s' (program at.0 bytes spare) (Ok x) can done;
+      moves = FlashMoves-operates s s' (program at.0 bytes spare) (Ok x) tt can done;
       carries = done.carries;
       costs = (omega (arith, done.done.programs), done.done.erases);
     }

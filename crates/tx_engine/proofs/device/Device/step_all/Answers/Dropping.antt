@@ -1,5 +1,5 @@
 -- A device that met a fault where several transactions went on: what its flash is left with.
-use Rattle.std.proofs.Common.{◌≡◌, ◌≢◌, ◌⊎◌, ℕ, ◌+◌, ◌<◌, ◌≤◌, true, false, List, [], ◌∷◌, length, map, Ok, Err, refl, sym, ap, ap₂, ◌∙◌, subst, inl, inr}
+use Rattle.std.proofs.Common.{◌≡◌, ℕ, ◌<◌, true, false, List, [], length, map, Ok, Err, refl, sym, ap, ap₂, ◌∙◌, subst, inl, inr}
 use Rattle.std.proofs.Common.{arith}
 use Rattle.std.specs.List.{range_with_len}
 use Rattle.tx_types.specs.declared.config.Config.{Config}
@@ -7,7 +7,7 @@ use Rattle.tx_types.specs.declared.config.Protocol.{Protocol}
 use Rattle.tx_types.specs.declared.config.Shape.{Shape}
 use Rattle.flash_model.specs.declared.flash.Broken.{Broken}
 use Rattle.flash_model.specs.Flash.{Contents, FlashState}
-use Rattle.flash_model.specs.Operations.{Load, Moment, Torn, fire, moment_of}
+use Rattle.flash_model.specs.Operations.{CanDo, Load, Moment, Torn, fire, moment_of}
 use Rattle.flash_model.proofs.CallLemmas.{Carries-then}
 use Rattle.flash_model.proofs.MoveLemmas.{FlashMoves-then}
 use Rattle.record_list.specs.Records.{mention}
@@ -91,7 +91,7 @@ drops_unsettled {F} state p S S1 O O1 b devices cuts rule st =
           (cuts.settled old mid false st.stands rule1 (inl (failed_machine state S S1 O O1 st.failed.0 st.failed.1 st.moment)))));
       mentions = subst (λ (n : Noted). MentionsAtMost n (namings_of O) image) (ap (λ (T : Stored F). T.noted) st.failed.0)
           (subst (λ xs. MentionsAtMost S1.noted xs image) (ap namings_of st.failed.1) (devices.mentions mid st.stands rule1));
-      moves = st.exits.moves;
+      moves = inl st.exits.moves;
       carries = st.exits.carries;
       torn = λ some. inl st.moment;
     }
@@ -133,7 +133,15 @@ drops_fired {F} state S S1 S2 O O1 O2 u st size d =
         refl,
       );
       mentions = mentions_back old (standing_in state S1 O1) image refl config st.exits.tables d.mentions;
-      moves = FlashMoves-then (state S.flash) (state S1.flash) (state S2.flash) true st.exits.carries.shape st.exits.moves d.moves;
+      moves = inr (refl, record {
+        between = moment_of (state S1.flash);
+        moves = st.exits.moves;
+        loads = loads_for S1.noted O1 0 (jobs_of S1.noted (chosen_now S1 O1));
+        can = subst (λ (sh : Shape). CanDo sh (state S1.flash).image (fire (loads_for S1.noted O1 0 (jobs_of S1.noted (chosen_now S1 O1)))))
+            st.exits.carries.shape d.can;
+        torn = subst (λ (sh : Shape). Torn sh (moment_of (state S1.flash)) (fire (loads_for S1.noted O1 0 (jobs_of S1.noted (chosen_now S1 O1))))
+            (moment_of (state S2.flash))) st.exits.carries.shape d.torn;
+      });
       carries = Carries-then (state S.flash) (state S1.flash) (state S2.flash) true st.exits.carries d.carries;
       torn = λ some. inr (
           subst (λ (loads : List Load). Torn (state S.flash).shape (moment_of (state S.flash)) (fire loads) (moment_of (state S2.flash)))
@@ -180,7 +188,7 @@ drops_first {F} state p S S1 S2 O O1 O2 u b devices cuts rule stands st adv any 
           (cuts.step old new there tag adv.stands rule2 steps)));
       mentions = mentions_back old mid image refl st.exits.tables.config st.exits.tables
           (mentions_back mid new image refl adv.exits.tables.config adv.exits.tables (devices.mentions new adv.stands rule2));
-      moves = FlashMoves-then (state S.flash) (state S1.flash) (state S2.flash) true st.exits.carries.shape st.exits.moves adv.exits.moves;
+      moves = inl (FlashMoves-then (state S.flash) (state S1.flash) (state S2.flash) true st.exits.carries.shape st.exits.moves adv.exits.moves);
       carries = Carries-then (state S.flash) (state S1.flash) (state S2.flash) true st.exits.carries adv.exits.carries;
       torn = λ some. absurd (some (none_chosen (settlement_of state old).noted (chosen_of state old)
           (known_jobs state S S1 O O1 u st ∙ ap (jobs_of S1.noted) none)));

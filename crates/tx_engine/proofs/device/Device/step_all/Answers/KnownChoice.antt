@@ -1,6 +1,6 @@
 -- Which transactions are chosen hangs on their entries and names alone, so that it is known of a device before it settled; and
 -- what a cut leaves of one that settled.
-use Rattle.std.proofs.Common.{◌≡◌, ◌≢◌, ℕ, ◌+◌, ◌<◌, ◌≤◌, Bool, List, [], ◌∷◌, length, map, drop, get_or, Contains}
+use Rattle.std.proofs.Common.{◌≡◌, ℕ, ◌+◌, Bool, List, [], ◌∷◌, length, map, drop, get_or, Contains}
 use Rattle.std.proofs.Common.{refl, sym, ap, ap₂, ◌∙◌, subst, inl, inr, arith}
 use Rattle.std.specs.Prelude.{take_while}
 use Rattle.std.specs.List.{zip}
