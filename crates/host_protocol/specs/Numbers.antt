@@ -1,6 +1,6 @@
 -- The numbers of a command line.
 use Rattle.std.specs.Prelude.{ℕ, ◌+◌, ◌-◌, ◌*◌, nat_le, Bool, ◌&&◌, List, length, fold, Option, Some, None, if◌then◌else◌}
-use Rattle.std.specs.List.{list_all}
+use Rattle.std.specs.List.{list_all, prefix_len}
 use Rattle.std.specs.Option.{option_and_then}
 use Rattle.tx_types.specs.Limits.{max_u32}
 
@@ -10,6 +10,10 @@ is_digit b = nat_le 48 b && nat_le b 57
 -- what decimal digits stand for
 abbrev pub value_of : List ℕ → ℕ
 value_of digits = fold (λ n digit. n * 10 + (digit - 48)) 0 digits
+
+-- how many decimal digits a text begins with
+abbrev pub digits_in : List ℕ → ℕ
+digits_in text = prefix_len is_digit text
 
 -- one to ten decimal digits, for a number of 32 bits
 abbrev pub is_number : List ℕ → Bool

@@ -1,7 +1,10 @@
 -- What reading a part of a line gave.
-use Rattle.std.specs.Prelude.{◌≡◌, ◌<◌, ◌≤◌, true, ℕ, List, length, map, Option, Some, None, Result, Ok, Err}
+use Rattle.std.specs.Prelude.{◌≡◌, ◌<◌, ◌≤◌, ◌+◌, true, ℕ, List, ◌∷◌, length, take, drop, slice_index, map, Option, Some, None, Result, Ok, Err}
+use Rattle.std.specs.Option.{option_map}
 use Rattle.tx_types.specs.Batch.{PageWrite, Writes}
-use Rattle.host_protocol.specs.Commands.{page_write_of, verb_of, AreOperands, IsCommand, AreWriteOperands}
+use Rattle.host_protocol.specs.Lines.{words_of}
+use Rattle.host_protocol.specs.Numbers.{digits_in, number_of}
+use Rattle.host_protocol.specs.Commands.{page_value, page_write_of, verb_of, AreOperands, IsCommand, AreWriteOperands}
 use Rattle.host_protocol.specs.Files.{entries_in, is_command_line, IsFirstBad}
 use Rattle.host_protocol.specs.declared.file.TheConstants.{MAX_COMMANDS}
 use Rattle.host_protocol.specs.declared.error.TextError.{TextError}
@@ -82,6 +85,27 @@ pub record AddsNone (size : ℕ) (line : List ℕ) (before entries_left : ℕ) :
   pub asks : is_command_line line ≡ true
   pub past : (what : Command) → IsCommand size line what → before < MAX_COMMANDS →
       entries_left < entries_in what
+
+-- the line begins with the digits of this page and an equals sign, behind which it goes on with these bytes
+pub record BeginsWithPage (line : List ℕ) (page : ℕ) (behind : List ℕ) : Type 0 where
+  pub inside : digits_in line < length line
+  pub sign : slice_index line (digits_in line) ≡ 61
+  pub number : number_of (take (digits_in line) line) ≡ Some page
+  pub rest : behind ≡ drop (digits_in line + 1) line
+
+-- the first word of the line is an entry of this page and this text, and the line goes on with these bytes
+pub record BeginsWithEntry (line : List ℕ) (page : ℕ) (text behind : List ℕ) : Type 0 where
+  pub word : List ℕ
+  pub words : words_of line ≡ word ∷ words_of behind
+  pub write : (size : ℕ) → page_write_of size word
+      ≡ option_map (λ value. record { page = page; value = value }) (page_value size text)
+
+-- the first word of the line is no entry
+pub record BeginsWithOther (line : List ℕ) : Type 0 where
+  pub word : List ℕ
+  pub others : List (List ℕ)
+  pub words : words_of line ≡ word ∷ others
+  pub none : (size : ℕ) → page_write_of size word ≡ None
 
 -- where a file's reading ended
 abbrev pub EndsAt : ℕ → List ℕ → TextError → Type 0

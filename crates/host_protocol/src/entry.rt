@@ -1,42 +1,67 @@
-ghost use Rattle.std.specs.Prelude.{◌≡◌, ◌≢◌, ◌≤◌, ◌∷◌, [], ℕ, List, length, position, IfOk, IfSome, IfNone};
+ghost use Rattle.std.specs.Prelude.{
+  ◌≡◌,
+  ◌≢◌,
+  ◌≤◌,
+  ◌<◌,
+  ◌∷◌,
+  [],
+  ℕ,
+  List,
+  length,
+  take,
+  slice_index,
+  position,
+  IfOk,
+  IfSome,
+  IfNone,
+  IsErr,
+};
 ghost use Rattle.std.specs.Option.{option_map};
 ghost use Rattle.std.specs.List.{slice_split};
 ghost use Rattle.tx_types.specs.Batch.{padded};
-ghost use Rattle.host_protocol.specs.Commands.{page_contents, page_value, page_write_of, write_of_texts, is_equals};
-ghost use Rattle.host_protocol.specs.Reading.{AnswersAs};
+ghost use Rattle.host_protocol.specs.Commands.{page_contents, page_value, is_equals};
+ghost use Rattle.host_protocol.specs.Lines.{words_of};
+ghost use Rattle.host_protocol.specs.Numbers.{number_of};
+ghost use Rattle.host_protocol.specs.Reading.{AnswersAs, BeginsWithEntry, BeginsWithOther, BeginsWithPage};
 
 use crate::error::LineError;
 use crate::hexadecimal::decoded;
-use crate::numbers::number;
+use crate::numbers::leading_number;
+use crate::words::{first_blank, first_filled};
 use memchr::memchr;
 
-/// The page that an entry gives, and the bytes, without the zeros that fill the page, or nothing where
-/// it discards the page. The bytes are written into the room.
-pub fn entry<'a>(
-    word: &[u8],
-    page_bytes: u32,
-    room: &'a mut Vec<u8>,
-) -> Result<(u32, Option<&'a [u8]>), LineError>
-    ensures entry { AnswersAs
-        (λ e. record { page = e.0; value = option_map (λ v. padded page_bytes v.now) e.1 })
-        result (page_write_of page_bytes word.now) }
-    ensures within { IfOk result (λ e. IfSome e.1 (λ v. length v.now ≤ page_bytes)) }
+/// The first entry of a line: its page, the text of what the page is to hold, and what is behind it on the line. None
+/// where the line has no word.
+#[inline(always)]
+pub fn first_entry(line: &[u8]) -> Result<Option<(u32, &[u8], &[u8])>, LineError>
+    ensures entry { IfOk result (λ found. IfSome found (λ e.
+        BeginsWithEntry line.now e.0 e.1.now e.2.now)) }
+    ensures shorter { IfOk result (λ found. IfSome found (λ e. length e.2.now < length line.now)) }
+    ensures none { IfOk result (λ found. IfNone found (words_of line.now ≡ [])) }
+    ensures bad { IsErr result → BeginsWithOther line.now }
 {
-    let (page, text) = texts(word).ok_or(LineError::Bad)?;
-    let page = number(page).ok_or(LineError::Bad)?;
-    let value = value(text, page_bytes, room)?;
-    Ok((page, value))
+    let Some(start) = first_filled(line) else {
+        return Ok(None);
+    };
+    let line = &line[start..];
+    let (page, behind) = leading_page(line).ok_or(LineError::Bad)?;
+    let end = first_blank(behind).unwrap_or(behind.len());
+    let (text, behind) = behind.split_at(end);
+    Ok(Some((page, text, behind)))
 }
 
-/// The texts of the page and of what it is to hold that an entry gives. Where the second one has an equals sign too,
-/// it is no value.
-fn texts(word: &[u8]) -> Option<(&[u8], &[u8])>
-    ensures some { IfSome result (λ f. (size : ℕ) →
-        page_write_of size word.now ≡ write_of_texts size f.0.now f.1.now) }
-    ensures none { IfNone result ((size : ℕ) → page_write_of size word.now ≡ None) }
+/// The page before an equals sign at the beginning of a line, and what is behind the sign.
+#[inline(always)]
+fn leading_page(line: &[u8]) -> Option<(u32, &[u8])>
+    ensures some { IfSome result (λ found. BeginsWithPage line.now found.0 found.1.now) }
+    ensures none { IfNone result ((place : ℕ) → place < length line.now →
+        slice_index line.now place ≡ 61 → number_of (take place line.now) ≡ None) }
 {
-    let place = first_equals(word)?;
-    Some((&word[..place], &word[place + 1..]))
+    let (page, place) = leading_number(line)?;
+    if place == line.len() || line[place] != b'=' {
+        return None;
+    }
+    Some((page, &line[place + 1..]))
 }
 
 /// The two parts of a word around its one equals sign.
@@ -63,7 +88,7 @@ fn first_equals(word: &[u8]) -> Option<usize>
 }
 
 /// What a page is to hold, by its text: nothing for a tilde, else the bytes.
-fn value<'a>(
+pub fn value<'a>(
     text: &[u8],
     page_bytes: u32,
     room: &'a mut Vec<u8>,

@@ -14,7 +14,7 @@ ghost use Rattle.host_protocol.specs.Reading.{
 };
 
 use crate::command::Command;
-use crate::entry::entry;
+use crate::entry::{first_entry, value};
 use crate::error::LineError;
 use crate::file::MAX_COMMANDS;
 use crate::numbers::number;
@@ -153,12 +153,11 @@ fn entries(
 {
     let mut batch = Batch::with_room(alloc, page_bytes, near_entries(words))?;
     let mut rest = words;
-    while let Some((word, behind)) = first_word(rest) {
+    while let Some((page, text, behind)) = first_entry(rest)? {
         if batch.len() >= entries_left {
             return Err(LineError::Bad);
         }
-        let (page, value) = entry(word, page_bytes, room)?;
-        match value {
+        match value(text, page_bytes, room)? {
             Some(bytes) => batch.add(page, bytes)?,
             None => batch.add_discard(page)?,
         }
@@ -174,9 +173,9 @@ const NEAR_BYTES: usize = 64;
 fn near_entries(words: &[u8]) -> usize
     ensures { result ≤ NEAR_BYTES }
 {
-    let mut count: u32 = 0;
+    let mut count: u8 = 0;
     for byte in &words[..words.len().min(NEAR_BYTES)] {
-        count += u32::from(*byte == b'=');
+        count += u8::from(*byte == b'=');
     }
     count as usize
 }

@@ -1,22 +1,50 @@
-ghost use Rattle.std.specs.Prelude.{◌≡◌};
-ghost use Rattle.host_protocol.specs.Numbers.{number_of, count_of};
+ghost use Rattle.std.specs.Prelude.{◌≡◌, min, take, ◌+◌, IfSome};
+ghost use Rattle.std.specs.Option.{option_map};
+ghost use Rattle.host_protocol.specs.Numbers.{number_of, count_of, digits_in, value_of};
+
+/// The most digits of a number.
+const MAX_DIGITS: usize = 10;
 
 /// The number that a word is: one to ten decimal digits, for a number of 32 bits.
-#[tactic(auto, unfolding(crate::specs::Numbers::number_of))]
 pub fn number(word: &[u8]) -> Option<u32>
     ensures { result ≡ number_of word.now }
 {
-    if word.is_empty() || word.len() > 10 {
+    let (number, digits) = leading_number(word)?;
+    if digits == word.len() {
+        Some(number)
+    } else {
+        None
+    }
+}
+
+/// The number that the digits at the beginning of a text are, and how many they are.
+#[inline(always)]
+pub fn leading_number(text: &[u8]) -> Option<(u32, usize)>
+    ensures number { option_map (λ found. found.0) result ≡ number_of (take (digits_in text.now) text.now) }
+    ensures digits { IfSome result (λ found. found.1 ≡ digits_in text.now) }
+{
+    let (value, digits) = leading_digits(text);
+    if digits == 0 || digits > MAX_DIGITS {
         return None;
     }
+    let number = u32::try_from(value).ok()?;
+    Some((number, digits))
+}
+
+/// What the digits at the beginning of a text stand for, and how many they are: eleven of them where they are more.
+#[inline(always)]
+fn leading_digits(text: &[u8]) -> (u64, usize)
+    ensures digits { result.1 ≡ min (MAX_DIGITS + 1) (digits_in text.now) }
+    ensures value { result.0 ≡ value_of (take result.1 text.now) }
+{
+    let most = text.len().min(MAX_DIGITS + 1);
     let mut value: u64 = 0;
-    for digit in word {
-        if !digit.is_ascii_digit() {
-            return None;
-        }
-        value = value * 10 + u64::from(*digit - b'0');
+    let mut digits = 0;
+    while digits < most && text[digits].is_ascii_digit() {
+        value = value * 10 + u64::from(text[digits] - b'0');
+        digits += 1;
     }
-    u32::try_from(value).ok()
+    (value, digits)
 }
 
 /// The count that a word is: a number that is not 0.

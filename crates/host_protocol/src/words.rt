@@ -18,7 +18,8 @@ pub fn first_word(line: &[u8]) -> Option<(&[u8], &[u8])>
 }
 
 /// Where the first byte stands that is neither a space nor a tab.
-fn first_filled(line: &[u8]) -> Option<usize>
+#[inline(always)]
+pub fn first_filled(line: &[u8]) -> Option<usize>
     ensures { result ≡ position (λ b. not (is_space_or_tab b)) line.now }
 {
     line.iter().position(|b| *b != b' ' && *b != b'\t')
@@ -29,7 +30,7 @@ const NEAR_BYTES: usize = 16;
 
 /// Where the first space or tab stands.
 #[inline(always)]
-fn first_blank(line: &[u8]) -> Option<usize>
+pub fn first_blank(line: &[u8]) -> Option<usize>
     ensures { result ≡ position is_space_or_tab line.now }
 {
     let near = &line[..line.len().min(NEAR_BYTES)];

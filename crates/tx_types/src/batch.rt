@@ -1,6 +1,6 @@
-ghost use Rattle.std.specs.Prelude.{◌≡◌, true, ◌<◌, ◌+◌, ◌*◌, ◌≤◌, ◌↔◌, [], ◌++◌, length, vec_len, vec_capacity, is_none, IsTrue, IfOk, OnOk, OnErr};
+ghost use Rattle.std.specs.Prelude.{◌≡◌, true, ◌<◌, ◌+◌, ◌*◌, ◌≤◌, ◌↔◌, [], ◌++◌, length, take, drop, is_none, IsTrue, IfOk, OnOk, OnErr};
 ghost use Rattle.std.specs.Fork.{slice_chunk};
-ghost use Rattle.tx_types.specs.Batch.{padded, with_entry, with_discard, entry_at, bytes_in};
+ghost use Rattle.tx_types.specs.Batch.{with_entry, with_discard, entry_at, bytes_in};
 ghost use Rattle.tx_types.specs.Entries.{head_of, cell_of, with_write};
 
 use crate::Memory;
@@ -168,32 +168,29 @@ fn add_cell(
     ensures ok { OnOk result (cells.new.items ≡ cells.old.items ++ cell_of target page_bytes bytes.now) }
     ensures err { OnErr result (cells.new.items ≡ cells.old.items) }
 {
-    cells.reserve(cell_bytes(page_bytes))?;
-    add_head(cells, target);
-    add_padded(cells, bytes, page_bytes as usize);
+    let start = cells.len();
+    cells.resize(start + cell_bytes(page_bytes), 0)?;
+    fill_from(cells, start, target, bytes);
     Ok(())
 }
 
-/// Adds the head of an entry at the end, for which there is room.
-fn add_head(cells: &mut Vec<u8>, target: Target)
-    requires { vec_len cells.old + HEAD_BYTES ≤ vec_capacity cells.old }
-    ensures items { cells.new.items ≡ cells.old.items ++ head_of target }
-    ensures len { vec_len cells.new ≤ vec_len cells.old + HEAD_BYTES }
-    ensures capacity { vec_capacity cells.old ≤ vec_capacity cells.new }
+/// Writes the head of an entry and its bytes from a place on. What is before it and behind them stays.
+fn fill_from(cells: &mut [u8], start: usize, target: Target, bytes: &[u8])
+    requires { start + HEAD_BYTES + length bytes.now ≤ length cells.old }
+    ensures { cells.new ≡ take start cells.old ++ head_of target ++ bytes.now
+        ++ drop (HEAD_BYTES + length bytes.now) (drop start cells.old) }
 {
-    cells.extend_from_slice(&target.page.to_le_bytes()).unwrap();
-    cells.push_reserved(u8::from(target.discard));
+    fill_cell(&mut cells[start..], target, bytes);
 }
 
-/// Adds the bytes at the end, with zeros after them up to `size` bytes, for which there is room.
-fn add_padded(all: &mut Vec<u8>, bytes: &[u8], size: usize)
-    requires few { length bytes.now ≤ size }
-    requires room { vec_len all.old + size ≤ vec_capacity all.old }
-    ensures { all.new.items ≡ all.old.items ++ padded size bytes.now }
+/// Writes the head of an entry and its bytes. What is behind them stays.
+fn fill_cell(cell: &mut [u8], target: Target, bytes: &[u8])
+    requires { HEAD_BYTES + length bytes.now ≤ length cell.old }
+    ensures { cell.new ≡ head_of target ++ bytes.now ++ drop (HEAD_BYTES + length bytes.now) cell.old }
 {
-    let end = all.len() + size;
-    all.extend_from_slice(bytes).unwrap();
-    all.resize(end, 0).unwrap();
+    LittleEndian::write_u32(cell, target.page);
+    cell[PAGE_BYTES] = u8::from(target.discard);
+    cell[HEAD_BYTES..HEAD_BYTES + bytes.len()].copy_from_slice(bytes);
 }
 
 /// The entry at this index, for pages of this many bytes.

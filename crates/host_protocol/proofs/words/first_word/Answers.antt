@@ -1,6 +1,5 @@
-mod WordLemmas
 use Rattle.std.proofs.Common.{sym}
-use Rattle.host_protocol.proofs.words.first_word.Answers.WordLemmas.{word_first, word_none}
+use Rattle.host_protocol.proofs.WordLemmas.{word_first, word_none}
 use Rattle.host_protocol.proofs.words.first_word.Goals as goal
 
 pub returns-in_err-start-clause-none : goal.returns-in_err-start-clause-none
