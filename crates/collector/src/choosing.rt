@@ -1,7 +1,7 @@
-ghost use Rattle.std.specs.Prelude.{◌≡◌, ◌<◌, ◌≤◌, Some};
+ghost use Rattle.std.specs.Prelude.{◌≡◌, ◌+◌, ◌*◌, ◌<◌, ◌≤◌, min, Some};
 ghost use Rattle.tx_types.specs.Config.{shape_of, blocks_of};
 ghost use Rattle.collector.specs.Victim.{FindsVictim, garbage_in, is_shut};
-ghost use Rattle.collector.specs.Best.{IsBest};
+ghost use Rattle.collector.specs.Best.{IsBest, FindsAbove};
 
 use die_alloc::Blocks;
 use record_list::CommitRule;
@@ -32,8 +32,8 @@ struct Best {
     garbage: u32,
 }
 
-/// The same, where the blank slots of an open block are no garbage: by a look at each block of the
-/// sixteens that may have more than those before.
+/// The same, where the blank slots of an open block are no garbage: by a look at each block of those
+/// sixteens that may have more than those before, and at the sixteens of such 256 alone.
 fn search<R: CommitRule>(index: &Index<R>, blocks: &Blocks) -> Option<Block>
     requires shape { blocks.now.shape ≡ shape_of index.now.config }
     ensures { FindsVictim index.now blocks.now result }
@@ -46,13 +46,38 @@ fn search<R: CommitRule>(index: &Index<R>, blocks: &Blocks) -> Option<Block>
         block: None,
         garbage: 0,
     };
-    for sixteen in 0..count.div_ceil(16) {
-        if index.most_garbage_among(sixteen) > best.garbage {
-            let first = 16 * sixteen;
-            best = best_from(index, blocks, best, first, (first + 16).min(count));
+    for group in 0..count.div_ceil(256) {
+        if index.most_garbage_among_256(group) > best.garbage {
+            best = best_of_sixteens(index, blocks, best, group, count);
         }
     }
     best.block
+}
+
+/// The best of the blocks below a group of 256 and of those in it, of `count` in all: by its sixteens.
+fn best_of_sixteens<R: CommitRule>(
+    index: &Index<R>,
+    blocks: &Blocks,
+    before: Best,
+    group: u32,
+    count: u32,
+) -> Best
+    requires shape { blocks.now.shape ≡ shape_of index.now.config }
+    requires count { count ≡ blocks_of (shape_of index.now.config) }
+    requires small { count ≤ 65536 }
+    requires exists { 256 * group < count }
+    requires before { IsBest index.now blocks.now (256 * group) before }
+    ensures { IsBest index.now blocks.now (min (256 * group + 256) count) result }
+{
+    let mut best = before;
+    let first = 16 * group;
+    for sixteen in first..(first + 16).min(count.div_ceil(16)) {
+        if index.most_garbage_among(sixteen) > best.garbage {
+            let from = 16 * sixteen;
+            best = best_from(index, blocks, best, from, (from + 16).min(count));
+        }
+    }
+    best
 }
 
 /// The best of the blocks below `first` and those from there to `end`.
@@ -70,16 +95,35 @@ fn best_from<R: CommitRule>(
     ensures { IsBest index.now blocks.now end result }
 {
     let mut best = before;
-    for block in first..end {
-        let garbage = garbage_in(index, blocks, Block(block));
-        if garbage > best.garbage {
-            best = Best {
-                block: Some(Block(block)),
-                garbage,
-            };
-        }
+    let mut from = first;
+    while let Some(block) = first_above(index, blocks, from, end, best.garbage) {
+        best = Best {
+            block: Some(block),
+            garbage: garbage_in(index, blocks, block),
+        };
+        from = block.0 + 1;
     }
     best
+}
+
+/// The first of the blocks from `first` to `end` that has more garbage than so much.
+fn first_above<R: CommitRule>(
+    index: &Index<R>,
+    blocks: &Blocks,
+    first: u32,
+    end: u32,
+    garbage: u32,
+) -> Option<Block>
+    requires shape { blocks.now.shape ≡ shape_of index.now.config }
+    requires exist { end ≤ blocks_of (shape_of index.now.config) }
+    ensures { FindsAbove index.now blocks.now first end garbage result }
+{
+    for block in first..end {
+        if garbage_in(index, blocks, Block(block)) > garbage {
+            return Some(Block(block));
+        }
+    }
+    None
 }
 
 /// The number of garbage slots of a block, among them its blank ones where no more programs go

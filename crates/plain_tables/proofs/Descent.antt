@@ -1,5 +1,5 @@
 -- The way down from the single cell to the first greatest number.
-use Rattle.std.proofs.Common.{◌≡◌, ◌≢◌, ℕ, zero, suc, ◌+◌, ◌-◌, ◌*◌, ◌/◌, ◌%◌, ◌<◌, ◌≤◌, inl, inr, true, eqb, ltb, Some, List, length, get_or, take, drop, refl}
+use Rattle.std.proofs.Common.{◌≡◌, ◌≢◌, ◌⊎◌, ℕ, zero, suc, ◌+◌, ◌-◌, ◌*◌, ◌/◌, ◌%◌, ◌<◌, ◌≤◌, inl, inr, true, eqb, ltb, Some, List, length, get_or, take, drop, refl}
 use Rattle.std.proofs.Common.{sym, ◌∙◌, ap, arith}
 use Rattle.std.specs.List.{All, position, position_or_len}
 use Rattle.std.proofs.lemmas.Bool.{cases_lt, cases_eq}
@@ -8,10 +8,10 @@ use Rattle.std.proofs.Math.ListN.{length-set}
 use Rattle.std.proofs.lemmas.List.{length-drop, drop-drop, drop-set-lt, get_or-drop, get_or_default}
 use Rattle.std.proofs.lemmas.List.Quantifiers.{position-Some}
 use Rattle.std.proofs.lemmas.List.Sums.{fails_before_first}
-use Rattle.plain_tables.specs.Greatest.{greatest, sixteen_of, IsFirstGreatest}
+use Rattle.plain_tables.specs.Greatest.{greatest, group_of, IsFirstGreatest}
 use Rattle.plain_tables.specs.Levels.{under, level_start, ArePeaks, IsShape, IsTop}
-use Rattle.plain_tables.proofs.GreatestNumbers.{at_most_greatest, greatest_stands}
-use Rattle.plain_tables.proofs.Tree.{length-under, get_or-under, rooted, rooted_peaks, AreAllPeaks}
+use Rattle.plain_tables.proofs.GreatestNumbers.{at_most_greatest, greatest_stands, greatest_at_most, length-group, get_or-group}
+use Rattle.plain_tables.proofs.Tree.{length-under, get_or-under, under-set_first, rooted, rooted_peaks, AreAllPeaks}
 
 -- a level begins before each later one
 pub level_start_below : (level levels : ℕ) → level < levels → 16 * level_start level + 1 ≤ level_start levels
@@ -25,6 +25,16 @@ level_start_below level (suc levels) l = elim (cases_eq level levels) [
 level_start_whole : (levels : ℕ) → 0 < levels → (m : ℕ) × (level_start levels ≡ 16 * m + 1)
 level_start_whole zero l = absurd (omega arith)
 level_start_whole (suc levels) l = (level_start levels, refl)
+
+-- so do the cells over those, where there is another level
+level_start_twice : (levels : ℕ) → 0 < levels → (level_start levels ≡ 1) ⊎ ((m : ℕ) × (level_start levels ≡ 16 * (16 * m + 1) + 1))
+level_start_twice zero l = absurd (omega arith)
+level_start_twice (suc zero) l = inl refl
+level_start_twice (suc (suc levels)) l = inr (level_start levels, refl)
+
+-- the cell over a group of 256 numbers
+abbrev pub over_256 : ℕ → ℕ → ℕ
+over_256 start group = (start - 1) / 256 + group
 
 -- a number that stands in a list has a first place there
 pub first_place : (xs : List ℕ) (number k : ℕ) → k < length xs → get_or xs k 0 ≡ number → (n : ℕ) × (position (λ x. eqb x number) xs ≡ Some n)
@@ -145,10 +155,83 @@ module _ (cells : List ℕ) (levels start : ℕ) (shape : IsShape levels start (
   pub all_zero : get_or cells 0 0 ≡ 0 → All (λ x. x ≡ 0) (drop start cells)
   all_zero none k d l = let most = number_at_most_first k l in rw (get_or_default (drop start cells) k d 0 l) (omega arith)
 
+module _ (cells : List ℕ) (levels start : ℕ) (shape : IsShape levels start (length cells)) (peaks : AreAllPeaks cells start) where
+  -- a cell is at most what each one under it is
+  at_most_under : (cell m : ℕ) → cell < start
+      → ((k : ℕ) → k < 16 → 16 * cell + 1 + k < length cells → get_or cells (16 * cell + 1 + k) 0 ≤ m) → get_or cells cell 0 ≤ m
+  at_most_under cell m low h =
+      rw (peaks cell low) (greatest_at_most (under cells cell) m (λ k l.
+      let long = length-under cells cell in
+      rw (get_or-under cells cell k (omega arith)) (h k (omega arith) (omega arith))))
+
+  module _ (group : ℕ) where
+    abbrev most : ℕ
+    most = greatest (group_of 256 (drop start cells) group)
+
+    number_at_most : (i : ℕ) → i < 256 → start + (256 * group + i) < length cells → get_or cells (start + (256 * group + i)) 0 ≤ most
+    number_at_most i low within =
+        let all = length-drop start cells in
+        let long = length-group 256 (drop start cells) group in
+        let peak = at_most_greatest (group_of 256 (drop start cells) group) i (omega arith) in
+        let reads = get_or-group 256 (drop start cells) group i low ∙ get_or-drop start cells (256 * group + i) 0 in
+        omega arith
+
+    most_at_most : (m : ℕ) → ((i : ℕ) → i < 256 → start + (256 * group + i) < length cells → get_or cells (start + (256 * group + i)) 0 ≤ m)
+        → most ≤ m
+    most_at_most m h = greatest_at_most (group_of 256 (drop start cells) group) m (λ i l.
+        let all = length-drop start cells in
+        let long = length-group 256 (drop start cells) group in
+        rw (get_or-group 256 (drop start cells) group i (omega arith), get_or-drop start cells (256 * group + i) 0) (h i (omega arith) (omega arith)))
+
+  -- where there is one level the first cell is over all numbers
+  one_level : start ≡ 1 → get_or cells 0 0 ≡ most 0
+  one_level one =
+      let low = at_most_under 0 (most 0) (omega arith) (λ k l within.
+      let place : 1 + k ≡ start + (256 * 0 + k) = omega arith in
+      rw place (number_at_most 0 k (omega arith) (omega arith))) in
+      let high = most_at_most 0 (get_or cells 0 0) (λ i l within.
+      at_most_first cells levels start shape peaks (suc (start + (256 * 0 + i))) (start + (256 * 0 + i)) (omega arith) within) in
+      omega arith
+
+  -- and else one two levels above 256 of them
+  two_levels : (m group : ℕ) → start ≡ 16 * (16 * m + 1) + 1 → 256 * group < length (drop start cells) → get_or cells (m + group) 0 ≡ most group
+  two_levels m group is l =
+      let all = length-drop start cells in
+      let size = shape.most in
+      let low = at_most_under (m + group) (most group) (omega arith) (λ k lk _.
+      at_most_under (16 * (m + group) + 1 + k) (most group) (omega arith) (λ j lj within.
+      let place : 16 * (16 * (m + group) + 1 + k) + 1 + j ≡ start + (256 * group + (16 * k + j)) = omega arith in
+      rw place (number_at_most group (16 * k + j) (omega arith) (rw place at within)))) in
+      let high = most_at_most group (get_or cells (m + group) 0) (λ i li within.
+      let cell = start + (256 * group + i) in
+      let under_it : (cell - 1) / 16 ≡ 16 * (m + group) + 1 + i / 16 = omega arith in
+      let over_it : (16 * (m + group) + 1 + i / 16 - 1) / 16 ≡ m + group = omega arith in
+      let first = rw under_it at (at_most_over cells levels start shape peaks cell (omega arith) within) in
+      let next = rw over_it at (at_most_over cells levels start shape peaks (16 * (m + group) + 1 + i / 16) (omega arith) (omega arith)) in
+      omega arith) in
+      omega arith
+
+  over_group : (group : ℕ) → 256 * group < length (drop start cells)
+      → (over_256 start group < start) × (get_or cells (over_256 start group) 0 ≡ most group)
+  over_group group l =
+      let all = length-drop start cells in
+      let size = shape.most in
+      elim (level_start_twice levels shape.levels_least) [
+        | inl one ↦
+            let only : start ≡ 1 = shape.begins ∙ one in
+            let first : group ≡ 0 = omega arith in
+            let place : over_256 start group ≡ 0 = omega arith in
+            rw (place, first) (omega arith, one_level only)
+        | inr two ↦
+            let is : start ≡ 16 * (16 * two.0 + 1) + 1 = shape.begins ∙ two.1 in
+            let place : over_256 start group ≡ two.0 + group = omega arith in
+            rw place (omega arith, two_levels two.0 group is l)
+      ]
+
 -- under the cell over a sixteen of the numbers stand those
 pub sixteen_under : (cells : List ℕ) (levels start : ℕ) → IsShape levels start (length cells) → (sixteen : ℕ) → 16 * sixteen < length (drop start cells)
-    → ((start - 1) / 16 + sixteen < start) × (under cells ((start - 1) / 16 + sixteen) ≡ sixteen_of (drop start cells) sixteen)
-unfolding sixteen_of under
+    → ((start - 1) / 16 + sixteen < start) × (under cells ((start - 1) / 16 + sixteen) ≡ group_of 16 (drop start cells) sixteen)
+unfolding group_of under
 sixteen_under cells levels start shape sixteen l =
     let long = length-drop start cells in
     let below = level_start_below 0 levels shape.levels_least in
@@ -175,3 +258,17 @@ pub all_peaks : (cells : List ℕ) (levels top start : ℕ) → IsShape levels s
     → AreAllPeaks (rooted cells) start
 all_peaks cells levels top start shape one peaks =
     rooted_peaks cells top start (elim one [ inl none ↦ omega arith | inr first ↦ omega arith ]) (some_cells cells levels start shape).1 peaks
+
+-- the greatest of those under the cell over a group of 256 numbers is that of the group
+pub group_under : (cells : List ℕ) (levels top start : ℕ) → IsShape levels start (length cells) → IsTop top → ArePeaks cells top start → (group : ℕ)
+    → 256 * group < length (drop start cells)
+    → (over_256 start group < start) × (greatest (under cells (over_256 start group)) ≡ greatest (group_of 256 (drop start cells) group))
+group_under cells levels top start shape one peaks group l =
+    let numbers = rooted_numbers cells levels start shape in
+    let all = all_peaks cells levels top start shape one peaks in
+    let over = over_group (rooted cells) levels start (rooted_shape cells levels start shape) all group (rw numbers l) in
+    let place = over_256 start group in (
+      over.0,
+      sym (ap greatest (under-set_first cells place (greatest (under cells 0)))) ∙ sym (all place over.0)
+          ∙ over.1 ∙ ap (λ xs. greatest (group_of 256 xs group)) numbers,
+    )

@@ -1,8 +1,8 @@
--- The greatest of some numbers, after one of them changes.
-use Rattle.std.proofs.Common.{◌≡◌, ◌≢◌, ℕ, zero, suc, ◌<◌, ◌≤◌, inl, inr, List, [], ◌∷◌, length, get_or, set, arith, length-set}
+-- The greatest of some numbers, after one of them changes, and a group of them.
+use Rattle.std.proofs.Common.{◌≡◌, ◌≢◌, ℕ, zero, suc, ◌+◌, ◌-◌, ◌*◌, ◌<◌, ◌≤◌, inl, inr, min, List, [], ◌∷◌, length, get_or, set, drop, ◌∙◌, ap, arith, length-set}
 use Rattle.std.proofs.lemmas.Bool.{cases_lt, cases_eq}
-use Rattle.std.proofs.lemmas.List.{get_or-set_same, get_or-set_other}
-use Rattle.plain_tables.specs.Greatest.{greatest}
+use Rattle.std.proofs.lemmas.List.{length-take, length-drop, get_or-take, get_or-drop, get_or-set_same, get_or-set_other}
+use Rattle.plain_tables.specs.Greatest.{greatest, group_of}
 
 -- no number is greater
 pub at_most_greatest : (xs : List ℕ) (k : ℕ) → k < length xs → get_or xs k 0 ≤ greatest xs
@@ -47,3 +47,12 @@ greatest_still xs k v l less high =
     let other : stands.0 ≢ k = λ e. let here = rw e at stands.2 in omega arith in
     let most = rw (get_or-set_other xs k stands.0 v 0 other) at (at_most_greatest (set xs k v) stands.0 (rw (length-set xs k v) stands.1)) in
     omega (arith, stands.2)
+
+-- a place of a group of numbers is one of the numbers
+pub length-group : (size : ℕ) (xs : List ℕ) (group : ℕ) → length (group_of size xs group) ≡ min size (length xs - size * group)
+unfolding group_of
+length-group size xs group = length-take size (drop (size * group) xs) ∙ ap (min size) (length-drop (size * group) xs)
+
+pub get_or-group : (size : ℕ) (xs : List ℕ) (group j : ℕ) → j < size → get_or (group_of size xs group) j 0 ≡ get_or xs (size * group + j) 0
+unfolding group_of
+get_or-group size xs group j low = get_or-take size (drop (size * group) xs) j 0 low ∙ get_or-drop (size * group) xs j 0

@@ -7,9 +7,9 @@ abbrev pub greatest : List ℕ → ℕ
 greatest [] = 0
 greatest (x ∷ xs) = max x (greatest xs)
 
--- a sixteen of the numbers: those from 16 times its number on, at most 16
-unfoldable pub sixteen_of : List ℕ → ℕ → List ℕ
-sixteen_of xs sixteen = take 16 (drop (16 * sixteen) xs)
+-- a group of the numbers, where all groups have one size: those from as many times its number on, at most as many
+unfoldable pub group_of : ℕ → List ℕ → ℕ → List ℕ
+group_of size xs group = take size (drop (size * group) xs)
 
 -- no number is greater than the one at this place, and each one before it is less
 pub record IsFirstGreatest (xs : List ℕ) (at : ℕ) : Type 0 where

@@ -1,6 +1,6 @@
 ghost use Rattle.std.specs.Prelude.{◌≡◌, ℕ, ◌+◌, ◌-◌, ◌*◌, ◌/◌, ◌<◌, ◌≤◌, ◌^◌, ◌↔◌, ◌==◌, length, replicate, slice_index, slice_set, IfOk, IfSome, IsNone};
 ghost use Rattle.std.specs.List.{All, position};
-ghost use Rattle.plain_tables.specs.Greatest.{greatest, sixteen_of, IsFirstGreatest};
+ghost use Rattle.plain_tables.specs.Greatest.{greatest, group_of, IsFirstGreatest};
 ghost use Rattle.plain_tables.specs.Levels.{under, IsTop};
 
 use std::alloc::{AllocError, Global};
@@ -125,11 +125,20 @@ impl Peaks {
     }
 
     /// The greatest of a sixteen of the numbers: those from 16 times its number on, at most 16.
+    #[inline(never)]
     pub fn greatest_of(&self, sixteen: usize) -> u32
         requires { 16 * sixteen < length self.now }
-        ensures { result ≡ greatest (sixteen_of self.now sixteen) }
+        ensures { result ≡ greatest (group_of 16 self.now sixteen) }
     {
         peak_at(&self.cells, self.top, (self.start - 1) / 16 + sixteen)
+    }
+
+    /// The greatest of 256 of the numbers that follow one another: those from 256 times `group` on, at most 256.
+    pub fn greatest_of_256(&self, group: usize) -> u32
+        requires { 256 * group < length self.now }
+        ensures { result ≡ greatest (group_of 256 self.now group) }
+    {
+        peak_at(&self.cells, self.top, (self.start - 1) / 256 + group)
     }
 }
 

@@ -177,6 +177,11 @@ fn the_first_greatest_number_is_known(rt: HostRuntime) -> Result<(), Fail> {
         let most = numbers[16 * sixteen..end].iter().copied().max();
         assert_eq!(rt; Some(peaks.greatest_of(sixteen)), most);
         assert_eq!(rt; Some(changing.greatest_of(sixteen)), most);
+        let group = at / 256;
+        let end = (256 * group + 256).min(COUNT);
+        let most = numbers[256 * group..end].iter().copied().max();
+        assert_eq!(rt; Some(peaks.greatest_of_256(group)), most);
+        assert_eq!(rt; Some(changing.greatest_of_256(group)), most);
     }
     Ok(())
 }

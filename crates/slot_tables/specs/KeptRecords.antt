@@ -9,7 +9,7 @@ use Rattle.slot_tables.specs.Versions.{Numbered}
 abbrev pub numbered_of : Inside → Numbered
 numbered_of r = record { records = r.records; pages = take r.pages r.lists.lists }
 
--- behind the lists of the pages is that of the numbers that have no record
+-- behind the lists of the pages is that of the numbers that lost their record, and some numbers never had one
 pub record AreNumbered (r : Inside) : Type 0 where
   pub small : length r.records ≤ 65536
   pub few : r.pages ≤ 65536
@@ -17,5 +17,7 @@ pub record AreNumbered (r : Inside) : Type 0 where
   pub keys : length r.lists.lists ≡ r.pages + 1
   pub disjoint : AreDisjoint r.lists
   pub versions : AreVersions r.records (take r.pages r.lists.lists)
+  pub unused : r.unused ≤ length r.records
+  pub fresh : (number : ℕ) → r.unused ≤ number → record_at r.records number ≡ None
   pub free : (number : ℕ) → Contains (list_of r.lists r.pages) number ↔
-      ((number < length r.records) × (record_at r.records number ≡ None))
+      ((number < r.unused) × (record_at r.records number ≡ None))

@@ -86,13 +86,13 @@ impl Filling {
     }
 
     /// Gives a record, newer than those of its page, a number that has none.
-    pub fn add(&mut self, rec: Rec) -> u32
-        requires page { rec.page < length self.old.pages }
+    pub fn add(&mut self, rec: &Rec) -> u32
+        requires page { rec.now.page < length self.old.pages }
         requires free { HasFree self.old.records }
-        requires newest { IsNewest self.old.records rec }
+        requires newest { IsNewest self.old.records rec.now }
         ensures free { record_at self.old.records result ≡ None }
         ensures within { result < slots_of self.old.shape }
-        ensures added { self.new ≡ added self.old result rec }
+        ensures added { self.new ≡ added self.old result rec.now }
     {
         self.given.records.add(rec)
     }

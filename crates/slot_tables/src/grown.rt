@@ -56,19 +56,23 @@ impl<T: Copy> Grown<T> {
         ensures { self.new ≡ slice_set self.old number to }
     {
         let place = number as usize;
-        reach(&mut self.first, place + 1, self.rest);
-        self.first[place] = to;
+        if place < self.first.len() {
+            self.first[place] = to;
+            return;
+        }
+        reach(&mut self.first, place, &self.rest);
+        self.first.push_reserved(to);
     }
 }
 
 /// Adds such values up to so many.
-fn reach<T: Copy>(first: &mut Vec<T>, end: usize, rest: T)
+fn reach<T: Copy>(first: &mut Vec<T>, end: usize, rest: &T)
     requires { end ≤ vec_capacity first.old }
     ensures items { first.new.items
-        ≡ first.old.items ++ replicate (end - length first.old.items) rest }
+        ≡ first.old.items ++ replicate (end - length first.old.items) rest.now }
     ensures room { vec_capacity first.new ≡ vec_capacity first.old }
 {
     while first.len() < end {
-        first.push_reserved(rest);
+        first.push_reserved(*rest);
     }
 }

@@ -2,7 +2,7 @@ ghost use Rattle.std.specs.Prelude.{◌≡◌, ℕ, ◌+◌, ◌-◌, ◌*◌, �
 ghost use Rattle.std.specs.List.{All, range_with_len};
 ghost use Rattle.std.specs.Option.{option_map};
 ghost use Rattle.record_list.specs.Written.{is_slot};
-ghost use Rattle.plain_tables.specs.Greatest.{greatest, sixteen_of, IsFirstGreatest};
+ghost use Rattle.plain_tables.specs.Greatest.{greatest, group_of, IsFirstGreatest};
 ghost use Rattle.slot_tables.specs.Counts.{is_marked, unmarked_in, unmarked_numbers};
 
 use crate::tally::Tally;
@@ -60,13 +60,6 @@ impl Needs {
         self.needed.get(at)
     }
 
-    /// Whether a block is the spare.
-    pub fn is_spare(&self, block: Block) -> bool
-        ensures { result ≡ is_slot block.0 self.now.spare }
-    {
-        is_spare(self.spare, block)
-    }
-
     /// How many slots of a block are not needed, none where it is the spare.
     pub fn unneeded(&self, block: Block) -> u32
         requires { block.0 < self.now.blocks }
@@ -89,9 +82,17 @@ impl Needs {
     /// The most slots that are not needed among sixteen blocks.
     pub fn most_among(&self, sixteen: u32) -> u32
         requires { 16 * sixteen < self.now.blocks }
-        ensures { result ≡ greatest (sixteen_of (unmarked_numbers self.now) sixteen) }
+        ensures { result ≡ greatest (group_of 16 (unmarked_numbers self.now) sixteen) }
     {
         self.unneeded.greatest_of(sixteen as usize)
+    }
+
+    /// The most slots that are not needed among 256 blocks.
+    pub fn most_among_256(&self, group: u32) -> u32
+        requires { 256 * group < self.now.blocks }
+        ensures { result ≡ greatest (group_of 256 (unmarked_numbers self.now) group) }
+    {
+        self.unneeded.greatest_of_256(group as usize)
     }
 
     /// Says whether a slot is needed.

@@ -4,7 +4,7 @@ ghost use Rattle.std.specs.Option.{option_map, option_and_then};
 ghost use Rattle.tx_types.specs.Config.{slots_of, blocks_of};
 ghost use Rattle.tx_types.specs.declared.record.Rec.{Rec};
 ghost use Rattle.plain_tables.specs.ChainLists.{next_in};
-ghost use Rattle.plain_tables.specs.Greatest.{greatest, sixteen_of, IsFirstGreatest};
+ghost use Rattle.plain_tables.specs.Greatest.{greatest, group_of, IsFirstGreatest};
 ghost use Rattle.slot_tables.specs.Kept.{use_at, copies_of, record_at, numbers_at, number_at, home, copy_off, is_answerer, is_wanted, is_needed, garbage_of, garbage_numbers, blanks_of, written_of, WaitsBelow, IsLowestToGo, lower, IsKept};
 ghost use Rattle.slot_tables.specs.declared.slots.SlotUse.TheVariants as slot;
 ghost use Rattle.slot_tables.specs.Copies.{NumbersBelow};
@@ -249,10 +249,7 @@ impl Tables {
         if shut {
             return unneeded;
         }
-        if self.needs.is_spare(block) {
-            return unneeded;
-        }
-        unneeded - self.blanks.count(block.0)
+        unneeded.saturating_sub(self.blanks.count(block.0))
     }
 
     /// The first block with the most garbage if all blocks are shut. Where there is none at all there is
@@ -267,9 +264,17 @@ impl Tables {
     /// The most garbage that one of sixteen blocks has if all are shut.
     pub fn most_garbage_among(&self, sixteen: u32) -> u32
         requires { 16 * sixteen < blocks_of self.now.shape }
-        ensures { result ≡ greatest (sixteen_of (garbage_numbers self.now) sixteen) }
+        ensures { result ≡ greatest (group_of 16 (garbage_numbers self.now) sixteen) }
     {
         self.needs.most_among(sixteen)
+    }
+
+    /// The most garbage that one of 256 blocks has if all are shut.
+    pub fn most_garbage_among_256(&self, group: u32) -> u32
+        requires { 256 * group < blocks_of self.now.shape }
+        ensures { result ≡ greatest (group_of 256 (garbage_numbers self.now) group) }
+    {
+        self.needs.most_among_256(group)
     }
 }
 

@@ -3,7 +3,7 @@ ghost use Rattle.std.specs.List.{remove, slice_get};
 ghost use Rattle.plain_tables.specs.ChainLists.{index_in, next_in};
 ghost use Rattle.tx_types.specs.declared.record.Rec.{Rec};
 ghost use Rattle.slot_tables.specs.Kept.{record_at, numbers_at, AreVersions, IsNewest};
-ghost use Rattle.slot_tables.specs.Versions.{Names, HasFree};
+ghost use Rattle.slot_tables.specs.Versions.{Names, HasFree, IsTaken};
 
 use crate::grown::Grown;
 use plain_tables::Chains;
@@ -15,10 +15,12 @@ use tx_types::Rec;
 #[derive(Debug, Drop)]
 pub struct Records {
     records: Grown<Option<Rec>>,
-    /// Behind the pages a list of the numbers that have no record.
+    /// Behind the pages a list of the numbers that lost their record.
     lists: Chains,
     /// How many pages there are.
     pages: u32,
+    /// The first of the numbers that never had a record.
+    unused: u32,
 }
 
 impl Model for Records {
@@ -41,14 +43,11 @@ impl Records {
         ensures { IfOk result (λ r.
             r ≡ record { records = replicate count None; pages = replicate pages [] }) }
     {
-        let mut lists = Chains::new(alloc, pages + 1, count)?;
-        for k in 0..count {
-            lists.push(pages, count - 1 - k);
-        }
         Ok(Records {
             records: Grown::new(alloc, count, None)?,
-            lists,
+            lists: Chains::new(alloc, pages + 1, count)?,
             pages,
+            unused: 0,
         })
     }
 
@@ -105,22 +104,22 @@ impl Records {
     }
 
     /// Gives a record, newer than those of its page, a number.
-    pub fn add(&mut self, rec: Rec) -> u32
-        requires page { rec.page < length self.old.pages }
+    #[inline(always)]
+    pub fn add(&mut self, rec: &Rec) -> u32
+        requires page { rec.now.page < length self.old.pages }
         requires free { HasFree self.old.records }
-        requires newest { IsNewest self.old.records rec }
+        requires newest { IsNewest self.old.records rec.now }
         ensures free { record_at self.old.records result ≡ None }
         ensures within { result < length self.old.records }
         ensures added { self.new ≡ record {
-          records = slice_set self.old.records result (Some rec);
-          pages = slice_set self.old.pages rec.page (result ∷ numbers_at self.old.pages rec.page);
+          records = slice_set self.old.records result (Some rec.now);
+          pages = slice_set self.old.pages rec.now.page (result ∷ numbers_at self.old.pages rec.now.page);
         } }
         ensures versions { AreVersions self.new.records self.new.pages }
     {
-        let number = self.lists.first(self.pages).unwrap();
-        self.lists.remove(self.pages, number);
+        let number = take_number(&mut self.lists, self.pages, &mut self.unused);
         self.lists.push(rec.page, number);
-        self.records.set(number, Some(rec));
+        self.records.set(number, Some(*rec));
         number
     }
 
@@ -138,5 +137,25 @@ impl Records {
         self.lists.remove(page, number);
         self.lists.push(self.pages, number);
         self.records.set(number, None);
+    }
+}
+
+/// Takes a number out of the list of a key, or the first unused one where the list is empty.
+#[inline(always)]
+fn take_number(lists: &mut Chains, key: u32, unused: &mut u32) -> u32
+    requires key { key < length lists.old.lists }
+    requires few { unused.old ≤ 65536 }
+    ensures { IsTaken lists.old lists.new key unused.old unused.new result }
+{
+    match lists.first(key) {
+        Some(number) => {
+            lists.remove(key, number);
+            number
+        }
+        None => {
+            let number = *unused;
+            *unused += 1;
+            number
+        }
     }
 }

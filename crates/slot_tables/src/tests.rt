@@ -236,7 +236,7 @@ fn add(rt: &impl Abort, tables: &mut Tables, page: u32, version: u64) {
     };
     assert!(rt; has_page(tables, page));
     if free_number(tables).is_some() && is_newest(tables, rec) {
-        let number = tables.add(rec);
+        let number = tables.add(&rec);
         assert!(rt; has_slot(tables, number));
         assert_eq!(rt; tables.record(number), Some(rec));
     }

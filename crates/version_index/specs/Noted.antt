@@ -147,19 +147,19 @@ FindsMostGarbage n None =
     (block : ℕ) (shut : Bool) → block < blocks_of (shape_of n.config) → garbage_of n block shut ≡ 0
 FindsMostGarbage n (Some block) = HasMostGarbage n block.0
 
--- a block of sixteen that follow one another
-pub record IsAmong (n : Noted) (sixteen block : ℕ) : Type 0 where
-  pub first : 16 * sixteen ≤ block
-  pub last : block < 16 * sixteen + 16
+-- a block of a group of so many that follow one another
+pub record IsAmong (n : Noted) (size group block : ℕ) : Type 0 where
+  pub first : size * group ≤ block
+  pub last : block < size * group + size
   pub exists : block < blocks_of (shape_of n.config)
 
--- the most garbage of a sixteen of blocks if all are shut: one has it, and none has more, shut or not
-pub record IsMostAmong (n : Noted) (sixteen count : ℕ) : Type 0 where
+-- the most garbage of such a group if all are shut: one has it, and none has more, shut or not
+pub record IsMostAmong (n : Noted) (size group count : ℕ) : Type 0 where
   pub block : ℕ
-  pub among : IsAmong n sixteen block
+  pub among : IsAmong n size group block
   pub has : garbage_of n block true ≡ count
   pub most :
-      (other : ℕ) (shut : Bool) → IsAmong n sixteen other → garbage_of n other shut ≤ count
+      (other : ℕ) (shut : Bool) → IsAmong n size group other → garbage_of n other shut ≤ count
 
 -- whether a block holds a record that must go before this version of a page is programmed
 abbrev pub is_going : Noted → ℕ → ℕ → ℕ → Bool

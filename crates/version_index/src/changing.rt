@@ -23,7 +23,7 @@ impl<R: CommitRule> Index<R> {
     {
         // The proof reads the sizes of the tables from this use.
         let _ = self.tables.shape();
-        let number = self.tables.add(rec);
+        let number = self.tables.add(&rec);
         self.tables.set_slot(at, SlotUse::Holds(number));
         self.tables.set_waits(number, Some(rec.next.page));
         raise(&mut self.mentions, rec);

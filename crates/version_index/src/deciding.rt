@@ -15,6 +15,13 @@ struct Decided {
     awaited: Option<u32>,
 }
 
+/// Where the last searches ended: for the record that answers for one, and for its place.
+#[derive(Drop)]
+struct Near {
+    answerer: usize,
+    place: usize,
+}
+
 /// Says of each page which record is current.
 pub fn decide_current(tables: &mut Filling, logical: u32, standing: &Standing, numbers: &[u32])
     requires logical { standing.now.logical ≡ logical }
@@ -43,7 +50,10 @@ pub fn decide_records(tables: &mut Filling, logical: u32, standing: &Standing, n
 {
     let _ = tables.shape();
     let records = standing.chart().records();
-    let mut near = 0;
+    let mut near = Near {
+        answerer: 0,
+        place: 0,
+    };
     for i in 0..records.len() {
         let decided = decide(standing, numbers, records[i].rec, &mut near);
         tables.set_answerer(numbers[i], decided.answerer);
@@ -53,7 +63,7 @@ pub fn decide_records(tables: &mut Filling, logical: u32, standing: &Standing, n
 
 /// Which record answers for a record, and for which page it waits: none where it is not loose.
 #[inline(always)]
-fn decide(standing: &Standing, numbers: &[u32], rec: Rec, near: &mut usize) -> Decided
+fn decide(standing: &Standing, numbers: &[u32], rec: Rec, near: &mut Near) -> Decided
     requires { length numbers.now ≡ length standing.now.list }
     ensures answerer { let s = standing.now in
         result.answerer ≡ number_by s.list numbers.now (answerer s.protocol s.list s.logical rec) }
@@ -66,9 +76,9 @@ fn decide(standing: &Standing, numbers: &[u32], rec: Rec, near: &mut usize) -> D
             awaited: None,
         };
     }
-    let name = answerer(standing, rec);
+    let name = answerer(standing, rec, &mut near.answerer);
     Decided {
-        answerer: number_by(standing, numbers, name, near),
+        answerer: number_by(standing, numbers, name, &mut near.place),
         awaited: awaited(standing, rec),
     }
 }
@@ -104,14 +114,14 @@ fn number_by(
 }
 
 /// The name of the record that answers for a record, if one does.
-fn answerer(standing: &Standing, rec: Rec) -> Option<Link>
+fn answerer(standing: &Standing, rec: Rec, near: &mut usize) -> Option<Link>
     ensures { result ≡ answerer standing.now.protocol standing.now.list standing.now.logical rec }
 {
     match standing.protocol() {
         Protocol::Scc => None,
         Protocol::Bpcc => {
             if standing.is_loose(rec) {
-                name_at(rec.next.page, standing.responsible(rec.next))
+                name_at(rec.next.page, standing.responsible_near(rec.next, near))
             } else {
                 None
             }

@@ -28,19 +28,19 @@ pub fn number_records(
 {
     let mut numbers = Vec::with_capacity(alloc, records.len())?;
     for found in records {
-        let number = number_of(tables, found.rec);
+        let number = number_of(tables, &found.rec);
         numbers.push(number)?;
     }
     Ok(numbers)
 }
 
 /// The number of a record that is not older than those of its page.
-fn number_of(tables: &mut Filling, rec: Rec) -> u32
-    requires page { rec.page < length tables.old.pages }
+fn number_of(tables: &mut Filling, rec: &Rec) -> u32
+    requires page { rec.now.page < length tables.old.pages }
     requires free { HasFree tables.old.records }
-    requires order { IsNotOlder tables.old rec }
+    requires order { IsNotOlder tables.old rec.now }
     ensures within { result < slots_of tables.old.shape }
-    ensures number { HasNumber tables.old tables.new rec result }
+    ensures number { HasNumber tables.old tables.new rec.now result }
 {
     let _ = tables.shape();
     match known_number(tables, rec) {
@@ -50,12 +50,12 @@ fn number_of(tables: &mut Filling, rec: Rec) -> u32
 }
 
 /// The number that has a record of this name, which is the newest of its page.
-fn known_number(tables: &Filling, rec: Rec) -> Option<u32>
-    requires page { rec.page < length tables.now.pages }
-    requires order { IsNotOlder tables.now rec }
+fn known_number(tables: &Filling, rec: &Rec) -> Option<u32>
+    requires page { rec.now.page < length tables.now.pages }
+    requires order { IsNotOlder tables.now rec.now }
     ensures within { IfSome result (λ x. x < slots_of tables.now.shape) }
-    ensures known { IfSome result (λ x. IsKnown tables.now rec x) }
-    ensures none { IfNone result (IsNewest tables.now.records rec) }
+    ensures known { IfSome result (λ x. IsKnown tables.now rec.now x) }
+    ensures none { IfNone result (IsNewest tables.now.records rec.now) }
 {
     let _ = tables.shape();
     match tables.newest(rec.page) {

@@ -170,8 +170,16 @@ impl<R: CommitRule> Index<R> {
     /// The most garbage that one of sixteen blocks which follow one another has if all blocks are shut.
     pub fn most_garbage_among(&self, sixteen: u32) -> u32
         requires { 16 * sixteen < blocks_of (shape_of self.now.config) }
-        ensures { IsMostAmong self.now sixteen result }
+        ensures { IsMostAmong self.now 16 sixteen result }
     {
         self.tables.most_garbage_among(sixteen)
+    }
+
+    /// The most garbage that one of 256 blocks which follow one another has if all blocks are shut.
+    pub fn most_garbage_among_256(&self, group: u32) -> u32
+        requires { 256 * group < blocks_of (shape_of self.now.config) }
+        ensures { IsMostAmong self.now 256 group result }
+    {
+        self.tables.most_garbage_among_256(group)
     }
 }

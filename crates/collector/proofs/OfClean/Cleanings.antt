@@ -170,7 +170,7 @@ module _ (p : Protocol) (loss : LossLaw p) (written_loss : WrittenLossLaw p) (a 
     cleans_erased x e = record {
       keeps = keeps_of p a (store_of s' (erased a.noted a.table.spare) a.table a.unsure) false
           (spare_emptied s' (erases_empties a.flash s' a.table.spare (Ok tt) e))
-          (FlashMoves-operates a.flash s' (erase a.table.spare) (Ok x) can e) e.carries;
+          (FlashMoves-operates a.flash s' (erase a.table.spare) (Ok x) tt can e) e.carries;
       done = subst (λ l. Does a.flash.shape (moment_of a.flash) l (moment_of s')) (sym its_cleaning)
           (can, same_moments (moment_of s') (after a.flash.shape (moment_of a.flash) (erase a.table.spare)) e.done.image e.done.programs e.done.erases);
       noted = refl;
@@ -185,7 +185,7 @@ module _ (p : Protocol) (loss : LossLaw p) (written_loss : WrittenLossLaw p) (a 
     pub cleans_torn : (x : Broken) → Erases a.flash s' a.table.spare (Err x) → Cleans p a (store_of s' a.noted a.table unsure.SpareErase) (Err x)
     cleans_torn x e = record {
       keeps = keeps_of p a (store_of s' a.noted a.table unsure.SpareErase) true (spare_left s' x (erases_empties a.flash s' a.table.spare (Err x) e))
-          (FlashMoves-operates a.flash s' (erase a.table.spare) (Err x) can e) e.carries;
+          (FlashMoves-operates a.flash s' (erase a.table.spare) (Err x) tt can e) e.carries;
       done = tt;
       noted = tt;
       broken = record { first = its_cleaning; torn = e.torn; reads = e.reads };

@@ -114,7 +114,7 @@ module _ (p : Protocol) (loss : LossLaw p) (written_loss : WrittenLossLaw p) (a 
       ErasesVictim p a (store_of s' now (exchanged a.table b.0 used) a.unsure) b used (Ok tt)
   victim_done x e between good = record {
     keeps = keeps_of p a (store_of s' now (exchanged a.table b.0 used) a.unsure) false (victim_emptied (erases_empties a.flash s' b.0 (Ok tt) e) between good)
-        (FlashMoves-operates a.flash s' (erase b.0) (Ok x) can_do e) e.carries;
+        (FlashMoves-operates a.flash s' (erase b.0) (Ok x) tt can_do e) e.carries;
     erases = e;
     noted = refl;
     blocks = refl;
@@ -124,7 +124,7 @@ module _ (p : Protocol) (loss : LossLaw p) (written_loss : WrittenLossLaw p) (a 
   pub victim_breaks : (x : Broken) → Erases a.flash s' b.0 (Err x) → ErasesVictim p a (store_of s' a.noted a.table (unsure.VictimErase b)) b used (Err x)
   victim_breaks x e = record {
     keeps = keeps_of p a (store_of s' a.noted a.table (unsure.VictimErase b)) true (victim_left x (erases_empties a.flash s' b.0 (Err x) e))
-        (FlashMoves-operates a.flash s' (erase b.0) (Err x) can_do e) e.carries;
+        (FlashMoves-operates a.flash s' (erase b.0) (Err x) tt can_do e) e.carries;
     erases = e;
     noted = tt;
     blocks = tt;

@@ -69,18 +69,22 @@ module _ (k : Kept) (h : IsKept k) (n : Needed) (m : AreMarked k n) where
   pub garbage_numbers_are : garbage_numbers k ≡ unmarked_numbers n
   garbage_numbers_are = rw m.blocks (map_range (garbage_of k true) (unmarked_in n) 0 (blocks_of k.shape) (λ block low high. garbage_shut block))
 
-  -- of the spare there is none
-  pub garbage_spare : (block : ℕ) (shut : Bool) → is_slot block k.spare ≡ true → garbage_of k shut block ≡ unmarked_in n block
-  unfolding garbage_of
-  garbage_spare block shut is = rw (m.spare, is) refl
-
-  -- of another block that is not shut the blank slots are not garbage
-  pub garbage_part : (block : ℕ) → is_slot block k.spare ≡ false → garbage_of k false block + blanks_of k block ≡ unmarked_in n block
+  -- where it is not shut the blank slots are not garbage; of the spare there is none
+  pub garbage_part : (block : ℕ) → garbage_of k false block ≡ unmarked_in n block - blanks_of k block
   unfolding garbage_of blanks_of
-  garbage_part block is =
-      let all = count_apart (λ at. is_blank (use_at k.slots at)) (is_needed k) (block * k.shape.pages_per_block) k.shape.pages_per_block
-      (blank_unneeded k) in
-      rw (m.spare, is, needed_count block, m.size) (omega (arith, all))
+  garbage_part block = rw (m.spare, needed_count block, m.size) (by_spare (is_slot block k.spare))
+    where
+      blank : ℕ → Bool
+      blank at = is_blank (use_at k.slots at)
+
+      all : count_by (λ at. not (blank at || is_needed k at)) (slots_in k.shape block) + count_by blank (slots_in k.shape block)
+          + count_by (is_needed k) (slots_in k.shape block) ≡ k.shape.pages_per_block
+      all = count_apart blank (is_needed k) (block * k.shape.pages_per_block) k.shape.pages_per_block (blank_unneeded k)
+
+      by_spare : (b : Bool) → cond b 0 (count_by (λ at. not (blank at || is_needed k at)) (slots_in k.shape block))
+          ≡ cond b 0 (k.shape.pages_per_block - count_by (is_needed k) (slots_in k.shape block)) - count_by blank (slots_in k.shape block)
+      by_spare true = omega arith
+      by_spare false = omega (arith, all)
 
 -- the blank slots are counted
 module _ (k : Kept) (h : IsKept k) (m : Marks) (b : AreBlanks k m) (block : ℕ) (low : block < blocks_of k.shape) where

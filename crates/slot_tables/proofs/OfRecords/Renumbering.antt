@@ -10,10 +10,11 @@ use Rattle.std.proofs.lemmas.List.Quantifiers.{all_pairs_remove}
 use Rattle.list_facts.proofs.Membership.{Contains-nil}
 use Rattle.list_facts.proofs.Pairs.{pairs_cons}
 use Rattle.tx_types.specs.declared.record.Rec.{Rec}
-use Rattle.plain_tables.specs.ChainLists.{ChainLists, AreDisjoint, IsListed, list_of, index_in, with_first, without, empty_lists}
+use Rattle.plain_tables.specs.ChainLists.{ChainLists, AreDisjoint, list_of, index_in, with_first, without, empty_lists}
 use Rattle.plain_tables.proofs.Membership.{index_reads}
 use Rattle.slot_tables.specs.declared.records.Records.TheInside.{Inside}
 use Rattle.slot_tables.specs.Kept.{record_at, numbers_at, IsNewer, IsNewest}
+use Rattle.slot_tables.specs.Versions.{HasFree, IsTaken}
 use Rattle.slot_tables.specs.KeptRecords.{AreNumbered}
 use Rattle.slot_tables.proofs.OfRecords.Listed.{in_without, in_with_first}
 use Rattle.slot_tables.proofs.OfRecords.Numbering.{page_list, record_listed, listed_record, list_falls, same_record}
@@ -34,6 +35,7 @@ pairs_stay records records' xs same h i j d less low r s r_is s_is =
 -- a number gets another record, or none, and stands in the list of that one alone
 module _ (r : Inside) (h : AreNumbered r) (number : ℕ) (new : Option Rec) (lists : ChainLists) (within : number < length r.records)
     (places : lists.places ≡ r.lists.places) (disjoint : AreDisjoint lists) (keys : length lists.lists ≡ r.pages + 1)
+    (used : ℕ) (most : used ≤ length r.records) (grows : (y : ℕ) → (y < used) ↔ ((y < r.unused) ⊎ (y ≡ number)))
     (has : (k y : ℕ) → Contains (list_of lists k) y ↔ (((k ≡ key_of r new) × (y ≡ number)) ⊎ (Contains (list_of r.lists k) y × (y ≢ number))))
     (key_low : (rec : Rec) → new ≡ Some rec → rec.page < r.pages)
     (falls : (p : ℕ) → p < r.pages → AllPairs (IsNewer (set r.records number new)) (list_of lists p)) where
@@ -75,26 +77,35 @@ module _ (r : Inside) (h : AreNumbered r) (number : ℕ) (new : Option Rec) (lis
         (old.0, (has rec.page y).1 (inr (old.1, other)))
   ]
 
-  its_free : (y : ℕ) → Contains (list_of lists r.pages) y ↔ ((y < length records) × (record_at records y ≡ None))
+  its_free : (y : ℕ) → Contains (list_of lists r.pages) y ↔ ((y < used) × (record_at records y ≡ None))
   its_free y = (forth, back)
     where
-      forth : Contains (list_of lists r.pages) y → (y < length records) × (record_at records y ≡ None)
+      forth : Contains (list_of lists r.pages) y → (y < used) × (record_at records y ≡ None)
       forth is = elim ((has r.pages y).0 is) [
-        | inl both ↦ (rw (length-set r.records number new, both.1) within, by new refl both.0 both.1)
-        | inr old ↦ (let free = (h.free y).0 old.0 in (rw (length-set r.records number new) free.0, others y old.1 ∙ free.1))
+        | inl both ↦ ((grows y).1 (inr both.1), by new refl both.0 both.1)
+        | inr old ↦ (let free = (h.free y).0 old.0 in ((grows y).1 (inl free.0), others y old.1 ∙ free.1))
       ]
         where
           by : (n : Option Rec) → new ≡ n → r.pages ≡ key_of r new → y ≡ number → record_at records y ≡ None
           by None e key is_own = rw is_own (own ∙ e)
           by (Some rec) e key is_own = absurd (let at : r.pages ≡ rec.page = rw e at key in omega (arith, key_low rec e, at))
 
-      back : (y < length records) × (record_at records y ≡ None) → Contains (list_of lists r.pages) y
-      back (low, none) = elim (cases_eq y number) [
-        | inl is_own ↦ (let e : new ≡ None = sym own ∙ rw is_own at none in (has r.pages y).1 (inl (rw e refl, is_own)))
-        | inr other ↦ (has r.pages y).1 (inr ((h.free y).1 (rw (length-set r.records number new) at low, sym (others y other) ∙ none), other))
+      back : (y < used) × (record_at records y ≡ None) → Contains (list_of lists r.pages) y
+      back (low, none) = elim ((grows y).0 low) [
+        | inr is_own ↦ (let e : new ≡ None = sym own ∙ rw is_own at none in (has r.pages y).1 (inl (rw e refl, is_own)))
+        | inl old ↦ elim (cases_eq y number) [
+          | inl is_own ↦ (let e : new ≡ None = sym own ∙ rw is_own at none in (has r.pages y).1 (inl (rw e refl, is_own)))
+          | inr other ↦ (has r.pages y).1 (inr ((h.free y).1 (old, sym (others y other) ∙ none), other))
+        ]
       ]
 
-  pub renumbered : AreNumbered (record r { records = set r.records number new; lists = lists })
+  its_fresh : (y : ℕ) → used ≤ y → record_at records y ≡ None
+  its_fresh y past =
+      let other : y ≢ number = λ e. (let low = (grows y).1 (inr e) in omega arith) in
+      let old : r.unused ≤ y = elim (cases_lt y r.unused) [ inl low ↦ absurd (let less = (grows y).1 (inl low) in omega arith) | inr high ↦ high ] in
+      others y other ∙ h.fresh y old
+
+  pub renumbered : AreNumbered (record r { records = set r.records number new; lists = lists; unused = used })
   renumbered = record {
     small = rw (length-set r.records number new) h.small;
     few = h.few;
@@ -114,6 +125,8 @@ module _ (r : Inside) (h : AreNumbered r) (number : ℕ) (new : Option Rec) (lis
         | inr past ↦ rw (no_list p past) (λ i j d less low. absurd (omega arith))
       ];
     };
+    unused = rw (length-set r.records number new) most;
+    fresh = its_fresh;
     free = its_free;
   }
 
@@ -124,47 +137,98 @@ take_set (suc n) [] k v = refl
 take_set (suc n) (x ∷ xs) zero v = refl
 take_set (suc n) (x ∷ xs) (suc k) v = ap (λ rest. x ∷ rest) (take_set n xs k v)
 
--- a number without a record gets one that is newer than those of its page
-module _ (r : Inside) (h : AreNumbered r) (number : ℕ) (rec : Rec)
-    (free : Contains (list_of r.lists r.pages) number) (low : rec.page < r.pages) (newest : IsNewest r.records rec) where
-  abbrev rest : ChainLists
-  rest = without r.lists r.pages number
+-- a number that has no record stands in no list of these any more
+pub record IsLoose (r : Inside) (rest : ChainLists) (used number : ℕ) : Type 0 where
+  pub within : number < length r.records
+  pub none : record_at r.records number ≡ None
+  pub places : rest.places ≡ r.lists.places
+  pub keys : length rest.lists ≡ r.pages + 1
+  pub has : (k y : ℕ) → Contains (list_of rest k) y ↔ (Contains (list_of r.lists k) y × (y ≢ number))
+  pub lists : (p : ℕ) → p ≢ r.pages → list_of rest p ≡ list_of r.lists p
+  pub front : take r.pages rest.lists ≡ take r.pages r.lists.lists
+  pub most : used ≤ length r.records
+  pub grows : (y : ℕ) → (y < used) ↔ ((y < r.unused) ⊎ (y ≡ number))
 
+module _ (r : Inside) (h : AreNumbered r) where
+  -- an unused number is in no list
+  unlisted : (k : ℕ) → list_of r.lists r.pages ≡ [] → Contains (list_of r.lists k) r.unused → ⊥
+  unlisted k empty has = elim (cases_lt k r.pages) [
+    | inl low ↦
+        let found = listed_record r k r.unused h low has in
+        (let no : None ≡ Some found.0 = sym (h.fresh r.unused (omega arith)) ∙ found.1 in cc)
+    | inr past ↦ elim (cases_eq k r.pages) [
+      | inl here ↦ Contains-nil r.unused (rw (here, empty) at has)
+      | inr other ↦ Contains-nil r.unused (rw (get_or_past r.lists.lists k [] (let keys = h.keys in omega arith)) at has)
+    ]
+  ]
+
+  -- such a number is taken
+  pub loose : (rest : ChainLists) (used number : ℕ) → HasFree r.records → IsTaken r.lists rest r.pages r.unused used number → IsLoose r rest used number
+  loose rest used number free taken = elim taken [
+    | inl old ↦ (
+        let its = (h.free number).0 old.0 in
+        let most = h.unused in
+        rw (old.1, old.2) (record {
+          within = omega (arith, its.0);
+          none = its.1;
+          places = refl;
+          keys = length-set r.lists.lists r.pages _ ∙ h.keys;
+          has = in_without r.lists r.pages number h.disjoint old.0;
+          lists = λ p other. get_or-set_other r.lists.lists r.pages p _ [] other;
+          front = take-set-le r.pages r.lists.lists r.pages _ (omega arith);
+          most = most;
+          grows = λ y. (λ low. inl low, λ either. elim either [ inl low ↦ low | inr e ↦ rw e its.0 ]);
+        }))
+    | inr new ↦ (
+        let unused : r.unused < length r.records = elim (cases_lt free.number r.unused) [
+          | inl low ↦ absurd (Contains-nil free.number (rw new.0 at ((h.free free.number).1 (low, free.free))))
+          | inr past ↦ (let low = free.within in omega arith)
+        ] in
+        rw (new.1, new.2, new.3) (record {
+          within = unused;
+          none = h.fresh r.unused (omega arith);
+          places = refl;
+          keys = h.keys;
+          has = λ k y. (λ has. (has, λ e. unlisted k new.0 (rw e at has)), λ both. both.0);
+          lists = λ p other. refl;
+          front = refl;
+          most = omega arith;
+          grows = λ y. (
+            λ low. elim (cases_lt y r.unused) [ inl less ↦ inl less | inr past ↦ inr (omega arith) ],
+            λ either. elim either [ inl low ↦ omega arith | inr e ↦ omega arith ],
+          );
+        }))
+  ]
+
+-- such a number gets a record that is newer than those of its page
+module _ (r : Inside) (h : AreNumbered r) (rest : ChainLists) (used number : ℕ) (l : IsLoose r rest used number) (rec : Rec)
+    (low : rec.page < r.pages) (newest : IsNewest r.records rec) where
   abbrev with_it : ChainLists
   with_it = with_first rest rec.page number
-
-  rest_keys : length rest.lists ≡ r.pages + 1
-  rest_keys = length-set r.lists.lists r.pages _ ∙ h.keys
 
   apart : rec.page ≢ r.pages
   apart e = omega (arith, low)
 
   has_it : (k y : ℕ) → Contains (list_of with_it k) y ↔ (((k ≡ rec.page) × (y ≡ number)) ⊎ (Contains (list_of r.lists k) y × (y ≢ number)))
   has_it k y =
-      let first = in_with_first rest rec.page number (omega (arith, rest_keys)) k y in
-      let old = in_without r.lists r.pages number h.disjoint free k y in (
+      let first = in_with_first rest rec.page number (omega (arith, l.keys)) k y in
+      let old = l.has k y in (
         λ is. elim (first.0 is) [ inl both ↦ inl both | inr has ↦ inr (old.0 has) ],
         λ either. elim either [ inl both ↦ first.1 (inl both) | inr both ↦ first.1 (inr (old.1 both)) ],
       )
 
-  none : (number < length r.records) × (record_at r.records number ≡ None)
-  none = (h.free number).0 free
-
   member_other : (p y : ℕ) → p < r.pages → Contains (list_of r.lists p) y → y ≢ number
   member_other p y p_low has e =
       let found = listed_record r p number h p_low (subst (Contains (list_of r.lists p)) e has) in
-      (let no : None ≡ Some found.0 = sym none.1 ∙ found.1 in cc)
+      (let no : None ≡ Some found.0 = sym l.none ∙ found.1 in cc)
 
   entry : (y : ℕ) → y ≢ number → record_at (set r.records number (Some rec)) y ≡ record_at r.records y
   entry y other = get_or-set_other r.records number y (Some rec) None other
 
-  rest_list : (p : ℕ) → p ≢ r.pages → list_of rest p ≡ list_of r.lists p
-  rest_list p other = get_or-set_other r.lists.lists r.pages p _ [] other
-
   own_list : list_of with_it rec.page ≡ number ∷ list_of r.lists rec.page
   own_list =
-      get_or-set_same rest.lists rec.page (number ∷ list_of rest rec.page) [] (omega (arith, rest_keys))
-      ∙ ap (λ xs. number ∷ xs) (rest_list rec.page apart)
+      get_or-set_same rest.lists rec.page (number ∷ list_of rest rec.page) [] (omega (arith, l.keys))
+      ∙ ap (λ xs. number ∷ xs) (l.lists rec.page apart)
 
   its_falls : (p : ℕ) → p < r.pages → AllPairs (IsNewer (set r.records number (Some rec))) (list_of with_it p)
   its_falls p p_low =
@@ -177,26 +241,26 @@ module _ (r : Inside) (h : AreNumbered r) (number : ℕ) (rec : Rec)
             (λ y has a s a_is s_is.
             let other = member_other rec.page y low has in
             let found = listed_record r rec.page y h low has in
-            let one = same_record rec a (sym (get_or-set_same r.records number (Some rec) None none.0) ∙ a_is) in
+            let one = same_record rec a (sym (get_or-set_same r.records number (Some rec) None l.within) ∙ a_is) in
             let two = same_record found.0 s (sym found.1 ∙ sym (entry y other) ∙ s_is) in
             let newer = newest y s (sym (entry y other) ∙ s_is) (ap (λ f. f.page) (sym two) ∙ found.2) in
             rw (← one) newer)
             (rw here at old))
         | inr other ↦
-            let same = get_or-set_other rest.lists rec.page p (number ∷ list_of rest rec.page) [] other ∙ rest_list p (λ e. omega (arith, p_low)) in
+            let same = get_or-set_other rest.lists rec.page p (number ∷ list_of rest rec.page) [] other ∙ l.lists p (λ e. omega (arith, p_low)) in
             rw same old
       ]
 
-  pub numbered : AreDisjoint with_it → AreNumbered (record r { records = set r.records number (Some rec); lists = with_it })
-  numbered its_disjoint = renumbered r h number (Some rec) with_it none.0 refl its_disjoint (length-set rest.lists rec.page _ ∙ rest_keys) has_it
-      (λ its e. rw (← same_record rec its e) low) its_falls
+  pub numbered : AreDisjoint with_it → AreNumbered (record r { records = set r.records number (Some rec); lists = with_it; unused = used })
+  numbered its_disjoint = renumbered r h number (Some rec) with_it l.within l.places its_disjoint (length-set rest.lists rec.page _ ∙ l.keys) used l.most
+      l.grows has_it (λ its e. rw (← same_record rec its e) low) its_falls
 
   pub numbered_pages : take r.pages with_it.lists ≡ set (take r.pages r.lists.lists) rec.page (number ∷ numbers_at
       (take r.pages r.lists.lists) rec.page)
   numbered_pages =
       take_set r.pages rest.lists rec.page (number ∷ list_of rest rec.page)
-      ∙ ap (λ xs. set xs rec.page (number ∷ list_of rest rec.page)) (take-set-le r.pages r.lists.lists r.pages _ (omega arith))
-      ∙ ap (λ xs. set (take r.pages r.lists.lists) rec.page (number ∷ xs)) (rest_list rec.page apart ∙ sym (page_list r rec.page low))
+      ∙ ap (λ xs. set xs rec.page (number ∷ list_of rest rec.page)) l.front
+      ∙ ap (λ xs. set (take r.pages r.lists.lists) rec.page (number ∷ xs)) (l.lists rec.page apart ∙ sym (page_list r rec.page low))
 
 -- a number loses its record
 module _ (r : Inside) (h : AreNumbered r) (number : ℕ) (rec : Rec) (is : record_at r.records number ≡ Some rec)
@@ -246,9 +310,15 @@ module _ (r : Inside) (h : AreNumbered r) (number : ℕ) (rec : Rec) (is : recor
             rw same (list_falls r p h low)
       ])
 
+  used : number < r.unused
+  used = elim (cases_lt number r.unused) [
+    | inl low ↦ low
+    | inr past ↦ absurd (let no : None ≡ Some rec = sym (h.fresh number past) ∙ is in cc)
+  ]
+
   pub unnumbered : AreDisjoint freed → AreNumbered (record r { records = set r.records number None; lists = freed })
-  unnumbered its_disjoint = renumbered r h number None freed within refl its_disjoint (length-set left.lists r.pages _ ∙ left_keys) has_left
-      (λ its e. absurd (cc)) left_falls
+  unnumbered its_disjoint = renumbered r h number None freed within refl its_disjoint (length-set left.lists r.pages _ ∙ left_keys) r.unused h.unused
+      (λ y. (λ low. inl low, λ either. elim either [ inl low ↦ low | inr e ↦ rw e used ])) has_left (λ its e. absurd (cc)) left_falls
 
   pub unnumbered_pages : take r.pages freed.lists
       ≡ set (take r.pages r.lists.lists) rec.page (remove (numbers_at (take r.pages r.lists.lists) rec.page) (index_in (numbers_at
@@ -258,100 +328,62 @@ module _ (r : Inside) (h : AreNumbered r) (number : ℕ) (rec : Rec) (is : recor
       ∙ take_set r.pages r.lists.lists rec.page _
       ∙ ap (λ xs. set (take r.pages r.lists.lists) rec.page (remove xs (index_in xs number))) (sym (page_list r rec.page listed.0))
 
--- while the last numbers are put into the list of those without a record
-pub record HasLast (pages count number : ℕ) (c : ChainLists) : Type 0 where
-  pub places : c.places ≡ count
-  pub keys : length c.lists ≡ pages + 1
-  pub disjoint : AreDisjoint c
-  pub free : (y : ℕ) → Contains (list_of c pages) y ↔ ((count ≤ y + number) × (y < count))
-  pub others : (k : ℕ) → k ≢ pages → list_of c k ≡ []
+-- where all lists are empty, no number has a record
+module _ (r : Inside) (count : ℕ) (lists : r.lists ≡ empty_lists (r.pages + 1) count) where
+  empty : (k : ℕ) → list_of r.lists k ≡ []
+  empty k = rw lists (elim (cases_lt k (r.pages + 1)) [
+    | inl low ↦ get_or-replicate {A = List ℕ} (r.pages + 1) k [] [] low
+    | inr past ↦ get_or_past {X = List ℕ} (replicate (r.pages + 1) []) k [] (rw (length-replicate {A = List ℕ} (r.pages + 1) []) past)
+  ])
 
-pub first_none : (pages count : ℕ) → HasLast pages count 0 (empty_lists (pages + 1) count)
-first_none pages count = record {
-  places = refl;
-  keys = length-replicate {A = List ℕ} (pages + 1) [];
-  disjoint = record {
-    within = λ k y has. absurd (Contains-nil y (rw (empty k) at has));
-    apart = λ k j y has other. absurd (Contains-nil y (rw (empty k) at has));
-    once = λ k i j d less low. absurd (let none = empty k in let no = rw none at low in omega arith);
-  };
-  free = λ y. (λ has. absurd (Contains-nil y (rw (empty pages) at has)), λ both. absurd (let low = both.0 in let high = both.1 in omega arith));
-  others = λ k other. empty k;
-}
-  where
-    empty : (k : ℕ) → list_of (empty_lists (pages + 1) count) k ≡ []
-    empty k = elim (cases_lt k (pages + 1)) [
-      | inl low ↦ get_or-replicate {A = List ℕ} (pages + 1) k [] [] low
-      | inr past ↦ get_or_past {X = List ℕ} (replicate (pages + 1) []) k [] (rw (length-replicate {A = List ℕ} (pages + 1) []) past)
-    ]
+  keys : length r.lists.lists ≡ r.pages + 1
+  keys = rw lists (length-replicate {A = List ℕ} (r.pages + 1) [])
 
-module _ (pages count number at : ℕ) (c : ChainLists) (h : HasLast pages count number c) (place : at + number + 1 ≡ count) where
-  pub first_unlisted : IsListed c at → ⊥
-  first_unlisted (k, has) = elim (cases_eq k pages) [
-    | inl here ↦ (let low = (h.free at).0 (rw here at has) in let least = low.0 in omega arith)
-    | inr other ↦ Contains-nil at (rw (h.others k other) at has)
-  ]
+  pub none_numbered : r.records ≡ replicate count None → r.unused ≡ 0 → count ≤ 65536 → r.pages ≤ 65536 → AreNumbered r
+  none_numbered none unused small few = record {
+    small = rw long small;
+    few = few;
+    places = rw lists (sym long);
+    keys = keys;
+    disjoint = record {
+      within = λ k y has. absurd (Contains-nil y (rw (empty k) at has));
+      apart = λ k j y has other. absurd (Contains-nil y (rw (empty k) at has));
+      once = λ k i j d less low. absurd (let no = rw (empty k) at low in omega arith);
+    };
+    versions = record {
+      page = λ p y is. absurd (Contains-nil y (rw (no_list p) at is));
+      listed = λ y rec is. absurd (let no : None ≡ Some rec = sym (no_record y) ∙ is in cc);
+      falls = λ p. rw (no_list p) (λ i j d less low. absurd (omega arith));
+    };
+    unused = omega (arith, unused);
+    fresh = λ y past. no_record y;
+    free = λ y. (λ has. absurd (Contains-nil y (rw (empty r.pages) at has)), λ both. absurd (let low = both.0 in omega arith));
+  }
+    where
+      long : length r.records ≡ count
+      long = rw none (length-replicate {A = Option Rec} count None)
 
-  pub first_more : AreDisjoint (with_first c pages at) → HasLast pages count (number + 1) (with_first c pages at)
-  first_more its_disjoint =
-      let low : pages < length c.lists = omega (arith, h.keys) in
-      record {
-        places = h.places;
-        keys = length-set c.lists pages _ ∙ h.keys;
-        disjoint = its_disjoint;
-        free = λ y.
-            let either = in_with_first c pages at low pages y in (
-              λ has. elim (either.0 has) [
-                | inl both ↦ (let e = both.1 in (omega arith, omega arith))
-                | inr old ↦ (let both = (h.free y).0 old in let least = both.0 in let high = both.1 in (omega arith, omega arith))
-              ],
-              λ both. let least = both.0 in let high = both.1 in
-                  elim (cases_eq y at) [ inl e ↦ either.1 (inl (refl, e)) | inr other ↦ either.1 (inr ((h.free y).1 (omega arith, omega arith))) ],
-            );
-        others = λ k other. get_or-set_other c.lists pages k _ [] other ∙ h.others k other;
-      }
+      no_record : (y : ℕ) → record_at r.records y ≡ None
+      no_record y = rw none (elim (cases_lt y count) [
+        | inl low ↦ get_or-replicate {A = Option Rec} count y None None low
+        | inr past ↦ get_or_past {X = Option Rec} (replicate count None) y None (rw (length-replicate {A = Option Rec} count None) past)
+      ])
 
--- then no number has a record
-pub none_numbered : (r : Inside) (count : ℕ) → HasLast r.pages count count r.lists → r.records ≡ replicate count None → count ≤ 65536
-    → r.pages ≤ 65536 → AreNumbered r
-none_numbered r count h none small few = record {
-  small = rw long small;
-  few = few;
-  places = h.places ∙ sym long;
-  keys = h.keys;
-  disjoint = h.disjoint;
-  versions = record {
-    page = λ p y is. absurd (Contains-nil y (rw (no_list p) at is));
-    listed = λ y rec is. absurd (let no : None ≡ Some rec = sym (no_record y) ∙ is in cc);
-    falls = λ p. rw (no_list p) (λ i j d less low. absurd (omega arith));
-  };
-  free = λ y. (λ has. (rw long ((h.free y).0 has).1, no_record y), λ both. (h.free y).1 (omega arith, rw long at both.0));
-}
-  where
-    long : length r.records ≡ count
-    long = rw none (length-replicate {A = Option Rec} count None)
+      no_list : (p : ℕ) → numbers_at (take r.pages r.lists.lists) p ≡ []
+      no_list p = elim (cases_lt p r.pages) [
+        | inl low ↦ page_list r p low ∙ empty p
+        | inr past ↦ get_or_past (take r.pages r.lists.lists) p [] (rw (length-take r.pages r.lists.lists) (omega (arith, keys)))
+      ]
 
-    no_record : (y : ℕ) → record_at r.records y ≡ None
-    no_record y = rw none (elim (cases_lt y count) [
-      | inl low ↦ get_or-replicate {A = Option Rec} count y None None low
-      | inr past ↦ get_or_past {X = Option Rec} (replicate count None) y None (rw (length-replicate {A = Option Rec} count None) past)
-    ])
-
-    no_list : (p : ℕ) → numbers_at (take r.pages r.lists.lists) p ≡ []
-    no_list p = elim (cases_lt p r.pages) [
-      | inl low ↦ page_list r p low ∙ h.others p (λ e. omega (arith, low))
-      | inr past ↦ get_or_past (take r.pages r.lists.lists) p [] (let keys = h.keys in rw (length-take r.pages r.lists.lists) (omega arith))
-    ]
-
-pub none_pages : (r : Inside) (count : ℕ) → HasLast r.pages count count r.lists → take r.pages r.lists.lists ≡ replicate r.pages []
-none_pages r count h =
-    ext_get_or [] (take r.pages r.lists.lists) (replicate r.pages []) (long ∙ sym (length-replicate {A = List ℕ} r.pages []))
-    (λ p low.
-    let lies : p < r.pages = rw long at low in
-    page_list r p lies ∙ h.others p (λ e. omega (arith, lies)) ∙ sym (get_or-replicate {A = List ℕ} r.pages p [] [] lies))
-  where
-    long : length (take r.pages r.lists.lists) ≡ r.pages
-    long = (let keys = h.keys in length-take r.pages r.lists.lists ∙ (omega arith))
+  pub none_pages : take r.pages r.lists.lists ≡ replicate r.pages []
+  none_pages =
+      ext_get_or [] (take r.pages r.lists.lists) (replicate r.pages []) (long ∙ sym (length-replicate {A = List ℕ} r.pages []))
+      (λ p low.
+      let lies : p < r.pages = rw long at low in
+      page_list r p lies ∙ empty p ∙ sym (get_or-replicate {A = List ℕ} r.pages p [] [] lies))
+    where
+      long : length (take r.pages r.lists.lists) ≡ r.pages
+      long = length-take r.pages r.lists.lists ∙ omega (arith, keys)
 
 -- a number that has a record of a page
 pub some_record : (o : Option Rec) (page : ℕ) → IsSomeAnd o (λ r. r.page ≡ page) → (rec : Rec) × (o ≡ Some rec) × (rec.page ≡ page)

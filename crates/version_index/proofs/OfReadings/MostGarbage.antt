@@ -1,9 +1,8 @@
 -- The blocks with the most garbage, by the numbers of the tables.
-use Rattle.std.proofs.Common.{◌≡◌, ℕ, ◌+◌, ◌-◌, ◌*◌, ◌<◌, ◌≤◌, ◌↔◌, Bool, true, false, not, ◌||◌, cond, List, length, get_or, drop, count_by, All, min, Option}
+use Rattle.std.proofs.Common.{◌≡◌, ℕ, ◌+◌, ◌-◌, ◌*◌, ◌<◌, ◌≤◌, ◌↔◌, Bool, true, false, not, ◌||◌, cond, List, length, get_or, count_by, All, Option}
 use Rattle.std.proofs.Common.{Some, None, IsNone, IfSome, refl, sym, ap, ◌∙◌, subst, inl, inr, arith}
 use Rattle.std.specs.List.{range_with_len}
 use Rattle.std.proofs.lemmas.Bool.{false≢true, cases_lt}
-use Rattle.std.proofs.lemmas.List.{length-take, length-drop, get_or-take, get_or-drop}
 use Rattle.std.proofs.lemmas.List.Elements.{All-contains, Contains-get_or, at_from_Contains}
 use Rattle.std.proofs.lemmas.List.FromFn.{length-map-range_with_len, get_or-map-range_with_len}
 use Rattle.list_facts.proofs.Counts.{count_more}
@@ -14,8 +13,8 @@ use Rattle.tx_types.specs.declared.config.Protocol.{Protocol}
 use Rattle.tx_types.specs.declared.config.Shape.{Shape}
 use Rattle.tx_types.specs.Config.{shape_of, blocks_of}
 use Rattle.record_list.specs.Written.{is_slot}
-use Rattle.plain_tables.specs.Greatest.{greatest, sixteen_of, IsFirstGreatest}
-use Rattle.plain_tables.proofs.GreatestNumbers.{at_most_greatest, greatest_stands}
+use Rattle.plain_tables.specs.Greatest.{greatest, group_of, IsFirstGreatest}
+use Rattle.plain_tables.proofs.GreatestNumbers.{at_most_greatest, greatest_stands, length-group, get_or-group}
 use Rattle.slot_tables.specs.Kept as kept
 use Rattle.slot_tables.specs.Kept.{Kept, use_at, garbage_numbers}
 use Rattle.version_index.specs.Notes.{note_at}
@@ -44,15 +43,6 @@ shut_most n block false = by_spare (is_slot block n.spare)
     by_spare : (spare : Bool) → cond spare 0 (counted false) ≤ cond spare 0 (counted true)
     by_spare true = omega arith
     by_spare false = more
-
--- a place of a sixteen of numbers is one of the numbers
-sixteen_long : (xs : List ℕ) (sixteen : ℕ) → length (sixteen_of xs sixteen) ≡ min 16 (length xs - 16 * sixteen)
-unfolding sixteen_of
-sixteen_long xs sixteen = length-take 16 (drop (16 * sixteen) xs) ∙ ap (min 16) (length-drop (16 * sixteen) xs)
-
-sixteen_reads : (xs : List ℕ) (sixteen j : ℕ) → j < 16 → get_or (sixteen_of xs sixteen) j 0 ≡ get_or xs (16 * sixteen + j) 0
-unfolding sixteen_of
-sixteen_reads xs sixteen j low = get_or-take 16 (drop (16 * sixteen) xs) j 0 low ∙ get_or-drop (16 * sixteen) xs j 0
 
 module _ (protocol : Protocol) (its : Config) (m : List ℕ) (k : Kept) (i : AreIndexed protocol its m k) where
   -- as many slots of a block are blank
@@ -119,42 +109,42 @@ module _ (protocol : Protocol) (its : Config) (m : List ℕ) (k : Kept) (i : Are
   finds_most None none first = none_most (none.0 refl)
   finds_most (Some block) none first = first_most block.0 (λ all. false≢true (sym (none.1 all))) first
 
-  -- and of sixteen blocks
-  pub most_among : (sixteen most : ℕ) → 16 * sixteen < blocks_of (shape_of its) → most ≡ greatest (sixteen_of (garbage_numbers k) sixteen)
-      → IsMostAmong (noted_by its m k) sixteen most
-  most_among sixteen most below is =
+  -- and of a group of blocks
+  pub most_among : (size group most : ℕ) → 0 < size → size * group < blocks_of (shape_of its)
+      → most ≡ greatest (group_of size (garbage_numbers k) group) → IsMostAmong (noted_by its m k) size group most
+  most_among size group most some below is =
       let n = noted_by its m k in
       let all = garbage_numbers k in
-      let xs = sixteen_of all sixteen in
-      let long = sixteen_long all sixteen in
+      let xs = group_of size all group in
+      let long = length-group size all group in
       let count = numbers_long in
-      let at_most : (other : ℕ) (shut : Bool) → IsAmong n sixteen other → garbage_of n other shut ≤ most =
+      let at_most : (other : ℕ) (shut : Bool) → IsAmong n size group other → garbage_of n other shut ≤ most =
       λ other shut a.
-      let j = other - 16 * sixteen in
+      let j = other - size * group in
       let first = a.first in
       let last = a.last in
       let exists = a.exists in
-      let low : j < 16 = omega arith in
-      let place : 16 * sixteen + j ≡ other = omega arith in
+      let low : j < size = omega arith in
+      let place : size * group + j ≡ other = omega arith in
       let within : j < length xs = omega arith in
       let peak = at_most_greatest xs j within in
-      let reads = sixteen_reads all sixteen j low ∙ ap (λ at. get_or all at 0) place ∙ number_is other exists in
+      let reads = get_or-group size all group j low ∙ ap (λ at. get_or all at 0) place ∙ number_is other exists in
       let less = shut_most n other shut in
       omega arith in
       elim (cases_lt 0 (greatest xs)) [
         | inl positive ↦ (
             let stands = greatest_stands xs positive in
             let within = stands.1 in
-            let low : stands.0 < 16 = omega arith in
-            let exists : 16 * sixteen + stands.0 < blocks_of (shape_of its) = omega arith in
+            let low : stands.0 < size = omega arith in
+            let exists : size * group + stands.0 < blocks_of (shape_of its) = omega arith in
             record {
-              block = 16 * sixteen + stands.0;
+              block = size * group + stands.0;
               among = record { first = omega arith; last = omega arith; exists = exists };
-              has = sym (number_is (16 * sixteen + stands.0) exists) ∙ sym (sixteen_reads all sixteen stands.0 low) ∙ stands.2 ∙ sym is;
+              has = sym (number_is (size * group + stands.0) exists) ∙ sym (get_or-group size all group stands.0 low) ∙ stands.2 ∙ sym is;
               most = at_most;
             })
         | inr zero ↦ (
-            let among : IsAmong n sixteen (16 * sixteen) = record { first = omega arith; last = omega arith; exists = below } in
-            let low = at_most (16 * sixteen) true among in
-            record { block = 16 * sixteen; among = among; has = omega arith; most = at_most })
+            let among : IsAmong n size group (size * group) = record { first = omega arith; last = omega arith; exists = below } in
+            let low = at_most (size * group) true among in
+            record { block = size * group; among = among; has = omega arith; most = at_most })
       ]

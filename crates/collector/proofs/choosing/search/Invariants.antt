@@ -3,5 +3,5 @@ use Rattle.tx_types.specs.Config.{shape_of, blocks_of}
 use Rattle.collector.specs.Best.{IsBest}
 use Rattle.collector.proofs.choosing.search.Given as goal
 
-abbrev pub invariant-loop-sixteen : goal.invariant-loop-sixteen
-invariant-loop-sixteen g l = IsBest l.index l.blocks (min (16 * l.sixteen) (blocks_of (shape_of l.index.config))) l.best
+abbrev pub invariant-loop-group : goal.invariant-loop-group
+invariant-loop-group g l = IsBest l.index l.blocks (min (256 * l.group) (blocks_of (shape_of l.index.config))) l.best

@@ -154,7 +154,7 @@ module _ (p : Protocol) (copy : CopyLaw p) (written_copy : WrittenCopyLaw p) (a 
 
   moves : (s2 : FlashState) (r : Result (Unit {0}) Broken) → Programs s1 s2 to.0 bytes spare r → FlashMoves s s2 (is_err r)
   moves s2 r e = FlashMoves-then s s1 s2 (is_err r) shape_same (FlashMoves-reads s s1 from.0 bytes spare (Ok how) false done)
-      (FlashMoves-operates s1 s2 (program to.0 bytes spare) r can e)
+      (FlashMoves-operates s1 s2 (program to.0 bytes spare) r tt can e)
 
   asks : copy_program n.config.page_bytes s.image to.0 from.0 ≡ program to.0 bytes spare
   asks = ap (λ c. program to.0 (page_of n.config.page_bytes c) (spare_area_of c)) source

@@ -9,4 +9,4 @@ invariant_of-self c =
     let t = c.self.inside in
     rw c.settle_home.ensures
     (record_set t c.self.invariant c.add-number.result c.add-number.new.self _ (ap (λ n. n.records) c.add-number.ensures.added)
-    (ap (λ n. length n.pages) c.add-number.ensures.added ∙ length-set t.given.records.pages c.args.rec.page _) c.add-number.ensures.versions)
+    (ap (λ n. length n.pages) c.add-number.ensures.added ∙ length-set t.given.records.pages c.args.rec.now.page _) c.add-number.ensures.versions)

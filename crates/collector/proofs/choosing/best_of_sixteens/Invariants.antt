@@ -1,0 +1,6 @@
+use Rattle.std.proofs.Common.{◌*◌, min}
+use Rattle.collector.specs.Best.{IsBest}
+use Rattle.collector.proofs.choosing.best_of_sixteens.Given as goal
+
+abbrev pub invariant-loop-sixteen : goal.invariant-loop-sixteen
+invariant-loop-sixteen g l = IsBest l.index l.blocks (min (16 * l.sixteen) l.count) l.best
