@@ -1,4 +1,5 @@
 pub mod Groups
+pub mod OneVersion
 pub mod StraddlerGroups
 pub mod Straddlers
 pub mod Narrowed

@@ -3,19 +3,19 @@ ghost use Rattle.tx_types.specs.declared.config.Protocol.TheVariants.{Bpcc};
 ghost use Rattle.record_list.specs.Records.{greatest, name_of, record_at, has_name, is_present, newest, next_older};
 ghost use Rattle.record_list.specs.Verdict.{link_of, back_of, straddling, why};
 ghost use Rattle.record_list.specs.Current.{cur, responsible, straddling_upto};
-ghost use Rattle.record_chart.specs.Charts.{IsInOrder, Sorts, IsOrbitOfNewest};
+ghost use Rattle.record_chart.specs.Charts.{IsInOrder, Sorts, list_of, IsOrbitOfNewest};
 ghost use Rattle.record_chart.specs.Minima.{AreMinima};
 ghost use Rattle.record_chart.specs.NameGraph.{name_graph};
 ghost use Rattle.record_chart.specs.Orbits.{IsGraph};
 
-use crate::arrange::arranged;
+use crate::arrange::{arranged, is_in_order};
 use crate::group::{straddling, straddling_up_to, straddling_up_to_bound};
 use crate::in_order::{
     back_of, find, find_near, first_namesake, link_of, named, newest, next_older,
 };
 use crate::minima::minima_of_many;
 use crate::search::page_starts;
-use crate::walks::{links, shown, targets};
+use crate::walks::{orbits_of_newest, shown, targets};
 use crate::{Orbit, Orbits};
 use record_list::{Found, Verdict, Why};
 use std::alloc::{AllocError, Global};
@@ -30,6 +30,13 @@ pub struct Chart {
     least: Option<Vec<u64>>,
     targets: Vec<Option<u32>>,
     orbits: Orbits,
+}
+
+/// A chart of a list, and the list where it is not in order: where it is, the chart has it.
+#[derive(Debug, Drop)]
+pub struct Charted {
+    pub chart: Chart,
+    pub list: Option<Vec<Found>>,
 }
 
 impl Model for Chart {
@@ -51,15 +58,60 @@ impl Chart {
     pub fn of(alloc: Global, list: &[Found]) -> Result<Chart, AllocError>
         ensures { IfOk result (λ chart. Sorts list.now chart) }
     {
+        Chart::of_lent(alloc, list, Protocol::Bpcc)
+    }
+
+    /// The same of a list that is handed over: the chart keeps it where it is in order, and else it is given back.
+    /// Straddlers are quick to find under Back Pointer Cyclic Commit alone, which asks for them.
+    pub fn of_own(
+        alloc: Global,
+        list: Vec<Found>,
+        protocol: Protocol,
+    ) -> Result<Charted, AllocError>
+        ensures sorts { IfOk result (λ charted. Sorts list.items charted.chart) }
+        ensures list { IfOk result (λ charted. list_of charted.list charted.chart ≡ list.items) }
+    {
+        if list.len() <= u32::MAX as usize && is_in_order(&list) {
+            return Ok(Charted {
+                chart: Chart::of_ordered(alloc, list, protocol)?,
+                list: None,
+            });
+        }
+        Ok(Charted {
+            chart: Chart::of_lent(alloc, &list, protocol)?,
+            list: Some(list),
+        })
+    }
+
+    /// Puts the records of a list in order, and finds where their links lead, and what this protocol asks for.
+    fn of_lent(alloc: Global, list: &[Found], protocol: Protocol) -> Result<Chart, AllocError>
+        ensures { IfOk result (λ chart. Sorts list.now chart) }
+    {
         if list.len() > u32::MAX as usize {
             return Err(AllocError);
         }
         let records = arranged(alloc, list)?;
+        Chart::of_ordered(alloc, records, protocol)
+    }
+
+    /// Finds where the links of records lead that are in order, and, under Back Pointer Cyclic Commit alone,
+    /// which asks for straddlers, the least back versions of many.
+    fn of_ordered(
+        alloc: Global,
+        records: Vec<Found>,
+        protocol: Protocol,
+    ) -> Result<Chart, AllocError>
+        requires order { IsInOrder records.items }
+        requires few { length records.items < 2 ^ 32 }
+        ensures { IfOk result (λ chart. chart ≡ records.items) }
+    {
         let starts = page_starts(alloc, &records)?;
-        let least = minima_of_many(alloc, &records, &starts, &[])?;
+        let least = match protocol {
+            Protocol::Scc => None,
+            Protocol::Bpcc => minima_of_many(alloc, &records, &starts, &[])?,
+        };
         let targets = targets(alloc, &records, &starts)?;
-        let links = links(alloc, &records, &starts, &targets)?;
-        let orbits = Orbits::new(alloc, &links)?;
+        let orbits = orbits_of_newest(alloc, &records, &starts, &targets)?;
         Ok(Chart {
             records,
             starts,
@@ -67,6 +119,16 @@ impl Chart {
             targets,
             orbits,
         })
+    }
+
+    /// The list of which the chart was made: that which was given back, if one was.
+    pub fn list_of<'a>(&'a self, list: &'a Option<Vec<Found>>) -> &'a [Found]
+        ensures { result.now ≡ list_of list.now self.now }
+    {
+        match list {
+            Some(list) => list.as_slice(),
+            None => self.records(),
+        }
     }
 
     /// The records, in order.
@@ -150,7 +212,7 @@ impl Chart {
     pub fn straddling(&self, name: Link) -> u64
         ensures { result ≡ straddling self.now name }
     {
-        straddling(&self.records, &self.starts, &self.least, name)
+        straddling(&self.records, &self.starts, &self.least, name, &mut 0)
     }
 
     /// The link of the first record with this name, and the name itself where no record has it.
@@ -188,12 +250,19 @@ impl Chart {
     pub fn why(&self, protocol: Protocol, logical: u32, page: u32) -> Why
         ensures { result ≡ why protocol self.now logical page }
     {
-        self.why_of_newest(protocol, logical, page, self.newest(page))
+        self.why_of_newest(protocol, logical, page, self.newest(page), &mut 0)
     }
 
     /// What decides the verdict on the newest record of a page, of which this is the version.
     #[inline(always)]
-    fn why_of_newest(&self, protocol: Protocol, logical: u32, page: u32, version: u64) -> Why
+    fn why_of_newest(
+        &self,
+        protocol: Protocol,
+        logical: u32,
+        page: u32,
+        version: u64,
+        near: &mut usize,
+    ) -> Why
         requires { version ≡ newest self.now page }
         ensures { result ≡ why protocol self.now logical page }
     {
@@ -205,6 +274,7 @@ impl Chart {
                 &self.least,
                 logical,
                 orbit,
+                near,
             ),
             None => Why::Cycle,
         }
@@ -215,9 +285,23 @@ impl Chart {
     pub fn current(&self, protocol: Protocol, logical: u32, page: u32) -> u64
         ensures { result ≡ cur protocol self.now logical page }
     {
+        self.current_near(protocol, logical, page, &mut 0)
+    }
+
+    /// The same, where the search for a straddler may well end beside the place at which the last one ended.
+    #[inline(always)]
+    pub(crate) fn current_near(
+        &self,
+        protocol: Protocol,
+        logical: u32,
+        page: u32,
+        near: &mut usize,
+    ) -> u64
+        ensures { result ≡ cur protocol self.now logical page }
+    {
         let version = self.newest(page);
         match self
-            .why_of_newest(protocol, logical, page, version)
+            .why_of_newest(protocol, logical, page, version, near)
             .verdict()
         {
             Verdict::Committed => version,
@@ -248,19 +332,21 @@ impl Chart {
     }
 
     /// The greatest version, up to the bound of its page, of a record that straddles this name, 0 for none,
-    /// by the least back versions of the records up to their bounds, where they are noted.
+    /// by the least back versions of the records up to their bounds, where they are noted. The search may
+    /// well end beside the place at which the last one ended.
     pub(crate) fn straddling_up_to_bound(
         &self,
         tops: &[u64],
         least: &Option<Vec<u64>>,
         name: Link,
+        near: &mut usize,
     ) -> u64
         requires minima { IfSome least.now (λ m. AreMinima self.now tops.now m.items) }
         requires bound { name.page < length tops.now }
         ensures { result
             ≡ greatest (straddling_upto (slice_index_or tops.now name.page 0) name) self.now }
     {
-        straddling_up_to_bound(&self.records, &self.starts, tops, least, name)
+        straddling_up_to_bound(&self.records, &self.starts, tops, least, name, near)
     }
 
     /// Under Back Pointer Cyclic Commit the version of the record that is responsible for the loose

@@ -9,16 +9,22 @@ ghost use Rattle.record_chart.specs.Minima.{AreMinima};
 ghost use Rattle.record_chart.specs.Starts.{AreStarts};
 
 use crate::in_order::{names_up_to, newest};
-use crate::minima::{count_below, last_above};
+use crate::minima::{count_below_near, last_above};
 use crate::search::{pages_below, pages_up_to};
 use record_list::Found;
 use straddle_sets::{responsible_of, straddles};
 use tx_types::Link;
 
 /// The greatest version of a record that straddles this name, 0 for none: there is none where the page has no
-/// newer version.
+/// newer version. The search may well end beside the place at which the last one ended.
 #[inline(always)]
-pub fn straddling(records: &[Found], starts: &[u32], least: &Option<Vec<u64>>, name: Link) -> u64
+pub fn straddling(
+    records: &[Found],
+    starts: &[u32],
+    least: &Option<Vec<u64>>,
+    name: Link,
+    near: &mut usize,
+) -> u64
     requires order { IsInOrder records.now }
     requires starts { AreStarts records.now starts.now }
     requires minima { IfSome least.now (λ m. AreMinima records.now [] m.items) }
@@ -27,7 +33,7 @@ pub fn straddling(records: &[Found], starts: &[u32], least: &Option<Vec<u64>>, n
     if newest(records, starts, name.page) <= name.version {
         return 0;
     }
-    straddling_below_newest(records, starts, least, name)
+    straddling_below_newest(records, starts, least, name, near)
 }
 
 /// The same by the least back versions of the records, where they are noted.
@@ -37,6 +43,7 @@ fn straddling_below_newest(
     starts: &[u32],
     least: &Option<Vec<u64>>,
     name: Link,
+    near: &mut usize,
 ) -> u64
     requires order { IsInOrder records.now }
     requires starts { AreStarts records.now starts.now }
@@ -44,7 +51,7 @@ fn straddling_below_newest(
     ensures { result ≡ straddling records.now name }
 {
     match least {
-        Some(least) => straddling_by_minima(records, starts, least, name),
+        Some(least) => straddling_by_minima(records, starts, least, name, near),
         None => straddling_of_few(records, starts, name),
     }
 }
@@ -74,7 +81,13 @@ fn greatest_straddling(group: &[Found], name: Link) -> u64
 }
 
 /// The same by the least back versions of the records.
-fn straddling_by_minima(records: &[Found], starts: &[u32], least: &[u64], name: Link) -> u64
+fn straddling_by_minima(
+    records: &[Found],
+    starts: &[u32],
+    least: &[u64],
+    name: Link,
+    near: &mut usize,
+) -> u64
     requires order { IsInOrder records.now }
     requires starts { AreStarts records.now starts.now }
     requires minima { AreMinima records.now [] least.now }
@@ -82,18 +95,21 @@ fn straddling_by_minima(records: &[Found], starts: &[u32], least: &[u64], name: 
 {
     let from = pages_below(records, starts, name.page);
     let end = pages_up_to(records, starts, name.page);
-    let count = count_below(&least[from..end], name.version);
+    let count = count_below_near(&least[from..end], name.version, *near);
+    *near = count;
     last_above(records, from, count, name.version)
 }
 
 /// The greatest version, up to the bound of its page, of a record that straddles this name, 0 for none,
-/// by the least back versions of the records up to their bounds, where they are noted.
+/// by the least back versions of the records up to their bounds, where they are noted. The search may well
+/// end beside the place at which the last one ended.
 pub fn straddling_up_to_bound(
     records: &[Found],
     starts: &[u32],
     tops: &[u64],
     least: &Option<Vec<u64>>,
     name: Link,
+    near: &mut usize,
 ) -> u64
     requires order { IsInOrder records.now }
     requires starts { AreStarts records.now starts.now }
@@ -103,7 +119,7 @@ pub fn straddling_up_to_bound(
         ≡ greatest (straddling_upto (slice_index_or tops.now name.page 0) name) records.now }
 {
     match least {
-        Some(least) => straddling_by_bounds(records, starts, tops, least, name),
+        Some(least) => straddling_by_bounds(records, starts, tops, least, name, near),
         None => straddling_up_to(records, starts, name, tops[name.page as usize]),
     }
 }
@@ -115,6 +131,7 @@ fn straddling_by_bounds(
     tops: &[u64],
     least: &[u64],
     name: Link,
+    near: &mut usize,
 ) -> u64
     requires order { IsInOrder records.now }
     requires starts { AreStarts records.now starts.now }
@@ -133,7 +150,8 @@ fn straddling_by_bounds(
             ..name
         },
     );
-    let count = count_below(&least[from..end], name.version);
+    let count = count_below_near(&least[from..end], name.version, *near);
+    *near = count;
     last_above(records, from, count, name.version)
 }
 

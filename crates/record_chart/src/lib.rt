@@ -23,7 +23,7 @@ mod tests;
 mod theorems;
 mod walks;
 
-pub use chart::Chart;
+pub use chart::{Chart, Charted};
 pub use count_law::{counts, has_count, name_orbits};
 pub use in_order::sort_by_link;
 pub use orbit::Orbit;

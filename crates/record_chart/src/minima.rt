@@ -1,5 +1,5 @@
 //! Least back versions, by which the records that straddle a version are found.
-ghost use Rattle.std.specs.Prelude.{◌≡◌, ℕ, ◌+◌, ◌<◌, ◌≤◌, IfOk, IfSome, length, slice_set, slice_index_or};
+ghost use Rattle.std.specs.Prelude.{◌≡◌, ℕ, ◌+◌, ◌-◌, ◌<◌, ◌≤◌, true, IfOk, IfSome, length, slice_set, slice_index_or};
 ghost use Rattle.std.specs.List.Sorted.{IsPartitionPoint};
 ghost use Rattle.record_chart.specs.Charts.{IsInOrder};
 ghost use Rattle.record_chart.specs.Minima.{counts, AreMinima, least_from, last_above};
@@ -100,6 +100,50 @@ pub fn count_below(least: &[u64], version: u64) -> usize
     ensures first { IsPartitionPoint (λ m. m < version) (λ m. version ≤ m) least.now result }
 {
     least.partition_point(|back| *back < version)
+}
+
+/// The same, where it may well be one more than this number, or this.
+pub fn count_below_near(least: &[u64], version: u64, near: usize) -> usize
+    requires { (i j : ℕ) → i ≤ j → j < length least.now →
+        slice_index_or least.now i 0 ≤ slice_index_or least.now j 0 }
+    ensures within { result ≤ length least.now }
+    ensures first { IsPartitionPoint (λ m. m < version) (λ m. version ≤ m) least.now result }
+{
+    for count in [near.saturating_add(1), near] {
+        if are_below(least, version, count) {
+            return count;
+        }
+    }
+    count_below(least, version)
+}
+
+/// Whether so many of these numbers, which do not fall, are below a version.
+#[inline(always)]
+fn are_below(least: &[u64], version: u64, count: usize) -> bool
+    requires { (i j : ℕ) → i ≤ j → j < length least.now →
+        slice_index_or least.now i 0 ≤ slice_index_or least.now j 0 }
+    ensures within { result ≡ true → count ≤ length least.now }
+    ensures first { result ≡ true →
+        IsPartitionPoint (λ m. m < version) (λ m. version ≤ m) least.now count }
+{
+    count <= least.len() && is_below_before(least, version, count) && is_from(least, version, count)
+}
+
+/// Whether the number before this place, if there is one, is below a version.
+#[inline(always)]
+fn is_below_before(least: &[u64], version: u64, at: usize) -> bool
+    requires { at ≤ length least.now }
+    ensures { result ≡ true → 0 < at → slice_index_or least.now (at - 1) 0 < version }
+{
+    at == 0 || least[at - 1] < version
+}
+
+/// Whether the number at this place, if there is one, is not below a version.
+#[inline(always)]
+fn is_from(least: &[u64], version: u64, at: usize) -> bool
+    ensures { result ≡ true → at < length least.now → version ≤ slice_index_or least.now at 0 }
+{
+    at >= least.len() || least[at] >= version
 }
 
 /// The version of the last of these records whose least back version is below a version, where it is

@@ -110,7 +110,7 @@ pub fn names_below(records: &[Found], starts: &[u32], name: Link) -> usize
     from + count_below(&records[from..to], name)
 }
 
-/// The same, where it may well be this number or one more.
+/// The same, where it may well be one more than this number, or this.
 pub fn names_below_near(records: &[Found], starts: &[u32], name: Link, near: usize) -> usize
     requires order { IsInOrder records.now }
     requires starts { AreStarts records.now starts.now }
@@ -118,7 +118,7 @@ pub fn names_below_near(records: &[Found], starts: &[u32], name: Link, near: usi
     ensures first { IsPartitionPoint (λ f. is_below (name_of f.rec) name ≡ true)
         (λ f. is_below (name_of f.rec) name ≡ false) records.now result }
 {
-    for count in [near, near.saturating_add(1)] {
+    for count in [near.saturating_add(1), near] {
         if are_names_below(records, name, count) {
             return count;
         }

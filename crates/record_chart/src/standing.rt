@@ -106,9 +106,16 @@ impl Standing {
     pub fn responsible(&self, name: Link) -> u64
         ensures { result ≡ responsible self.now.protocol self.now.list self.now.logical name }
     {
+        self.responsible_near(name, &mut 0)
+    }
+
+    /// The same, where the search may well end beside the place at which the last one ended.
+    pub fn responsible_near(&self, name: Link, near: &mut usize) -> u64
+        ensures { result ≡ responsible self.now.protocol self.now.list self.now.logical name }
+    {
         if name.page < self.logical {
             self.chart
-                .straddling_up_to_bound(&self.current, &self.settled, name)
+                .straddling_up_to_bound(&self.current, &self.settled, name, near)
         } else {
             self.responsible_beyond(name)
         }
@@ -135,7 +142,10 @@ fn current_versions(
 ) -> Result<Vec<u64>, AllocError>
     ensures { IfOk result (λ v. v.items ≡ map (cur protocol chart.now logical) (range_with_len 0 logical)) }
 {
-    (0..logical)
-        .map(|page| chart.current(protocol, logical, page))
-        .collect(alloc)
+    let mut versions = Vec::with_capacity(alloc, logical as usize)?;
+    let mut near = 0;
+    for page in 0..logical {
+        versions.push_reserved(chart.current_near(protocol, logical, page, &mut near));
+    }
+    Ok(versions)
 }

@@ -1,15 +1,16 @@
 //! Where the walks along the links of newest records lead, in records that are in order of their names.
-ghost use Rattle.std.specs.Prelude.{◌≡◌, ◌<◌, ◌^◌, [], IfOk, IfSome, length, map, position, take};
+ghost use Rattle.std.specs.Prelude.{◌≡◌, ◌<◌, ◌^◌, true, [], IfOk, IfSome, length, map, position, take};
 ghost use Rattle.record_list.specs.Records.{has_name, record_at};
 ghost use Rattle.record_list.specs.Verdict.{passed};
 ghost use Rattle.record_chart.specs.Minima.{AreMinima};
-ghost use Rattle.record_chart.specs.Charts.{IsInOrder, EndsBelow, newest_target, ending, shown};
+ghost use Rattle.record_chart.specs.Charts.{IsInOrder, HaveOneVersion, EndsBelow, newest_target, link_graph, ending, shown};
 ghost use Rattle.record_chart.specs.NameGraph.{name_graph};
+ghost use Rattle.record_chart.specs.Orbits.{AreOrbits};
 ghost use Rattle.record_chart.specs.Starts.{AreStarts};
 
-use crate::Orbit;
 use crate::group::straddling;
 use crate::in_order::{find_near, first_namesake, has_name, newest};
+use crate::{Orbit, Orbits};
 use record_list::{Found, Why};
 use std::alloc::{AllocError, Global};
 use tx_types::{Link, Protocol};
@@ -75,9 +76,45 @@ fn target(records: &[Found], starts: &[u32], at: u32, near: &mut usize) -> Optio
     }
 }
 
+/// The orbits of the links of newest records, by the places that links name: these are those to which links lead,
+/// where each record is of the newest version of its page.
+pub fn orbits_of_newest(
+    alloc: Global,
+    records: &[Found],
+    starts: &[u32],
+    targets: &[Option<u32>],
+) -> Result<Orbits, AllocError>
+    requires order { IsInOrder records.now }
+    requires starts { AreStarts records.now starts.now }
+    requires few { length records.now < 2 ^ 32 }
+    requires targets { targets.now ≡ name_graph records.now }
+    ensures { IfOk result (AreOrbits (link_graph records.now)) }
+{
+    if have_one_version(records) {
+        return Orbits::new(alloc, targets);
+    }
+    let links = links(alloc, records, starts, targets)?;
+    Orbits::new(alloc, &links)
+}
+
+/// Whether the records of each page have one version.
+fn have_one_version(records: &[Found]) -> bool
+    requires { IsInOrder records.now }
+    ensures { result ≡ true → HaveOneVersion records.now }
+{
+    for at in 1..records.len() {
+        let before = &records[at - 1].rec;
+        let rec = &records[at].rec;
+        if before.page == rec.page && before.version != rec.version {
+            return false;
+        }
+    }
+    true
+}
+
 /// For each record the place to which its link leads, by the place that it names: this, where it is that of
 /// a record of the newest version of its page.
-pub fn links(
+fn links(
     alloc: Global,
     records: &[Found],
     starts: &[u32],
@@ -108,7 +145,8 @@ fn newest_target(records: &[Found], starts: &[u32], target: Option<u32>) -> Opti
     }
 }
 
-/// What decides the verdict on the newest record of a page, from the orbit of its place.
+/// What decides the verdict on the newest record of a page, from the orbit of its place. The search for a
+/// straddler may well end beside the place at which the last one ended.
 #[inline(always)]
 pub fn shown(
     protocol: Protocol,
@@ -117,6 +155,7 @@ pub fn shown(
     least: &Option<Vec<u64>>,
     logical: u32,
     orbit: Orbit,
+    near: &mut usize,
 ) -> Why
     requires order { IsInOrder records.now }
     requires starts { AreStarts records.now starts.now }
@@ -132,6 +171,7 @@ pub fn shown(
                 starts,
                 least,
                 records[at as usize].rec.next,
+                near,
             )
         }
         Orbit::Round { length } if u64::from(length) <= u64::from(logical) + 1 => Why::Cycle,
@@ -147,6 +187,7 @@ fn ending(
     starts: &[u32],
     least: &Option<Vec<u64>>,
     link: Link,
+    near: &mut usize,
 ) -> Why
     requires order { IsInOrder records.now }
     requires starts { AreStarts records.now starts.now }
@@ -154,7 +195,7 @@ fn ending(
     ensures { result ≡ ending protocol records.now link }
 {
     if link.version < newest(records, starts, link.page) {
-        passed(protocol, records, starts, least, link)
+        passed(protocol, records, starts, least, link, near)
     } else {
         Why::Absent
     }
@@ -167,6 +208,7 @@ fn passed(
     starts: &[u32],
     least: &Option<Vec<u64>>,
     link: Link,
+    near: &mut usize,
 ) -> Why
     requires order { IsInOrder records.now }
     requires starts { AreStarts records.now starts.now }
@@ -175,7 +217,7 @@ fn passed(
 {
     match protocol {
         Protocol::Scc => Why::Passed,
-        Protocol::Bpcc => match straddling(records, starts, least, link) {
+        Protocol::Bpcc => match straddling(records, starts, least, link, near) {
             0 => Why::Passed,
             version => Why::Straddled(version),
         },

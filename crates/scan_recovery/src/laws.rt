@@ -16,6 +16,14 @@ use record_list::{Breach, Found, breach_at};
 use std::alloc::{AllocError, Global};
 use tx_types::{Link, Protocol};
 
+/// Where the last searches ended: for the place that a link names, and for the record that is responsible for those
+/// which link to a name.
+#[derive(Drop)]
+struct Near {
+    link: usize,
+    responsible: usize,
+}
+
 /// The first of laws 3 to 7 that is broken, and the slot that it names. The list keeps laws 1 and 2.
 pub fn first_breach(
     alloc: Global,
@@ -70,7 +78,10 @@ fn are_kept(standing: &Standing, orbits: &Option<Orbits>, records: &[Found]) -> 
     requires { KnowsOrbits standing.now orbits.now }
     ensures { result ≡ true → AreKept standing.now records.now }
 {
-    let mut near = 0;
+    let mut near = Near {
+        link: 0,
+        responsible: 0,
+    };
     for found in records {
         if !is_kept(standing, orbits, found, &mut near) {
             return false;
@@ -79,9 +90,9 @@ fn are_kept(standing: &Standing, orbits: &Option<Orbits>, records: &[Found]) -> 
     true
 }
 
-/// Whether a record keeps laws 4 to 7. Its link may well lead to a place near the one before.
+/// Whether a record keeps laws 4 to 7. What is searched for may well be near what was found for the one before.
 #[inline(always)]
-fn is_kept(standing: &Standing, orbits: &Option<Orbits>, found: &Found, near: &mut usize) -> bool
+fn is_kept(standing: &Standing, orbits: &Option<Orbits>, found: &Found, near: &mut Near) -> bool
     requires { KnowsOrbits standing.now orbits.now }
     ensures { result ≡ true → IsKept standing.now found.now }
 {
@@ -96,15 +107,15 @@ fn is_kept_aside(
     standing: &Standing,
     orbits: &Option<Orbits>,
     found: &Found,
-    near: &mut usize,
+    near: &mut Near,
 ) -> bool
     requires { KnowsOrbits standing.now orbits.now }
     ensures { result ≡ true → IsKept standing.now found.now }
 {
     has_current(standing, found)
         && has_counted(standing, found)
-        && is_shown(standing, found)
-        && is_ending(standing, orbits, found, near)
+        && is_shown(standing, found, &mut near.responsible)
+        && is_ending(standing, orbits, found, &mut near.link)
 }
 
 /// The index of the first of these records that breaks law 4: where it is the newest of its page, the
@@ -174,23 +185,25 @@ fn unshown(standing: &Standing, records: &[Found]) -> Option<usize>
     ensures { let s = standing.now in
         FindsFirst (LooseIsShown s.protocol s.list s.logical) records.now result }
 {
-    records.iter().position(|found| !is_shown(standing, found))
+    records
+        .iter()
+        .position(|found| !is_shown(standing, found, &mut 0))
 }
 
 #[inline(always)]
 #[tactic(auto, unfolding(record_list::specs::SoundList::LooseIsShown))]
-fn is_shown(standing: &Standing, found: &Found) -> bool
+fn is_shown(standing: &Standing, found: &Found, near: &mut usize) -> bool
     ensures { let s = standing.now in
         IsTrue result ↔ LooseIsShown s.protocol s.list s.logical found.now }
 {
     match standing.protocol() {
         Protocol::Scc => true,
-        Protocol::Bpcc => is_shown_by_back(standing, found),
+        Protocol::Bpcc => is_shown_by_back(standing, found, near),
     }
 }
 
 #[tactic(auto, unfolding(record_list::specs::SoundList::LooseIsShown))]
-fn is_shown_by_back(standing: &Standing, found: &Found) -> bool
+fn is_shown_by_back(standing: &Standing, found: &Found, near: &mut usize) -> bool
     requires { standing.now.protocol ≡ Bpcc }
     ensures { IsTrue result ↔ LooseIsShown Bpcc standing.now.list standing.now.logical found.now }
 {
@@ -202,5 +215,5 @@ fn is_shown_by_back(standing: &Standing, found: &Found) -> bool
     let linked = standing.current(rec.next.page);
     rec.back == current
         && rec.next.version != linked
-        && (rec.next.version > linked || standing.responsible(rec.next) != 0)
+        && (rec.next.version > linked || standing.responsible_near(rec.next, near) != 0)
 }

@@ -4,7 +4,7 @@ ghost use Rattle.record_list.specs.Records.{IsScanned};
 ghost use Rattle.record_list.specs.SoundList.{PagesExist, CopiesAgree, IsSoundList};
 ghost use Rattle.record_list.specs.Written.{HasRemovable};
 ghost use Rattle.record_list.specs.Counts.{HasCounts, IsFirstMiscount};
-ghost use Rattle.record_chart.specs.Charts.{Sorts};
+ghost use Rattle.record_chart.specs.Charts.{Sorts, list_of};
 ghost use Rattle.die_alloc.specs.BlockTable.{IsBlockTable};
 ghost use Rattle.version_index.specs.Notes.{complete_slots};
 ghost use Rattle.die_alloc.specs.Opening.{used_in, opening_table, with_slots};
@@ -15,7 +15,6 @@ ghost use Rattle.scan_recovery.specs.Searches.{KnowsOrbits};
 
 use crate::RecoverError;
 use crate::laws::first_breach;
-use crate::scan::Scanned;
 use crate::spare::{chosen_spare, is_blank, slots_in};
 use die_alloc::Blocks;
 use flash_model::Seen;
@@ -27,37 +26,39 @@ use tx_types::{Block, BlockState, Config, Memory, Protocol, Shape, Slot};
 use version_index::Index;
 
 /// The tables of slots that read so and hold these records, or the first of laws 3 to 9 that the
-/// records break, and the slot that it names. They keep laws 1 and 2. The list is given back before the
-/// tables are made, which may have its place.
+/// records break, and the slot that it names. They keep laws 1 and 2. The list, where the chart does not have it, is
+/// given back before the tables are made, which may have its place.
 pub fn open_tables<R: CommitRule>(
     alloc: Global,
     config: Config,
     shape: Shape,
-    scanned: Scanned,
+    seen: Vec<Seen>,
+    list: Option<Vec<Found>>,
     standing: &Standing,
 ) -> Result<(Index<R>, Blocks), RecoverError>
     requires check { checked config ≡ Ok shape }
     requires rule { config.protocol ≡ R.protocol }
-    requires seen { length scanned.seen.items ≡ slots_of shape }
-    requires complete { map (λ f. f.slot.0) scanned.list.items ≡ complete_slots scanned.seen.items }
-    requires scanned { IsScanned scanned.list.items }
-    requires pages { All (PagesExist config.logical) scanned.list.items }
-    requires copies { All (CopiesAgree scanned.list.items) scanned.list.items }
-    requires sorts { Sorts scanned.list.items standing.now.list }
+    requires seen { length seen.items ≡ slots_of shape }
+    requires complete { map (λ f. f.slot.0) (list_of list standing.now.list)
+        ≡ complete_slots seen.items }
+    requires scanned { IsScanned (list_of list standing.now.list) }
+    requires pages { All (PagesExist config.logical) (list_of list standing.now.list) }
+    requires copies { let its = list_of list standing.now.list in All (CopiesAgree its) its }
+    requires sorts { Sorts (list_of list standing.now.list) standing.now.list }
     requires protocol { standing.now.protocol ≡ R.protocol }
     requires logical { standing.now.logical ≡ config.logical }
-    ensures sound { OnOk result
-        (IsSoundList R.protocol scanned.list.items config.logical
-        × HasRemovable R.protocol scanned.list.items config.logical shape
-        × HasCounts scanned.list.items) }
+    ensures sound { let its = list_of list standing.now.list in
+        OnOk result
+        (IsSoundList R.protocol its config.logical × HasRemovable R.protocol its config.logical shape
+        × HasCounts its) }
     ensures tables { IfOk result (λ opened.
-        IsOpenedFrom config scanned.seen.items scanned.list.items opened.0 opened.1) }
+        IsOpenedFrom config seen.items (list_of list standing.now.list) opened.0 opened.1) }
     ensures unsound { IfErr result (λ e. IfUnsound e
-        (IsBroken R.protocol scanned.list.items config.logical shape)) }
+        (IsBroken R.protocol (list_of list standing.now.list) config.logical shape)) }
     ensures no_fault { is_read_failure result ≡ false }
 {
-    let Scanned { seen, list } = scanned;
-    let spare = lawful_spare(alloc, shape, &seen, &list, standing)?;
+    let by_slot = standing.chart().list_of(&list);
+    let spare = lawful_spare(alloc, shape, &seen, by_slot, standing)?;
     drop(list);
     let mut index = Index::from_standing(alloc, config, &seen, standing)?;
     index.set_spare(spare);

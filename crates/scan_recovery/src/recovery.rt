@@ -5,7 +5,7 @@ ghost use Rattle.flash_model.specs.Operations.{moment_of};
 ghost use Rattle.version_index.specs.Images.{IsSoundImage, written_in, IsLeastImageBreach};
 ghost use Rattle.record_list.specs.SoundList.{Copies};
 ghost use Rattle.record_list.specs.Written.{KeepsWritten};
-ghost use Rattle.record_chart.specs.Charts.{Sorts};
+ghost use Rattle.record_chart.specs.Charts.{Sorts, list_of};
 ghost use Rattle.scan_recovery.specs.Scans.{IsScanOf};
 ghost use Rattle.scan_recovery.specs.Opening.{IsOpened};
 ghost use Rattle.scan_recovery.specs.Recovered.{IfUnsound, is_read_failure, ReadsFor};
@@ -15,10 +15,10 @@ use crate::opening::open_tables;
 use crate::scan::{Scanned, scan};
 use crate::twins::first_contradiction;
 use die_alloc::Blocks;
-use flash_model::Flash;
-use record_chart::{Chart, Standing};
-use record_list::{CommitRule, Found};
-use std::alloc::{AllocError, Global};
+use flash_model::{Flash, Seen};
+use record_chart::{Chart, Charted, Standing};
+use record_list::CommitRule;
+use std::alloc::Global;
 use tx_types::Config;
 use version_index::Index;
 
@@ -59,21 +59,23 @@ pub fn recover<F: Flash, R: CommitRule>(
     ensures carries { Carries (F.state flash.old) (F.state flash.new) (is_read_failure result) }
     ensures reads { ReadsFor config.protocol (F.state flash.old) (F.state flash.new) result }
 {
-    let (scanned, chart) = sound_scan(alloc, flash, config)?;
+    let (seen, charted) = sound_scan(alloc, flash, config)?;
+    let Charted { chart, list } = charted;
     let standing = Standing::new(alloc, chart, config.protocol, config.logical)?;
-    open_tables(alloc, config, flash.shape(), scanned, &standing)
+    open_tables(alloc, config, flash.shape(), seen, list, &standing)
 }
 
-/// Scans the flash, puts the records in order of their names, and tries laws 1 and 2.
+/// Scans the flash, puts the records in order of their names, and tries laws 1 and 2. How the slots read, the chart,
+/// and the list of records where it is not in order.
 fn sound_scan<F: Flash>(
     alloc: Global,
     flash: &mut F,
     config: Config,
-) -> Result<(Scanned, Chart), RecoverError>
+) -> Result<(Vec<Seen>, Charted), RecoverError>
     ensures scan { let image = (F.state flash.old).image in
         IfOk result (λ s. IsScanOf config.protocol config.logical image
-        s.0.seen.items s.0.list.items) }
-    ensures sorts { IfOk result (λ s. Sorts s.0.list.items s.1) }
+        s.0.items (list_of s.1.list s.1.chart)) }
+    ensures sorts { IfOk result (λ s. Sorts (list_of s.1.list s.1.chart) s.1.chart) }
     ensures copies { let list = written_in config.protocol (F.state flash.old).image in
         OnOk result (All (KeepsWritten config.protocol list config.logical Copies) list) }
     ensures unsound { let old = F.state flash.old in
@@ -85,19 +87,15 @@ fn sound_scan<F: Flash>(
     let mut one = vec![in alloc; 0; size]?;
     let mut two = vec![in alloc; 0; size]?;
     let scanned = scan(alloc, flash, config, &mut one)?;
-    let chart = charted(alloc, &scanned.list)?;
-    match first_contradiction(flash, &scanned.list, &chart, &mut one, &mut two)? {
-        None => Ok((scanned, chart)),
+    let Scanned { seen, list } = scanned;
+    let charted = Chart::of_own(alloc, list, config.protocol)?;
+    let chart = &charted.chart;
+    let by_slot = chart.list_of(&charted.list);
+    match first_contradiction(flash, by_slot, chart, &mut one, &mut two)? {
+        None => Ok((seen, charted)),
         Some(at) => Err(RecoverError::Unsound {
             law: 2,
-            slot: scanned.list[at].slot,
+            slot: by_slot[at].slot,
         }),
     }
-}
-
-/// The records of a list in order of their names.
-fn charted(alloc: Global, list: &[Found]) -> Result<Chart, AllocError>
-    ensures { IfOk result (λ chart. Sorts list.now chart) }
-{
-    Chart::of(alloc, list)
 }

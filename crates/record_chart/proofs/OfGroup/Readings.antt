@@ -11,10 +11,10 @@ use Rattle.record_list.proofs.OfFacts.Names.{greatest_bound, greatest_least}
 use Rattle.record_chart.specs.Charts.{is_below, IsInOrder, last_version}
 use Rattle.record_chart.proofs.OfSort.Order.{below_true, below_false, later_from, page_rises}
 
-version_same : (page : ℕ) (r : Rec) → r.page ≡ page → version_of page r ≡ r.version
+pub version_same : (page : ℕ) (r : Rec) → r.page ≡ page → version_of page r ≡ r.version
 version_same page r e = rw (eq-eqb r.page page e) refl
 
-version_other : (page : ℕ) (r : Rec) → r.page ≢ page → version_of page r ≡ 0
+pub version_other : (page : ℕ) (r : Rec) → r.page ≢ page → version_of page r ≡ 0
 version_other page r e = rw (ne_eqb r.page page e) refl
 
 older_same : (page below : ℕ) (r : Rec) → r.page ≡ page → r.version < below → version_below page below r ≡ version_of page r

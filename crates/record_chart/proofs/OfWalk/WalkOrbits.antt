@@ -87,7 +87,7 @@ kept_place l link (Some i) at =
     let named : name_of (record_at l i) ≡ link = has_name_true link (record_at l i) found.1 in
     rw (at, lt-ltb i (length l) found.0) (ap (λ (n : Link). if newest l n.page == n.version then Some i else None) named)
 
-map_alike : {X Y Z : Type 0} (h : Y → Z) (f : X → Y) (g : X → Z) (xs : List X) → ((x : X) → h (f x) ≡ g x) → map h (map f xs) ≡ map g xs
+pub map_alike : {X Y Z : Type 0} (h : Y → Z) (f : X → Y) (g : X → Z) (xs : List X) → ((x : X) → h (f x) ≡ g x) → map h (map f xs) ≡ map g xs
 map_alike h f g [] same = refl
 map_alike h f g (x ∷ xs) same = ap₂ (λ y ys. y ∷ ys) (same x) (map_alike h f g xs same)
 

@@ -3,8 +3,8 @@ use Rattle.std.proofs.lemmas.Option.{slice_get-get_or}
 use Rattle.record_chart.proofs.OfGroup.StraddlerGroups.{stretch_rises, settled, bound_up, upto_is_last}
 use Rattle.record_chart.proofs.group.straddling_by_bounds.Goals as goal
 
-pub slice_bounds-count_below-count : goal.slice_bounds-count_below-count
-slice_bounds-count_below-count c =
+pub slice_bounds-count_below_near-count : goal.slice_bounds-count_below_near-count
+slice_bounds-count_below_near-count c =
     let tops = c.args.tops.now in
     let name = c.args.name in
     let from = c.pages_below-from in
@@ -12,8 +12,8 @@ slice_bounds-count_below-count c =
     bound_up c.args.records.now tops c.args.least.now name (get_or tops name.page 0) from.result end.result c.requires.order c.requires.minima
     (slice_get-get_or tops name.page 0 c.requires.bound) from.ensures.first end.ensures.first from.ensures.within end.ensures.within
 
-pub slice_bounds-count_below-start : goal.slice_bounds-count_below-start
-slice_bounds-count_below-start c =
+pub slice_bounds-count_below_near-start : goal.slice_bounds-count_below_near-start
+slice_bounds-count_below_near-start c =
     let tops = c.args.tops.now in
     let name = c.args.name in
     let from = c.pages_below-from in
@@ -24,8 +24,8 @@ slice_bounds-count_below-start c =
     let size = c.requires.minima.size in
     search rules
 
-pub count_below-count-requires : goal.count_below-count-requires
-count_below-count-requires c =
+pub count_below_near-count-requires : goal.count_below_near-count-requires
+count_below_near-count-requires c =
     let l = c.args.records.now in
     let tops = c.args.tops.now in
     let name = c.args.name in
@@ -45,4 +45,4 @@ returns c =
     c.last_above.ensures
     ∙ upto_is_last l tops c.args.least.now name (get_or tops name.page 0) from.result end.result c.requires.order c.requires.minima
     (slice_get-get_or tops name.page 0 c.requires.bound) from.ensures.first end.ensures.first from.ensures.within end.ensures.within
-    c.count_below-count.result c.count_below-count.ensures.within c.count_below-count.ensures.first
+    c.count_below_near-count.result c.count_below_near-count.ensures.within c.count_below_near-count.ensures.first

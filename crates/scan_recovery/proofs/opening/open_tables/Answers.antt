@@ -8,7 +8,7 @@ use Rattle.flash_model.specs.declared.flash.Seen.{Seen}
 use Rattle.record_list.specs.declared.found.Found.{Found}
 use Rattle.record_list.specs.Records.{IsScanned}
 use Rattle.record_list.specs.SoundList.{IsSoundList}
-use Rattle.record_chart.specs.Charts.{Sorts}
+use Rattle.record_chart.specs.Charts.{Sorts, list_of}
 use Rattle.record_chart.specs.Standings as standing
 use Rattle.record_list.specs.Written.{HasRemovable}
 use Rattle.die_alloc.specs.Opening.{opening_table}
@@ -36,10 +36,10 @@ lawful_spare-requires-clause-shape g c =
 
 pub from_standing-requires-clause-scan : goal.from_standing-requires-clause-scan
 from_standing-requires-clause-scan g c =
-    let seen = c.args.scanned.seen.items in
-    let list = c.args.scanned.list.items in
-    let keeps = rw c.deref-2.ensures.value at c.in_ok-spare.ensures.sound in
-    rw c.deref-3.ensures.value (
+    let seen = c.args.seen.items in
+    let list = list_of c.args.list c.args.standing.now.list in
+    let keeps = rw (rw c.chart.ensures at c.list_of-by_slot.ensures) at c.in_ok-spare.ensures.sound in
+    rw c.deref-2.ensures.value (
       list,
       scanned c.args.config c.args.shape seen list c.args.standing.now c.requires.check c.requires.seen c.requires.complete
           c.requires.scanned c.requires.sorts c.requires.protocol c.requires.logical keeps.0,
@@ -52,11 +52,11 @@ block_table-requires-clause-shape g c =
 
 pub set_spare-requires : goal.set_spare-requires
 set_spare-requires g c =
-    let seen = c.args.scanned.seen.items in
-    let list = c.args.scanned.list.items in
+    let seen = c.args.seen.items in
+    let list = list_of c.args.list c.args.standing.now.list in
     let spare = c.in_ok-spare.spare.0 in
-    let keeps = rw c.deref-2.ensures.value at c.in_ok-spare.ensures.sound in
-    let noted = rw c.deref-3.ensures.value at c.in_ok-index.ensures in
+    let keeps = rw (rw c.chart.ensures at c.list_of-by_slot.ensures) at c.in_ok-spare.ensures.sound in
+    let noted = rw c.deref-2.ensures.value at c.in_ok-index.ensures in
     let is = noted list (scanned c.args.config c.args.shape seen list c.args.standing.now c.requires.check c.requires.seen c.requires.complete
     c.requires.scanned c.requires.sorts c.requires.protocol c.requires.logical keeps.0) in
     let below : spare < blocks_of c.args.shape = elim c.in_ok-spare.ensures.spare [ inl high ↦ high.exists | inr high ↦ high.1.exists ] in
@@ -65,8 +65,8 @@ set_spare-requires g c =
 
 pub returns-clause-sound : goal.returns-clause-sound
 returns-clause-sound g c =
-    let list = c.args.scanned.list.items in
-    let keeps = rw c.deref-2.ensures.value at c.in_ok-spare.ensures.sound in (
+    let list = list_of c.args.list c.args.standing.now.list in
+    let keeps = rw (rw c.chart.ensures at c.list_of-by_slot.ensures) at c.in_ok-spare.ensures.sound in (
       subst₂ (λ p logical. IsSoundList p list logical) c.requires.protocol c.requires.logical keeps.0,
       subst₂ (λ p logical. HasRemovable p list logical c.args.shape) c.requires.protocol c.requires.logical keeps.1,
       keeps.2,
@@ -77,13 +77,13 @@ returns-clause-tables g c =
     let config = c.args.config in
     let standing = c.args.standing.now in
     let spare = c.in_ok-spare.spare.0 in
-    let seen = c.args.scanned.seen.items in
-    let list = c.args.scanned.list.items in
+    let seen = c.args.seen.items in
+    let list = list_of c.args.list c.args.standing.now.list in
     let same = (checked_config config c.args.shape c.requires.check).1 in
-    let keeps = rw c.deref-2.ensures.value at c.in_ok-spare.ensures.sound in
-    let chosen = rw (c.deref.ensures.value, c.deref-2.ensures.value) at c.in_ok-spare.ensures.spare in
-    let noted = rw c.deref-3.ensures.value at c.in_ok-index.ensures in
-    let table = rw c.deref-4.ensures.value at c.in_ok-blocks.ensures in
+    let keeps = rw (rw c.chart.ensures at c.list_of-by_slot.ensures) at c.in_ok-spare.ensures.sound in
+    let chosen = rw (c.deref.ensures.value, (rw c.chart.ensures at c.list_of-by_slot.ensures)) at c.in_ok-spare.ensures.spare in
+    let noted = rw c.deref-2.ensures.value at c.in_ok-index.ensures in
+    let table = rw c.deref-3.ensures.value at c.in_ok-blocks.ensures in
     record {
       spare = spare;
       chosen = subst (λ n. IsChosenFrom config.protocol n (shape_of config) seen list spare) c.requires.logical

@@ -4,7 +4,7 @@ use Rattle.std.proofs.lemmas.List.FromFn.{get_or-map-range_with_len, length-map-
 use Rattle.record_list.specs.Records.{greatest}
 use Rattle.record_list.specs.Current.{cur, straddling_upto, responsible}
 use Rattle.record_chart.specs.Standings.{Judged}
-use Rattle.record_chart.proofs.standing.Standing.responsible.Goals as goal
+use Rattle.record_chart.proofs.standing.Standing.responsible_near.Goals as goal
 
 pub straddling_up_to_bound-requires-clause-bound : goal.straddling_up_to_bound-requires-clause-bound
 straddling_up_to_bound-requires-clause-bound c =
