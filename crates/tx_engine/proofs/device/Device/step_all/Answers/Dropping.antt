@@ -133,15 +133,18 @@ drops_fired {F} state S S1 S2 O O1 O2 u st size d =
         refl,
       );
       mentions = mentions_back old (standing_in state S1 O1) image refl config st.exits.tables d.mentions;
-      moves = inr (refl, record {
-        between = moment_of (state S1.flash);
-        moves = st.exits.moves;
-        loads = loads_for S1.noted O1 0 (jobs_of S1.noted (chosen_now S1 O1));
-        can = subst (λ (sh : Shape). CanDo sh (state S1.flash).image (fire (loads_for S1.noted O1 0 (jobs_of S1.noted (chosen_now S1 O1)))))
-            st.exits.carries.shape d.can;
-        torn = subst (λ (sh : Shape). Torn sh (moment_of (state S1.flash)) (fire (loads_for S1.noted O1 0 (jobs_of S1.noted (chosen_now S1 O1))))
-            (moment_of (state S2.flash))) st.exits.carries.shape d.torn;
-      });
+      moves = inr (
+        refl,
+        record {
+          between = moment_of (state S1.flash);
+          moves = st.exits.moves;
+          loads = loads_for S1.noted O1 0 (jobs_of S1.noted (chosen_now S1 O1));
+          can = subst (λ (sh : Shape). CanDo sh (state S1.flash).image (fire (loads_for S1.noted O1 0 (jobs_of S1.noted (chosen_now S1 O1)))))
+              st.exits.carries.shape d.can;
+          torn = subst (λ (sh : Shape). Torn sh (moment_of (state S1.flash)) (fire (loads_for S1.noted O1 0 (jobs_of S1.noted (chosen_now S1 O1))))
+              (moment_of (state S2.flash))) st.exits.carries.shape d.torn;
+        },
+      );
       carries = Carries-then (state S.flash) (state S1.flash) (state S2.flash) true st.exits.carries d.carries;
       torn = λ some. inr (
           subst (λ (loads : List Load). Torn (state S.flash).shape (moment_of (state S.flash)) (fire loads) (moment_of (state S2.flash)))
