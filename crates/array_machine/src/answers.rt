@@ -1,5 +1,5 @@
 /// How a logical page reads.
-#[derive(Clone, Copy, Debug, PartialEq, Eq)]
+#[derive(Clone, Copy, PartialEq, Eq)]
 pub enum ReadAnswer {
     /// It was never written.
     Blank,
@@ -8,7 +8,7 @@ pub enum ReadAnswer {
 }
 
 /// Why a logical page was not read.
-#[derive(Clone, Copy, Debug, PartialEq, Eq)]
+#[derive(Clone, Copy, PartialEq, Eq)]
 pub enum ReadError {
     /// There is no such page.
     Range,
@@ -18,7 +18,7 @@ pub enum ReadError {
 
 /// Why a transaction was not opened. Each kind of refusal looks at the whole batch before the next kind is
 /// tried, in this order.
-#[derive(Clone, Copy, Debug, PartialEq, Eq)]
+#[derive(Clone, Copy, PartialEq, Eq)]
 pub enum SubmitError {
     /// The batch has no entry.
     Empty,
@@ -37,7 +37,7 @@ pub enum SubmitError {
 }
 
 /// How far a step brought a transaction.
-#[derive(Clone, Copy, Debug, PartialEq, Eq)]
+#[derive(Clone, Copy, PartialEq, Eq)]
 pub enum Progress {
     /// So many of all its pages are written.
     Wrote { done: u32, all: u32 },
@@ -46,7 +46,7 @@ pub enum Progress {
 }
 
 /// How far a step of several transactions at once brought them.
-#[derive(Clone, Copy, Debug, PartialEq, Eq)]
+#[derive(Clone, Copy, PartialEq, Eq)]
 pub struct Moved {
     /// So many of them went on by one step.
     pub moved: u32,
@@ -55,7 +55,7 @@ pub struct Moved {
 }
 
 /// Why a transaction did not go on.
-#[derive(Clone, Copy, Debug, PartialEq, Eq)]
+#[derive(Clone, Copy, PartialEq, Eq)]
 pub enum StepError {
     /// No open transaction has the tag.
     Unknown,
@@ -64,7 +64,7 @@ pub enum StepError {
 }
 
 /// How a transaction was given up.
-#[derive(Clone, Copy, Debug, PartialEq, Eq)]
+#[derive(Clone, Copy, PartialEq, Eq)]
 pub enum Aborted {
     /// None of its pages is in the array.
     Gone,
@@ -73,7 +73,7 @@ pub enum Aborted {
 }
 
 /// What a collection did.
-#[derive(Clone, Copy, Debug, PartialEq, Eq)]
+#[derive(Clone, Copy, PartialEq, Eq)]
 pub enum Collected {
     /// The block with the most garbage was collected.
     One,
@@ -82,5 +82,5 @@ pub enum Collected {
 }
 
 /// The flash met a fault.
-#[derive(Clone, Copy, Debug, PartialEq, Eq)]
+#[derive(Clone, Copy, PartialEq, Eq)]
 pub struct Fault;

@@ -1,5 +1,5 @@
 /// What is known of the last page of an open transaction.
-#[derive(Clone, Copy, Debug, PartialEq, Eq)]
+#[derive(Clone, Copy, PartialEq, Eq)]
 pub enum Mark {
     /// It is not written.
     Plain,

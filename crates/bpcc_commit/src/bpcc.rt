@@ -11,7 +11,7 @@ use straddle_sets::answers_for;
 use tx_types::Protocol;
 
 /// The rules of Back Pointer Cyclic Commit.
-#[derive(Clone, Copy, Debug, PartialEq, Eq)]
+#[derive(Clone, Copy, PartialEq, Eq)]
 pub struct Bpcc;
 
 impl CommitRule for Bpcc {

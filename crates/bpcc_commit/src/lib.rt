@@ -6,7 +6,5 @@
 mod audit;
 mod bpcc;
 mod loose;
-#[cfg(test)]
-mod tests;
 
 pub use bpcc::Bpcc;

@@ -8,7 +8,7 @@ use tx_types::Block;
 const MOST_SLOTS: usize = 65536;
 
 /// Room for a block of each slot, so that no call but `new` takes memory.
-#[derive(Debug, Drop)]
+#[derive(Drop)]
 pub struct BlockRoom {
     pub(crate) blocks: Vec<Block>,
     ghost enough: { MOST_SLOTS ≤ vec_capacity blocks },

@@ -2,7 +2,7 @@ use tx_types::{Block, Rec, Slot};
 
 /// The one operation whose outcome is not known, because it was broken. The tables stand as if it
 /// had not been tried.
-#[derive(Clone, Copy, Debug, PartialEq, Eq)]
+#[derive(Clone, Copy, PartialEq, Eq)]
 pub enum Unsure {
     /// There is none: the tables mirror the flash.
     Nothing,
@@ -18,7 +18,7 @@ pub enum Unsure {
 }
 
 /// What was found of an operation whose outcome was not known.
-#[derive(Clone, Copy, Debug, PartialEq, Eq)]
+#[derive(Clone, Copy, PartialEq, Eq)]
 pub enum Settled {
     /// It was not the program of a record of an open transaction, or there was none.
     Other,

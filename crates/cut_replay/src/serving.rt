@@ -24,7 +24,7 @@ use tx_engine::{Fault, Moved, held_always};
 use tx_types::{Config, Memory, Slot};
 
 /// Why the commands were not all served.
-#[derive(Clone, Copy, Debug, PartialEq, Eq)]
+#[derive(Clone, Copy, PartialEq, Eq)]
 pub enum ServeError {
     /// The image that was handed in is not sound: the first law that it breaks, and the slot that
     /// the law names.

@@ -4,7 +4,7 @@ ghost use Rattle.desk_io.specs.Desk.{DeskState, Loads, Saves, Says};
 pub const MAX_FILE_BYTES: usize = 134217728;
 
 /// Why a file was not loaded.
-#[derive(Clone, Copy, Debug, PartialEq, Eq)]
+#[derive(Clone, Copy, PartialEq, Eq)]
 pub enum LoadError {
     /// There is no file of this name.
     Missing,
@@ -17,7 +17,7 @@ pub enum LoadError {
 }
 
 /// Why bytes were not saved, or not all of them were said.
-#[derive(Clone, Copy, Debug, PartialEq, Eq)]
+#[derive(Clone, Copy, PartialEq, Eq)]
 pub enum SinkError {
     /// The desk met a fault. The file that was to be saved is not known, or any first part of the
     /// bytes was said.

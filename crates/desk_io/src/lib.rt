@@ -5,8 +5,6 @@ mod desk;
 mod memory;
 mod real;
 mod real_folder;
-#[cfg(test)]
-mod tests;
 
 pub use desk::{Desk, LoadError, MAX_FILE_BYTES, SinkError};
 pub use memory::{MemDesk, Memory};

@@ -1,7 +1,7 @@
 use tx_types::BlockState;
 
 /// What is kept of a block.
-#[derive(Clone, Copy, Debug, PartialEq, Eq)]
+#[derive(Clone, Copy, PartialEq, Eq)]
 pub struct BlockUse {
     pub state: BlockState,
     /// How many of its first slots are used.

@@ -13,7 +13,7 @@ use std::marker::Model;
 use tx_types::{Block, BlockState, Memory, Shape, Slot};
 
 /// What a device keeps of the blocks of its flash.
-#[derive(Debug, Drop)]
+#[derive(Drop)]
 pub struct Blocks {
     shape: Shape,
     /// The pages of a block, and the blocks of a die.

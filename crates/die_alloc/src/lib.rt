@@ -4,7 +4,5 @@
 mod block_use;
 mod blocks;
 mod ranks;
-#[cfg(test)]
-mod tests;
 
 pub use blocks::Blocks;

@@ -2,7 +2,7 @@ ghost use Rattle.std.specs.Prelude.{◌≡◌, ◌<◌};
 ghost use Rattle.drive_gen.specs.Generator.{next_state, high_bits};
 
 /// What draws numbers, one after the other, from the state that it has.
-#[derive(Clone, Copy, Debug)]
+#[derive(Clone, Copy)]
 pub struct Generator {
     pub state: u64,
 }

@@ -5,7 +5,7 @@ ghost use Rattle.drive_gen.specs.Kinds.{kind_of};
 use crate::generator::Generator;
 
 /// What becomes of a transaction.
-#[derive(Clone, Copy, Debug, PartialEq, Eq)]
+#[derive(Clone, Copy, PartialEq, Eq)]
 pub enum Kind {
     /// A cut is armed before it, and it is finished.
     Cut,

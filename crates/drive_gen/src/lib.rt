@@ -12,6 +12,3 @@ mod work;
 
 pub use line::summary;
 pub use work::commands;
-
-#[cfg(test)]
-mod tests;

@@ -27,9 +27,7 @@ pub fn summary(
 {
     let (tally, stats) = count_lines(replies);
     let mut line = asked(alloc, start, count, protocol, list.len())?;
-    add_counts(alloc, &tally, &mut line)?;
-    add_flash(stats, &mut line)?;
-    add_sum(alloc, tally.sum, &mut line)?;
+    add_counted(alloc, &tally, stats, &mut line)?;
     out.extend_from_slice(&line)?;
     Ok(())
 }
@@ -58,6 +56,16 @@ fn protocol_name(protocol: Protocol) -> &'static str
         Protocol::Scc => "scc",
         Protocol::Bpcc => "bpcc",
     }
+}
+
+/// Adds what the replies count to, and ends the line.
+fn add_counted(alloc: Global, tally: &Tally, stats: &[u8], line: &mut Vec<u8>) -> Result<(), Memory>
+    ensures { OnOk result (line.new.items ≡ line.old.items ++ spaced (tally_words tally.now)
+        ++ spaced (flash_words stats.now) ++ line_of (sum_words tally.now.sum)) }
+{
+    add_counts(alloc, tally, line)?;
+    add_flash(stats, line)?;
+    add_sum(alloc, tally.sum, line)
 }
 
 /// Adds how many replies of each kind there were.

@@ -8,7 +8,7 @@ use crate::words::{leading_word, word_at};
 use host_protocol::first_line;
 
 /// What is counted of the lines of replies.
-#[derive(Clone, Copy, Debug, PartialEq, Eq)]
+#[derive(Clone, Copy, PartialEq, Eq)]
 pub struct Tally {
     /// The lines `done`.
     pub done: u64,

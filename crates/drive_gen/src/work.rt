@@ -23,11 +23,26 @@ pub fn commands(
 {
     let most = most_commands(count, config.logical);
     let mut list = Vec::with_capacity(alloc, most)?;
-    add_fills(alloc, config, &mut list)?;
-    add_transactions(alloc, start, count, config, &mut list)?;
-    add_reads(config.logical, &mut list)?;
-    list.push(Command::Stats)?;
+    add_all(alloc, start, count, config, &mut list)?;
     Ok(list)
+}
+
+/// Adds the commands that a number gives.
+fn add_all(
+    alloc: Global,
+    start: u64,
+    count: u32,
+    config: Config,
+    list: &mut Vec<Command>,
+) -> Result<(), Memory>
+    requires { IsConfig config }
+    ensures { OnOk result (list.new.items ≡ list.old.items ++ generated start count config) }
+{
+    add_fills(alloc, config, list)?;
+    add_transactions(alloc, start, count, config, list)?;
+    add_reads(config.logical, list)?;
+    list.push(Command::Stats)?;
+    Ok(())
 }
 
 /// The most commands that so many transactions on so many pages may have, so that the list is not moved while it grows.

@@ -6,7 +6,7 @@ use std::io;
 use std::io::{Error, ErrorKind};
 
 /// What came of putting a new file in a place.
-#[derive(Clone, Copy, Debug, PartialEq, Eq)]
+#[derive(Clone, Copy, PartialEq, Eq)]
 pub enum Replaced {
     Done,
     /// The system gives no leave for it there. All is as before.

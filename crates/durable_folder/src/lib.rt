@@ -9,8 +9,6 @@ mod new_file;
 mod replacing;
 mod saving;
 mod settling;
-#[cfg(test)]
-mod tests;
 
 pub use folder::{Folder, Found};
 pub use saving::save;

@@ -10,7 +10,7 @@ use tx_types::{Block, Shape, Slot};
 pub const SPARE_BYTES: usize = 64;
 
 /// How a slot reads.
-#[derive(Clone, Copy, Debug, PartialEq, Eq)]
+#[derive(Clone, Copy, PartialEq, Eq)]
 pub enum Seen {
     /// Nothing was programmed since the last erase.
     Blank,
@@ -21,7 +21,7 @@ pub enum Seen {
 }
 
 /// The call was broken: it met a fault, or power went off in it or is off.
-#[derive(Clone, Copy, Debug, PartialEq, Eq)]
+#[derive(Clone, Copy, PartialEq, Eq)]
 pub struct Broken;
 
 /// A flash. A slot is programmed only while it and all later slots of its block are blank, and a block

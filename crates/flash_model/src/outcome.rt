@@ -1,5 +1,5 @@
 /// What a broken program, erase or retirement leaves.
-#[derive(Clone, Copy, Debug, PartialEq, Eq)]
+#[derive(Clone, Copy, PartialEq, Eq)]
 pub enum Outcome {
     /// All is as before.
     None,
@@ -10,7 +10,7 @@ pub enum Outcome {
 }
 
 /// A break that is to come: the operation that it will meet, counted from now on, and what it will leave.
-#[derive(Clone, Copy, Debug, PartialEq, Eq)]
+#[derive(Clone, Copy, PartialEq, Eq)]
 pub struct Arm {
     /// The number of the operation, from 1 for the next one.
     pub count: u32,

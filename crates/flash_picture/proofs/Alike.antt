@@ -21,7 +21,7 @@ use Rattle.flash_picture.specs.declared.cell.Cell.TheVariants.{Holds}
 use Rattle.flash_picture.specs.declared.marks.Marks.{Marks}
 use Rattle.flash_picture.specs.Cells.{cell_of, rank_by}
 use Rattle.flash_picture.specs.Map.{map_text}
-use Rattle.flash_picture.specs.Picture.{breach_line, cells_of, heading, picture}
+use Rattle.flash_picture.specs.Picture.{breach_line, cells_of, heading, parts, picture}
 use Rattle.flash_picture.specs.Walks.{end_of, walk_line, walks_text}
 use Rattle.flash_picture.proofs.Shown.{end_alike, line_alike}
 
@@ -54,21 +54,13 @@ module _ (list sorted : List Found) (is : Sorts list sorted) where
       ap (λ f. map f notes) (fun_ext (cell_alike its.protocol its.logical))
       ∙ ap (λ l. map (cell_of its.protocol l its.logical) notes) e
 
--- a picture that is written part by part
-pub picture_written : (its : Config) (notes : List Note) (marks : Marks) (sorted : List Found) (cells : List Cell) (old first second third all : List ℕ) →
+-- a picture that is drawn of the records in order of their names
+pub picture_drawn : (its : Config) (notes : List Note) (marks : Marks) (sorted : List Found) (cells : List Cell) (old new : List ℕ) →
     Sorts (found_in notes) sorted → cells ≡ map (cell_of its.protocol sorted its.logical) notes →
-    first ≡ old ++ heading its → second ≡ first ++ map_text (shape_of its) cells marks →
-    third ≡ second ++ walks_text its.protocol sorted its.logical → all ≡ third ++ breach_line marks.breach →
-    all ≡ old ++ picture its notes marks
+    new ≡ old ++ parts its (shape_of its) sorted cells marks → new ≡ old ++ picture its notes marks
 unfolding picture
-picture_written its notes marks sorted cells old first second third all is cells_are a b c d =
+picture_drawn its notes marks sorted cells old new is cells_are drawn =
     let list = found_in notes in
-    let drawn = map_text (shape_of its) (cells_of its notes) marks in
-    let walks = walks_text its.protocol list its.logical in
-    d ∙ ap (λ t. t ++ breach_line marks.breach)
-    (c ∙ ap₂ (λ t w. t ++ w) (b ∙ ap₂ (λ t cs. t ++ map_text (shape_of its) cs marks) a
-    (cells_are ∙ cells_alike list sorted is its notes refl))
-    (walks_alike list sorted is its.protocol its.logical)
-    ∙ ap (λ t. t ++ walks) (append_assoc old (heading its) drawn)
-    ∙ append_assoc old (heading its ++ drawn) walks)
-    ∙ append_assoc old (heading its ++ drawn ++ walks) (breach_line marks.breach)
+    drawn ∙ ap (λ t. old ++ t)
+    (ap (λ w. heading its ++ map_text (shape_of its) cells marks ++ w ++ breach_line marks.breach) (walks_alike list sorted is its.protocol its.logical)
+    ∙ ap (λ cs. parts its (shape_of its) list cs marks) (cells_are ∙ cells_alike list sorted is its notes refl))

@@ -4,8 +4,10 @@ use Rattle.std.specs.Fmt.{decimal}
 use Rattle.tx_types.specs.declared.config.Config.{Config}
 use Rattle.tx_types.specs.declared.config.Protocol.{Protocol}
 use Rattle.tx_types.specs.declared.config.Protocol.TheVariants.{Scc, Bpcc}
+use Rattle.tx_types.specs.declared.config.Shape.{Shape}
 use Rattle.tx_types.specs.Config.{shape_of}
 use Rattle.record_list.specs.declared.found.Breach.{Breach}
+use Rattle.record_list.specs.declared.found.Found.{Found}
 use Rattle.version_index.specs.declared.note.Note.{Note}
 use Rattle.version_index.specs.Notes.{found_in}
 use Rattle.flash_picture.specs.declared.cell.Cell.{Cell}
@@ -34,8 +36,11 @@ breach_line None = []
 breach_line (Some breach) =
     codes "unsound law " ++ (decimal breach.law ++ codes " slot ") ++ (decimal breach.slot.0 ++ codes "\n")
 
--- the picture of a device whose slots are noted so: the first line, the map, the walks, and the law that is broken
+-- the picture of records with these cells: the first line, the map, the walks, and the law that is broken
+abbrev pub parts : Config → Shape → List Found → List Cell → Marks → List ℕ
+parts its shape list cells marks =
+    heading its ++ map_text shape cells marks ++ walks_text its.protocol list its.logical ++ breach_line marks.breach
+
+-- the picture of a device whose slots are noted so
 unfoldable pub picture : Config → List Note → Marks → List ℕ
-picture its notes marks =
-    heading its ++ map_text (shape_of its) (cells_of its notes) marks
-    ++ walks_text its.protocol (found_in notes) its.logical ++ breach_line marks.breach
+picture its notes marks = parts its (shape_of its) (found_in notes) (cells_of its notes) marks

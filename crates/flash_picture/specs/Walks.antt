@@ -93,11 +93,14 @@ end_text TooLong = codes " too long"
 abbrev pub start_text : Link → List ℕ
 start_text start = codes "walk " ++ name_word start
 
+-- the line of a walk from a record
+abbrev pub line_text : Link → List Step → End → List ℕ
+line_text start steps end = start_text start ++ flat_map step_text steps ++ end_text end ++ 10 ∷ []
+
 -- the line of a page whose walk ends so; nothing where its newest version counts
 abbrev pub walk_line : List Found → ℕ → ℕ → Option End → List ℕ
 walk_line list logical page None = []
-walk_line list logical page (Some end) =
-    start_text (newest_name list page) ++ flat_map step_text (steps_of list logical page) ++ end_text end ++ 10 ∷ []
+walk_line list logical page (Some end) = line_text (newest_name list page) (steps_of list logical page) end
 
 abbrev pub walk_text : Protocol → List Found → ℕ → ℕ → List ℕ
 walk_text protocol list logical page = walk_line list logical page (end_of protocol list logical page)

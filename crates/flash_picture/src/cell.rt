@@ -7,7 +7,7 @@ use std::alloc::AllocError;
 use tx_types::{Link, Rec};
 
 /// What a record is by the version that is current of its page.
-#[derive(Clone, Copy, Debug, PartialEq, Eq)]
+#[derive(Clone, Copy, PartialEq, Eq)]
 pub enum Rank {
     Current,
     /// Above it.
@@ -17,7 +17,7 @@ pub enum Rank {
 }
 
 /// What a cell says of its slot.
-#[derive(Clone, Copy, Debug, PartialEq, Eq)]
+#[derive(Clone, Copy, PartialEq, Eq)]
 pub enum Cell {
     /// Nothing was programmed since the last erase.
     Blank,

@@ -5,7 +5,7 @@ ghost use Rattle.flash_picture.specs.Pieces.{beside};
 use tx_types::{Shape, Slot};
 
 /// How the cells of a picture stand.
-#[derive(Clone, Copy, Debug)]
+#[derive(Clone, Copy)]
 pub struct Grid {
     pub shape: Shape,
     /// The columns of text that a cell has.
@@ -13,7 +13,7 @@ pub struct Grid {
 }
 
 /// A place, in pixels from the left edge and from the top.
-#[derive(Clone, Copy, Debug)]
+#[derive(Clone, Copy)]
 pub struct Spot {
     pub left: u64,
     pub top: u64,

@@ -14,8 +14,6 @@ mod pieces;
 mod svg;
 mod svg_lines;
 mod svg_map;
-#[cfg(test)]
-mod tests;
 mod text;
 mod theorems;
 mod walk;

@@ -17,7 +17,7 @@ const LABEL_COLUMNS: usize = 11;
 const CELL_COLUMNS: usize = 68;
 
 /// What a map is drawn of.
-#[derive(Clone, Copy, Debug)]
+#[derive(Clone, Copy)]
 pub struct Map<'a> {
     pub shape: Shape,
     /// The cells of all slots, in order.

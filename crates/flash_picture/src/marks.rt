@@ -2,7 +2,7 @@ use record_list::Breach;
 use tx_types::Block;
 
 /// What a picture marks.
-#[derive(Clone, Copy, Debug, PartialEq, Eq)]
+#[derive(Clone, Copy, PartialEq, Eq)]
 pub struct Marks {
     /// The block that is the spare.
     pub spare: Option<Block>,

@@ -4,12 +4,12 @@ ghost use Rattle.std.specs.List.{cons_option};
 ghost use Rattle.tx_types.specs.Config.{IsShape, checked, shape_of, slots_of};
 ghost use Rattle.version_index.specs.Notes.{found_at, found_in};
 ghost use Rattle.record_chart.specs.Charts.{Sorts};
-ghost use Rattle.flash_picture.specs.Picture.{breach_line, heading, picture, protocol_word};
+ghost use Rattle.flash_picture.specs.Picture.{breach_line, heading, parts, picture, protocol_word};
 
 use crate::cells::cells;
 use crate::map::Map;
 use crate::marks::Marks;
-use crate::text::add_number;
+use crate::text::{add_number, append};
 use crate::walk::write_walks;
 use record_chart::{Chart, Standing};
 use record_list::{Breach, Found};
@@ -44,12 +44,7 @@ pub fn draw(
 {
     let mut text = Vec::new(alloc);
     write_picture(alloc, config, notes, marks, &mut text)?;
-    if out.is_empty() {
-        *out = text;
-    } else {
-        out.extend_from_slice(&text)?;
-    }
-    Ok(())
+    append(text, out)
 }
 
 /// Appends the picture.
@@ -64,25 +59,33 @@ fn write_picture(
     requires whole { length notes.now ≡ slots_of (shape_of config) }
     ensures { OnOk result (text.new.items ≡ text.old.items ++ picture config notes.now marks) }
 {
-    let chart = charted(alloc, notes)?;
-    let standing = Standing::new(alloc, chart, config.protocol, config.logical)?;
+    let standing = standing_of(alloc, config, notes)?;
     let cells = cells(alloc, &standing, notes)?;
-    write_heading(config, text)?;
     let map = Map {
         shape: shape(config),
         cells: &cells,
         marks,
     };
+    write_parts(alloc, config, standing.chart(), &map, text)
+}
+
+/// Appends the picture of records with these cells.
+fn write_parts(
+    alloc: Global,
+    config: Config,
+    chart: &Chart,
+    map: &Map<'_>,
+    text: &mut Vec<u8>,
+) -> Result<(), Memory>
+    requires shape { IsShape map.now.shape }
+    requires cells { length map.now.cells.now ≡ slots_of map.now.shape }
+    ensures { let m = map.now in OnOk result (text.new.items ≡ text.old.items
+        ++ parts config m.shape chart.now m.cells.now m.marks) }
+{
+    write_heading(config, text)?;
     map.write(alloc, text)?;
-    write_walks(
-        alloc,
-        standing.chart(),
-        config.protocol,
-        config.logical,
-        text,
-    )?;
-    write_breach(marks.breach, text)?;
-    Ok(())
+    write_walks(alloc, chart, config.protocol, config.logical, text)?;
+    Ok(write_breach(map.marks.breach, text)?)
 }
 
 /// The shape of a device's flash.
@@ -97,8 +100,19 @@ pub fn shape(config: Config) -> Shape
     }
 }
 
+/// Where the pages stand among the records that are noted.
+pub fn standing_of(alloc: Global, config: Config, notes: &[Note]) -> Result<Standing, Memory>
+    requires { length notes.now < 2 ^ 32 }
+    ensures sorts { IfOk result (λ s. Sorts (found_in notes.now) s.list) }
+    ensures standing { IfOk result (λ s.
+        s ≡ record { protocol = config.protocol; logical = config.logical; list = s.list }) }
+{
+    let chart = charted(alloc, notes)?;
+    Ok(Standing::new(alloc, chart, config.protocol, config.logical)?)
+}
+
 /// The records that are noted, in order of their names.
-pub fn charted(alloc: Global, notes: &[Note]) -> Result<Chart, Memory>
+fn charted(alloc: Global, notes: &[Note]) -> Result<Chart, Memory>
     requires { length notes.now < 2 ^ 32 }
     ensures { IfOk result (λ chart. Sorts (found_in notes.now) chart) }
 {

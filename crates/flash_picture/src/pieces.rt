@@ -74,11 +74,12 @@ pub fn open_group(class: &[u8], text: &mut Vec<u8>) -> Result<(), AllocError>
     add(b"'>", text)
 }
 
-/// Appends a place as a path names it.
+/// Appends a place as a path names it, behind some words.
 #[tactic(auto, unfolding(crate::specs::Pieces::point))]
-fn add_point(spot: Spot, text: &mut Vec<u8>) -> Result<(), AllocError>
-    ensures { OnOk result (text.new.items ≡ text.old.items ++ point spot) }
+fn add_point(words: &[u8], spot: Spot, text: &mut Vec<u8>) -> Result<(), AllocError>
+    ensures { OnOk result (text.new.items ≡ text.old.items ++ words.now ++ point spot) }
 {
+    add(words, text)?;
     add_number(spot.left, text)?;
     add(b",", text)?;
     add_number(spot.top, text)
@@ -93,13 +94,9 @@ pub fn add_curve(from: Spot, to: Spot, text: &mut Vec<u8>) -> Result<(), AllocEr
     requires to_top { to.top < 2 ^ 49 }
     ensures { OnOk result (text.new.items ≡ text.old.items ++ curve from to) }
 {
-    text.extend_from_slice(b"<path d='M")?;
-    add_point(from.beside(28, 24), text)?;
-    text.extend_from_slice(b"C")?;
-    add_point(from.beside(28, 2), text)?;
-    text.extend_from_slice(b" ")?;
-    add_point(to.beside(12, 2), text)?;
-    text.extend_from_slice(b" ")?;
-    add_point(to.beside(12, 24), text)?;
-    text.extend_from_slice(b"'/>")
+    add_point(b"<path d='M", from.beside(28, 24), text)?;
+    add_point(b"C", from.beside(28, 2), text)?;
+    add_point(b" ", to.beside(12, 2), text)?;
+    add_point(b" ", to.beside(12, 24), text)?;
+    add(b"'/>", text)
 }

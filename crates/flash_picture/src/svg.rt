@@ -1,4 +1,4 @@
-ghost use Rattle.std.specs.Prelude.{◌≡◌, ◌++◌, Ok, IfOk, OnErr, OnOk, length};
+ghost use Rattle.std.specs.Prelude.{◌≡◌, ◌++◌, [], Ok, IfOk, OnErr, OnOk, length};
 ghost use Rattle.tx_types.specs.Config.{IsShape, checked, shape_of, slots_of};
 ghost use Rattle.flash_picture.specs.Grid.{IsGrid};
 ghost use Rattle.flash_picture.specs.Svg.{above, drawing, grid_of, lines_svg, svg};
@@ -8,12 +8,12 @@ use crate::grid::{Grid, Spot};
 use crate::legend::{write_head, write_legend};
 use crate::map::Map;
 use crate::marks::Marks;
-use crate::picture::{charted, shape, write_heading};
+use crate::picture::{shape, standing_of, write_heading};
 use crate::pieces::{add_attribute, open_words};
 use crate::svg_lines::{write_breach, write_walks};
 use crate::svg_map::Plan;
-use crate::text::add;
-use record_chart::{Chart, Standing};
+use crate::text::{add, append};
+use record_chart::Chart;
 use std::alloc::{AllocError, Global};
 use tx_types::{Config, Memory};
 use version_index::Note;
@@ -36,12 +36,7 @@ pub fn draw_svg(
 {
     let mut text = Vec::new(alloc);
     write_svg(alloc, config, notes, marks, &mut text)?;
-    if out.is_empty() {
-        *out = text;
-    } else {
-        out.extend_from_slice(&text)?;
-    }
-    Ok(())
+    append(text, out)
 }
 
 /// Appends the picture.
@@ -56,16 +51,32 @@ fn write_svg(
     requires whole { length notes.now ≡ slots_of (shape_of config) }
     ensures { OnOk result (text.new.items ≡ text.old.items ++ svg config notes.now marks) }
 {
-    let chart = charted(alloc, notes)?;
-    let standing = Standing::new(alloc, chart, config.protocol, config.logical)?;
+    let standing = standing_of(alloc, config, notes)?;
     let cells = cells(alloc, &standing, notes)?;
     let map = Map {
         shape: shape(config),
         cells: &cells,
         marks,
     };
-    let grid = grid(alloc, &map)?;
-    write_drawing(alloc, config, &Plan { map, grid }, standing.chart(), text)
+    write_map(alloc, config, &map, standing.chart(), text)
+}
+
+/// Appends the picture of records with the cells of a map.
+fn write_map(
+    alloc: Global,
+    config: Config,
+    map: &Map<'_>,
+    chart: &Chart,
+    text: &mut Vec<u8>,
+) -> Result<(), Memory>
+    requires { IsShape map.now.shape }
+    ensures { let m = map.now in OnOk result (text.new.items ≡ text.old.items
+        ++ drawing config (grid_of m.shape m.cells.now m.marks) chart.now m.cells.now m.marks) }
+{
+    let grid = grid(alloc, map)?;
+    let plan = Plan { map: *map, grid };
+    let mut walks = Vec::new(alloc);
+    write_drawing(alloc, config, &plan, chart, &mut walks, text)
 }
 
 /// How the cells of a map stand.
@@ -82,24 +93,25 @@ fn grid(alloc: Global, map: &Map<'_>) -> Result<Grid, Memory>
     })
 }
 
-/// Appends the picture of records with these cells.
+/// Appends the picture of records whose cells stand so. The lines of walks go to a text that is empty before.
 fn write_drawing(
     alloc: Global,
     config: Config,
     plan: &Plan<'_>,
     chart: &Chart,
+    walks: &mut Vec<u8>,
     text: &mut Vec<u8>,
 ) -> Result<(), Memory>
-    requires { IsGrid plan.now.grid }
+    requires grid { IsGrid plan.now.grid }
+    requires empty { walks.old.items ≡ [] }
     ensures { let p = plan.now in OnOk result (text.new.items ≡ text.old.items
         ++ drawing config p.grid chart.now p.map.cells.now p.map.marks) }
 {
-    let mut walks = Vec::new(alloc);
-    let lines = write_walks(alloc, chart, config.protocol, config.logical, &mut walks)?;
+    let lines = write_walks(alloc, chart, config.protocol, config.logical, walks)?;
     write_above(config, plan.grid.height(lines), text)?;
     plan.write(text)?;
     plan.write_arrows(chart, text)?;
-    write_lines(plan, &walks, text)?;
+    write_lines(plan, walks.as_slice(), text)?;
     Ok(add(b"</svg>\n", text)?)
 }
 

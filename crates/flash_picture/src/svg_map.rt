@@ -19,7 +19,7 @@ use std::alloc::AllocError;
 use tx_types::{Block, Slot};
 
 /// A map, and where its cells stand.
-#[derive(Clone, Copy, Debug)]
+#[derive(Clone, Copy)]
 pub struct Plan<'a> {
     pub map: Map<'a>,
     pub grid: Grid,
@@ -66,8 +66,7 @@ impl Plan<'_> {
         )?;
         add(b"die ", text)?;
         add_count(die, text)?;
-        add(b"</text>", text)?;
-        add(b"</g>\n", text)
+        add(b"</text></g>\n", text)
     }
 
     /// Appends the labels of all blocks.
@@ -98,8 +97,7 @@ impl Plan<'_> {
             text,
         )?;
         self.map.write_label_words(block, text)?;
-        add(b"</text>", text)?;
-        add(b"</g>\n", text)
+        add(b"</text></g>\n", text)
     }
 
     /// Begins what is drawn under the label of a block as its class.
@@ -138,8 +136,7 @@ impl Plan<'_> {
         add_rectangle(spot.beside(0, 24), self.grid.cell_width(), 24, text)?;
         open_words(spot.beside(8, 40), text)?;
         self.map.write_slot(slot, text)?;
-        add(b"</text>", text)?;
-        add(b"</g>\n", text)
+        add(b"</text></g>\n", text)
     }
 
     /// Begins what is drawn under the words of a slot as its class.
@@ -158,8 +155,7 @@ impl Plan<'_> {
         ensures { let m = self.now.map in OnOk result (text.new.items
             ≡ text.old.items ++ title (slot_title m.cells.now m.marks slot.0)) }
     {
-        add(b"<title>", text)?;
-        add(b"slot ", text)?;
+        add(b"<title>slot ", text)?;
         add_count(slot.0, text)?;
         add(b": ", text)?;
         self.map.write_slot(slot, text)?;

@@ -1,16 +1,29 @@
-ghost use Rattle.std.specs.Prelude.{◌≡◌, ◌≤◌, ◌-◌, ◌∷◌, ◌++◌, OnOk, length, replicate};
+ghost use Rattle.std.specs.Prelude.{◌≡◌, ◌≤◌, ◌-◌, ◌∷◌, ◌++◌, OnErr, OnOk, length, replicate};
 ghost use Rattle.std.specs.Fmt.{decimal};
 ghost use Rattle.flash_picture.specs.Cells.{name_word};
 
 use itoa::Buffer;
 use std::alloc::AllocError;
-use tx_types::Link;
+use tx_types::{Link, Memory};
 
 /// Appends bytes.
 pub fn add(bytes: &[u8], text: &mut Vec<u8>) -> Result<(), AllocError>
     ensures { OnOk result (text.new.items ≡ text.old.items ++ bytes.now) }
 {
     text.extend_from_slice(bytes)
+}
+
+/// Appends a text. Where it would stand alone it is not copied.
+pub fn append(text: Vec<u8>, out: &mut Vec<u8>) -> Result<(), Memory>
+    ensures ok { OnOk result (out.new.items ≡ out.old.items ++ text.items) }
+    ensures err { OnErr result (out.new.items ≡ out.old.items) }
+{
+    if out.is_empty() {
+        *out = text;
+    } else {
+        out.extend_from_slice(&text)?;
+    }
+    Ok(())
 }
 
 /// Appends a number.

@@ -5,7 +5,7 @@ ghost use Rattle.std.specs.List.{flat_map};
 ghost use Rattle.record_list.specs.Verdict.{link_of, newest_name};
 ghost use Rattle.record_chart.specs.Charts.{EndsBelow};
 ghost use Rattle.verdict_report.specs.Walks.{is_end, walk_links};
-ghost use Rattle.flash_picture.specs.Walks.{end_by, end_of, end_text, last_steps, leaving, left_at, left_by, start_text, step_text, steps_of, steps_over, walk_line, walks_text};
+ghost use Rattle.flash_picture.specs.Walks.{end_by, end_of, end_text, last_steps, leaving, left_at, left_by, line_text, start_text, step_text, steps_of, steps_over, walk_line, walks_text};
 
 use crate::text::{add, add_name, add_number};
 use record_chart::{Chart, Orbit};
@@ -17,7 +17,7 @@ use tx_types::{Link, Memory, Protocol};
 const MOST_LINKS: u32 = 16;
 
 /// A step that is shown of a walk.
-#[derive(Clone, Copy, Debug, PartialEq, Eq)]
+#[derive(Clone, Copy, PartialEq, Eq)]
 pub enum Step {
     /// To the record that a link names.
     To(Link),
@@ -26,7 +26,7 @@ pub enum Step {
 }
 
 /// How a walk ends that begins at a version which does not count.
-#[derive(Clone, Copy, Debug, PartialEq, Eq)]
+#[derive(Clone, Copy, PartialEq, Eq)]
 pub enum End {
     /// No record has the version of its last link, or a later one.
     Absent,
@@ -226,12 +226,19 @@ fn write_walk(
         None => Ok(()),
         Some(end) => {
             let steps = steps(alloc, chart, logical, page)?;
-            write_start(newest_name(chart, page), text)?;
-            write_steps(&steps, text)?;
-            end.write(text)?;
-            Ok(add(b"\n", text)?)
+            Ok(write_line(newest_name(chart, page), &steps, end, text)?)
         }
     }
+}
+
+/// Appends the line of a walk from a record.
+fn write_line(start: Link, steps: &[Step], end: End, text: &mut Vec<u8>) -> Result<(), AllocError>
+    ensures { OnOk result (text.new.items ≡ text.old.items ++ line_text start steps.now end) }
+{
+    write_start(start, text)?;
+    write_steps(steps, text)?;
+    end.write(text)?;
+    add(b"\n", text)
 }
 
 /// Appends the record at which a walk begins.

@@ -1,18 +1,11 @@
 //! The program: it draws the flash of an image file, as text or in SVG.
 #![tactic(auto)]
 
-mod drawing;
-mod laws;
-mod opening;
-#[cfg(test)]
-mod tests;
-mod top;
-mod words;
-
 use desk_io::RealDesk;
 use image_desk::unread;
 use std::env;
 use std::process::ExitCode;
+pub use view_command_line::top;
 
 fn main(rt: HostRuntime) -> ExitCode {
     let args = match env::args(&rt) {
@@ -26,5 +19,5 @@ fn main(rt: HostRuntime) -> ExitCode {
         }
     }
     let mut desk = RealDesk::new(&rt);
-    ExitCode::from(top::top(rt.alloc(), &words, &mut desk))
+    ExitCode::from(top(rt.alloc(), &words, &mut desk))
 }

@@ -2,7 +2,7 @@ use flash_model::Outcome;
 use tx_types::Batch;
 
 /// What a line of a command file asks for.
-#[derive(Debug, Drop)]
+#[derive(Drop)]
 pub enum Command {
     /// `read P`: the contents of a page.
     Read { page: u32 },

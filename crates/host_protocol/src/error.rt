@@ -4,7 +4,7 @@ ghost use Rattle.host_protocol.specs.declared.error.LineError.TheVariants.{Memor
 ghost use Rattle.host_protocol.specs.declared.error.TextError.TheVariants as text;
 
 /// Why a line gave no command.
-#[derive(Clone, Copy, Debug)]
+#[derive(Clone, Copy)]
 pub(crate) enum LineError {
     /// The line is not in the grammar, or brings the file past a limit.
     Bad,
@@ -13,7 +13,7 @@ pub(crate) enum LineError {
 }
 
 /// Why a file gave no commands.
-#[derive(Clone, Copy, Debug, PartialEq, Eq)]
+#[derive(Clone, Copy, PartialEq, Eq)]
 pub enum TextError {
     /// The number, from 1, of the first line that is not in the grammar or brings the file past a limit.
     Line(u32),

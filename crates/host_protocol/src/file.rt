@@ -39,19 +39,36 @@ pub fn parse(alloc: Global, bytes: &[u8], page_bytes: u32) -> Result<Vec<Command
 {
     let mut commands = no_commands(alloc, bytes)?;
     let mut room = Vec::new(alloc);
+    add_commands(alloc, bytes, page_bytes, &mut room, &mut commands)?;
+    Ok(commands)
+}
+
+/// Adds the commands of a file to a list that has none. The room is used for the bytes of a page.
+fn add_commands(
+    alloc: Global,
+    bytes: &[u8],
+    page_bytes: u32,
+    room: &mut Vec<u8>,
+    commands: &mut Vec<Command>,
+) -> Result<(), TextError>
+    requires length { length bytes.now ≤ MAX_FILE_BYTES }
+    requires empty { commands.old.items ≡ [] }
+    ensures file { OnOk result (IsFile page_bytes bytes.now commands.new.items) }
+    ensures line { IfErr result (EndsAt page_bytes bytes.now) }
+{
     let mut entries_left = MAX_ENTRIES;
     let mut number = 0;
     let mut rest = bytes;
     while let Some((line, behind)) = first_line(rest) {
         number += 1;
         let before = commands.len();
-        match line_command(alloc, line, page_bytes, before, entries_left, &mut room) {
-            Ok(found) => keep(&mut commands, &mut entries_left, found)?,
+        match line_command(alloc, line, page_bytes, before, entries_left, room) {
+            Ok(found) => keep(commands, &mut entries_left, found)?,
             Err(e) => return Err(e.at(number)),
         }
         rest = behind;
     }
-    Ok(commands)
+    Ok(())
 }
 
 /// The fewest bytes of a line with a command, and of its line feed.

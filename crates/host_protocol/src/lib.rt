@@ -28,6 +28,3 @@ pub use numbers_line::add_line;
 pub use operands::{arm, no_word};
 pub use reply::{Reply, reply_text};
 pub use words::first_word;
-
-#[cfg(test)]
-mod tests;

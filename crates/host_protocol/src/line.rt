@@ -1,4 +1,4 @@
-ghost use Rattle.std.specs.Prelude.{◌≡◌, ◌≢◌, ◌≤◌, [], false, IfOk, IfNone, IfSome, IsErrOf};
+ghost use Rattle.std.specs.Prelude.{◌≡◌, ◌≢◌, ◌≤◌, [], false, IfOk, IfNone, IfSome, OnOk, IsErrOf};
 ghost use Rattle.host_protocol.specs.Files.{is_command_line};
 ghost use Rattle.host_protocol.specs.Lines.{words_of};
 ghost use Rattle.host_protocol.specs.Reading.{
@@ -79,36 +79,36 @@ fn command(
 fn plain(verb: Verb, words: &[u8]) -> Option<Command>
     ensures { MakesPlain verb (words_of words.now) result }
 {
-    Some(match verb {
-        Verb::Read => Command::Read {
+    match verb {
+        Verb::Read => Some(Command::Read {
             page: lone_number(words)?,
-        },
-        Verb::Write => return None,
-        Verb::Step => Command::Step {
+        }),
+        Verb::Write => None,
+        Verb::Step => Some(Command::Step {
             tag: lone_number(words)?,
-        },
-        Verb::Finish => Command::Finish {
+        }),
+        Verb::Finish => Some(Command::Finish {
             tag: lone_number(words)?,
-        },
-        Verb::Abort => Command::Abort {
+        }),
+        Verb::Abort => Some(Command::Abort {
             tag: lone_number(words)?,
-        },
-        Verb::StepAll => bare(words, Command::StepAll)?,
-        Verb::Collect => bare(words, Command::Collect)?,
-        Verb::Stats => bare(words, Command::Stats)?,
-        Verb::Explain => bare(words, Command::Explain)?,
+        }),
+        Verb::StepAll => bare(words, Command::StepAll),
+        Verb::Collect => bare(words, Command::Collect),
+        Verb::Stats => bare(words, Command::Stats),
+        Verb::Explain => bare(words, Command::Explain),
         Verb::Cut => {
             let (count, outcome) = arm(words)?;
-            Command::Cut { count, outcome }
+            Some(Command::Cut { count, outcome })
         }
         Verb::Fault => {
             let (count, outcome) = arm(words)?;
-            Command::Fault { count, outcome }
+            Some(Command::Fault { count, outcome })
         }
-        Verb::BadRead => Command::BadRead {
+        Verb::BadRead => Some(Command::BadRead {
             count: lone_count(words)?,
-        },
-    })
+        }),
+    }
 }
 
 /// The command, where no word is behind its verb.
@@ -152,6 +152,24 @@ fn entries(
         HasNoEntries page_bytes (words_of words.now) entries_left }
 {
     let mut batch = Batch::with_room(alloc, page_bytes, near_entries(words))?;
+    add_entries(words, page_bytes, entries_left, room, &mut batch)?;
+    Ok(batch)
+}
+
+/// Adds the pages of a write to a batch that has none, by its entries.
+fn add_entries(
+    words: &[u8],
+    page_bytes: u32,
+    entries_left: usize,
+    room: &mut Vec<u8>,
+    batch: &mut Batch,
+) -> Result<(), LineError>
+    requires { batch.old ≡ record { page_bytes = page_bytes; entries = [] } }
+    ensures ok { OnOk result
+        (HasEntries page_bytes (words_of words.now) entries_left batch.new) }
+    ensures bad { IsErrOf result LineError.Bad →
+        HasNoEntries page_bytes (words_of words.now) entries_left }
+{
     let mut rest = words;
     while let Some((page, text, behind)) = first_entry(rest)? {
         if batch.len() >= entries_left {
@@ -163,7 +181,7 @@ fn entries(
         }
         rest = behind;
     }
-    Ok(batch)
+    Ok(())
 }
 
 /// The bytes behind a tag in which entries are counted beforehand.

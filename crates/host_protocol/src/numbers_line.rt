@@ -1,5 +1,5 @@
 //! Lines of a few numbers behind some words.
-ghost use Rattle.std.specs.Prelude.{◌≡◌, ◌+◌, ◌*◌, ◌<◌, ◌≤◌, ◌∷◌, ◌++◌, length, map, vec_len, vec_capacity, OnOk, OnErr};
+ghost use Rattle.std.specs.Prelude.{◌≡◌, ◌+◌, ◌*◌, ◌<◌, ◌≤◌, ◌∷◌, ◌++◌, [], length, map, vec_len, vec_capacity, OnOk, OnErr};
 ghost use Rattle.std.specs.Fmt.{decimal};
 ghost use Rattle.host_protocol.specs.Replies.{line_of, moved_words};
 
@@ -24,6 +24,45 @@ pub fn add_line(words: &[u8], numbers: &[u32], out: &mut Vec<u8>) -> Result<(), 
     }
     out.push_reserved(b'\n');
     Ok(())
+}
+
+/// Appends the line of these words and of a number, or nothing where there is no memory.
+#[inline(always)]
+pub fn add_one(words: &[u8], number: u32, out: &mut Vec<u8>) -> Result<(), Memory>
+    requires { length words.now < 60 }
+    ensures ok { OnOk result
+        (out.new.items ≡ out.old.items ++ line_of (words.now ∷ decimal number ∷ [])) }
+    ensures err { OnErr result (out.new.items ≡ out.old.items) }
+{
+    add_line(words, &[number], out)
+}
+
+/// Appends the line of these words and of two numbers, or nothing where there is no memory.
+#[inline(always)]
+pub fn add_two(words: &[u8], first: u32, second: u32, out: &mut Vec<u8>) -> Result<(), Memory>
+    requires { length words.now < 60 }
+    ensures ok { OnOk result
+        (out.new.items ≡ out.old.items ++ line_of (words.now ∷ decimal first ∷ decimal second ∷ [])) }
+    ensures err { OnErr result (out.new.items ≡ out.old.items) }
+{
+    add_line(words, &[first, second], out)
+}
+
+/// Appends the line of these words and of three numbers, or nothing where there is no memory.
+#[inline(always)]
+pub fn add_three(
+    words: &[u8],
+    first: u32,
+    second: u32,
+    third: u32,
+    out: &mut Vec<u8>,
+) -> Result<(), Memory>
+    requires { length words.now < 60 }
+    ensures ok { OnOk result (out.new.items ≡ out.old.items
+        ++ line_of (words.now ∷ decimal first ∷ decimal second ∷ decimal third ∷ [])) }
+    ensures err { OnErr result (out.new.items ≡ out.old.items) }
+{
+    add_line(words, &[first, second, third], out)
 }
 
 /// The most bytes of the line of how many transactions went on, and how many went, but for the numbers.

@@ -5,7 +5,7 @@ ghost use Rattle.host_protocol.specs.Lines.{words_of};
 ghost use Rattle.host_protocol.specs.Numbers.{number_of, count_of};
 
 use crate::numbers::{count, number};
-use crate::words::first_word;
+use crate::words::{first_word, is_word};
 use flash_model::Outcome;
 
 /// Some where there is no word.
@@ -58,10 +58,13 @@ fn outcome(word: &[u8]) -> Option<Outcome>
     ensures some { IfSome result (λ what. word.now ≡ outcome_word what) }
     ensures none { IfNone result ((what : Outcome) → word.now ≢ outcome_word what) }
 {
-    match word {
-        b"none" => Some(Outcome::None),
-        b"all" => Some(Outcome::All),
-        b"bad" => Some(Outcome::Bad),
-        _ => None,
+    if is_word(word, b"none") {
+        Some(Outcome::None)
+    } else if is_word(word, b"all") {
+        Some(Outcome::All)
+    } else if is_word(word, b"bad") {
+        Some(Outcome::Bad)
+    } else {
+        None
     }
 }

@@ -1,4 +1,5 @@
 ghost use Rattle.std.specs.Prelude.{◌≡◌, ◌<◌, [], ◌∷◌, length, not, position, IfSome, IfNone};
+ghost use Rattle.std.specs.Str.{bytes_eq};
 ghost use Rattle.host_protocol.specs.Lines.{words_of, is_space_or_tab};
 
 use memchr::memchr2;
@@ -23,6 +24,14 @@ pub fn first_filled(line: &[u8]) -> Option<usize>
     ensures { result ≡ position (λ b. not (is_space_or_tab b)) line.now }
 {
     line.iter().position(|b| *b != b' ' && *b != b'\t')
+}
+
+/// Whether a word is this one.
+#[inline(always)]
+pub fn is_word(word: &[u8], text: &[u8]) -> bool
+    ensures { result ≡ bytes_eq word.now text.now }
+{
+    word == text
 }
 
 /// The bytes in which the end of a word is looked for one by one.

@@ -8,7 +8,7 @@ use record_list::Breach;
 use std::alloc::{AllocError, Global};
 
 /// Why a call for an image file is refused: its program says one line, and answers a status.
-#[derive(Clone, Copy, Debug)]
+#[derive(Clone, Copy)]
 pub enum ImageRefusal<'a> {
     /// The words are not those of the program.
     BadWords,

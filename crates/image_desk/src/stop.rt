@@ -5,7 +5,7 @@ use crate::refusal::ImageRefusal;
 use tx_types::Memory;
 
 /// Why work on an image file stops before its end.
-#[derive(Clone, Copy, Debug)]
+#[derive(Clone, Copy)]
 pub enum ImageStop<'a> {
     Refused(ImageRefusal<'a>),
     /// The desk met a fault.

@@ -1,3 +1,4 @@
 pub mod Spelling
 pub mod Rules
 pub mod Header
+pub mod States

@@ -5,7 +5,7 @@ use std::alloc::{AllocError, AllocFailed};
 use tx_types::{ConfigError, Memory, Slot};
 
 /// The first rule that the bytes of an image file break, or want of memory.
-#[derive(Clone, Copy, Debug, PartialEq, Eq)]
+#[derive(Clone, Copy, PartialEq, Eq)]
 pub enum ImageError {
     /// There are at least 64 bytes.
     Short,

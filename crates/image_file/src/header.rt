@@ -114,16 +114,19 @@ pub(crate) fn header_of(config: &Config, allowance: u32, retired: u32) -> [u8; H
     } else {
         &SECOND_MAGIC
     };
+    let numbers = [
+        code(config.protocol),
+        config.page_bytes,
+        config.pages_per_block,
+        config.blocks_per_die,
+        config.dies,
+        config.logical,
+        config.pending,
+        allowance,
+        retired,
+    ];
     header[..magic.len()].copy_from_slice(magic);
-    LittleEndian::write_u32(&mut header[8..], code(config.protocol));
-    LittleEndian::write_u32(&mut header[12..], config.page_bytes);
-    LittleEndian::write_u32(&mut header[16..], config.pages_per_block);
-    LittleEndian::write_u32(&mut header[20..], config.blocks_per_die);
-    LittleEndian::write_u32(&mut header[24..], config.dies);
-    LittleEndian::write_u32(&mut header[28..], config.logical);
-    LittleEndian::write_u32(&mut header[32..], config.pending);
-    LittleEndian::write_u32(&mut header[36..], allowance);
-    LittleEndian::write_u32(&mut header[40..], retired);
+    LittleEndian::write_u32_into(&numbers, &mut header[8..44]);
     header
 }
 

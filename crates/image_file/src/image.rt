@@ -6,12 +6,13 @@ ghost use Rattle.flash_model.specs.Flash.{Contents, Extras};
 ghost use Rattle.mem_flash.specs.Memory.{loaded, fresh};
 ghost use Rattle.image_file.specs.Spelling.{Spells};
 ghost use Rattle.image_file.specs.Rules.{shape_in, image_in, broken_slots, first_broken, reading, IsRefusal};
+ghost use Rattle.image_file.specs.States.{AreSlotsOf};
 
 use crate::ImageError;
 use crate::header::{HEADER_BYTES, read_header};
 use crate::sizes::{head_bytes, image_bytes};
 use crate::slots::{read_states, wrong_bytes};
-use flash_model::SPARE_BYTES;
+use flash_model::{SPARE_BYTES, Seen};
 use mem_flash::MemFlash;
 use std::alloc::Global;
 use tx_types::{Config, Shape, Slot};
@@ -60,6 +61,19 @@ fn take_slots(alloc: Global, bytes: Vec<u8>, shape: Shape) -> Result<MemFlash, I
         (broken_slots bytes.items ≡ None) × (flash ≡ fresh shape (image_in bytes.items))) }
     ensures error { IfErr result (IsRefusal (broken_slots bytes.items)) }
 {
+    let seen = read_slots(alloc, &bytes, shape)?;
+    let flash = MemFlash::from_bytes(alloc, shape, seen, bytes, head_bytes(shape))?;
+    Ok(flash)
+}
+
+/// How each slot reads whose state and bytes stand behind the header of an image file, or the first rule that
+/// they break.
+fn read_slots(alloc: Global, bytes: &[u8], shape: Shape) -> Result<Vec<Seen>, ImageError>
+    requires bounds { IsShape shape }
+    requires shape { shape ≡ shape_in bytes.now }
+    ensures ok { IfOk result (λ seen. AreSlotsOf bytes.now shape seen.items) }
+    ensures error { IfErr result (IsRefusal (broken_slots bytes.now)) }
+{
     if bytes.len() != image_bytes(shape) {
         return Err(ImageError::Length);
     }
@@ -69,6 +83,5 @@ fn take_slots(alloc: Global, bytes: Vec<u8>, shape: Shape) -> Result<MemFlash, I
     if let Some(at) = wrong_bytes(&seen, &bytes[head..], size) {
         return Err(ImageError::SlotBytes(Slot(at as u32)));
     }
-    let flash = MemFlash::from_bytes(alloc, shape, seen, bytes, head)?;
-    Ok(flash)
+    Ok(seen)
 }

@@ -7,8 +7,6 @@ mod image;
 mod laws;
 mod sizes;
 mod slots;
-#[cfg(test)]
-mod tests;
 mod writing;
 
 pub use error::ImageError;

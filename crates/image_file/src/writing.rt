@@ -1,7 +1,7 @@
 ghost use Rattle.std.specs.Prelude.{◌≡◌, ◌≤◌, ◌++◌, length, map, drop, replicate, Ok, IfOk, OnOk};
 ghost use Rattle.std.specs.List.{flat_map};
 ghost use Rattle.tx_types.specs.Config.{checked, shape_of, slots_of};
-ghost use Rattle.flash_model.specs.Flash.{blank};
+ghost use Rattle.flash_model.specs.Flash.{blank, IsImage};
 ghost use Rattle.flash_model.specs.Retiring.{max_allowance};
 ghost use Rattle.flash_model.specs.Calls.{seen_of};
 ghost use Rattle.mem_flash.specs.Slots.{cell_of};
@@ -35,12 +35,24 @@ pub fn into_image(alloc: Global, config: &Config, flash: MemFlash) -> Result<Vec
     requires { checked config.now ≡ Ok flash.shape }
     ensures { IfOk result (λ bytes. Spells bytes.items config.now flash.image flash.extras) }
 {
-    let mut head = Vec::with_capacity(alloc, head_bytes(flash.shape()))?;
-    head.extend_from_slice(&header_of(config, flash.allowance(), flash.retired()))?;
-    add_states(&flash, &mut head)?;
+    let head = head_of(alloc, config, &flash)?;
     let mut bytes = flash.into_bytes(alloc, head.len())?;
     write_head(&mut bytes, &head);
     Ok(bytes)
+}
+
+/// What stands in front of the bytes of the slots: the header, and the states of all slots.
+fn head_of(alloc: Global, config: &Config, flash: &MemFlash) -> Result<Vec<u8>, Memory>
+    ensures head { IfOk result (λ head. head.items ≡ header_of config.now flash.now.extras
+        ++ map (λ slot. state_byte (seen_of slot)) flash.now.image) }
+    ensures bounds { IfOk result (λ _. (IsImage flash.now.shape flash.now.image)
+        × (flash.now.extras.retired ≤ flash.now.extras.allowance)
+        × (flash.now.extras.allowance ≤ max_allowance)) }
+{
+    let mut head = Vec::with_capacity(alloc, head_bytes(flash.shape()))?;
+    head.extend_from_slice(&header_of(config, flash.allowance(), flash.retired()))?;
+    add_states(flash, &mut head)?;
+    Ok(head)
 }
 
 /// Writes over the first bytes.

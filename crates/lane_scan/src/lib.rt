@@ -3,7 +3,5 @@
 
 mod lanes;
 mod scans;
-#[cfg(test)]
-mod tests;
 
 pub use scans::{all_equal, first_difference};

@@ -5,7 +5,7 @@ use flash_model::{Arm, Outcome};
 
 /// The breaks that are to come. The arms of a cut and of a fault count programs, erases, retirements and fires, and
 /// that of a bad read counts reads.
-#[derive(Clone, Copy, Debug, PartialEq, Eq)]
+#[derive(Clone, Copy, PartialEq, Eq)]
 pub struct Armed {
     pub cut: Option<Arm>,
     pub fault: Option<Arm>,

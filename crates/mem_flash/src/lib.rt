@@ -7,7 +7,5 @@ mod firing;
 mod memory;
 mod registers;
 mod slots;
-#[cfg(test)]
-mod tests;
 
 pub use memory::MemFlash;

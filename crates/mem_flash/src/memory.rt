@@ -22,7 +22,7 @@ use std::marker::Model;
 use tx_types::{Block, Memory, Shape, Slot};
 
 /// A flash in memory. Its calls are broken exactly where an arm comes due or power is off.
-#[derive(Debug, Drop)]
+#[derive(Drop)]
 pub struct MemFlash {
     pub(crate) slots: Slots,
     pub(crate) live: bool,

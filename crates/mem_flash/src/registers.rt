@@ -11,7 +11,7 @@ use std::alloc::Global;
 use tx_types::{Memory, Shape, Slot};
 
 /// A register of a die: room for a program, taken beforehand, and the slot of the one that is loaded.
-#[derive(Debug, Drop)]
+#[derive(Drop)]
 pub struct Register {
     pub at: Option<Slot>,
     /// A page.

@@ -17,7 +17,7 @@ use std::marker::Model;
 use tx_types::{Block, Memory, Shape, Slot};
 
 /// The slots of a flash.
-#[derive(Debug, Drop)]
+#[derive(Drop)]
 pub struct Slots {
     shape: Shape,
     /// How each slot reads.

@@ -6,7 +6,7 @@ use lru::LruCache;
 use tx_types::Memory;
 
 /// A logical page at one of its versions.
-#[derive(Clone, Copy, Debug, PartialEq, Eq, Hash)]
+#[derive(Clone, Copy, PartialEq, Eq, Hash)]
 pub struct Key {
     pub page: u32,
     pub version: u64,

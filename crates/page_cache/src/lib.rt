@@ -4,8 +4,6 @@
 mod cache;
 mod entries;
 mod laws;
-#[cfg(test)]
-mod tests;
 
 pub use cache::PageCache;
 pub use laws::kept_pages_are_found;

@@ -7,7 +7,7 @@ use tx_engine::Fault;
 use tx_types::Memory;
 
 /// Why a store was not opened.
-#[derive(Clone, Copy, Debug, PartialEq, Eq)]
+#[derive(Clone, Copy, PartialEq, Eq)]
 pub enum KeyError {
     /// The bytes of this page are no bucket. It is the least such page.
     Bucket(u32),
@@ -18,7 +18,7 @@ pub enum KeyError {
 }
 
 /// Why a put was not done.
-#[derive(Clone, Copy, Debug, PartialEq, Eq)]
+#[derive(Clone, Copy, PartialEq, Eq)]
 pub enum PutError {
     /// There is no change.
     Empty,

@@ -6,14 +6,14 @@ use std::marker::Model;
 use tx_types::Memory;
 
 /// A key and its new value, or none where the key is removed.
-#[derive(Debug, Drop)]
+#[derive(Drop)]
 pub struct Change {
     pub key: Short,
     pub value: Option<Short>,
 }
 
 /// The changes that a put makes, in order, seen as a list.
-#[derive(Debug, Drop)]
+#[derive(Drop)]
 pub struct Changes {
     all: Vec<Change>,
 }

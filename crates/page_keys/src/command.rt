@@ -3,7 +3,7 @@ use crate::short::Short;
 use flash_model::Outcome;
 
 /// What a line of a key script asks for.
-#[derive(Debug, Drop)]
+#[derive(Drop)]
 pub enum KeyCommand {
     /// `put K=V ..`: these changes, all at once.
     Put { changes: Changes },

@@ -4,7 +4,7 @@ ghost use Rattle.page_keys.specs.declared.key_error.KeyServeError.TheVariants as
 use tx_types::Slot;
 
 /// Why the commands of a key script were not all served.
-#[derive(Clone, Copy, Debug, PartialEq, Eq)]
+#[derive(Clone, Copy, PartialEq, Eq)]
 pub enum KeyServeError {
     /// The image that was handed in is not sound: the first law that it breaks, and the slot that the law names.
     Unsound { law: u8, slot: Slot },

@@ -8,7 +8,7 @@ use host_protocol::add_line;
 use tx_types::Memory;
 
 /// The answer to a command of a key script.
-#[derive(Debug, Drop)]
+#[derive(Drop)]
 pub enum KeyReply {
     /// All changes of a put were made, so many.
     Stored(u32),

@@ -39,6 +39,3 @@ pub use script::parse_keys;
 pub use script_error::KeyTextError;
 pub use short::{MAX_SHORT, Short};
 pub use store::KeyStore;
-
-#[cfg(test)]
-mod tests;

@@ -4,7 +4,7 @@ ghost use Rattle.page_keys.specs.declared.script_error.LineError.TheVariants.{Me
 ghost use Rattle.page_keys.specs.declared.script_error.KeyTextError.TheVariants as text;
 
 /// Why a line gave no command.
-#[derive(Clone, Copy, Debug)]
+#[derive(Clone, Copy)]
 pub(crate) enum LineError {
     /// The line is not in the grammar, or comes after the last command that a script may have.
     Bad,
@@ -13,7 +13,7 @@ pub(crate) enum LineError {
 }
 
 /// Why a script gave no commands.
-#[derive(Clone, Copy, Debug, PartialEq, Eq)]
+#[derive(Clone, Copy, PartialEq, Eq)]
 pub enum KeyTextError {
     /// The number, from 1, of the first line that is not in the grammar, or that comes after the last command that a
     /// script may have.

@@ -11,7 +11,7 @@ pub const MAX_SHORT: usize = 15;
 pub const FIELD_BYTES: usize = MAX_SHORT + 1;
 
 /// Up to 15 bytes, seen as a list.
-#[derive(Debug, Drop)]
+#[derive(Drop)]
 pub struct Short {
     len: u8,
     /// Zeros behind the first `len` bytes.

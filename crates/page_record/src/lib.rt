@@ -5,8 +5,6 @@ mod error;
 mod laws;
 mod layout;
 mod reading;
-#[cfg(test)]
-mod tests;
 mod writing;
 
 pub use error::SpareError;

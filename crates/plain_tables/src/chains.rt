@@ -9,7 +9,7 @@ use std::marker::Model;
 ///
 /// Keys and places are numbers from 0 on. A place stands in one list or in none. Each call but `new` takes
 /// the same time however many keys and places there are, and no memory.
-#[derive(Debug, Drop)]
+#[derive(Drop)]
 pub struct Chains {
     /// Of each place the one behind it in its list, and then of each key the first of its list. Where
     /// there is none, the number of places.

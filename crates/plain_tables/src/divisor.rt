@@ -4,7 +4,7 @@ use std::marker::Model;
 
 /// A number by which small ones are divided, with its reciprocal, so that a division is a
 /// multiplication.
-#[derive(Debug, Drop)]
+#[derive(Drop)]
 pub struct Divisor {
     by: u32,
     /// 2 ^ 32 divided by it, and one more.

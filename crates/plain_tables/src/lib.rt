@@ -5,8 +5,6 @@
 mod chains;
 mod divisor;
 mod peaks;
-#[cfg(test)]
-mod tests;
 
 pub use chains::Chains;
 pub use divisor::Divisor;

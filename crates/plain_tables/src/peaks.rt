@@ -10,7 +10,7 @@ use std::marker::Model;
 ///
 /// Above the numbers there are levels of cells, each the greatest of sixteen cells of the level below it,
 /// up to a single cell. No call but those that make the levels takes memory.
-#[derive(Debug, Drop)]
+#[derive(Drop)]
 pub struct Peaks {
     /// The levels one after another from the single cell on, and behind them the numbers. Under the cell
     /// at `i` are those from `16 * i + 1` on.

@@ -1,12 +1,13 @@
-ghost use Rattle.std.specs.Prelude.{◌≡◌, ◌<◌, ◌^◌, Some, position, filter, IfOk, IfSome, length, slice_index_or};
+ghost use Rattle.std.specs.Prelude.{◌≡◌, ◌<◌, ◌^◌, [], Some, position, filter, IfOk, IfSome, length, slice_index_or};
 ghost use Rattle.tx_types.specs.declared.config.Protocol.TheVariants.{Bpcc};
 ghost use Rattle.record_list.specs.Records.{greatest, name_of, record_at, has_name, is_present, newest, next_older};
 ghost use Rattle.record_list.specs.Verdict.{link_of, back_of, straddling, why};
 ghost use Rattle.record_list.specs.Current.{cur, responsible, straddling_upto};
-ghost use Rattle.record_chart.specs.Charts.{IsInOrder, Sorts, list_of, IsOrbitOfNewest};
+ghost use Rattle.record_chart.specs.Charts.{IsInOrder, Sorts, list_of, link_graph, IsOrbitOfNewest};
 ghost use Rattle.record_chart.specs.Minima.{AreMinima};
 ghost use Rattle.record_chart.specs.NameGraph.{name_graph};
-ghost use Rattle.record_chart.specs.Orbits.{IsGraph};
+ghost use Rattle.record_chart.specs.Orbits.{IsGraph, AreOrbits};
+ghost use Rattle.record_chart.specs.Starts.{AreStarts};
 
 use crate::arrange::{arranged, is_in_order};
 use crate::group::{straddling, straddling_up_to, straddling_up_to_bound};
@@ -23,7 +24,7 @@ use std::marker::Model;
 use tx_types::{Link, Protocol};
 
 /// Records in order of their names, by page and then by version, and where their links lead.
-#[derive(Debug, Drop)]
+#[derive(Drop)]
 pub struct Chart {
     records: Vec<Found>,
     starts: Vec<u32>,
@@ -33,7 +34,7 @@ pub struct Chart {
 }
 
 /// A chart of a list, and the list where it is not in order: where it is, the chart has it.
-#[derive(Debug, Drop)]
+#[derive(Drop)]
 pub struct Charted {
     pub chart: Chart,
     pub list: Option<Vec<Found>>,
@@ -50,6 +51,44 @@ impl Model for Chart {
     ghost view = { λ c. c.records.items };
 
     ghost invariant = { IsCharted };
+}
+
+/// Where the pages of records begin that are in order, and, under Back Pointer Cyclic Commit alone, the least back
+/// versions of many.
+fn starts_and_minima(
+    alloc: Global,
+    records: &[Found],
+    protocol: Protocol,
+) -> Result<(Vec<u32>, Option<Vec<u64>>), AllocError>
+    requires order { IsInOrder records.now }
+    requires few { length records.now < 2 ^ 32 }
+    ensures starts { IfOk result (λ r. AreStarts records.now r.0.items) }
+    ensures minima { IfOk result (λ r.
+        IfSome r.1 (λ least. AreMinima records.now [] least.items)) }
+{
+    let starts = page_starts(alloc, records)?;
+    let least = match protocol {
+        Protocol::Scc => None,
+        Protocol::Bpcc => minima_of_many(alloc, records, &starts, &[])?,
+    };
+    Ok((starts, least))
+}
+
+/// The places that the links of records name, and where the links lead.
+fn targets_and_orbits(
+    alloc: Global,
+    records: &[Found],
+    starts: &[u32],
+) -> Result<(Vec<Option<u32>>, Orbits), AllocError>
+    requires order { IsInOrder records.now }
+    requires starts { AreStarts records.now starts.now }
+    requires few { length records.now < 2 ^ 32 }
+    ensures targets { IfOk result (λ r. r.0.items ≡ name_graph records.now) }
+    ensures orbits { IfOk result (λ r. AreOrbits (link_graph records.now) r.1) }
+{
+    let targets = targets(alloc, records, starts)?;
+    let orbits = orbits_of_newest(alloc, records, starts, &targets)?;
+    Ok((targets, orbits))
 }
 
 impl Chart {
@@ -105,13 +144,8 @@ impl Chart {
         requires few { length records.items < 2 ^ 32 }
         ensures { IfOk result (λ chart. chart ≡ records.items) }
     {
-        let starts = page_starts(alloc, &records)?;
-        let least = match protocol {
-            Protocol::Scc => None,
-            Protocol::Bpcc => minima_of_many(alloc, &records, &starts, &[])?,
-        };
-        let targets = targets(alloc, &records, &starts)?;
-        let orbits = orbits_of_newest(alloc, &records, &starts, &targets)?;
+        let (starts, least) = starts_and_minima(alloc, &records, protocol)?;
+        let (targets, orbits) = targets_and_orbits(alloc, &records, &starts)?;
         Ok(Chart {
             records,
             starts,

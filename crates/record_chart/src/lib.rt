@@ -5,8 +5,6 @@
 mod arrange;
 mod chart;
 mod count_law;
-#[cfg(test)]
-mod count_tests;
 mod follow;
 mod group;
 mod in_order;
@@ -18,8 +16,6 @@ mod places;
 mod search;
 mod seen;
 mod standing;
-#[cfg(test)]
-mod tests;
 mod theorems;
 mod walks;
 

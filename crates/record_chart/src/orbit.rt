@@ -1,5 +1,5 @@
 /// Where following the next nodes leads, from a node of a graph in which each node has at most one.
-#[derive(Clone, Copy, Debug, PartialEq, Eq)]
+#[derive(Clone, Copy, PartialEq, Eq)]
 pub enum Orbit {
     /// After so many steps it is at a node that has no next one.
     Ends { after: u32, at: u32 },

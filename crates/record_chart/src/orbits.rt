@@ -9,7 +9,7 @@ use std::alloc::{AllocError, Global};
 use std::marker::Model;
 
 /// The orbits of all nodes of a graph in which each node has at most one next node.
-#[derive(Debug, Drop)]
+#[derive(Drop)]
 pub struct Orbits {
     seen: Vec<Seen>,
 }

@@ -1,7 +1,7 @@
 use crate::Orbit;
 
 /// What comes after the last node of a path.
-#[derive(Clone, Copy, Debug, PartialEq, Eq)]
+#[derive(Clone, Copy, PartialEq, Eq)]
 pub enum PathEnd {
     /// Nothing.
     Stops,

@@ -1,7 +1,7 @@
 use crate::Orbit;
 
 /// What is known of a node while the orbits are looked for.
-#[derive(Clone, Copy, Debug, PartialEq, Eq)]
+#[derive(Clone, Copy, PartialEq, Eq)]
 pub enum Seen {
     /// Nothing.
     New,

@@ -1,7 +1,8 @@
-ghost use Rattle.std.specs.Prelude.{◌≡◌, IfOk, map};
+ghost use Rattle.std.specs.Prelude.{◌≡◌, IfOk, IfSome, map};
 ghost use Rattle.std.specs.List.{range_with_len};
 ghost use Rattle.record_list.specs.Records.{greatest};
 ghost use Rattle.record_list.specs.Current.{cur, responsible, is_loose, straddling_upto};
+ghost use Rattle.record_chart.specs.Minima.{AreMinima};
 ghost use Rattle.record_chart.specs.Standings.{Judged};
 
 use crate::Chart;
@@ -11,7 +12,7 @@ use tx_types::{Link, Protocol, Rec};
 
 /// A chart, and where its pages stand under a protocol: the current version of each, and under Back Pointer
 /// Cyclic Commit the least back versions of the records up to it.
-#[derive(Debug, Drop)]
+#[derive(Drop)]
 pub struct Standing {
     chart: Chart,
     protocol: Protocol,
@@ -42,11 +43,7 @@ impl Standing {
     ) -> Result<Standing, AllocError>
         ensures { IfOk result (λ s. s ≡ record { protocol = protocol; logical = logical; list = chart }) }
     {
-        let current = current_versions(alloc, &chart, protocol, logical)?;
-        let settled = match protocol {
-            Protocol::Scc => None,
-            Protocol::Bpcc => chart.minima_up_to(alloc, &current)?,
-        };
+        let (current, settled) = current_and_settled(alloc, &chart, protocol, logical)?;
         Ok(Standing {
             chart,
             protocol,
@@ -131,6 +128,27 @@ impl Standing {
         let top = self.current_beyond(name.page);
         self.chart.straddling_up_to(name, top)
     }
+}
+
+/// The current version of each page, in order, and under Back Pointer Cyclic Commit the least back versions of the
+/// records up to it.
+fn current_and_settled(
+    alloc: Global,
+    chart: &Chart,
+    protocol: Protocol,
+    logical: u32,
+) -> Result<(Vec<u64>, Option<Vec<u64>>), AllocError>
+    ensures current { IfOk result (λ r.
+        r.0.items ≡ map (cur protocol chart.now logical) (range_with_len 0 logical)) }
+    ensures settled { IfOk result (λ r.
+        IfSome r.1 (λ least. AreMinima chart.now r.0.items least.items)) }
+{
+    let current = current_versions(alloc, chart, protocol, logical)?;
+    let settled = match protocol {
+        Protocol::Scc => None,
+        Protocol::Bpcc => chart.minima_up_to(alloc, &current)?,
+    };
+    Ok((current, settled))
 }
 
 /// The current version of each page, in order.

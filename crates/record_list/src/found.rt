@@ -1,21 +1,21 @@
 use tx_types::{Rec, Slot};
 
 /// A record and the slot that it stands in.
-#[derive(Clone, Copy, Debug, PartialEq, Eq)]
+#[derive(Clone, Copy, PartialEq, Eq)]
 pub struct Found {
     pub slot: Slot,
     pub rec: Rec,
 }
 
 /// Whether the newest record of a page counts.
-#[derive(Clone, Copy, Debug, PartialEq, Eq)]
+#[derive(Clone, Copy, PartialEq, Eq)]
 pub enum Verdict {
     Committed,
     Uncommitted,
 }
 
 /// What decides a verdict: the link at which the walk from the newest record of a page ends.
-#[derive(Clone, Copy, Debug, PartialEq, Eq)]
+#[derive(Clone, Copy, PartialEq, Eq)]
 pub enum Why {
     /// It leads back to the record that the walk began at.
     Cycle,
@@ -28,7 +28,7 @@ pub enum Why {
 }
 
 /// A law of sound lists that is broken, by its number, and the slot that the law names.
-#[derive(Clone, Copy, Debug, PartialEq, Eq)]
+#[derive(Clone, Copy, PartialEq, Eq)]
 pub struct Breach {
     pub law: u8,
     pub slot: Slot,

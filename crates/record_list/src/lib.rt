@@ -7,8 +7,6 @@ mod found;
 mod laws;
 mod plain;
 mod rule;
-#[cfg(test)]
-mod tests;
 mod theorems;
 mod walks;
 

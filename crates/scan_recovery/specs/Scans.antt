@@ -3,13 +3,15 @@ use Rattle.std.specs.Prelude.{◌≡◌, ℕ, List, map, All, Option, None, Some
 use Rattle.tx_types.specs.declared.config.Protocol.{Protocol}
 use Rattle.tx_types.specs.declared.record.Rec.{Rec}
 use Rattle.flash_model.specs.declared.flash.Seen.{Seen}
-use Rattle.flash_model.specs.Flash.{Contents}
+use Rattle.tx_types.specs.Config.{slots_of}
+use Rattle.flash_model.specs.Flash.{Contents, FlashState}
 use Rattle.flash_model.specs.Calls.{seen_of}
 use Rattle.page_record.specs.Rules.{record_of}
 use Rattle.record_list.specs.declared.found.Found.{Found}
 use Rattle.version_index.specs.declared.note.Note.{Note}
 use Rattle.version_index.specs.Images.{HasPages, SlotReads, records_in}
 use Rattle.version_index.specs.Notes.{note_of}
+use Rattle.scan_recovery.specs.Reading.{ReadsAll}
 
 -- the record of a spare area whose pages exist; nothing where there is none
 abbrev pub IsKeptRecord : Protocol → ℕ → List ℕ → Option Rec → Type 0
@@ -31,3 +33,10 @@ pub record IsScanOf
   pub reads : All (SlotReads protocol logical) image
   pub seen : slots ≡ map seen_of image
   pub records : list ≡ records_in protocol image
+
+-- each slot was read once, and these are the records of a scan
+pub record WasScanned
+    (protocol : Protocol) (logical : ℕ) (old new : FlashState) (list : List Found) : Type 0 where
+  pub slots : List Seen
+  pub scan : IsScanOf protocol logical old.image slots list
+  pub read : ReadsAll old new (slots_of old.shape)

@@ -6,7 +6,7 @@ use std::alloc::AllocError;
 use tx_types::{Memory, Slot};
 
 /// Why a device was not opened.
-#[derive(Clone, Copy, Debug, PartialEq, Eq)]
+#[derive(Clone, Copy, PartialEq, Eq)]
 pub enum RecoverError {
     /// A read met a fault, or power was off.
     Fault,

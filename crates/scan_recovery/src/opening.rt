@@ -1,4 +1,4 @@
-ghost use Rattle.std.specs.Prelude.{◌≡◌, ◌+◌, ◌*◌, ◌<◌, ◌≤◌, All, map, length, Ok, OnOk, IfOk, IfErr, IsNone, false};
+ghost use Rattle.std.specs.Prelude.{◌≡◌, ◌+◌, ◌*◌, ◌<◌, ◌≤◌, All, List, map, length, Ok, OnOk, IfOk, IfErr, IsNone, false};
 ghost use Rattle.tx_types.specs.Config.{IsShape, checked, shape_of, slots_of, blocks_of};
 ghost use Rattle.record_list.specs.Records.{IsScanned};
 ghost use Rattle.record_list.specs.SoundList.{PagesExist, CopiesAgree, IsSoundList};
@@ -8,7 +8,9 @@ ghost use Rattle.record_chart.specs.Charts.{Sorts, list_of};
 ghost use Rattle.die_alloc.specs.BlockTable.{IsBlockTable};
 ghost use Rattle.version_index.specs.Notes.{complete_slots};
 ghost use Rattle.die_alloc.specs.Opening.{used_in, opening_table, with_slots};
+ghost use Rattle.record_list.specs.declared.found.Found.{Found};
 ghost use Rattle.version_index.specs.Opening.{IsChosenFrom};
+ghost use Rattle.version_index.specs.Scanned.{AreScanned};
 ghost use Rattle.scan_recovery.specs.Opening.{IsOpenedFrom, IsBroken};
 ghost use Rattle.scan_recovery.specs.Recovered.{IfUnsound, is_read_failure};
 ghost use Rattle.scan_recovery.specs.Searches.{KnowsOrbits};
@@ -18,7 +20,7 @@ use crate::laws::first_breach;
 use crate::spare::{chosen_spare, is_blank, slots_in};
 use die_alloc::Blocks;
 use flash_model::Seen;
-use record_chart::{Orbits, Standing, counts, has_count, name_orbits};
+use record_chart::{Charted, Orbits, Standing, counts, has_count, name_orbits};
 use record_list::{Breach, CommitRule, Found};
 use std::alloc::{AllocError, Global};
 use std::mem::drop;
@@ -26,9 +28,41 @@ use tx_types::{Block, BlockState, Config, Memory, Protocol, Shape, Slot};
 use version_index::Index;
 
 /// The tables of slots that read so and hold these records, or the first of laws 3 to 9 that the
-/// records break, and the slot that it names. They keep laws 1 and 2. The list, where the chart does not have it, is
-/// given back before the tables are made, which may have its place.
+/// records break, and the slot that it names. They keep laws 1 and 2.
 pub fn open_tables<R: CommitRule>(
+    alloc: Global,
+    config: Config,
+    shape: Shape,
+    seen: Vec<Seen>,
+    charted: Charted,
+) -> Result<(Index<R>, Blocks), RecoverError>
+    requires check { checked config ≡ Ok shape }
+    requires rule { config.protocol ≡ R.protocol }
+    requires seen { length seen.items ≡ slots_of shape }
+    requires complete { map (λ f. f.slot.0) (list_of charted.list charted.chart)
+        ≡ complete_slots seen.items }
+    requires scanned { IsScanned (list_of charted.list charted.chart) }
+    requires pages { All (PagesExist config.logical) (list_of charted.list charted.chart) }
+    requires copies { let its = list_of charted.list charted.chart in All (CopiesAgree its) its }
+    requires sorts { Sorts (list_of charted.list charted.chart) charted.chart }
+    ensures sound { let its = list_of charted.list charted.chart in
+        OnOk result
+        (IsSoundList R.protocol its config.logical × HasRemovable R.protocol its config.logical shape
+        × HasCounts its) }
+    ensures tables { IfOk result (λ opened.
+        IsOpenedFrom config seen.items (list_of charted.list charted.chart) opened.0 opened.1) }
+    ensures unsound { IfErr result (λ e. IfUnsound e
+        (IsBroken R.protocol (list_of charted.list charted.chart) config.logical shape)) }
+    ensures no_fault { is_read_failure result ≡ false }
+{
+    let Charted { chart, list } = charted;
+    let standing = Standing::new(alloc, chart, config.protocol, config.logical)?;
+    open_standing(alloc, config, shape, seen, list, &standing)
+}
+
+/// The same, where it is known how the pages stand. The list, where the chart does not have it, is given back before
+/// the tables are made, which may have its place.
+fn open_standing<R: CommitRule>(
     alloc: Global,
     config: Config,
     shape: Shape,
@@ -60,9 +94,34 @@ pub fn open_tables<R: CommitRule>(
     let by_slot = standing.chart().list_of(&list);
     let spare = lawful_spare(alloc, shape, &seen, by_slot, standing)?;
     drop(list);
-    let mut index = Index::from_standing(alloc, config, &seen, standing)?;
+    let opened = tables_with_spare(alloc, config, shape, &seen, standing, spare)?;
+    Ok(opened)
+}
+
+/// The tables of slots that read so and hold the records of a sound list, of which it is known how they stand, with
+/// this spare.
+fn tables_with_spare<R: CommitRule>(
+    alloc: Global,
+    config: Config,
+    shape: Shape,
+    seen: &[Seen],
+    standing: &Standing,
+    spare: Block,
+) -> Result<(Index<R>, Blocks), Memory>
+    requires check { checked config ≡ Ok shape }
+    requires rule { config.protocol ≡ R.protocol }
+    requires seen { length seen.now ≡ slots_of shape }
+    requires scan { (list : List Found) × AreScanned R.protocol config seen.now list standing.now }
+    requires protocol { standing.now.protocol ≡ config.protocol }
+    requires logical { standing.now.logical ≡ config.logical }
+    requires spare { spare.0 < blocks_of shape }
+    ensures { (list : List Found) → AreScanned R.protocol config seen.now list standing.now →
+        IsChosenFrom config.protocol config.logical shape seen.now list spare.0 →
+        IfOk result (λ opened. IsOpenedFrom config seen.now list opened.0 opened.1) }
+{
+    let blocks = block_table(alloc, shape, seen, spare)?;
+    let mut index = Index::from_standing(alloc, config, seen, standing)?;
     index.set_spare(spare);
-    let blocks = block_table(alloc, shape, &seen, spare)?;
     Ok((index, blocks))
 }
 
@@ -93,7 +152,38 @@ fn lawful_spare(
     ensures no_fault { is_read_failure result ≡ false }
 {
     let orbits = asked_orbits(alloc, standing, list)?;
-    if let Some(Breach { law, slot }) = first_breach(alloc, standing, &orbits, list)? {
+    spare_by_orbits(alloc, shape, seen, list, standing, &orbits)
+}
+
+/// The same, where it is known where the links of all records lead, if laws 7 and 9 ask for it.
+fn spare_by_orbits(
+    alloc: Global,
+    shape: Shape,
+    seen: &[Seen],
+    list: &[Found],
+    standing: &Standing,
+    orbits: &Option<Orbits>,
+) -> Result<Block, RecoverError>
+    requires shape { IsShape shape }
+    requires seen { length seen.now ≡ slots_of shape }
+    requires complete { map (λ f. f.slot.0) list.now ≡ complete_slots seen.now }
+    requires scanned { IsScanned list.now }
+    requires pages { All (PagesExist standing.now.logical) list.now }
+    requires copies { All (CopiesAgree list.now) list.now }
+    requires sorts { Sorts list.now standing.now.list }
+    requires known { KnowsOrbits standing.now orbits.now }
+    requires counted { IsNone orbits.now → All (λ f. f.rec.count ≡ 0) list.now }
+    ensures sound { let s = standing.now in
+        OnOk result
+        (IsSoundList s.protocol list.now s.logical × HasRemovable s.protocol list.now s.logical shape
+        × HasCounts list.now) }
+    ensures spare { let s = standing.now in
+        IfOk result (λ spare. IsChosenFrom s.protocol s.logical shape seen.now list.now spare.0) }
+    ensures unsound { let s = standing.now in
+        IfErr result (λ e. IfUnsound e (IsBroken s.protocol list.now s.logical shape)) }
+    ensures no_fault { is_read_failure result ≡ false }
+{
+    if let Some(Breach { law, slot }) = first_breach(alloc, standing, orbits, list)? {
         return Err(RecoverError::Unsound { law, slot });
     }
     let Some(spare) = chosen_spare(alloc, seen, list, standing, shape)? else {
@@ -102,7 +192,7 @@ fn lawful_spare(
             slot: Slot(0),
         });
     };
-    match miscount(standing, &orbits, list) {
+    match miscount(standing, orbits, list) {
         None => Ok(spare),
         Some(Breach { law, slot }) => Err(RecoverError::Unsound { law, slot }),
     }

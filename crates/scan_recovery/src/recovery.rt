@@ -1,12 +1,14 @@
-ghost use Rattle.std.specs.Prelude.{◌≡◌, All, Ok, OnOk, IfOk, IfErr};
-ghost use Rattle.tx_types.specs.Config.{checked};
+ghost use Rattle.std.specs.Prelude.{◌≡◌, ◌<◌, ℕ, All, Ok, OnOk, IfOk, IfErr, length};
+ghost use Rattle.tx_types.specs.declared.config.Protocol.{Protocol};
+ghost use Rattle.tx_types.specs.Config.{checked, slots_of};
+ghost use Rattle.flash_model.specs.Flash.{FlashState, IsFlash};
 ghost use Rattle.flash_model.specs.Calls.{Carries};
 ghost use Rattle.flash_model.specs.Operations.{moment_of};
 ghost use Rattle.version_index.specs.Images.{IsSoundImage, written_in, IsLeastImageBreach};
 ghost use Rattle.record_list.specs.SoundList.{Copies};
 ghost use Rattle.record_list.specs.Written.{KeepsWritten};
 ghost use Rattle.record_chart.specs.Charts.{Sorts, list_of};
-ghost use Rattle.scan_recovery.specs.Scans.{IsScanOf};
+ghost use Rattle.scan_recovery.specs.Scans.{IsScanOf, WasScanned};
 ghost use Rattle.scan_recovery.specs.Opening.{IsOpened};
 ghost use Rattle.scan_recovery.specs.Recovered.{IfUnsound, is_read_failure, ReadsFor};
 
@@ -16,7 +18,7 @@ use crate::scan::{Scanned, scan};
 use crate::twins::first_contradiction;
 use die_alloc::Blocks;
 use flash_model::{Flash, Seen};
-use record_chart::{Chart, Charted, Standing};
+use record_chart::{Chart, Charted};
 use record_list::CommitRule;
 use std::alloc::Global;
 use tx_types::Config;
@@ -60,9 +62,7 @@ pub fn recover<F: Flash, R: CommitRule>(
     ensures reads { ReadsFor config.protocol (F.state flash.old) (F.state flash.new) result }
 {
     let (seen, charted) = sound_scan(alloc, flash, config)?;
-    let Charted { chart, list } = charted;
-    let standing = Standing::new(alloc, chart, config.protocol, config.logical)?;
-    open_tables(alloc, config, flash.shape(), seen, list, &standing)
+    open_tables(alloc, config, flash.shape(), seen, charted)
 }
 
 /// Scans the flash, puts the records in order of their names, and tries laws 1 and 2. How the slots read, the chart,
@@ -86,13 +86,65 @@ fn sound_scan<F: Flash>(
     let size = flash.shape().page_bytes as usize;
     let mut one = vec![in alloc; 0; size]?;
     let mut two = vec![in alloc; 0; size]?;
-    let scanned = scan(alloc, flash, config, &mut one)?;
+    sound_scan_by(alloc, flash, config, &mut one, &mut two)
+}
+
+/// The same by two pages of memory.
+fn sound_scan_by<F: Flash>(
+    alloc: Global,
+    flash: &mut F,
+    config: Config,
+    one: &mut [u8],
+    two: &mut [u8],
+) -> Result<(Vec<Seen>, Charted), RecoverError>
+    requires whole { IsFlash (F.state flash.old) }
+    requires one { length one.old ≡ (F.state flash.old).shape.page_bytes }
+    requires two { length two.old ≡ (F.state flash.old).shape.page_bytes }
+    ensures scan { let image = (F.state flash.old).image in
+        IfOk result (λ s. IsScanOf config.protocol config.logical image
+        s.0.items (list_of s.1.list s.1.chart)) }
+    ensures sorts { IfOk result (λ s. Sorts (list_of s.1.list s.1.chart) s.1.chart) }
+    ensures copies { let list = written_in config.protocol (F.state flash.old).image in
+        OnOk result (All (KeepsWritten config.protocol list config.logical Copies) list) }
+    ensures unsound { let old = F.state flash.old in
+        IfErr result (λ e. IfUnsound e
+        (IsLeastImageBreach config.protocol config.logical old.shape old.image)) }
+    ensures reads { ReadsFor config.protocol (F.state flash.old) (F.state flash.new) result }
+{
+    let scanned = scan(alloc, flash, config, one)?;
     let Scanned { seen, list } = scanned;
     let charted = Chart::of_own(alloc, list, config.protocol)?;
+    try_law_two(flash, &charted, one, two)?;
+    Ok((seen, charted))
+}
+
+/// Tries law 2 of records that were scanned and charted.
+fn try_law_two<F: Flash>(
+    flash: &mut F,
+    charted: &Charted,
+    one: &mut [u8],
+    two: &mut [u8],
+) -> Result<(), RecoverError>
+    requires sorts { Sorts (list_of charted.now.list charted.now.chart) charted.now.chart }
+    requires exist { All (λ f. f.slot.0 < slots_of (F.state flash.old).shape)
+        (list_of charted.now.list charted.now.chart) }
+    requires one { length one.old ≡ (F.state flash.old).shape.page_bytes }
+    requires two { length two.old ≡ (F.state flash.old).shape.page_bytes }
+    ensures copies { (protocol : Protocol) (logical : ℕ) (before : FlashState) →
+        WasScanned protocol logical before (F.state flash.old) (list_of charted.now.list charted.now.chart) →
+        let list = written_in protocol before.image in
+        OnOk result (All (KeepsWritten protocol list logical Copies) list) }
+    ensures unsound { (protocol : Protocol) (logical : ℕ) (before : FlashState) →
+        WasScanned protocol logical before (F.state flash.old) (list_of charted.now.list charted.now.chart) →
+        IfErr result (λ e. IfUnsound e (IsLeastImageBreach protocol logical before.shape before.image)) }
+    ensures reads { (protocol : Protocol) (logical : ℕ) (before : FlashState) →
+        WasScanned protocol logical before (F.state flash.old) (list_of charted.now.list charted.now.chart) →
+        ReadsFor protocol before (F.state flash.new) result }
+{
     let chart = &charted.chart;
     let by_slot = chart.list_of(&charted.list);
-    match first_contradiction(flash, by_slot, chart, &mut one, &mut two)? {
-        None => Ok((seen, charted)),
+    match first_contradiction(flash, by_slot, chart, one, two)? {
+        None => Ok(()),
         Some(at) => Err(RecoverError::Unsound {
             law: 2,
             slot: by_slot[at].slot,

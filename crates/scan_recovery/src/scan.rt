@@ -1,4 +1,4 @@
-ghost use Rattle.std.specs.Prelude.{◌≡◌, ◌+◌, ◌<◌, ◌++◌, ◌∷◌, [], ◌≤◌, true, length, vec_len, vec_capacity, IfOk, IfErr, Some, Ok, MatchResult};
+ghost use Rattle.std.specs.Prelude.{◌≡◌, ◌+◌, ◌<◌, ◌++◌, ◌∷◌, [], ◌≤◌, true, length, vec_len, vec_capacity, IfOk, OnOk, IfErr, Some, Ok, MatchResult};
 ghost use Rattle.std.specs.List.{cons_option};
 ghost use Rattle.std.specs.Option.{unwrap_or};
 ghost use Rattle.tx_types.specs.Config.{checked, slots_of};
@@ -44,15 +44,40 @@ pub fn scan<F: Flash>(
     let slots = flash.shape().slots();
     let mut seen = Vec::with_capacity(alloc, slots as usize)?;
     let mut list = Vec::with_capacity(alloc, slots as usize)?;
+    scan_slots(flash, config, page, &mut seen, &mut list)?;
+    Ok(Scanned { seen, list })
+}
+
+/// The same, where there is room for all: how the slots read and their records are put behind each other.
+fn scan_slots<F: Flash>(
+    flash: &mut F,
+    config: Config,
+    page: &mut [u8],
+    seen: &mut Vec<Seen>,
+    list: &mut Vec<Found>,
+) -> Result<(), RecoverError>
+    requires page { length page.old ≡ (F.state flash.old).shape.page_bytes }
+    requires no_seen { seen.old.items ≡ [] }
+    requires no_list { list.old.items ≡ [] }
+    requires seen_room { vec_capacity seen.old ≡ slots_of (F.state flash.old).shape }
+    requires list_room { vec_capacity list.old ≡ slots_of (F.state flash.old).shape }
+    ensures scan { let image = (F.state flash.old).image in
+        OnOk result (IsScanOf config.protocol config.logical image seen.new.items list.new.items) }
+    ensures unread { let image = (F.state flash.old).image in
+        IfErr result (λ e. IfUnsound e (IsFirstUnread config.protocol config.logical image)) }
+    ensures reads { let old = F.state flash.old in
+        ReadsTo old (F.state flash.new) (slots_of old.shape) result }
+{
+    let slots = flash.shape().slots();
     let mut unread = None;
     for at in 0..slots {
         match read_note(flash, config, Slot(at), page)? {
-            Some(note) => add(&mut seen, &mut list, Slot(at), note),
+            Some(note) => add(seen, list, Slot(at), note),
             None => unread = first_of(unread, Slot(at)),
         }
     }
     match unread {
-        None => Ok(Scanned { seen, list }),
+        None => Ok(()),
         Some(slot) => Err(RecoverError::Unsound { law: 1, slot }),
     }
 }

@@ -4,7 +4,5 @@
 
 mod audit;
 mod scc;
-#[cfg(test)]
-mod tests;
 
 pub use scc::Scc;

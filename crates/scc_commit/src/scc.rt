@@ -12,7 +12,7 @@ use record_list::{
 use tx_types::Protocol;
 
 /// The rules of Simple Cyclic Commit.
-#[derive(Clone, Copy, Debug, PartialEq, Eq)]
+#[derive(Clone, Copy, PartialEq, Eq)]
 pub struct Scc;
 
 impl CommitRule for Scc {

@@ -7,7 +7,7 @@ use std::marker::Model;
 
 /// Which record answers for each one, by their numbers, and for how many each answers. Where none ever answered,
 /// as under Simple Cyclic Commit, no room is touched.
-#[derive(Debug, Drop)]
+#[derive(Drop)]
 pub struct Answers {
     answerers: Grown<Option<u32>>,
     counts: Grown<u32>,

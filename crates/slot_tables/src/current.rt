@@ -5,7 +5,7 @@ use std::alloc::{AllocError, Global};
 use std::marker::Model;
 
 /// The current record of each page, by its number, and how many pages have one.
-#[derive(Debug, Drop)]
+#[derive(Drop)]
 pub struct Current {
     numbers: Vec<Option<u32>>,
     written: usize,

@@ -1,6 +1,8 @@
-ghost use Rattle.std.specs.Prelude.{◌≡◌, ◌<◌, ◌≤◌, length, slice_set, Some, None, IfOk, IfSome};
+ghost use Rattle.std.specs.Prelude.{◌≡◌, ◌<◌, ◌≤◌, [], length, replicate, slice_set, Some, None, IfOk, IfSome};
 ghost use Rattle.std.specs.List.{slice_get};
 ghost use Rattle.tx_types.specs.Config.{IsShape, slots_of};
+ghost use Rattle.slot_tables.specs.declared.slots.SlotUse.TheVariants as slot;
+ghost use Rattle.slot_tables.specs.Given.{kept_of};
 ghost use Rattle.slot_tables.specs.Kept.{record_at, numbers_at, added, blank_tables, IsKept, IsNewest};
 ghost use Rattle.slot_tables.specs.Versions.{HasFree};
 ghost use Rattle.slot_tables.specs.Copies.{NumbersBelow};
@@ -9,7 +11,6 @@ use crate::Tables;
 use crate::answers::Answers;
 use crate::current::Current;
 use crate::given::Given;
-use crate::needs::Needs;
 use crate::records::Records;
 use crate::slots::{SlotUse, Slots, is_blank};
 use crate::tally::Tally;
@@ -19,7 +20,7 @@ use std::marker::Model;
 use tx_types::{Rec, Shape, Slot};
 
 /// Tables that are being filled. Which slots are needed is not kept step by step, but found at the end.
-#[derive(Debug, Drop)]
+#[derive(Drop)]
 pub struct Filling {
     given: Given,
     blanks: Tally,
@@ -37,6 +38,67 @@ impl Model for Filling {
     ghost invariant = { IsFilling };
 }
 
+/// The tables of the current records, of what slots hold and of the records, while there is none.
+fn record_tables(
+    alloc: Global,
+    logical: u32,
+    slots: u32,
+) -> Result<(Current, Slots, Records), AllocError>
+    requires pages { logical ≤ 65536 }
+    requires slots { slots ≤ 65536 }
+    ensures current { IfOk result (λ t. t.0 ≡ replicate logical None) }
+    ensures slots { IfOk result (λ t. t.1 ≡ replicate slots slot.Blank) }
+    ensures records { IfOk result (λ t. t.2 ≡ record { records = replicate slots None; pages = replicate logical [] }) }
+{
+    Ok((
+        Current::new(alloc, logical)?,
+        Slots::new(alloc, slots)?,
+        Records::new(alloc, logical, slots)?,
+    ))
+}
+
+/// The tables of pins, of answers and of waits, while there are none.
+fn answer_tables(
+    alloc: Global,
+    logical: u32,
+    slots: u32,
+) -> Result<(Vec<u64>, Answers, Waits), AllocError>
+    requires pages { logical ≤ 65536 }
+    requires slots { slots ≤ 65536 }
+    ensures pins { IfOk result (λ t. t.0.items ≡ replicate logical 0) }
+    ensures answers { IfOk result (λ t. t.1 ≡ replicate slots None) }
+    ensures waits { IfOk result (λ t. t.2 ≡ record { pages = logical; waits = replicate slots None }) }
+{
+    Ok((
+        vec![in alloc; 0; logical as usize]?,
+        Answers::new(alloc, slots)?,
+        Waits::new(alloc, logical, slots)?,
+    ))
+}
+
+/// What the tables are given of a flash with nothing but blank slots.
+fn nothing_given(alloc: Global, shape: Shape, logical: u32) -> Result<Given, AllocError>
+    requires shape { IsShape shape }
+    requires pages { logical ≤ slots_of shape }
+    ensures kept { IfOk result (λ g. kept_of g ≡ blank_tables shape logical) }
+    ensures waits { IfOk result (λ g. g.waits.pages ≡ logical) }
+    ensures spare { IfOk result (λ g. g.spare ≡ None) }
+{
+    let count = shape.slots();
+    let (pins, answers, waits) = answer_tables(alloc, logical, count)?;
+    let (current, slots, records) = record_tables(alloc, logical, count)?;
+    Ok(Given {
+        shape,
+        slots,
+        records,
+        current,
+        answers,
+        waits,
+        pins,
+        spare: None,
+    })
+}
+
 impl Filling {
     /// The tables of a flash with nothing but blank slots, for so many logical pages.
     pub fn new(alloc: Global, shape: Shape, logical: u32) -> Result<Filling, AllocError>
@@ -44,20 +106,9 @@ impl Filling {
         requires pages { logical ≤ slots_of shape }
         ensures { IfOk result (λ t. t ≡ blank_tables shape logical) }
     {
-        let slots = shape.slots();
-        Ok(Filling {
-            given: Given {
-                shape,
-                slots: Slots::new(alloc, slots)?,
-                records: Records::new(alloc, logical, slots)?,
-                current: Current::new(alloc, logical)?,
-                answers: Answers::new(alloc, slots)?,
-                waits: Waits::new(alloc, logical, slots)?,
-                pins: vec![in alloc; 0; logical as usize]?,
-                spare: None,
-            },
-            blanks: Tally::new(alloc, shape.blocks(), shape.pages_per_block, true)?,
-        })
+        let blanks = Tally::new(alloc, shape.blocks(), shape.pages_per_block, true)?;
+        let given = nothing_given(alloc, shape, logical)?;
+        Ok(Filling { given, blanks })
     }
 
     /// The shape of the flash.
@@ -152,10 +203,7 @@ impl Filling {
     pub fn finish(self, alloc: Global) -> Result<Tables, AllocError>
         ensures { IfOk result (λ t. t ≡ self) }
     {
-        let shape = self.given.shape;
-        let mut marks = Tally::new(alloc, shape.blocks(), shape.pages_per_block, false)?;
-        self.given.mark_needed(&mut marks);
-        let needs = Needs::new(alloc, shape.blocks(), marks)?;
+        let needs = self.given.find_needs(alloc)?;
         Ok(Tables {
             given: self.given,
             blanks: self.blanks,

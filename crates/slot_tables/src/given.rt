@@ -1,4 +1,4 @@
-ghost use Rattle.std.specs.Prelude.{◌≡◌, ℕ, ◌<◌, ◌↔◌, length, slice_index, slice_set, Some, false, IfSome, IsSomeAnd};
+ghost use Rattle.std.specs.Prelude.{◌≡◌, ℕ, ◌<◌, ◌↔◌, length, slice_index, slice_set, Some, None, false, IfOk, IfSome, IsSomeAnd};
 ghost use Rattle.std.specs.Option.{option_map, option_and_then};
 ghost use Rattle.tx_types.specs.Config.{blocks_of};
 ghost use Rattle.tx_types.specs.declared.record.Rec.{Rec};
@@ -7,6 +7,7 @@ ghost use Rattle.slot_tables.specs.Kept.{home, home_in, is_wanted, is_needed, fi
 ghost use Rattle.slot_tables.specs.Versions.{Names};
 ghost use Rattle.slot_tables.specs.Given.{kept_of, settled, is_same_slot, marked, home_marked, moved_settled, IsSized, IsSettledFrom};
 ghost use Rattle.slot_tables.specs.Counts.{is_marked};
+ghost use Rattle.slot_tables.specs.Tables.{AreMarked};
 
 use crate::answers::Answers;
 use crate::current::Current;
@@ -15,10 +16,11 @@ use crate::records::Records;
 use crate::slots::{Slots, number_in};
 use crate::tally::Tally;
 use crate::waits::Waits;
+use std::alloc::{AllocError, Global};
 use tx_types::{Block, Shape};
 
 /// What the tables are given.
-#[derive(Debug, Drop)]
+#[derive(Drop)]
 pub struct Given {
     pub shape: Shape,
     pub slots: Slots,
@@ -246,8 +248,20 @@ impl Given {
         }
     }
 
+    /// Finds which slots are needed, where no spare is chosen.
+    pub fn find_needs(&self, alloc: Global) -> Result<Needs, AllocError>
+        requires sized { IsSized self.now }
+        requires spare { self.now.spare ≡ None }
+        ensures { IfOk result (λ needs. AreMarked (kept_of self.now) needs) }
+    {
+        let blocks = self.shape.blocks();
+        let mut marks = Tally::new(alloc, blocks, self.shape.pages_per_block, false)?;
+        self.mark_needed(&mut marks);
+        Needs::new(alloc, blocks, marks)
+    }
+
     /// Marks each slot that is needed: the home of each record that is wanted. No slot is marked before.
-    pub fn mark_needed(&self, marks: &mut Tally)
+    fn mark_needed(&self, marks: &mut Tally)
         requires sized { IsSized self.now }
         requires slots { length marks.old.marks ≡ length self.now.slots }
         requires none { (at : ℕ) → is_marked marks.old.marks at ≡ false }

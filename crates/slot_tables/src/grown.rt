@@ -5,7 +5,7 @@ use std::marker::Model;
 
 /// A value for each number. What is kept ends with the greatest number that was ever set, so that room for the
 /// others, which have the value of the beginning, is not touched.
-#[derive(Debug, Drop)]
+#[derive(Drop)]
 pub struct Grown<T> {
     first: Vec<T>,
     count: u32,

@@ -16,8 +16,6 @@ mod records;
 mod slots;
 mod tables;
 mod tally;
-#[cfg(test)]
-mod tests;
 mod waits;
 
 pub use filling::Filling;

@@ -12,7 +12,7 @@ use std::marker::Model;
 use tx_types::Block;
 
 /// Which slots are needed, and of each block but the spare how many are not.
-#[derive(Debug, Drop)]
+#[derive(Drop)]
 pub struct Needs {
     needed: Tally,
     unneeded: Peaks,

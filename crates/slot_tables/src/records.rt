@@ -12,7 +12,7 @@ use std::marker::Model;
 use tx_types::Rec;
 
 /// The record of each number, and of each page the numbers of its records, newest first.
-#[derive(Debug, Drop)]
+#[derive(Drop)]
 pub struct Records {
     records: Grown<Option<Rec>>,
     /// Behind the pages a list of the numbers that lost their record.

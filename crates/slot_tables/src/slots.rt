@@ -15,7 +15,7 @@ use std::marker::Model;
 use tx_types::{Block, Shape};
 
 /// What a slot holds.
-#[derive(Clone, Copy, Debug, PartialEq, Eq)]
+#[derive(Clone, Copy, PartialEq, Eq)]
 pub enum SlotUse {
     Blank,
     Damaged,
@@ -24,7 +24,7 @@ pub enum SlotUse {
 }
 
 /// What each slot holds, and of each record the slots that hold it, in their order.
-#[derive(Debug, Drop)]
+#[derive(Drop)]
 pub struct Slots {
     uses: Vec<SlotUse>,
     copies: Chains,

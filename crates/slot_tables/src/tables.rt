@@ -13,7 +13,7 @@ use tx_types::Shape;
 /// What each slot of a flash holds, and of each record, by its number, whether it is current, answers for
 /// another one, or is pinned. Which slots are needed, how many are garbage, and where a record is read is
 /// looked up. All memory is taken when the tables are made.
-#[derive(Debug, Drop)]
+#[derive(Drop)]
 pub struct Tables {
     pub(crate) given: Given,
     pub(crate) blanks: Tally,

@@ -6,7 +6,7 @@ use std::alloc::{AllocError, Global};
 use std::marker::Model;
 
 /// Marks of places that stand in groups of one size, and how many are set in each group.
-#[derive(Debug, Drop)]
+#[derive(Drop)]
 pub struct Tally {
     marks: Vec<bool>,
     counts: Vec<u32>,

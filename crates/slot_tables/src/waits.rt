@@ -9,7 +9,7 @@ use std::marker::Model;
 
 /// The page that each record waits for, by its number, and of each page the records that wait for it, in
 /// any order.
-#[derive(Debug, Drop)]
+#[derive(Drop)]
 pub struct Waits {
     waits: Grown<Option<u32>>,
     waiting: Chains,

@@ -3,8 +3,6 @@
 #![tactic(auto)]
 
 mod straddling;
-#[cfg(test)]
-mod tests;
 mod theorems;
 
 pub use straddling::{answers_for, responsible, responsible_of, responsible_version, straddles};

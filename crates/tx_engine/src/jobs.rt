@@ -8,14 +8,14 @@ use tx_types::{Rec, Slot};
 const MOST_DIES: usize = 16;
 
 /// A program that is done with others: its slot, and the record of the next page of a transaction.
-#[derive(Clone, Copy, Debug, PartialEq, Eq)]
+#[derive(Clone, Copy, PartialEq, Eq)]
 pub struct Job {
     pub slot: Slot,
     pub rec: Rec,
 }
 
 /// Room for a program in each die, so that no call but `new` takes memory.
-#[derive(Debug, Drop)]
+#[derive(Drop)]
 pub struct JobRoom {
     pub(crate) jobs: Vec<Job>,
     ghost enough: { MOST_DIES ≤ vec_capacity jobs },

@@ -12,7 +12,7 @@ use std::alloc::Global;
 use tx_types::{Config, Slot};
 
 /// Why a device was not mounted.
-#[derive(Clone, Copy, Debug, PartialEq, Eq)]
+#[derive(Clone, Copy, PartialEq, Eq)]
 pub enum MountError {
     /// The flash met a fault.
     Fault,

@@ -11,7 +11,7 @@ use tx_types::{Batch, Config, Link, Memory};
 use version_index::Index;
 
 /// An open transaction, with the pages that it writes.
-#[derive(Debug, Drop)]
+#[derive(Drop)]
 pub struct OpenTransaction {
     pub tag: u32,
     /// How many of its pages are written.
@@ -23,7 +23,7 @@ pub struct OpenTransaction {
 }
 
 /// A page that an open transaction writes or discards.
-#[derive(Debug, Drop)]
+#[derive(Drop)]
 pub struct PendingPage {
     /// Zeros where it is discarded.
     pub bytes: Vec<u8>,

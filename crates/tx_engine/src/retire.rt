@@ -14,7 +14,7 @@ use record_list::CommitRule;
 use tx_types::Block;
 
 /// Why a block was not retired.
-#[derive(Clone, Copy, Debug, PartialEq, Eq)]
+#[derive(Clone, Copy, PartialEq, Eq)]
 pub enum RetireError {
     /// There is no such block.
     Range,

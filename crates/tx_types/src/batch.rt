@@ -10,7 +10,7 @@ use std::alloc::Global;
 use std::marker::Model;
 
 /// The pages that one transaction writes or discards, seen as the size of a page and the list of the writes.
-#[derive(Debug, Drop)]
+#[derive(Drop)]
 pub struct Batch {
     page_bytes: u32,
     /// The number of entries.

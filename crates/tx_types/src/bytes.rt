@@ -5,7 +5,7 @@ use std::alloc::Global;
 use std::marker::Model;
 
 /// Bytes, seen as a list.
-#[derive(Debug, Drop)]
+#[derive(Drop)]
 pub struct Bytes {
     all: Vec<u8>,
 }

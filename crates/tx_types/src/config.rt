@@ -4,22 +4,22 @@ ghost use Rattle.tx_types.specs.Config.{checked, IsConfig, IsShape, slots_of, bl
 use thiserror::Error;
 
 /// The two protocols: Simple Cyclic Commit and Back Pointer Cyclic Commit.
-#[derive(Clone, Copy, Debug, PartialEq, Eq)]
+#[derive(Clone, Copy, PartialEq, Eq)]
 pub enum Protocol {
     Scc,
     Bpcc,
 }
 
 /// A place on the flash that holds one page of contents and its spare area, numbered from 0.
-#[derive(Clone, Copy, Debug, PartialEq, Eq, PartialOrd, Ord)]
+#[derive(Clone, Copy, PartialEq, Eq, PartialOrd, Ord)]
 pub struct Slot(pub u32);
 
 /// The slots that are erased together, numbered from 0.
-#[derive(Clone, Copy, Debug, PartialEq, Eq, PartialOrd, Ord)]
+#[derive(Clone, Copy, PartialEq, Eq, PartialOrd, Ord)]
 pub struct Block(pub u32);
 
 /// What a block is kept for.
-#[derive(Clone, Copy, Debug, PartialEq, Eq)]
+#[derive(Clone, Copy, PartialEq, Eq)]
 pub enum BlockState {
     /// Kept for the collector.
     Spare,
@@ -32,7 +32,7 @@ pub enum BlockState {
 }
 
 /// The numbers of a device.
-#[derive(Clone, Copy, Debug, PartialEq, Eq)]
+#[derive(Clone, Copy, PartialEq, Eq)]
 pub struct Config {
     pub protocol: Protocol,
     /// Bytes of contents of a page.
@@ -50,7 +50,7 @@ pub struct Config {
 }
 
 /// The numbers of a flash.
-#[derive(Clone, Copy, Debug, PartialEq, Eq)]
+#[derive(Clone, Copy, PartialEq, Eq)]
 pub struct Shape {
     /// Bytes of contents of a slot.
     pub page_bytes: u32,

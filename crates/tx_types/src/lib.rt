@@ -8,8 +8,6 @@ mod memory;
 mod record;
 mod stats;
 mod target;
-#[cfg(test)]
-mod tests;
 
 pub use batch::Batch;
 pub use bytes::Bytes;

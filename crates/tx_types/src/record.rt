@@ -2,7 +2,7 @@
 pub const MAX_VERSION: u64 = 4611686018427387904;
 
 /// The name of a record: a logical page at a version.
-#[derive(Clone, Copy, Debug, PartialEq, Eq)]
+#[derive(Clone, Copy, PartialEq, Eq)]
 pub struct Link {
     /// The logical page, numbered from 0.
     pub page: u32,
@@ -12,7 +12,7 @@ pub struct Link {
 
 /// What the spare area of a programmed slot says: which page its contents are, at which version, and
 /// which record comes next in the cycle of its transaction.
-#[derive(Clone, Copy, Debug, PartialEq, Eq)]
+#[derive(Clone, Copy, PartialEq, Eq)]
 pub struct Rec {
     /// The logical page of the contents, numbered from 0.
     pub page: u32,

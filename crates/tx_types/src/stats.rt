@@ -1,5 +1,5 @@
 /// What a device tells of itself.
-#[derive(Clone, Copy, Debug, PartialEq, Eq)]
+#[derive(Clone, Copy, PartialEq, Eq)]
 pub struct Stats {
     /// Pages that are not blank.
     pub written: u32,

@@ -2,23 +2,10 @@
 //! the replies.
 #![tactic(auto)]
 
-mod checking;
-mod comparing;
-mod devices;
-mod difference;
-mod kept;
-mod keying;
-mod laws;
-mod numbers;
-mod product;
-mod refusal;
-mod retiring;
-mod tasks;
 #[cfg(test)]
 mod tests;
-mod top;
-mod words;
 
+pub use command_line::{Kept, top};
 use desk_io::RealDesk;
 use image_desk::unread;
 use std::alloc::Global;
@@ -42,7 +29,7 @@ fn main(rt: HostRuntime) -> ExitCode {
         }
     }
     let mut desk = RealDesk::new(&rt);
-    ExitCode::from(top::top(rt.alloc(), &words, &mut desk))
+    ExitCode::from(top(rt.alloc(), &words, &mut desk))
 }
 
 /// Lets the C library keep memory that is freed: it gives back to the system what is free beyond twice the largest

@@ -13,8 +13,6 @@ mod places;
 mod reading;
 mod records;
 mod straddlers;
-#[cfg(test)]
-mod tests;
 mod theorems;
 
 pub use check::check_report;

@@ -6,8 +6,6 @@ mod line;
 mod number;
 mod records;
 mod report;
-#[cfg(test)]
-mod tests;
 mod theorems;
 mod walk;
 

@@ -28,10 +28,9 @@ pub struct Line {
 
 impl Line {
     /// Appends the line with its line feed. It is put together in the room, from its end.
-    pub fn write(&self, room: &mut [u8; LINE_ROOM], text: &mut Vec<u8>) -> Result<(), AllocError>
-        requires { length self.now.walk.shown.items ≤ most_links }
-        ensures { OnOk result (text.new.items
-            ≡ text.old.items ++ line_text self.now) }
+    pub fn write(self, room: &mut [u8; LINE_ROOM], text: &mut Vec<u8>) -> Result<(), AllocError>
+        requires { length self.walk.shown.items ≤ most_links }
+        ensures { OnOk result (text.new.items ≡ text.old.items ++ line_text self) }
     {
         let start = self.put(room);
         text.extend_from_slice(&room[start..])

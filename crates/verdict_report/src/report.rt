@@ -38,12 +38,21 @@ pub fn explain<R: CommitRule>(
 {
     let mut text = Vec::with_capacity(alloc, list.len().saturating_mul(COMMON_LINE))?;
     let count = write_report(alloc, R::protocol(), list, logical, &mut text)?;
+    append(text, out)?;
+    Ok(count)
+}
+
+/// Appends a text. Where it would stand alone it is not copied.
+fn append(text: Vec<u8>, out: &mut Vec<u8>) -> Result<(), Memory>
+    ensures ok { OnOk result (out.new.items ≡ out.old.items ++ text.items) }
+    ensures err { OnErr result (out.new.items ≡ out.old.items) }
+{
     if out.is_empty() {
         *out = text;
     } else {
         out.extend_from_slice(&text)?;
     }
-    Ok(count)
+    Ok(())
 }
 
 /// Appends the report, and answers the number of pages.
@@ -59,11 +68,26 @@ fn write_report(
         ≡ text.old.items ++ report protocol list.now logical) }
 {
     let records = Records::new(alloc, list)?;
+    write_lines(alloc, protocol, &records, logical, text)
+}
+
+/// Appends the lines of the report, and answers the number of pages.
+fn write_lines(
+    alloc: Global,
+    protocol: Protocol,
+    records: &Records,
+    logical: u32,
+    text: &mut Vec<u8>,
+) -> Result<u32, Memory>
+    ensures count { IfOk result (λ n. n ≡ length (pages records.now.chart logical)) }
+    ensures text { OnOk result (text.new.items
+        ≡ text.old.items ++ report protocol records.now.chart logical) }
+{
     let mut room = [0; LINE_ROOM];
     let mut count = 0;
     for page in 0..logical {
         if let Some(rec) = records.newest_record(page) {
-            let line = explained(alloc, protocol, &records, logical, page, &rec)?;
+            let line = explained(alloc, protocol, records, logical, page, &rec)?;
             line.write(&mut room, text)?;
             count += 1;
         }

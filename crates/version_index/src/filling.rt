@@ -1,8 +1,9 @@
 ghost use Rattle.std.specs.Prelude.{◌≡◌, ◌≤◌, All, List, length, map, IfOk, OnOk};
-ghost use Rattle.tx_types.specs.Config.{slots_of};
+ghost use Rattle.tx_types.specs.Config.{IsShape, slots_of};
 ghost use Rattle.record_chart.specs.Charts.{Sorts};
 ghost use Rattle.record_list.specs.SoundList.{PagesExist};
 ghost use Rattle.record_list.specs.declared.found.Found.{Found};
+ghost use Rattle.slot_tables.specs.Kept.{blank_tables};
 ghost use Rattle.version_index.specs.Filling.{AreFilled};
 ghost use Rattle.version_index.specs.Scanned.{CanFill};
 ghost use Rattle.version_index.specs.Notes.{seen_as, found_in};
@@ -16,11 +17,38 @@ use record_chart::{Chart, Standing};
 use record_list::Found;
 use slot_tables::Filling;
 use std::alloc::{AllocError, Global};
-use tx_types::{Memory, Protocol};
+use tx_types::{Memory, Protocol, Shape};
+
+/// Tables of slots that read so and hold the records of a list, in the order of their slots. Of the records it is known
+/// where their pages stand.
+pub fn filled(
+    alloc: Global,
+    shape: Shape,
+    logical: u32,
+    seen: &[Seen],
+    standing: &Standing,
+) -> Result<Filling, Memory>
+    requires shape { IsShape shape }
+    requires pages { logical ≤ slots_of shape }
+    requires fills { (list : List Found) ×
+        CanFill logical seen.now list standing.now.list (blank_tables shape logical) }
+    requires logical { standing.now.logical ≡ logical }
+    requires exist { All (PagesExist logical) standing.now.list }
+    requires few { length standing.now.list ≤ slots_of shape }
+    ensures reads { IfOk result (λ t. map seen_as (notes_in t) ≡ seen.now) }
+    ensures found { (list : List Found) →
+        CanFill logical seen.now list standing.now.list (blank_tables shape logical) →
+        IfOk result (λ t. found_in (notes_in t) ≡ list) }
+    ensures filled { IfOk result (AreFilled standing.now.protocol standing.now.list shape logical) }
+{
+    let mut filling = Filling::new(alloc, shape, logical)?;
+    fill(alloc, &mut filling, logical, seen, standing)?;
+    Ok(filling)
+}
 
 /// Fills tables of blank slots with slots that read so and hold the records of a list, in the order of their slots.
 /// Of the records it is known where their pages stand.
-pub fn fill(
+fn fill(
     alloc: Global,
     tables: &mut Filling,
     logical: u32,

@@ -7,12 +7,12 @@ ghost use Rattle.version_index.specs.Notes.{complete_slots};
 ghost use Rattle.version_index.specs.Noted.{IsNoted, IsNotedFrom};
 ghost use Rattle.version_index.specs.Scanned.{AreScanned};
 
-use crate::filling::{fill, standing_of};
+use crate::filling::{filled, standing_of};
 use crate::mentioning::first_mentions;
 use flash_model::Seen;
 use record_chart::Standing;
 use record_list::{CommitRule, Found};
-use slot_tables::{Filling, Tables};
+use slot_tables::Tables;
 use std::alloc::Global;
 use std::marker::{Model, PhantomData};
 use tx_types::{Config, Memory};
@@ -80,13 +80,13 @@ impl<R: CommitRule> Index<R> {
         let Ok(shape) = config.check() else {
             unreachable!();
         };
-        let mut filling = Filling::new(alloc, shape, config.logical)?;
-        fill(alloc, &mut filling, config.logical, seen, standing)?;
+        let mentions = first_mentions(alloc, standing.chart().records(), config.logical)?;
+        let filling = filled(alloc, shape, config.logical, seen, standing)?;
         let tables = filling.finish(alloc)?;
         Ok(Index {
             config,
             tables,
-            mentions: first_mentions(alloc, standing.chart().records(), config.logical)?,
+            mentions,
             rule: PhantomData,
         })
     }

@@ -1,7 +1,7 @@
 use tx_types::Rec;
 
 /// What is noted of a slot.
-#[derive(Clone, Copy, Debug, PartialEq, Eq)]
+#[derive(Clone, Copy, PartialEq, Eq)]
 pub enum Note {
     /// Nothing was programmed since the last erase.
     Blank,

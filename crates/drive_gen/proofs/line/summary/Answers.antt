@@ -18,9 +18,7 @@ returns-clause-ok c =
     rw (
       c.in_ok-extend_from_slice.ensures.items,
       c.deref.ensures.value,
-      c.in_ok-add_sum.ensures,
-      c.in_ok-add_flash.ensures,
-      c.in_ok-add_counts.ensures,
+      c.in_ok-add_counted.ensures,
       c.in_ok-line.ensures,
       parts,
       c.count_lines.ensures.tally,

@@ -1,96 +1,26 @@
-use Rattle.std.proofs.Common.{◌≡◌, ◌<◌, List, Ok, length, map, sym, ap, ◌∙◌, subst, subst₂, inl, inr}
-use Rattle.tx_types.specs.declared.config.Config.{Config}
-use Rattle.tx_types.specs.declared.config.Protocol.{Protocol}
-use Rattle.tx_types.specs.declared.config.Shape.{Shape}
-use Rattle.tx_types.specs.Config.{IsShape, checked, shape_of, slots_of, blocks_of}
-use Rattle.tx_types.proofs.ConfigLemmas.{checked_config}
-use Rattle.flash_model.specs.declared.flash.Seen.{Seen}
-use Rattle.record_list.specs.declared.found.Found.{Found}
-use Rattle.record_list.specs.Records.{IsScanned}
-use Rattle.record_list.specs.SoundList.{IsSoundList}
-use Rattle.record_chart.specs.Charts.{Sorts, list_of}
-use Rattle.record_chart.specs.Standings as standing
-use Rattle.record_list.specs.Written.{HasRemovable}
-use Rattle.die_alloc.specs.Opening.{opening_table}
-use Rattle.version_index.specs.Notes.{complete_slots}
-use Rattle.version_index.specs.Opening.{IsChosenFrom}
-use Rattle.version_index.specs.Scanned.{AreScanned}
+-- The list that stands is that of the chart.
 use Rattle.scan_recovery.proofs.opening.open_tables.Goals as goal
 
--- what is scanned, and known of how it stands
-scanned : {protocol : Protocol} (its : Config) (shape : Shape) (seen : List Seen) (list : List Found) (judged : standing.Judged)
-    → checked its ≡ Ok shape → length seen ≡ slots_of shape → map (λ f. f.slot.0) list ≡ complete_slots seen → IsScanned list → Sorts list judged.list
-    → judged.protocol ≡ protocol → judged.logical ≡ its.logical → IsSoundList judged.protocol list judged.logical → AreScanned protocol its seen list judged
-scanned its shape seen list judged check reads complete slots sorts rule logical sound = record {
-  reads = reads ∙ ap slots_of (checked_config its shape check).1;
-  complete = complete;
-  slots = slots;
-  sound = subst₂ (λ p n. IsSoundList p list n) rule logical sound;
-  sorts = sorts;
-}
+pub open_standing-requires-clause-complete : goal.open_standing-requires-clause-complete
+open_standing-requires-clause-complete g c = rw c.in_ok-standing.ensures c.requires.complete
 
-pub lawful_spare-requires-clause-shape : goal.lawful_spare-requires-clause-shape
-lawful_spare-requires-clause-shape g c =
-    let its = checked_config c.args.config c.args.shape c.requires.check in
-    subst IsShape (sym its.1) its.0.shape
+pub open_standing-requires-clause-scanned : goal.open_standing-requires-clause-scanned
+open_standing-requires-clause-scanned g c = rw c.in_ok-standing.ensures c.requires.scanned
 
-pub from_standing-requires-clause-scan : goal.from_standing-requires-clause-scan
-from_standing-requires-clause-scan g c =
-    let seen = c.args.seen.items in
-    let list = list_of c.args.list c.args.standing.now.list in
-    let keeps = rw (rw c.chart.ensures at c.list_of-by_slot.ensures) at c.in_ok-spare.ensures.sound in
-    rw c.deref-2.ensures.value (
-      list,
-      scanned c.args.config c.args.shape seen list c.args.standing.now c.requires.check c.requires.seen c.requires.complete
-          c.requires.scanned c.requires.sorts c.requires.protocol c.requires.logical keeps.0,
-    )
+pub open_standing-requires-clause-pages : goal.open_standing-requires-clause-pages
+open_standing-requires-clause-pages g c = rw c.in_ok-standing.ensures c.requires.pages
 
-pub block_table-requires-clause-shape : goal.block_table-requires-clause-shape
-block_table-requires-clause-shape g c =
-    let its = checked_config c.args.config c.args.shape c.requires.check in
-    subst IsShape (sym its.1) its.0.shape
+pub open_standing-requires-clause-copies : goal.open_standing-requires-clause-copies
+open_standing-requires-clause-copies g c = rw c.in_ok-standing.ensures c.requires.copies
 
-pub set_spare-requires : goal.set_spare-requires
-set_spare-requires g c =
-    let seen = c.args.seen.items in
-    let list = list_of c.args.list c.args.standing.now.list in
-    let spare = c.in_ok-spare.spare.0 in
-    let keeps = rw (rw c.chart.ensures at c.list_of-by_slot.ensures) at c.in_ok-spare.ensures.sound in
-    let noted = rw c.deref-2.ensures.value at c.in_ok-index.ensures in
-    let is = noted list (scanned c.args.config c.args.shape seen list c.args.standing.now c.requires.check c.requires.seen c.requires.complete
-    c.requires.scanned c.requires.sorts c.requires.protocol c.requires.logical keeps.0) in
-    let below : spare < blocks_of c.args.shape = elim c.in_ok-spare.ensures.spare [ inl high ↦ high.exists | inr high ↦ high.1.exists ] in
-    subst (λ i. spare < blocks_of (shape_of i)) (sym is.config) (subst (λ s. spare < blocks_of s)
-    (checked_config c.args.config c.args.shape c.requires.check).1 below)
+pub open_standing-requires-clause-sorts : goal.open_standing-requires-clause-sorts
+open_standing-requires-clause-sorts g c = rw c.in_ok-standing.ensures c.requires.sorts
 
 pub returns-clause-sound : goal.returns-clause-sound
-returns-clause-sound g c =
-    let list = list_of c.args.list c.args.standing.now.list in
-    let keeps = rw (rw c.chart.ensures at c.list_of-by_slot.ensures) at c.in_ok-spare.ensures.sound in (
-      subst₂ (λ p logical. IsSoundList p list logical) c.requires.protocol c.requires.logical keeps.0,
-      subst₂ (λ p logical. HasRemovable p list logical c.args.shape) c.requires.protocol c.requires.logical keeps.1,
-      keeps.2,
-    )
+returns-clause-sound g c = rw c.in_ok-standing.ensures at c.open_standing.ensures.sound
 
 pub returns-clause-tables : goal.returns-clause-tables
-returns-clause-tables g c =
-    let config = c.args.config in
-    let standing = c.args.standing.now in
-    let spare = c.in_ok-spare.spare.0 in
-    let seen = c.args.seen.items in
-    let list = list_of c.args.list c.args.standing.now.list in
-    let same = (checked_config config c.args.shape c.requires.check).1 in
-    let keeps = rw (rw c.chart.ensures at c.list_of-by_slot.ensures) at c.in_ok-spare.ensures.sound in
-    let chosen = rw (c.deref.ensures.value, (rw c.chart.ensures at c.list_of-by_slot.ensures)) at c.in_ok-spare.ensures.spare in
-    let noted = rw c.deref-2.ensures.value at c.in_ok-index.ensures in
-    let table = rw c.deref-3.ensures.value at c.in_ok-blocks.ensures in
-    record {
-      spare = spare;
-      chosen = subst (λ n. IsChosenFrom config.protocol n (shape_of config) seen list spare) c.requires.logical
-          (subst₂ (λ p s. IsChosenFrom p standing.logical s seen list spare) (c.requires.protocol ∙ sym c.requires.rule) same chosen);
-      scan = c.in_ok-index.index;
-      scanned = noted list (scanned c.args.config c.args.shape seen list c.args.standing.now c.requires.check c.requires.seen c.requires.complete
-          c.requires.scanned c.requires.sorts c.requires.protocol c.requires.logical keeps.0);
-      noted_is = c.set_spare.ensures;
-      table_is = table ∙ ap (λ s. opening_table s seen spare) same;
-    }
+returns-clause-tables g c = rw c.in_ok-standing.ensures at c.open_standing.ensures.tables
+
+pub returns-clause-unsound : goal.returns-clause-unsound
+returns-clause-unsound g c = rw c.in_ok-standing.ensures at c.open_standing.ensures.unsound

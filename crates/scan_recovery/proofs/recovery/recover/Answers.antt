@@ -9,32 +9,28 @@ use Rattle.scan_recovery.proofs.recovery.recover.Goals as goal
 
 pub open_tables-requires-clause-complete : goal.open_tables-requires-clause-complete
 open_tables-requires-clause-complete g c =
-    rw c.in_ok-standing.ensures
-    (scan_complete c.args.config.protocol c.args.config.logical (g.F.Flash.state c.args.flash.now).image c.in_ok-seen.seen.items
+    scan_complete c.args.config.protocol c.args.config.logical (g.F.Flash.state c.args.flash.now).image c.in_ok-seen.seen.items
     (list_of c.in_ok-seen.charted.list c.in_ok-seen.charted.chart)
-    c.in_ok-seen.ensures.scan)
+    c.in_ok-seen.ensures.scan
 
 pub open_tables-requires-clause-scanned : goal.open_tables-requires-clause-scanned
 open_tables-requires-clause-scanned g c =
-    rw c.in_ok-standing.ensures
-    (scan_scanned c.args.config.protocol c.args.config.logical (g.F.Flash.state c.args.flash.now).image c.in_ok-seen.seen.items
+    scan_scanned c.args.config.protocol c.args.config.logical (g.F.Flash.state c.args.flash.now).image c.in_ok-seen.seen.items
     (list_of c.in_ok-seen.charted.list c.in_ok-seen.charted.chart)
-    c.in_ok-seen.ensures.scan)
+    c.in_ok-seen.ensures.scan
 
 pub open_tables-requires-clause-pages : goal.open_tables-requires-clause-pages
 open_tables-requires-clause-pages g c =
-    rw c.in_ok-standing.ensures
-    (scan_pages c.args.config.protocol c.args.config.logical (g.F.Flash.state c.args.flash.now).image c.in_ok-seen.seen.items
+    scan_pages c.args.config.protocol c.args.config.logical (g.F.Flash.state c.args.flash.now).image c.in_ok-seen.seen.items
     (list_of c.in_ok-seen.charted.list c.in_ok-seen.charted.chart)
-    c.in_ok-seen.ensures.scan)
+    c.in_ok-seen.ensures.scan
 
 pub open_tables-requires-clause-copies : goal.open_tables-requires-clause-copies
 open_tables-requires-clause-copies g c =
-    rw c.in_ok-standing.ensures
-    (copies_agree c.args.config.protocol c.args.config.logical (g.F.Flash.state c.args.flash.now).image c.in_ok-seen.seen.items
+    copies_agree c.args.config.protocol c.args.config.logical (g.F.Flash.state c.args.flash.now).image c.in_ok-seen.seen.items
     (list_of c.in_ok-seen.charted.list c.in_ok-seen.charted.chart)
     c.in_ok-seen.ensures.scan
-    c.in_ok-seen.ensures.copies)
+    c.in_ok-seen.ensures.copies
 
 pub returns-clause-sound : goal.returns-clause-sound
 returns-clause-sound g c =
@@ -43,7 +39,7 @@ returns-clause-sound g c =
     recovered_sound c.args.config.protocol g.R.CommitRule.protocol c.requires.rule c.args.config.logical a d c.shape.result
     (c.shape.ensures.shape ∙ c.in_ok-seen.ensures.reads.carries.shape) c.in_ok-seen.seen.items (list_of c.in_ok-seen.charted.list c.in_ok-seen.charted.chart)
     c.in_ok-seen.ensures.scan
-    c.in_ok-seen.ensures.copies c.open_tables.result (rw c.in_ok-standing.ensures at c.open_tables.ensures.sound)
+    c.in_ok-seen.ensures.copies c.open_tables.result c.open_tables.ensures.sound
 
 pub returns-clause-tables : goal.returns-clause-tables
 returns-clause-tables g c =
@@ -51,7 +47,7 @@ returns-clause-tables g c =
     IfOk-weaker c.open_tables.result _ _
     (λ opened. opened_image c.args.config a.image c.in_ok-seen.seen.items (list_of c.in_ok-seen.charted.list c.in_ok-seen.charted.chart)
     c.in_ok-seen.ensures.scan _ _)
-    (rw c.in_ok-standing.ensures at c.open_tables.ensures.tables)
+    c.open_tables.ensures.tables
 
 pub returns-clause-unsound : goal.returns-clause-unsound
 returns-clause-unsound g c =
@@ -60,7 +56,7 @@ returns-clause-unsound g c =
     recovered_unsound c.args.config.protocol g.R.CommitRule.protocol c.requires.rule c.args.config.logical a d c.shape.result
     (c.shape.ensures.shape ∙ c.in_ok-seen.ensures.reads.carries.shape) c.in_ok-seen.seen.items (list_of c.in_ok-seen.charted.list c.in_ok-seen.charted.chart)
     c.in_ok-seen.ensures.scan
-    c.in_ok-seen.ensures.copies c.open_tables.result (rw c.in_ok-standing.ensures at c.open_tables.ensures.unsound)
+    c.in_ok-seen.ensures.copies c.open_tables.result c.open_tables.ensures.unsound
 
 pub returns-clause-reads : goal.returns-clause-reads
 returns-clause-reads g c =
@@ -70,4 +66,4 @@ returns-clause-reads g c =
     (c.shape.ensures.shape ∙ c.in_ok-seen.ensures.reads.carries.shape) c.in_ok-seen.seen.items (list_of c.in_ok-seen.charted.list c.in_ok-seen.charted.chart)
     c.in_ok-seen.ensures.scan
     c.in_ok-seen.ensures.copies c.open_tables.result c.in_ok-seen.ensures.reads
-    (rw c.in_ok-standing.ensures at c.open_tables.ensures.unsound) c.open_tables.ensures.no_fault
+    c.open_tables.ensures.unsound c.open_tables.ensures.no_fault

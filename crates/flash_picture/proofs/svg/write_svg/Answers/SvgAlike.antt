@@ -55,12 +55,12 @@ module _ (list sorted : List Found) (is : Sorts list sorted) where
       (arrows_alike grid cells marks) (walks_alike its.protocol its.logical)
 
 -- a picture that is drawn of the records in order of their names
-pub svg_drawn : (its : Config) (notes : List Note) (marks : Marks) (sorted : List Found) (cells : List Cell) (grid : Grid) (old new : List ℕ) →
+pub svg_drawn : (its : Config) (notes : List Note) (marks : Marks) (sorted : List Found) (cells : List Cell) (old new : List ℕ) →
     Sorts (found_in notes) sorted → cells ≡ map (cell_of its.protocol sorted its.logical) notes →
-    grid ≡ grid_of (shape_of its) cells marks → new ≡ old ++ drawing its grid sorted cells marks → new ≡ old ++ svg its notes marks
+    new ≡ old ++ drawing its (grid_of (shape_of its) cells marks) sorted cells marks → new ≡ old ++ svg its notes marks
 unfolding svg
-svg_drawn its notes marks sorted cells grid old new is cells_are grid_is drawn =
+svg_drawn its notes marks sorted cells old new is cells_are drawn =
     let list = found_in notes in
     drawn ∙ ap (λ t. old ++ t)
-    (drawing_alike list sorted is its grid cells marks ∙ ap (λ g. drawing its g list cells marks) grid_is
+    (drawing_alike list sorted is its (grid_of (shape_of its) cells marks) cells marks
     ∙ ap (λ cs. drawing its (grid_of (shape_of its) cs marks) list cs marks) (cells_are ∙ cells_alike list sorted is its notes refl))

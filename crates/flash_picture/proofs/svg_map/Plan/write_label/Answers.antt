@@ -1,4 +1,4 @@
-use Rattle.std.proofs.Common.{◌∙◌, ◌+◌, ◌++◌, ap}
+use Rattle.std.proofs.Common.{◌∙◌, ◌+◌, ◌++◌, ap, append_assoc, codes, refl, sym}
 use Rattle.std.proofs.lemmas.Result.{on_ok_weaker}
 use Rattle.flash_picture.specs.Pieces.{words_begin}
 use Rattle.flash_picture.proofs.Texts.{then}
@@ -9,5 +9,9 @@ returns c =
     let old = c.args.text.now.items in
     let begun = c.open_label.new.text.items in
     let place = c.in_ok-open_words.ensures ∙ ap (λ top. begun ++ words_begin (record { left = 8; top = top + 72 })) c.top_of_block-top.ensures.top in
-    let words = then begun _ _ _ _ (then begun _ _ _ _ place c.in_ok-write_label_words.ensures) c.in_ok-add.ensures in
-    on_ok_weaker c.add-2.result (λ end. then old _ _ _ _ (then old _ _ _ _ c.in_ok-open_label.ensures words) end) c.add-2.ensures
+    let said = c.write_label_words.new.text.items in
+    let words = then begun _ said (codes "</text>") (said ++ codes "</text>") (then begun _ _ _ _ place c.in_ok-write_label_words.ensures) refl in
+    on_ok_weaker c.add.result
+    (λ end. then old _ _ _ _ (then old _ _ _ _ c.in_ok-open_label.ensures words)
+    (end ∙ sym (append_assoc said (codes "</text>") (codes "</g>\n"))))
+    c.add.ensures

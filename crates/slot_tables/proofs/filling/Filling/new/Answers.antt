@@ -4,8 +4,8 @@ use Rattle.std.proofs.Common.{rules, arith}
 use Rattle.slot_tables.proofs.filling.Filling.new.Answers.FirstTables.{first_filling}
 use Rattle.slot_tables.proofs.filling.Filling.new.Goals as goal
 
-pub new-requires-6-clause-small : goal.new-requires-6-clause-small
-new-requires-6-clause-small c = rw c.blocks-2.ensures (omega (arith, c.requires.shape.slots_most))
+pub new-requires-clause-small : goal.new-requires-clause-small
+new-requires-clause-small c = rw c.blocks-2.ensures (omega (arith, c.requires.shape.slots_most))
 
 pub invariant_of-result : goal.invariant_of-result
 invariant_of-result c =

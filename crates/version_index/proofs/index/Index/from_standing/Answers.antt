@@ -20,11 +20,11 @@ use Rattle.version_index.proofs.index.Index.from_standing.Answers.ScanJudged.{fi
 use Rattle.version_index.proofs.index.Index.from_standing.Answers.ScanSizes.{complete_length, sorted_exist}
 use Rattle.version_index.proofs.index.Index.from_standing.Goals as goal
 
-pub fill-requires-clause-few : goal.fill-requires-clause-few
-fill-requires-clause-few g c =
+pub filled-requires-clause-few : goal.filled-requires-clause-few
+filled-requires-clause-few g c =
     let same : c.in-Ok.shape ≡ shape_of c.args.config =
     ap (λ r. result_unwrap_or r (shape_of c.args.config)) (sym c.in-Ok.is ∙ c.check.ensures.exact ∙ c.requires.check) in
-    let slots = ap (λ (t : Kept). slots_of t.shape) c.in_ok-filling.ensures ∙ ap slots_of same in
+    let slots = ap slots_of same in
     let long = length_permutation c.requires.scan.0 c.args.standing.now.list c.requires.scan.1.sorts.records in
     let some = sym (length-map c.requires.scan.0 (λ f. f.slot.0)) ∙ ap length c.requires.scan.1.complete in
     let few = complete_length c.args.seen.now in
@@ -33,25 +33,23 @@ fill-requires-clause-few g c =
 
 pub invariant_of-result : goal.invariant_of-result
 invariant_of-result g c =
-    let t : Kept = c.fill.new.tables in
+    let t : Kept = c.in_ok-filling.filling in
     let its = c.args.config in
-    let m = c.in_ok-first_mentions.field-0.items in
+    let m = c.in_ok-mentions.mentions.items in
     let same : c.in-Ok.shape ≡ shape_of its =
     ap (λ r. result_unwrap_or r (shape_of its)) (sym c.in-Ok.is ∙ c.check.ensures.exact ∙ c.requires.check) in
-    let shape = ap (λ (u : Kept). u.shape) c.in_ok-filling.ensures ∙ same in
-    let can = can_fill g.R.CommitRule.protocol its c.in-Ok.shape c.args.seen.now c.requires.scan.0 c.args.standing.now c.in_ok-filling.filling
-    c.in_ok-filling.ensures same c.requires.scan.1 in
-    let found = c.in_ok-fill.ensures.found c.requires.scan.0 can in
+    let can = can_fill g.R.CommitRule.protocol its c.in-Ok.shape c.args.seen.now c.requires.scan.0 c.args.standing.now same c.requires.scan.1 in
+    let found = c.in_ok-filling.ensures.found c.requires.scan.0 can in
     let filled = subst (λ p. AreFilled p c.args.standing.now.list (shape_of its) its.logical t) c.requires.protocol
-    (subst (λ s. AreFilled c.args.standing.now.protocol c.args.standing.now.list s its.logical t) shape c.in_ok-fill.ensures.filled) in
+    (subst (λ s. AreFilled c.args.standing.now.protocol c.args.standing.now.list s its.logical t) same c.in_ok-filling.ensures.filled) in
     let noted = fresh_noted _ its c.args.seen.now c.requires.scan.0 (noted_by its m t) c.requires.check c.in-Ok.ensures.bounds c.requires.rule
     c.requires.scan.1.reads c.requires.scan.1.slots c.requires.scan.1.sound (record {
       config = refl;
-      reads = c.in_ok-fill.ensures.reads;
+      reads = c.in_ok-filling.ensures.reads;
       found = found;
       pins = filled.pins;
       spare = filled.spare;
-      mentions = c.in_ok-first_mentions.ensures
+      mentions = c.in_ok-mentions.ensures
           ∙ mentions_sorted c.requires.scan.0 c.args.standing.now.list c.records.result.now c.requires.scan.1.sorts (c.records.ensures.records ∙
           c.chart.ensures) (range_with_len 0 its.logical);
     }) in
@@ -60,27 +58,25 @@ invariant_of-result g c =
 
 pub returns : goal.returns
 returns g c own scan =
-    let t : Kept = c.fill.new.tables in
     let its = c.args.config in
-    let m = c.in_ok-first_mentions.field-0.items in
+    let m = c.in_ok-mentions.mentions.items in
     let same : c.in-Ok.shape ≡ shape_of its =
     ap (λ r. result_unwrap_or r (shape_of its)) (sym c.in-Ok.is ∙ c.check.ensures.exact ∙ c.requires.check) in
-    let can = can_fill g.R.CommitRule.protocol its c.in-Ok.shape c.args.seen.now own c.args.standing.now c.in_ok-filling.filling c.in_ok-filling.ensures same
-    scan in
-    let filled = c.in_ok-fill.ensures.filled in
+    let can = can_fill g.R.CommitRule.protocol its c.in-Ok.shape c.args.seen.now own c.args.standing.now same scan in
+    let filled = c.in_ok-filling.ensures.filled in
     subst (λ (k : Kept). IsNotedFrom its c.args.seen.now own (noted_by its m k)) (sym c.in_ok-tables.ensures) (record {
       config = refl;
-      reads = c.in_ok-fill.ensures.reads;
-      found = c.in_ok-fill.ensures.found own can;
+      reads = c.in_ok-filling.ensures.reads;
+      found = c.in_ok-filling.ensures.found own can;
       pins = filled.pins;
       spare = filled.spare;
-      mentions = c.in_ok-first_mentions.ensures
+      mentions = c.in_ok-mentions.ensures
           ∙ mentions_sorted own c.args.standing.now.list c.records.result.now scan.sorts (c.records.ensures.records ∙
           c.chart.ensures) (range_with_len 0 its.logical);
     })
 
-pub new-requires-clause-pages : goal.new-requires-clause-pages
-new-requires-clause-pages g c =
+pub filled-requires-clause-pages : goal.filled-requires-clause-pages
+filled-requires-clause-pages g c =
     let its = c.args.config in
     let same : c.in-Ok.shape ≡ shape_of its =
     ap (λ r. result_unwrap_or r (shape_of its)) (sym c.in-Ok.is ∙ c.check.ensures.exact ∙ c.requires.check) in
@@ -90,22 +86,21 @@ new-requires-clause-pages g c =
     let space = c.in-Ok.ensures.bounds.space in
     subst (λ s. its.logical ≤ slots_of s) (sym same) (omega arith)
 
-pub fill-requires-clause-exist : goal.fill-requires-clause-exist
-fill-requires-clause-exist g c =
+pub filled-requires-clause-exist : goal.filled-requires-clause-exist
+filled-requires-clause-exist g c =
     sorted_exist _ c.requires.scan.0 c.args.standing.now.list c.args.config.logical c.requires.scan.1.sound c.requires.scan.1.slots c.requires.scan.1.sorts
 
-pub new-requires-clause-shape : goal.new-requires-clause-shape
-new-requires-clause-shape g c =
+pub filled-requires-clause-shape : goal.filled-requires-clause-shape
+filled-requires-clause-shape g c =
     let same : c.in-Ok.shape ≡ shape_of c.args.config =
     ap (λ r. result_unwrap_or r (shape_of c.args.config)) (sym c.in-Ok.is ∙ c.check.ensures.exact ∙ c.requires.check) in
     subst IsShape (sym same) c.in-Ok.ensures.bounds.shape
 
-pub fill-requires-clause-fills : goal.fill-requires-clause-fills
-fill-requires-clause-fills g c =
+pub filled-requires-clause-fills : goal.filled-requires-clause-fills
+filled-requires-clause-fills g c =
     let its = c.args.config in
     let same : c.in-Ok.shape ≡ shape_of its =
     ap (λ r. result_unwrap_or r (shape_of its)) (sym c.in-Ok.is ∙ c.check.ensures.exact ∙ c.requires.check) in (
       c.requires.scan.0,
-      can_fill g.R.CommitRule.protocol its c.in-Ok.shape c.args.seen.now c.requires.scan.0 c.args.standing.now c.in_ok-filling.filling
-          c.in_ok-filling.ensures same c.requires.scan.1,
+      can_fill g.R.CommitRule.protocol its c.in-Ok.shape c.args.seen.now c.requires.scan.0 c.args.standing.now same c.requires.scan.1,
     )

@@ -1,5 +1,5 @@
 -- Blank tables can be filled with the records of a sound list, of which is known how they stand.
-use Rattle.std.proofs.Common.{◌≡◌, List, sym, ap, ◌∙◌}
+use Rattle.std.proofs.Common.{◌≡◌, List, refl, sym, ap, ◌∙◌}
 use Rattle.std.proofs.lemmas.List.Sorted.{Contains-permutation, IsPermutation-sym}
 use Rattle.tx_types.specs.declared.config.Config.{Config}
 use Rattle.tx_types.specs.declared.config.Protocol.{Protocol}
@@ -8,18 +8,17 @@ use Rattle.tx_types.specs.Config.{shape_of, slots_of}
 use Rattle.flash_model.specs.declared.flash.Seen.{Seen}
 use Rattle.record_list.specs.declared.found.Found.{Found}
 use Rattle.record_chart.specs.Standings as standing
-use Rattle.slot_tables.specs.Kept.{Kept, blank_tables}
+use Rattle.slot_tables.specs.Kept.{blank_tables}
 use Rattle.version_index.specs.Scanned.{AreScanned, CanFill}
 use Rattle.version_index.proofs.index.Index.from_standing.Answers.ScanSizes.{sorted_agree}
 
-pub can_fill : (protocol : Protocol) (its : Config) (shape : Shape) (scanned : List Seen) (list : List Found) (judged : standing.Judged) (k : Kept)
-    → k ≡ blank_tables shape its.logical → shape ≡ shape_of its → AreScanned protocol its scanned list judged
-    → CanFill its.logical scanned list judged.list k
-can_fill protocol its shape scanned list judged k is same scan =
-    let of_shape = ap (λ (t : Kept). t.shape) is in
+pub can_fill : (protocol : Protocol) (its : Config) (shape : Shape) (scanned : List Seen) (list : List Found) (judged : standing.Judged)
+    → shape ≡ shape_of its → AreScanned protocol its scanned list judged
+    → CanFill its.logical scanned list judged.list (blank_tables shape its.logical)
+can_fill protocol its shape scanned list judged same scan =
     record {
-      blank = is ∙ ap (λ s. blank_tables s its.logical) (sym of_shape);
-      reads = scan.reads ∙ sym (ap slots_of (of_shape ∙ same));
+      blank = refl;
+      reads = scan.reads ∙ sym (ap slots_of same);
       complete = scan.complete;
       agree = sorted_agree protocol list judged.list its.logical scan.sound scan.slots scan.sorts;
       listed = λ f i. Contains-permutation list judged.list f scan.sorts.records i;

@@ -1,0 +1,6 @@
+pub mod OneFinding
+pub mod OneKeyFate
+pub mod OneFate
+pub mod Saving
+pub mod Endings
+pub mod ArrayRuns

@@ -1,0 +1,29 @@
+use Rattle.std.proofs.Common.{◌≡◌, refl, arith, Some}
+use Rattle.tx_types.specs.Config.{checked}
+use Rattle.desk_tasks.specs.Fate.{Fate, Driven}
+use Rattle.desk_tasks.specs.Steps.{formatting}
+use Rattle.desk_tasks.specs.Asked.{Drive, Format}
+use Rattle.desk_tasks.proofs.Works.{found_none, works}
+use Rattle.command_line.proofs.call.work.Goals as goal
+
+pub returns-in-Some-Format : goal.returns-in-Some-Format
+returns-in-Some-Format g c =
+    let asks = rw c.in-Some-Format.field-0-is at c.in-Some-Format.ensures in
+    let image = c.in-Some-Format.image.now in
+    let its = c.in-Some-Format.config in
+    let allowance = c.in-Some-Format.allowance in
+    let desk = g.D.Desk.state c.args.desk.now in
+    let done = works (Some (Format image its allowance)) desk desk 0 (λ (fate : Fate). fate ≡ formatting image its allowance (checked its))
+    c.formatted.result refl (omega arith) (found_none desk) (λ fate h. (h, refl)) c.formatted.ensures in
+    rw (← asks) done
+
+pub returns-in-Some-Drive : goal.returns-in-Some-Drive
+returns-in-Some-Drive g c =
+    let asks = rw c.in-Some-Drive.field-0-is at c.in-Some-Drive.ensures in
+    let start = c.in-Some-Drive.start in
+    let count = c.in-Some-Drive.count in
+    let protocol = c.in-Some-Drive.protocol in
+    let desk = g.D.Desk.state c.args.desk.now in
+    let done = works (Some (Drive start count protocol)) desk desk 0 (λ (fate : Fate). fate ≡ Driven start count protocol) c.driven.result
+    refl (omega arith) (found_none desk) (λ fate h. (h, refl)) c.driven.ensures in
+    rw (← asks) done

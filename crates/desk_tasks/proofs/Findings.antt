@@ -1,0 +1,190 @@
+-- The fate of a comparison, from what is found.
+use Rattle.std.proofs.Common.{◌≡◌, ◌≢◌, ◌⊎◌, inl, inr, ℕ, ◌+◌, ◌-◌, ◌*◌, ◌<◌, ◌≤◌, List, length, Option, None, Some, Result, Ok, Err, refl, sym, ap, ◌∙◌, subst}
+use Rattle.std.proofs.Common.{arith, slice_index}
+use Rattle.std.specs.Prelude.{All, IfErr, IfOk}
+use Rattle.std.specs.Result.{IsErrAnd}
+use Rattle.std.specs.List.{range_with_len}
+use Rattle.std.proofs.Math.Nat.{mul-le-mul_right}
+use Rattle.std.proofs.lemmas.List.{length-map, ext_get_or}
+use Rattle.std.proofs.lemmas.List.Elements.{All-weaker}
+use Rattle.std.proofs.lemmas.List.FromFn.{length-range_with_len}
+use Rattle.tx_types.specs.declared.config.Config.{Config}
+use Rattle.tx_types.specs.declared.config.Protocol.{Protocol}
+use Rattle.tx_types.specs.Config.{blocks_of, checked, shape_of}
+use Rattle.tx_types.proofs.ConfigLemmas.{checked_config}
+use Rattle.flash_model.specs.Flash.{Contents}
+use Rattle.record_list.specs.declared.found.Found.{Found}
+use Rattle.record_list.specs.Records.{IsScanned}
+use Rattle.record_list.specs.SoundList.{Pages as page_law, PagesExist}
+use Rattle.version_index.specs.Images.{IsSoundImage, array_in, records_in}
+use Rattle.version_index.proofs.OfLaws.ImageScans.{records_scanned}
+use Rattle.array_machine.specs.ArrayState.{ArrayState, idle, page_at}
+use Rattle.verdict_report.specs.Report.{pages}
+use Rattle.desk_tasks.specs.Fate.{Fate, Same, DifferBlank, DifferAt}
+use Rattle.desk_tasks.specs.Checking.{ChecksList, HaveOneShape, DifferAtByte, OneArray, Shapes, BlankAt, ByteAt, array_of_device}
+use Rattle.desk_tasks.specs.Differences.{ComesTo, FindsFirst, IsSomeAt, difference_fate}
+use Rattle.desk_tasks.specs.declared.difference.Difference.{Difference}
+use Rattle.desk_tasks.specs.declared.difference.Difference.TheVariants as difference
+use Rattle.desk_tasks.specs.declared.product.Stop.{Stop}
+use Rattle.desk_tasks.specs.Steps.{Comparing, Judging}
+use Rattle.desk_tasks.specs.Stops.{RefusesDevice, StopsBy}
+use Rattle.desk_tasks.proofs.Works.{stops_by}
+
+-- ---- a check
+
+pub judging_device : (its : Config) (image : List Contents) (text : List ℕ) (fate : Fate) → RefusesDevice its image fate → Judging its image text fate
+judging_device its image text fate h = (Err h.0, h.1, h.2)
+
+judging_list : (its : Config) (image : List Contents) (text : List ℕ) → IsSoundImage its.protocol its.logical (shape_of its) image →
+    (fate : Fate) → ChecksList its.protocol (records_in its.protocol image) its.logical text fate → Judging its image text fate
+judging_list its image text sound fate (inl (n, same, count, is)) = (Ok tt, sound, (Ok n, (same, count), is))
+judging_list its image text sound fate (inr (k, differs, is)) = (Ok tt, sound, (Err k, differs, is))
+
+pub judging : (its : Config) (image : List Contents) (text : List ℕ) (list : List Found) → IsSoundImage its.protocol its.logical (shape_of its) image →
+    list ≡ records_in its.protocol image → (fate : Fate) → ChecksList its.protocol list its.logical text fate → Judging its image text fate
+judging its image text list sound e fate h =
+    judging_list its image text sound fate (subst (λ l. ChecksList its.protocol l its.logical text fate) e h)
+
+-- what a check of a report asks of the records of a sound image
+few : (n pending blocks pages : ℕ) → n + pending + 1 ≤ (blocks - 1) * pages → pages * blocks ≤ 65536 → n ≤ 65536
+few n pending blocks pages space most =
+    let wide : (blocks - 1) * pages ≤ blocks * pages = mul-le-mul_right pages (omega arith) in omega arith
+
+pub few_pages : (its : Config) → checked its ≡ Ok (shape_of its) → its.logical ≤ 65536
+few_pages its e =
+    let c = (checked_config its (shape_of its) e).0 in few its.logical its.pending (blocks_of (shape_of its)) its.pages_per_block c.space c.shape.slots_most
+
+pub own_pages : (its : Config) (image : List Contents) (list : List Found) → IsSoundImage its.protocol its.logical (shape_of its) image →
+    list ≡ records_in its.protocol image → All (λ f. f.rec.page < its.logical) list
+own_pages its image list sound e =
+    subst (λ l. All (λ f. f.rec.page < its.logical) l) (sym e)
+    (All-weaker (PagesExist its.logical) (λ f. f.rec.page < its.logical) (λ f pages. pages.0) _ (sound.written.records page_law))
+
+pub scanned_list : (its : Config) (image : List Contents) (list : List Found) → list ≡ records_in its.protocol image → IsScanned list
+scanned_list its image list e = subst (λ l. IsScanned l) (sym e) (records_scanned its.protocol image)
+
+-- ---- a comparison
+
+module _ (a : Config) (image : List Contents) (b : Config) (other : List Contents) where
+  pub first_refused : (fate : Fate) → RefusesDevice a image fate → Comparing a image b other fate
+  first_refused fate h = (Err h.0, h.1, h.2)
+
+  pub second_refused : IsSoundImage a.protocol a.logical (shape_of a) image → (fate : Fate) → RefusesDevice b other fate → Comparing a image b other fate
+  second_refused sound fate h = (Ok tt, sound, (Err h.0, h.1, h.2))
+
+array_length : (protocol : Protocol) (logical : ℕ) (image : List Contents) → length (array_in protocol logical image) ≡ logical
+unfolding array_in
+array_length protocol logical image = length-map (range_with_len 0 logical) _ ∙ length-range_with_len 0 logical
+
+module _ (a : Config) (image : List Contents) (b : Config) (other : List Contents)
+    (sound : IsSoundImage a.protocol a.logical (shape_of a) image) (other_sound : IsSoundImage b.protocol b.logical (shape_of b) other)
+    (shape : HaveOneShape a b) where
+  pub arrays_same : FindsFirst (array_of_device a image) (array_of_device b other) a.logical None → Comparing a image b other (Same a.logical)
+  arrays_same same =
+      let m = array_length a.protocol a.logical image in
+      let n = array_length b.protocol b.logical other in
+      let e = shape.pages in
+      let one : array_of_device a image ≡ array_of_device b other =
+      ext_get_or None (array_of_device a image) (array_of_device b other) (omega arith) (λ i low. same i (omega arith)) in
+      (Ok tt, sound, (Ok tt, other_sound, (OneArray, (shape, one), refl)))
+
+  pub blank_differs : (page : ℕ) → FindsFirst (array_of_device a image) (array_of_device b other) a.logical (Some (difference.Blank page)) →
+      Comparing a image b other (DifferBlank page)
+  blank_differs page (at, low, (same, blank), before) = (
+    Ok tt,
+    sound,
+    (
+      Ok tt,
+      other_sound,
+      (
+        BlankAt page,
+        (
+          shape,
+          rw same low,
+          record {
+            here = λ e. differ blank (subst (λ p. page_at (array_of_device a image) p ≡ page_at (array_of_device b other) p) same e);
+            before = λ p less. before p (omega arith);
+          },
+          one_blank blank,
+        ),
+        refl,
+      ),
+    ),
+  )
+    where
+      differ : ((page_at (array_of_device a image) at ≡ None) × IsSomeAt (array_of_device b other) at)
+          ⊎ (IsSomeAt (array_of_device a image) at × (page_at (array_of_device b other) at ≡ None)) →
+          page_at (array_of_device a image) at ≢ page_at (array_of_device b other) at
+      differ (inl (none, (bytes, some))) e = absurd (cc)
+      differ (inr ((bytes, some), none)) e = absurd (cc)
+
+      one_blank : ((page_at (array_of_device a image) at ≡ None) × IsSomeAt (array_of_device b other) at)
+          ⊎ (IsSomeAt (array_of_device a image) at × (page_at (array_of_device b other) at ≡ None)) →
+          (page_at (array_of_device a image) page ≡ None) ⊎ (page_at (array_of_device b other) page ≡ None)
+      one_blank (inl h) = inl (subst (λ p. page_at (array_of_device a image) p ≡ None) (sym same) h.0)
+      one_blank (inr h) = inr (subst (λ p. page_at (array_of_device b other) p ≡ None) (sym same) h.1)
+
+  pub byte_differs : (page at : ℕ) → FindsFirst (array_of_device a image) (array_of_device b other) a.logical (Some (difference.At page at)) →
+      Comparing a image b other (DifferAt page at)
+  byte_differs page at (here, low, (same, byte), before) =
+      let there : DifferAtByte (page_at (array_of_device a image) page) (page_at (array_of_device b other) page) at =
+      subst (λ p. DifferAtByte (page_at (array_of_device a image) p) (page_at (array_of_device b other) p) at) (sym same) byte in (
+        Ok tt,
+        sound,
+        (
+          Ok tt,
+          other_sound,
+          (
+            ByteAt page at,
+            (
+              shape,
+              rw same low,
+              record { here = λ e. unequal _ _ at there e; before = λ p less. before p (omega arith) },
+              there,
+            ),
+            refl,
+          ),
+        ),
+      )
+    where
+      unequal : (x y : Option (List ℕ)) (at : ℕ) → DifferAtByte x y at → x ≢ y
+      unequal x y at h e =
+          let bytes : h.bytes ≡ h.others = (let f = h.first in let k = h.second in cc) in
+          absurd (h.differ.here (ap (λ bs. slice_index bs at) bytes))
+
+-- what two sound devices come to
+pub comparing : (a : Config) (image : List Contents) (b : Config) (other : List Contents) →
+    IsSoundImage a.protocol a.logical (shape_of a) image → IsSoundImage b.protocol b.logical (shape_of b) other →
+    (one two : ArrayState) → one ≡ idle (array_of_device a image) → two ≡ idle (array_of_device b other) →
+    (fate : Fate) → ComesTo a one.pages b two.pages fate → Comparing a image b other fate
+comparing a image b other sound other_sound one two e f fate h =
+    from (subst (λ pages. ComesTo a pages b (array_of_device b other) fate) (ap (λ (m : ArrayState). m.pages) e)
+    (subst (λ pages. ComesTo a one.pages b pages fate) (ap (λ (m : ArrayState). m.pages) f) h))
+  where
+    by_found : HaveOneShape a b → (found : Option Difference) → FindsFirst (array_of_device a image) (array_of_device b other) a.logical found →
+        Comparing a image b other (difference_fate a.logical found)
+    by_found shape None finds = arrays_same a image b other sound other_sound shape finds
+    by_found shape (Some (difference.Blank page)) finds = blank_differs a image b other sound other_sound shape page finds
+    by_found shape (Some (difference.At page at)) finds = byte_differs a image b other sound other_sound shape page at finds
+
+    from : ComesTo a (array_of_device a image) b (array_of_device b other) fate → Comparing a image b other fate
+    from (inl (differ, is)) = (Ok tt, sound, (Ok tt, other_sound, (Shapes, differ, is)))
+    from (inr (shape, (found, finds, is))) = subst (λ fate. Comparing a image b other fate) (sym is) (by_found shape found finds)
+
+-- ---- a number, or why there is none
+
+-- what is done, or refused, in one way is so in another
+pub leads_ok : (P Q : Fate → Type 0) (done : ℕ → Fate) → ((fate : Fate) → P fate → Q fate) → (result : Result ℕ Stop) →
+    IfOk result (λ n. P (done n)) → IfOk result (λ n. Q (done n))
+leads_ok P Q done leads (Ok n) h = leads (done n) h
+leads_ok P Q done leads (Err e) h = h
+
+pub leads_err : (P Q : Fate → Type 0) → ((fate : Fate) → P fate → Q fate) → (result : Result ℕ Stop) →
+    IfErr result (StopsBy P) → IfErr result (StopsBy Q)
+leads_err P Q leads (Ok n) h = h
+leads_err P Q leads (Err e) h = stops_by P Q leads e h
+
+pub leads_stop : {T : Type 0} → (P Q : Fate → Type 0) → ((fate : Fate) → P fate → Q fate) → (result : Result T Stop) (e : Stop) →
+    IsErrAnd result (λ x. x ≡ e) → StopsBy P e → IfErr result (StopsBy Q)
+leads_stop P Q leads (Ok n) e same h = absurd same
+leads_stop P Q leads (Err x) e same h = stops_by P Q leads x (rw same h)

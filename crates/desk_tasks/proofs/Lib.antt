@@ -1,0 +1,8 @@
+pub mod RunLemmas
+pub mod Sound
+pub mod Works
+pub mod Parts
+pub mod Findings
+pub mod Copies
+pub mod KeyFates
+pub mod Retirements

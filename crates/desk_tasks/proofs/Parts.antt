@@ -1,0 +1,72 @@
+-- The fate of a task, from what its parts come to.
+use Rattle.std.proofs.Common.{◌≡◌, ℕ, List, [], ◌++◌, length, Ok, Err, refl}
+use Rattle.tx_types.specs.declared.config.Config.{Config}
+use Rattle.tx_types.specs.declared.config.Protocol.{Protocol}
+use Rattle.tx_types.specs.declared.config.Protocol.TheVariants.{Scc}
+use Rattle.tx_types.specs.Config.{shape_of}
+use Rattle.flash_model.specs.Flash.{Contents, Extras}
+use Rattle.version_index.specs.Images.{IsSoundImage}
+use Rattle.host_protocol.specs.Files.{IsFile}
+use Rattle.host_protocol.specs.declared.command.Command.{Command}
+use Rattle.drive_gen.specs.Summary.{summary_line}
+use Rattle.desk_tasks.specs.Fate.{Fate, Explained, Ran}
+use Rattle.desk_tasks.specs.Runs.{IsRun, blank_image, default_config}
+use Rattle.desk_tasks.specs.Steps.{Explaining, Running, Trying}
+use Rattle.image_desk.specs.Loading.{ReadsImage}
+use Rattle.desk_tasks.specs.Stops.{RefusesDevice, RefusesLine}
+use Rattle.version_index.proofs.OfTables.OneBreach.{sound_unbroken}
+use Rattle.desk_tasks.proofs.Sound.{blank_sound}
+
+-- ---- a fresh default device
+
+-- it is opened
+pub blank_opens : (protocol : Protocol) (its : Config) (image : List Contents) → its ≡ default_config protocol → image ≡ blank_image its →
+    (fate : Fate) → RefusesDevice its image fate → ⊥
+blank_opens protocol its image e f fate h =
+    let refuses : RefusesDevice (default_config protocol) (blank_image (default_config protocol)) fate = rw (f, e) at h in
+    sound_unbroken protocol (default_config protocol).logical (shape_of (default_config protocol)) (blank_image (default_config protocol))
+    refuses.0 (blank_sound protocol) refuses.1
+
+-- and commands are run on it
+pub run_blank : (protocol : Protocol) (its : Config) (image : List Contents) (cs ds : List Command) (left : List Contents) (text : List ℕ) →
+    its ≡ default_config protocol → image ≡ blank_image its → cs ≡ ds → IsRun its image cs left text →
+    IsRun (default_config protocol) (blank_image (default_config protocol)) ds left text
+run_blank protocol its image cs ds left text e f g h = rw (f, e, g) at h
+
+-- the line that sums up the replies of a list of commands
+pub summed : (start count : ℕ) (protocol : Protocol) (before after : List ℕ) (cs ds : List Command) (lines text : List ℕ) →
+    before ≡ [] → cs ≡ ds → lines ≡ text → after ≡ before ++ summary_line start count protocol (length cs) lines →
+    after ≡ summary_line start count protocol (length ds) text
+summed start count protocol before after cs ds lines text none same also h = rw (none, same, also) at h
+
+-- ---- a try
+
+pub trying_line : (its : Config) (lines : List ℕ) → its ≡ default_config Scc → (fate : Fate) → RefusesLine its.page_bytes lines fate → Trying lines fate
+trying_line its lines e fate h =
+    let refuses : RefusesLine (default_config Scc).page_bytes lines fate = rw e at h in (Err refuses.0, refuses.1, refuses.2)
+
+-- ---- a run
+
+pub running_line : (name bytes lines : List ℕ) (its : Config) (image : List Contents) (extras : Extras) → ReadsImage bytes (Ok (its, image, extras)) →
+    (fate : Fate) → RefusesLine its.page_bytes lines fate → Running name bytes lines fate
+running_line name bytes lines its image extras read fate h = (Ok (its, image, extras), read, ((Err h.0, h.1, h.2), refl))
+
+pub running_device : (name bytes lines : List ℕ) (its : Config) (image : List Contents) (extras : Extras) (cs : List Command) →
+    ReadsImage bytes (Ok (its, image, extras)) → IsFile its.page_bytes lines cs →
+    (fate : Fate) → RefusesDevice its image fate → Running name bytes lines fate
+running_device name bytes lines its image extras cs read file fate h = (Ok (its, image, extras), read, ((Ok cs, file, (Err h.0, h.1, h.2)), refl))
+
+pub running_done : (name bytes lines : List ℕ) (its : Config) (image : List Contents) (extras : Extras) (cs : List Command) →
+    ReadsImage bytes (Ok (its, image, extras)) → IsFile its.page_bytes lines cs →
+    IsSoundImage its.protocol its.logical (shape_of its) image → Running name bytes lines (Ran name its image extras cs)
+running_done name bytes lines its image extras cs read file sound = (Ok (its, image, extras), read, ((Ok cs, file, (Ok tt, sound, refl)), refl))
+
+-- ---- an explanation
+
+pub explaining_device : (bytes : List ℕ) (its : Config) (image : List Contents) (extras : Extras) → ReadsImage bytes (Ok (its, image, extras)) →
+    (fate : Fate) → RefusesDevice its image fate → Explaining bytes fate
+explaining_device bytes its image extras read fate h = (Ok (its, image, extras), read, ((Err h.0, h.1, h.2), refl))
+
+pub explaining_done : (bytes : List ℕ) (its : Config) (image : List Contents) (extras : Extras) → ReadsImage bytes (Ok (its, image, extras)) →
+    IsSoundImage its.protocol its.logical (shape_of its) image → Explaining bytes (Explained its image)
+explaining_done bytes its image extras read sound = (Ok (its, image, extras), read, ((Ok tt, sound, refl), refl))

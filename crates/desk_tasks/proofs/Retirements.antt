@@ -1,0 +1,99 @@
+-- Retiring a block of the device of an image, from what its parts come to.
+use Rattle.std.proofs.Common.{◌≡◌, inl, inr, ℕ, Bool, true, false, List, Option, None, Ok, Err, refl, sym, ap, subst, ◌∙◌, unwrap_or}
+use Rattle.tx_types.specs.Config.{shape_of}
+use Rattle.tx_types.specs.declared.config.Config.{Config}
+use Rattle.tx_types.specs.declared.config.Protocol.{Protocol}
+use Rattle.flash_model.specs.Flash.{Contents, Extras, no_extras}
+use Rattle.flash_model.specs.Retiring.{one_more}
+use Rattle.mem_flash.specs.Memory.{MemoryState, loaded, state_of}
+use Rattle.version_index.specs.Images.{IsSoundImage, array_in}
+use Rattle.array_machine.specs.ArrayState.{ArrayState, Pages, idle}
+use Rattle.array_machine.specs.Step.{settled}
+use Rattle.tx_engine.specs.Always.{DevicesStand}
+use Rattle.tx_engine.specs.DeviceCalls.{RetiresDevice}
+use Rattle.tx_engine.specs.Exits.{is_there}
+use Rattle.tx_engine.specs.Opens.{Mounts}
+use Rattle.tx_engine.specs.Standing.{Standing, Stands}
+use Rattle.image_desk.specs.Loading.{ReadsImage}
+use Rattle.desk_tasks.specs.Fate.{Fate, Retired}
+use Rattle.desk_tasks.specs.Retirements.{IsBlankBlock, LeavesRetired, RetiresIdle, block_refusal}
+use Rattle.desk_tasks.specs.Steps.{Retiring}
+use Rattle.desk_tasks.specs.Stops.{RefusesRetirement}
+
+-- a device with nothing open
+pub idle_again : (s : ArrayState) (pages : Pages) → s ≡ idle pages → s ≡ idle s.pages
+idle_again s pages e = e ∙ ap idle (sym (ap (λ (s : ArrayState). s.pages) e))
+
+-- where nothing is open, nothing is in doubt
+settled_idle : (there : Bool) (pages : Pages) → settled there (idle pages) ≡ idle pages
+settled_idle true pages = refl
+settled_idle false pages = refl
+
+-- what a device with nothing open is left with
+pub retires_idle : (old new : Standing MemoryState) (block : ℕ) (p : Protocol) → old.machine ≡ idle old.machine.pages → Stands state_of new →
+    new.config.protocol ≡ p → DevicesStand state_of p → RetiresDevice state_of old new block (Ok tt) → RetiresIdle old new block
+retires_idle old new block p none stands rule laws retires = record {
+  shape = shape;
+  extras = ap (λ extras. unwrap_or extras no_extras) retires.told;
+  sound = subst (λ (c : Config). IsSoundImage c.protocol c.logical old.flash.shape image) same (rw (rule, ← shape) (laws.sound new stands rule));
+  array = subst (λ (c : Config). array_in c.protocol c.logical image ≡ new.machine.pages) same (rw rule (laws.records new stands rule retires.sure).1) ∙ pages;
+  blank = subst (λ (c : Config). IsBlankBlock c image block) (sym stands.config ∙ same) retires.blank;
+}
+  where
+    image : List Contents
+    image = new.flash.image
+
+    same : new.config ≡ old.config
+    same = retires.exits.tables.config
+
+    shape : new.flash.shape ≡ old.flash.shape
+    shape = retires.exits.carries.carries.shape
+
+    pages : new.machine.pages ≡ old.machine.pages
+    pages = ap (λ (s : ArrayState). s.pages) (retires.retires ∙ ap (settled (is_there state_of old)) none ∙
+        settled_idle (is_there state_of old) old.machine.pages)
+
+-- ---- the flash that is left, from a device that was mounted
+
+module _ (its : Config) (flash : MemoryState) (opened : Standing MemoryState) (ready : flash ≡ loaded (shape_of its) flash.image flash.extras)
+    (mounts : Mounts state_of flash its opened) where
+  pub opened_shape : opened.flash.shape ≡ shape_of its
+  opened_shape = mounts.carries.shape ∙ ap (λ (s : MemoryState). s.shape) ready
+
+  opened_extras : opened.flash.extras ≡ flash.extras
+  opened_extras = ap (λ extras. unwrap_or extras no_extras) mounts.carries.extras
+
+  pub opened_refusal : (block : ℕ) (refusal : Option Fate) → block_refusal opened.config opened.flash.extras block ≡ refusal →
+      block_refusal its flash.extras block ≡ refusal
+  opened_refusal block refusal e =
+      subst (λ (c : Config). block_refusal c flash.extras block ≡ refusal) mounts.config
+      (subst (λ (x : Extras). block_refusal opened.config x block ≡ refusal) opened_extras e)
+
+  pub leaves_retired : (block : ℕ) (new : Standing MemoryState) (left : MemoryState) →
+      IsSoundImage its.protocol its.logical (shape_of its) flash.image → block_refusal opened.config opened.flash.extras block ≡ None →
+      RetiresIdle opened new block → left ≡ new.flash → LeavesRetired its flash block left
+  leaves_retired block new left sound none retires is = record {
+    refusal = opened_refusal block None none;
+    shape = ap (λ (s : MemoryState). s.shape) is ∙ retires.shape ∙ opened_shape;
+    extras = ap (λ (s : MemoryState). s.extras) is ∙ retires.extras ∙ ap one_more opened_extras;
+    empties = record {
+      sound = sound;
+      left_sound = rw is (subst (λ (c : Config). IsSoundImage c.protocol c.logical (shape_of its) new.flash.image) mounts.config
+          (rw (← opened_shape) retires.sound));
+      array = rw is (subst (λ (c : Config). array_in c.protocol c.logical new.flash.image ≡ opened.machine.pages) mounts.config retires.array
+          ∙ ap (λ (s : ArrayState). s.pages) mounts.machine);
+      blank = rw is (subst (λ (c : Config). IsBlankBlock c new.flash.image block) mounts.config retires.blank);
+    };
+  }
+
+-- ---- the fate, from its parts
+
+module _ (name bytes : List ℕ) (block : ℕ) (its : Config) (image : List Contents) (extras : Extras)
+    (read : ReadsImage bytes (Ok (its, image, extras))) where
+  pub retiring_refused : (fate : Fate) → RefusesRetirement its image extras block fate → Retiring name bytes block fate
+  retiring_refused fate (inl h) = (Ok (its, image, extras), read, ((Err h.0, h.1, h.2), refl))
+  retiring_refused fate (inr h) = (Ok (its, image, extras), read, ((Ok tt, h.0, rw h.1 refl), refl))
+
+  pub retiring_done : IsSoundImage its.protocol its.logical (shape_of its) image → block_refusal its extras block ≡ None →
+      Retiring name bytes block (Retired name its image extras block)
+  retiring_done sound none = (Ok (its, image, extras), read, ((Ok tt, sound, rw none refl), refl))

@@ -1,0 +1,63 @@
+-- What serving gives, as a run from an image on.
+use Rattle.std.proofs.Common.{◌≡◌, ◌⊎◌, ℕ, true, false, List, [], ◌++◌, length, take, None, Some, refl, sym, ap, ap₂, ◌∙◌, subst}
+use Rattle.list_facts.proofs.Lists.{take_whole}
+use Rattle.tx_types.specs.declared.config.Config.{Config}
+use Rattle.tx_types.specs.Config.{shape_of}
+use Rattle.tx_types.specs.declared.config.Protocol.{Protocol}
+use Rattle.flash_model.specs.Flash.{IsSteady, Contents}
+use Rattle.flash_model.specs.Operations.{Moment, moment_of}
+use Rattle.mem_flash.specs.Memory.{MemoryState, loaded, state_of, told_of}
+use Rattle.record_list.specs.declared.found.Found.{Found}
+use Rattle.version_index.specs.Images.{IsSoundImage, records_in}
+use Rattle.verdict_report.specs.Report.{report}
+use Rattle.host_protocol.specs.declared.command.Command.{Command}
+use Rattle.cut_replay.specs.FlashRun.{IsFlashRun, last_moment, opening_point, mentions_in}
+use Rattle.cut_replay.specs.Served.{ServesRun}
+use Rattle.cut_replay.specs.Watching.{text_of_all}
+use Rattle.cut_replay.specs.Bounds.{AreFew}
+use Rattle.cut_replay.proofs.Runs.{run_lengths}
+use Rattle.desk_tasks.specs.Runs.{IsRun, first_moment}
+
+-- a flash that was just loaded breaks only where it is armed
+pub is_steady : (its : Config) (flash : MemoryState) → flash ≡ loaded (shape_of its) flash.image flash.extras → IsSteady (state_of flash)
+is_steady its flash e = record {
+  live = ap (λ s. s.live) e;
+  none = let none = ap (λ (s : MemoryState). s.armed) e in subst (λ armed. ((told_of armed).cuts ≡ 0) × ((told_of armed).breaks ≡ 0)) (sym none) (refl, refl);
+}
+
+pub starts : (its : Config) (flash : MemoryState) → flash ≡ loaded (shape_of its) flash.image flash.extras →
+    moment_of (state_of flash) ≡ first_moment flash.image
+starts its flash e =
+    ap₂ (λ (a : ℕ) (b : ℕ). let m : Moment = record { image = flash.image; programs = a; erases = b } in m)
+    (ap (λ (s : MemoryState). s.programs) e) (ap (λ (s : MemoryState). s.erases) e)
+
+-- what serving such a flash gives
+pub is_run : (its : Config) (flash left : MemoryState) (cs : List Command) (before after : List ℕ) →
+    flash ≡ loaded (shape_of its) flash.image flash.extras → before ≡ [] →
+    IsSoundImage its.protocol its.logical (shape_of its) flash.image →
+    ServesRun its cs (length cs) (state_of flash) (state_of left) (record { text = Some before; kept = None }) (record { text = Some after; kept = None }) →
+    IsRun its flash.image cs left.image after
+is_run its flash left cs before after e none is_sound served =
+    let start = starts its flash e in
+    let told : after ≡ before ++ text_of_all (take (length cs) served.replies) = cc (served.text) in
+    let whole = take_whole (length cs) served.replies (run_lengths its (mentions_in its (moment_of (state_of flash))) false
+    (opening_point its served.run.up (moment_of (state_of flash))) cs served.replies served.points served.run.runs).0 in
+    let from = subst (λ m. (run : IsFlashRun its m cs served.replies served.points) × ((cs ≡ []) ⊎ (run.up ≡ true))) start
+    (served.run, served.up (is_steady its flash e)) in
+    record {
+      sound = is_sound;
+      replies = served.replies;
+      points = served.points;
+      run = from.0;
+      up = from.1;
+      last = ap (λ m. m.image) (served.last ∙ ap (λ m. last_moment m served.points) start);
+      said = rw (none, whole) at told;
+      few = subst (λ armed. AreFew (told_of armed).cuts (told_of armed).breaks cs served.replies) (ap (λ (s : MemoryState). s.armed) e) served.spends.few;
+    }
+
+-- the report on what a device knows is that on the records of its image
+pub report_said : (said before : List ℕ) (kept protocol : Protocol) (list noted : List Found) (opened image : List Contents) (logical : ℕ) →
+    said ≡ before ++ report kept list logical → before ≡ [] → list ≡ noted → records_in kept opened ≡ noted → opened ≡ image → protocol ≡ kept →
+    said ≡ report protocol (records_in protocol image) logical
+report_said said before kept protocol list noted opened image logical text empty is known same rule =
+    rw (text, empty, rule, is, ← known, same) refl

@@ -1,0 +1,109 @@
+-- How the work of a task ends, from its parts.
+use Rattle.std.proofs.Common.{◌≡◌, inl, inr, ℕ, suc, ◌<◌, List, [], ◌∷◌, length, Option, None, Some, Result, Ok, Err, refl, ap, ◌∙◌}
+use Rattle.std.specs.Prelude.{All, IfSome}
+use Rattle.std.specs.Option.{option_map}
+use Rattle.std.specs.Result.{IsErrAnd}
+use Rattle.std.proofs.lemmas.List.Elements.{All-cons, All-nil}
+use Rattle.tx_types.specs.declared.config.Config.{Config}
+use Rattle.flash_model.specs.Flash.{Contents, Extras}
+use Rattle.desk_io.specs.Desk as found
+use Rattle.desk_io.specs.Desk.{DeskContents, DeskState, FileFound, Finds, after_answer, after_memory, as_before, called, file_at, file_found}
+use Rattle.image_desk.specs.Loading.{Fetches, ImageStops, RefusesImage}
+use Rattle.image_desk.specs.Refusals.{ImageFate, Missing, TooLong, image_refused}
+use Rattle.image_desk.specs.declared.stop.ImageStop.{ImageStop}
+use Rattle.image_desk.specs.declared.stop.ImageStop.TheVariants as image
+use Rattle.desk_tasks.specs.Fate.{Fate, Image}
+use Rattle.desk_tasks.specs.Steps.{IsFate, Reading}
+use Rattle.desk_tasks.specs.Stops.{StopsBy, Works, WorksTo, refused, stop_of}
+use Rattle.desk_tasks.specs.Loads.{CameThrough, FindsBytes, after_loads}
+use Rattle.desk_tasks.specs.Asked.{Asked, IsWorkedAfter, files_of}
+use Rattle.desk_tasks.specs.declared.product.Product.{Product}
+use Rattle.desk_tasks.specs.declared.product.Stop.{Stop}
+use Rattle.desk_tasks.specs.declared.product.Stop.TheVariants as stop
+
+-- a step that is refused in one way is refused in another
+pub stops_by : (P Q : Fate → Type 0) → ((fate : Fate) → P fate → Q fate) → (stopped : Stop) → StopsBy P stopped → StopsBy Q stopped
+stops_by P Q leads (stop.Refused refusal) h = leads (refused refusal) h
+stops_by P Q leads stop.Fault h = h
+stops_by P Q leads stop.Memory h = h
+
+-- the work stops where a step does
+pub stopped : (P Q : Fate → Type 0) (result : Result Product Stop) (e : Stop) → IsErrAnd result (λ x. x ≡ e) →
+    ((fate : Fate) → P fate → Q fate) → StopsBy P e → WorksTo Q result
+stopped P Q (Ok product) e same leads h = absurd same
+stopped P Q (Err x) e same leads h = stops_by P Q leads x (rw same h)
+
+-- so is what stops where reading an image does
+image_stops_by : (P : ImageFate → Type 0) (Q : Fate → Type 0) → ((why : ImageFate) → P why → Q (Image why)) → (stopped : ImageStop) →
+    ImageStops P stopped → StopsBy Q (stop_of stopped)
+image_stops_by P Q leads (image.Refused refusal) h = leads (image_refused refusal) h
+image_stops_by P Q leads image.Fault h = h
+image_stops_by P Q leads image.Memory h = h
+
+pub unread : (P : ImageFate → Type 0) (Q : Fate → Type 0) (result : Result Product Stop) (e : ImageStop) → IsErrAnd result (λ x. x ≡ stop_of e) →
+    ((why : ImageFate) → P why → Q (Image why)) → ImageStops P e → WorksTo Q result
+unread P Q (Ok product) e same leads h = absurd same
+unread P Q (Err x) e same leads h = rw same (image_stops_by P Q leads e h)
+
+-- the work on the bytes of an image stops where reading them does
+pub unread_image : (bytes : List ℕ) (next : Config → List Contents → Extras → Fate → Type 0) (result : Result Product Stop) (e : ImageStop) →
+    IsErrAnd result (λ x. x ≡ stop_of e) → ImageStops (RefusesImage bytes) e → WorksTo (Reading bytes next) result
+unread_image bytes next result e same h =
+    unread (RefusesImage bytes) (Reading bytes next) result e same (λ why refuses. (Err refuses.0, refuses.1, (ap Image refuses.2, refl))) h
+
+-- after its loads, the work of a task comes to what its last part comes to
+pub works : (task : Option Asked) (old new : DeskState) (n : ℕ) (comes : Fate → Type 0) (result : Result Product Stop) →
+    new ≡ after_loads n old → IsWorkedAfter task n → CameThrough task old n →
+    ((fate : Fate) → comes fate → IsFate task old fate n) → WorksTo comes result → Works task old new result
+works task old new n comes (Ok product) loaded all came leads h = (h.0, (n, leads h.0 h.1, loaded), h.2, h.3)
+works task old new n comes (Err (stop.Refused refusal)) loaded all came leads h = (n, leads (refused refusal) h, loaded)
+works task old new n comes (Err stop.Fault) loaded all came leads h = absurd h
+works task old new n comes (Err stop.Memory) loaded all came leads h =
+    inr (n, all, came, loaded)
+
+-- the work of a task ends where a load gives no bytes
+unfetched_by : (task : Option Asked) (old mid new : DeskState) (n : ℕ) (name : List ℕ) (stopped : ImageStop) →
+    mid ≡ after_loads n old → n < length (files_of task) → CameThrough task old n →
+    (Finds mid name found.Missing → IsFate task old (Image (Missing name)) (suc n)) →
+    (Finds mid name found.TooLong → IsFate task old (Image (TooLong name)) (suc n)) →
+    Fetches mid new name (Err stopped) → Works task old new (Err (stop_of stopped))
+unfetched_by task old mid new n name (image.Refused refusal) loaded most came missing long h =
+    let after : new ≡ after_loads (suc n) old = h.0 ∙ ap (after_answer as_before) loaded in
+    elim h.1 [
+      | inl none ↦ (suc n, rw none.1 (missing none.0), after)
+      | inr much ↦ (suc n, rw much.1 (long much.0), after)
+    ]
+unfetched_by task old mid new n name image.Fault loaded most came missing long h = (n, most, came, rw (← loaded) h)
+unfetched_by task old mid new n name image.Memory loaded most came missing long h = inl (n, most, came, h ∙ ap after_memory loaded)
+
+pub unfetched : (task : Option Asked) (old mid new : DeskState) (n : ℕ) (name : List ℕ) (stopped : ImageStop) (result : Result Product Stop) →
+    IsErrAnd result (λ x. x ≡ stop_of stopped) → mid ≡ after_loads n old → n < length (files_of task) → CameThrough task old n →
+    (Finds mid name found.Missing → IsFate task old (Image (Missing name)) (suc n)) →
+    (Finds mid name found.TooLong → IsFate task old (Image (TooLong name)) (suc n)) →
+    Fetches mid new name (Err stopped) → Works task old new result
+unfetched task old mid new n name stopped (Ok product) same loaded most came missing long h = absurd same
+unfetched task old mid new n name stopped (Err x) same loaded most came missing long h =
+    rw same (unfetched_by task old mid new n name stopped loaded most came missing long h)
+
+-- a load changes no file
+found_before : (told : Option DeskContents) (name : List ℕ) (found : FileFound) →
+    IfSome (option_map (called as_before) told) (λ c. file_found (file_at c.files name) ≡ found) →
+    IfSome told (λ c. file_found (file_at c.files name) ≡ found)
+found_before None name found h = h
+found_before (Some c) name found h = h
+
+-- what is found after a load was there before it
+pub finds_before : (old mid : DeskState) (name : List ℕ) (found : FileFound) → mid ≡ after_answer as_before old →
+    Finds mid name found → Finds old name found
+finds_before old mid name found e h =
+    let now : Finds (after_answer as_before old) name found = rw e at h in
+    (now.0, found_before old.told name found now.1)
+
+-- ---- the loads that found bytes
+
+pub found_none : (desk : DeskState) → All (FindsBytes desk) []
+found_none desk = All-nil (FindsBytes desk)
+
+pub found_more : (desk : DeskState) (name bytes : List ℕ) (names : List (List ℕ)) → Finds desk name (found.Bytes bytes) →
+    All (FindsBytes desk) names → All (FindsBytes desk) (name ∷ names)
+found_more desk name bytes names finds rest = All-cons (FindsBytes desk) name names (bytes, finds) rest

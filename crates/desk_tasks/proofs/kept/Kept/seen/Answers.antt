@@ -1,0 +1,12 @@
+use Rattle.std.proofs.Common.{arith}
+use Rattle.desk_tasks.proofs.Copies.{slots_kept}
+use Rattle.desk_tasks.proofs.kept.Kept.seen.Goals as goal
+
+pub seen-requires : goal.seen-requires
+seen-requires c =
+    let inside = c.requires.slot in
+    omega (
+      arith,
+      slots_kept c.self.inside.entries.items c.args.self.now c.args.i c.index.result.now c.self.view_is c.requires.reply
+          c.index.ensures c.shape.ensures.whole.slots,
+    )

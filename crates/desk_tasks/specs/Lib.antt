@@ -1,0 +1,14 @@
+pub mod Numbers
+pub mod Asked
+pub mod Fate
+pub mod Loads
+pub mod Retirements
+pub mod Runs
+pub mod KeyWork
+pub mod Gives
+pub mod Checking
+pub mod Differences
+pub mod Steps
+pub mod Stops
+pub mod Keeping
+pub mod KeptEntries

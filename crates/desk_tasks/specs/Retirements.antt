@@ -1,0 +1,55 @@
+-- Retiring a block of the device of an image: when the block is refused, and what is left of the image.
+use Rattle.std.specs.Prelude.{◌≡◌, ℕ, ◌<◌, ◌/◌, ◌==◌, nat_lt, List, Option, None, Some, if◌then◌else◌}
+use Rattle.tx_types.specs.Config.{blocks_of, shape_of, slots_of}
+use Rattle.tx_types.specs.declared.config.Config.{Config}
+use Rattle.flash_model.specs.Flash.{Contents, Extras, blank, slot_at}
+use Rattle.flash_model.specs.Retiring.{one_more}
+use Rattle.mem_flash.specs.Memory.{MemoryState}
+use Rattle.version_index.specs.Images.{IsSoundImage, array_in}
+use Rattle.tx_engine.specs.Standing.{Standing}
+use Rattle.desk_tasks.specs.Fate.{Fate, RefusedBlock, RefusedWorn}
+
+-- so many blocks may be retired, and none is
+abbrev pub new_extras : ℕ → Extras
+new_extras allowance = record { allowance = allowance; retired = 0 }
+
+-- why no block is left, if none is: as many were retired as may be
+abbrev pub worn_fate : Extras → Option Fate
+worn_fate extras =
+    if extras.retired == extras.allowance then Some (RefusedWorn extras.allowance) else None
+
+-- why a block is not retired, if it is not: first that there is no such block, and then that none is left
+abbrev pub block_refusal : Config → Extras → ℕ → Option Fate
+block_refusal its extras block =
+    if nat_lt block (blocks_of (shape_of its)) then worn_fate extras else Some (RefusedBlock block)
+
+-- each slot of the block is blank
+abbrev pub IsBlankBlock : Config → List Contents → ℕ → Type 0
+IsBlankBlock its image block =
+    (slot : ℕ) → slot < slots_of (shape_of its) → slot / its.pages_per_block ≡ block →
+    slot_at image slot ≡ blank
+
+-- The image is sound, and so is what is left of it, which has the same array, and in which the block is all blank.
+pub record EmptiesBlock (its : Config) (image : List Contents) (block : ℕ)
+    (left : List Contents) : Type 0 where
+  pub sound : IsSoundImage its.protocol its.logical (shape_of its) image
+  pub left_sound : IsSoundImage its.protocol its.logical (shape_of its) left
+  pub array : array_in its.protocol its.logical left ≡ array_in its.protocol its.logical image
+  pub blank : IsBlankBlock its left block
+
+-- A block of a device with nothing open was retired. The image is sound, its array is that of the device, and the block is
+-- all blank in it.
+pub record RetiresIdle (old new : Standing MemoryState) (block : ℕ) : Type 0 where
+  pub shape : new.flash.shape ≡ old.flash.shape
+  pub extras : new.flash.extras ≡ one_more old.flash.extras
+  pub sound : IsSoundImage old.config.protocol old.config.logical old.flash.shape new.flash.image
+  pub array : array_in old.config.protocol old.config.logical new.flash.image ≡ old.machine.pages
+  pub blank : IsBlankBlock old.config new.flash.image block
+
+-- a block of the device of a flash was retired, and this flash is left
+pub record LeavesRetired (its : Config) (flash : MemoryState) (block : ℕ)
+    (left : MemoryState) : Type 0 where
+  pub refusal : block_refusal its flash.extras block ≡ None
+  pub shape : left.shape ≡ shape_of its
+  pub extras : left.extras ≡ one_more flash.extras
+  pub empties : EmptiesBlock its flash.image block left.image

@@ -1,0 +1,109 @@
+ghost use Rattle.std.specs.Prelude.{◌≡◌, ◌<◌, ◌≤◌, ◌++◌, All, Ok, Some, IfOk, IfErr, codes};
+ghost use Rattle.std.specs.Fmt.{decimal};
+ghost use Rattle.tx_types.specs.Config.{checked, shape_of};
+ghost use Rattle.mem_flash.specs.Memory.{loaded};
+ghost use Rattle.record_list.specs.Records.{IsScanned};
+ghost use Rattle.desk_tasks.specs.Checking.{ChecksList};
+ghost use Rattle.image_desk.specs.Refusals.{line};
+ghost use Rattle.desk_tasks.specs.Fate.{Good};
+ghost use Rattle.desk_tasks.specs.Steps.{Checking, Judging};
+ghost use Rattle.desk_tasks.specs.Stops.{StopsBy, Works, WorksTo};
+ghost use Rattle.desk_tasks.specs.Asked.{Check};
+
+use crate::devices::sound_device;
+use crate::product::{Product, Stop, Text};
+use crate::refusal::Refusal;
+use bpcc_commit::Bpcc;
+use desk_io::Desk;
+use image_desk::{fetch, read_device};
+use mem_flash::MemFlash;
+use record_list::{CommitRule, Found};
+use scc_commit::Scc;
+use std::alloc::{AllocError, Global};
+use tx_types::{Config, Protocol};
+use verdict_check::check_report;
+
+/// Says whether a file is the report on the records of an image file.
+pub fn to_check<'a, D: Desk>(
+    alloc: Global,
+    image: &'a str,
+    report: &'a str,
+    desk: &mut D,
+) -> Result<Product<'a>, Stop<'a>>
+    ensures { Works (Some (Check image.now report.now)) (D.state desk.old) (D.state desk.new) result }
+{
+    let bytes = fetch(image, desk)?;
+    let text = fetch(report, desk)?;
+    checked_text(alloc, bytes, &text)
+}
+
+/// What a check gives, from the bytes of its files on.
+fn checked_text<'a>(alloc: Global, bytes: Vec<u8>, text: &[u8]) -> Result<Product<'a>, Stop<'a>>
+    ensures { WorksTo (Checking bytes.items text.now) result }
+{
+    let (config, flash) = read_device(alloc, bytes)?;
+    let pages = judged(alloc, flash, config, text)?;
+    let line = good_line(alloc, pages)?;
+    Ok(Product {
+        saved: None,
+        text: Text::Other(line),
+    })
+}
+
+/// The line that says that a report on so many pages is true.
+fn good_line(alloc: Global, pages: u32) -> Result<Vec<u8>, AllocError>
+    ensures { IfOk result (λ words. words.items ≡ line (codes "good " ++ decimal pages)) }
+{
+    let line = format!(in alloc; "good {pages}\n")?;
+    Ok(line.into_bytes())
+}
+
+/// How many pages the report on a device explains, where this text is it.
+fn judged(alloc: Global, flash: MemFlash, config: Config, text: &[u8]) -> Result<u32, Stop<'static>>
+    requires check { checked config ≡ Ok (shape_of config) }
+    requires ready { flash ≡ loaded (shape_of config) flash.image flash.extras }
+    ensures ok { IfOk result (λ n. Judging config flash.image text.now (Good n)) }
+    ensures err { IfErr result (StopsBy (Judging config flash.image text.now)) }
+{
+    match config.protocol {
+        Protocol::Scc => judged_by::<Scc>(alloc, flash, config, text),
+        Protocol::Bpcc => judged_by::<Bpcc>(alloc, flash, config, text),
+    }
+}
+
+/// The same under a rule.
+fn judged_by<R: CommitRule>(
+    alloc: Global,
+    flash: MemFlash,
+    config: Config,
+    text: &[u8],
+) -> Result<u32, Stop<'static>>
+    requires check { checked config ≡ Ok (shape_of config) }
+    requires rule { config.protocol ≡ R.protocol }
+    requires ready { flash ≡ loaded (shape_of config) flash.image flash.extras }
+    ensures ok { IfOk result (λ n. Judging config flash.image text.now (Good n)) }
+    ensures err { IfErr result (StopsBy (Judging config flash.image text.now)) }
+{
+    let device = sound_device::<R>(alloc, flash, config)?;
+    let found = device.found()?;
+    judgement(&found, config.protocol, config.logical, text)
+}
+
+/// The same of a list of records.
+fn judgement(
+    list: &[Found],
+    protocol: Protocol,
+    logical: u32,
+    text: &[u8],
+) -> Result<u32, Stop<'static>>
+    requires few { logical ≤ 65536 }
+    requires pages { All (λ f. f.rec.page < logical) list.now }
+    requires scanned { IsScanned list.now }
+    ensures ok { IfOk result (λ n. ChecksList protocol list.now logical text.now (Good n)) }
+    ensures err { IfErr result (StopsBy (ChecksList protocol list.now logical text.now)) }
+{
+    match check_report(list, protocol, logical, text) {
+        Ok(pages) => Ok(pages),
+        Err(line) => Err(Stop::Refused(Refusal::WrongLine(line))),
+    }
+}

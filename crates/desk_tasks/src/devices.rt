@@ -1,0 +1,225 @@
+ghost use Rattle.std.specs.Prelude.{◌≡◌, ◌≤◌, false, All, Ok, IfOk, IfErr, OnOk, length};
+ghost use Rattle.tx_types.specs.Config.{checked, shape_of};
+ghost use Rattle.flash_model.specs.Flash.{IsSteady};
+ghost use Rattle.version_index.specs.Notes.{found_in};
+ghost use Rattle.mem_flash.specs.Memory.{fresh, loaded, state_of};
+ghost use Rattle.tx_engine.specs.Opens.{Mounts};
+ghost use Rattle.host_protocol.specs.Commands.{Suits};
+ghost use Rattle.host_protocol.specs.Files.{IsFile};
+ghost use Rattle.host_protocol.specs.declared.file.TheConstants.{MAX_FILE_BYTES};
+ghost use Rattle.version_index.specs.Images.{IsSoundImage, records_in};
+ghost use Rattle.version_index.specs.Notes.{found_in};
+ghost use Rattle.verdict_report.specs.Report.{report};
+ghost use Rattle.desk_tasks.specs.Runs.{IsRun, blank_image, default_config};
+ghost use Rattle.desk_tasks.specs.Stops.{RefusesDevice, RefusesLine, StopsBy};
+
+use crate::product::Stop;
+use crate::refusal::Refusal;
+use bpcc_commit::Bpcc;
+use cut_replay::{Lines, ServeError, serve};
+use flash_model::steady_stays;
+use host_protocol::{Command, TextError, parse};
+use image_desk::ImageRefusal;
+use mem_flash::MemFlash;
+use record_list::{Breach, CommitRule, Found};
+use scc_commit::Scc;
+use std::alloc::Global;
+use tx_engine::laws::devices_stand;
+use tx_engine::{Device, MountError};
+use tx_types::{Config, Memory, Protocol};
+use verdict_report::explain;
+
+/// What serving commands leaves.
+#[derive(Drop)]
+pub struct ServedFlash {
+    pub flash: MemFlash,
+    pub replies: Lines,
+}
+
+/// The default device of a protocol.
+pub fn default_config(protocol: Protocol) -> Config
+    ensures { result ≡ default_config protocol }
+{
+    Config {
+        protocol,
+        page_bytes: 16,
+        pages_per_block: 4,
+        blocks_per_die: 4,
+        dies: 2,
+        logical: 20,
+        pending: 7,
+    }
+}
+
+/// A flash on which nothing was programmed.
+pub fn blank_flash(alloc: Global, config: Config) -> Result<MemFlash, Memory>
+    requires { checked config ≡ Ok (shape_of config) }
+    ensures { IfOk result (λ flash. flash ≡ fresh (shape_of config) (blank_image config)) }
+{
+    let Ok(shape) = config.check() else {
+        unreachable!();
+    };
+    MemFlash::new(alloc, shape)
+}
+
+/// The commands of a file.
+pub fn read_commands(
+    alloc: Global,
+    bytes: &[u8],
+    page_bytes: u32,
+) -> Result<Vec<Command>, Stop<'static>>
+    requires { length bytes.now ≤ MAX_FILE_BYTES }
+    ensures file { IfOk result (λ list. IsFile page_bytes bytes.now list.items) }
+    ensures suits { IfOk result (λ list. All (Suits page_bytes) list.items) }
+    ensures err { IfErr result (StopsBy (RefusesLine page_bytes bytes.now)) }
+{
+    match parse(alloc, bytes, page_bytes) {
+        Ok(list) => Ok(list),
+        Err(TextError::Line(n)) => Err(Stop::Refused(Refusal::BadLine(n))),
+        Err(TextError::Memory) => Err(Stop::Memory),
+    }
+}
+
+/// Serves commands on the device of a flash.
+pub fn served(
+    alloc: Global,
+    flash: MemFlash,
+    config: Config,
+    list: &[Command],
+) -> Result<ServedFlash, Stop<'static>>
+    requires check { checked config ≡ Ok (shape_of config) }
+    requires ready { flash ≡ loaded (shape_of config) flash.image flash.extras }
+    requires suits { All (Suits config.page_bytes) list.now }
+    ensures run { IfOk result (λ s. IsRun config flash.image list.now s.flash.image s.replies) }
+    ensures shape { IfOk result (λ s. s.flash.shape ≡ shape_of config) }
+    ensures extras { IfOk result (λ s. s.flash.extras ≡ flash.extras) }
+    ensures err { IfErr result (StopsBy (RefusesDevice config flash.image)) }
+{
+    match config.protocol {
+        Protocol::Scc => served_by::<Scc>(alloc, flash, config, list),
+        Protocol::Bpcc => served_by::<Bpcc>(alloc, flash, config, list),
+    }
+}
+
+/// The same under a rule.
+fn served_by<R: CommitRule>(
+    alloc: Global,
+    flash: MemFlash,
+    config: Config,
+    list: &[Command],
+) -> Result<ServedFlash, Stop<'static>>
+    requires check { checked config ≡ Ok (shape_of config) }
+    requires rule { config.protocol ≡ R.protocol }
+    requires ready { flash ≡ loaded (shape_of config) flash.image flash.extras }
+    requires suits { All (Suits config.page_bytes) list.now }
+    ensures run { IfOk result (λ s. IsRun config flash.image list.now s.flash.image s.replies) }
+    ensures shape { IfOk result (λ s. s.flash.shape ≡ shape_of config) }
+    ensures extras { IfOk result (λ s. s.flash.extras ≡ flash.extras) }
+    ensures err { IfErr result (StopsBy (RefusesDevice config flash.image)) }
+{
+    let mut replies = Lines::new(alloc);
+    let (flash, done) = serve::<MemFlash, R, Lines>(alloc, flash, config, list, &mut replies);
+    match done {
+        Ok(()) => Ok(ServedFlash { flash, replies }),
+        Err(ServeError::Unsound { law, slot }) => {
+            let breach = Breach { law, slot };
+            Err(Stop::Refused(Refusal::Image(ImageRefusal::Unsound(breach))))
+        }
+        Err(ServeError::Memory) => Err(Stop::Memory),
+    }
+}
+
+/// The report on the records of a device.
+pub fn explained(alloc: Global, flash: MemFlash, config: Config) -> Result<Vec<u8>, Stop<'static>>
+    requires check { checked config ≡ Ok (shape_of config) }
+    requires ready { flash ≡ loaded (shape_of config) flash.image flash.extras }
+    ensures sound { OnOk result (
+        IsSoundImage config.protocol config.logical (shape_of config) flash.image) }
+    ensures report { IfOk result (λ text. text.items ≡
+        report config.protocol (records_in config.protocol flash.image) config.logical) }
+    ensures err { IfErr result (StopsBy (RefusesDevice config flash.image)) }
+{
+    match config.protocol {
+        Protocol::Scc => explained_by::<Scc>(alloc, flash, config),
+        Protocol::Bpcc => explained_by::<Bpcc>(alloc, flash, config),
+    }
+}
+
+/// The same under a rule.
+fn explained_by<R: CommitRule>(
+    alloc: Global,
+    flash: MemFlash,
+    config: Config,
+) -> Result<Vec<u8>, Stop<'static>>
+    requires check { checked config ≡ Ok (shape_of config) }
+    requires rule { config.protocol ≡ R.protocol }
+    requires ready { flash ≡ loaded (shape_of config) flash.image flash.extras }
+    ensures sound { OnOk result (
+        IsSoundImage config.protocol config.logical (shape_of config) flash.image) }
+    ensures report { IfOk result (λ text. text.items ≡
+        report config.protocol (records_in config.protocol flash.image) config.logical) }
+    ensures err { IfErr result (StopsBy (RefusesDevice config flash.image)) }
+{
+    let device = opened::<R>(alloc, flash, config)?;
+    devices_stand::<MemFlash, R>();
+    let _ = device.config();
+    let found = records_of(device)?;
+    let mut text = Vec::new(alloc);
+    explain::<R>(alloc, &found, config.logical, &mut text)?;
+    Ok(text)
+}
+
+/// The records that a device found, which is given up.
+fn records_of<R: CommitRule>(device: Device<MemFlash, R>) -> Result<Vec<Found>, Memory>
+    requires kept { device.dropped ≡ false }
+    ensures { IfOk result (λ found. found.items ≡ found_in device.noted.notes) }
+{
+    device.found()
+}
+
+/// A device that is opened from its flash, which breaks no call, and whose image is sound.
+pub fn sound_device<R: CommitRule>(
+    alloc: Global,
+    flash: MemFlash,
+    config: Config,
+) -> Result<Device<MemFlash, R>, Stop<'static>>
+    requires check { checked config ≡ Ok (shape_of config) }
+    requires rule { config.protocol ≡ R.protocol }
+    requires ready { flash ≡ loaded (shape_of config) flash.image flash.extras }
+    ensures ok { IfOk result (Mounts state_of flash config) }
+    ensures sound { OnOk result (
+        IsSoundImage config.protocol config.logical (shape_of config) flash.image) }
+    ensures list { IfOk result (λ d.
+        found_in d.noted.notes ≡ records_in config.protocol flash.image) }
+    ensures steady { IfOk result (λ d. IsSteady (state_of d.flash)) }
+    ensures err { IfErr result (StopsBy (RefusesDevice config flash.image)) }
+{
+    let device = opened::<R>(alloc, flash, config)?;
+    devices_stand::<MemFlash, R>();
+    steady_stays();
+    let _ = device.config();
+    Ok(device)
+}
+
+/// A device that is opened from its flash.
+fn opened<R: CommitRule>(
+    alloc: Global,
+    flash: MemFlash,
+    config: Config,
+) -> Result<Device<MemFlash, R>, Stop<'static>>
+    requires check { checked config ≡ Ok (shape_of config) }
+    requires rule { config.protocol ≡ R.protocol }
+    requires ready { flash ≡ loaded (shape_of config) flash.image flash.extras }
+    ensures ok { IfOk result (Mounts state_of flash config) }
+    ensures err { IfErr result (StopsBy (RefusesDevice config flash.image)) }
+{
+    match Device::mount(alloc, flash, config) {
+        Ok(device) => Ok(device),
+        Err((_, MountError::Unsound { law, slot })) => {
+            let breach = Breach { law, slot };
+            Err(Stop::Refused(Refusal::Image(ImageRefusal::Unsound(breach))))
+        }
+        Err((_, MountError::Memory)) => Err(Stop::Memory),
+        Err((_, MountError::Fault)) => unreachable!(),
+    }
+}

@@ -1,0 +1,133 @@
+ghost use Rattle.std.specs.Prelude.{◌≡◌, ◌≤◌, All, Ok, Some, IfOk, IfErr, length};
+ghost use Rattle.desk_io.specs.Desk.{max_file_bytes};
+ghost use Rattle.host_protocol.specs.declared.file.TheConstants.{MAX_FILE_BYTES};
+ghost use Rattle.mem_flash.specs.Memory.{loaded};
+ghost use Rattle.page_keys.specs.Scripts.{IsScript, SuitsKeys};
+ghost use Rattle.tx_types.specs.Config.{checked, shape_of};
+ghost use Rattle.desk_tasks.specs.Fate.{Keyed};
+ghost use Rattle.desk_tasks.specs.KeyWork.{IsKeysRun};
+ghost use Rattle.desk_tasks.specs.Steps.{Keying};
+ghost use Rattle.desk_tasks.specs.Stops.{RefusesScript, RefusesStore, StopsBy, Works, WorksTo};
+ghost use Rattle.desk_tasks.specs.Asked.{Keys};
+
+use crate::product::{File, Product, Stop, Text};
+use crate::refusal::Refusal;
+use crate::tasks::leave;
+use bpcc_commit::Bpcc;
+use desk_io::Desk;
+use image_desk::{ImageRefusal, fetch, read_device};
+use image_file::into_image;
+use mem_flash::MemFlash;
+use page_keys::{KeyCommand, KeyServeError, KeyTextError, key_serve, parse_keys};
+use record_list::{Breach, CommitRule};
+use scc_commit::Scc;
+use std::alloc::Global;
+use tx_types::{Config, Protocol};
+
+/// What serving a key script leaves.
+#[derive(Drop)]
+struct KeptKeys {
+    flash: MemFlash,
+    replies: Vec<u8>,
+}
+
+/// Serves a key script on the store of an image file, which is then saved.
+pub fn to_keys<'a, D: Desk>(
+    alloc: Global,
+    image: &'a str,
+    script: &'a str,
+    desk: &mut D,
+) -> Result<Product<'a>, Stop<'a>>
+    ensures { Works (Some (Keys image.now script.now)) (D.state desk.old) (D.state desk.new) result }
+{
+    let bytes = fetch(image, desk)?;
+    let lines = fetch(script, desk)?;
+    keyed(alloc, image, bytes, &lines)
+}
+
+/// What a key script gives, from the bytes of its files on.
+fn keyed<'a>(
+    alloc: Global,
+    name: &'a str,
+    bytes: Vec<u8>,
+    lines: &[u8],
+) -> Result<Product<'a>, Stop<'a>>
+    requires { length lines.now ≤ max_file_bytes }
+    ensures { WorksTo (Keying name.now bytes.items lines.now) result }
+{
+    let (config, flash) = read_device(alloc, bytes)?;
+    let list = read_script(alloc, lines)?;
+    let KeptKeys { flash, replies } = served_keys(alloc, flash, config, &list)?;
+    leave(list);
+    let saved = into_image(alloc, &config, flash)?;
+    Ok(Product {
+        saved: Some(File { name, bytes: saved }),
+        text: Text::Other(replies),
+    })
+}
+
+/// The commands of a key script.
+fn read_script(alloc: Global, bytes: &[u8]) -> Result<Vec<KeyCommand>, Stop<'static>>
+    requires { length bytes.now ≤ MAX_FILE_BYTES }
+    ensures script { IfOk result (λ list. IsScript bytes.now list.items) }
+    ensures suits { IfOk result (λ list. All SuitsKeys list.items) }
+    ensures err { IfErr result (StopsBy (RefusesScript bytes.now)) }
+{
+    match parse_keys(alloc, bytes) {
+        Ok(list) => Ok(list),
+        Err(KeyTextError::Line(n)) => Err(Stop::Refused(Refusal::BadLine(n))),
+        Err(KeyTextError::Memory) => Err(Stop::Memory),
+    }
+}
+
+/// Serves the commands of a script on the store of a flash.
+fn served_keys(
+    alloc: Global,
+    flash: MemFlash,
+    config: Config,
+    list: &[KeyCommand],
+) -> Result<KeptKeys, Stop<'static>>
+    requires check { checked config ≡ Ok (shape_of config) }
+    requires ready { flash ≡ loaded (shape_of config) flash.image flash.extras }
+    requires suits { All SuitsKeys list.now }
+    ensures run { IfOk result (λ s.
+        IsKeysRun config flash.image list.now s.flash.image s.replies.items) }
+    ensures shape { IfOk result (λ s. s.flash.shape ≡ shape_of config) }
+    ensures extras { IfOk result (λ s. s.flash.extras ≡ flash.extras) }
+    ensures err { IfErr result (StopsBy (RefusesStore config flash.image)) }
+{
+    match config.protocol {
+        Protocol::Scc => served_keys_by::<Scc>(alloc, flash, config, list),
+        Protocol::Bpcc => served_keys_by::<Bpcc>(alloc, flash, config, list),
+    }
+}
+
+/// The same under a rule.
+fn served_keys_by<R: CommitRule>(
+    alloc: Global,
+    flash: MemFlash,
+    config: Config,
+    list: &[KeyCommand],
+) -> Result<KeptKeys, Stop<'static>>
+    requires check { checked config ≡ Ok (shape_of config) }
+    requires rule { config.protocol ≡ R.protocol }
+    requires ready { flash ≡ loaded (shape_of config) flash.image flash.extras }
+    requires suits { All SuitsKeys list.now }
+    ensures run { IfOk result (λ s.
+        IsKeysRun config flash.image list.now s.flash.image s.replies.items) }
+    ensures shape { IfOk result (λ s. s.flash.shape ≡ shape_of config) }
+    ensures extras { IfOk result (λ s. s.flash.extras ≡ flash.extras) }
+    ensures err { IfErr result (StopsBy (RefusesStore config flash.image)) }
+{
+    let mut replies = Vec::new(alloc);
+    let (flash, done) = key_serve::<MemFlash, R>(alloc, flash, config, list, &mut replies);
+    match done {
+        Ok(()) => Ok(KeptKeys { flash, replies }),
+        Err(KeyServeError::Unsound { law, slot }) => {
+            let breach = Breach { law, slot };
+            Err(Stop::Refused(Refusal::Image(ImageRefusal::Unsound(breach))))
+        }
+        Err(KeyServeError::Bucket(page)) => Err(Stop::Refused(Refusal::BadBucket(page))),
+        Err(KeyServeError::Memory) => Err(Stop::Memory),
+    }
+}

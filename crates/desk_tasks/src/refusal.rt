@@ -1,0 +1,108 @@
+ghost use Rattle.std.specs.Prelude.{◌≡◌, ◌++◌, IfOk, codes};
+ghost use Rattle.std.specs.Fmt.{decimal};
+ghost use Rattle.std.specs.String.{string_bytes};
+ghost use Rattle.image_desk.specs.Refusals.{line};
+ghost use Rattle.desk_tasks.specs.Fate.{config_word, refusal_line, status};
+ghost use Rattle.desk_tasks.specs.Stops.{refused};
+
+use image_desk::ImageRefusal;
+use std::alloc::{AllocError, Global};
+use tx_types::ConfigError;
+
+/// Why the program saves nothing and is not content: it says one line, and answers a status.
+#[derive(Clone, Copy)]
+pub enum Refusal<'a> {
+    /// As each program refuses a call for an image file.
+    Image(ImageRefusal<'a>),
+    /// The line of this number, from 1, is the first of the command file that is no command.
+    BadLine(u32),
+    /// The bytes of this page, the least such, are no bucket of keys.
+    BadBucket(u32),
+    /// The numbers are not those of a device: the first rule that they break.
+    BadConfiguration(ConfigError),
+    /// More blocks are to be retired than a device may allow.
+    BadAllowance,
+    /// There is no such block.
+    NoBlock(u32),
+    /// As many blocks were retired as may be, which is this many.
+    Worn(u32),
+    /// The text is not the report on the image: the first line, from 1, in which the two differ.
+    WrongLine(u32),
+    /// Two devices have not as many pages of as many bytes.
+    DifferShape,
+    /// This is the first page in which two arrays differ, and it is blank in one of them.
+    DifferBlank(u32),
+    /// This is the first page in which two arrays differ, and the first byte in it.
+    DifferAt { page: u32, at: usize },
+}
+
+impl Refusal<'_> {
+    /// The status that the program answers.
+    pub fn status(&self) -> u8
+        ensures { result ≡ status (refused self.now) }
+    {
+        match self {
+            Refusal::Image(refusal) => refusal.status(),
+            Refusal::BadLine(_) => 4,
+            Refusal::BadConfiguration(_) | Refusal::BadAllowance => 8,
+            Refusal::BadBucket(_) => 11,
+            Refusal::WrongLine(_) => 12,
+            Refusal::DifferShape | Refusal::DifferBlank(_) | Refusal::DifferAt { .. } => 13,
+            Refusal::NoBlock(_) | Refusal::Worn(_) => 14,
+        }
+    }
+
+    /// The line that it says. It answers `AllocError` where there is no memory for it.
+    pub fn line(&self, alloc: Global) -> Result<String, AllocError>
+        ensures { IfOk result (λ line. string_bytes line ≡ refusal_line (refused self.now)) }
+    {
+        match self {
+            Refusal::Image(refusal) => refusal.line(alloc),
+            Refusal::BadLine(n) => format!(in alloc; "bad line {n}\n"),
+            Refusal::BadBucket(page) => format!(in alloc; "bad bucket {page}\n"),
+            Refusal::BadConfiguration(rule) => {
+                let word = config_word(*rule);
+                format!(in alloc; "bad configuration: {word}\n")
+            }
+            Refusal::BadAllowance => String::from_str(alloc, "bad configuration: allowance\n"),
+            Refusal::NoBlock(block) => format!(in alloc; "refused block {block}\n"),
+            Refusal::Worn(allowance) => format!(in alloc; "refused worn {allowance}\n"),
+            Refusal::WrongLine(k) => format!(in alloc; "wrong line {k}\n"),
+            Refusal::DifferShape => String::from_str(alloc, "differ shape\n"),
+            Refusal::DifferBlank(page) => blank_line(alloc, *page),
+            Refusal::DifferAt { page, at } => byte_line(alloc, *page, *at),
+        }
+    }
+}
+
+/// The line for two arrays of which one alone is blank at this page, the first that differs.
+fn blank_line(alloc: Global, page: u32) -> Result<String, AllocError>
+    ensures { IfOk result (λ words. string_bytes words ≡
+        line (codes "differ page " ++ decimal page ++ codes " blank")) }
+{
+    format!(in alloc; "differ page {page} blank\n")
+}
+
+/// The line for two arrays that differ first at this byte of this page.
+fn byte_line(alloc: Global, page: u32, at: usize) -> Result<String, AllocError>
+    ensures { IfOk result (λ words. string_bytes words ≡
+        line (codes "differ page " ++ decimal page ++ codes " at " ++ decimal at)) }
+{
+    format!(in alloc; "differ page {page} at {at}\n")
+}
+
+/// The word for a rule of a configuration.
+fn config_word(rule: ConfigError) -> &'static str
+    ensures { result.now ≡ config_word rule }
+{
+    match rule {
+        ConfigError::Page => "page",
+        ConfigError::Pages => "pages",
+        ConfigError::Blocks => "blocks",
+        ConfigError::Dies => "dies",
+        ConfigError::Slots => "slots",
+        ConfigError::Logical => "logical",
+        ConfigError::Pending => "pending",
+        ConfigError::Space => "space",
+    }
+}

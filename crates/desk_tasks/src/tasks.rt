@@ -1,0 +1,177 @@
+ghost use Rattle.std.specs.Prelude.{◌≡◌, ◌≤◌, ◌++◌, Some, IfOk, codes, length};
+ghost use Rattle.std.specs.Fmt.{decimal};
+ghost use Rattle.desk_io.specs.Desk.{DeskState, max_file_bytes};
+ghost use Rattle.image_desk.specs.Refusals.{line};
+ghost use Rattle.desk_tasks.specs.Fate.{Driven};
+ghost use Rattle.desk_tasks.specs.Steps.{Explaining, Running, Trying, formatting};
+ghost use Rattle.desk_tasks.specs.Stops.{Works, WorksTo};
+ghost use Rattle.desk_tasks.specs.Asked.{Drive, Explain, Format, Run, Try};
+ghost use Rattle.tx_types.specs.Config.{checked};
+
+use crate::devices::{ServedFlash, blank_flash, default_config, explained, read_commands, served};
+use crate::product::{File, Product, Stop, Text};
+use crate::refusal::Refusal;
+use desk_io::Desk;
+use drive_gen::{commands, summary};
+use flash_model::MAX_ALLOWANCE;
+use image_desk::{fetch, read_device};
+use image_file::{blank_image, into_image};
+use std::alloc::{AllocError, Global};
+use std::mem::forget;
+use tx_types::{Config, Protocol};
+
+/// Serves the commands of a file on a fresh device.
+pub fn to_try<'a, D: Desk>(
+    alloc: Global,
+    name: &'a str,
+    desk: &mut D,
+) -> Result<Product<'a>, Stop<'a>>
+    ensures { Works (Some (Try name.now)) (D.state desk.old) (D.state desk.new) result }
+{
+    let lines = fetch(name, desk)?;
+    tried(alloc, &lines)
+}
+
+/// Serves the commands of a file on the device of an image file, which is then saved.
+pub fn to_run<'a, D: Desk>(
+    alloc: Global,
+    image: &'a str,
+    script: &'a str,
+    desk: &mut D,
+) -> Result<Product<'a>, Stop<'a>>
+    ensures { Works (Some (Run image.now script.now)) (D.state desk.old) (D.state desk.new) result }
+{
+    let bytes = fetch(image, desk)?;
+    let lines = fetch(script, desk)?;
+    ran(alloc, image, bytes, &lines)
+}
+
+/// Reports on the records of an image file.
+pub fn to_explain<'a, D: Desk>(
+    alloc: Global,
+    image: &'a str,
+    desk: &mut D,
+) -> Result<Product<'a>, Stop<'a>>
+    ensures { Works (Some (Explain image.now)) (D.state desk.old) (D.state desk.new) result }
+{
+    let bytes = fetch(image, desk)?;
+    reported(alloc, bytes)
+}
+
+/// What a try gives, from the bytes of its commands on.
+fn tried<'a>(alloc: Global, lines: &[u8]) -> Result<Product<'a>, Stop<'a>>
+    requires { length lines.now ≤ max_file_bytes }
+    ensures { WorksTo (Trying lines.now) result }
+{
+    let config = default_config(Protocol::Scc);
+    let list = read_commands(alloc, lines, config.page_bytes)?;
+    let flash = blank_flash(alloc, config)?;
+    let ServedFlash { replies, .. } = served(alloc, flash, config, &list)?;
+    leave(list);
+    Ok(Product {
+        saved: None,
+        text: Text::Replies(replies),
+    })
+}
+
+/// What a run gives, from the bytes of its files on.
+fn ran<'a>(
+    alloc: Global,
+    name: &'a str,
+    bytes: Vec<u8>,
+    lines: &[u8],
+) -> Result<Product<'a>, Stop<'a>>
+    requires { length lines.now ≤ max_file_bytes }
+    ensures { WorksTo (Running name.now bytes.items lines.now) result }
+{
+    let (config, flash) = read_device(alloc, bytes)?;
+    let list = read_commands(alloc, lines, config.page_bytes)?;
+    let ServedFlash { flash, replies } = served(alloc, flash, config, &list)?;
+    leave(list);
+    let saved = into_image(alloc, &config, flash)?;
+    Ok(Product {
+        saved: Some(File { name, bytes: saved }),
+        text: Text::Replies(replies),
+    })
+}
+
+/// What an explanation gives, from the bytes of its image on.
+fn reported<'a>(alloc: Global, bytes: Vec<u8>) -> Result<Product<'a>, Stop<'a>>
+    ensures { WorksTo (Explaining bytes.items) result }
+{
+    let (config, flash) = read_device(alloc, bytes)?;
+    let report = explained(alloc, flash, config)?;
+    Ok(Product {
+        saved: None,
+        text: Text::Other(report),
+    })
+}
+
+/// The image of a blank device, so many blocks of which may be retired, and a line that says so.
+pub fn formatted<'a>(
+    alloc: Global,
+    name: &'a str,
+    config: Config,
+    allowance: u32,
+) -> Result<Product<'a>, Stop<'a>>
+    ensures { WorksTo (λ fate. fate ≡ formatting name.now config allowance (checked config)) result }
+{
+    let shape = match config.check() {
+        Ok(shape) => shape,
+        Err(rule) => return Err(Stop::Refused(Refusal::BadConfiguration(rule))),
+    };
+    if allowance > MAX_ALLOWANCE {
+        return Err(Stop::Refused(Refusal::BadAllowance));
+    }
+    let bytes = blank_image(alloc, &config, shape, allowance)?;
+    let line = formatted_line(alloc, name, shape.slots())?;
+    Ok(Product {
+        saved: Some(File { name, bytes }),
+        text: Text::Other(line),
+    })
+}
+
+/// The line that says that a file has the image of a blank device of so many slots.
+fn formatted_line(alloc: Global, name: &str, slots: u32) -> Result<Vec<u8>, AllocError>
+    ensures { IfOk result (λ words. words.items ≡
+        line (codes "formatted " ++ name.now ++ codes " " ++ decimal slots)) }
+{
+    let line = format!(in alloc; "formatted {name} {slots}\n")?;
+    Ok(line.into_bytes())
+}
+
+/// The summary of the replies to commands that are drawn.
+pub fn driven<'a>(
+    alloc: Global,
+    start: u64,
+    count: u32,
+    protocol: Protocol,
+) -> Result<Product<'a>, Stop<'a>>
+    ensures { WorksTo (λ fate. fate ≡ Driven start count protocol) result }
+{
+    let config = default_config(protocol);
+    let list = commands(alloc, start, count, config)?;
+    let flash = blank_flash(alloc, config)?;
+    let ServedFlash { replies, .. } = served(alloc, flash, config, &list)?;
+    let mut line = Vec::new(alloc);
+    summary(
+        alloc,
+        start,
+        count,
+        protocol,
+        &list,
+        replies.as_slice(),
+        &mut line,
+    )?;
+    leave(list);
+    Ok(Product {
+        saved: None,
+        text: Text::Other(line),
+    })
+}
+
+/// Leaves the memory of commands to the end of the program, which is near: to give that of each command back would
+/// take longer than to make them, and nothing is to be put there.
+pub fn leave<T: Drop>(list: Vec<T>) {
+    forget(list);
+}

@@ -1,6 +1,0 @@
-use Rattle.std.proofs.Common.{◌≡◌, map, take}
-use Rattle.version_index.specs.Notes.{note_of}
-use Rattle.flash_view.proofs.opening.notes.Given as goal
-
-abbrev pub invariant-loop-slot : goal.invariant-loop-slot
-invariant-loop-slot l = l.notes.items ≡ map (note_of l.protocol) (take l.slot l.flash.image)

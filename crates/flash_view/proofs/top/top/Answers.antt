@@ -1,8 +1,0 @@
-use Rattle.flash_view.proofs.Endings.{files_kept, only_fault}
-use Rattle.flash_view.proofs.top.top.Goals as goal
-
-pub returns-clause-fault : goal.returns-clause-fault
-returns-clause-fault g c = only_fault _ _ _ c.run.result c.run.ensures
-
-pub returns-clause-files : goal.returns-clause-files
-returns-clause-files g c = files_kept _ _ _ c.run.result c.run.ensures

@@ -1,6 +1,0 @@
-use Rattle.std.proofs.Common.{◌≡◌, map, take}
-use Rattle.flash_model.specs.Calls.{seen_of}
-use Rattle.txflash.proofs.kept.states.Given as goal
-
-abbrev pub invariant-loop-slot : goal.invariant-loop-slot
-invariant-loop-slot l = l.all.items ≡ map seen_of (take l.slot l.flash.image)

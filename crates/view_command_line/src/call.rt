@@ -1,0 +1,61 @@
+ghost use Rattle.std.specs.Prelude.{◌≡◌, Some};
+ghost use Rattle.desk_io.specs.Desk.{Rose};
+ghost use Rattle.image_desk.specs.Saying.{files_in};
+ghost use Rattle.view_command_line.specs.Asked.{asked_by, asked_of};
+ghost use Rattle.view_command_line.specs.Top.{EndsCall, Works};
+
+use crate::drawing::drawn;
+use crate::words::{View, asked};
+use desk_io::Desk;
+use image_desk::{ImageRefusal, ImageStop, desk_fault, fetch, no_memory, refuse, say};
+use std::alloc::Global;
+
+/// Says the picture that the words ask for, and answers the status: 0 where that is done, 1 for words that are
+/// not in the table, 2 for a file that is missing, 3 for bytes that are no image file, 5 for a fault of the
+/// desk, 6 for want of memory, 7 for an image that is not sound, and 9 for a file that is too long. No file
+/// changes.
+pub fn top<D: Desk>(alloc: Global, words: &[String], desk: &mut D) -> u8
+    ensures ends { EndsCall (asked_by words.now) (D.state desk.old) (D.state desk.new) result }
+    ensures fault { result ≡ 5 → Rose (D.state desk.old).faults (D.state desk.new).faults }
+    ensures files { files_in (D.state desk.new) ≡ files_in (D.state desk.old) }
+{
+    run(alloc, words, desk)
+}
+
+/// The same, by how it ends.
+fn run<D: Desk>(alloc: Global, words: &[String], desk: &mut D) -> u8
+    ensures { EndsCall (asked_by words.now) (D.state desk.old) (D.state desk.new) result }
+{
+    match work(alloc, words, desk) {
+        Ok(text) => say(desk, &text, 0),
+        Err(ImageStop::Refused(refusal)) => refuse(desk, refusal.line(alloc), refusal.status()),
+        Err(ImageStop::Fault) => desk_fault(desk),
+        Err(ImageStop::Memory) => no_memory(desk),
+    }
+}
+
+/// The text of the picture that the words ask for.
+fn work<'a, D: Desk>(
+    alloc: Global,
+    words: &'a [String],
+    desk: &mut D,
+) -> Result<Vec<u8>, ImageStop<'a>>
+    ensures { Works (asked_by words.now) (D.state desk.old) (D.state desk.new) result }
+{
+    match asked(words) {
+        Some(view) => viewed(alloc, view, desk),
+        None => Err(ImageStop::Refused(ImageRefusal::BadWords)),
+    }
+}
+
+/// The text of a picture.
+fn viewed<'a, D: Desk>(
+    alloc: Global,
+    view: View<'a>,
+    desk: &mut D,
+) -> Result<Vec<u8>, ImageStop<'a>>
+    ensures { Works (Some (asked_of view.entry)) (D.state desk.old) (D.state desk.new) result }
+{
+    let bytes = fetch(view.image, desk)?;
+    drawn(alloc, bytes, view.form, view.unsound)
+}

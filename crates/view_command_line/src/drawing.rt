@@ -1,0 +1,87 @@
+ghost use Rattle.std.specs.Prelude.{◌≡◌, Ok, IfOk, IfErr, length};
+ghost use Rattle.tx_types.specs.Config.{checked, shape_of, slots_of};
+ghost use Rattle.mem_flash.specs.Memory.{loaded};
+ghost use Rattle.image_desk.specs.Loading.{ImageStops};
+ghost use Rattle.view_command_line.specs.Fate.{Drawing, Gives, Opens, Refused, picture_in};
+
+use crate::opening::{Opening, notes, open};
+use crate::words::Form;
+use flash_picture::{Marks, draw, draw_svg};
+use image_desk::{ImageRefusal, ImageStop, read_device};
+use mem_flash::MemFlash;
+use std::alloc::Global;
+use tx_types::Config;
+use version_index::Note;
+
+/// The picture of an image file, from its bytes on. One that is not sound is drawn only where that is asked for.
+pub fn drawn(
+    alloc: Global,
+    bytes: Vec<u8>,
+    form: Form,
+    unsound: bool,
+) -> Result<Vec<u8>, ImageStop<'static>>
+    ensures text { IfOk result (λ text. Gives (Drawing form unsound bytes.items) text.items) }
+    ensures err { IfErr result
+        (ImageStops (λ why. Drawing form unsound bytes.items (Refused why))) }
+{
+    let (config, flash) = read_device(alloc, bytes)?;
+    pictured(alloc, config, flash, form, unsound)
+}
+
+/// The picture of the device of a flash.
+fn pictured(
+    alloc: Global,
+    config: Config,
+    flash: MemFlash,
+    form: Form,
+    unsound: bool,
+) -> Result<Vec<u8>, ImageStop<'static>>
+    requires check { checked config ≡ Ok (shape_of config) }
+    requires ready { flash ≡ loaded (shape_of config) flash.image flash.extras }
+    ensures text { IfOk result (λ text. Gives (Opens form unsound config flash.image) text.items) }
+    ensures err { IfErr result
+        (ImageStops (λ why. Opens form unsound config flash.image (Refused why))) }
+{
+    let notes = notes(alloc, config.protocol, &flash)?;
+    match open(alloc, config, flash)? {
+        Opening::Sound(block) => {
+            let marks = Marks {
+                spare: Some(block),
+                breach: None,
+            };
+            text(alloc, config, &notes, marks, form)
+        }
+        Opening::Unsound(breach) => {
+            if unsound {
+                let marks = Marks {
+                    spare: None,
+                    breach: Some(breach),
+                };
+                text(alloc, config, &notes, marks, form)
+            } else {
+                Err(ImageStop::Refused(ImageRefusal::Unsound(breach)))
+            }
+        }
+    }
+}
+
+/// The picture of a device whose slots are noted so.
+fn text(
+    alloc: Global,
+    config: Config,
+    notes: &[Note],
+    marks: Marks,
+    form: Form,
+) -> Result<Vec<u8>, ImageStop<'static>>
+    requires check { checked config ≡ Ok (shape_of config) }
+    requires whole { length notes.now ≡ slots_of (shape_of config) }
+    ensures text { IfOk result (λ text. text.items ≡ picture_in form config notes.now marks) }
+    ensures err { IfErr result (λ e. e ≡ ImageStop.Memory) }
+{
+    let mut text = Vec::new(alloc);
+    match form {
+        Form::Text => draw(alloc, config, notes, marks, &mut text)?,
+        Form::Svg => draw_svg(alloc, config, notes, marks, &mut text)?,
+    }
+    Ok(text)
+}

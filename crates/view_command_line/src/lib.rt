@@ -1,0 +1,12 @@
+//! The command line of the program that draws the flash of an image file: what its words ask for, what it says
+//! and which status it answers, and what its pictures tell.
+#![tactic(auto)]
+
+mod call;
+mod drawing;
+mod laws;
+mod opening;
+mod words;
+
+pub use call::top;
+pub use laws::{pictures_tell, svgs_tell};
