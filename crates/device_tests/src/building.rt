@@ -1,18 +1,17 @@
 //! Configurations, records, and flashes that hold them.
 
-ghost use Rattle.std.specs.Prelude.{◌≡◌, ◌<◌, IfOk, IsTrue, Ok, length};
+ghost use Rattle.std.specs.Prelude.{◌≡◌, ◌<◌, IfSome, IsTrue, Ok, length};
 ghost use Rattle.tx_types.specs.Config.{checked, shape_of, slots_of, blocks_of};
 ghost use Rattle.flash_model.specs.Operations.{CanProgram};
 ghost use Rattle.flash_model.specs.Readings.{reads_blank};
 ghost use Rattle.record_list.specs.Records.{IsScanned};
 
+use crate::texts::{link, number, number_or_zero, word};
 use flash_model::{Arms, Flash, Outcome, SPARE_BYTES, Seen};
 use mem_flash::MemFlash;
 use page_record::write_spare;
 use record_list::{CommitRule, Found};
 use std::alloc::Global;
-use std::process::Abort;
-use std::test::Fail;
 use tx_types::{Block, Config, Link, MAX_VERSION, Protocol, Rec, Slot};
 use version_index::Index;
 
@@ -49,15 +48,12 @@ pub const SMALL: Config = Config {
     pending: 1,
 };
 
-/// The record of a page and a version, with its link and its back version.
-pub fn rec(name: (u32, u64), next: (u32, u64), back: u64) -> Rec {
+/// The record of a name, with its link and its back version.
+pub fn rec(name: Link, next: Link, back: u64) -> Rec {
     Rec {
-        page: name.0,
-        version: name.1,
-        next: Link {
-            page: next.0,
-            version: next.1,
-        },
+        page: name.page,
+        version: name.version,
+        next,
         back,
         count: 0,
         discard: false,
@@ -120,28 +116,72 @@ pub fn has_slot<R: CommitRule>(index: &Index<R>, at: Slot) -> bool
     at.0 < slot_count(index)
 }
 
-/// What is programmed.
-#[derive(Clone, Copy, Debug)]
+/// What is done to a flash.
+#[derive(Clone, Copy)]
 pub enum Item {
-    /// In a slot a record: its page and version, those of its link, and its back version. And the
-    /// byte of which its page is full.
-    Record(u32, (u32, u64), (u32, u64), u64, u8),
+    /// In a slot a record is programmed, with a page that is full of a byte.
+    Record(Slot, Rec, u8),
     /// In a slot what can't be read.
-    Damaged(u32),
+    Damaged(Slot),
+    /// In a slot a spare area that is all zeros.
+    Zeros(Slot),
+    /// A read from now on, the one of this number, will be broken.
+    BadRead(u32),
 }
 
-/// The spare area of a record.
-pub fn spare_area_of(rt: &impl Abort, protocol: Protocol, rec: Rec) -> [u8; SPARE_BYTES] {
-    assert!(rt; 1 <= rec.version && rec.version <= MAX_VERSION);
-    assert!(rt; 1 <= rec.next.version && rec.next.version <= MAX_VERSION);
-    assert!(rt; rec.count <= 256 && (rec.count > 0 || !rec.discard));
-    match protocol {
-        Protocol::Scc => assert!(rt; rec.back == 0),
-        Protocol::Bpcc => assert!(rt; rec.back < rec.version),
+/// The item that a text says: `4 damaged`, `4 zeros`, `badread 2`, or of a record its slot, its name and its link,
+/// and then, as far as they are not 0, its back version, its byte and its count, and `discard`.
+pub fn item_of(text: &str) -> Option<Item> {
+    let first = word(text, 0);
+    let second = word(text, 1);
+    if first? == "badread" {
+        return Some(Item::BadRead(number(second)?));
+    }
+    let slot = Slot(number(first)?);
+    match second? {
+        "damaged" => Some(Item::Damaged(slot)),
+        "zeros" => Some(Item::Zeros(slot)),
+        _ => {
+            let byte = u8::try_from(number_or_zero(word(text, 4))?).ok()?;
+            Some(Item::Record(slot, rec_of(text)?, byte))
+        }
+    }
+}
+
+/// The record that a text says behind its slot.
+fn rec_of(text: &str) -> Option<Rec> {
+    let name = link(word(text, 1))?;
+    let next = link(word(text, 2))?;
+    let back = number_or_zero(word(text, 3))?;
+    let count = number_or_zero(word(text, 5))?;
+    Some(Rec {
+        count,
+        discard: matches!(word(text, 6), Some("discard")),
+        ..rec(name, next, u64::from(back))
+    })
+}
+
+/// The spare area of a record, where it has one.
+fn spare_area_of(protocol: Protocol, rec: Rec) -> Option<[u8; SPARE_BYTES]> {
+    if rec.version < 1 || rec.version > MAX_VERSION {
+        return None;
+    }
+    if rec.next.version < 1 || rec.next.version > MAX_VERSION {
+        return None;
+    }
+    if rec.count > 256 || (rec.count == 0 && rec.discard) {
+        return None;
+    }
+    let is_back_right = match protocol {
+        Protocol::Scc => rec.back == 0,
+        Protocol::Bpcc => rec.back < rec.version,
+    };
+    if !is_back_right {
+        return None;
     }
     let mut spare_area = [0; SPARE_BYTES];
     write_spare(rec, protocol, &mut spare_area);
-    spare_area
+    Some(spare_area)
 }
 
 /// Whether a slot that reads so is blank.
@@ -168,47 +208,97 @@ fn may_program(flash: &MemFlash, at: Slot) -> bool
     true
 }
 
-/// Programs a slot. Tells whether that was not broken.
-pub fn program(
-    rt: &impl Abort,
-    flash: &mut MemFlash,
-    at: Slot,
-    fill: u8,
-    spare_area: &[u8; SPARE_BYTES],
-) -> bool
+/// Programs a slot, where it may be. Tells whether that was not broken.
+fn program(flash: &mut MemFlash, at: Slot, fill: u8, spare_area: &[u8; SPARE_BYTES]) -> Option<bool>
     requires { flash.old.shape.page_bytes ≡ 16 }
     ensures { flash.new.shape ≡ flash.old.shape }
 {
-    assert!(rt; may_program(flash, at), "{at:?}");
-    flash.program(at, &[fill; 16], spare_area).is_ok()
+    if may_program(flash, at) {
+        Some(flash.program(at, &[fill; 16], spare_area).is_ok())
+    } else {
+        None
+    }
 }
 
-/// A flash on which these items were programmed.
-pub fn written(
-    rt: &impl Abort,
-    alloc: Global,
-    config: Config,
-    items: &[Item],
-) -> Result<MemFlash, Fail>
-    requires check { checked config ≡ Ok (shape_of config) }
-    requires page { config.page_bytes ≡ 16 }
-    ensures { IfOk result (λ flash. flash.shape ≡ shape_of config) }
+/// Programs a record. Tells whether that could be done and was not broken.
+fn put_record(flash: &mut MemFlash, protocol: Protocol, at: Slot, rec: Rec, fill: u8) -> bool
+    requires { flash.old.shape.page_bytes ≡ 16 }
+    ensures { flash.new.shape ≡ flash.old.shape }
 {
-    let Ok(shape) = config.check() else {
-        unreachable!();
-    };
-    let mut flash = MemFlash::new(alloc, shape)?;
-    for item in items {
-        match item {
-            Item::Record(at, name, next, back, fill) => {
-                let spare_area = spare_area_of(rt, config.protocol, rec(*name, *next, *back));
-                assert!(rt; program(rt, &mut flash, Slot(*at), *fill, &spare_area));
-            }
-            Item::Damaged(at) => {
-                flash.arm_fault(1, Outcome::Bad);
-                assert!(rt; !program(rt, &mut flash, Slot(*at), 0, &[0; SPARE_BYTES]));
-            }
+    match spare_area_of(protocol, rec) {
+        Some(spare_area) => matches!(program(flash, at, fill, &spare_area), Some(true)),
+        None => false,
+    }
+}
+
+/// Does an item to a flash. Tells whether that could be done.
+pub fn put(flash: &mut MemFlash, protocol: Protocol, item: Item) -> bool
+    requires { flash.old.shape.page_bytes ≡ 16 }
+    ensures { flash.new.shape ≡ flash.old.shape }
+{
+    match item {
+        Item::Record(at, rec, fill) => put_record(flash, protocol, at, rec, fill),
+        Item::Damaged(at) => {
+            flash.arm_fault(1, Outcome::Bad);
+            matches!(program(flash, at, 0, &[0; SPARE_BYTES]), Some(false))
+        }
+        Item::Zeros(at) => matches!(program(flash, at, 0, &[0; SPARE_BYTES]), Some(true)),
+        Item::BadRead(0) => false,
+        Item::BadRead(count) => {
+            flash.arm_bad_read(count);
+            true
         }
     }
-    Ok(flash)
+}
+
+/// Does the item that a text says to a flash. Tells whether that could be done.
+fn put_text(flash: &mut MemFlash, protocol: Protocol, text: &str) -> bool
+    requires { flash.old.shape.page_bytes ≡ 16 }
+    ensures { flash.new.shape ≡ flash.old.shape }
+{
+    match item_of(text) {
+        Some(item) => put(flash, protocol, item),
+        None => false,
+    }
+}
+
+/// Does the items of a text to a flash, or `nothing`. Tells whether that could be done.
+pub fn put_all(flash: &mut MemFlash, protocol: Protocol, items: &str) -> bool
+    requires { flash.old.shape.page_bytes ≡ 16 }
+    ensures { flash.new.shape ≡ flash.old.shape }
+{
+    if items == "nothing" {
+        return true;
+    }
+    for text in items.split(", ") {
+        if !put_text(flash, protocol, text) {
+            return false;
+        }
+    }
+    true
+}
+
+/// A new flash of a configuration.
+pub fn blank_flash(alloc: Global, config: Config) -> Option<MemFlash>
+    requires { checked config ≡ Ok (shape_of config) }
+    ensures { IfSome result (λ flash. flash.shape ≡ shape_of config) }
+{
+    let Ok(shape) = config.check() else {
+        return None;
+    };
+    MemFlash::new(alloc, shape).ok()
+}
+
+/// A flash to which these items were done, where that could be.
+pub fn written(alloc: Global, config: Config, items: &str) -> Option<MemFlash>
+    requires check { checked config ≡ Ok (shape_of config) }
+    requires page { config.page_bytes ≡ 16 }
+    ensures { IfSome result (λ flash. flash.shape ≡ shape_of config) }
+{
+    let mut flash = blank_flash(alloc, config)?;
+    if put_all(&mut flash, config.protocol, items) {
+        Some(flash)
+    } else {
+        None
+    }
 }

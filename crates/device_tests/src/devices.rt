@@ -1,9 +1,11 @@
-//! Devices over small flashes: calls and their answers, as tables of rows.
+//! Devices over small flashes: lines of calls and their answers.
 
 mod batches;
 mod calls;
 mod doubts;
-mod flashes;
 mod full;
+mod lines;
+mod mounting;
 mod retired;
 mod rows;
+mod telling;

@@ -1,4 +1,6 @@
 //! Tables of slots with a few records.
 
+mod changing;
+pub mod lines;
 mod numbers;
 mod tables;

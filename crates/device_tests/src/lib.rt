@@ -16,3 +16,5 @@ mod keys;
 mod recovering;
 #[cfg(test)]
 mod serving;
+#[cfg(test)]
+mod texts;

@@ -1,9 +1,6 @@
 //! Broken erases on a blank flash.
 
-use super::rows::outcome;
-use super::steps::Step;
-use flash_model::Outcome;
-use std::test::Fail;
+use super::rows::is_right;
 use tx_types::{Config, Protocol};
 
 /// Four blocks of two slots.
@@ -27,131 +24,41 @@ const BPCC: Config = Config {
     pending: 1,
 };
 
-use Outcome::{All, Bad, None as Nothing};
-use Step::{BadRead, Clean, Collect, Fault, Settle};
-
 /// Steps on a blank flash whose spare is block 3, and what they come to.
-const ROWS: [(&[Step], &str); 16] = [
-    (&[Clean, Settle], "++ spare 3 erases 0"),
-    (&[Collect(0, 0)], "+ spare 0 erases 1"),
-    (&[Collect(0, 0), Collect(1, 0)], "++ spare 1 erases 2"),
-    // The erase of the block: as it was, blank like before, or lost.
-    (
-        &[Fault(1, Nothing), Collect(0, 0), Settle],
-        "-+ spare 3 erases 0",
-    ),
-    (
-        &[Fault(1, All), Collect(0, 0), Settle],
-        "-+ spare 3 erases 0",
-    ),
-    (
-        &[Fault(1, Bad), Collect(0, 0), Settle],
-        "-+ 0: XX XX spare 0 erases 0",
-    ),
-    // The lost block is the spare, and is erased first.
-    (
-        &[Fault(1, Bad), Collect(0, 0), Settle, Clean],
-        "-++ spare 0 erases 1",
-    ),
-    (
-        &[Fault(1, Bad), Collect(0, 0), Settle, Collect(2, 0)],
-        "-++ spare 2 erases 2",
-    ),
-    // That erase is broken too,
-    (
-        &[
-            Fault(1, Bad),
-            Collect(0, 0),
-            Settle,
-            Fault(1, Nothing),
-            Collect(2, 0),
-            Settle,
-        ],
-        "-+-+ 0: XX XX spare 0 erases 0",
-    ),
-    (
-        &[
-            Fault(1, Bad),
-            Collect(0, 0),
-            Settle,
-            Fault(1, All),
-            Collect(2, 0),
-            Settle,
-        ],
-        "-+-+ spare 0 erases 0",
-    ),
-    (
-        &[
-            Fault(1, Bad),
-            Collect(0, 0),
-            Settle,
-            Fault(1, Bad),
-            Collect(2, 0),
-            Settle,
-        ],
-        "-+-+ 0: XX XX spare 0 erases 0",
-    ),
-    // or that of the second block.
-    (
-        &[
-            Fault(1, Bad),
-            Collect(0, 0),
-            Settle,
-            Fault(2, Nothing),
-            Collect(2, 0),
-            Settle,
-        ],
-        "-+-+ spare 0 erases 1",
-    ),
-    (
-        &[
-            Fault(1, Bad),
-            Collect(0, 0),
-            Settle,
-            Fault(2, All),
-            Collect(2, 0),
-            Settle,
-        ],
-        "-+-+ spare 0 erases 1",
-    ),
-    (
-        &[
-            Fault(1, Bad),
-            Collect(0, 0),
-            Settle,
-            Fault(2, Bad),
-            Collect(2, 0),
-            Settle,
-        ],
-        "-+-+ 2: XX XX spare 2 erases 1",
-    ),
-    // A read that fails finds nothing out, and it is tried again.
-    (
-        &[Fault(1, Bad), Collect(0, 0), BadRead(2), Settle, Settle],
-        "--+ 0: XX XX spare 0 erases 0",
-    ),
-    (
-        &[
-            Fault(1, Bad),
-            Collect(0, 0),
-            Settle,
-            Fault(1, All),
-            Clean,
-            BadRead(1),
-            Settle,
-            Settle,
-        ],
-        "-+--+ spare 0 erases 0",
-    ),
-];
+const ROWS: &str = "\
+    clean; settle => ++ spare 3 erases 0\n\
+    collect 0 0 => + spare 0 erases 1\n\
+    collect 0 0; collect 1 0 => ++ spare 1 erases 2";
+
+/// The erase of the block is broken: it is as it was, blank like before, or lost. A block that is lost is the spare,
+/// and is erased first.
+const ERASES: &str = "\
+    fault 1 none; collect 0 0; settle => -+ spare 3 erases 0\n\
+    fault 1 all; collect 0 0; settle => -+ spare 3 erases 0\n\
+    fault 1 bad; collect 0 0; settle => -+ 0: XX XX spare 0 erases 0\n\
+    fault 1 bad; collect 0 0; settle; clean => -++ spare 0 erases 1\n\
+    fault 1 bad; collect 0 0; settle; collect 2 0 => -++ spare 2 erases 2";
+
+/// The erase of the lost block is broken too, or that of the second block.
+const SECOND_ERASES: &str = "\
+    fault 1 bad; collect 0 0; settle; fault 1 none; collect 2 0; settle => -+-+ 0: XX XX spare 0 erases 0\n\
+    fault 1 bad; collect 0 0; settle; fault 1 all; collect 2 0; settle => -+-+ spare 0 erases 0\n\
+    fault 1 bad; collect 0 0; settle; fault 1 bad; collect 2 0; settle => -+-+ 0: XX XX spare 0 erases 0\n\
+    fault 1 bad; collect 0 0; settle; fault 2 none; collect 2 0; settle => -+-+ spare 0 erases 1\n\
+    fault 1 bad; collect 0 0; settle; fault 2 all; collect 2 0; settle => -+-+ spare 0 erases 1\n\
+    fault 1 bad; collect 0 0; settle; fault 2 bad; collect 2 0; settle => -+-+ 2: XX XX spare 2 erases 1";
+
+/// A read that fails finds nothing out, and it is tried again.
+const READS: &str = "\
+    fault 1 bad; collect 0 0; badread 2; settle; settle => --+ 0: XX XX spare 0 erases 0\n\
+    fault 1 bad; collect 0 0; settle; fault 1 all; clean; badread 1; settle; settle => -+--+ spare 0 erases 0";
 
 #[test]
-fn what_broken_erases_leave(rt: HostRuntime) -> Result<(), Fail> {
-    for (steps, want) in ROWS {
-        for config in [SCC, BPCC] {
-            let got = outcome(&rt, rt.alloc(), config, &[], steps)?;
-            assert_eq!(rt; got.as_str(), want, "{steps:?}");
+fn what_broken_erases_leave(rt: HostRuntime) {
+    for rows in [ROWS, ERASES, SECOND_ERASES, READS] {
+        for line in rows.split('\n') {
+            assert!(rt; is_right(rt.alloc(), SCC, "nothing", line), "{line}");
+            assert!(rt; is_right(rt.alloc(), BPCC, "nothing", line), "{line}");
         }
     }
-    Ok(())
 }

@@ -8,10 +8,8 @@ use crate::building::has_block;
 use collector::Unsure;
 use flash_model::{Flash, Seen};
 use record_list::CommitRule;
-use std::alloc::Global;
-use std::process::Abort;
-use std::test::Fail;
-use tx_types::Slot;
+use std::alloc::AllocError;
+use tx_types::{Block, Slot};
 
 /// Whether a slot exists.
 fn has_slot<R: CommitRule>(kept: &Kept<R>, at: Slot) -> bool
@@ -23,74 +21,118 @@ fn has_slot<R: CommitRule>(kept: &Kept<R>, at: Slot) -> bool
     at.0 < slots && at.0 < kept.flash.shape().slots()
 }
 
-/// A slot: the page and the version of its record.
-fn slot_text<R: CommitRule>(
-    rt: &impl Abort,
-    alloc: Global,
+/// How a slot of a block reads, where it exists and the tables say the same of it or are not sure.
+fn look<R: CommitRule>(kept: &Kept<R>, block: u32, at: u32) -> Option<(Slot, Seen)> {
+    let pages = kept.index.config().pages_per_block;
+    if block >= 65536 || pages >= 65536 || at >= pages {
+        return None;
+    }
+    let at = Slot(block * pages + at);
+    if !has_slot(kept, at) {
+        return None;
+    }
+    let how = kept.flash.seen(at);
+    if is_sure(kept.unsure) && kept.index.seen(at) != how {
+        return None;
+    }
+    Some((at, how))
+}
+
+/// Whether all slots of a block are blank.
+fn is_blank<R: CommitRule>(kept: &Kept<R>, block: u32) -> bool {
+    for at in 0..kept.index.config().pages_per_block {
+        if !matches!(look(kept, block, at), Some((_, Seen::Blank))) {
+            return false;
+        }
+    }
+    true
+}
+
+/// The page and the version of the record in a slot.
+fn write_record<R: CommitRule>(
     kept: &Kept<R>,
     at: Slot,
-) -> Result<String, Fail> {
-    assert!(rt; has_slot(kept, at));
-    let how = kept.flash.seen(at);
-    assert!(rt;
-        !is_sure(kept.unsure) || kept.index.seen(at) == how,
-        "{at:?}"
-    );
-    let text = match (how, kept.index.rec(at)) {
-        (Seen::Blank, _) => format!(in alloc; " ..")?,
-        (Seen::Damaged, _) => format!(in alloc; " XX")?,
-        (Seen::Complete, None) => format!(in alloc; " ??")?,
-        (Seen::Complete, Some(rec)) => format!(in alloc; " {}{}", rec.page, rec.version)?,
-    };
-    Ok(text)
+    text: &mut String,
+) -> Result<(), AllocError> {
+    if !has_slot(kept, at) {
+        return text.push_str(" !!");
+    }
+    match kept.index.rec(at) {
+        Some(rec) => write!(text, " {}{}", rec.page, rec.version),
+        None => text.push_str(" ??"),
+    }
+}
+
+/// A slot of a block.
+fn write_slot<R: CommitRule>(
+    kept: &Kept<R>,
+    block: u32,
+    at: u32,
+    text: &mut String,
+) -> Result<(), AllocError> {
+    match look(kept, block, at) {
+        Some((_, Seen::Blank)) => text.push_str(" .."),
+        Some((_, Seen::Damaged)) => text.push_str(" XX"),
+        Some((slot, Seen::Complete)) => write_record(kept, slot, text),
+        None => text.push_str(" !!"),
+    }
+}
+
+/// The slots of a block.
+fn write_block<R: CommitRule>(
+    kept: &Kept<R>,
+    block: u32,
+    text: &mut String,
+) -> Result<(), AllocError> {
+    write!(text, "{block}:")?;
+    for at in 0..kept.index.config().pages_per_block {
+        write_slot(kept, block, at, text)?;
+    }
+    text.push(' ')
 }
 
 /// The blocks that are not all blank, the spare, and the count of erases.
-pub fn picture<R: CommitRule>(
-    rt: &impl Abort,
-    alloc: Global,
-    kept: &Kept<R>,
-) -> Result<String, Fail> {
+pub fn write_picture<R: CommitRule>(kept: &Kept<R>, text: &mut String) -> Result<(), AllocError> {
     let config = kept.index.config();
-    let pages = config.pages_per_block;
-    let mut all = String::new(alloc);
     for block in 0..config.blocks_per_die * config.dies {
-        let mut slots = String::new(alloc);
-        for at in 0..pages {
-            assert!(rt; block < 65536 && pages < 65536);
-            slots.push_str(slot_text(rt, alloc, kept, Slot(block * pages + at))?.as_str())?;
-        }
-        if slots.as_str().contains(|c: char| c != ' ' && c != '.') {
-            all.push_str(format!(in alloc; "{block}:{} ", slots.as_str())?.as_str())?;
+        if !is_blank(kept, block) {
+            write_block(kept, block, text)?;
         }
     }
     let (spare, erases) = (kept.blocks.spare().0, kept.flash.erases());
-    all.push_str(format!(in alloc; "spare {spare} erases {erases}")?.as_str())?;
-    Ok(all)
+    write!(text, "spare {spare} erases {erases}")
 }
 
-/// The first byte of each page as it reads while a block may be lost: the spare, or the one whose
-/// erase was broken.
-pub fn array<R: CommitRule>(
-    rt: &impl Abort,
-    alloc: Global,
-    kept: &Kept<R>,
-) -> Result<String, Fail> {
-    let lost = match kept.unsure {
+/// The block that may be lost: the spare, or the one whose erase was broken.
+fn lost_block<R: CommitRule>(kept: &Kept<R>) -> Block {
+    match kept.unsure {
         Unsure::VictimErase { block } => block,
         _ => kept.blocks.spare(),
-    };
-    let mut all = String::new(alloc);
+    }
+}
+
+/// The first byte of a page in a slot, where the page is in one. Tells whether it could be said.
+fn write_byte<R: CommitRule>(kept: &Kept<R>, at: Option<Slot>, text: &mut String) -> bool {
+    match at {
+        Some(at) if has_slot(kept, at) => {
+            let byte = kept.flash.cell(at)[0];
+            write!(text, "{byte:02x} ").is_ok()
+        }
+        Some(_) => false,
+        None => text.push_str("-- ").is_ok(),
+    }
+}
+
+/// The first byte of each page as it reads while a block may be lost. Tells whether all could be said.
+pub fn write_array<R: CommitRule>(kept: &Kept<R>, text: &mut String) -> bool {
+    let lost = lost_block(kept);
+    if !has_block(&kept.index, lost) {
+        return false;
+    }
     for page in 0..kept.index.config().logical {
-        assert!(rt; has_block(&kept.index, lost));
-        match kept.index.locate_off(page, lost) {
-            Some(at) => {
-                assert!(rt; has_slot(kept, at));
-                let byte = kept.flash.cell(at)[0];
-                all.push_str(format!(in alloc; "{byte:02x} ")?.as_str())?;
-            }
-            None => all.push_str("-- ")?,
+        if !write_byte(kept, kept.index.locate_off(page, lost), text) {
+            return false;
         }
     }
-    Ok(all)
+    true
 }

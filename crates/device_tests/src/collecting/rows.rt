@@ -1,78 +1,139 @@
-//! What a row of a table comes to.
+//! What the steps of a line come to.
 
 ghost use Rattle.std.specs.Prelude.{◌≡◌, Ok, length};
 ghost use Rattle.tx_types.specs.Config.{checked, shape_of};
 ghost use Rattle.mem_flash.specs.Memory.{state_of};
 ghost use Rattle.collector.specs.Matches.{Matches};
 
-use super::pictures::{array, picture};
-use super::steps::{Kept, Step, opened, take};
-use crate::building::{Item, written};
+use super::pictures::{write_array, write_picture};
+use super::steps::{Kept, opened, step_of, take};
+use crate::building::written;
+use crate::texts::is_like;
 use bpcc_commit::Bpcc;
 use record_list::CommitRule;
 use scc_commit::Scc;
 use std::alloc::Global;
-use std::process::Abort;
-use std::test::Fail;
 use tx_types::{Config, Protocol};
 
-/// Whether each call of these steps was answered (`+`) or broken (`-`). The pages read the same all the while.
-fn answered<R: CommitRule>(
-    rt: &impl Abort,
+/// Whether the pages of a flash read as they did before.
+fn reads_as<R: CommitRule>(alloc: Global, kept: &Kept<R>, before: &str) -> bool {
+    let mut now = String::new(alloc);
+    write_array(kept, &mut now) && now.as_str() == before
+}
+
+/// Takes a step, and says behind a text whether it was answered (`+`) or broken (`-`). Tells whether the pages read
+/// as they did before.
+fn is_taken<R: CommitRule>(
     alloc: Global,
     kept: &mut Kept<R>,
-    steps: &[Step],
-) -> Result<String, Fail>
+    step: &str,
+    before: &str,
+    text: &mut String,
+) -> bool
+    requires matches { Matches (state_of kept.old.flash)
+        kept.old.index kept.old.blocks kept.old.unsure }
+    requires rule { kept.old.index.config.protocol ≡ R.protocol }
+    requires room { length kept.old.room.items ≡ kept.old.index.config.page_bytes }
+    ensures matches { Matches (state_of kept.new.flash)
+        kept.new.index kept.new.blocks kept.new.unsure }
+    ensures config { kept.new.index.config ≡ kept.old.index.config }
+    ensures room { length kept.new.room.items ≡ kept.old.index.config.page_bytes }
+{
+    let Some(step) = step_of(step) else {
+        return false;
+    };
+    if let Some(answer) = take(alloc, kept, step)
+        && text.push(answer).is_err()
+    {
+        return false;
+    }
+    reads_as(alloc, kept, before)
+}
+
+/// Takes steps one after another, and says how each was answered. Tells whether the pages read the same all the
+/// while.
+fn are_taken<R: CommitRule>(
+    alloc: Global,
+    kept: &mut Kept<R>,
+    steps: &str,
+    before: &str,
+    text: &mut String,
+) -> bool
     requires matches { Matches (state_of kept.old.flash)
         kept.old.index kept.old.blocks kept.old.unsure }
     requires rule { kept.old.index.config.protocol ≡ R.protocol }
     requires room { length kept.old.room.items ≡ kept.old.index.config.page_bytes }
 {
-    let before = array(rt, alloc, kept)?;
-    let mut answers = String::new(alloc);
-    for step in steps {
-        if let Some(answer) = take(rt, alloc, kept, *step)? {
-            answers.push(answer)?;
+    for step in steps.split("; ") {
+        if !is_taken(alloc, kept, step, before, text) {
+            return false;
         }
-        let now = array(rt, alloc, kept)?;
-        assert_eq!(rt; now.as_str(), before.as_str(), "{step:?}");
     }
-    Ok(answers)
+    true
 }
 
-/// What the steps of a row come to: how they were answered, and how the flash is then.
-fn steps_taken<R: CommitRule>(
-    rt: &impl Abort,
+/// Takes steps, and says how each was answered and how the flash is then.
+fn tell<R: CommitRule>(
+    alloc: Global,
+    kept: &mut Kept<R>,
+    steps: &str,
+    before: &mut String,
+    text: &mut String,
+) -> bool
+    requires matches { Matches (state_of kept.old.flash)
+        kept.old.index kept.old.blocks kept.old.unsure }
+    requires rule { kept.old.index.config.protocol ≡ R.protocol }
+    requires room { length kept.old.room.items ≡ kept.old.index.config.page_bytes }
+{
+    write_array(kept, before)
+        && are_taken(alloc, kept, steps, before.as_str(), text)
+        && text.push(' ').is_ok()
+        && write_picture(kept, text).is_ok()
+}
+
+/// Whether steps come to what is wanted.
+fn come_to<R: CommitRule>(alloc: Global, kept: &mut Kept<R>, steps: &str, wanted: &str) -> bool
+    requires matches { Matches (state_of kept.old.flash)
+        kept.old.index kept.old.blocks kept.old.unsure }
+    requires rule { kept.old.index.config.protocol ≡ R.protocol }
+    requires room { length kept.old.room.items ≡ kept.old.index.config.page_bytes }
+{
+    let (mut before, mut text) = (String::new(alloc), String::new(alloc));
+    tell(alloc, kept, steps, &mut before, &mut text) && is_like(text.as_str(), wanted)
+}
+
+/// Whether steps on a flash with these items come to what is wanted.
+fn is_so<R: CommitRule>(
     alloc: Global,
     config: Config,
-    items: &[Item],
-    steps: &[Step],
-) -> Result<String, Fail>
+    items: &str,
+    steps: &str,
+    wanted: &str,
+) -> bool
     requires check { checked config ≡ Ok (shape_of config) }
     requires page { config.page_bytes ≡ 16 }
     requires rule { config.protocol ≡ R.protocol }
 {
-    let flash = written(rt, alloc, config, items)?;
-    let mut kept = opened::<R>(alloc, flash, config)?;
-    let answers = answered(rt, alloc, &mut kept, steps)?;
-    let blocks = picture(rt, alloc, &kept)?;
-    let text = format!(in alloc; "{} {}", answers.as_str(), blocks.as_str())?;
-    Ok(text)
+    let Some(flash) = written(alloc, config, items) else {
+        return false;
+    };
+    let Some(mut kept) = opened::<R>(alloc, flash, config) else {
+        return false;
+    };
+    come_to(alloc, &mut kept, steps, wanted)
 }
 
-/// The same by the rule of the configuration.
-pub fn outcome(
-    rt: &impl Abort,
-    alloc: Global,
-    config: Config,
-    items: &[Item],
-    steps: &[Step],
-) -> Result<String, Fail>
+/// Whether the steps of a line, on a flash with these items, come to what it says behind `=>`: how they are answered,
+/// and how the flash is then.
+pub fn is_right(alloc: Global, config: Config, items: &str, line: &str) -> bool
     requires check { checked config ≡ Ok (shape_of config) }
     requires page { config.page_bytes ≡ 16 }
 {
+    let Some((steps, wanted)) = line.split_once(" => ") else {
+        return false;
+    };
     match config.protocol {
-        Protocol::Scc => steps_taken::<Scc>(rt, alloc, config, items, steps),
-        Protocol::Bpcc => steps_taken::<Bpcc>(rt, alloc, config, items, steps),
+        Protocol::Scc => is_so::<Scc>(alloc, config, items, steps, wanted),
+        Protocol::Bpcc => is_so::<Bpcc>(alloc, config, items, steps, wanted),
     }
 }

@@ -1,6 +1,6 @@
-//! What the rows of a table do.
+//! What the steps of a line do.
 
-ghost use Rattle.std.specs.Prelude.{◌≡◌, ◌<◌, IfOk, IsTrue, Ok, length};
+ghost use Rattle.std.specs.Prelude.{◌≡◌, ◌<◌, IfSome, IsTrue, Ok, length};
 ghost use Rattle.tx_types.specs.Config.{checked, shape_of, blocks_of};
 ghost use Rattle.version_index.specs.Noted.{Noted};
 ghost use Rattle.die_alloc.specs.BlockTable.{BlockTable};
@@ -9,6 +9,7 @@ ghost use Rattle.collector.specs.Collecting.{HasUnneeded};
 ghost use Rattle.collector.specs.Matches.{Matches, CanTake};
 
 use crate::building::has_block;
+use crate::texts::{number, outcome, word};
 use collector::{Settled, Unsure, clean_spare, collect, laws, settle, victim};
 use die_alloc::Blocks;
 use flash_model::{Arms, Flash, Outcome, Power};
@@ -16,8 +17,6 @@ use mem_flash::MemFlash;
 use record_list::CommitRule;
 use scan_recovery::recover;
 use std::alloc::Global;
-use std::process::Abort;
-use std::test::Fail;
 use tx_types::{Block, Config, Slot};
 use version_index::Index;
 
@@ -31,8 +30,8 @@ pub struct Kept<R: CommitRule> {
     pub room: Vec<u8>,
 }
 
-/// What a row does.
-#[derive(Clone, Copy, Debug)]
+/// A step.
+#[derive(Clone, Copy)]
 pub enum Step {
     Fault(u32, Outcome),
     Cut(u32, Outcome),
@@ -49,26 +48,47 @@ pub enum Step {
 
 use Step::{BadRead, Choose, Clean, Collect, Cut, Fault, Reopen, Settle};
 
+/// The step that a text says.
+pub fn step_of(text: &str) -> Option<Step> {
+    match text {
+        "clean" => Some(Clean),
+        "settle" => Some(Settle),
+        "choose" => Some(Choose),
+        "reopen" => Some(Reopen),
+        _ => {
+            let (name, first) = (word(text, 0)?, number(word(text, 1))?);
+            step_with(name, first, word(text, 2))
+        }
+    }
+}
+
+/// The step that words say of which the second is a number.
+fn step_with(name: &str, first: u32, second: Option<&str>) -> Option<Step> {
+    match name {
+        "badread" => Some(BadRead(first)),
+        "fault" => Some(Fault(first, outcome(second)?)),
+        "cut" => Some(Cut(first, outcome(second)?)),
+        "collect" => Some(Collect(first, number(second)?)),
+        _ => None,
+    }
+}
+
 /// The tables of a flash, from what it holds.
-pub fn opened<R: CommitRule>(
-    alloc: Global,
-    mut flash: MemFlash,
-    config: Config,
-) -> Result<Kept<R>, Fail>
+pub fn opened<R: CommitRule>(alloc: Global, mut flash: MemFlash, config: Config) -> Option<Kept<R>>
     requires check { checked config ≡ Ok flash.shape }
     requires rule { config.protocol ≡ R.protocol }
-    ensures matches { IfOk result (λ kept.
+    ensures matches { IfSome result (λ kept.
         Matches (state_of kept.flash) kept.index kept.blocks kept.unsure) }
-    ensures config { IfOk result (λ kept. kept.index.config ≡ config) }
-    ensures room { IfOk result (λ kept. length kept.room.items ≡ config.page_bytes) }
+    ensures config { IfSome result (λ kept. kept.index.config ≡ config) }
+    ensures room { IfSome result (λ kept. length kept.room.items ≡ config.page_bytes) }
 {
     laws::opened_tables_match();
     let size = flash.shape().page_bytes as usize;
-    let room = vec![in alloc; 0; size]?;
+    let room = vec![in alloc; 0; size].ok()?;
     let Ok((index, blocks)) = recover::<MemFlash, R>(alloc, &mut flash, config) else {
-        return Err(Fail::new("the flash is refused"));
+        return None;
     };
-    Ok(Kept {
+    Some(Kept {
         flash,
         index,
         blocks,
@@ -108,18 +128,16 @@ fn has_unneeded<R: CommitRule>(index: &Index<R>, block: Block, at: u32) -> bool
     at < pages && !index.needed(Slot(block.0 * pages + at))
 }
 
-/// Whether a call was answered or broken.
-fn told(answered: bool) -> Option<char> {
-    Some(if answered { '+' } else { '-' })
+/// What is told of a step that can't be taken.
+const IMPOSSIBLE: char = '?';
+
+/// What is told of a call that was answered or broken.
+fn told(answered: bool) -> char {
+    if answered { '+' } else { '-' }
 }
 
-/// Takes one step. Tells of a call whether it was answered, and what.
-pub fn take<R: CommitRule>(
-    rt: &impl Abort,
-    alloc: Global,
-    kept: &mut Kept<R>,
-    step: Step,
-) -> Result<Option<char>, Fail>
+/// Takes one step. Tells of a call whether it was answered, and what, and of one that can't be made that it can't.
+pub fn take<R: CommitRule>(alloc: Global, kept: &mut Kept<R>, step: Step) -> Option<char>
     requires matches { Matches (state_of kept.old.flash)
         kept.old.index kept.old.blocks kept.old.unsure }
     requires rule { kept.old.index.config.protocol ≡ R.protocol }
@@ -129,38 +147,30 @@ pub fn take<R: CommitRule>(
     ensures config { kept.new.index.config ≡ kept.old.index.config }
     ensures room { length kept.new.room.items ≡ kept.old.index.config.page_bytes }
 {
-    Ok(match step {
+    match step {
+        Fault(0, _) | Cut(0, _) | BadRead(0) => Some(IMPOSSIBLE),
         Fault(count, outcome) => {
-            assert!(rt; count >= 1);
             kept.flash.arm_fault(count, outcome);
             None
         }
         Cut(count, outcome) => {
-            assert!(rt; count >= 1);
             kept.flash.arm_cut(count, outcome);
             None
         }
         BadRead(count) => {
-            assert!(rt; count >= 1);
             kept.flash.arm_bad_read(count);
             None
         }
-        Clean => told(clean(rt, kept)),
-        Collect(block, at) => told(collect_block(rt, kept, Block(block), at)),
-        Settle => {
-            assert!(rt; is_collection(kept.unsure));
-            told(settle_it(kept))
-        }
+        Clean => Some(clean(kept)),
+        Collect(block, at) => Some(collect_block(kept, Block(block), at)),
+        Settle => Some(settle_it(kept)),
         Choose => Some(choose(kept)),
-        Reopen => {
-            reopen(alloc, kept)?;
-            Some('o')
-        }
-    })
+        Reopen => Some(reopen(alloc, kept)),
+    }
 }
 
 /// Makes the spare blank.
-fn clean<R: CommitRule>(rt: &impl Abort, kept: &mut Kept<R>) -> bool
+fn clean<R: CommitRule>(kept: &mut Kept<R>) -> char
     requires matches { Matches (state_of kept.old.flash)
         kept.old.index kept.old.blocks kept.old.unsure }
     requires rule { kept.old.index.config.protocol ≡ R.protocol }
@@ -169,23 +179,20 @@ fn clean<R: CommitRule>(rt: &impl Abort, kept: &mut Kept<R>) -> bool
     ensures config { kept.new.index.config ≡ kept.old.index.config }
     ensures room { kept.new.room ≡ kept.old.room }
 {
-    assert!(rt; is_sure(kept.unsure));
-    clean_spare(
+    if !is_sure(kept.unsure) {
+        return IMPOSSIBLE;
+    }
+    let result = clean_spare(
         &mut kept.flash,
         &mut kept.index,
         &mut kept.blocks,
         &mut kept.unsure,
-    )
-    .is_ok()
+    );
+    told(result.is_ok())
 }
 
 /// Collects a block, of which this slot is not needed.
-pub fn collect_block<R: CommitRule>(
-    rt: &impl Abort,
-    kept: &mut Kept<R>,
-    block: Block,
-    at: u32,
-) -> bool
+fn collect_block<R: CommitRule>(kept: &mut Kept<R>, block: Block, at: u32) -> char
     requires matches { Matches (state_of kept.old.flash)
         kept.old.index kept.old.blocks kept.old.unsure }
     requires rule { kept.old.index.config.protocol ≡ R.protocol }
@@ -195,31 +202,37 @@ pub fn collect_block<R: CommitRule>(
     ensures config { kept.new.index.config ≡ kept.old.index.config }
     ensures room { length kept.new.room.items ≡ kept.old.index.config.page_bytes }
 {
-    assert!(rt; is_sure(kept.unsure) && has_block(&kept.index, block));
-    assert!(rt; block.0 != kept.blocks.spare().0 && has_unneeded(&kept.index, block, at));
-    collect(
+    if !is_sure(kept.unsure) || !has_block(&kept.index, block) {
+        return IMPOSSIBLE;
+    }
+    if block.0 == kept.blocks.spare().0 || !has_unneeded(&kept.index, block, at) {
+        return IMPOSSIBLE;
+    }
+    let result = collect(
         &mut kept.flash,
         &mut kept.index,
         &mut kept.blocks,
         &mut kept.unsure,
         &mut kept.room,
         block,
-    )
-    .is_ok()
+    );
+    told(result.is_ok())
 }
 
 /// Finds out what a broken operation left.
-fn settle_it<R: CommitRule>(kept: &mut Kept<R>) -> bool
+fn settle_it<R: CommitRule>(kept: &mut Kept<R>) -> char
     requires matches { Matches (state_of kept.old.flash)
         kept.old.index kept.old.blocks kept.old.unsure }
     requires rule { kept.old.index.config.protocol ≡ R.protocol }
-    requires own { CanTake kept.old.index kept.old.blocks kept.old.unsure }
     requires room { length kept.old.room.items ≡ kept.old.index.config.page_bytes }
     ensures matches { Matches (state_of kept.new.flash)
         kept.new.index kept.new.blocks kept.new.unsure }
     ensures config { kept.new.index.config ≡ kept.old.index.config }
     ensures room { length kept.new.room.items ≡ kept.old.index.config.page_bytes }
 {
+    if !is_collection(kept.unsure) {
+        return IMPOSSIBLE;
+    }
     match settle(
         &mut kept.flash,
         &mut kept.index,
@@ -227,8 +240,8 @@ fn settle_it<R: CommitRule>(kept: &mut Kept<R>) -> bool
         &mut kept.unsure,
         &mut kept.room,
     ) {
-        Ok(found) => found == Settled::Other,
-        Err(_) => false,
+        Ok(found) => told(found == Settled::Other),
+        Err(_) => told(false),
     }
 }
 
@@ -237,13 +250,13 @@ fn choose<R: CommitRule>(kept: &Kept<R>) -> char
     requires { Matches (state_of kept.now.flash) kept.now.index kept.now.blocks kept.now.unsure }
 {
     match victim(&kept.index, &kept.blocks) {
-        Some(block) => char::from_digit(block.0, 36).unwrap_or('?'),
+        Some(block) => char::from_digit(block.0, 36).unwrap_or(IMPOSSIBLE),
         None => 'n',
     }
 }
 
 /// Power comes back, and the tables are made from the flash alone.
-fn reopen<R: CommitRule>(alloc: Global, kept: &mut Kept<R>) -> Result<(), Fail>
+fn reopen<R: CommitRule>(alloc: Global, kept: &mut Kept<R>) -> char
     requires matches { Matches (state_of kept.old.flash)
         kept.old.index kept.old.blocks kept.old.unsure }
     requires rule { kept.old.index.config.protocol ≡ R.protocol }
@@ -256,10 +269,10 @@ fn reopen<R: CommitRule>(alloc: Global, kept: &mut Kept<R>) -> Result<(), Fail>
     kept.flash.power_on();
     let config = kept.index.config();
     let Ok((index, blocks)) = recover::<MemFlash, R>(alloc, &mut kept.flash, config) else {
-        return Err(Fail::new("the flash is refused"));
+        return IMPOSSIBLE;
     };
     kept.index = index;
     kept.blocks = blocks;
     kept.unsure = Unsure::Nothing;
-    Ok(())
+    'o'
 }

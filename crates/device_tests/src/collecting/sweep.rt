@@ -1,13 +1,7 @@
 //! A collection that is cut at each of its operations, with each outcome. From the flash alone the
 //! pages read as before.
 
-use super::rows::outcome;
-use super::steps::Step;
-use crate::building::Item;
-use Item::{Damaged, Record};
-use Step::{Collect, Cut, Reopen};
-use flash_model::Outcome;
-use std::test::Fail;
+use super::rows::is_right;
 use tx_types::{Config, Protocol};
 
 /// Three blocks of four slots.
@@ -33,58 +27,39 @@ const BPCC: Config = Config {
 
 /// A loose record, one that is doubled and is current, a stale one and one that is current; then
 /// its double, a slot that is damaged, and one current record more; in the spare one that is stale.
-const BY_CYCLES: [Item; 8] = [
-    Record(0, (0, 1), (4, 1), 0, 1),
-    Record(1, (1, 1), (1, 1), 0, 2),
-    Record(2, (2, 1), (2, 1), 0, 3),
-    Record(3, (3, 1), (3, 1), 0, 4),
-    Record(4, (1, 1), (1, 1), 0, 2),
-    Damaged(5),
-    Record(6, (2, 2), (2, 2), 0, 5),
-    Record(8, (2, 1), (2, 1), 0, 3),
-];
+const BY_CYCLES: &str =
+    "0 0.1 4.1 0 1, 1 1.1 1.1 0 2, 2 2.1 2.1 0 3, 3 3.1 3.1 0 4, 4 1.1 1.1 0 2, \
+    5 damaged, 6 2.2 2.2 0 5, 8 2.1 2.1 0 3";
 
 /// The same with a record that is held: version 2 of page 1, which says that version 1 of page 0
 /// counts for nothing.
-const BY_BACK_POINTERS: [Item; 9] = [
-    Record(0, (0, 1), (1, 1), 0, 1),
-    Record(1, (1, 2), (1, 2), 0, 2),
-    Record(2, (2, 1), (2, 1), 0, 3),
-    Record(3, (3, 1), (3, 1), 0, 4),
-    Record(4, (1, 3), (1, 3), 2, 6),
-    Damaged(5),
-    Record(6, (2, 2), (2, 2), 1, 5),
-    Record(7, (3, 1), (3, 1), 0, 4),
-    Record(8, (2, 1), (2, 1), 0, 3),
-];
+const BY_BACK_POINTERS: &str =
+    "0 0.1 1.1 0 1, 1 1.2 1.2 0 2, 2 2.1 2.1 0 3, 3 3.1 3.1 0 4, 4 1.3 1.3 2 6, \
+    5 damaged, 6 2.2 2.2 1 5, 7 3.1 3.1 0 4, 8 2.1 2.1 0 3";
 
-const SWEPT: [(Config, &[Item]); 2] = [(SCC, &BY_CYCLES), (BPCC, &BY_BACK_POINTERS)];
-
-const OUTCOMES: [Outcome; 3] = [Outcome::None, Outcome::All, Outcome::Bad];
+/// The spare is erased, two records are copied, and the block is erased. There is no fifth operation.
+const CUTS: &str = "\
+    cut 1 none; collect 0 0; reopen => -o ..\n\
+    cut 1 all; collect 0 0; reopen => -o ..\n\
+    cut 1 bad; collect 0 0; reopen => -o ..\n\
+    cut 2 none; collect 0 0; reopen => -o ..\n\
+    cut 2 all; collect 0 0; reopen => -o ..\n\
+    cut 2 bad; collect 0 0; reopen => -o ..\n\
+    cut 3 none; collect 0 0; reopen => -o ..\n\
+    cut 3 all; collect 0 0; reopen => -o ..\n\
+    cut 3 bad; collect 0 0; reopen => -o ..\n\
+    cut 4 none; collect 0 0; reopen => -o ..\n\
+    cut 4 all; collect 0 0; reopen => -o ..\n\
+    cut 4 bad; collect 0 0; reopen => -o ..\n\
+    cut 5 all; collect 0 0 => + ..";
 
 #[test]
-fn the_pages_outlast_each_cut(rt: HostRuntime) -> Result<(), Fail> {
-    for (config, items) in SWEPT {
-        // The spare is erased, two records are copied, and the block is erased.
-        for operation in 1..5 {
-            for left in OUTCOMES {
-                let steps = [Cut(operation, left), Collect(0, 0), Reopen];
-                let got = outcome(&rt, rt.alloc(), config, items, &steps)?;
-                assert!(rt;
-                    got.as_str().starts_with("-o "),
-                    "{steps:?}: {}",
-                    got.as_str()
-                );
-            }
-        }
-        let got = outcome(
-            &rt,
-            rt.alloc(),
-            config,
-            items,
-            &[Cut(5, Outcome::All), Collect(0, 0)],
-        )?;
-        assert!(rt; got.as_str().starts_with("+ "), "{}", got.as_str());
+fn the_pages_outlast_each_cut(rt: HostRuntime) {
+    for line in CUTS.split('\n') {
+        assert!(rt; is_right(rt.alloc(), SCC, BY_CYCLES, line), "{line}");
+        assert!(rt;
+            is_right(rt.alloc(), BPCC, BY_BACK_POINTERS, line),
+            "{line}"
+        );
     }
-    Ok(())
 }

@@ -1,99 +1,91 @@
 //! Calls of a device over a flash that is told to break, and what they answer.
 
-ghost use Rattle.std.specs.Prelude.{◌≡◌, false, IfOk};
+ghost use Rattle.std.specs.Prelude.{◌≡◌, false, length};
 
-use array_machine::{
-    Aborted, Collected, Fault, Progress, ReadAnswer, ReadError, StepError, SubmitError,
+use super::telling::{
+    Answers, say_aborted, say_collected, say_found, say_page, say_refusal, say_retired, say_stats,
+    say_step,
 };
-use flash_model::{Arms, Flash, Outcome, Power, Retire};
+use crate::texts::{number, outcome, word};
+use array_machine::{Progress, ReadAnswer, ReadError, StepError};
+use flash_model::{Arms, Flash, Retire};
 use record_list::CommitRule;
 use std::alloc::Global;
-use std::process::Abort;
-use std::test::Fail;
-use tx_engine::{Device, RetireError};
-use tx_types::{Batch, Block, Config};
+use tx_engine::Device;
+use tx_types::{Batch, Block};
 
-/// What is asked of a device.
-#[derive(Clone, Copy, Debug)]
-pub enum Call {
-    /// Opens a transaction with this tag. Of each of its pages the first byte is given, and the
-    /// rest are zeros.
-    Write(u32, &'static [(u32, u8)]),
-    Step(u32),
-    /// Steps until one does not answer that a page more was written.
-    Finish(u32),
-    Abort(u32),
-    Collect,
-    /// Retires a block.
-    Retire(u32),
-    Read(u32),
-    /// The numbers of the device.
-    Stats,
-    /// The slots of the records with their pages and versions.
-    Found,
-    Cut(u32, Outcome),
-    Fault(u32, Outcome),
-    BadRead(u32),
+/// What is said of a call that can't be made.
+const IMPOSSIBLE: &str = "?";
+
+/// How a fault is told: as the power cut that it was, if it was one.
+fn fault_word<F: Flash, R: CommitRule>(device: &Device<F, R>) -> &'static str {
+    if device.live() { "fault" } else { "cut" }
 }
 
-/// Mounts a flash whose image is sound.
-pub fn mounted<F: Flash + Drop, R: CommitRule>(
-    rt: &impl Abort,
-    alloc: Global,
-    flash: F,
-    config: Config,
-) -> Result<Device<F, R>, Fail>
-    ensures kept { IfOk result (λ d. d.dropped ≡ false) }
-{
-    assert_eq!(rt; config.check(), Ok(flash.shape()));
-    assert_eq!(rt; config.protocol, R::protocol());
-    let Ok(device) = Device::mount(alloc, flash, config) else {
-        return Err(Fail::new("the flash is not mounted"));
+/// Adds to a batch the page and the first byte that a word says, as `3=255` does. The rest of the page is zeros.
+/// Tells whether it could.
+fn is_added(batch: &mut Batch, word: &str) -> bool {
+    let Some((page, byte)) = word.split_once('=') else {
+        return false;
     };
-    Ok(device)
+    match (page.parse::<u32>(), byte.parse::<u8>()) {
+        (Ok(page), Ok(byte)) => batch.page_bytes() >= 1 && batch.add(page, &[byte]).is_ok(),
+        _ => false,
+    }
 }
 
-/// The device, or where power went off the one that is mounted from its flash once power is on
-/// again.
-pub fn powered<F: Power + Drop, R: CommitRule>(
-    rt: &impl Abort,
-    alloc: Global,
-    device: Device<F, R>,
-) -> Result<Device<F, R>, Fail>
-    requires kept { device.dropped ≡ false }
-    ensures kept { IfOk result (λ d. d.dropped ≡ false) }
-{
-    if device.live() {
-        return Ok(device);
+/// Adds to a batch the pages that a text says. Tells whether it could.
+fn are_added(batch: &mut Batch, pages: &str) -> bool {
+    if pages.is_empty() {
+        return true;
     }
-    let config = device.config();
-    let mut flash = device.close();
-    flash.power_on();
-    mounted(rt, alloc, flash, config)
+    for word in pages.split(' ') {
+        if !is_added(batch, word) {
+            return false;
+        }
+    }
+    true
+}
+
+/// Opens a transaction with the tag and the pages that a text says.
+fn submit<F: Flash, R: CommitRule>(
+    device: &mut Device<F, R>,
+    batch: &mut Batch,
+    words: &str,
+    answers: &mut Answers,
+)
+    requires kept { device.old.dropped ≡ false }
+    ensures kept { device.new.dropped ≡ false }
+{
+    let (tag, pages) = words.split_once(' ').unwrap_or((words, ""));
+    let Some(tag) = number(Some(tag)) else {
+        return answers.say(IMPOSSIBLE);
+    };
+    if !are_added(batch, pages) || batch.page_bytes() != device.config().page_bytes {
+        return answers.say(IMPOSSIBLE);
+    }
+    match device.submit(tag, batch) {
+        Ok(()) => answers.say("open"),
+        Err(refusal) => say_refusal(answers, refusal),
+    }
 }
 
 /// Opens a transaction.
-pub fn write<F: Flash, R: CommitRule>(
-    rt: &impl Abort,
+fn write<F: Flash, R: CommitRule>(
     alloc: Global,
     device: &mut Device<F, R>,
-    tag: u32,
-    pages: &[(u32, u8)],
-) -> Result<Result<(), SubmitError>, Fail>
+    words: &str,
+    answers: &mut Answers,
+)
     requires kept { device.old.dropped ≡ false }
     ensures kept { device.new.dropped ≡ false }
 {
     let mut batch = Batch::new(alloc, device.config().page_bytes);
-    for (page, byte) in pages {
-        assert!(rt; batch.page_bytes() >= 1);
-        batch.add(*page, &[*byte])?;
-    }
-    assert_eq!(rt; batch.page_bytes(), device.config().page_bytes);
-    Ok(device.submit(tag, &batch))
+    submit(device, &mut batch, words, answers);
 }
 
 /// Steps until one does not answer that a page more was written.
-pub fn finish<F: Flash, R: CommitRule>(
+fn finish<F: Flash, R: CommitRule>(
     device: &mut Device<F, R>,
     tag: u32,
 ) -> Result<Progress, StepError>
@@ -109,205 +101,134 @@ pub fn finish<F: Flash, R: CommitRule>(
     device.step(tag)
 }
 
-/// The first byte of a page, whose other bytes must be zeros, or none where it is blank.
-pub fn read<F: Flash, R: CommitRule>(
-    rt: &impl Abort,
+/// Reads a page, for which there is room.
+fn read_into<F: Flash, R: CommitRule>(
+    device: &mut Device<F, R>,
+    page: u32,
+    room: &mut [u8],
+    answers: &mut Answers,
+)
+    requires kept { device.old.dropped ≡ false }
+    requires room { length room.old ≡ device.old.config.page_bytes }
+    ensures kept { device.new.dropped ≡ false }
+{
+    match device.read(page, room) {
+        Ok(ReadAnswer::Blank) => answers.say("blank"),
+        Ok(ReadAnswer::Page) => say_page(answers, room),
+        Err(ReadError::Range) => answers.say("range"),
+        Err(ReadError::Fault) => answers.say(fault_word(device)),
+    }
+}
+
+/// Reads a page. Its first byte is said, and its other bytes must be zeros.
+fn read<F: Flash, R: CommitRule>(
     alloc: Global,
     device: &mut Device<F, R>,
     page: u32,
-) -> Result<Result<Option<u8>, ReadError>, Fail>
+    answers: &mut Answers,
+)
     requires kept { device.old.dropped ≡ false }
     ensures kept { device.new.dropped ≡ false }
 {
-    let mut room = vec![in alloc; 0xee; device.config().page_bytes as usize]?;
-    let answer = match device.read(page, &mut room) {
-        Ok(ReadAnswer::Blank) => Ok(None),
-        Ok(ReadAnswer::Page) => {
-            let Some((first, rest)) = room.split_first() else {
-                return Err(Fail::new("a page without bytes"));
-            };
-            assert!(rt; rest.iter().all(|b| *b == 0), "page {page}");
-            Ok(Some(*first))
-        }
-        Err(error) => Err(error),
-    };
-    Ok(answer)
-}
-
-/// How a fault is told: as the power cut that it was, if it was one.
-fn broken<F: Flash, R: CommitRule>(device: &Device<F, R>) -> &'static str {
-    if device.live() { "fault" } else { "cut" }
-}
-
-/// What a step answered.
-fn step_text<F: Flash, R: CommitRule>(
-    alloc: Global,
-    device: &Device<F, R>,
-    answer: Result<Progress, StepError>,
-) -> Result<String, Fail> {
-    Ok(match answer {
-        Ok(Progress::Wrote { done, all }) => format!(in alloc; "wrote {done}/{all}")?,
-        Ok(Progress::Done) => String::from_str(alloc, "done")?,
-        Err(StepError::Unknown) => String::from_str(alloc, "unknown")?,
-        Err(StepError::Fault) => String::from_str(alloc, broken(device))?,
-    })
-}
-
-/// What an abort and a collection answered.
-fn abort_text<F: Flash, R: CommitRule>(
-    device: &Device<F, R>,
-    answer: Result<Aborted, StepError>,
-) -> &'static str {
-    match answer {
-        Ok(Aborted::Gone) => "gone",
-        Ok(Aborted::Late) => "late",
-        Err(StepError::Unknown) => "unknown",
-        Err(StepError::Fault) => broken(device),
+    match vec![in alloc; 0xee; device.config().page_bytes as usize] {
+        Ok(mut room) => read_into(device, page, &mut room, answers),
+        Err(_) => answers.miss(),
     }
 }
 
-fn collect_text<F: Flash, R: CommitRule>(
-    device: &Device<F, R>,
-    answer: Result<Collected, Fault>,
-) -> &'static str {
-    match answer {
-        Ok(Collected::One) => "collected",
-        Ok(Collected::Nothing) => "nothing",
-        Err(Fault) => broken(device),
-    }
-}
-
-/// What retiring a block answered.
-fn retire_text<F: Flash, R: CommitRule>(
-    alloc: Global,
-    device: &Device<F, R>,
-    answer: Result<(), RetireError>,
-) -> Result<String, Fail> {
-    Ok(match answer {
-        Ok(()) => String::from_str(alloc, "retired")?,
-        Err(RetireError::Range) => String::from_str(alloc, "range")?,
-        Err(RetireError::Worn(allowance)) => format!(in alloc; "worn {allowance}")?,
-        Err(RetireError::Fault) => String::from_str(alloc, broken(device))?,
-    })
-}
-
-/// The numbers of a device.
-fn stats_text<F: Flash, R: CommitRule>(alloc: Global, device: &Device<F, R>) -> Result<String, Fail>
+/// Tells the records that a device knows.
+fn tell_found<F: Flash, R: CommitRule>(device: &Device<F, R>, answers: &mut Answers)
     requires kept { device.now.dropped ≡ false }
 {
-    let tx_types::Stats {
-        written,
-        tags,
-        pending,
-        programs,
-        erases,
-        garbage,
-    } = device.stats();
-    Ok(format!(in alloc;
-        "written {written} open {tags} pending {pending} programs {programs} erases {erases} garbage {garbage}"
-    )?)
-}
-
-/// The records that a device knows.
-fn found_text<F: Flash, R: CommitRule>(alloc: Global, device: &Device<F, R>) -> Result<String, Fail>
-    requires kept { device.now.dropped ≡ false }
-{
-    let mut text = String::from_str(alloc, "records")?;
-    for found in device.found()? {
-        let (slot, page, version) = (found.slot.0, found.rec.page, found.rec.version);
-        text.push_str(format!(in alloc; " {slot}:{page}.{version}")?.as_str())?;
+    match device.found() {
+        Ok(list) => say_found(answers, &list),
+        Err(_) => answers.miss(),
     }
-    Ok(text)
 }
 
-/// Makes a call that works on the flash or tells of the device, and gives its answer.
-pub fn answer<F: Retire, R: CommitRule>(
-    rt: &impl Abort,
+/// Makes a call with the number of a transaction, of a block or of a page.
+fn answer_with<F: Retire, R: CommitRule>(
     alloc: Global,
     device: &mut Device<F, R>,
-    call: Call,
-) -> Result<String, Fail>
+    name: &str,
+    number: u32,
+    answers: &mut Answers,
+)
     requires kept { device.old.dropped ≡ false }
     ensures kept { device.new.dropped ≡ false }
 {
-    match call {
-        Call::Write(tag, pages) => match write(rt, alloc, device, tag, pages)? {
-            Ok(()) => Ok(String::from_str(alloc, "open")?),
-            Err(refusal) => Ok(format!(in alloc; "{refusal:?}")?),
-        },
-        Call::Step(tag) => {
-            let answer = device.step(tag);
-            step_text(alloc, device, answer)
+    match name {
+        "step" => {
+            let answer = device.step(number);
+            say_step(answers, answer, fault_word(device));
         }
-        Call::Finish(tag) => {
-            let answer = finish(device, tag);
-            step_text(alloc, device, answer)
+        "finish" => {
+            let answer = finish(device, number);
+            say_step(answers, answer, fault_word(device));
         }
-        Call::Abort(tag) => {
-            let answer = device.abort(tag);
-            Ok(String::from_str(alloc, abort_text(device, answer))?)
+        "abort" => {
+            let answer = device.abort(number);
+            say_aborted(answers, answer, fault_word(device));
         }
-        Call::Collect => {
-            let answer = device.collect();
-            Ok(String::from_str(alloc, collect_text(device, answer))?)
+        "retire" => {
+            let answer = device.retire(Block(number));
+            say_retired(answers, answer, fault_word(device));
         }
-        Call::Retire(block) => {
-            let answer = device.retire(Block(block));
-            retire_text(alloc, device, answer)
-        }
-        Call::Read(page) => match read(rt, alloc, device, page)? {
-            Ok(None) => Ok(String::from_str(alloc, "blank")?),
-            Ok(Some(byte)) => Ok(format!(in alloc; "{byte}")?),
-            Err(ReadError::Range) => Ok(String::from_str(alloc, "range")?),
-            Err(ReadError::Fault) => Ok(String::from_str(alloc, broken(device))?),
-        },
-        Call::Stats => stats_text(alloc, device),
-        Call::Found => found_text(alloc, device),
-        Call::Cut(..) | Call::Fault(..) | Call::BadRead(_) => Ok(String::new(alloc)),
+        "read" => read(alloc, device, number, answers),
+        _ => answers.say(IMPOSSIBLE),
     }
 }
 
-/// Sets an arm, where the call is one.
-pub fn arm<F: Arms, R: CommitRule>(rt: &impl Abort, device: &mut Device<F, R>, call: Call)
+/// Sets an arm with its count from 1, where the call is one. Tells whether it is.
+fn is_armed<F: Arms, R: CommitRule>(device: &mut Device<F, R>, name: &str, words: &str) -> bool
     requires kept { device.old.dropped ≡ false }
     ensures kept { device.new.dropped ≡ false }
 {
-    match call {
-        Call::Cut(count, outcome) => {
-            assert!(rt; count >= 1);
-            device.arm_cut(count, outcome);
-        }
-        Call::Fault(count, outcome) => {
-            assert!(rt; count >= 1);
-            device.arm_fault(count, outcome);
-        }
-        Call::BadRead(count) => {
-            assert!(rt; count >= 1);
-            device.arm_bad_read(count);
-        }
-        _ => {}
+    let count = number(word(words, 0)).unwrap_or(0);
+    if count < 1 {
+        return false;
     }
+    match (name, outcome(word(words, 1))) {
+        ("cut", Some(outcome)) => device.arm_cut(count, outcome),
+        ("fault", Some(outcome)) => device.arm_fault(count, outcome),
+        ("badread", None) => device.arm_bad_read(count),
+        _ => return false,
+    }
+    true
 }
 
-/// The answers to calls, one behind the other. After a power cut the device is mounted again.
-pub fn served<F: Arms + Power + Retire + Drop, R: CommitRule>(
-    rt: &impl Abort,
+/// Makes a call of a device, and says what it answers.
+///
+/// `write 1 0=7 3=9` opens transaction 1. `step 1` writes its next page, `finish 1` all its pages, and `abort 1`
+/// gives it up. `read 0` reads a page, `retire 2` retires a block, and `collect` collects one. `stats` tells the
+/// numbers of the device, and `found` its records. `cut 1 bad`, `fault 1 all` and `badread 1` set arms, and have no
+/// answer.
+pub fn answer<F: Arms + Retire, R: CommitRule>(
     alloc: Global,
-    device: Device<F, R>,
-    calls: &[Call],
-) -> Result<String, Fail>
-    requires kept { device.dropped ≡ false }
+    device: &mut Device<F, R>,
+    call: &str,
+    answers: &mut Answers,
+)
+    requires kept { device.old.dropped ≡ false }
+    ensures kept { device.new.dropped ≡ false }
 {
-    let mut device = device;
-    let mut text = String::new(alloc);
-    for call in calls {
-        arm(rt, &mut device, *call);
-        let answer = answer(rt, alloc, &mut device, *call)?;
-        device = powered(rt, alloc, device)?;
-        if !text.is_empty() && !answer.is_empty() {
-            text.push_str("; ")?;
+    let (name, words) = call.split_once(' ').unwrap_or((call, ""));
+    match name {
+        "write" => write(alloc, device, words, answers),
+        "collect" => {
+            let answer = device.collect();
+            say_collected(answers, answer, fault_word(device));
         }
-        text.push_str(answer.as_str())?;
+        "stats" => say_stats(answers, device.stats()),
+        "found" => tell_found(device, answers),
+        _ => {
+            if is_armed(device, name, words) {
+                return;
+            }
+            match number(Some(words)) {
+                Some(number) => answer_with(alloc, device, name, number, answers),
+                None => answers.say(IMPOSSIBLE),
+            }
+        }
     }
-    Ok(text)
 }

@@ -1,319 +1,176 @@
-ghost use Rattle.std.specs.Prelude.{◌≡◌, ◌<◌, IfOk, Ok};
+//! Flashes that are refused, and why.
+
+ghost use Rattle.std.specs.Prelude.{◌≡◌, Ok};
 ghost use Rattle.tx_types.specs.Config.{checked, shape_of};
 
-use crate::building::{program, rec, spare_area_of};
+use crate::building::{BACK_POINTER, SIMPLE, blank_flash, put_all};
+use crate::texts::is_like;
 use bpcc_commit::Bpcc;
-use flash_model::{Arms, Flash, SPARE_BYTES};
 use mem_flash::MemFlash;
+use record_list::CommitRule;
 use scan_recovery::{RecoverError, recover};
 use scc_commit::Scc;
-use std::alloc::Global;
-use std::process::Abort;
-use std::test::Fail;
-use tx_types::{Config, Protocol, Shape, Slot};
+use std::alloc::{AllocError, Global};
+use tx_types::{Config, Protocol};
 
-/// Two dies of four blocks of four slots.
-pub const SHAPE: Shape = Shape {
-    page_bytes: 16,
-    pages_per_block: 4,
-    blocks_per_die: 4,
-    dies: 2,
-};
-
-/// A device on such a flash.
-pub fn config(protocol: Protocol) -> Config
-    ensures shape { shape_of result ≡ SHAPE }
-    ensures check { checked result ≡ Ok SHAPE }
-    ensures protocol { result.protocol ≡ protocol }
+/// Why a flash is refused by a rule, if it is.
+fn refusal<R: CommitRule>(
+    alloc: Global,
+    flash: &mut MemFlash,
+    config: Config,
+) -> Option<RecoverError>
+    requires check { checked config ≡ Ok flash.old.shape }
+    requires rule { config.protocol ≡ R.protocol }
 {
-    Config {
-        protocol,
-        page_bytes: 16,
-        pages_per_block: 4,
-        blocks_per_die: 4,
-        dies: 2,
-        logical: 20,
-        pending: 7,
+    match recover::<MemFlash, R>(alloc, flash, config) {
+        Ok(_) => None,
+        Err(error) => Some(error),
     }
 }
 
-/// What is programmed: a slot with a record, which is its page and version, those of its link, and
-/// its back version, and the byte of which its page is full.
-pub type Item = (u32, (u32, u64), (u32, u64), u64, u8);
-
-/// A flash on which these items were programmed.
-pub fn written(
-    rt: &impl Abort,
-    alloc: Global,
-    protocol: Protocol,
-    items: &[Item],
-) -> Result<MemFlash, Fail>
-    ensures { IfOk result (λ flash. flash.shape ≡ SHAPE) }
+/// Why a flash is refused, if it is.
+pub fn refused(alloc: Global, flash: &mut MemFlash, config: Config) -> Option<RecoverError>
+    requires { checked config ≡ Ok flash.old.shape }
 {
-    let mut flash = MemFlash::new(alloc, SHAPE)?;
-    for (slot, name, next, back, fill) in items {
-        let spare_area = spare_area_of(rt, protocol, rec(*name, *next, *back));
-        assert!(rt; program(rt, &mut flash, Slot(*slot), *fill, &spare_area));
+    match config.protocol {
+        Protocol::Scc => refusal::<Scc>(alloc, flash, config),
+        Protocol::Bpcc => refusal::<Bpcc>(alloc, flash, config),
     }
-    Ok(flash)
 }
 
 /// Why a flash is refused, if it is, and how many slots were read.
-pub fn refused(
-    alloc: Global,
-    flash: &mut MemFlash,
-    protocol: Protocol,
-) -> (Option<RecoverError>, u64)
-    requires { flash.old.shape ≡ SHAPE }
+fn write_refusal(
+    text: &mut String,
+    refusal: Option<RecoverError>,
+    reads: u64,
+) -> Result<(), AllocError> {
+    match refusal {
+        None => text.push_str("sound")?,
+        Some(RecoverError::Unsound { law, slot }) => write!(text, "law {law} slot {}", slot.0)?,
+        Some(RecoverError::Fault) => text.push_str("fault")?,
+        Some(RecoverError::Memory) => text.push_str("memory")?,
+    }
+    write!(text, " reads {reads}")
+}
+
+/// Does items to a new flash, and says why it is refused.
+fn tell(alloc: Global, flash: &mut MemFlash, config: Config, items: &str, text: &mut String) -> bool
+    requires check { checked config ≡ Ok flash.old.shape }
+    requires page { flash.old.shape.page_bytes ≡ 16 }
 {
-    let config = config(protocol);
-    let refusal = match protocol {
-        Protocol::Scc => recover::<MemFlash, Scc>(alloc, flash, config).err(),
-        Protocol::Bpcc => recover::<MemFlash, Bpcc>(alloc, flash, config).err(),
+    if !put_all(flash, config.protocol, items) {
+        return false;
+    }
+    let refusal = refused(alloc, flash, config);
+    write_refusal(text, refusal, flash.reads()).is_ok()
+}
+
+/// Whether a flash with these items is refused as it is wanted.
+fn is_refused(alloc: Global, config: Config, items: &str, wanted: &str) -> bool
+    requires check { checked config ≡ Ok (shape_of config) }
+    requires page { config.page_bytes ≡ 16 }
+{
+    let Some(mut flash) = blank_flash(alloc, config) else {
+        return false;
     };
-    (refusal, flash.reads())
+    let mut text = String::new(alloc);
+    tell(alloc, &mut flash, config, items, &mut text) && is_like(text.as_str(), wanted)
 }
 
-use Protocol::{Bpcc as B, Scc as S};
+/// Whether the flash of a line is refused as it says behind `=>`: by the law that is broken and the slot that is
+/// named, and how many slots are read. First stands the protocol, and then what is done to the flash.
+fn is_right(alloc: Global, line: &str) -> bool {
+    let Some((flash, wanted)) = line.split_once(" => ") else {
+        return false;
+    };
+    match flash.split_once(": ") {
+        Some(("scc", items)) => is_refused(alloc, SIMPLE, items, wanted),
+        Some(("bpcc", items)) => is_refused(alloc, BACK_POINTER, items, wanted),
+        _ => false,
+    }
+}
 
-/// A flash, the law that it breaks and the slot that is named, if it breaks one, and how many slots
-/// are read.
-const FLASHES: [(Protocol, &[Item], Option<(u8, u32)>, u64); 14] = [
-    (S, &[], None, 32),
-    // two records with one link
-    (
-        S,
-        &[(0, (0, 1), (1, 1), 0, 0), (4, (2, 1), (1, 1), 0, 0)],
-        Some((3, 4)),
-        32,
-    ),
-    (
-        B,
-        &[(0, (0, 1), (1, 1), 0, 0), (4, (2, 1), (1, 1), 0, 0)],
-        Some((3, 4)),
-        32,
-    ),
-    // a page that does not exist, and a link to one
-    (S, &[(0, (20, 1), (0, 1), 0, 0)], Some((1, 0)), 32),
-    (S, &[(4, (0, 1), (20, 1), 0, 0)], Some((1, 4)), 32),
-    // two slots of one record with bytes that differ, and two records of one name
-    (
-        S,
-        &[(0, (0, 1), (0, 1), 0, 0), (5, (0, 1), (0, 1), 0, 1)],
-        Some((2, 5)),
-        34,
-    ),
-    (
-        S,
-        &[(0, (0, 1), (0, 1), 0, 0), (5, (0, 1), (1, 1), 0, 1)],
-        Some((2, 5)),
-        32,
-    ),
-    // two such slots and, in lower slots, two names with one link
-    (
-        S,
-        &[
-            (0, (0, 1), (0, 1), 0, 0),
-            (1, (1, 1), (3, 1), 0, 0),
-            (2, (2, 1), (3, 1), 0, 0),
-            (5, (0, 1), (0, 1), 0, 1),
-        ],
-        Some((2, 5)),
-        34,
-    ),
-    // no record has the version that is current
-    (B, &[(0, (0, 5), (1, 7), 3, 0)], Some((4, 0)), 32),
-    // a link that is straddled; a back version that is not current; a cycle of a loose record
-    (
-        B,
-        &[
-            (0, (0, 1), (1, 1), 0, 0),
-            (1, (0, 2), (2, 9), 1, 0),
-            (2, (1, 2), (1, 2), 0, 0),
-        ],
-        Some((5, 0)),
-        32,
-    ),
-    (
-        B,
-        &[
-            (0, (0, 1), (0, 1), 0, 0),
-            (1, (0, 3), (1, 5), 2, 0),
-            (2, (0, 4), (2, 5), 1, 0),
-        ],
-        Some((6, 1)),
-        32,
-    ),
-    (
-        B,
-        &[
-            (0, (0, 1), (0, 1), 0, 0),
-            (1, (0, 2), (0, 2), 1, 0),
-            (2, (0, 3), (1, 9), 1, 0),
-        ],
-        Some((7, 1)),
-        32,
-    ),
-    // no block is removable, and one block is
-    (
-        S,
-        &[
-            (0, (0, 1), (0, 1), 0, 0),
-            (4, (1, 1), (1, 1), 0, 0),
-            (8, (2, 1), (2, 1), 0, 0),
-            (12, (3, 1), (3, 1), 0, 0),
-            (16, (4, 1), (4, 1), 0, 0),
-            (20, (5, 1), (5, 1), 0, 0),
-            (24, (6, 1), (6, 1), 0, 0),
-            (28, (7, 1), (7, 1), 0, 0),
-        ],
-        Some((8, 0)),
-        32,
-    ),
-    (
-        S,
-        &[
-            (0, (0, 1), (0, 1), 0, 0),
-            (4, (1, 1), (1, 1), 0, 0),
-            (8, (2, 1), (2, 1), 0, 0),
-            (12, (3, 1), (3, 1), 0, 0),
-            (16, (4, 1), (4, 1), 0, 0),
-            (20, (5, 1), (5, 1), 0, 0),
-            (24, (6, 1), (6, 1), 0, 0),
-        ],
-        None,
-        32,
-    ),
-];
+/// Two records with one link, a page that does not exist, and a link to one.
+const LINKS: &str = "\
+    scc: nothing => sound reads 32\n\
+    scc: 0 0.1 1.1, 4 2.1 1.1 => law 3 slot 4 reads 32\n\
+    bpcc: 0 0.1 1.1, 4 2.1 1.1 => law 3 slot 4 reads 32\n\
+    scc: 0 20.1 0.1 => law 1 slot 0 reads 32\n\
+    scc: 4 0.1 20.1 => law 1 slot 4 reads 32";
+
+/// Two slots of one record with bytes that differ, and two records of one name. Two such slots and, in lower slots,
+/// two names with one link.
+const DOUBLES: &str = "\
+    scc: 0 0.1 0.1 0 0, 5 0.1 0.1 0 1 => law 2 slot 5 reads 34\n\
+    scc: 0 0.1 0.1 0 0, 5 0.1 1.1 0 1 => law 2 slot 5 reads 32\n\
+    scc: 0 0.1 0.1, 1 1.1 3.1, 2 2.1 3.1, 5 0.1 0.1 0 1 => law 2 slot 5 reads 34";
+
+/// No record has the version that is current. A link that is straddled; a back version that is not current; a cycle
+/// of a loose record.
+const BACK_VERSIONS: &str = "\
+    bpcc: 0 0.5 1.7 3 => law 4 slot 0 reads 32\n\
+    bpcc: 0 0.1 1.1, 1 0.2 2.9 1, 2 1.2 1.2 => law 5 slot 0 reads 32\n\
+    bpcc: 0 0.1 0.1, 1 0.3 1.5 2, 2 0.4 2.5 1 => law 6 slot 1 reads 32\n\
+    bpcc: 0 0.1 0.1, 1 0.2 0.2 1, 2 0.3 1.9 1 => law 7 slot 1 reads 32";
+
+/// No block is removable, and one block is.
+const BLOCKS: &str = "\
+    scc: 0 0.1 0.1, 4 1.1 1.1, 8 2.1 2.1, 12 3.1 3.1, 16 4.1 4.1, 20 5.1 5.1, 24 6.1 6.1, 28 7.1 7.1 \
+    => law 8 slot 0 reads 32\n\
+    scc: 0 0.1 0.1, 4 1.1 1.1, 8 2.1 2.1, 12 3.1 3.1, 16 4.1 4.1, 20 5.1 5.1, 24 6.1 6.1 => sound reads 32";
 
 #[test]
-fn the_least_law_is_named_with_its_slot(rt: HostRuntime) -> Result<(), Fail> {
-    for (protocol, items, breach, reads) in FLASHES {
-        let mut flash = written(&rt, rt.alloc(), protocol, items)?;
-        let refusal = breach.map(|(law, slot)| RecoverError::Unsound {
-            law,
-            slot: Slot(slot),
-        });
-        assert_eq!(rt;
-            refused(rt.alloc(), &mut flash, protocol),
-            (refusal, reads),
-            "{items:?}"
-        );
-    }
-    Ok(())
-}
-
-/// A slot with a record that counts: its page and version, those of its link, its count, and whether
-/// it discards its page.
-type Counted = (u32, (u32, u64), (u32, u64), u32, bool);
-
-/// Records that count, and the law that is broken with the slot that is named, if one is.
-const COUNTED: [(&[Counted], Option<(u8, u32)>); 8] = [
-    (
-        &[(0, (0, 1), (1, 1), 2, false), (1, (1, 1), (0, 1), 2, true)],
-        None,
-    ),
-    (
-        &[(0, (0, 1), (1, 1), 2, false), (1, (1, 1), (0, 1), 3, false)],
-        Some((9, 0)),
-    ),
-    (&[(0, (0, 1), (0, 1), 2, false)], Some((9, 0))),
-    // a record of format 1 counts none
-    (&[(4, (0, 1), (0, 1), 0, false)], None),
-    (
-        &[(0, (0, 1), (1, 1), 0, false), (1, (1, 1), (0, 1), 2, false)],
-        Some((9, 0)),
-    ),
-    // a transaction that did not end
-    (&[(0, (0, 1), (1, 1), 3, false)], None),
-    // two copies of which one discards the page, and two that break another law besides
-    (
-        &[(0, (0, 1), (0, 1), 1, false), (4, (0, 1), (0, 1), 1, true)],
-        Some((2, 4)),
-    ),
-    (
-        &[
-            (0, (0, 1), (0, 1), 2, false),
-            (4, (20, 1), (0, 1), 1, false),
-        ],
-        Some((1, 4)),
-    ),
-];
-
-/// A flash on which these records were programmed under Simple Cyclic Commit.
-fn counted(rt: &impl Abort, alloc: Global, items: &[Counted]) -> Result<MemFlash, Fail>
-    ensures { IfOk result (λ flash. flash.shape ≡ SHAPE) }
-{
-    let mut flash = MemFlash::new(alloc, SHAPE)?;
-    for (slot, name, next, count, discard) in items {
-        let mut record = rec(*name, *next, 0);
-        record.count = *count;
-        record.discard = *discard;
-        let spare_area = spare_area_of(rt, S, record);
-        assert!(rt; program(rt, &mut flash, Slot(*slot), 0, &spare_area));
-    }
-    Ok(flash)
-}
-
-#[test]
-fn records_count_the_pages_of_their_transaction(rt: HostRuntime) -> Result<(), Fail> {
-    for (items, breach) in COUNTED {
-        let mut flash = counted(&rt, rt.alloc(), items)?;
-        let refusal = breach.map(|(law, slot)| RecoverError::Unsound {
-            law,
-            slot: Slot(slot),
-        });
-        assert_eq!(rt; refused(rt.alloc(), &mut flash, S).0, refusal, "{items:?}");
-    }
-    Ok(())
-}
-
-/// A slot whose spare area is all zeros, one with a record of a page that does not exist, and the
-/// slot that is named.
-const UNREAD: [(Option<u32>, Option<u32>, u32); 4] = [
-    (Some(3), None, 3),
-    (None, Some(3), 3),
-    (Some(5), Some(3), 3),
-    (Some(0), Some(3), 0),
-];
-
-#[test]
-fn law_1_names_the_lowest_slot_of_both_kinds(rt: HostRuntime) -> Result<(), Fail> {
-    for (unreadable, far, named) in UNREAD {
-        let mut flash = written(&rt, rt.alloc(), S, &[])?;
-        if let Some(at) = unreadable {
-            assert!(rt; program(&rt, &mut flash, Slot(at), 0, &[0; SPARE_BYTES]));
+fn the_least_law_is_named_with_its_slot(rt: HostRuntime) {
+    for lines in [LINKS, DOUBLES, BACK_VERSIONS, BLOCKS] {
+        for line in lines.split('\n') {
+            assert!(rt; is_right(rt.alloc(), line), "{line}");
         }
-        if let Some(at) = far {
-            let spare_area = spare_area_of(&rt, S, rec((20, 1), (0, 1), 0));
-            assert!(rt; program(&rt, &mut flash, Slot(at), 0, &spare_area));
-        }
-        let refusal = RecoverError::Unsound {
-            law: 1,
-            slot: Slot(named),
-        };
-        assert_eq!(rt; refused(rt.alloc(), &mut flash, S), (Some(refusal), 32));
     }
-    Ok(())
 }
 
+/// Records that count, behind the back version and the byte. One of format 1 counts none, and a transaction did not
+/// end. Two copies of which one discards the page, and two that break another law besides.
+const COUNTED: &str = "\
+    scc: 0 0.1 1.1 0 0 2, 1 1.1 0.1 0 0 2 discard => sound ..\n\
+    scc: 0 0.1 1.1 0 0 2, 1 1.1 0.1 0 0 3 => law 9 slot 0 ..\n\
+    scc: 0 0.1 0.1 0 0 2 => law 9 slot 0 ..\n\
+    scc: 4 0.1 0.1 0 0 0 => sound ..\n\
+    scc: 0 0.1 1.1 0 0 0, 1 1.1 0.1 0 0 2 => law 9 slot 0 ..\n\
+    scc: 0 0.1 1.1 0 0 3 => sound ..\n\
+    scc: 0 0.1 0.1 0 0 1, 4 0.1 0.1 0 0 1 discard => law 2 slot 4 ..\n\
+    scc: 0 0.1 0.1 0 0 2, 4 20.1 0.1 0 0 1 => law 1 slot 4 ..";
+
 #[test]
-fn a_read_that_fails_is_a_fault(rt: HostRuntime) -> Result<(), Fail> {
-    let doubled = [(0, (0, 1), (0, 1), 0, 7), (5, (0, 1), (0, 1), 0, 7)];
-    for (read, want) in [
-        (1, Some(RecoverError::Fault)),
-        (32, Some(RecoverError::Fault)),
-        (34, Some(RecoverError::Fault)),
-        (35, None),
-    ] {
-        let mut flash = written(&rt, rt.alloc(), B, &doubled)?;
-        flash.arm_bad_read(read);
-        let reads = u64::from(read.min(34));
-        assert_eq!(rt;
-            refused(rt.alloc(), &mut flash, B),
-            (want, reads),
-            "read {read}"
-        );
+fn records_count_the_pages_of_their_transaction(rt: HostRuntime) {
+    for line in COUNTED.split('\n') {
+        assert!(rt; is_right(rt.alloc(), line), "{line}");
     }
-    Ok(())
+}
+
+/// A slot whose spare area is all zeros, and one with a record of a page that does not exist.
+const UNREAD: &str = "\
+    scc: 3 zeros => law 1 slot 3 reads 32\n\
+    scc: 3 20.1 0.1 => law 1 slot 3 reads 32\n\
+    scc: 5 zeros, 3 20.1 0.1 => law 1 slot 3 reads 32\n\
+    scc: 0 zeros, 3 20.1 0.1 => law 1 slot 0 reads 32";
+
+#[test]
+fn law_1_names_the_lowest_slot_of_both_kinds(rt: HostRuntime) {
+    for line in UNREAD.split('\n') {
+        assert!(rt; is_right(rt.alloc(), line), "{line}");
+    }
+}
+
+/// A read of a flash with two copies of a record fails, or the one behind the last.
+const FAILED_READS: &str = "\
+    bpcc: 0 0.1 0.1 0 7, 5 0.1 0.1 0 7, badread 1 => fault reads 1\n\
+    bpcc: 0 0.1 0.1 0 7, 5 0.1 0.1 0 7, badread 32 => fault reads 32\n\
+    bpcc: 0 0.1 0.1 0 7, 5 0.1 0.1 0 7, badread 34 => fault reads 34\n\
+    bpcc: 0 0.1 0.1 0 7, 5 0.1 0.1 0 7, badread 35 => sound reads 34";
+
+#[test]
+fn a_read_that_fails_is_a_fault(rt: HostRuntime) {
+    for line in FAILED_READS.split('\n') {
+        assert!(rt; is_right(rt.alloc(), line), "{line}");
+    }
 }

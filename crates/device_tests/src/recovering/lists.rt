@@ -1,21 +1,29 @@
 //! Recovery beside the plain audit of its records, on flashes with a few records as they come.
-ghost use Rattle.std.specs.Prelude.{◌<◌, All, IsTrue};
+ghost use Rattle.std.specs.Prelude.{◌≡◌, ◌<◌, All, IsTrue, Ok};
 ghost use Rattle.record_list.specs.Records.{IsScanned};
 ghost use Rattle.record_list.specs.SoundList.{OwnPageExists};
+ghost use Rattle.tx_types.specs.Config.{checked, shape_of};
 
-use super::flashes::{Item, refused, written};
-use crate::building::{found, is_scanned, rec};
+use super::flashes::refused;
+use crate::building::{BACK_POINTER, Item, SIMPLE, blank_flash, found, is_scanned, put, rec};
 use bpcc_commit::Bpcc;
+use mem_flash::MemFlash;
 use record_list::{Breach, CommitRule, Found};
 use scan_recovery::RecoverError;
 use scc_commit::Scc;
-use std::alloc::Global;
-use std::process::Abort;
-use std::test::Fail;
-use tx_types::{Protocol, Rec, Slot};
+use std::alloc::{AllocError, Global};
+use tx_types::{Config, Link, Protocol, Rec, Slot};
 
 /// The number of logical pages of the flashes.
 const LOGICAL: u32 = 20;
+
+/// A record in a slot, and the byte of which its page is full.
+#[derive(Clone, Copy)]
+struct Placed {
+    slot: u32,
+    rec: Rec,
+    fill: u8,
+}
 
 /// The next number below a bound.
 fn draw(seed: &mut u64, below: u32) -> u32
@@ -29,60 +37,83 @@ fn draw(seed: &mut u64, below: u32) -> u32
 }
 
 /// A name of one of three pages, at one of four versions.
-fn any_name(seed: &mut u64) -> (u32, u64)
-    ensures { 0 < result.1 }
+fn any_name(seed: &mut u64) -> Link
+    ensures { 0 < result.version }
 {
-    (draw(seed, 3), u64::from(draw(seed, 4)) + 1)
+    Link {
+        page: draw(seed, 3),
+        version: u64::from(draw(seed, 4)) + 1,
+    }
 }
 
 /// A record in this slot, often one with the name of an earlier one.
-fn any_item(seed: &mut u64, protocol: Protocol, slot: u32, items: &[Item]) -> Item {
-    if let Some((_, name, next, back, fill)) = items.last()
+fn any_placed(seed: &mut u64, protocol: Protocol, slot: u32, last: Option<&Placed>) -> Placed {
+    if let Some(Placed { rec, fill, .. }) = last
         && draw(seed, 3) == 0
     {
         let fill = if draw(seed, 8) == 0 { 9 } else { *fill };
-        return (slot, *name, *next, *back, fill);
+        return Placed {
+            slot,
+            rec: *rec,
+            fill,
+        };
     }
     let name = any_name(seed);
     let next = any_name(seed);
     let back = match protocol {
         Protocol::Scc => 0,
-        Protocol::Bpcc => u64::from(draw(seed, 4)) % name.1,
+        Protocol::Bpcc => u64::from(draw(seed, 4)) % name.version,
     };
-    (slot, name, next, back, 0)
+    let rec = rec(name, next, back);
+    Placed { slot, rec, fill: 0 }
+}
+
+/// A current record of a page of its own.
+fn current(slot: u32, page: u32) -> Placed {
+    let name = Link { page, version: 1 };
+    Placed {
+        slot,
+        rec: rec(name, name, 0),
+        fill: 0,
+    }
 }
 
 /// Up to eight records, in slots of all blocks but the last.
-fn any_items(alloc: Global, seed: &mut u64, protocol: Protocol) -> Result<Vec<Item>, Fail> {
-    let mut items = Vec::new(alloc);
+fn place_any(
+    seed: &mut u64,
+    protocol: Protocol,
+    items: &mut Vec<Placed>,
+) -> Result<(), AllocError> {
     for slot in 0..28 {
         if items.len() < 8 && draw(seed, 4) == 0 {
-            let item = any_item(seed, protocol, slot, &items);
+            let item = any_placed(seed, protocol, slot, items.last());
             items.push(item)?;
         }
     }
-    Ok(items)
+    Ok(())
 }
 
 /// In most blocks a current record of a page of its own, now and then in two slots, and a few records as
 /// they come.
-fn full_items(alloc: Global, seed: &mut u64, protocol: Protocol) -> Result<Vec<Item>, Fail> {
-    let mut items = Vec::new(alloc);
+fn place_full(
+    seed: &mut u64,
+    protocol: Protocol,
+    items: &mut Vec<Placed>,
+) -> Result<(), AllocError> {
     for block in 0..8 {
-        let name = (block + 3, 1);
         if draw(seed, 24) != 0 {
-            items.push((4 * block, name, name, 0, 0))?;
+            items.push(current(4 * block, block + 3))?;
         }
         match draw(seed, 48) {
-            0 => items.push((4 * block + 1, (3, 1), (3, 1), 0, 0))?,
+            0 => items.push(current(4 * block + 1, 3))?,
             1 => {
-                let item = any_item(seed, protocol, 4 * block + 1, &items);
+                let item = any_placed(seed, protocol, 4 * block + 1, items.last());
                 items.push(item)?;
             }
             _ => {}
         }
     }
-    Ok(items)
+    Ok(())
 }
 
 /// Whether the pages of all records exist.
@@ -127,79 +158,161 @@ fn has_removable<R: CommitRule>(list: &[Found]) -> bool
     false
 }
 
+/// Whether two records have one name, and are not the same or have other bytes.
+fn differ(one: Placed, other: Placed) -> bool {
+    let is_one_name = (one.rec.page, one.rec.version) == (other.rec.page, other.rec.version);
+    is_one_name && (one.rec != other.rec || one.fill != other.fill)
+}
+
 /// The lowest slot that has the name of a lower one and another record, or other bytes.
-fn first_other(items: &[Item]) -> Option<u32> {
-    for (at, (slot, name, next, back, fill)) in items.iter().enumerate() {
-        let differs = items.iter().take(at).any(|(_, other, link, version, byte)| {
-            other == name && (link != next || version != back || byte != fill)
-        });
-        if differs {
-            return Some(*slot);
+fn first_other(items: &[Placed]) -> Option<Slot> {
+    for (at, item) in items.iter().enumerate() {
+        if items.iter().take(at).any(|lower| differ(*lower, *item)) {
+            return Some(Slot(item.slot));
         }
     }
     None
 }
 
-/// Why a flash with these records has to be refused, if it has: by law 2 with the bytes, else by the
-/// plain audit, else by law 8 block by block.
-fn refusal<R: CommitRule>(
-    rt: &impl Abort,
-    alloc: Global,
-    items: &[Item],
-) -> Result<Option<RecoverError>, Fail> {
+/// The records of items, one by one.
+fn list_of(alloc: Global, items: &[Placed]) -> Result<Vec<Found>, AllocError> {
     let mut list = Vec::new(alloc);
-    for (slot, name, next, back, _) in items {
-        list.push(found(*slot, rec(*name, *next, *back)))?;
+    for item in items {
+        list.push(found(item.slot, item.rec))?;
     }
-    assert!(rt; is_scanned(&list));
-    assert!(rt; have_pages(&list));
-    let breach = match first_other(items) {
-        Some(slot) => Some(Breach {
-            law: 2,
-            slot: Slot(slot),
-        }),
-        None => match R::audit(&list, LOGICAL) {
-            None if !has_removable::<R>(&list) => Some(Breach {
-                law: 8,
-                slot: Slot(0),
-            }),
-            breach => breach,
-        },
-    };
-    Ok(breach.map(|Breach { law, slot }| RecoverError::Unsound { law, slot }))
+    Ok(list)
 }
 
-/// Whether a refusal is by law 8.
-fn is_by_law_8(refusal: Option<RecoverError>) -> bool {
-    matches!(refusal, Some(RecoverError::Unsound { law: 8, .. }))
+/// The law that a flash with these records breaks, if it breaks one: law 2 with the bytes, else by the plain audit,
+/// else law 8 block by block.
+fn breach<R: CommitRule>(list: &[Found], other: Option<Slot>) -> Option<Breach>
+    requires scanned { IsScanned list.now }
+    requires pages { All (OwnPageExists LOGICAL) list.now }
+{
+    if let Some(slot) = other {
+        return Some(Breach { law: 2, slot });
+    }
+    match R::audit(list, LOGICAL) {
+        None if !has_removable::<R>(list) => Some(Breach {
+            law: 8,
+            slot: Slot(0),
+        }),
+        breach => breach,
+    }
+}
+
+/// Whether a flash with these records is refused for this law and slot, or is not refused.
+fn is_right<R: CommitRule>(
+    list: &[Found],
+    other: Option<Slot>,
+    refusal: Option<RecoverError>,
+) -> bool {
+    if !is_scanned(list) || !have_pages(list) {
+        return false;
+    }
+    match (breach::<R>(list, other), refusal) {
+        (Some(breach), Some(RecoverError::Unsound { law, slot })) => breach == Breach { law, slot },
+        (breach, refusal) => breach.is_none() && refusal.is_none(),
+    }
+}
+
+/// Programs items. Tells whether that could be done.
+fn are_put(flash: &mut MemFlash, protocol: Protocol, items: &[Placed]) -> bool
+    requires { flash.old.shape.page_bytes ≡ 16 }
+    ensures { flash.new.shape ≡ flash.old.shape }
+{
+    for item in items {
+        let record = Item::Record(Slot(item.slot), item.rec, item.fill);
+        if !put(flash, protocol, record) {
+            return false;
+        }
+    }
+    true
+}
+
+/// How many flashes were refused, and how many of them by law 8.
+#[derive(Clone, Copy)]
+struct Refusals {
+    all: u32,
+    full: u32,
+}
+
+impl Refusals {
+    /// Counts one more flash.
+    fn count(&mut self, refusal: Option<RecoverError>) {
+        if refusal.is_some() {
+            self.all = self.all.saturating_add(1);
+        }
+        if matches!(refusal, Some(RecoverError::Unsound { law: 8, .. })) {
+            self.full = self.full.saturating_add(1);
+        }
+    }
+}
+
+/// Whether a flash with these records is refused where it has to be, and for the right law and slot.
+fn agrees(alloc: Global, config: Config, items: &[Placed], refusal: Option<RecoverError>) -> bool {
+    let Ok(list) = list_of(alloc, items) else {
+        return false;
+    };
+    let other = first_other(items);
+    match config.protocol {
+        Protocol::Scc => is_right::<Scc>(&list, other, refusal),
+        Protocol::Bpcc => is_right::<Bpcc>(&list, other, refusal),
+    }
+}
+
+/// Whether recovery agrees with the plain audit of these records.
+fn is_judged(alloc: Global, config: Config, items: &[Placed], refusals: &mut Refusals) -> bool
+    requires check { checked config ≡ Ok (shape_of config) }
+    requires page { config.page_bytes ≡ 16 }
+{
+    let Some(mut flash) = blank_flash(alloc, config) else {
+        return false;
+    };
+    if !are_put(&mut flash, config.protocol, items) {
+        return false;
+    }
+    let refusal = refused(alloc, &mut flash, config);
+    refusals.count(refusal);
+    agrees(alloc, config, items, refusal)
+}
+
+/// Whether recovery agrees with the plain audit in a round: of records as they come, or of blocks that are mostly
+/// full.
+fn is_round_right(
+    alloc: Global,
+    config: Config,
+    is_full: bool,
+    seed: &mut u64,
+    refusals: &mut Refusals,
+) -> bool
+    requires check { checked config ≡ Ok (shape_of config) }
+    requires page { config.page_bytes ≡ 16 }
+{
+    let mut items = Vec::new(alloc);
+    let placed = if is_full {
+        place_full(seed, config.protocol, &mut items)
+    } else {
+        place_any(seed, config.protocol, &mut items)
+    };
+    placed.is_ok() && is_judged(alloc, config, &items, refusals)
 }
 
 #[test]
-fn recovery_agrees_with_the_plain_audit(rt: HostRuntime) -> Result<(), Fail> {
+fn recovery_agrees_with_the_plain_audit(rt: HostRuntime) {
     let mut seed = 1;
-    let (mut refusals, mut full) = (0_u32, 0_u32);
+    let mut refusals = Refusals { all: 0, full: 0 };
     for round in 0..200 {
-        for protocol in [Protocol::Scc, Protocol::Bpcc] {
-            let items = if round % 2 == 0 {
-                any_items(rt.alloc(), &mut seed, protocol)?
-            } else {
-                full_items(rt.alloc(), &mut seed, protocol)?
-            };
-            let want = match protocol {
-                Protocol::Scc => refusal::<Scc>(&rt, rt.alloc(), &items)?,
-                Protocol::Bpcc => refusal::<Bpcc>(&rt, rt.alloc(), &items)?,
-            };
-            let mut flash = written(&rt, rt.alloc(), protocol, &items)?;
-            let (found, _) = refused(rt.alloc(), &mut flash, protocol);
-            assert_eq!(rt; found, want, "{items:?}");
-            refusals = refusals.saturating_add(u32::from(want.is_some()));
-            full = full.saturating_add(u32::from(is_by_law_8(want)));
+        let is_full = round % 2 != 0;
+        for config in [SIMPLE, BACK_POINTER] {
+            let is_right = is_round_right(rt.alloc(), config, is_full, &mut seed, &mut refusals);
+            assert!(rt; is_right, "round {round}");
         }
     }
     // sound lists are among them, lists without a removable block, and others
+    let Refusals { all, full } = refusals;
     assert!(rt;
-        50 < full && full.saturating_add(50) < refusals && refusals < 390,
-        "{full} of {refusals}"
+        50 < full && full.saturating_add(50) < all && all < 390,
+        "{full} of {all}"
     );
-    Ok(())
 }

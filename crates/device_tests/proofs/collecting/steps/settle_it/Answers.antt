@@ -10,4 +10,4 @@ returns-in-Ok-clause-config g c =
     ap (λ (n : Noted). n.config) c.in-Ok.ensures.found.noted
     ∙ (settled_stands g.R.CommitRule.protocol law.partial_write law.completing_write law.copy law.block_loss
     (state_of c.args.kept.now.flash) c.args.kept.now.index c.args.kept.now.blocks c.args.kept.now.unsure
-    c.requires.matches c.requires.own c.requires.rule).config
+    c.requires.matches (c.is_collection.ensures c.if-not-is_collection.false _ _) c.requires.rule).config

@@ -1,0 +1,72 @@
+//! Lines of calls and the answers that they must have, of devices over new flashes.
+
+ghost use Rattle.std.specs.Prelude.{◌≡◌, Ok};
+ghost use Rattle.tx_types.specs.Config.{checked, shape_of};
+
+use super::mounting::{mounted, serve};
+use super::telling::Answers;
+use crate::building::{BACK_POINTER, SIMPLE, SMALL, blank_flash};
+use crate::texts::{number_or_zero, word};
+use bpcc_commit::Bpcc;
+use flash_model::MAX_ALLOWANCE;
+use mem_flash::MemFlash;
+use record_list::CommitRule;
+use scc_commit::Scc;
+use std::alloc::Global;
+use tx_types::{Config, Protocol};
+
+/// A device over a new flash that allows so many blocks to be retired serves calls. Tells whether it could.
+fn is_served<R: CommitRule>(
+    alloc: Global,
+    config: Config,
+    allowance: u32,
+    calls: &str,
+    answers: &mut Answers,
+) -> bool
+    requires { checked config ≡ Ok (shape_of config) }
+{
+    if allowance > MAX_ALLOWANCE {
+        return false;
+    }
+    let Some(mut flash) = blank_flash(alloc, config) else {
+        return false;
+    };
+    flash.set_extras(allowance, 0);
+    match mounted::<MemFlash, R>(alloc, flash, config) {
+        Some(device) => serve(alloc, device, calls, answers).is_some(),
+        None => false,
+    }
+}
+
+/// Whether the calls of a line, of a device over a new flash that allows so many blocks to be retired, are answered
+/// as it says behind `=>`.
+fn are_answered(alloc: Global, config: Config, allowance: u32, line: &str) -> bool
+    requires { checked config ≡ Ok (shape_of config) }
+{
+    let Some((calls, wanted)) = line.split_once(" => ") else {
+        return false;
+    };
+    let mut answers = Answers::new(alloc);
+    let is_served = match config.protocol {
+        Protocol::Scc => is_served::<Scc>(alloc, config, allowance, calls, &mut answers),
+        Protocol::Bpcc => is_served::<Bpcc>(alloc, config, allowance, calls, &mut answers),
+    };
+    is_served && answers.are(wanted)
+}
+
+/// Whether the calls of a line are answered as it says. First stands the device, `simple`, `back_pointer` or `small`,
+/// and how many blocks may be retired if any may.
+pub fn is_right(alloc: Global, line: &str) -> bool {
+    let Some((device, line)) = line.split_once(": ") else {
+        return false;
+    };
+    let Some(allowance) = number_or_zero(word(device, 1)) else {
+        return false;
+    };
+    match word(device, 0) {
+        Some("simple") => are_answered(alloc, SIMPLE, allowance, line),
+        Some("back_pointer") => are_answered(alloc, BACK_POINTER, allowance, line),
+        Some("small") => are_answered(alloc, SMALL, allowance, line),
+        _ => false,
+    }
+}

@@ -1,0 +1,266 @@
+//! How files are saved, and what is left where a call of the system fails.
+use super::recording::{Log, Recorder};
+use super::{is_absent, is_made, is_removed};
+use desk_io::{Desk, RealDesk};
+use std::fs;
+use std::fs::Permissions;
+use std::io::ErrorKind;
+use std::os::unix::fs::{MetadataExt, PermissionsExt, symlink};
+use std::rt::Files;
+
+/// What stands in the folder before a save, the name that is saved, and the calls that the save makes. Before a save
+/// there may be a file f, a link to it, other as its second name, and f.saving, which a killed run left beside it.
+const SAVES: &str = "\
+nothing | f | stat f; open saves; create f.saving; write f.saving; sync f.saving; stat f.saving; rename f.saving; \
+sync saves;
+f | f | stat f; open f; open saves; create f.saving; chown f.saving; chmod f.saving; write f.saving; sync f.saving; \
+stat f.saving; rename f.saving; sync saves;
+link f | link | stat link; open link; resolve link; stat f; open f; open saves; create f.saving; chown f.saving; \
+chmod f.saving; write f.saving; sync f.saving; stat f.saving; rename f.saving; sync saves;
+link | link | stat link; open link; open link; write link; sync link; length link; sync link; write link; sync link; \
+resolve link; open saves; sync saves;
+f other | f | stat f; open f; write f; sync f; length f; sync f; write f; sync f;
+f f.saving | f | stat f; open f; open saves; create f.saving; create f.saving2; chown f.saving2; chmod f.saving2; \
+write f.saving2; sync f.saving2; stat f.saving2; rename f.saving2; sync saves;";
+
+pub const OLD: &[u8] = b"the old bytes";
+
+pub const NEW: &[u8] = b"new";
+
+/// Whether the file has these bytes.
+pub fn has<R: Files + AllocGlobal>(rt: &R, name: &str, bytes: &[u8]) -> bool {
+    fs::read(rt, name).is_ok_and(|found| found.as_slice() == bytes)
+}
+
+/// Whether the file may be read and written by those of this mode.
+pub fn has_mode<R: Files + AllocGlobal>(rt: &R, name: &str, mode: u32) -> bool {
+    fs::metadata(rt, name).is_ok_and(|found| found.permissions().mode() & 0o777 == mode)
+}
+
+/// Whether these are written to a file.
+pub fn is_written<R: Files + AllocGlobal>(rt: &R, name: &str, bytes: &[u8]) -> bool {
+    fs::write(rt, name, bytes).is_ok()
+}
+
+/// Whether the mode of a file or a folder is set.
+pub fn sets_mode<R: Files + AllocGlobal>(rt: &R, name: &str, mode: u32) -> bool {
+    fs::set_permissions(rt, name, Permissions::from_mode(mode)).is_ok()
+}
+
+/// A save: what stands there before, the name that is saved, and the calls that it makes.
+#[derive(Clone, Copy)]
+struct Case<'a> {
+    before: &'a str,
+    name: &'a str,
+    calls: &'a str,
+}
+
+impl<'a> Case<'a> {
+    /// The case of a line.
+    fn of(line: &'a str) -> Option<Case<'a>> {
+        let (before, rest) = line.split_once(" | ")?;
+        let (name, calls) = rest.split_once(" | ")?;
+        Some(Case {
+            before,
+            name,
+            calls,
+        })
+    }
+
+    /// Whether this stands there before.
+    fn had(&self, name: &str) -> bool {
+        self.before.split(' ').any(|word| word == name)
+    }
+
+    /// The path that is saved.
+    fn path(&self) -> &'static str {
+        if self.name == "link" {
+            "saves/link"
+        } else {
+            "saves/f"
+        }
+    }
+}
+
+/// Whether the file has a second name, where it is to have one.
+fn is_named_twice<R: Files + AllocGlobal>(rt: &R, it: &Case) -> bool {
+    !it.had("other") || fs::hard_link(rt, "saves/f", "saves/other").is_ok()
+}
+
+/// Whether the file stands there as before a save, with the names that it has, where there is one.
+fn is_file_there<R: Files + AllocGlobal>(rt: &R, it: &Case) -> bool {
+    if !it.had("f") {
+        return true;
+    }
+    is_written(rt, "saves/f", OLD) && sets_mode(rt, "saves/f", 0o640) && is_named_twice(rt, it)
+}
+
+/// Whether the link is made, where there is one.
+fn is_link_there<R: Files + AllocGlobal>(rt: &R, it: &Case) -> bool {
+    !it.had("link") || symlink(rt, "f", "saves/link").is_ok()
+}
+
+/// Whether that is made which stands there before a save.
+fn is_prepared<R: Files + AllocGlobal>(rt: &R, it: &Case) -> bool {
+    is_made(rt, "saves")
+        && is_link_there(rt, it)
+        && (!it.had("f.saving") || is_written(rt, "saves/f.saving", b"left"))
+        && is_file_there(rt, it)
+}
+
+/// A save that was made: whether it answered Ok, its calls, and whether the one that was to fail is among them.
+#[derive(Drop)]
+struct Saved {
+    is_ok: bool,
+    has_failed: bool,
+    calls: String,
+}
+
+/// Whether a save answers Ok whose calls are noted.
+fn is_saved<R: Files + Print + AllocGlobal>(rt: &R, name: &str, log: &Log) -> bool {
+    let system = Recorder { rt, log };
+    RealDesk::new(&system).save(name, NEW).is_ok()
+}
+
+/// Saves once with this log.
+fn save_with<R: Files + Print + AllocGlobal>(rt: &R, it: &Case, log: &Log) -> Option<Saved> {
+    if !is_prepared(rt, it) {
+        return None;
+    }
+    let is_ok = is_saved(rt, it.path(), log);
+    let calls = log.text(rt.alloc())?;
+    Some(Saved {
+        is_ok,
+        has_failed: log.has_failed(),
+        calls,
+    })
+}
+
+/// Saves once, where the call of this number fails in this way, or none for 0.
+fn save<R: Files + Print + AllocGlobal>(
+    rt: &R,
+    it: &Case,
+    fails: u32,
+    kind: ErrorKind,
+) -> Option<Saved> {
+    let log = Log::new(rt.alloc(), fails, kind);
+    save_with(rt, it, &log)
+}
+
+/// Whether a file has two names.
+fn has_two_names<R: Files + AllocGlobal>(rt: &R, name: &str) -> bool {
+    fs::metadata(rt, name).is_ok_and(|found| found.nlink() == 2)
+}
+
+/// Whether there is a link.
+fn is_linked<R: Files + AllocGlobal>(rt: &R) -> bool {
+    fs::symlink_metadata(rt, "saves/link").is_ok_and(|found| found.is_symlink())
+}
+
+/// Whether that stays as it is which no save changes: links, second names, and what a killed run left.
+fn stay_others<R: Files + AllocGlobal>(rt: &R, it: &Case) -> bool {
+    is_linked(rt) == it.had("link")
+        && (!it.had("f.saving") || has(rt, "saves/f.saving", b"left"))
+        && (!it.had("other") || has_two_names(rt, "saves/f"))
+}
+
+/// Whether a save that answers Ok leaves the new bytes, with the mode of the old file.
+fn is_new<R: Files + AllocGlobal>(rt: &R, it: &Case) -> bool {
+    has(rt, "saves/f", NEW)
+        && (!it.had("f") || has_mode(rt, "saves/f", 0o640))
+        && stay_others(rt, it)
+}
+
+/// Whether a save answers Ok and makes the calls that it should.
+fn makes_calls<R: Files + Print + AllocGlobal>(rt: &R, it: &Case) -> bool {
+    match save(rt, it, 0, ErrorKind::Other) {
+        Some(saved) => saved.is_ok && saved.calls.as_str().trim_ascii_end() == it.calls,
+        None => false,
+    }
+}
+
+/// Whether a save makes the calls of the line, and leaves the new bytes.
+fn is_line_saved<R: Files + Print + AllocGlobal>(rt: &R, line: &str) -> bool {
+    match Case::of(line) {
+        Some(it) => makes_calls(rt, &it) && is_new(rt, &it) && is_removed(rt, "saves"),
+        None => false,
+    }
+}
+
+#[test]
+fn saves_call_the_system_in_order(rt: HostRuntime) {
+    for line in SAVES.split('\n') {
+        assert!(rt; is_line_saved(&rt, line), "{line}");
+    }
+}
+
+/// Whether the new file is there or gone, as it should be. One of which it can't be told whose it is stays.
+fn is_new_file_gone<R: Files + AllocGlobal>(rt: &R, it: &Case, calls: &str) -> bool {
+    let stays = calls.ends_with("stat f.saving; ") || calls.ends_with("stat f.saving2; ");
+    let is_first_gone = is_absent(rt, "saves/f.saving");
+    (it.had("f.saving") || is_first_gone != stays) && (stays || is_absent(rt, "saves/f.saving2"))
+}
+
+/// Whether a save was in place.
+fn is_in_place(saved: &Saved) -> bool {
+    let calls = saved.calls.as_str();
+    calls.contains("write f; ") || calls.contains("write link; ")
+}
+
+/// Whether a save that was not in place left the old file or the new one, and the new one where it answered Ok.
+fn is_file_whole<R: Files + AllocGlobal>(rt: &R, it: &Case, saved: &Saved) -> bool {
+    has(rt, "saves/f", NEW)
+        || (!saved.is_ok && (is_in_place(saved) || !it.had("f") || has(rt, "saves/f", OLD)))
+}
+
+/// Whether all is well with the files after a save.
+fn is_well<R: Files + AllocGlobal>(rt: &R, it: &Case, saved: &Saved) -> bool {
+    stay_others(rt, it)
+        && is_file_whole(rt, it, saved)
+        && is_new_file_gone(rt, it, saved.calls.as_str())
+}
+
+/// Whether the call of this number of a save may fail; nothing, where the save has fewer calls.
+fn may_fail<R: Files + Print + AllocGlobal>(
+    rt: &R,
+    it: &Case,
+    fails: u32,
+    kind: ErrorKind,
+) -> Option<bool> {
+    match save(rt, it, fails, kind) {
+        Some(saved) if !saved.has_failed => None,
+        Some(saved) => Some(is_well(rt, it, &saved)),
+        None => Some(false),
+    }
+}
+
+/// Whether each call of a save may fail in this way.
+fn may_each_call_fail<R: Files + Print + AllocGlobal>(rt: &R, it: &Case, kind: ErrorKind) -> bool {
+    for fails in 1..30 {
+        match may_fail(rt, it, fails, kind) {
+            Some(true) => {}
+            Some(false) => return false,
+            None => return true,
+        }
+    }
+    false
+}
+
+/// Whether all is well where the calls of the line fail in turn, in two ways.
+fn may_calls_of_line_fail<R: Files + Print + AllocGlobal>(rt: &R, line: &str) -> bool {
+    match Case::of(line) {
+        Some(it) => {
+            may_each_call_fail(rt, &it, ErrorKind::Other)
+                && may_each_call_fail(rt, &it, ErrorKind::PermissionDenied)
+                && is_removed(rt, "saves")
+        }
+        None => false,
+    }
+}
+
+#[test]
+fn each_call_of_a_save_may_fail(rt: HostRuntime) {
+    for line in SAVES.split('\n') {
+        assert!(rt; may_calls_of_line_fail(&rt, line), "{line}");
+    }
+}

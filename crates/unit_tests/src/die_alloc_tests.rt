@@ -1,0 +1,135 @@
+ghost use Rattle.std.specs.Prelude.{◌≡◌, ◌<◌};
+ghost use Rattle.tx_types.specs.Config.{blocks_of};
+
+use crate::samples::says;
+use die_alloc::Blocks;
+use std::alloc::Global;
+use tx_types::BlockState::{Clean, Part, Shut, Spare};
+use tx_types::{Block, BlockState, Memory, Shape, Slot};
+
+/// The number of the next slot, which is used from then on.
+fn take(blocks: &mut Blocks) -> Option<usize>
+    ensures { blocks.new.shape ≡ blocks.old.shape }
+{
+    let at = blocks.next_slot()?;
+    blocks.note_used(at);
+    Some(at.0 as usize)
+}
+
+/// Whether these slots are taken, one after the other; `-` where there is none.
+fn gives(blocks: &mut Blocks, slots: &str) -> bool
+    ensures { blocks.new.shape ≡ blocks.old.shape }
+{
+    for slot in slots.split(' ') {
+        if !says(slot, take(blocks)) {
+            return false;
+        }
+    }
+    true
+}
+
+/// Two dies of four blocks of four slots.
+const WIDE: Shape = Shape {
+    page_bytes: 16,
+    pages_per_block: 4,
+    blocks_per_die: 4,
+    dies: 2,
+};
+
+/// Whether a new table gives its slots. Die 0 has the slots 0 to 15, and die 1 those from 16 to 27 beside the spare.
+fn gives_all(alloc: Global) -> Result<bool, Memory> {
+    let mut blocks = Blocks::new(alloc, WIDE)?;
+    let is_given = gives(
+        &mut blocks,
+        "0 16 1 17 2 18 3 19 4 20 5 21 6 22 7 23 8 24 9 25 10 26 11 27 12 13 14 15 -",
+    );
+    Ok(is_given)
+}
+
+/// Whether the search in one die finds this slot.
+fn finds(blocks: &mut Blocks, die: u32, slot: u32) -> bool
+    requires { die < blocks.old.shape.dies }
+    ensures { blocks.new ≡ blocks.old }
+{
+    blocks.next_slot_in(die) == Some(Slot(slot))
+}
+
+/// Whether a table gives its slots of which in die 0 block 2 has one used slot and block 1 has three, and in die 1
+/// block 4 is shut. The search in one die takes nothing.
+fn gives_rest(alloc: Global) -> Result<bool, Memory> {
+    let mut blocks = Blocks::new(alloc, WIDE)?;
+    blocks.set(Block(2), Part, 1);
+    blocks.set(Block(1), Part, 3);
+    blocks.set(Block(4), Shut, 0);
+    Ok(
+        finds(&mut blocks, 0, 7)
+            && finds(&mut blocks, 1, 20)
+            && finds(&mut blocks, 0, 7)
+            && gives(&mut blocks, "7 20 9 21 10 22 11 23 0"),
+    )
+}
+
+#[test]
+fn slots_are_taken_die_after_die(rt: HostRuntime) {
+    assert!(rt; gives_all(rt.alloc()).unwrap_or(false));
+    assert!(rt; gives_rest(rt.alloc()).unwrap_or(false));
+}
+
+/// Two dies of two blocks of two slots.
+const SMALL: Shape = Shape {
+    page_bytes: 16,
+    pages_per_block: 2,
+    blocks_per_die: 2,
+    dies: 2,
+};
+
+/// Whether a block is kept so, and so many slots of it are used.
+fn is_kept(blocks: &Blocks, block: u32, state: BlockState, used: u32) -> bool
+    requires { block < blocks_of blocks.now.shape }
+{
+    blocks.state(Block(block)) == state && blocks.used(Block(block)) == used
+}
+
+/// Whether a new table gives its slots, of which die 1 is the first to have none. Its spare is block 3.
+fn fills_up(blocks: &mut Blocks) -> bool
+    requires { blocks.old.shape ≡ SMALL }
+    ensures { blocks.new.shape ≡ SMALL }
+{
+    blocks.spare() == Block(3)
+        && is_kept(blocks, 3, Spare, 0)
+        && gives(blocks, "0 4 1 5 2")
+        && is_kept(blocks, 0, Shut, 2)
+        && is_kept(blocks, 1, Part, 1)
+        && blocks.next_slot_in(1).is_none()
+}
+
+/// Whether it gives its last slot and is full then.
+fn is_full(blocks: &mut Blocks) -> bool
+    requires { blocks.old.shape ≡ SMALL }
+    ensures { blocks.new.shape ≡ SMALL }
+{
+    gives(blocks, "3") && blocks.next_slot_in(0).is_none() && gives(blocks, "-")
+}
+
+/// Whether a full table goes on with block 0 as its spare. The last slot was one of die 0, so that the search goes on
+/// at die 1.
+fn goes_on(blocks: &mut Blocks) -> bool
+    requires { blocks.old.shape ≡ SMALL }
+{
+    blocks.make_spare(Block(0));
+    blocks.set(Block(1), Clean, 0);
+    blocks.spare() == Block(0)
+        && blocks.state(Block(0)) == Spare
+        && is_kept(blocks, 3, Clean, 0)
+        && gives(blocks, "6 2 7 3 -")
+}
+
+fn changes_spares(alloc: Global) -> Result<bool, Memory> {
+    let mut blocks = Blocks::new(alloc, SMALL)?;
+    Ok(fills_up(&mut blocks) && is_full(&mut blocks) && goes_on(&mut blocks))
+}
+
+#[test]
+fn a_full_table_goes_on_with_another_spare(rt: HostRuntime) {
+    assert!(rt; changes_spares(rt.alloc()).unwrap_or(false));
+}

@@ -1,0 +1,193 @@
+//! What a loss of power leaves of a save, in a folder in memory.
+use durable_folder::save;
+use std::alloc::{AllocError, Global};
+use std::io::ErrorKind;
+
+mod losing;
+
+use losing::{LosingFolder, Setting};
+
+const OLD: [u8; 100] = [b'o'; 100];
+
+const NEW: [u8; 90] = [b'n'; 90];
+
+const SETTINGS: [Setting; 7] = [
+    Setting::Plain,
+    Setting::TwoNames,
+    Setting::MountPoint,
+    Setting::ClosedFolder,
+    Setting::OwnerRefused,
+    Setting::NoFolderSync,
+    Setting::Unresolved,
+];
+
+/// A save: what is there before, under which name it goes, and how one of its calls fails.
+#[derive(Clone, Copy)]
+struct Case {
+    setting: Setting,
+    /// Whether the file `f` is there.
+    is_there: bool,
+    name: &'static str,
+    /// The number of the call that fails, and 0 where none does.
+    fails: u32,
+    kind: ErrorKind,
+    is_cut: bool,
+}
+
+impl Case {
+    /// A save in which no call fails.
+    fn new(setting: Setting, is_there: bool, name: &'static str) -> Case {
+        Case {
+            setting,
+            is_there,
+            name,
+            fails: 0,
+            kind: ErrorKind::Other,
+            is_cut: false,
+        }
+    }
+
+    /// Whether it is a save through a link that leads nowhere.
+    fn is_nowhere(&self) -> bool {
+        self.name == "link" && !self.is_there
+    }
+
+    /// Whether a save that goes well has to be in place.
+    fn is_in_place(&self) -> bool {
+        let must_be = match self.setting {
+            Setting::Plain | Setting::NoFolderSync => false,
+            Setting::ClosedFolder => true,
+            Setting::Unresolved => self.name == "link",
+            _ => self.is_there,
+        };
+        must_be || self.is_nowhere()
+    }
+
+    /// Whether a loss of power may leave this at the name that is saved.
+    fn may_be_left(&self, is_in_place: bool, left: Option<&[u8]>) -> bool {
+        let Some(bytes) = left else {
+            return !self.is_there;
+        };
+        let is_old = self.is_there && bytes == OLD.as_slice();
+        let is_torn = bytes.len() <= 64 || bytes.first() == Some(&0);
+        bytes == NEW.as_slice() || is_old || (is_in_place && is_torn)
+    }
+}
+
+/// Fills a folder in which a save begins: with `f`, if it is there, another file, and one that a killed run left.
+fn prepare(folder: &mut LosingFolder, is_there: bool) -> Result<(), AllocError> {
+    if is_there {
+        folder.put("f", &OLD)?;
+    }
+    folder.put("other", b"other")?;
+    folder.put("f.saving", b"left")
+}
+
+/// Whether all that a loss of power may leave of `f` may be so: the new bytes alone, where a save that could sync
+/// answered Ok.
+fn is_left_whole(folder: &LosingFolder, it: &Case, is_ok: bool) -> bool {
+    let must_be_new = is_ok && !folder.is_unsynced;
+    match folder.left("f") {
+        Ok(all) => all.iter().all(|each| {
+            let left = each.as_ref().map(|bytes| bytes.as_slice());
+            let is_new = left.is_some_and(|bytes| bytes == NEW.as_slice());
+            it.may_be_left(folder.is_in_place, left) && (is_new || !must_be_new)
+        }),
+        Err(_) => false,
+    }
+}
+
+/// Whether a file stays as it is, whatever a loss of power leaves.
+fn stays(folder: &LosingFolder, name: &str, bytes: &[u8]) -> bool {
+    match folder.left(name) {
+        Ok(all) => all.iter().all(|each| each
+            .as_ref()
+            .is_some_and(|left| left.as_slice() == bytes)),
+        Err(_) => false,
+    }
+}
+
+/// Whether a save of which no call fails is in place only where it has to be, and answers Ok. A file that was made
+/// through a link has no folder to be synced, where that can't be told.
+fn is_done(folder: &LosingFolder, it: &Case, is_ok: bool) -> bool {
+    let is_lost = it.is_nowhere() && it.setting == Setting::Unresolved;
+    folder.is_in_place == it.is_in_place() && is_ok == !is_lost
+}
+
+/// Whether this folder may be what a save has come to.
+fn is_sound(folder: &LosingFolder, it: &Case, is_ok: bool) -> bool {
+    is_left_whole(folder, it, is_ok)
+        && stays(folder, "f.saving", b"left")
+        && stays(folder, "other", b"other")
+        && (it.fails > 0 || is_done(folder, it, is_ok))
+}
+
+/// The number of calls of a save, where all that a loss of power may leave is as it should be.
+fn saved_in(folder: &mut LosingFolder, alloc: Global, it: &Case) -> Option<u32> {
+    prepare(folder, it.is_there).ok()?;
+    let is_ok = save(folder, alloc, it.name, &NEW).is_ok();
+    if is_sound(folder, it, is_ok) {
+        Some(folder.calls)
+    } else {
+        None
+    }
+}
+
+/// The same, of a save in a folder of its own.
+fn saved(alloc: Global, it: &Case) -> Option<u32> {
+    let mut folder = LosingFolder::new(alloc, it.setting, it.fails, it.kind, it.is_cut);
+    saved_in(&mut folder, alloc, it)
+}
+
+/// Whether all is well where a call of a save fails, or loses power.
+fn may_call_fail(alloc: Global, it: &Case, fails: u32, kind: ErrorKind) -> bool {
+    [false, true].iter().all(|is_cut| {
+        let failing = Case {
+            fails,
+            kind,
+            is_cut: *is_cut,
+            ..*it
+        };
+        saved(alloc, &failing).is_some()
+    })
+}
+
+/// Whether all is well without a failing call, of which there are more than seven, and then where each fails or
+/// loses power.
+fn may_each_call_fail(alloc: Global, it: &Case) -> bool {
+    let Some(calls) = saved(alloc, it) else {
+        return false;
+    };
+    for fails in 1..calls.saturating_add(1) {
+        let may_fail = may_call_fail(alloc, it, fails, ErrorKind::Other)
+            && may_call_fail(alloc, it, fails, ErrorKind::PermissionDenied);
+        if !may_fail {
+            return false;
+        }
+    }
+    calls > 7
+}
+
+/// Whether all is well with the saves at a name, whether or not a file is there.
+fn are_saves_well(alloc: Global, setting: Setting, name: &'static str) -> bool {
+    [false, true].iter().all(|is_there| may_each_call_fail(
+        alloc,
+        &Case::new(setting, *is_there, name),
+    ))
+}
+
+/// Whether all is well with the saves to a file, and with those through a link.
+fn are_all_well(alloc: Global, setting: Setting) -> bool {
+    are_saves_well(alloc, setting, "f") && are_saves_well(alloc, setting, "link")
+}
+
+#[test]
+fn each_call_may_fail_or_lose_power(rt: HostRuntime) {
+    for setting in SETTINGS {
+        assert!(rt;
+            are_all_well(rt.alloc(), setting),
+            "setting {}",
+            setting as u8
+        );
+    }
+}

@@ -1,0 +1,227 @@
+mod calls;
+mod mixes;
+
+use durable_folder::Found;
+use mixes::mixes;
+use std::alloc::{AllocError, Global};
+use std::fs::Permissions;
+use std::io;
+use std::io::{Error, ErrorKind};
+use std::os::unix::fs::PermissionsExt;
+
+/// An open file.
+#[derive(Drop)]
+pub struct Opened {
+    file: usize,
+    offset: usize,
+}
+
+/// A name, and the files that it had since its folder was synced, the newest last.
+#[derive(Drop)]
+pub struct Name {
+    text: String,
+    files: Vec<Option<usize>>,
+}
+
+/// What is special of a folder and of the file `f` in it.
+#[derive(Clone, Copy, PartialEq, Eq)]
+pub enum Setting {
+    Plain,
+    /// The file has a second name elsewhere.
+    TwoNames,
+    /// The file stands on another device than its folder.
+    MountPoint,
+    /// The folder may not be opened.
+    ClosedFolder,
+    /// A new file may not be given to the owner of the old one.
+    OwnerRefused,
+    /// The system cannot sync folders.
+    NoFolderSync,
+    /// Where a link leads can't be told.
+    Unresolved,
+}
+
+/// A folder in memory that loses power. It keeps what each name and each file had since they were
+/// synced. The name `link` is a link to `f`.
+#[derive(Drop)]
+pub struct LosingFolder {
+    alloc: Global,
+    names: Vec<Name>,
+    /// The contents of each file, the newest last.
+    files: Vec<Vec<Vec<u8>>>,
+    setting: Setting,
+    /// How many calls were made.
+    pub calls: u32,
+    /// The number of the call that fails.
+    fails: u32,
+    /// How it fails.
+    kind: ErrorKind,
+    /// Whether all later calls fail too, as power is lost.
+    is_cut: bool,
+    /// Whether `f` itself was made or written.
+    pub is_in_place: bool,
+    /// Whether it was said that a folder can't be synced, or may not be opened.
+    pub is_unsynced: bool,
+}
+
+impl LosingFolder {
+    /// An empty folder, in which the call of this number fails in this way, and all later ones where power
+    /// is lost.
+    pub fn new(
+        alloc: Global,
+        setting: Setting,
+        fails: u32,
+        kind: ErrorKind,
+        is_cut: bool,
+    ) -> LosingFolder {
+        LosingFolder {
+            alloc,
+            names: Vec::new(alloc),
+            files: Vec::new(alloc),
+            setting,
+            calls: 0,
+            fails,
+            kind,
+            is_cut,
+            is_in_place: false,
+            is_unsynced: false,
+        }
+    }
+
+    /// Adds a file that is durably there.
+    pub fn put(&mut self, name: &str, bytes: &[u8]) -> Result<(), AllocError> {
+        let file = self.add_file(bytes)?;
+        self.add_name(name, &[Some(file)])
+    }
+
+    /// Adds a name that had these files.
+    fn add_name(&mut self, name: &str, files: &[Option<usize>]) -> Result<(), AllocError> {
+        let name = Name {
+            text: String::from_str(self.alloc, name)?,
+            files: files.to_vec(self.alloc)?,
+        };
+        self.names.push(name)?;
+        Ok(())
+    }
+
+    /// Adds a file of these bytes. Gives its number.
+    fn add_file(&mut self, bytes: &[u8]) -> Result<usize, AllocError> {
+        let file = self.files.len();
+        self.files.push(Vec::new(self.alloc))?;
+        self.change(file, bytes.to_vec(self.alloc)?, true)?;
+        Ok(file)
+    }
+
+    /// Counts a call, and fails where it is to fail.
+    fn call(&mut self) -> io::Result<()> {
+        self.calls = self.calls.saturating_add(1);
+        if self.calls == self.fails || (self.is_cut && self.calls > self.fails) {
+            return Err(Error::from(self.kind));
+        }
+        Ok(())
+    }
+
+    /// The file that a name has now.
+    fn file(&self, name: &str) -> Option<usize> {
+        let found = self.names.iter().find(|it| it.text.as_str() == name)?;
+        *found.files.last()?
+    }
+
+    /// Gives a name another file.
+    fn set(&mut self, name: &str, file: Option<usize>) -> Result<(), AllocError> {
+        for it in self.names.iter_mut() {
+            if it.text.as_str() == name {
+                it.files.push(file)?;
+                return Ok(());
+            }
+        }
+        self.add_name(name, &[None, file])
+    }
+
+    /// What is read of a file.
+    fn seen(&self, file: usize) -> &[u8] {
+        match self.files.get(file) {
+            Some(versions) => match versions.last() {
+                Some(bytes) => bytes.as_slice(),
+                None => &[],
+            },
+            None => &[],
+        }
+    }
+
+    /// Gives a file new contents, which are read from then on where the call did not fail.
+    fn change(&mut self, file: usize, bytes: Vec<u8>, is_read: bool) -> Result<(), AllocError> {
+        if let Some(versions) = self.files.get_mut(file) {
+            versions.push(bytes)?;
+            let last = versions.len().saturating_sub(1);
+            if !is_read && last > 0 {
+                versions.swap(0, last);
+            }
+        }
+        Ok(())
+    }
+
+    /// Makes a call that gives a file new contents. One that fails gives them all the same, and so does one in which
+    /// power is lost. But they are not read.
+    fn call_and_change(&mut self, file: usize, bytes: Vec<u8>) -> io::Result<()> {
+        let answer = self.call();
+        if answer.is_ok() || self.calls == self.fails {
+            self.change(file, bytes, answer.is_ok())?;
+        }
+        answer
+    }
+
+    /// What is told of a file of this number.
+    fn told(&self, file: usize) -> Found {
+        Found {
+            is_file: true,
+            is_link: false,
+            names: if self.setting == Setting::TwoNames {
+                2
+            } else {
+                1
+            },
+            device: 1,
+            inode: file as u64,
+            user: 0,
+            group: 0,
+            permissions: Permissions::from_mode(0o644),
+        }
+    }
+
+    /// Adds all that a loss of power may leave of a file, or nothing where there is none.
+    fn add_left(
+        &self,
+        file: Option<usize>,
+        all: &mut Vec<Option<Vec<u8>>>,
+    ) -> Result<(), AllocError> {
+        let Some(file) = file else {
+            all.push(None)?;
+            return Ok(());
+        };
+        match self.files.get(file) {
+            Some(versions) => mixes(self.alloc, versions, all),
+            None => Ok(()),
+        }
+    }
+
+    /// Adds all that a loss of power may leave at a name.
+    fn add_all_left(&self, name: &str, all: &mut Vec<Option<Vec<u8>>>) -> Result<(), AllocError> {
+        match self.names.iter().find(|it| it.text.as_str() == name) {
+            Some(found) => {
+                for file in &found.files {
+                    self.add_left(*file, all)?;
+                }
+                Ok(())
+            }
+            None => self.add_left(None, all),
+        }
+    }
+
+    /// All that a loss of power may leave at a name, where files have two blocks at most.
+    pub fn left(&self, name: &str) -> Result<Vec<Option<Vec<u8>>>, AllocError> {
+        let mut all = Vec::new(self.alloc);
+        self.add_all_left(name, &mut all)?;
+        Ok(all)
+    }
+}

@@ -1,0 +1,212 @@
+//! The calls of a folder that loses power.
+use super::mixes::mixed;
+use super::{LosingFolder, Opened, Setting};
+use durable_folder::{Folder, Found};
+use std::alloc::{AllocError, Global};
+use std::fs::Permissions;
+use std::io;
+use std::io::{Error, ErrorKind};
+use std::path::PathBuf;
+
+/// Where a name leads.
+fn led(name: &str) -> &str {
+    if name == "link" { "f" } else { name }
+}
+
+/// What a file holds once bytes were written to it at an offset.
+fn overwritten(
+    alloc: Global,
+    seen: &[u8],
+    offset: usize,
+    bytes: &[u8],
+) -> Result<Vec<u8>, AllocError> {
+    let mut written = mixed(alloc, seen, seen, offset)?;
+    written.extend_from_slice(bytes)?;
+    written.extend_from_slice(seen.get(written.len()..).unwrap_or(&[]))?;
+    Ok(written)
+}
+
+impl LosingFolder {
+    /// Adds an empty file of this name, which is not durably there. Gives its number.
+    fn add_named_file(&mut self, name: &str) -> Result<usize, AllocError> {
+        let file = self.add_file(&[])?;
+        self.set(name, Some(file))?;
+        Ok(file)
+    }
+
+    /// Makes what is read of a file all that it had, or after a failure an older version what is read.
+    fn keep_one(&mut self, file: usize, is_synced: bool) -> Result<(), AllocError> {
+        let seen = self.seen(file).to_vec(self.alloc)?;
+        let Some(versions) = self.files.get_mut(file) else {
+            return Ok(());
+        };
+        if is_synced {
+            versions.clear();
+            versions.push(seen)?;
+        } else if versions.len() > 1 {
+            let last = versions.len() - 1;
+            versions.swap(0, last);
+        }
+        Ok(())
+    }
+
+    /// Makes the file that each name has now the only one that it had.
+    fn keep_names(&mut self) -> Result<(), AllocError> {
+        for it in self.names.iter_mut() {
+            if let Some(last) = it.files.last().copied() {
+                it.files.clear();
+                it.files.push(last)?;
+            }
+        }
+        Ok(())
+    }
+}
+
+impl Folder for LosingFolder {
+    ghost use Rattle.std.specs.Prelude.{[], None};
+
+    type File = Opened;
+
+    type Place = bool;
+
+    ghost told = { λ _. None };
+
+    ghost handle = { λ _. record { file = None; offset = 0 } };
+
+    ghost place = { λ _. [] };
+
+    fn find(&mut self, name: &str) -> io::Result<Found> {
+        self.call()?;
+        let is_link = name == "link";
+        let file = self.file(led(name));
+        if file.is_none() && !is_link {
+            return Err(Error::from(ErrorKind::NotFound));
+        }
+        Ok(Found {
+            is_file: !is_link,
+            is_link,
+            ..self.told(file.unwrap_or(0))
+        })
+    }
+
+    fn find_open(&mut self, file: &Opened) -> io::Result<Found> {
+        self.call()?;
+        Ok(self.told(file.file))
+    }
+
+    fn find_folder(&mut self, _folder: &bool) -> io::Result<Found> {
+        self.call()?;
+        let device = if self.setting == Setting::MountPoint {
+            2
+        } else {
+            1
+        };
+        Ok(Found {
+            device,
+            ..self.told(0)
+        })
+    }
+
+    fn resolve(&mut self, name: &str) -> io::Result<PathBuf> {
+        self.call()?;
+        if self.setting == Setting::Unresolved {
+            return Err(Error::from(ErrorKind::PermissionDenied));
+        }
+        Ok(PathBuf::from_str(self.alloc, led(name))?)
+    }
+
+    fn open(&mut self, name: &str) -> io::Result<Opened> {
+        self.call()?;
+        match self.file(led(name)) {
+            Some(file) => Ok(Opened { file, offset: 0 }),
+            None => Err(Error::from(ErrorKind::NotFound)),
+        }
+    }
+
+    fn open_or_create(&mut self, name: &str) -> io::Result<Opened> {
+        match self.file(led(name)) {
+            Some(_) => self.open(name),
+            None => self.create_new(led(name), 0o644),
+        }
+    }
+
+    fn create_new(&mut self, name: &str, _mode: u32) -> io::Result<Opened> {
+        self.call()?;
+        if self.file(name).is_some() {
+            return Err(Error::from(ErrorKind::AlreadyExists));
+        }
+        let file = self.add_named_file(name)?;
+        self.is_in_place = self.is_in_place || name == "f";
+        Ok(Opened { file, offset: 0 })
+    }
+
+    fn open_folder(&mut self, _folder: &str) -> io::Result<bool> {
+        let mut answer = self.call();
+        if answer.is_ok() && self.setting == Setting::ClosedFolder {
+            answer = Err(Error::from(ErrorKind::PermissionDenied));
+        }
+        self.is_unsynced = self.is_unsynced || answer.is_err();
+        answer?;
+        Ok(true)
+    }
+
+    fn set_owner(&mut self, _name: &str, _user: u32, _group: u32) -> io::Result<()> {
+        self.call()?;
+        if self.setting == Setting::OwnerRefused {
+            return Err(Error::from(ErrorKind::PermissionDenied));
+        }
+        Ok(())
+    }
+
+    fn set_permissions(&mut self, _file: &Opened, _permissions: Permissions) -> io::Result<()> {
+        self.call()
+    }
+
+    fn write(&mut self, file: &mut Opened, bytes: &[u8]) -> io::Result<()> {
+        let written = overwritten(self.alloc, self.seen(file.file), file.offset, bytes)?;
+        let answer = self.call_and_change(file.file, written);
+        self.is_in_place = self.is_in_place || self.file("f") == Some(file.file);
+        file.offset = file.offset.saturating_add(bytes.len());
+        answer
+    }
+
+    fn seek(&mut self, file: &mut Opened, offset: u64) -> io::Result<()> {
+        self.call()?;
+        file.offset = usize::try_from(offset).unwrap_or(0);
+        Ok(())
+    }
+
+    fn set_length(&mut self, file: &Opened, length: u64) -> io::Result<()> {
+        let seen = self.seen(file.file);
+        let resized = mixed(self.alloc, seen, seen, usize::try_from(length).unwrap_or(0))?;
+        self.call_and_change(file.file, resized)
+    }
+
+    /// A sync that fails makes nothing durable, and what is read then is an older one.
+    fn sync(&mut self, file: &Opened) -> io::Result<()> {
+        let answer = self.call();
+        self.keep_one(file.file, answer.is_ok())?;
+        answer
+    }
+
+    fn rename(&mut self, from: &str, to: &str) -> io::Result<()> {
+        self.call()?;
+        let file = self.file(from);
+        self.set(to, file)?;
+        Ok(self.set(from, None)?)
+    }
+
+    fn sync_folder(&mut self, _folder: &bool) -> io::Result<()> {
+        self.call()?;
+        if self.setting == Setting::NoFolderSync {
+            self.is_unsynced = true;
+            return Err(Error::from(ErrorKind::InvalidInput));
+        }
+        Ok(self.keep_names()?)
+    }
+
+    fn remove(&mut self, name: &str) -> io::Result<()> {
+        self.call()?;
+        Ok(self.set(name, None)?)
+    }
+}

@@ -1,0 +1,282 @@
+//! Pictures of small flashes.
+ghost use Rattle.std.specs.Prelude.{◌≡◌, Ok, length};
+ghost use Rattle.tx_types.specs.Config.{checked, shape_of, slots_of};
+
+use crate::samples::rec;
+use crate::texts::stands_in;
+use flash_picture::{Marks, draw, draw_svg};
+use record_list::Breach;
+use std::alloc::{AllocError, Global};
+use tx_types::{Block, Config, Link, Protocol, Rec, Slot};
+use version_index::Note;
+
+/// A device of eight slots on two dies, for three pages.
+fn device(protocol: Protocol) -> Config
+    ensures check { checked result ≡ Ok (shape_of result) }
+    ensures slots { slots_of (shape_of result) ≡ 8 }
+{
+    Config {
+        protocol,
+        page_bytes: 16,
+        pages_per_block: 2,
+        blocks_per_die: 2,
+        dies: 2,
+        logical: 3,
+        pending: 1,
+    }
+}
+
+/// What is noted of a slot: a record, `damaged`, or nothing.
+fn note_of(word: &str) -> Note {
+    match rec(word) {
+        Some(rec) => Note::Holds(rec),
+        None if word == "damaged" => Note::Damaged,
+        None => Note::Blank,
+    }
+}
+
+/// What is noted of eight slots.
+fn notes_of(text: &str) -> [Note; 8] {
+    let mut notes = [Note::Blank; 8];
+    for (slot, word) in text.split(' ').enumerate() {
+        if let Some(note) = notes.get_mut(slot) {
+            *note = note_of(word);
+        }
+    }
+    notes
+}
+
+/// The last of four blocks is the spare.
+const SPARE: Marks = Marks {
+    spare: Some(Block(3)),
+    breach: None,
+};
+
+/// A law is broken, which names a slot.
+fn breach(law: u8, slot: u32) -> Marks {
+    Marks {
+        spare: None,
+        breach: Some(Breach {
+            law,
+            slot: Slot(slot),
+        }),
+    }
+}
+
+/// The picture behind a byte that was there before.
+fn picture(
+    alloc: Global,
+    protocol: Protocol,
+    notes: &str,
+    marks: Marks,
+) -> Result<Vec<u8>, AllocError> {
+    let mut out = [b'>'].to_vec(alloc)?;
+    match draw(alloc, device(protocol), &notes_of(notes), marks, &mut out) {
+        Ok(()) => Ok(out),
+        Err(_) => Err(AllocError),
+    }
+}
+
+/// Whether this is the picture.
+fn is_drawn(alloc: Global, protocol: Protocol, notes: &str, marks: Marks, want: &str) -> bool {
+    picture(alloc, protocol, notes, marks).is_ok_and(|out| out.as_slice() == want.as_bytes())
+}
+
+/// Page 0 was written again with page 1, and power was cut between the two.
+const CUT: &str = "0.1>0.1 blank 0.2>1.1 damaged 2.1>2.1 blank blank blank";
+
+const CUT_PICTURE: &str = "\
+>scc, 3 pages, dies of 2 blocks of 2 slots
+die 0
+block 0    |0.1 current|blank      |
+block 1    |0.2 loose  |damaged    |
+die 1
+block 2    |2.1 current|blank      |
+spare 3    |blank      |blank      |
+walk 0.2 -> 1.1 absent
+";
+
+#[test]
+fn draws_a_cut_transaction(rt: HostRuntime) {
+    assert!(rt; is_drawn(rt.alloc(), Protocol::Scc, CUT, SPARE, CUT_PICTURE));
+}
+
+/// The first write of page 1 is gone, and the record that followed it answers for the other page.
+const STRADDLED: &str = "0.1>1.1 1.2>1.2 1.3>1.3/2 blank blank blank 2.1>2.1 blank";
+
+const STRADDLED_PICTURE: &str = "\
+>bpcc, 3 pages, dies of 2 blocks of 2 slots
+die 0
+block 0    |0.1 loose     |1.2 stale held|
+block 1    |1.3 current   |blank         |
+die 1
+block 2    |blank         |blank         |
+block 3    |2.1 current ! |blank         |
+walk 0.1 -> 1.1 straddled by 2
+unsound law 9 slot 6
+";
+
+#[test]
+fn draws_a_straddled_link(rt: HostRuntime) {
+    assert!(rt;
+        is_drawn(
+            rt.alloc(),
+            Protocol::Bpcc,
+            STRADDLED,
+            breach(9, 6),
+            STRADDLED_PICTURE
+        )
+    );
+}
+
+/// Two records link to the one of page 1, which links to itself.
+const RING: &str = "0.1>1.1 1.1>1.1";
+
+const RING_END: &str = "walk 0.1 -> 1.1 -> 1.1 -> 1.1 -> 1.1 too long\nunsound law 3 slot 1\n";
+
+/// Whether the picture ends with the walk around the ring.
+fn is_ring_drawn(alloc: Global) -> bool {
+    picture(alloc, Protocol::Scc, RING, breach(3, 1)).is_ok_and(|out| out.ends_with(
+        RING_END.as_bytes(),
+    ))
+}
+
+#[test]
+fn draws_a_ring_that_a_walk_comes_to(rt: HostRuntime) {
+    assert!(rt; is_ring_drawn(rt.alloc()));
+}
+
+/// Of two records of one name, as unsound images have them, the one straddles the link of a loose record.
+const NAMESAKES: &str = "0.1>1.1 1.2>1.2/1 1.2>1.2 1.3>1.3/2";
+
+const NAMESAKE_LINES: &str = "block 0    |0.1 loose       |1.2 stale       |;\
+    block 1    |1.2 stale held !|1.3 current     |;";
+
+/// Whether the second of the two is held.
+fn is_namesake_held(alloc: Global) -> bool {
+    picture(alloc, Protocol::Bpcc, NAMESAKES, breach(2, 2)).is_ok_and(|out| stands_in(
+        alloc,
+        NAMESAKE_LINES,
+        &out,
+    ))
+}
+
+#[test]
+fn finds_held_records_among_namesakes(rt: HostRuntime) {
+    assert!(rt; is_namesake_held(rt.alloc()));
+}
+
+/// The picture in SVG.
+fn svg(alloc: Global, config: Config, notes: &[Note]) -> Result<Vec<u8>, AllocError>
+    requires check { checked config ≡ Ok (shape_of config) }
+    requires whole { length notes.now ≡ slots_of (shape_of config) }
+{
+    let mut out = Vec::new(alloc);
+    match draw_svg(alloc, config, notes, SPARE, &mut out) {
+        Ok(()) => Ok(out),
+        Err(_) => Err(AllocError),
+    }
+}
+
+/// Whether each line of a text stands in a picture.
+fn has_pieces(alloc: Global, pieces: &str, out: &[u8]) -> bool {
+    pieces.split('\n').all(|piece| stands_in(alloc, piece, out))
+}
+
+/// How many paths a picture has.
+fn path_count(svg: &[u8]) -> usize {
+    svg.windows(5)
+        .filter(|part| *part == b"<path".as_slice())
+        .count()
+}
+
+/// Pages 0 and 1 were written together, the record of page 1 was copied, and a write of page 0 was cut.
+const COPIED: &str = "0.1>1.1 blank 0.2>2.1/1 1.1>0.1 damaged 1.1>0.1";
+
+/// What stands in the picture of that: cells with their words, the label of the spare, arrows, and a walk. A link to a
+/// record that stands twice leads to the lower slot.
+const PIECES: &str = "\
+height='436'
+<title>slot 2: 0.2 loose, link 2.1, back 1</title>
+<g class='1.1 current'><title>slot 3: 1.1 current, link 0.1, back 0</title>
+<g class='spare 3'><text x='8' y='360'>spare 3</text></g>
+<path d='M132,144C132,122 236,178 236,200'/>
+<path d='M252,200C252,178 116,122 116,144'/>
+<path d='M252,288C252,266 116,122 116,144'/>
+>walk 0.2 -> 2.1 absent</tspan>";
+
+/// Whether they stand there, with three arrows.
+fn is_copy_drawn(alloc: Global) -> bool {
+    svg(alloc, device(Protocol::Scc), &notes_of(COPIED)).is_ok_and(|out| has_pieces(
+        alloc, PIECES, &out,
+    ) && path_count(&out) == 3)
+}
+
+#[test]
+fn draws_in_svg(rt: HostRuntime) {
+    assert!(rt; is_copy_drawn(rt.alloc()));
+}
+
+/// A device of 64 slots, for twenty pages.
+fn wide_device() -> Config
+    ensures check { checked result ≡ Ok (shape_of result) }
+    ensures slots { slots_of (shape_of result) ≡ 64 }
+{
+    Config {
+        protocol: Protocol::Scc,
+        page_bytes: 16,
+        pages_per_block: 16,
+        blocks_per_die: 4,
+        dies: 1,
+        logical: 20,
+        pending: 1,
+    }
+}
+
+/// What is noted of a flash on which each page but the last was written with the next one.
+fn chained() -> [Note; 64] {
+    let mut notes = [Note::Blank; 64];
+    for (page, note) in (0..18).zip(notes.iter_mut()) {
+        let next = Link {
+            page: page + 1,
+            version: 1,
+        };
+        *note = Note::Holds(Rec {
+            page,
+            version: 1,
+            next,
+            back: 0,
+            count: 0,
+            discard: false,
+        });
+    }
+    notes
+}
+
+/// What stands in the pictures of that, as text and in SVG: of a walk of more than sixteen links the first ones and
+/// the last, and in SVG the rest of a long line in the next one.
+const LONG: &str = "\
+14.1 -> 15.1 -> 16.1 .. -> 18.1 absent;walk 1.1 -> 2.1 ->
+15.1 -> 16.1 -> 17.1 .. -> 18.1 absent;walk 2.1 -> 3.1 ->
+15.1 -> 16.1 -> 17.1 -> 18.1 absent;walk 3.1 -> 4.1 ->";
+
+const LONG_SVG: &str = "\
+15.1 -> 16.1</tspan>;<tspan class='walk' x='40' dy='20'> .. -> 18.1 absent</tspan>;
+height='1028'";
+
+/// Whether the picture as text has its pieces.
+fn are_long_walks_drawn(alloc: Global) -> bool {
+    let mut out = Vec::new(alloc);
+    draw(alloc, wide_device(), &chained(), SPARE, &mut out).is_ok() && has_pieces(alloc, LONG, &out)
+}
+
+/// Whether the picture in SVG has its pieces.
+fn are_long_walks_drawn_in_svg(alloc: Global) -> bool {
+    svg(alloc, wide_device(), &chained()).is_ok_and(|out| has_pieces(alloc, LONG_SVG, &out))
+}
+
+#[test]
+fn draws_long_walks(rt: HostRuntime) {
+    assert!(rt; are_long_walks_drawn(rt.alloc()));
+    assert!(rt; are_long_walks_drawn_in_svg(rt.alloc()));
+}

@@ -1,0 +1,255 @@
+//! Command files and replies as text.
+use crate::command_lines::lines_of;
+use crate::texts::{are_bytes_of, bytes_of, names_bad_line};
+use host_protocol::{Command, MAX_FILE_BYTES, Reply, TextError, parse, reply_text};
+use std::alloc::{AllocError, Global};
+use tx_types::{Bytes, Stats};
+
+/// The commands of a file, or its first bad line, which is 0 where the file is too long.
+fn read(alloc: Global, text: &[u8]) -> Result<Result<Vec<Command>, u32>, AllocError> {
+    if text.len() > MAX_FILE_BYTES {
+        return Ok(Err(0));
+    }
+    match parse(alloc, text, 16) {
+        Ok(list) => Ok(Ok(list)),
+        Err(TextError::Line(number)) => Ok(Err(number)),
+        Err(TextError::Memory) => Err(AllocError),
+    }
+}
+
+/// Whether the text spells the commands in one way, or is `nothing` where there are none.
+fn spells(alloc: Global, text: &str, list: &[Command]) -> bool {
+    if list.is_empty() {
+        return text == "nothing";
+    }
+    lines_of(alloc, list).is_ok_and(|lines| are_bytes_of(alloc, text, lines.as_bytes()))
+}
+
+/// Whether the line has a file, and its commands or its first bad line.
+fn is_read(alloc: Global, line: &str) -> bool {
+    let (text, want) = line.split_once(" => ").unwrap_or((line, ""));
+    let Ok(bytes) = bytes_of(alloc, text) else {
+        return false;
+    };
+    match read(alloc, &bytes) {
+        Ok(Ok(list)) => spells(alloc, want, &list),
+        Ok(Err(number)) => names_bad_line(want, number),
+        Err(_) => false,
+    }
+}
+
+const LINES: &str = "\
+; => nothing
+ => nothing
+^ => nothing
+ `;;^;step 2; => step 2;
+read 19; => read 19;
+` read ` 19  ; => read 19;
+read 19^;read 20^ => read 19;read 20;
+read 19^^; => bad line 1
+# => nothing
+  #read 1;read 1 => read 1;
+read #1 => bad line 1
+read 1;# two;;raed 4;raed 5 => bad line 4
+finish 007;abort 0000000001 => finish 7;abort 1;
+step 4294967295 => step 4294967295;
+step 4294967296 => bad line 1
+step 00000000001 => bad line 1
+read +1 => bad line 1
+read 1 2 => bad line 1
+read => bad line 1
+READ 1 => bad line 1
+read % => bad line 1
+? => bad line 1
+collect;stats;explain => collect;stats;explain;
+collect 1 => bad line 1
+stepall;stepall => stepall;stepall;
+stepall 1 => bad line 1
+cut 1 bad;fault 2 none => cut 1 bad;fault 2 none;
+cut 003 all => cut 3 all;
+cut 0 all => bad line 1
+fault 1 All => bad line 1
+cut 1 all 1 => bad line 1
+badread 3 => badread 3;
+badread 1 x => bad line 1";
+
+#[test]
+fn lines_are_commands(rt: HostRuntime) {
+    for line in LINES.split('\n') {
+        assert!(rt; is_read(rt.alloc(), line), "{line}");
+    }
+}
+
+const WRITES: &str = "\
+write => bad line 1
+write x 0=- => bad line 1
+write 1 => write 1;
+write 1 0=- => write 1 0=00000000000000000000000000000000;
+write 1 0=aA => write 1 0=aa000000000000000000000000000000;
+write 2 7=000102030405060708090a0b0c0d0e0f 007=10 => \
+write 2 7=000102030405060708090a0b0c0d0e0f 7=10000000000000000000000000000000;
+write 1 0=000102030405060708090a0b0c0d0e0f10 => bad line 1
+write 1 0= => bad line 1
+write 1 =41 => bad line 1
+write 1 0=4 => bad line 1
+write 1 0=4G => bad line 1
+write 1 0=4142 1 => bad line 1
+write 1 0=41=42 => bad line 1
+write 1 0==41 => bad line 1
+write 1 0=-- => bad line 1
+write 1 0=~ => write 1 0=~;
+write 1 3=~ 4=- 3=~ => write 1 3=~ 4=00000000000000000000000000000000 3=~;
+write 1 0=~~ => bad line 1
+write 1 0=~00 => bad line 1
+write 1 0=-~ => bad line 1
+write 1 0 = 41 => bad line 1
+write 1 4294967296=41 => bad line 1";
+
+#[test]
+fn writes_have_entries(rt: HostRuntime) {
+    for line in WRITES.split('\n') {
+        assert!(rt; is_read(rt.alloc(), line), "{line}");
+    }
+}
+
+/// A line, and then so many times a piece of text.
+fn repeated(alloc: Global, line: &[u8], piece: &[u8], times: usize) -> Result<Vec<u8>, AllocError> {
+    let mut all = Vec::new(alloc);
+    all.extend_from_slice(line)?;
+    for _ in 0..times {
+        all.extend_from_slice(piece)?;
+    }
+    Ok(all)
+}
+
+/// Whether a file has so many commands, or this first bad line.
+fn has(alloc: Global, text: &[u8], want: Result<usize, u32>) -> bool {
+    match read(alloc, text) {
+        Ok(Ok(list)) => Ok(list.len()) == want,
+        Ok(Err(number)) => Err(number) == want,
+        Err(_) => false,
+    }
+}
+
+/// Whether a file has at most 65536 commands.
+fn are_commands_limited(alloc: Global) -> Result<bool, AllocError> {
+    let mut file = repeated(alloc, b"# one\n\n", b"stats\n", 65536)?;
+    let is_full = has(alloc, &file, Ok(65536));
+    file.extend_from_slice(b"\n# two\n")?;
+    let is_still_full = has(alloc, &file, Ok(65536));
+    file.extend_from_slice(b"stats")?;
+    Ok(is_full && is_still_full && has(alloc, &file, Err(65541)))
+}
+
+/// Whether the writes of a file have at most 262144 entries.
+fn are_entries_limited(alloc: Global) -> Result<bool, AllocError> {
+    let mut file = repeated(alloc, b"write 1", b" 0=-", 262144)?;
+    file.extend_from_slice(b"\nwrite 2\n")?;
+    let is_full = has(alloc, &file, Ok(2));
+    file.extend_from_slice(b"write 3 1=-")?;
+    Ok(is_full && has(alloc, &file, Err(3)))
+}
+
+/// Whether one write has at most 262144 entries.
+fn is_write_limited(alloc: Global) -> bool {
+    repeated(alloc, b"write 1", b" 0=-", 262145).is_ok_and(|file| has(alloc, &file, Err(1)))
+}
+
+#[test]
+fn a_file_has_a_limit_of_commands(rt: HostRuntime) {
+    assert!(rt; are_commands_limited(rt.alloc()).is_ok_and(|is_so| is_so));
+}
+
+#[test]
+fn a_file_has_a_limit_of_entries(rt: HostRuntime) {
+    assert!(rt; are_entries_limited(rt.alloc()).is_ok_and(|is_so| is_so));
+    assert!(rt; is_write_limited(rt.alloc()));
+}
+
+/// Whether a reply has this text, behind a byte that was there before.
+fn is_said(alloc: Global, reply: Reply, text: &str) -> bool {
+    let Ok(mut out) = [b'>'].to_vec(alloc) else {
+        return false;
+    };
+    reply_text(alloc, &reply, &mut out).is_ok() && are_bytes_of(alloc, text, &out)
+}
+
+/// Whether the replies to reads, writes and transactions are said.
+fn are_transactions_said(alloc: Global) -> bool {
+    is_said(alloc, Reply::Blank(19), ">blank 19;")
+        && is_said(alloc, Reply::Opened(1, 7), ">open 1 7;")
+        && is_said(
+            alloc,
+            Reply::Wrote(4294967295, 2, 3),
+            ">wrote 4294967295 2 3;",
+        )
+        && is_said(alloc, Reply::Done(1), ">done 1;")
+        && is_said(alloc, Reply::Aborted(2), ">aborted 2;")
+        && is_said(alloc, Reply::Late(3), ">late 3;")
+        && is_said(alloc, Reply::Unknown(0), ">unknown 0;")
+        && is_said(
+            alloc,
+            Reply::Moved(4294967295, 2),
+            ">moved 4294967295 finished 2;",
+        )
+}
+
+/// Whether the replies of one or two words are said.
+fn are_words_said(alloc: Global) -> bool {
+    is_said(alloc, Reply::Collected, ">collected;")
+        && is_said(alloc, Reply::Nothing, ">nothing;")
+        && is_said(alloc, Reply::Armed, ">armed;")
+        && is_said(alloc, Reply::Cut, ">cut;")
+        && is_said(alloc, Reply::Fault, ">fault;")
+        && is_said(alloc, Reply::Dropped, ">dropped;")
+        && is_said(alloc, Reply::RefusedEmpty, ">refused empty;")
+}
+
+/// Whether the refusals with numbers are said.
+fn are_refusals_said(alloc: Global) -> bool {
+    is_said(alloc, Reply::RefusedRange(20), ">refused range 20;")
+        && is_said(alloc, Reply::RefusedRepeated(5), ">refused repeated 5;")
+        && is_said(alloc, Reply::RefusedTag(1), ">refused tag 1;")
+        && is_said(alloc, Reply::RefusedOverlap(5, 1), ">refused overlap 5 1;")
+        && is_said(alloc, Reply::RefusedFull(7), ">refused full 7;")
+        && is_said(alloc, Reply::RefusedSpent(0), ">refused spent 0;")
+}
+
+/// Whether the numbers of a device are said.
+fn are_stats_said(alloc: Global) -> bool {
+    let stats = Stats {
+        written: 1,
+        tags: 2,
+        pending: 3,
+        programs: 18446744073709551615,
+        erases: 10,
+        garbage: 6,
+    };
+    let text =
+        ">stats written 1 open 2 pending 3 programs 18446744073709551615 erases 10 garbage 6;";
+    is_said(alloc, Reply::Stats(stats), text)
+}
+
+/// Whether the contents of a page are said.
+fn is_page_said(alloc: Global) -> bool {
+    let mut contents = Bytes::new(alloc);
+    contents.extend(b"\x41\xff\0\0\x0a\x0b").is_ok()
+        && is_said(alloc, Reply::Page(0, contents), ">page 0 41ff00000a0b;")
+}
+
+/// Whether a report is said.
+fn is_report_said(alloc: Global) -> bool {
+    let mut report = Bytes::new(alloc);
+    report.extend(b"verdict 0\nexplained 1\n").is_ok()
+        && is_said(alloc, Reply::Report(report), ">verdict 0;explained 1;")
+}
+
+#[test]
+fn replies_have_texts(rt: HostRuntime) {
+    assert!(rt; are_transactions_said(rt.alloc()));
+    assert!(rt; are_words_said(rt.alloc()));
+    assert!(rt; are_refusals_said(rt.alloc()));
+    assert!(rt; are_stats_said(rt.alloc()));
+    assert!(rt; is_page_said(rt.alloc()));
+    assert!(rt; is_report_said(rt.alloc()));
+}

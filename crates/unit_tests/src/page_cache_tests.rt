@@ -1,0 +1,146 @@
+//! Which pages a cache holds.
+ghost use Rattle.std.specs.Prelude.{◌≡◌};
+
+use crate::samples::{link, number};
+use page_cache::PageCache;
+use tx_types::Link;
+
+/// Whether the pages below this one are kept at version 1, the bytes of each its number.
+fn are_kept(cache: &mut PageCache, pages: u8) -> bool
+    requires { cache.old.page_bytes ≡ 4 }
+    ensures { cache.new.page_bytes ≡ 4 }
+{
+    for page in 0..pages {
+        if cache.keep(u32::from(page), 1, &[page; 4]).is_err() {
+            return false;
+        }
+    }
+    true
+}
+
+/// Whether a page is kept at a version, each of its bytes this one.
+fn is_kept(cache: &mut PageCache, at: Link, byte: u8) -> bool
+    requires { cache.old.page_bytes ≡ 4 }
+    ensures { cache.new.page_bytes ≡ 4 }
+{
+    cache.keep(at.page, at.version, &[byte; 4]).is_ok()
+}
+
+/// Whether a page is found at a version, each of its bytes this one.
+fn is_found(cache: &mut PageCache, at: Link, byte: u8) -> bool
+    requires { cache.old.page_bytes ≡ 4 }
+    ensures { cache.new.page_bytes ≡ 4 }
+{
+    let mut into = [0xee; 4];
+    cache.find(at.page, at.version, &mut into) && into == [byte; 4]
+}
+
+/// Whether a page is not found at a version, and nothing is copied.
+fn is_missed(cache: &mut PageCache, at: Link) -> bool
+    requires { cache.old.page_bytes ≡ 4 }
+    ensures { cache.new.page_bytes ≡ 4 }
+{
+    let mut into = [0xee; 4];
+    !cache.find(at.page, at.version, &mut into) && into == [0xee; 4]
+}
+
+/// The byte of a text.
+fn byte_of(text: &str) -> Option<u8> {
+    u8::try_from(number(text)?).ok()
+}
+
+/// Whether a step is done that names no page: `below N` keeps the pages below N, and `clear` none.
+fn is_general_step(cache: &mut PageCache, verb: &str, pages: &str) -> bool
+    requires { cache.old.page_bytes ≡ 4 }
+    ensures { cache.new.page_bytes ≡ 4 }
+{
+    match byte_of(pages) {
+        Some(pages) => verb == "below" && are_kept(cache, pages),
+        None => {
+            cache.clear();
+            verb == "clear"
+        }
+    }
+}
+
+/// Whether the step of a line is done: `keep`, `find` or `miss` with a page, its version and each of its bytes, or one
+/// that names no page.
+fn is_done(cache: &mut PageCache, line: &str) -> bool
+    requires { cache.old.page_bytes ≡ 4 }
+    ensures { cache.new.page_bytes ≡ 4 }
+{
+    let (verb, rest) = line.split_once(' ').unwrap_or((line, ""));
+    let (page, byte) = rest.split_once(' ').unwrap_or((rest, ""));
+    if !page.contains('.') {
+        return is_general_step(cache, verb, page);
+    }
+    match (link(page), byte_of(byte)) {
+        (Some(at), Some(byte)) if verb == "keep" => is_kept(cache, at, byte),
+        (Some(at), Some(byte)) => verb == "find" && is_found(cache, at, byte),
+        (Some(at), None) => verb == "miss" && is_missed(cache, at),
+        (None, _) => false,
+    }
+}
+
+/// Neither the page nor the version is enough to be found. An entry of the same name is replaced.
+const NAMES: &str = "\
+miss 5.1
+keep 5.1 81
+find 5.1 81
+miss 5.2
+miss 1.1
+miss 1.5
+keep 5.2 82
+find 5.1 81
+find 5.2 82
+keep 5.1 97
+find 5.1 97
+find 5.2 82
+clear
+miss 5.1
+miss 5.2";
+
+/// Of 16 pages none goes. Page 0 is used, so that page 1 is the first to go. A page that is kept once more pushes none
+/// out, and is then the latest. Of 17 pages at once the first one goes.
+const ORDER: &str = "\
+below 16
+find 0.1 0
+keep 16.1 16
+miss 1.1
+find 2.1 2
+find 0.1 0
+keep 3.1 51
+find 4.1 4
+keep 17.1 17
+miss 5.1
+keep 18.1 18
+miss 6.1
+find 3.1 51
+find 7.1 7
+find 17.1 17
+below 17
+miss 0.1
+miss 18.1
+find 1.1 1
+find 16.1 16";
+
+/// Whether the steps of a text are done, one after the other.
+fn are_done(cache: &mut PageCache, steps: &str) -> bool
+    requires { cache.old.page_bytes ≡ 4 }
+    ensures { cache.new.page_bytes ≡ 4 }
+{
+    for line in steps.split('\n') {
+        if !is_done(cache, line) {
+            return false;
+        }
+    }
+    true
+}
+
+#[test]
+fn the_pages_that_were_used_last_are_held(rt: HostRuntime) {
+    let made = PageCache::new(rt.alloc(), 4);
+    assert!(rt;
+        made.is_ok_and(|mut cache| are_done(&mut cache, NAMES) && are_done(&mut cache, ORDER))
+    );
+}

@@ -1,0 +1,206 @@
+ghost use Rattle.std.specs.Prelude.{◌≡◌};
+
+use crate::samples::{assert_lines, number, numbers, sides};
+use std::alloc::Global;
+use tx_types::Protocol::{Bpcc, Scc};
+use tx_types::{Batch, Bytes, Config, ConfigError, Memory, Protocol, Shape};
+
+/// Configurations, each with the slots of its flash or the rule that it breaks.
+const CONFIGURATIONS: &str = "\
+    scc 16 4 4 2 20 7 => 32 -- a small device and one of ordinary use, under either protocol\n\
+    bpcc 16 4 4 2 20 7 => 32\n\
+    bpcc 512 64 64 4 8000 64 => 16384\n\
+    scc 0 4 4 2 20 7 => page -- the bytes of a page\n\
+    scc 15 4 4 2 20 7 => page\n\
+    scc 24 4 4 2 20 7 => page\n\
+    scc 4096 4 4 2 20 7 => 32\n\
+    scc 4112 4 4 2 20 7 => page\n\
+    scc 16 1 16 2 20 7 => pages -- the slots of a block\n\
+    scc 16 2 16 2 20 7 => 64\n\
+    scc 16 256 4 2 20 7 => 2048\n\
+    scc 16 257 4 2 20 7 => pages\n\
+    scc 16 28 0 2 20 7 => blocks -- the blocks of a die\n\
+    scc 16 28 1 2 20 7 => 56\n\
+    scc 16 2 32768 1 20 7 => 65536\n\
+    scc 16 2 32769 1 20 7 => blocks\n\
+    scc 16 4 8 0 20 7 => dies -- the dies\n\
+    scc 16 4 8 1 20 7 => 32\n\
+    scc 16 4 4 16 20 7 => 256\n\
+    scc 16 4 4 17 20 7 => dies\n\
+    scc 16 256 256 1 20 7 => 65536 -- the slots of the flash, and the bytes of its image file\n\
+    scc 16 256 257 1 20 7 => slots\n\
+    scc 16 256 32768 16 20 7 => slots\n\
+    scc 1968 256 256 1 60000 256 => 65536\n\
+    scc 1984 256 256 1 60000 256 => slots\n\
+    scc 2048 256 256 1 60000 256 => slots\n\
+    scc 4096 256 126 1 20 7 => 32256\n\
+    scc 4096 254 127 1 20 7 => slots\n\
+    scc 16 4 4 2 0 7 => logical -- the logical pages\n\
+    scc 16 4 4 2 1 7 => 32\n\
+    scc 16 4 4 2 20 0 => pending -- the pages that may be pending\n\
+    scc 16 4 4 2 20 1 => 32\n\
+    scc 512 64 64 4 8000 256 => 16384\n\
+    scc 512 64 64 4 8000 257 => pending\n\
+    scc 16 4 4 2 21 7 => space -- the slots outside one block\n\
+    bpcc 16 4 4 2 20 8 => space\n\
+    scc 16 4 4 2 4294967295 7 => space\n\
+    scc 16 2 2 1 1 1 => space\n\
+    scc 16 3 2 1 1 1 => 6\n\
+    scc 16 256 1 1 1 1 => space\n\
+    scc 17 0 0 0 0 0 => page -- every rule is broken, and then one rule fewer at each line\n\
+    scc 16 0 0 0 0 0 => pages\n\
+    scc 16 256 0 0 0 0 => blocks\n\
+    scc 16 256 257 0 0 0 => dies\n\
+    scc 16 256 257 1 0 0 => slots\n\
+    scc 16 256 1 1 0 0 => logical\n\
+    scc 16 256 1 1 1 0 => pending\n\
+    scc 16 256 1 1 1 1 => space\n\
+    scc 4294967295 4294967295 4294967295 4294967295 4294967295 4294967295 => page";
+
+/// The configuration of these numbers, in the order of its fields.
+fn config(protocol: Protocol, numbers: &[u32]) -> Option<Config> {
+    match numbers {
+        [
+            page_bytes,
+            pages_per_block,
+            blocks_per_die,
+            dies,
+            logical,
+            pending,
+        ] => Some(Config {
+            protocol,
+            page_bytes: *page_bytes,
+            pages_per_block: *pages_per_block,
+            blocks_per_die: *blocks_per_die,
+            dies: *dies,
+            logical: *logical,
+            pending: *pending,
+        }),
+        _ => None,
+    }
+}
+
+/// The configuration of a text.
+fn read_config(alloc: Global, text: &str) -> Option<Config> {
+    let (protocol, rest) = text.split_once(' ')?;
+    let protocol = if protocol == "scc" { Scc } else { Bpcc };
+    config(protocol, &numbers(alloc, rest)?)
+}
+
+/// The name of a rule.
+pub fn name(rule: ConfigError) -> &'static str {
+    match rule {
+        ConfigError::Page => "page",
+        ConfigError::Pages => "pages",
+        ConfigError::Blocks => "blocks",
+        ConfigError::Dies => "dies",
+        ConfigError::Slots => "slots",
+        ConfigError::Logical => "logical",
+        ConfigError::Pending => "pending",
+        ConfigError::Space => "space",
+    }
+}
+
+/// Whether a configuration has as many slots as the line says, or breaks the rule that it names.
+fn is_checked(alloc: Global, line: &str) -> bool {
+    let (config, want) = sides(line);
+    match read_config(alloc, config).map(Config::check) {
+        Some(Ok(shape)) => number(want) == Some(shape.slots()),
+        Some(Err(rule)) => want == name(rule),
+        None => false,
+    }
+}
+
+#[test]
+fn a_configuration_has_slots_or_breaks_a_rule(rt: HostRuntime) {
+    assert_lines(&rt, rt.alloc(), CONFIGURATIONS, is_checked);
+}
+
+#[test]
+fn a_shape_has_the_numbers_of_its_configuration(rt: HostRuntime) {
+    let want = Shape {
+        page_bytes: 32,
+        pages_per_block: 5,
+        blocks_per_die: 7,
+        dies: 3,
+    };
+    let config = config(Scc, &[32, 5, 7, 3, 20, 7]);
+    let shape = config.and_then(|config| config.check().ok());
+    assert!(rt; shape == Some(want));
+    assert!(rt; shape.is_some_and(|shape| shape.blocks() == 21 && shape.slots() == 105));
+}
+
+/// Whether a rule is printed as its name.
+fn is_named(alloc: Global, rule: ConfigError) -> bool {
+    match rule.to_string(alloc) {
+        Ok(text) => text.as_str() == name(rule),
+        Err(_) => false,
+    }
+}
+
+#[test]
+fn rules_are_named(rt: HostRuntime) {
+    for rule in [
+        ConfigError::Page,
+        ConfigError::Pages,
+        ConfigError::Blocks,
+        ConfigError::Dies,
+        ConfigError::Slots,
+        ConfigError::Logical,
+        ConfigError::Pending,
+        ConfigError::Space,
+    ] {
+        assert!(rt; is_named(rt.alloc(), rule));
+    }
+}
+
+/// Bytes that are added in three parts, of which the second is empty.
+fn added(alloc: Global) -> Result<Bytes, Memory> {
+    let mut bytes = Bytes::new(alloc);
+    bytes.extend(b"open 1")?;
+    bytes.extend(b"")?;
+    bytes.extend(b" 2")?;
+    Ok(bytes)
+}
+
+#[test]
+fn bytes_are_added_at_the_end(rt: HostRuntime) {
+    assert!(rt; Bytes::new(rt.alloc()).as_slice().is_empty());
+    assert!(rt; added(rt.alloc()).is_ok_and(|bytes| bytes.as_slice() == b"open 1 2".as_slice()));
+}
+
+/// Adds three pages of four bytes, two of them not full, and a discard.
+fn fill(batch: &mut Batch) -> Result<(), Memory>
+    requires { batch.old.page_bytes ≡ 4 }
+{
+    batch.add(7, &[1, 2])?;
+    batch.add(0, &[])?;
+    batch.add(7, &[3, 4, 5, 6])?;
+    batch.add_discard(2)
+}
+
+/// Whether the batch is what `fill` makes of an empty one.
+fn is_filled(batch: &Batch) -> bool {
+    batch.len() == 4
+        && batch.page_bytes() == 4
+        && !batch.is_empty()
+        && has_entry(batch, 0, 7, false, &[1, 2, 0, 0])
+        && has_entry(batch, 1, 0, false, &[0; 4])
+        && has_entry(batch, 2, 7, false, &[3, 4, 5, 6])
+        && has_entry(batch, 3, 2, true, &[0; 4])
+}
+
+/// Whether an entry has this page, is a discard, and has these bytes.
+fn has_entry(batch: &Batch, at: usize, page: u32, discards: bool, bytes: &[u8]) -> bool {
+    at < batch.len()
+        && batch.page(at) == page
+        && batch.discards(at) == discards
+        && batch.bytes(at) == bytes
+}
+
+#[test]
+fn a_batch_fills_its_pages_up(rt: HostRuntime) {
+    let mut batch = Batch::new(rt.alloc(), 4);
+    assert!(rt; batch.is_empty());
+    assert!(rt; fill(&mut batch).is_ok() && is_filled(&batch));
+}

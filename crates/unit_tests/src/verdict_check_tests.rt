@@ -1,0 +1,149 @@
+//! Texts that are checked against small lists of records.
+use crate::cycles::cycle_of;
+use crate::samples::{has_its_pages, is_scanned, number, records};
+use crate::texts::bytes_of;
+use record_list::Found;
+use std::alloc::{AllocError, Global};
+use tx_types::Protocol;
+use verdict_check::check_report;
+
+/// Whether the check of a text against a list, of a device of 20 pages, ends so.
+fn is_checked(list: &[Found], protocol: Protocol, text: &[u8], want: Result<u32, u32>) -> bool {
+    is_scanned(list) && has_its_pages(list, 20) && check_report(list, protocol, 20, text) == want
+}
+
+/// The protocol of a word.
+fn protocol_of(word: &str) -> Protocol {
+    if word == "scc" {
+        Protocol::Scc
+    } else {
+        Protocol::Bpcc
+    }
+}
+
+/// The answer of a check, as `2 pages` or `1 wrong`, by its number and its word.
+fn answer_of(text: &str) -> Option<Result<u32, u32>> {
+    let (digits, word) = text.split_once(' ')?;
+    let number = number(digits)?;
+    Some(if word == "pages" {
+        Ok(number)
+    } else {
+        Err(number)
+    })
+}
+
+/// Whether a text is checked so against the records.
+fn is_text_checked(alloc: Global, protocol: &str, list: &str, text: &str, answer: &str) -> bool {
+    let (Some(list), Ok(bytes)) = (records(alloc, list), bytes_of(alloc, text)) else {
+        return false;
+    };
+    match answer_of(answer) {
+        Some(want) => is_checked(&list, protocol_of(protocol), &bytes, want),
+        None => false,
+    }
+}
+
+/// Whether the line has a protocol, a list of records, a text, and the answer of its check.
+fn is_line_checked(alloc: Global, line: &str) -> bool {
+    let (given, answer) = line.split_once(" => ").unwrap_or((line, ""));
+    let (list, text) = given.split_once(" | ").unwrap_or((given, ""));
+    let (protocol, list) = list.split_once(' ').unwrap_or((list, ""));
+    is_text_checked(alloc, protocol, list, text, answer)
+}
+
+/// Reports, and texts that are none: with another word, without the last line or the last line feed, with nothing at
+/// all or more than there is, and the report on another list and under the other protocol. The last list has three
+/// links into one page, of which two are straddled, each by another record.
+const CHECKS: &str = "\
+scc 0:0.1>1.1 16:1.1>2.1 \
+| verdict 0 newest 1 uncommitted absent current 0 walk 1:1 2:1;\
+verdict 1 newest 1 uncommitted absent current 0 walk 2:1;\
+explained 2; => 2 pages
+bpcc 0:0.1>1.1 16:1.1>2.1 \
+| verdict 0 newest 1 uncommitted absent current 0 walk 1:1 2:1;\
+verdict 1 newest 1 uncommitted absent current 0 walk 2:1;\
+explained 2; => 2 pages
+scc 0:0.1>1.1 16:1.1>2.1 \
+| verdict 0 newest 1 committed absent current 0 walk 1:1 2:1; => 1 wrong
+scc 0:0.1>1.1 16:1.1>2.1 \
+| verdict 0 newest 1 uncommitted absent current 0 walk 1:1 2:1;\
+verdict 1 newest 1 uncommitted absent current 0 walk 2:1; => 3 wrong
+scc 0:0.1>1.1 16:1.1>2.1 \
+| verdict 0 newest 1 uncommitted absent current 0 walk 1:1 2:1;\
+verdict 1 newest 1 uncommitted absent current 0 walk 2:1;\
+explained 2 => 3 wrong
+scc 0:0.1>1.1 16:1.1>2.1 |  => 1 wrong
+scc | explained 0;; => 2 wrong
+bpcc | explained 0; => 0 pages
+scc 0:0.1>1.1 1:2.1>0.1 16:1.1>2.1 17:2.2>2.2 \
+| verdict 0 newest 1 committed passed current 1 walk 1:1 2:1;\
+verdict 1 newest 1 committed passed current 1 walk 2:1;\
+verdict 2 newest 2 committed cycle current 2 walk 2:2;\
+explained 3; => 3 pages
+scc 0:0.1>1.1 1:2.1>0.1 16:1.1>2.1 17:2.2>2.2 \
+| verdict 0 newest 1 uncommitted absent current 0 walk 1:1 2:1;\
+verdict 1 newest 1 uncommitted absent current 0 walk 2:1;\
+explained 2; => 1 wrong
+bpcc 0:0.1>1.1 1:1.2>1.2 2:1.3>1.3/2 \
+| verdict 0 newest 1 uncommitted straddled 2 current 0 walk 1:1;\
+verdict 1 newest 3 committed cycle current 3 walk 1:3;\
+explained 2; => 2 pages
+scc 0:0.1>1.1 1:1.2>1.2 2:1.3>1.3/2 \
+| verdict 0 newest 1 uncommitted straddled 2 current 0 walk 1:1;\
+verdict 1 newest 3 committed cycle current 3 walk 1:3;\
+explained 2; => 1 wrong
+bpcc 0:0.1>1.1 1:1.2>1.2 2:2.1>1.3 3:3.1>1.2 4:1.4>1.4/2 5:1.5>1.5/4 \
+| verdict 0 newest 1 uncommitted straddled 2 current 0 walk 1:1;\
+verdict 1 newest 5 committed cycle current 5 walk 1:5;\
+verdict 2 newest 1 uncommitted straddled 4 current 0 walk 1:3;\
+verdict 3 newest 1 committed passed current 1 walk 1:2;\
+explained 4; => 4 pages";
+
+#[test]
+fn a_text_is_checked_against_a_list(rt: HostRuntime) {
+    for line in CHECKS.split('\n') {
+        assert!(rt; is_line_checked(rt.alloc(), line), "{line}");
+    }
+}
+
+/// Appends the links of a walk from a page of a cycle of 17 pages: 16 links are named.
+fn add_links(text: &mut String, page: u32) -> Result<(), AllocError> {
+    for step in 1..17 {
+        write!(text, " {}:1", (page % 17 + step) % 17)?;
+    }
+    Ok(())
+}
+
+/// Appends the line of such a page.
+fn add_cycle_line(text: &mut String, page: u32, more: u32) -> Result<(), AllocError> {
+    write!(
+        text,
+        "verdict {page} newest 1 committed cycle current 1 walk"
+    )?;
+    add_links(text, page)?;
+    writeln!(text, " more {more}")
+}
+
+/// A text on a cycle of 17 pages, in which so many links are not named.
+fn cycle_text(alloc: Global, more: u32) -> Result<String, AllocError> {
+    let mut text = String::new(alloc);
+    for page in 0..17 {
+        add_cycle_line(&mut text, page, more)?;
+    }
+    text.push_str("explained 17\n")?;
+    Ok(text)
+}
+
+/// Whether the check of such a text ends so.
+fn is_cycle_checked(alloc: Global, more: u32, want: Result<u32, u32>) -> bool {
+    match (cycle_of(alloc, 17), cycle_text(alloc, more)) {
+        (Ok(list), Ok(text)) => is_checked(&list, Protocol::Scc, text.as_bytes(), want),
+        _ => false,
+    }
+}
+
+#[test]
+fn links_that_are_not_named_are_counted(rt: HostRuntime) {
+    assert!(rt; is_cycle_checked(rt.alloc(), 1, Ok(17)));
+    assert!(rt; is_cycle_checked(rt.alloc(), 2, Err(1)));
+}

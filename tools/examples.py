@@ -1,0 +1,121 @@
+#!/usr/bin/env python3
+"""examples.py: compares the files of the folder examples, and what docs/manual.md shows of calls, with the cases of
+the program `cases`. It says a line for each thing that differs, and then the status is 1."""
+
+import os
+import re
+import sys
+
+TOP = os.path.dirname(os.path.dirname(os.path.abspath(__file__)))
+CASES = "crates/cases/data/cases.txt"
+MANUAL = "docs/manual.md"
+
+
+def read_lines(name):
+    """The lines of a file of the repository."""
+    with open(f"{TOP}/{name}", encoding="utf-8") as file:
+        return file.read().splitlines()
+
+
+def whole(text):
+    """What a line of a case says: `..` at its end stands for thirty zeros."""
+    return text[:-2] + "0" * 30 if text.endswith("..") else text
+
+
+def read_cases():
+    """The files of the cases, each with the texts that it has there, and the calls, each with the texts it says."""
+    files, calls, told = {}, {}, None
+    for line in read_lines(CASES):
+        kind, _, rest = line.partition(" ")
+        if kind == "file":
+            told = []
+            files.setdefault(rest, []).append(told)
+        elif kind in ("call", "view"):
+            told = []
+            words = rest.partition(" ")[2]
+            calls.setdefault((kind, words), []).append(told)
+        elif kind == ">" or kind.startswith("<"):
+            told.append(rest if kind == ">" else whole(rest))
+    return files, calls
+
+
+def compare_examples(files):
+    """A line for each file of the examples that is not in the cases as it is."""
+    for name in sorted(os.listdir(f"{TOP}/examples")):
+        name = f"examples/{name}"
+        if not name.endswith(".txt"):
+            continue
+        if name not in files:
+            yield f"{name}: no case has this file"
+        elif any(text != read_lines(name) for text in files[name]):
+            yield f"{name}: a case has another text"
+
+
+def blocks(lines):
+    """The indented blocks of a document: the number of the first line, the text since the block before, the block."""
+    before, block = [], []
+    for number, line in enumerate([*lines, "end"]):
+        if line.startswith("    "):
+            block.append(line[4:])
+        elif block:
+            yield number - len(block) + 1, " ".join(before).strip(), block
+            before, block = [line], []
+        else:
+            before.append(line)
+
+
+def asked_in(text):
+    """The last call that a text or a command asks for, if there is one."""
+    found = re.findall(r"\./(run|view) ([^`>\n]+)", text)
+    if found:
+        program, words = found[-1]
+        return ("call" if program == "run" else "view"), words.strip()
+    found = re.findall(r"Example, `(examples/[\w-]+\.txt)`", text)
+    return ("call", f"try {found[-1]}") if found else None
+
+
+def differs(block, before, asked, is_answer, calls, said):
+    """What is not so of a block, if anything: that it is a file of the examples, or an answer."""
+    named = re.findall(r"`(?:examples/)?([\w-]+\.txt)`", before)
+    if block[0].startswith("#") and named:
+        name = f"examples/{named[-1]}"
+        return None if read_lines(name) == block else f"this is not {name}"
+    if is_answer:
+        if asked not in calls:
+            return f"no case calls {' '.join(asked)}"
+        return None if block in calls[asked] else f"no case says this after {' '.join(asked)}"
+    missing = [line for line in block if line not in said]
+    return f"no case says {missing[0]}" if missing else None
+
+
+def compare_manual(calls):
+    """A line for each block of the manual that the cases do not have."""
+    said = {line for texts in calls.values() for text in texts for line in text}
+    asked, command = None, ""
+    for number, before, block in blocks(read_lines(MANUAL)):
+        inline = asked_in(before)
+        asked = inline or asked
+        if re.match(r"\./|cp |python3 ", block[0]):
+            command = block[-1]
+            asked = asked_in(command)
+            continue
+        # What a script of another folder says is no answer of the programs.
+        if inline is None and command.startswith("python3 "):
+            continue
+        is_answer = inline is not None or before == "It says" or command != "" and before == ""
+        wrong = differs(block, before, asked, is_answer, calls, said)
+        if wrong:
+            yield f"{MANUAL}, line {number}: {wrong}"
+        command = ""
+
+
+def main():
+    files, calls = read_cases()
+    found = [*compare_examples(files), *compare_manual(calls)]
+    for line in found:
+        print(line)
+    return 1 if found else 0
+
+
+if __name__ == "__main__":
+    sys.exit(main())
