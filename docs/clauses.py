@@ -120,6 +120,7 @@ def rows_of(path, crate):
 def document():
     lines = [HEAD]
     for crate in (ROOT / 'crates.txt').read_text().split('\n'):
+        crate = crate.partition('#')[0]
         crate = crate.split(':')[0].split()[0] if crate.split() else ''
         proofs = ROOT / 'crates' / crate / 'proofs'
         if not crate or not proofs.is_dir():

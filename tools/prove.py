@@ -1,0 +1,172 @@
+#!/usr/bin/env python3
+"""prove.py PROGRAM [SCRIPT]: proves the crates that a program of crates.txt stands on, and builds the program.
+
+rt proves them side by side, as many as processors and memory allow. What is proved stays in the folders
+crates/NAME/out, also where this is stopped, and only what has changed is proved again. Notes go to standard error, in
+the name of the script. The status is 0 where the program is built, 125 where it is not, and 129, 130 or 143 where a
+signal ended this.
+"""
+
+import os
+import re
+import signal
+import subprocess
+import sys
+import time
+
+TOP = os.path.dirname(os.path.dirname(os.path.abspath(__file__)))
+
+# Bytes of memory that one crate may take while it is proved.
+NEEDED = 3 << 30
+
+# Words with which a program ends at once and changes nothing.
+WORDS = {"txflash": ["try", "/dev/null"], "flash_view": ["/nowhere/at/all"]}
+
+
+def read_crates():
+    """The crates of crates.txt, each with the crates of this repository that it lists."""
+    listed = {}
+    with open(f"{TOP}/crates.txt", encoding="utf-8") as file:
+        for line in file:
+            name, colon, below = line.partition("#")[0].partition(":")
+            if colon:
+                listed[name.split()[0]] = below.split()
+    return {name: [it for it in below if it in listed] for name, below in listed.items()}
+
+
+def stands_on(program):
+    """The program and all crates below it."""
+    crates, found, waiting = read_crates(), set(), [program]
+    while waiting:
+        name = waiting.pop()
+        if name not in found:
+            found.add(name)
+            waiting += crates[name]
+    return found
+
+
+def sources_of(name):
+    """The files of source, definitions and proofs of a crate."""
+    for at, folders, files in os.walk(f"{TOP}/crates/{name}"):
+        folders[:] = [it for it in folders if it not in ("out", "data", "must-fail")]
+        yield from (f"{at}/{it}" for it in files if it.endswith((".rt", ".antt")))
+
+
+def free_bytes():
+    """Bytes of memory that can be had now."""
+    with open("/proc/meminfo", encoding="utf-8") as file:
+        return int(re.search(r"MemAvailable:\s*(\d+)", file.read())[1]) << 10
+
+
+def at_once():
+    """How many crates are proved side by side. rt counts those that wait for others too, so these are a few more than
+    the processors."""
+    processors = len(os.sched_getaffinity(0))
+    return max(1, min(processors + processors // 2, free_bytes() // NEEDED))
+
+
+class Proofs:
+    """The proofs of a program, and how far they are."""
+
+    def __init__(self, program, script):
+        self.program = program
+        self.script = script
+        self.names = stands_on(program)
+        self.stamp = f"{TOP}/crates/{program}/out/{program}.stamp"
+        self.begun = time.time()
+        self.done = 0
+        self.child = None
+
+    def tell(self, text):
+        """Says a line."""
+        print(f"{self.script}: {text}", file=sys.stderr, flush=True)
+
+    def tell_progress(self, text):
+        """Says a line, with how far the proofs are."""
+        minutes = int(time.time() - self.begun) // 60
+        self.tell(f"{text} ({self.done} of {len(self.names)} crates, {minutes} min so far)")
+
+    def is_current(self):
+        """Whether the program is built, and no source that it stands on is newer than its stamp."""
+        if not os.path.exists(self.stamp):
+            return False
+        made = os.stat(self.stamp).st_mtime
+        paths = [f"{TOP}/crates.txt", *(path for name in self.names for path in sources_of(name))]
+        return all(os.stat(path).st_mtime <= made for path in paths)
+
+    def lines_of(self, *words):
+        """Starts rt in the folder of the program, and answers the lines that it says, as they come."""
+        self.child = subprocess.Popen(
+            ["rt", *words],
+            cwd=f"{TOP}/crates/{self.program}",
+            stdin=subprocess.DEVNULL,
+            stdout=subprocess.PIPE,
+            stderr=subprocess.STDOUT,
+            errors="replace",
+            start_new_session=True,
+        )
+        return self.child.stdout
+
+    def prove(self):
+        """Proves the crates. Answers whether all are proved; what rt says of the others is said."""
+        said, name = {}, None
+        for line in self.lines_of("all", "check", "--jobs", str(at_once())):
+            if found := re.match(r"== (\w+)$", line):
+                name = found[1]
+                self.done += name in self.names
+                self.tell_progress(f"{name}: proved or tried")
+            said.setdefault(name, []).append(line)
+        if self.child.wait() == 0:
+            return True
+        for line in said.get("summary", said.get(None, [])):
+            failed = re.match(r"(\w+): failed", line)
+            sys.stderr.writelines(said.get(failed[1], []) if failed else [])
+            sys.stderr.write(line)
+        return False
+
+    def build(self):
+        """Builds the program of proved crates. Answers whether it is built: rt makes its stamp then."""
+        said = list(self.lines_of("run", "--", *WORDS[self.program]))
+        self.child.wait()
+        if os.path.exists(self.stamp):
+            return True
+        sys.stderr.writelines(said)
+        return False
+
+    def run(self):
+        """Proves and builds. Answers the status."""
+        self.tell("proving and building the program first; docs/manual.md says how long that takes")
+        if not (self.prove() and self.build()):
+            self.tell("the program was not built: see above")
+            return 125
+        # A source that has changed since this began is newer than the stamp, so that the next call builds again.
+        os.utime(self.stamp, (self.begun, self.begun))
+        self.tell_progress("the program is built")
+        return 0
+
+    def end(self, number, _frame):
+        """Ends what runs, at a signal."""
+        if self.child:
+            try:
+                os.killpg(self.child.pid, signal.SIGTERM)
+            except ProcessLookupError:
+                pass
+        self.tell_progress("stopped; what is proved is kept for the next call")
+        os._exit(128 + number)
+
+
+def main():
+    if len(sys.argv) not in (2, 3) or sys.argv[1] not in WORDS:
+        print(f"usage: prove.py {'|'.join(WORDS)} [SCRIPT]", file=sys.stderr)
+        return 125
+    proofs = Proofs(sys.argv[1], sys.argv[-1])
+    if proofs.is_current():
+        os.utime(proofs.stamp)
+        return 0
+    for number in (signal.SIGHUP, signal.SIGINT, signal.SIGTERM):
+        signal.signal(number, proofs.end)
+    return proofs.run()
+
+
+if __name__ == "__main__":
+    sys.exit(main())
