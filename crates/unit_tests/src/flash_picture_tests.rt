@@ -236,9 +236,9 @@ fn wide_device() -> Config
 /// What is noted of a flash on which each page but the last was written with the next one.
 fn chained() -> [Note; 64] {
     let mut notes = [Note::Blank; 64];
-    for (page, note) in (0..18).zip(notes.iter_mut()) {
+    for (page, note) in (0..18u32).zip(notes.iter_mut()) {
         let next = Link {
-            page: page + 1,
+            page: page.saturating_add(1),
             version: 1,
         };
         *note = Note::Holds(Rec {
