@@ -2,9 +2,6 @@
 //! the replies.
 #![tactic(auto)]
 
-#[cfg(test)]
-mod tests;
-
 pub use command_line::{Kept, top};
 use desk_io::RealDesk;
 use image_desk::unread;
