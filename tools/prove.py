@@ -113,8 +113,9 @@ class Proofs:
         for line in self.lines_of("all", "check", "--jobs", str(at_once())):
             if found := re.match(r"== (\w+)$", line):
                 name = found[1]
-                self.done += name in self.names
-                self.tell_progress(f"{name}: proved or tried")
+                if name in self.names:
+                    self.done += 1
+                    self.tell_progress(f"{name} is done")
             said.setdefault(name, []).append(line)
         if self.child.wait() == 0:
             return True
