@@ -1,5 +1,5 @@
-ghost use Rattle.std.specs.Prelude.{◌≡◌, Ok};
-ghost use Rattle.tx_types.specs.Config.{checked};
+ghost use Rattle.std.specs.Prelude.{◌≡◌, [], Ok, IfOk};
+ghost use Rattle.tx_types.specs.Config.{checked, IsConfig};
 ghost use Rattle.tx_engine.specs.DeviceCalls.{MountsDevice};
 
 use crate::Device;
@@ -9,7 +9,7 @@ use crate::store::Store;
 use flash_model::Flash;
 use record_list::CommitRule;
 use std::alloc::Global;
-use tx_types::{Config, Slot};
+use tx_types::{Config, Memory, Slot};
 
 /// Why a device was not mounted.
 #[derive(Clone, Copy, PartialEq, Eq)]
@@ -31,13 +31,9 @@ impl<F: Flash, R: CommitRule> Device<F, R> {
         ensures { MountsDevice F.state flash config result }
     {
         collector::laws::images_stand::<R>();
-        let Ok(room) = JobRoom::new(alloc) else {
-            return Err((flash, MountError::Memory));
-        };
         let store = Store::<F, R>::open(alloc, flash, config)?;
-        let known = store.config();
-        match Openings::new(alloc, known) {
-            Ok(openings) => Ok(Device {
+        match device_rooms(alloc, store.config()) {
+            Ok((openings, room)) => Ok(Device {
                 store,
                 openings,
                 room,
@@ -46,4 +42,19 @@ impl<F: Flash, R: CommitRule> Device<F, R> {
             Err(_) => Err((store.close(), MountError::Memory)),
         }
     }
+}
+
+/// What a device keeps beside its store, with no transaction open.
+fn device_rooms(alloc: Global, config: Config) -> Result<(Openings, JobRoom), Memory>
+    requires { IsConfig config }
+    ensures { IfOk result (λ rooms. rooms.0 ≡ record {
+      page_bytes = config.page_bytes;
+      logical = config.logical;
+      pending = config.pending;
+      all = [];
+    }) }
+{
+    let room = JobRoom::new(alloc)?;
+    let openings = Openings::new(alloc, config)?;
+    Ok((openings, room))
 }

@@ -8,8 +8,8 @@ ghost use Rattle.tx_engine.specs.Standing.{name_at, write_at};
 ghost use Rattle.tx_engine.specs.Submit.{first_refusals};
 
 use crate::pending::{
-    OpenTransaction, PendingPage, free_pages, hold_pages, page_lists, place_of_doubt, place_of_tag,
-    rooms, set_owner,
+    OpenTransaction, PendingPage, free_pages, hold_pages, place_of_doubt, place_of_tag,
+    rooms_and_lists, set_owner,
 };
 use crate::refusals::{batch_refusal, first_overlap, is_tag_used, too_many};
 use crate::{Mark, SubmitError};
@@ -56,14 +56,16 @@ impl Openings {
           all = [];
         }) }
     {
-        let most = config.pending as usize;
+        let all = Vec::with_capacity(alloc, config.pending as usize)?;
+        let owners = vec![in alloc; None; config.logical as usize]?;
+        let (rooms, lists) = rooms_and_lists(alloc, config)?;
         Ok(Openings {
             page_bytes: config.page_bytes,
             pending: config.pending,
-            all: Vec::with_capacity(alloc, most)?,
-            owners: vec![in alloc; None; config.logical as usize]?,
-            rooms: rooms(alloc, config)?,
-            lists: page_lists(alloc, config)?,
+            all,
+            owners,
+            rooms,
+            lists,
         })
     }
 

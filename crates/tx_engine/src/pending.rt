@@ -32,8 +32,22 @@ pub struct PendingPage {
     pub discard: bool,
 }
 
+/// A page of room for each page that may be pending, and for each transaction that may be open a list.
+pub fn rooms_and_lists(
+    alloc: Global,
+    config: Config,
+) -> Result<(Vec<Vec<u8>>, Vec<Vec<PendingPage>>), Memory>
+    requires { IsConfig config }
+    ensures rooms { IfOk result (λ r. HasRooms config r.0) }
+    ensures lists { IfOk result (λ r. HasLists config r.1) }
+{
+    let rooms = rooms(alloc, config)?;
+    let lists = page_lists(alloc, config)?;
+    Ok((rooms, lists))
+}
+
 /// A page of room for each page that may be pending.
-pub fn rooms(alloc: Global, config: Config) -> Result<Vec<Vec<u8>>, Memory>
+fn rooms(alloc: Global, config: Config) -> Result<Vec<Vec<u8>>, Memory>
     requires { IsConfig config }
     ensures { IfOk result (HasRooms config) }
 {
@@ -45,7 +59,7 @@ pub fn rooms(alloc: Global, config: Config) -> Result<Vec<Vec<u8>>, Memory>
 }
 
 /// For each transaction that may be open, a list in which there is room for the pages of all.
-pub fn page_lists(alloc: Global, config: Config) -> Result<Vec<Vec<PendingPage>>, Memory>
+fn page_lists(alloc: Global, config: Config) -> Result<Vec<Vec<PendingPage>>, Memory>
     requires { IsConfig config }
     ensures { IfOk result (HasLists config) }
 {

@@ -1,12 +1,17 @@
-ghost use Rattle.std.specs.Prelude.{◌≡◌, ◌<◌, ◌≤◌, Ok, length, IfOk, sum_by};
+ghost use Rattle.std.specs.Prelude.{◌≡◌, ◌<◌, ◌≤◌, Ok, length, IfErr, IfOk, OnOk, sum_by};
 ghost use Rattle.std.specs.List.{range_with_len};
 ghost use Rattle.tx_types.specs.Config.{checked, shape_of, blocks_of};
+ghost use Rattle.flash_model.specs.Operations.{moment_of};
+ghost use Rattle.version_index.specs.Images.{IsSoundImage};
 ghost use Rattle.version_index.specs.Notes.{found_in};
 ghost use Rattle.version_index.specs.Noted.{current_of, pinned, unpinned};
+ghost use Rattle.scan_recovery.specs.Opening.{IsOpened};
+ghost use Rattle.scan_recovery.specs.Reading.{ReadsAll};
 ghost use Rattle.collector.specs.Calls.{CollectsMost};
 ghost use Rattle.collector.specs.Matches.{CanTake};
 ghost use Rattle.collector.specs.Store.{IsSure};
 ghost use Rattle.collector.specs.Victim.{garbage_in};
+ghost use Rattle.tx_engine.specs.Opens.{mount_reads, FailsToMount, ReadsUnmounted};
 ghost use Rattle.tx_engine.specs.Read.{ReadsKnown};
 ghost use Rattle.tx_engine.specs.StoreCalls.{CanClear, CanFind, ClearsStored, FindsStored, OpensStore, PlacesPage, SettlesStored};
 ghost use Rattle.tx_engine.specs.Stored.{CanWrite, IsStored, WritesOwn, store_in};
@@ -20,6 +25,7 @@ use record_list::{CommitRule, Found};
 use scan_recovery::{RecoverError, recover};
 use std::alloc::Global;
 use std::marker::Model;
+use std::mem::drop;
 use tx_types::{Block, BlockState, Config, Memory, Rec, Shape, Slot};
 use version_index::Index;
 
@@ -57,13 +63,10 @@ impl<F: Flash, R: CommitRule> Store<F, R> {
         ensures { OpensStore F.state R.protocol flash config result }
     {
         laws::opened_tables_match();
-        let Ok(room) = page_room(alloc, flash.shape()) else {
+        let Ok((room, going)) = rooms(alloc, flash.shape()) else {
             return Err((flash, MountError::Memory));
         };
-        let Ok(going) = BlockRoom::new(alloc) else {
-            return Err((flash, MountError::Memory));
-        };
-        match recover(alloc, &mut flash, config) {
+        match recover_tables(alloc, &mut flash, config) {
             Ok((index, blocks)) => Ok(Store {
                 alloc,
                 flash,
@@ -73,11 +76,7 @@ impl<F: Flash, R: CommitRule> Store<F, R> {
                 room,
                 going,
             }),
-            Err(RecoverError::Fault) => Err((flash, MountError::Fault)),
-            Err(RecoverError::Unsound { law, slot }) => {
-                Err((flash, MountError::Unsound { law, slot }))
-            }
-            Err(RecoverError::Memory) => Err((flash, MountError::Memory)),
+            Err(error) => Err((flash, error)),
         }
     }
 
@@ -151,7 +150,7 @@ impl<F: Flash, R: CommitRule> Store<F, R> {
         for at in 0..slots {
             let at = Slot(at);
             if let Some(rec) = self.index.rec(at) {
-                list.push(Found { slot: at, rec })?;
+                list.push_reserved(Found { slot: at, rec });
             }
         }
         Ok(list)
@@ -300,13 +299,43 @@ impl<F: Flash, R: CommitRule> Store<F, R> {
     pub fn close(self) -> F
         ensures { result ≡ self.flash }
     {
+        drop(self.index);
+        drop(self.blocks);
         self.flash
     }
 }
 
-/// Room for one page.
-fn page_room(alloc: Global, shape: Shape) -> Result<Vec<u8>, Memory>
-    ensures { IfOk result (λ room. length room.items ≡ shape.page_bytes) }
+/// Room for one page, and for the blocks that are cleared.
+fn rooms(alloc: Global, shape: Shape) -> Result<(Vec<u8>, BlockRoom), Memory>
+    ensures { IfOk result (λ rooms. length rooms.0.items ≡ shape.page_bytes) }
 {
-    Ok(vec![in alloc; 0; shape.page_bytes as usize]?)
+    let room = vec![in alloc; 0; shape.page_bytes as usize]?;
+    let going = BlockRoom::new(alloc)?;
+    Ok((room, going))
+}
+
+/// The tables of the image of a flash, or why it can't be opened.
+fn recover_tables<F: Flash, R: CommitRule>(
+    alloc: Global,
+    flash: &mut F,
+    config: Config,
+) -> Result<(Index<R>, Blocks), MountError>
+    requires check { checked config ≡ Ok (F.state flash.old).shape }
+    requires rule { config.protocol ≡ R.protocol }
+    ensures sound { let old = F.state flash.old in
+        OnOk result (IsSoundImage R.protocol config.logical old.shape old.image) }
+    ensures tables { IfOk result (λ opened.
+        IsOpened config (F.state flash.old).image opened.0 opened.1) }
+    ensures moment { moment_of (F.state flash.new) ≡ moment_of (F.state flash.old) }
+    ensures reads { let old = F.state flash.old in
+        OnOk result (ReadsAll old (F.state flash.new) (mount_reads config old)) }
+    ensures failed { IfErr result (FailsToMount F.state flash.old config flash.new) }
+    ensures reads_failed { IfErr result (ReadsUnmounted F.state flash.old config flash.new) }
+{
+    match recover(alloc, flash, config) {
+        Ok(tables) => Ok(tables),
+        Err(RecoverError::Fault) => Err(MountError::Fault),
+        Err(RecoverError::Unsound { law, slot }) => Err(MountError::Unsound { law, slot }),
+        Err(RecoverError::Memory) => Err(MountError::Memory),
+    }
 }

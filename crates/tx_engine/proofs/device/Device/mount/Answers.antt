@@ -12,7 +12,7 @@ use Rattle.tx_engine.proofs.device.Device.mount.Goals as goal
 pub invariant_of-result : goal.invariant_of-result
 invariant_of-result g c =
     let store = c.in_ok-store.store in
-    let is : c.in-Ok-new.openings ≡ empty_table store.noted.config = c.in-Ok-new.ensures ∙ ap empty_table c.config-known.ensures.config in
+    let is : c.in-Ok.openings ≡ empty_table store.noted.config = c.in-Ok.ensures ∙ ap empty_table c.config.ensures.config in
     record {
       stands = λ kept. subst (λ (t : OpenTable). Stands g.F.Flash.state (standing_in g.F.Flash.state store t)) (sym is)
           (opened_stands g.F.Flash.state g.R.CommitRule.protocol c.args.flash c.args.config store c.in_ok-store.ensures.opened c.in_ok-store.ensures.stored);
@@ -22,10 +22,10 @@ invariant_of-result g c =
       pending = ap (λ (t : OpenTable). t.pending) is;
     }
 
-pub returns-in-Ok-new : goal.returns-in-Ok-new
-returns-in-Ok-new g c =
+pub returns-in-Ok : goal.returns-in-Ok
+returns-in-Ok g c =
     let store = c.in_ok-store.store in
-    let is : c.in-Ok-new.openings ≡ empty_table store.noted.config = c.in-Ok-new.ensures ∙ ap empty_table c.config-known.ensures.config in
+    let is : c.in-Ok.openings ≡ empty_table store.noted.config = c.in-Ok.ensures ∙ ap empty_table c.config.ensures.config in
     record {
       mounted = subst (λ (t : OpenTable). Mounts g.F.Flash.state c.args.flash c.args.config (standing_in g.F.Flash.state store t)) (sym is)
           (opened_mounts g.F.Flash.state g.R.CommitRule.protocol c.args.flash c.args.config store c.in_ok-store.ensures.opened

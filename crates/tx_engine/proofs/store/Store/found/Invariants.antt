@@ -1,7 +1,11 @@
-use Rattle.std.proofs.Common.{◌≡◌, take}
+use Rattle.std.proofs.Common.{◌≡◌, ◌≤◌, take, vec_len, vec_capacity}
 use Rattle.version_index.specs.Notes.{found_in}
 use Rattle.tx_engine.proofs.store.Store.found.Given as goal
 
--- the records of the slots so far
+-- the records of the slots so far, with room for those of the others
 abbrev pub invariant-loop-at : goal.invariant-loop-at
-invariant-loop-at g l = l.list.items ≡ found_in (take l.at l.self.noted.notes)
+invariant-loop-at g l = record {
+  items : l.list.items ≡ found_in (take l.at l.self.noted.notes);
+  len : vec_len l.list ≤ l.at;
+  room : vec_capacity l.list ≡ l.slots;
+}
