@@ -1,10 +1,10 @@
 //! The files of the system, as a folder. This is what is trusted of a save: each method is one call of
 //! the system.
-ghost use Rattle.std.specs.Prelude.{[], None};
+ghost use Rattle.std.specs.Prelude.{[], None, true};
 
-use durable_folder::{Folder, Found};
+use durable_folder::{Folder, Found, Lock};
 use std::fs::{File, Metadata, OpenFile, OpenOptions, Permissions};
-use std::io::{Seek, SeekFrom, Write};
+use std::io::{Error, ErrorKind, Read, Seek, SeekFrom, Write};
 use std::os::unix::fs::{MetadataExt, OpenOptionsExt, lchown};
 use std::path::PathBuf;
 use std::rt::Files;
@@ -27,6 +27,9 @@ fn found(metadata: Metadata) -> Found {
         user: metadata.uid(),
         group: metadata.gid(),
         permissions: metadata.permissions(),
+        size: metadata.len(),
+        seconds: metadata.mtime(),
+        billionths: metadata.mtime_nsec(),
     }
 }
 
@@ -37,7 +40,7 @@ impl<'a, R: Files + AllocGlobal> Folder for RealFolder<'a, R> {
 
     ghost told = { λ _. None };
 
-    ghost handle = { λ _. record { file = None; offset = 0 } };
+    ghost handle = { λ _. record { file = None; offset = 0; is_held = true } };
 
     ghost place = { λ _. [] };
 
@@ -59,6 +62,20 @@ impl<'a, R: Files + AllocGlobal> Folder for RealFolder<'a, R> {
 
     fn open(&mut self, name: &str) -> io::Result<R::File> {
         OpenOptions::new().write(true).open(self.rt, name)
+    }
+
+    fn open_to_read(&mut self, name: &str) -> io::Result<R::File> {
+        fs::open(self.rt, name)
+    }
+
+    fn read(&mut self, file: &mut R::File, most: usize) -> io::Result<Vec<u8>> {
+        let mut bytes = Vec::new(self.rt.alloc());
+        file.take(most as u64).read_to_end(&mut bytes)?;
+        Ok(bytes)
+    }
+
+    fn try_lock(&mut self, _file: &mut R::File) -> io::Result<Lock> {
+        Err(Error::from(ErrorKind::Unsupported))
     }
 
     fn open_or_create(&mut self, name: &str) -> io::Result<R::File> {

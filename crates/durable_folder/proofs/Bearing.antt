@@ -6,11 +6,11 @@ use Rattle.std.specs.IoError.{error_kind}
 use Rattle.std.specs.declared.io.Error.{Error}
 use Rattle.durable_folder.specs.declared.answers.Replaced.{Replaced}
 use Rattle.durable_folder.specs.declared.answers.Replaced.TheVariants as replaced
-use Rattle.durable_folder.specs.FolderState.{FolderState, SomeOf, MayHold, LeavesOf, Leaves, IsDurable, IsFree, file_of, newest, target}
-use Rattle.durable_folder.specs.Calls.{Handle, SparesNames, OfFile, Makes, OpensOrCreates, OpensFolder, SettlesNames, Resolves}
+use Rattle.durable_folder.specs.FolderState.{FolderState, SomeOf, MayHold, LeavesOf, Leaves, IsFree, file_of, newest, target}
+use Rattle.durable_folder.specs.Calls.{Handle, SparesNames, OfFile, Makes, OpensOrCreates, OpensFolder, SettlesNames, Resolves, opened_at}
 use Rattle.durable_folder.specs.Counting.{is_denied, these_if, quiet}
 use Rattle.durable_folder.specs.Answers.{IsLate}
-use Rattle.durable_folder.specs.Histories.{History, Answer, Turns, Runs, CannotSync}
+use Rattle.durable_folder.specs.Histories.{History, Answer, Turns, Runs, CannotSync, HasFile, IsSaved}
 use Rattle.durable_folder.specs.InPlace.{AfterOk, Overwrites, WritesOver}
 use Rattle.durable_folder.specs.Places.{folder_of}
 use Rattle.durable_folder.specs.Saving.{MaySettle, SettlesFolder, Prepares, ReplaceOrNotEnds, ReplacesOrNot}
@@ -18,13 +18,14 @@ use Rattle.durable_folder.specs.Ways.{KeepsOrTears, IsTornLeft, IsInPlace, Saves
 use Rattle.durable_folder.proofs.Blocks.{holds_one}
 use Rattle.durable_folder.proofs.Heads.{after_err, after_ok_map}
 use Rattle.durable_folder.proofs.Passing.{runs_of, runs_weaker, runs_then, runs_counted}
-use Rattle.durable_folder.proofs.Replacements.{some_entry, entry_some, leaves_of_files, leaves_bytes, prepares_keeps}
+use Rattle.durable_folder.proofs.Putting.{settled_file}
+use Rattle.durable_folder.proofs.Replacements.{some_entry, entry_some, leaves_of_files, saved_file, prepares_keeps}
 use Rattle.durable_folder.proofs.Tearing.{tears_less}
 
 -- what opening or making a file does, where there was nothing
 created : {X : Type 0} (handle : X → Handle) (name : List ℕ) (opened : X) (s t : FolderState) → file_of s (target s name) ≡ None →
     OpensOrCreates handle name (Ok opened) s t →
-    (file : ℕ) × (handle opened ≡ record { file = Some file; offset = 0 }) × Makes file (target s name) s t
+    (file : ℕ) × (handle opened ≡ opened_at (Some file)) × Makes file (target s name) s t
 created handle name opened s t nothing (inl x) = let both : None ≡ Some x.1 = sym nothing ∙ x.2 in absurd (cc)
 created handle name opened s t nothing (inr x) = x
 
@@ -196,15 +197,10 @@ pub folder_denied : {X : Type 0} (place : X → List ℕ) (name folder : List �
     Turns (OpensFolder place folder (Err e)) n a b → SyncsFolderOf name (Ok tt) a b
 folder_denied place name folder e n a b is denied counts turn =
     runs_weaker a b (runs_of (OpensFolder place folder (Err e)) n a b turn) (λ s t x. still_settles s t x)
-    (λ h k x. (
-      still_settles h.now k.now x.0,
-      inr (denied_notes (is_denied (error_kind e)) name folder h.unsynced k is denied (x.2 ∙ ap (λ places. places ++ h.unsynced) counts)),
-    ))
-
-synced_name : (name place : List ℕ) (s : FolderState) (l : History) → place ≡ folder_of name →
-    SettlesNames place s l.now ⊎ SomeOf (λ p. p ≡ place) l.unsynced → (l.now.names name ≡ file_of s name ∷ []) ⊎ CannotSync name l
-synced_name name place s l is (inl y) = inl (y.here name (sym is))
-synced_name name place s l is (inr cannot) = inr (rw is at cannot)
+    (λ h k x.
+    let noted = denied_notes (is_denied (error_kind e)) name folder h.unsynced k is denied (x.2 ∙ ap (λ places. places ++ h.unsynced) counts) in
+    let has : HasFile name (file_of h.now name) k = (ap (λ s. file_of s name) x.0, inr noted) in
+    (still_settles h.now k.now x.0, has))
 
 pub folder_synced : {X : Type 0} (place : X → List ℕ) (name folder : List ℕ) (opened : X) (result : Result (Unit {0}) Error) (a b c : Option History)
     → folder ≡ folder_of name → Turns (OpensFolder place folder (Ok opened)) quiet a b → SettlesFolder (place opened) result b c →
@@ -216,8 +212,8 @@ folder_synced place name folder opened result a b c is turn settles =
     (λ h k l x y. let at : MaySettle (place opened) h.now l.now = rw x.0.0 at y.0 in (
       may_settle_settles (place opened) h.now l.now at,
       after_ok_map result (SettlesNames (place opened) k.now l.now ⊎ SomeOf (λ p. p ≡ place opened) l.unsynced)
-          ((l.now.names name ≡ file_of h.now name ∷ []) ⊎ CannotSync name l)
-          (λ there. rw x.0.0 at (synced_name name (place opened) k.now l (x.0.1 ∙ is) there)) y.1,
+          (HasFile name (file_of h.now name) l)
+          (λ there. rw x.0.0 at (settled_file name (place opened) k.now l (x.0.1 ∙ is) y.0 there)) y.1,
     ))
 
 -- after a refusal the name is still free
@@ -235,7 +231,7 @@ none_refused name bytes (Ok replaced.Refused) answer is refused h k x = (x.0, el
 none_refused name bytes (Err e) answer is refused h k x = absurd (cc)
 
 pub made_new : (name bytes : List ℕ) (Known : FolderState → Type 0) (r : Result Replaced Error) (result : Result (Unit {0}) Error) (a b : Option History)
-    → ((h k : History) → ReplaceOrNotEnds name None bytes r h k → AfterOk result (IsDurable k.now name bytes ⊎ CannotSync name k)) →
+    → ((h k : History) → ReplaceOrNotEnds name None bytes r h k → AfterOk result (IsSaved name bytes k)) →
     ReplacesOrNot name None bytes r a b → SavesAt Known name bytes result a b
 made_new name bytes Known r result a b ends replaces = inl (runs_weaker a b replaces (λ s t x. x) ends)
 
@@ -274,16 +270,11 @@ pub not_making : (name bytes : List ℕ) (w result : Result (Unit {0}) Error) (a
 not_making name bytes w result a c err runs =
     inr (runs_weaker a c runs (λ s t x. x) (λ h k x free. (inr (inr (inr x.refused)), after_err result (IsInPlace name bytes h k) err)))
 
--- what is at a name durably
-durable_made : (name bytes : List ℕ) (g : ℕ) (k l : History) → Settles k.now l.now → file_of k.now name ≡ Some g → k.now.files g ≡ bytes ∷ [] →
-    (l.now.names name ≡ file_of k.now name ∷ []) ⊎ CannotSync name l → IsDurable l.now name bytes ⊎ CannotSync name l
-durable_made name bytes g k l settles named whole (inl is) = inl (λ left x.
-    let at : SomeOf (LeavesOf l.now left) (Some g ∷ []) = rw (is, named) at x in
-    elim at [
-      | inl y ↦ leaves_bytes l.now g bytes left (Some g) refl (settles.files.files g ∙ whole) y
-      | inr none ↦ absurd none
-    ])
-durable_made name bytes g k l settles named whole (inr cannot) = inr cannot
+-- a name that was made, once its folder is synced
+saved_made : (name bytes : List ℕ) (g : ℕ) (k l : History) → Settles k.now l.now → file_of k.now name ≡ Some g → k.now.files g ≡ bytes ∷ [] →
+    HasFile name (file_of k.now name) l → IsSaved name bytes l
+saved_made name bytes g k l settles named whole has =
+    let at : HasFile name (Some g) l = rw named at has in saved_file name bytes g l at (settles.files.files g ∙ whole)
 
 after_ok : (w : Result (Unit {0}) Error) (P : Type 0) → w ≡ Ok tt → AfterOk w P → P
 after_ok (Ok done) P ok x = x
@@ -296,12 +287,13 @@ made name bytes w result a c d ok runs syncs =
     inr (runs_then a c d runs (runs_counted c d syncs) (λ s t x. x) (λ h k u x y free. x.keeps free u y)
     (λ h k l x y free. (
       inr (inr (inr (omega (arith, x.refused, y.0)))),
-      after_ok_map result ((l.now.names name ≡ file_of k.now name ∷ []) ⊎ CannotSync name l) (IsInPlace name bytes h l)
+      after_ok_map result (HasFile name (file_of k.now name) l) (IsInPlace name bytes h l)
           (λ synced.
           let f = after_ok w ((file : ℕ) × (file_of k.now name ≡ Some file) × (k.now.files file ≡ bytes ∷ [])) ok (x.whole free) in
           record {
             over = λ g is plain. let both : None ≡ Some g = sym free.nothing ∙ is in absurd (cc);
-            anew = λ nothing. durable_made name bytes f.0 k l y.1.0 f.1 f.2 synced;
+            stays = λ g is. let both : None ≡ Some g = sym free.nothing ∙ is in absurd (cc);
+            anew = λ nothing. saved_made name bytes f.0 k l y.1.0 f.1 f.2 synced;
           }) y.1.1,
     )))
 
@@ -359,9 +351,8 @@ through_synced text name bytes path w result a c d ok runs syncs =
     (λ h k l x y nothing.
     let b = x.3 nothing in
     let leads : text path ≡ target h.now name = x.2.1 ∙ ap (λ f. f.leads name) (fixed_on (target h.now name) bytes h.now x.0 b.0) in
-    after_ok_map result ((l.now.names (text path) ≡ file_of k.now (text path) ∷ []) ⊎ CannotSync (text path) l)
-    (IsDurable l.now (target h.now name) bytes ⊎ CannotSync (target h.now name) l)
+    after_ok_map result (HasFile (text path) (file_of k.now (text path)) l) (IsSaved (target h.now name) bytes l)
     (λ synced.
     let f = after_ok w ((file : ℕ) × (file_of x.0 (target h.now name) ≡ Some file) × (x.0.files file ≡ bytes ∷ [])) ok b.1 in
-    let at : (l.now.names (target h.now name) ≡ file_of k.now (target h.now name) ∷ []) ⊎ CannotSync (target h.now name) l = rw leads at synced in
-    durable_made (target h.now name) bytes f.0 k l y.0 (ap (λ s. file_of s (target h.now name)) x.1 ∙ f.1) (ap (λ s. s.files f.0) x.1 ∙ f.2) at) y.1)
+    let at : HasFile (target h.now name) (file_of k.now (target h.now name)) l = rw leads at synced in
+    saved_made (target h.now name) bytes f.0 k l y.0 (ap (λ s. file_of s (target h.now name)) x.1 ∙ f.1) (ap (λ s. s.files f.0) x.1 ∙ f.2) at) y.1)

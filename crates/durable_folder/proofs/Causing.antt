@@ -10,7 +10,7 @@ use Rattle.durable_folder.specs.declared.answers.Replaced.{Replaced}
 use Rattle.durable_folder.specs.declared.answers.Replaced.TheVariants as replaced
 use Rattle.durable_folder.specs.declared.folder.Found.{Found}
 use Rattle.durable_folder.specs.FolderState.{FolderState, file_of, newest}
-use Rattle.durable_folder.specs.Calls.{Handle, OfFile, Finds, FindsOpen, Creates}
+use Rattle.durable_folder.specs.Calls.{Handle, Finds, FindsOpen, Creates}
 use Rattle.durable_folder.specs.Answers.{refusal_of, sync_answer, unless_unable, IsLate, IsSettled}
 use Rattle.durable_folder.specs.Counting.{unless_so, is_refusal, is_unable, is_denied, is_absence, is_presence, is_passed_over, quiet, error_answer, never}
 use Rattle.durable_folder.specs.Counting.{answer_to, answer_to_sync_folder, noted_answer}
@@ -18,6 +18,7 @@ use Rattle.durable_folder.specs.Histories.{History, Turns, Runs, Answer}
 use Rattle.durable_folder.specs.Saving.{IsMade, Tries, FillEnds, Fills}
 use Rattle.durable_folder.specs.Causes.{HasFailed, IsLater, HasFault, HasCause, AtNow, IsNamed, TakenBelow, IsCause, IsPassedOver}
 use Rattle.durable_folder.specs.Places.{IsBeside}
+use Rattle.durable_folder.proofs.Writing.{of_file_names}
 use Rattle.std.proofs.lemmas.Bool.{cases_lt}
 
 -- a call, by what its answer counts as
@@ -163,8 +164,8 @@ same_name handle beside found other s t u named first last =
     let same : first.1 ≡ named.0 = cc in
     let is = last.2 named.0 named.1 in
     let fixed = ap (λ x. x.fixed) first.0 in (
-      is.0 ∙ ap (λ x. x.device named.0) fixed ∙ ap (λ f. s.fixed.device f) (sym same) ∙ sym first.2.device,
-      is.1 ∙ ap (λ x. x.inode named.0) fixed ∙ ap (λ f. s.fixed.inode f) (sym same) ∙ sym first.2.inode,
+      is.device ∙ ap (λ x. x.device named.0) fixed ∙ ap (λ f. s.fixed.device f) (sym same) ∙ sym first.2.device,
+      is.inode ∙ ap (λ x. x.inode named.0) fixed ∙ ap (λ f. s.fixed.inode f) (sym same) ∙ sym first.2.inode,
     )
 
 pub named_found : (handle : Handle) (beside : List ℕ) (found other : Found) (n m : Answer) (a b c : Option History) →
@@ -238,11 +239,6 @@ pub refused_cause : (taken : Type 0) (e : Error) (a b : Option History) → IsLa
 refused_cause taken e a b x = refuses taken (is_refusal (error_kind e)) e a b x.0 x.1 refl
 
 -- the new file keeps its name while it is filled
-of_file_names : (P : List (List ℕ) → List (List ℕ) → Type 0) (file : Option ℕ) (s t : FolderState) → OfFile P file s t → (n : List ℕ) →
-    t.names n ≡ s.names n
-of_file_names P None s t x n = ap (λ u. u.names n) x
-of_file_names P (Some f) s t x n = x.0.names n
-
 fill_names : (handle : Handle) (bytes : List ℕ) (filled : Result Replaced Error) (h k : History) → FillEnds handle bytes filled h k → (n : List ℕ) →
     k.now.names n ≡ h.now.names n
 fill_names handle bytes (Ok replaced.Done) h k x n =

@@ -9,9 +9,9 @@ use Rattle.durable_folder.specs.declared.folder.Found.{Found}
 use Rattle.durable_folder.specs.FolderState.{FolderState, byte_at, newest}
 use Rattle.durable_folder.specs.Calls.{Handle, OfFile, Overlaid, Written, Writes, Synced, SyncsFile, Stays, Finds, FindsOpen}
 use Rattle.durable_folder.specs.Counting.{answer_to_give}
-use Rattle.durable_folder.specs.Histories.{History, Turns, Runs, Answer}
+use Rattle.durable_folder.specs.Histories.{History, Turns, Runs, Answer, Rests}
 use Rattle.durable_folder.specs.InPlace.{AfterOk}
-use Rattle.durable_folder.specs.Saving.{Gives, Rests, WritesWhole, Fills}
+use Rattle.durable_folder.specs.Saving.{Gives, WritesWhole, Fills}
 use Rattle.durable_folder.proofs.Heads.{after_err, then_synced}
 use Rattle.durable_folder.proofs.Making.{still_then}
 use Rattle.durable_folder.proofs.Passing.{runs_of, runs_weaker, runs_then, runs_counted}

@@ -10,15 +10,15 @@ use Rattle.durable_folder.specs.FolderState.{FolderState, SomeOf, file_of, newes
 use Rattle.durable_folder.specs.Calls.{Handle, SparesNames, SparesFiles, OfFile, Removes, OpensFolder, FindsFolder}
 use Rattle.durable_folder.specs.Counting.{is_refusal, if_so}
 use Rattle.durable_folder.specs.Answers.{refusal_of}
-use Rattle.durable_folder.specs.Histories.{History, Turns, Runs, IsTold, Answer}
+use Rattle.durable_folder.specs.Histories.{History, Turns, Runs, IsTold, Answer, Rests, HasFile}
 use Rattle.durable_folder.specs.Places.{folder_of}
 use Rattle.durable_folder.specs.declared.folder.Found.{Found}
 use Rattle.durable_folder.specs.declared.replacing.Owner.{Owner}
-use Rattle.durable_folder.specs.Saving.{KeepsOrReplaces, IsNew, IsMade, Prepares, WasRefused, Rests, FillEnds, Fills, Shifts, PutEnds, Puts, Aside, FinishSteps}
+use Rattle.durable_folder.specs.Saving.{KeepsOrReplaces, IsNew, IsMade, Prepares, WasRefused, FillEnds, Fills, Shifts, PutEnds, Puts, Aside, FinishSteps}
 use Rattle.durable_folder.specs.Saving.{FinishEnds, Ends, ReplaceEnds, ReplacesBy, Replaces, IsMounted, Mounted, ReplaceOrNotEnds, ReplacesOrNot}
 use Rattle.durable_folder.proofs.Passing.{runs_of, runs_weaker, runs_then, runs_counted, runs_ended}
 use Rattle.durable_folder.proofs.Putting.{put_err}
-use Rattle.durable_folder.proofs.Replacements.{prepares_keeps, shifts_keeps, durable_put, aside_prepares, new_filled, differs}
+use Rattle.durable_folder.proofs.Replacements.{prepares_keeps, shifts_keeps, saved_file, aside_prepares, new_filled, differs}
 
 aside_none : (beside : List ℕ) (s t : FolderState) → t ≡ s → Aside beside s t
 aside_none beside s t same = rw same (record { names = λ n away. refl; files = record { files = λ f. refl; fixed = refl } })
@@ -65,6 +65,25 @@ put_from : (beside name : List ℕ) (result : Result Replaced Error) (h k l : Hi
 put_from beside name (Ok replaced.Done) h k l more same x = rw same at x
 put_from beside name (Ok replaced.Refused) h k l more same x = (λ n away. x.0 n away ∙ ap (λ s. s.names n) same, omega (arith, x.1, more))
 put_from beside name (Err e) h k l more same x = tt
+
+steps_still : (beside name : List ℕ) (filled : Result Replaced Error) (s t : FolderState) → t ≡ s → FinishSteps beside name filled s t
+steps_still beside name filled s t same = rw same (steps_none beside name filled s)
+
+ends_from : (beside name : List ℕ) (filled result : Result Replaced Error) (h k l : History) → h.refusals ≤ k.refusals → k.now ≡ h.now →
+    FinishEnds beside name filled result k l → FinishEnds beside name filled result h l
+ends_from beside name (Ok replaced.Done) result h k l more same x =
+    λ differ. let there : file_of k.now beside ≢ file_of k.now name = rw same differ in put_from beside name result h k l more same (x there)
+ends_from beside name (Ok replaced.Refused) (Ok answer) h k l more same x = (x.0, rw same at x.1)
+ends_from beside name (Ok replaced.Refused) (Err e) h k l more same x = tt
+ends_from beside name (Err e) (Ok answer) h k l more same x = (x.0, rw same at x.1)
+ends_from beside name (Err e) (Err other) h k l more same x = tt
+
+pub ends_after : (beside name : List ℕ) (filled result : Result Replaced Error) (a b c : Option History) → beside ≢ name → Rests a b →
+    Ends beside name filled result b c → Ends beside name filled result a c
+ends_after beside name filled result a b c apart rests ends =
+    runs_then a b c (runs_counted a b rests) ends (steps_still beside name filled)
+    (λ h k u x y. let at : FinishSteps beside name filled h.now u = rw x.1 at y in at)
+    (λ h k l x y. ends_from beside name filled result h k l x.0 x.1 y)
 
 pub put_ends : (beside name : List ℕ) (result : Result Replaced Error) (a b c : Option History) → Rests a b → Puts beside name result b c →
     Ends beside name (Ok replaced.Done) result a c
@@ -136,10 +155,10 @@ finish_ends handle name beside bytes (Ok replaced.Done) (Ok replaced.Done) f s h
     let b = made_bytes handle name beside bytes f s h.now k.now made x in
     let new = new_filled name beside f s h.now k.now made.new b.0 in
     let named = still_named handle name beside f s h.now k.now made b.0 in
-    elim (z (differs name beside f s k.now new named)) [
-      | inl is ↦ inl (durable_put name beside bytes f k.now l.now named b.1 (finish_shifts handle name beside bytes f s h k l.now made x y) is)
-      | inr cannot ↦ inr cannot
-    ]
+    let put : HasFile name (file_of k.now beside) l = z (differs name beside f s k.now new named) in
+    let has : HasFile name (Some f) l = rw named at put in
+    let files = finish_shifts handle name beside bytes f s h k l.now made x y in
+    saved_file name bytes f l has (files.files f ∙ b.1)
 finish_ends handle name beside bytes (Ok replaced.Done) (Ok replaced.Refused) f s h k l made x more y z last =
     let b = made_bytes handle name beside bytes f s h.now k.now made x in
     let new = new_filled name beside f s h.now k.now made.new b.0 in

@@ -5,14 +5,15 @@ use Rattle.std.specs.IoError.{error_kind}
 use Rattle.std.specs.declared.io.Error.{Error}
 use Rattle.std.specs.declared.io.ErrorKind.TheVariants as kind
 use Rattle.durable_folder.specs.declared.folder.Found.{Found}
-use Rattle.durable_folder.specs.FolderState.{FolderState, IsDurable, file_of, target}
+use Rattle.durable_folder.specs.FolderState.{FolderState, file_of, target}
 use Rattle.durable_folder.specs.Calls.{Handle, Finds, Opens, Resolves}
 use Rattle.durable_folder.specs.Causes.{AtNow, AllTaken}
-use Rattle.durable_folder.specs.Histories.{History, Answer, Turns, Runs, CannotSync}
-use Rattle.durable_folder.specs.InPlace.{WritesOver}
+use Rattle.durable_folder.specs.Histories.{History, Answer, Turns, Runs, Learns, IsSaved}
+use Rattle.durable_folder.specs.InPlace.{AfterOk, WritesOver}
 use Rattle.durable_folder.specs.Saving.{KeepsOrReplaces}
-use Rattle.durable_folder.specs.Ways.{MustBeInPlace, IsInPlace, SavesAt, IsSeen, Looks, WasFound, is_link, MakesThrough, LeadsNowhere, Saves}
+use Rattle.durable_folder.specs.Ways.{MustBeInPlace, IsInPlace, SavesAt, IsSeen, Looks, WasFound, is_link, MakesThrough, LeadsNowhere, LeadsTo, Saves}
 use Rattle.durable_folder.proofs.Heads.{after_err, after_ok_map}
+use Rattle.durable_folder.proofs.Learning.{learns, learns_then}
 use Rattle.durable_folder.proofs.Passing.{runs_of, runs_none, runs_weaker, runs_then, runs_counted}
 use Rattle.durable_folder.proofs.Replacements.{prepares_keeps}
 use Rattle.durable_folder.proofs.Bearing.{resolves_stays}
@@ -27,20 +28,6 @@ saves_less K L name bytes result a b f (inr x) = inr (runs_weaker a b x (λ s t 
 pub saves_nothing : (K : FolderState → Type 0) (name bytes : List ℕ) (result : Result (Unit {0}) Error) (a : Option History) → IsErr result →
     SavesAt K name bytes result a a
 saves_nothing K name bytes result a err = inl (runs_none a (λ h. after_err result _ err))
-
--- nothing has changed, and this holds of the first state
-abbrev pub Learns : (FolderState → Type 0) → Option History → Option History → Type 0
-Learns P = Runs (λ s t. t ≡ s) (λ h k. (k.now ≡ h.now) × P h.now)
-
-pub learns : (S : FolderState → FolderState → Type 0) (P : FolderState → Type 0) (n : Answer) (a b : Option History) → Turns S n a b →
-    ((s t : FolderState) → S s t → (t ≡ s) × P s) → Learns P a b
-learns S P n a b turn f =
-    runs_weaker a b (runs_of S n a b turn) (λ s t x. (f s t x).0) (λ h k x. f h.now k.now x.0)
-
-pub learns_then : (P Q R : FolderState → Type 0) (a b c : Option History) → Learns P a b → Learns Q b c → ((s : FolderState) → P s → Q s → R s) →
-    Learns R a c
-learns_then P Q R a b c x y f =
-    runs_then a b c x y (λ s t z. z) (λ h k u z w. w ∙ z.0) (λ h k l z w. (w.0 ∙ z.0, f h.now z.1 (rw z.0 at w.1)))
 
 -- looking at a name
 pub looks_found : (name : List ℕ) (found : Found) (n : Answer) (a b : Option History) → Turns (Finds name (Ok found)) n a b →
@@ -80,6 +67,7 @@ must_from name h k l more same (inr (inr (inr refused))) = inr (inr (inr (omega 
 in_place_from : (name bytes : List ℕ) (h k l : History) → k.now ≡ h.now → IsInPlace name bytes k l → IsInPlace name bytes h l
 in_place_from name bytes h k l same x = record {
   over = λ g is plain. x.over g (ap (λ s. file_of s name) same ∙ is) (ap (λ s. s.fixed.is_plain g) same ∙ plain);
+  stays = λ g is. x.stays g (ap (λ s. file_of s name) same ∙ is) ∙ ap (λ s. s.names name) same;
   anew = λ none. x.anew (ap (λ s. file_of s name) same ∙ none);
 }
 
@@ -132,9 +120,10 @@ saved_nowhere name bytes result a b c known makes =
     (λ h k l y z.
     let nowhere : LeadsNowhere k.now name = rw (sym y.0) at y.1 in (
       inr y.1,
-      after_ok_map result (IsDurable l.now (target k.now name) bytes ⊎ CannotSync (target k.now name) l) (IsInPlace (target h.now name) bytes h l)
+      after_ok_map result (IsSaved (target k.now name) bytes l) (IsInPlace (target h.now name) bytes h l)
           (λ there. record {
             over = λ g is plain. let both : None ≡ Some g = sym y.1.nothing ∙ is in absurd (cc);
+            stays = λ g is. let both : None ≡ Some g = sym y.1.nothing ∙ is in absurd (cc);
             anew = λ nothing. rw y.0 at there;
           }) (z nowhere.nothing),
     )))
@@ -154,15 +143,16 @@ opened handle name file n a b c link turn =
     learns_then (λ s. target s name ≢ name) (λ s. Opens handle name (Ok file) s s) (λ s. Opens handle name (Ok file) s s) a b c link
     (learns (Opens handle name (Ok file)) (λ s. Opens handle name (Ok file) s s) n b c turn (λ s t x. (x.0, (refl, x.1, x.2, x.3)))) (λ s x y. y)
 
--- where the link leads
-abbrev pub LeadsTo : List ℕ → List ℕ → FolderState → Type 0
-LeadsTo name at s = (at ≡ target s name) × (target s (target s name) ≡ target s name)
-
 pub resolved : {P : Type 0} (text : P → List ℕ) (Known : FolderState → Type 0) (name : List ℕ) (path : P) (n : Answer) (a b c : Option History) →
     Learns Known a b → Turns (Resolves text name (Ok path)) n b c → Learns (LeadsTo name (text path)) a c
 resolved text Known name path n a b c known turn =
     learns_then Known (LeadsTo name (text path)) (LeadsTo name (text path)) a b c known
     (learns (Resolves text name (Ok path)) (LeadsTo name (text path)) n b c turn (λ s t x. (x.0, (x.1, x.2)))) (λ s x y. y)
+
+pub resolved_only : {P : Type 0} (text : P → List ℕ) (name : List ℕ) (path : P) (n : Answer) (a b : Option History) →
+    Turns (Resolves text name (Ok path)) n a b → Learns (LeadsTo name (text path)) a b
+resolved_only text name path n a b turn =
+    learns (Resolves text name (Ok path)) (LeadsTo name (text path)) n a b turn (λ s t x. (x.0, (x.1, x.2)))
 
 pub not_resolved : {P : Type 0} (text : P → List ℕ) (Known : FolderState → Type 0) (name bytes : List ℕ) (r : Result P Error)
     (result : Result (Unit {0}) Error) (n : Answer) (a b c : Option History) → IsErr result →
@@ -215,10 +205,36 @@ here_taken name found looked (Some h) (Some k) ok no_link looks taken =
     let seen : IsSeen name (Ok found) h.now = rw ok at looks.run.4.1 in
     let at : AllTaken name h.now = rw looks.run.4.0 at taken in rw (seen_no_link name found h.now no_link seen) at
 
-pub there_taken : (name at : List ℕ) (looked : Result (Option Found) Error) (a b c : Option History) → Learns (LeadsTo name at) a b →
-    Looks at looked b c → AtNow (AllTaken at) c → AtNow (TakenThere name) a
-there_taken name at looked None b c known looks taken = tt
-there_taken name at looked (Some h) None c known looks taken = absurd known.run
-there_taken name at looked (Some h) (Some k) None known looks taken = absurd looks.run
-there_taken name at looked (Some h) (Some k) (Some l) known looks taken =
-    let there : AllTaken at h.now = rw (looks.run.4.0 ∙ known.run.4.0) at taken in rw known.run.4.1.0 at there
+pub there_taken : (name at : List ℕ) (a b : Option History) → Learns (LeadsTo name at) a b → AtNow (AllTaken at) b → AtNow (TakenThere name) a
+there_taken name at None b known taken = tt
+there_taken name at (Some h) None known taken = absurd known.run
+there_taken name at (Some h) (Some k) known taken =
+    let there : AllTaken at h.now = rw known.run.4.0 at taken in rw known.run.4.1.0 at there
+
+-- a save after calls that have changed nothing
+links_from : (name : List ℕ) (h k : History) → k.now ≡ h.now → LeadsNowhere k.now name → LeadsNowhere h.now name
+links_from name h k same x = rw same at x
+
+reason_from : (name : List ℕ) (h k l : History) → h.refusals ≤ k.refusals → k.now ≡ h.now →
+    MustBeInPlace (target k.now name) k l ⊎ LeadsNowhere k.now name → MustBeInPlace (target h.now name) h l ⊎ LeadsNowhere h.now name
+reason_from name h k l more same (inl must) =
+    let leads : target k.now name ≡ target h.now name = ap (λ s. target s name) same in
+    let at : MustBeInPlace (target h.now name) k l = rw leads at must in inl (must_from (target h.now name) h k l more same at)
+reason_from name h k l more same (inr nowhere) = inr (links_from name h k same nowhere)
+
+pub saves_after : (P : FolderState → Type 0) (name bytes : List ℕ) (result : Result (Unit {0}) Error) (a b c : Option History) → Learns P a b →
+    Saves name bytes result b c → Saves name bytes result a c
+saves_after P name bytes result a b c known (inl x) =
+    inl (runs_then a b c known x (λ s t y. keeps_none (target s name) bytes s t y)
+    (λ h k u y z. rw y.0 at z)
+    (λ h k l y z. rw y.0 at z))
+saves_after P name bytes result a b c known (inr x) =
+    inr (runs_then a b c (runs_counted a b known) x (λ s t y. tears_less (target s name) bytes s t (keeps_none (target s name) bytes s t y))
+    (λ h k u y z. rw y.1.0 at z)
+    (λ h k l y z.
+    let leads : target k.now name ≡ target h.now name = ap (λ s. target s name) y.1.0 in
+    let there : AfterOk result (IsInPlace (target h.now name) bytes k l) = rw leads at z.1 in (
+      reason_from name h k l y.0 y.1.0 z.0,
+      after_ok_map result (IsInPlace (target h.now name) bytes k l) (IsInPlace (target h.now name) bytes h l)
+          (in_place_from (target h.now name) bytes h k l y.1.0) there,
+    )))

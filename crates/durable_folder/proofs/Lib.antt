@@ -1,13 +1,17 @@
 mod Bearing
 mod Blocks
 mod Causing
+mod Claiming
 mod Filling
 mod Finishing
 mod Heads
 mod Leading
+mod Learning
 mod Making
+mod Overwriting
 mod Passing
 mod Putting
+mod Reading
 mod Replacements
 mod Tearing
 mod Versions

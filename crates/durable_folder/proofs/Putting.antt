@@ -11,7 +11,7 @@ use Rattle.durable_folder.specs.Calls.{SparesFiles, Moves, Renames, Drops, Remov
 use Rattle.durable_folder.specs.Counting.{is_unable, is_refusal, if_so, these_if, error_answer, answer_to_sync_folder}
 use Rattle.durable_folder.specs.Answers.{refusal_of, sync_answer, unless_unable, IsLate, IsSettled}
 use Rattle.durable_folder.specs.Places.{folder_of}
-use Rattle.durable_folder.specs.Histories.{History, Turns, IsPlaceOf, Answer, CannotSync}
+use Rattle.durable_folder.specs.Histories.{History, Turns, IsPlaceOf, Answer, CannotSync, HasFile}
 use Rattle.durable_folder.specs.InPlace.{AfterOk}
 use Rattle.durable_folder.specs.Saving.{Shifts, PutEnds, Puts, MaySettle, SettlesFolder}
 use Rattle.durable_folder.proofs.Heads.{after_ok_map}
@@ -92,18 +92,34 @@ settled place r result a b settles turn = record {
       ));
 }
 
+-- a name of a folder that is synced, or is not, has the file that it had
+settled_now : (name place : List ℕ) (s t : FolderState) → place ≡ folder_of name → MaySettle place s t → file_of t name ≡ file_of s name
+settled_now name place s t is (inl same) = ap (λ u. file_of u name) same
+settled_now name place s t is (inr y) = ap (newest None) (y.here name (sym is))
+
+settled_sync : (name place : List ℕ) (s : FolderState) (l : History) → place ≡ folder_of name →
+    SettlesNames place s l.now ⊎ SomeOf (λ p. p ≡ place) l.unsynced → (l.now.names name ≡ file_of s name ∷ []) ⊎ CannotSync name l
+settled_sync name place s l is (inl y) = inl (y.here name (sym is))
+settled_sync name place s l is (inr cannot) = inr (rw is at cannot)
+
+pub settled_file : (name place : List ℕ) (s : FolderState) (l : History) → place ≡ folder_of name → MaySettle place s l.now →
+    SettlesNames place s l.now ⊎ SomeOf (λ p. p ≡ place) l.unsynced → HasFile name (file_of s name) l
+settled_file name place s l is may synced = (settled_now name place s l.now is may, settled_sync name place s l is synced)
+
 -- what is at the name then
-done_put : (beside name place : List ℕ) (s t : FolderState) (l : History) → place ≡ folder_of name → Moves beside name s t →
-    SettlesNames place t l.now ⊎ SomeOf (λ p. p ≡ place) l.unsynced → (l.now.names name ≡ file_of s beside ∷ []) ⊎ CannotSync name l
-done_put beside name place s t l is m (inl y) = inl (y.here name (sym is) ∙ ap (λ names. newest None names ∷ []) m.arrives)
-done_put beside name place s t l is m (inr cannot) = inr (rw is at cannot)
+done_put : (beside name place : List ℕ) (s t : FolderState) (l : History) → place ≡ folder_of name → Moves beside name s t → MaySettle place t l.now →
+    SettlesNames place t l.now ⊎ SomeOf (λ p. p ≡ place) l.unsynced → HasFile name (file_of s beside) l
+done_put beside name place s t l is m may synced =
+    let arrived : file_of t name ≡ file_of s beside = ap (newest None) m.arrives in
+    let has : HasFile name (file_of t name) l = settled_file name place t l is may synced in
+    rw arrived at has
 
 pub put_err : (beside name : List ℕ) (r : Result Replaced Error) (h k : History) → IsErr r → PutEnds beside name r h k
 put_err beside name (Ok done) h k err = absurd (cc)
 put_err beside name (Err error) h k err = tt
 
 ends_put : (beside name : List ℕ) (r : Result (Unit {0}) Error) (result : Result Replaced Error) (h k : History) →
-    IsErr result ⊎ ((r ≡ Ok tt) × (result ≡ Ok replaced.Done)) → AfterOk r ((k.now.names name ≡ file_of h.now beside ∷ []) ⊎ CannotSync name k) →
+    IsErr result ⊎ ((r ≡ Ok tt) × (result ≡ Ok replaced.Done)) → AfterOk r (HasFile name (file_of h.now beside) k) →
     PutEnds beside name result h k
 ends_put beside name r result h k (inl err) x = put_err beside name result h k err
 ends_put beside name (Ok done) result h k (inr ok) x = rw ok.1 x
@@ -120,8 +136,8 @@ put_settled_told beside name place n r result a b c why is first last = record {
         synced_shifts beside name place h.now k.now l.now (renames_shifts beside name (Ok tt) h.now k.now x.0 differ) y.0,
         ends_put beside name r result h l why
             (after_ok_map r (SettlesNames place k.now l.now ⊎ SomeOf (λ p. p ≡ place) l.unsynced)
-            ((l.now.names name ≡ file_of h.now beside ∷ []) ⊎ CannotSync name l)
-            (λ x2. done_put beside name place h.now k.now l is (x.0.0 differ) x2) y.1),
+            (HasFile name (file_of h.now beside) l)
+            (λ synced. done_put beside name place h.now k.now l is (x.0.0 differ) y.0 synced) y.1),
       ));
 }
 

@@ -1,7 +1,8 @@
 -- What a replacement leaves.
 use Rattle.std.proofs.Common.{◌≡◌, ◌≢◌, inl, inr, ℕ, List, [], ◌∷◌, Option, None, Some, refl, sym, ap, ◌∙◌}
-use Rattle.durable_folder.specs.FolderState.{FolderState, SomeOf, MayHold, LeavesOf, Leaves, IsDurable, file_of, newest}
+use Rattle.durable_folder.specs.FolderState.{FolderState, SomeOf, MayHold, LeavesOf, Leaves, file_of, newest}
 use Rattle.durable_folder.specs.Calls.{SparesNames, SparesFiles}
+use Rattle.durable_folder.specs.Histories.{History, HasFile, IsSaved}
 use Rattle.durable_folder.specs.Saving.{KeepsOrReplaces, IsOther, IsNew, Prepares, Shifts}
 use Rattle.durable_folder.proofs.Blocks.{holds_one}
 
@@ -85,12 +86,17 @@ shifts_keeps name beside bytes f s t u new named whole shifts = record {
       (entry_some (LeavesOf t left) e.0 (t.names n) (shifts.others n away apart e.0 e.1) (leaves_of_files t u left e.0 shifts.files.files e.2));
 }
 
-pub durable_put : (name beside bytes : List ℕ) (f : ℕ) (t u : FolderState) → file_of t beside ≡ Some f → t.files f ≡ bytes ∷ [] → SparesFiles t u →
-    u.names name ≡ file_of t beside ∷ [] →
-    IsDurable u name bytes
-durable_put name beside bytes f t u named whole files is left x =
-    let at : SomeOf (LeavesOf u left) (Some f ∷ []) = rw (is, named) at x in
-    elim at [ inl y ↦ leaves_bytes u f bytes left (Some f) refl (files.files f ∙ whole) y | inr none ↦ absurd none ]
+-- a name that has a file which was synced with these bytes
+pub saved_file : (name bytes : List ℕ) (f : ℕ) (k : History) → HasFile name (Some f) k → k.now.files f ≡ bytes ∷ [] → IsSaved name bytes k
+saved_file name bytes f k has whole = (
+  (f, has.0, whole),
+  elim has.1 [
+    | inl is ↦ inl (λ left x.
+        let at : SomeOf (LeavesOf k.now left) (Some f ∷ []) = rw is at x in
+        elim at [ inl y ↦ leaves_bytes k.now f bytes left (Some f) refl whole y | inr none ↦ absurd none ])
+    | inr cannot ↦ inr cannot
+  ],
+)
 
 -- a new file that is put aside is only a new file
 pub aside_prepares : (name beside : List ℕ) (f : ℕ) (s t u : FolderState) → IsNew name beside f s t →

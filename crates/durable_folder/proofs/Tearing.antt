@@ -7,9 +7,9 @@ use Rattle.durable_folder.specs.declared.answers.Replaced.{Replaced}
 use Rattle.durable_folder.specs.declared.answers.Replaced.TheVariants as replaced
 use Rattle.durable_folder.specs.declared.folder.Found.{Found}
 use Rattle.durable_folder.specs.declared.replacing.Owner.{Owner}
-use Rattle.durable_folder.specs.FolderState.{FolderState, SomeOf, MayHold, LeavesOf, IsDurable, IsShared, file_of, target}
+use Rattle.durable_folder.specs.FolderState.{FolderState, SomeOf, MayHold, LeavesOf, IsShared, file_of, target}
 use Rattle.durable_folder.specs.Calls.{Handle, SparesNames, OfFile, Opens, IsFound, if_plain}
-use Rattle.durable_folder.specs.Histories.{History, Turns, Runs, Answer, CannotSync}
+use Rattle.durable_folder.specs.Histories.{History, Turns, Runs, Answer, IsSaved}
 use Rattle.durable_folder.specs.InPlace.{AfterOk, Overwrites, WritesOver}
 use Rattle.durable_folder.specs.Places.{folder_of}
 use Rattle.durable_folder.specs.Saving.{IsOther, KeepsOrReplaces, Prepares, ReplaceOrNotEnds, ReplacesOrNot}
@@ -17,6 +17,7 @@ use Rattle.durable_folder.specs.Ways.{IsTornLeft, KeepsOrTears, IsSpecial, MustB
 use Rattle.durable_folder.proofs.Heads.{after_ok_map, after_err}
 use Rattle.durable_folder.proofs.Passing.{runs_of, runs_weaker, runs_then, runs_counted}
 use Rattle.durable_folder.proofs.Replacements.{taken_apart, prepares_keeps}
+use Rattle.durable_folder.proofs.Writing.{of_file_names}
 use Rattle.std.proofs.lemmas.Bool.{cases_lt}
 
 same_or_not : (f g : ℕ) → (f ≡ g) ⊎ (f ≢ g)
@@ -114,13 +115,13 @@ pub not_opened : {X : Type 0} (handle : X → Handle) (name : List ℕ) (Known :
     Turns (Opens handle name r) n a b → SavesAt Known name bytes result a b
 not_opened handle name Known bytes r result n a b err turn =
     inl (runs_weaker a b (runs_of (Opens handle name r) n a b turn) (λ s t x. keeps_none name bytes s t (opens_stays handle name r s t x))
-    (λ h k x. after_err result (IsDurable k.now name bytes ⊎ CannotSync name k) err))
+    (λ h k x. after_err result (IsSaved name bytes k) err))
 
 -- a replacement that comes to an end
 pub by_new : {X : Type 0} (handle : X → Handle) (name : List ℕ) (Known : FolderState → Type 0) (bytes : List ℕ) (r : Result X Error)
     (owner : Option Owner) (replaced : Result Replaced Error) (result : Result (Unit {0}) Error)
-    (n : Answer) (a b c : Option History) → ((h k : History) → ReplaceOrNotEnds name owner bytes replaced h k →
-    AfterOk result (IsDurable k.now name bytes ⊎ CannotSync name k)) →
+    (n : Answer) (a b c : Option History) →
+    ((h k : History) → ReplaceOrNotEnds name owner bytes replaced h k → AfterOk result (IsSaved name bytes k)) →
     Turns (Opens handle name r) n a b → ReplacesOrNot name owner bytes replaced b c → SavesAt Known name bytes result a c
 by_new handle name Known bytes r owner replaced result n a b c ends turn replaces =
     inl (runs_then a b c (runs_of (Opens handle name r) n a b turn) replaces (λ s t x. keeps_none name bytes s t (opens_stays handle name r s t x))
@@ -129,7 +130,7 @@ by_new handle name Known bytes r owner replaced result n a b c ends turn replace
 
 pub ends_done : (name : List ℕ) (owner : Option Owner) (bytes : List ℕ) (r : Result Replaced Error) (answer : Replaced) → r ≡ Ok answer →
     answer ≡ replaced.Done → (h k : History) →
-    ReplaceOrNotEnds name owner bytes r h k → IsDurable k.now name bytes ⊎ CannotSync name k
+    ReplaceOrNotEnds name owner bytes r h k → IsSaved name bytes k
 ends_done name owner bytes (Ok replaced.Done) answer is done h k x = x
 ends_done name owner bytes (Ok replaced.Refused) answer is done h k x = absurd (cc)
 ends_done name owner bytes (Err e) answer is done h k x = absurd (cc)
@@ -145,7 +146,7 @@ opened_file handle name opened s t x g is =
     let at : if_plain (s.fixed.is_plain x.1) x.1 ≡ Some g = sym (ap (λ h. h.file) x.3) ∙ is in
     x.2 ∙ ap Some (plain_is (s.fixed.is_plain x.1) x.1 g at)
 
-opened_plain : {X : Type 0} (handle : X → Handle) (name : List ℕ) (opened : X) (s t : FolderState) → Opens handle name (Ok opened) s t →
+pub opened_plain : {X : Type 0} (handle : X → Handle) (name : List ℕ) (opened : X) (s t : FolderState) → Opens handle name (Ok opened) s t →
     (g : ℕ) → file_of s (target s name) ≡ Some g → s.fixed.is_plain g ≡ true → (handle opened).file ≡ Some g
 opened_plain handle name opened s t x g is plain =
     let both : Some x.1 ≡ Some g = sym x.2 ∙ is in
@@ -154,10 +155,11 @@ opened_plain handle name opened s t x g is plain =
 
 -- it was opened, so it is in place
 pub arrived : {X : Type 0} (handle : X → Handle) (name : List ℕ) (opened : X) (bytes : List ℕ) (h k : History) →
-    Opens handle name (Ok opened) h.now h.now → ((g : ℕ) → (handle opened).file ≡ Some g → k.now.files g ≡ bytes ∷ []) →
-    IsInPlace (target h.now name) bytes h k
-arrived handle name opened bytes h k x has = record {
+    Opens handle name (Ok opened) h.now h.now → k.now.names (target h.now name) ≡ h.now.names (target h.now name) →
+    ((g : ℕ) → (handle opened).file ≡ Some g → k.now.files g ≡ bytes ∷ []) → IsInPlace (target h.now name) bytes h k
+arrived handle name opened bytes h k x same has = record {
   over = λ g is plain. has g (opened_plain handle name opened h.now h.now x g is plain);
+  stays = λ g is. same;
   anew = λ none. let no : None ≡ Some x.1 = sym none ∙ x.2 in absurd (cc);
 }
 
@@ -179,8 +181,10 @@ pub over_arrived : {X : Type 0} (handle : X → Handle) (name : List ℕ) (opene
     AfterOk result (IsInPlace (target h.now name) bytes h l)
 over_arrived handle name opened bytes result h k l x y =
     let both = over_bytes bytes result (handle opened).file k.now l.now y in
-    after_ok_map result ((g : ℕ) → (handle opened).file ≡ Some g → l.now.files g ≡ bytes ∷ []) (IsInPlace (target h.now name) bytes h l)
-    (λ has. arrived handle name opened bytes h l x.opens has) both.1
+    let at = target h.now name in
+    let same = of_file_names (Overwrites bytes) (handle opened).file k.now l.now both.0 at ∙ prepared_names at h.now k.now x.prepares at (inl refl) in
+    after_ok_map result ((g : ℕ) → (handle opened).file ≡ Some g → l.now.files g ≡ bytes ∷ []) (IsInPlace at bytes h l)
+    (λ has. arrived handle name opened bytes h l x.opens same has) both.1
 
 pub opened_for : {X : Type 0} (handle : X → Handle) (name : List ℕ) (opened : X) (h k : History) → h.refusals ≤ k.refusals →
     Opens handle name (Ok opened) h.now k.now → OpenedFor handle name opened h k

@@ -28,6 +28,11 @@ of_file_then P Q R None s t u x y f = y ∙ x
 of_file_then P Q R (Some file) s t u x y f =
     (spares_names_then file s t u x.0 y.0, f (s.files file) (t.files file) (u.files file) x.1 y.1)
 
+-- no name changes with a file
+pub of_file_names : (P : Change) (file : Option ℕ) (s t : FolderState) → OfFile P file s t → (n : List ℕ) → t.names n ≡ s.names n
+of_file_names P None s t x n = ap (λ u. u.names n) x
+of_file_names P (Some f) s t x n = x.0.names n
+
 -- what stays, seen as a change of a file
 pub of_file_stays : (P : Change) (file : Option ℕ) (s t : FolderState) → t ≡ s → ((vs : List (List ℕ)) → P vs vs) → OfFile P file s t
 of_file_stays P None s t same p = same

@@ -1,16 +1,25 @@
 -- What each call of a folder does to it.
-use Rattle.std.specs.Prelude.{◌≡◌, ◌≢◌, ◌⊎◌, ℕ, ◌+◌, ◌<◌, ◌≤◌, max, Bool, true, false, List, [], ◌∷◌, length, Option, None, Some, Result, Ok, Err}
+use Rattle.std.specs.Prelude.{◌≡◌, ◌≢◌, ◌⊎◌, ℕ, ◌+◌, ◌<◌, ◌≤◌, max, Bool, true, false, List, [], ◌∷◌, length, take, drop, Option, None, Some, Result, Ok, Err, Vec}
 use Rattle.std.specs.IoError.{error_kind}
+use Rattle.std.specs.Global.{Global}
 use Rattle.std.specs.declared.io.Error.{Error}
 use Rattle.std.specs.declared.io.ErrorKind.TheVariants as kind
 use Rattle.durable_folder.specs.declared.folder.Found.{Found}
-use Rattle.durable_folder.specs.FolderState.{FolderState, SomeOf, MayHold, IsFree, IsShared, file_of, target, byte_at, newest}
+use Rattle.durable_folder.specs.declared.folder.Lock.{Lock}
+use Rattle.durable_folder.specs.declared.folder.Lock.TheVariants as lock
+use Rattle.durable_folder.specs.FolderState.{FolderState, SomeOf, MayHold, IsFree, IsShared, file_of, bytes_of, target, byte_at, newest}
 use Rattle.durable_folder.specs.Places.{folder_of}
 
--- A file that was opened, if it is a plain one, and where the next bytes go.
+-- A file that was opened, if it is a plain one, where the next bytes go or come from, and whether it holds the file's
+-- lock, as far as the system knows locks.
 pub record Handle : Type 0 where
   pub file : Option ℕ
   pub offset : ℕ
+  pub is_held : Bool
+
+-- this file, at its start, without its lock
+abbrev pub opened_at : Option ℕ → Handle
+opened_at file = record { file = file; offset = 0; is_held = false }
 
 -- what stays where only this name and this file change
 pub record Spares (name : List ℕ) (file : ℕ) (s t : FolderState) : Type 0 where
@@ -57,16 +66,46 @@ if_plain false file = None
 abbrev pub Opens : {F : Type 0} → (F → Handle) → List ℕ → Result F Error → FolderState → FolderState → Type 0
 Opens handle name (Ok opened) s t =
     (t ≡ s) × (file : ℕ) × (file_of s (target s name) ≡ Some file) ×
-    (handle opened ≡ record { file = if_plain (s.fixed.is_plain file) file; offset = 0 })
+    (handle opened ≡ opened_at (if_plain (s.fixed.is_plain file) file))
 Opens handle name (Err error) s t =
     (t ≡ s) × (error_kind error ≡ kind.NotFound → file_of s (target s name) ≡ None)
+
+-- What was found is still so of this file: it is that one, has as many bytes, and was last written then.
+pub record IsUnchanged (found : Found) (file : ℕ) (s : FolderState) : Type 0 where
+  pub device : found.device ≡ s.fixed.device file
+  pub inode : found.inode ≡ s.fixed.inode file
+  pub size : found.size ≡ length (bytes_of s file)
+  pub seconds : found.seconds ≡ s.seconds file
+  pub billionths : found.billionths ≡ s.billionths file
 
 -- what is told of an open file
 abbrev pub FindsOpen : Handle → Result Found Error → FolderState → FolderState → Type 0
 FindsOpen handle (Ok found) s t =
     (t ≡ s) × (found.is_file ≡ false → handle.file ≡ None) ×
-    ((file : ℕ) → handle.file ≡ Some file → (found.device ≡ s.fixed.device file) × (found.inode ≡ s.fixed.inode file))
+    ((file : ℕ) → handle.file ≡ Some file → IsUnchanged found file s) × (handle.file ≡ None → found.is_file ≡ false)
 FindsOpen handle (Err error) s t = t ≡ s
+
+-- The bytes of an open file are read from where the next ones come, or as many of them as this.
+abbrev pub Reads : Handle → ℕ → Result (Vec ℕ Global) Error → FolderState → FolderState → Type 0
+Reads before most (Ok bytes) s t =
+    (t ≡ s) × ((file : ℕ) → before.file ≡ Some file → bytes.items ≡ take most (drop before.offset (bytes_of s file)))
+Reads before most (Err error) s t = t ≡ s
+
+-- whether the answer is that another program holds the lock
+abbrev pub is_elsewhere : Result Lock Error → Bool
+is_elsewhere (Ok lock.Elsewhere) = true
+is_elsewhere _ = false
+
+-- an open file after its lock was asked for
+abbrev pub locked_by : Result Lock Error → Handle → Handle
+locked_by (Ok lock.Elsewhere) handle = handle
+locked_by _ handle = record handle { is_held = true }
+
+-- The lock of an open file is taken, unless another program holds it. Any error is taken to say that there are no locks.
+abbrev pub Locks : Handle → Handle → Result Lock Error → FolderState → FolderState → Type 0
+Locks before after result s t =
+    (t ≡ s) × ((file : ℕ) → before.file ≡ Some file → s.fixed.is_taken file ≡ is_elsewhere result) ×
+    (after ≡ locked_by result before)
 
 -- a folder is opened, and its device told
 abbrev pub OpensFolder : {P : Type 0} → (P → List ℕ) → List ℕ → Result P Error → FolderState → FolderState → Type 0
@@ -88,7 +127,7 @@ pub record Makes (file : ℕ) (name : List ℕ) (s t : FolderState) : Type 0 whe
 
 abbrev pub Creates : {F : Type 0} → (F → Handle) → List ℕ → Result F Error → FolderState → FolderState → Type 0
 Creates handle name (Ok opened) s t =
-    (file : ℕ) × (handle opened ≡ record { file = Some file; offset = 0 }) × Makes file name s t
+    (file : ℕ) × (handle opened ≡ opened_at (Some file)) × Makes file name s t
 Creates handle name (Err error) s t = (t ≡ s) × (error_kind error ≡ kind.AlreadyExists → file_of s name ≢ None)
 
 -- the file to which the name leads is opened, or made where there is none

@@ -4,6 +4,8 @@ use Rattle.std.specs.IoError.{error_kind}
 use Rattle.std.specs.declared.io.Error.{Error}
 use Rattle.std.specs.declared.io.ErrorKind.{ErrorKind}
 use Rattle.std.specs.declared.io.ErrorKind.TheVariants as kind
+use Rattle.durable_folder.specs.declared.folder.Lock.{Lock}
+use Rattle.durable_folder.specs.declared.folder.Lock.TheVariants as lock
 use Rattle.durable_folder.specs.Histories.{Answer}
 
 -- by the kind of an error, whether the system gave no leave
@@ -70,6 +72,11 @@ answer_to (Err error) = error_answer never error
 abbrev pub answer_to_find : {T : Type 0} → Result T Error → Answer
 answer_to_find (Ok x) = quiet
 answer_to_find (Err error) = error_answer is_absence error
+
+-- another program that holds the lock gives no leave for what has to be, and where there are no locks none is needed
+abbrev pub answer_to_lock : Result Lock Error → Answer
+answer_to_lock (Ok lock.Elsewhere) = record { refusals = 0; failures = 1; unsynced = [] }
+answer_to_lock _ = quiet
 
 -- A new file is not needed where there is no leave for it, and another name is tried where there is something.
 abbrev pub is_passed_over : ErrorKind → Bool

@@ -1,5 +1,5 @@
 -- What a loss of power leaves of a folder.
-use Rattle.std.specs.Prelude.{◌≡◌, ◌≢◌, ◌⊎◌, ℕ, ◌+◌, ◌*◌, ◌<◌, ◌≤◌, Bool, List, [], ◌∷◌, length, Option, None, Some, slice_index}
+use Rattle.std.specs.Prelude.{◌≡◌, ◌≢◌, ◌⊎◌, ℕ, ℤ, ◌+◌, ◌*◌, ◌<◌, ◌≤◌, Bool, List, [], ◌∷◌, length, Option, None, Some, slice_index}
 
 -- What no call of a save changes.
 pub record Fixed : Type 0 where
@@ -11,6 +11,8 @@ pub record Fixed : Type 0 where
   pub device : ℕ → ℕ
   pub inode : ℕ → ℕ
   pub folder_device : List ℕ → ℕ
+  -- of which file the system says that another program holds its lock
+  pub is_taken : ℕ → Bool
 
 -- A folder as a loss of power sees it. What stands at a name is a file, and a file is a number: two names can have one.
 pub record FolderState : Type 0 where
@@ -18,6 +20,9 @@ pub record FolderState : Type 0 where
   pub names : List ℕ → List (Option ℕ)
   -- the bytes that a plain file had since it was synced, the newest first
   pub files : ℕ → List (List ℕ)
+  -- when a file was last written, in seconds and in billionths more
+  pub seconds : ℕ → ℤ
+  pub billionths : ℕ → ℤ
   pub fixed : Fixed
 
 -- the first, or this where there is none
@@ -83,6 +88,10 @@ LeavesOf s left (Some file) = (bytes : List ℕ) × MayHold (s.files file) bytes
 -- a loss of power may leave this at the name
 abbrev pub Leaves : FolderState → List ℕ → Option (List ℕ) → Type 0
 Leaves s name left = SomeOf (LeavesOf s left) (s.names name)
+
+-- the name has a file now that was synced with these bytes, so they are read there
+abbrev pub HasNow : FolderState → List ℕ → List ℕ → Type 0
+HasNow s name bytes = (file : ℕ) × (file_of s name ≡ Some file) × (s.files file ≡ bytes ∷ [])
 
 -- it leaves these bytes there and nothing else
 abbrev pub IsDurable : FolderState → List ℕ → List ℕ → Type 0

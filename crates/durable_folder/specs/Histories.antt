@@ -1,7 +1,7 @@
 -- The states through which a folder goes.
-use Rattle.std.specs.Prelude.{◌≡◌, ℕ, ◌+◌, ◌≤◌, List, ◌∷◌, ◌++◌, Option, None, Some}
+use Rattle.std.specs.Prelude.{◌≡◌, ◌⊎◌, ℕ, ◌+◌, ◌≤◌, List, [], ◌∷◌, ◌++◌, Option, None, Some}
 use Rattle.std.specs.List.{AllByRecursion}
-use Rattle.durable_folder.specs.FolderState.{FolderState, SomeOf}
+use Rattle.durable_folder.specs.FolderState.{FolderState, SomeOf, IsDurable, HasNow, file_of}
 use Rattle.durable_folder.specs.Places.{folder_of}
 
 -- The state of a folder, those before it, the newest first, and what the system has answered so far.
@@ -33,6 +33,15 @@ Turns step answer _ _ = ⊥
 abbrev pub CannotSync : List ℕ → History → Type 0
 CannotSync name h = SomeOf (λ place. place ≡ folder_of name) h.unsynced
 
+-- the name has this file now, and no other after a loss of power, unless its folder cannot be synced
+abbrev pub HasFile : List ℕ → Option ℕ → History → Type 0
+HasFile name file h = (file_of h.now name ≡ file) × ((h.now.names name ≡ file ∷ []) ⊎ CannotSync name h)
+
+-- The name has a file now that was synced with these bytes, and a loss of power leaves them there and nothing else, unless
+-- its folder cannot be synced.
+abbrev pub IsSaved : List ℕ → List ℕ → History → Type 0
+IsSaved name bytes h = HasNow h.now name bytes × (IsDurable h.now name bytes ⊎ CannotSync name h)
+
 -- Since the first history, every state stands in this relation to the first one, and the last history in that relation
 -- to it. Refusals were not forgotten.
 abbrev pub Passes : (FolderState → FolderState → Type 0) → (History → History → Type 0) → Option History → Option History → Type 0
@@ -45,6 +54,14 @@ Passes every last _ _ = ⊥
 -- the same, as a fact by which its parts are found
 pub record Runs (every : FolderState → FolderState → Type 0) (last : History → History → Type 0) (old new : Option History) : Type 0 where
   pub run : Passes every last old new
+
+-- Nothing has changed, and this holds of the state.
+abbrev pub Learns : (FolderState → Type 0) → Option History → Option History → Type 0
+Learns P = Runs (λ s t. t ≡ s) (λ h k. (k.now ≡ h.now) × P h.now)
+
+-- nothing has changed
+abbrev pub Rests : Option History → Option History → Type 0
+Rests = Runs (λ s t. t ≡ s) (λ h k. k.now ≡ h.now)
 
 -- it tells its states
 abbrev pub IsTold : Option History → Type 0

@@ -1,5 +1,5 @@
 -- What is left of a file that is written in place.
-use Rattle.std.specs.Prelude.{◌≡◌, ◌⊎◌, ℕ, ◌<◌, ◌≤◌, min, List, [], ◌∷◌, length, Option, Result, Ok, Err}
+use Rattle.std.specs.Prelude.{◌≡◌, ◌⊎◌, ℕ, ◌<◌, ◌≤◌, min, List, [], ◌∷◌, length, Option, None, Result, Ok, Err}
 use Rattle.std.specs.declared.io.Error.{Error}
 use Rattle.durable_folder.specs.FolderState.{MayHold, byte_at, block_bytes}
 use Rattle.durable_folder.specs.Calls.{Handle, OfFile}
@@ -52,6 +52,10 @@ IsHead head bytes = head ≡ min (length bytes) block_bytes
 -- Of one file: every state since the first one, and the last one.
 pub record FileRuns (file : Option ℕ) (every last : List (List ℕ) → List (List ℕ) → Type 0) (old new : Option History) : Type 0 where
   pub run : Runs (OfFile every file) (λ h k. OfFile last file h.now k.now) old new
+
+-- nothing has changed, and what is open is no plain file
+abbrev pub IsNoFile : Option ℕ → Option History → Option History → Type 0
+IsNoFile file = Runs (λ s t. t ≡ s) (λ h k. (k.now ≡ h.now) × (file ≡ None))
 
 -- What clearing the head of a file does, where the next bytes go to its start.
 abbrev pub ClearsHead : Handle → Result (Unit {0}) Error → Option History → Option History → Type 0

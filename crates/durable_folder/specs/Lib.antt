@@ -5,6 +5,7 @@ pub mod Counting
 pub mod FolderState
 pub mod Histories
 pub mod InPlace
+pub mod Locking
 pub mod NewFiles
 pub mod Places
 pub mod Saving

@@ -4,11 +4,11 @@ use Rattle.std.specs.IoError.{error_kind}
 use Rattle.std.specs.declared.io.Error.{Error}
 use Rattle.durable_folder.specs.declared.answers.Replaced.{Replaced}
 use Rattle.durable_folder.specs.declared.answers.Replaced.TheVariants as replaced
-use Rattle.durable_folder.specs.FolderState.{FolderState, SomeOf, Leaves, IsDurable, file_of}
+use Rattle.durable_folder.specs.FolderState.{FolderState, SomeOf, Leaves, file_of}
 use Rattle.std.specs.declared.io.ErrorKind.TheVariants as kind
-use Rattle.durable_folder.specs.Calls.{Handle, Spares, SparesFiles, OfFile, Creates, SettlesNames}
+use Rattle.durable_folder.specs.Calls.{Handle, Spares, SparesFiles, OfFile, Creates, SettlesNames, opened_at}
 use Rattle.durable_folder.specs.Counting.{is_refusal, is_passed_over, quiet, error_answer}
-use Rattle.durable_folder.specs.Histories.{History, Turns, Runs, CannotSync}
+use Rattle.durable_folder.specs.Histories.{History, Turns, Runs, HasFile, IsSaved}
 use Rattle.durable_folder.specs.Places.{folder_of, IsLeftover}
 use Rattle.durable_folder.specs.declared.replacing.Owner.{Owner}
 use Rattle.durable_folder.specs.InPlace.{AfterOk, FileRuns}
@@ -41,7 +41,7 @@ WasRefused error h k = is_refusal (error_kind error) ≡ true → h.refusals < k
 
 -- A new file was made: it is open, empty, and has this name.
 pub record IsMade (handle : Handle) (name beside : List ℕ) (file : ℕ) (s t : FolderState) : Type 0 where
-  pub opened : handle ≡ record { file = Some file; offset = 0 }
+  pub opened : handle ≡ opened_at (Some file)
   pub new : IsNew name beside file s t
   pub named : file_of t beside ≡ Some file
   pub empty : t.files file ≡ [] ∷ []
@@ -63,10 +63,6 @@ MakesNew handle beside name (Err error) = Runs (Prepares name) (λ h k. (k.now �
 -- the owner and the mode were given, or the system gave no leave
 abbrev pub Gives : Bool → Option History → Option History → Type 0
 Gives given = Runs (λ s t. t ≡ s) (λ h k. (k.now ≡ h.now) × (given ≡ false → h.refusals < k.refusals))
-
--- nothing has changed
-abbrev pub Rests : Option History → Option History → Type 0
-Rests = Runs (λ s t. t ≡ s) (λ h k. k.now ≡ h.now)
 
 -- an empty file gets these bytes durably where the answer is Ok
 abbrev pub WritesWhole : Handle → List ℕ → Result (Unit {0}) Error → Option History → Option History → Type 0
@@ -100,8 +96,7 @@ pub record Shifts (beside name : List ℕ) (s t : FolderState) : Type 0 where
 
 -- what putting the new file in its place comes to
 abbrev pub PutEnds : List ℕ → List ℕ → Result Replaced Error → History → History → Type 0
-PutEnds beside name (Ok replaced.Done) h k =
-    (k.now.names name ≡ file_of h.now beside ∷ []) ⊎ CannotSync name k
+PutEnds beside name (Ok replaced.Done) h k = HasFile name (file_of h.now beside) k
 PutEnds beside name (Ok replaced.Refused) h k =
     ((n : List ℕ) → n ≢ beside → k.now.names n ≡ h.now.names n) × (h.refusals < k.refusals)
 PutEnds beside name (Err error) h k = Unit {0}
@@ -133,7 +128,7 @@ Ends beside name filled result = Runs (FinishSteps beside name filled) (FinishEn
 
 -- what a replacement comes to, from the state before the new file was made
 abbrev pub ReplaceEnds : List ℕ → List ℕ → Result Replaced Error → FolderState → History → History → Type 0
-ReplaceEnds name bytes (Ok replaced.Done) s h k = IsDurable k.now name bytes ⊎ CannotSync name k
+ReplaceEnds name bytes (Ok replaced.Done) s h k = IsSaved name bytes k
 ReplaceEnds name bytes (Ok replaced.Refused) s h k = Prepares name s k.now × (h.refusals < k.refusals)
 ReplaceEnds name bytes (Err error) s h k = Unit {0}
 
@@ -156,7 +151,7 @@ Mounted place owner result = Runs (λ s t. t ≡ s) (λ h k. (k.now ≡ h.now) �
 
 -- A replacement is refused where the system gives no leave, and where the file is a mount point.
 abbrev pub ReplaceOrNotEnds : List ℕ → Option Owner → List ℕ → Result Replaced Error → History → History → Type 0
-ReplaceOrNotEnds name owner bytes (Ok replaced.Done) h k = IsDurable k.now name bytes ⊎ CannotSync name k
+ReplaceOrNotEnds name owner bytes (Ok replaced.Done) h k = IsSaved name bytes k
 ReplaceOrNotEnds name owner bytes (Ok replaced.Refused) h k =
     Prepares name h.now k.now × (IsMounted (folder_of name) owner h.now ⊎ (h.refusals < k.refusals))
 ReplaceOrNotEnds name owner bytes (Err error) h k = Unit {0}

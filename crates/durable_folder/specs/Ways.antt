@@ -1,9 +1,9 @@
 -- How the bytes of a save come to a name.
 use Rattle.std.specs.Prelude.{◌≡◌, ◌≢◌, ◌⊎◌, ℕ, ◌<◌, ◌≤◌, Bool, true, false, List, [], ◌∷◌, Option, None, Some, Result, Ok, Err}
 use Rattle.std.specs.declared.io.Error.{Error}
-use Rattle.durable_folder.specs.FolderState.{FolderState, SomeOf, Leaves, IsDurable, IsFree, IsShared, file_of, target}
+use Rattle.durable_folder.specs.FolderState.{FolderState, SomeOf, Leaves, IsFree, IsShared, file_of, target}
 use Rattle.durable_folder.specs.Calls.{Spares, SparesFiles, IsFound}
-use Rattle.durable_folder.specs.Histories.{History, Runs, CannotSync}
+use Rattle.durable_folder.specs.Histories.{History, Runs, Learns, HasFile, IsSaved}
 use Rattle.durable_folder.specs.InPlace.{IsTorn, AfterOk, Overwrites}
 use Rattle.durable_folder.specs.Places.{folder_of}
 use Rattle.durable_folder.specs.Saving.{KeepsOrReplaces, IsOther}
@@ -53,16 +53,17 @@ abbrev pub MustBeInPlace : List ℕ → History → History → Type 0
 MustBeInPlace name h k =
     IsSpecial h.now name ⊎ (IsShared h.now name ⊎ (IsMountPoint h.now name ⊎ (h.refusals < k.refusals)))
 
--- The new bytes are there: durably in a plain file that was at the name, and, where there was nothing, durably at the
--- name, or the system cannot sync its folder.
+-- The new bytes are there: durably in a plain file that was at the name and still is, and, where there was nothing, saved
+-- at the name.
 pub record IsInPlace (name bytes : List ℕ) (h k : History) : Type 0 where
   pub over : (file : ℕ) → file_of h.now name ≡ Some file → h.now.fixed.is_plain file ≡ true → k.now.files file ≡ bytes ∷ []
-  pub anew : file_of h.now name ≡ None → IsDurable k.now name bytes ⊎ CannotSync name k
+  pub stays : (file : ℕ) → file_of h.now name ≡ Some file → k.now.names name ≡ h.now.names name
+  pub anew : file_of h.now name ≡ None → IsSaved name bytes k
 
--- The file was replaced, or stays: after Ok the new bytes are at the name durably, or the system cannot sync its folder.
+-- The file was replaced, or stays: after Ok the new bytes are saved at the name.
 abbrev pub SavesByNew : List ℕ → List ℕ → Result (Unit {0}) Error → Option History → Option History → Type 0
 SavesByNew name bytes result =
-    Runs (KeepsOrReplaces name bytes) (λ h k. AfterOk result (IsDurable k.now name bytes ⊎ CannotSync name k))
+    Runs (KeepsOrReplaces name bytes) (λ h k. AfterOk result (IsSaved name bytes k))
 
 -- The file was written in place, which had a reason, if this holds of the first state.
 abbrev pub SavesInPlace : (FolderState → Type 0) → List ℕ → List ℕ → Result (Unit {0}) Error → Option History →
@@ -119,18 +120,17 @@ pub record Settles (s t : FolderState) : Type 0 where
   pub names : (n : List ℕ) (f : Option ℕ) → SomeOf (λ g. g ≡ f) (t.names n) → SomeOf (λ g. g ≡ f) (s.names n)
   pub files : SparesFiles s t
 
--- After Ok the name has its file durably, or the system cannot sync its folder.
+-- After Ok the name has its file, durably unless the system cannot sync its folder.
 abbrev pub SyncsFolderOf : List ℕ → Result (Unit {0}) Error → Option History → Option History → Type 0
 SyncsFolderOf name result =
     Runs Settles
-    (λ h k. Settles h.now k.now × AfterOk result ((k.now.names name ≡ file_of h.now name ∷ []) ⊎ CannotSync name k))
+    (λ h k. Settles h.now k.now × AfterOk result (HasFile name (file_of h.now name) k))
 
 -- What making a file comes to that a link leads to.
 abbrev pub MakesThrough : List ℕ → List ℕ → Result (Unit {0}) Error → Option History → Option History → Type 0
 MakesThrough name bytes result =
     Runs (λ s t. file_of s (target s name) ≡ None → KeepsOrTears (target s name) bytes s t)
-    (λ h k. file_of h.now (target h.now name) ≡ None →
-    AfterOk result (IsDurable k.now (target h.now name) bytes ⊎ CannotSync (target h.now name) k))
+    (λ h k. file_of h.now (target h.now name) ≡ None → AfterOk result (IsSaved (target h.now name) bytes k))
 
 -- a link that leads to where nothing is
 pub record LeadsNowhere (s : FolderState) (name : List ℕ) : Type 0 where
@@ -141,7 +141,7 @@ pub record LeadsNowhere (s : FolderState) (name : List ℕ) : Type 0 where
 abbrev pub SavesTargetByNew : List ℕ → List ℕ → Result (Unit {0}) Error → Option History → Option History → Type 0
 SavesTargetByNew name bytes result =
     Runs (λ s t. KeepsOrReplaces (target s name) bytes s t)
-    (λ h k. AfterOk result (IsDurable k.now (target h.now name) bytes ⊎ CannotSync (target h.now name) k))
+    (λ h k. AfterOk result (IsSaved (target h.now name) bytes k))
 
 -- It was written in place, which had a reason.
 abbrev pub SavesTargetInPlace : List ℕ → List ℕ → Result (Unit {0}) Error → Option History → Option History → Type 0
@@ -153,3 +153,11 @@ SavesTargetInPlace name bytes result =
 -- A save.
 abbrev pub Saves : List ℕ → List ℕ → Result (Unit {0}) Error → Option History → Option History → Type 0
 Saves name bytes result a b = SavesTargetByNew name bytes result a b ⊎ SavesTargetInPlace name bytes result a b
+
+-- where the link leads, which is no link
+abbrev pub LeadsTo : List ℕ → List ℕ → FolderState → Type 0
+LeadsTo name at s = (at ≡ target s name) × (target s (target s name) ≡ target s name)
+
+-- A save, from any earlier history since which nothing has changed and this was learned.
+abbrev pub SavesKnowing : (FolderState → Type 0) → List ℕ → List ℕ → Result (Unit {0}) Error → Option History → Option History → Type 0
+SavesKnowing Known name bytes result a b = (first : Option History) → Learns Known first a → Saves name bytes result first b

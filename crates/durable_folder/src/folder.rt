@@ -24,16 +24,31 @@ pub struct Found {
     pub group: u32,
     /// Who may do what with it.
     pub permissions: Permissions,
+    /// How many bytes it has.
+    pub size: u64,
+    /// When it was last written, in seconds since 1970.
+    pub seconds: i64,
+    /// How many billionths of a second later.
+    pub billionths: i64,
 }
 
-/// The calls of a file system that a save makes, each of them one call of the system. What a loss of
-/// power leaves after each is `Leaves` of the states that the folder tells.
+/// Who holds the lock of a file.
+#[derive(Clone, Copy, PartialEq, Eq)]
+pub enum Lock {
+    /// The open file for which it was asked.
+    Held,
+    /// Another program, or another opening of the file.
+    Elsewhere,
+}
+
+/// The calls of a file system that a load or a save makes, each of them one call of the system. What a
+/// loss of power leaves after each is `Leaves` of the states that the folder tells.
 pub trait Folder {
     ghost use Rattle.durable_folder.specs.Histories.{History, Turns};
-    ghost use Rattle.durable_folder.specs.Calls.{Handle, Finds, FindsOpen, FindsFolder, Resolves, Opens, OpensFolder, OpensOrCreates, Creates, Writes, ResizesFile, SyncsFile, Seeks, Renames, Removes, SyncsFolder, Stays};
-    ghost use Rattle.durable_folder.specs.Counting.{answer_to, answer_to_find, answer_to_create, answer_to_rename, answer_to_give, answer_to_open_folder, answer_to_sync_folder};
+    ghost use Rattle.durable_folder.specs.Calls.{Handle, Finds, FindsOpen, FindsFolder, Resolves, Opens, OpensFolder, OpensOrCreates, Creates, Reads, Locks, Writes, ResizesFile, SyncsFile, Seeks, Renames, Removes, SyncsFolder, Stays};
+    ghost use Rattle.durable_folder.specs.Counting.{answer_to, answer_to_find, answer_to_create, answer_to_rename, answer_to_give, answer_to_lock, answer_to_open_folder, answer_to_sync_folder};
 
-    /// A file that was opened for writing.
+    /// A file that was opened.
     type File: Drop;
 
     /// A folder that was opened, to be synced.
@@ -68,6 +83,19 @@ pub trait Folder {
     fn open(&mut self, name: &str) -> io::Result<Self::File>
         ensures start { IfOk result (λ file. (handle file).offset ≡ 0) }
         ensures opens { Turns (Opens handle name.now result) (answer_to result) (told self.old) (told self.new) };
+
+    /// Opens a file for reading. Links are followed.
+    fn open_to_read(&mut self, name: &str) -> io::Result<Self::File>
+        ensures start { IfOk result (λ file. (handle file).offset ≡ 0) }
+        ensures opens { Turns (Opens handle name.now result) (answer_to_find result) (told self.old) (told self.new) };
+
+    /// Reads the bytes of a file from where the next ones come, or as many of them as this.
+    fn read(&mut self, file: &mut Self::File, most: usize) -> io::Result<Vec<u8>>
+        ensures { Turns (Reads (handle file.old) most result) (answer_to result) (told self.old) (told self.new) };
+
+    /// Takes the lock of a file, which is held while the file is open, and does not wait for it.
+    fn try_lock(&mut self, file: &mut Self::File) -> io::Result<Lock>
+        ensures { Turns (Locks (handle file.old) (handle file.new) result) (answer_to_lock result) (told self.old) (told self.new) };
 
     /// Opens a file for writing, or makes it. It is not truncated, and links are followed.
     fn open_or_create(&mut self, name: &str) -> io::Result<Self::File>

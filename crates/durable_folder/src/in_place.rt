@@ -1,7 +1,8 @@
 //! Files that are written in place: their first block is zeros until the rest is in the system's store.
-ghost use Rattle.std.specs.Prelude.{◌≡◌, ℕ, List, ◌+◌, ◌<◌, ◌^◌, length, take, drop};
+ghost use Rattle.std.specs.Prelude.{◌≡◌, ℕ, List, Option, ◌+◌, ◌<◌, ◌^◌, length, take, drop};
 ghost use Rattle.durable_folder.specs.Causes.{HasFault};
-ghost use Rattle.durable_folder.specs.InPlace.{IsHead, ClearsHead, WritesRest, WritesHead, WritesOver};
+ghost use Rattle.durable_folder.specs.Histories.{History};
+ghost use Rattle.durable_folder.specs.InPlace.{IsHead, IsNoFile, ClearsHead, WritesRest, WritesHead, WritesOver};
 
 use crate::Folder;
 use crate::answers::{late, synced};
@@ -49,20 +50,37 @@ fn write_head<F: Folder>(folder: &mut F, file: &mut F::File, head: &[u8]) -> io:
     folder.sync(file)
 }
 
-/// Writes over the bytes of an open file. The first bytes of a plain file are zeros until the rest is
-/// in the system's store, so that a part of a save is told from a whole one.
-fn write_over<F: Folder>(folder: &mut F, file: &mut F::File, bytes: &[u8]) -> io::Result<()>
+/// Writes to what is no plain file.
+fn write_special<F: Folder>(folder: &mut F, file: &mut F::File, bytes: &[u8]) -> io::Result<()>
+    ensures writes { (first : Option History) → IsNoFile (F.handle file.old).file first (F.told folder.old) → WritesOver (F.handle file.old) bytes.now result first (F.told folder.new) }
+    ensures fault { HasFault result (F.told folder.old) (F.told folder.new) }
+{
+    folder.write(file, bytes)?;
+    synced(folder.sync(file))
+}
+
+/// Writes over a plain file. Its first bytes are zeros until the rest is in the system's store, so that a
+/// part of a save is told from a whole one.
+fn write_file<F: Folder>(folder: &mut F, file: &mut F::File, bytes: &[u8]) -> io::Result<()>
     ensures writes { (F.handle file.old).offset ≡ 0 → WritesOver (F.handle file.old) bytes.now result (F.told folder.old) (F.told folder.new) }
     ensures fault { HasFault result (F.told folder.old) (F.told folder.new) }
 {
-    if !folder.find_open(file)?.is_file {
-        folder.write(file, bytes)?;
-        return synced(folder.sync(file));
-    }
     let (head, rest) = bytes.split_at(bytes.len().min(HEAD_BYTES));
     clear_head(folder, file)?;
     write_rest(folder, file, head.len(), rest)?;
     write_head(folder, file, head)
+}
+
+/// Writes over the bytes of an open file.
+fn write_over<F: Folder>(folder: &mut F, file: &mut F::File, bytes: &[u8]) -> io::Result<()>
+    ensures writes { (F.handle file.old).offset ≡ 0 → WritesOver (F.handle file.old) bytes.now result (F.told folder.old) (F.told folder.new) }
+    ensures fault { HasFault result (F.told folder.old) (F.told folder.new) }
+{
+    if folder.find_open(file)?.is_file {
+        write_file(folder, file, bytes)
+    } else {
+        write_special(folder, file, bytes)
+    }
 }
 
 /// Writes to what is there.

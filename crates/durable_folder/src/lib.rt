@@ -5,10 +5,14 @@ mod answers;
 mod beside;
 mod folder;
 mod in_place;
+mod loading;
+mod locking;
 mod new_file;
 mod replacing;
 mod saving;
 mod settling;
 
-pub use folder::{Folder, Found};
+pub use folder::{Folder, Found, Lock};
+pub use loading::{Loaded, load};
+pub use locking::{claim, save_held};
 pub use saving::save;

@@ -2,8 +2,8 @@
 ghost use Rattle.std.specs.Prelude.{◌≡◌, ◌≢◌, ◌⊎◌, ◌↔◌, IsTrue, true, Ok, IsErr};
 ghost use Rattle.durable_folder.specs.NewFiles.{beside_of, handle_of};
 ghost use Rattle.durable_folder.specs.Causes.{AllTaken, AtNow, HasCause, HasFailed, HasFault, IsLater, IsNamed};
-ghost use Rattle.durable_folder.specs.Histories.{IsPlaceOf};
-ghost use Rattle.durable_folder.specs.Saving.{Gives, Rests, WritesWhole, Fills, Puts, Ends, ReplacesBy, Replaces, Mounted, ReplacesOrNot};
+ghost use Rattle.durable_folder.specs.Histories.{IsPlaceOf, Rests};
+ghost use Rattle.durable_folder.specs.Saving.{Gives, WritesWhole, Fills, Puts, Ends, ReplacesBy, Replaces, Mounted, ReplacesOrNot};
 
 use crate::answers::{Replaced, refused};
 use crate::beside::folder_of;
@@ -70,7 +70,7 @@ fn fill<F: Folder>(
 }
 
 /// Whether two findings are of one file.
-fn is_same(one: &Found, other: &Found) -> bool
+pub fn is_same(one: &Found, other: &Found) -> bool
     ensures { IsTrue result ↔ ((one.now.device ≡ other.now.device) × (one.now.inode ≡ other.now.inode)) }
 {
     one.device == other.device && one.inode == other.inode
@@ -110,8 +110,36 @@ fn put<F: Folder>(
     }
 }
 
-/// Puts a new file in its place once it was filled, and else removes it. What somebody else put at
-/// its name is neither renamed nor removed.
+/// Puts a new file in its place once it was filled, and else removes it.
+fn put_or_remove<F: Folder>(
+    folder: &mut F,
+    place: &F::Place,
+    beside: &str,
+    name: &str,
+    filled: io::Result<Replaced>,
+) -> io::Result<Replaced>
+    ensures ends { beside.now ≢ name.now → IsPlaceOf (F.place place.now) name.now (F.told folder.old) → Ends beside.now name.now filled result (F.told folder.old) (F.told folder.new) }
+    ensures later { IsLater (F.told folder.old) (F.told folder.new) }
+    ensures fault { IsErr result → IsErr filled ⊎ HasFailed (F.told folder.old) (F.told folder.new) }
+{
+    let answer = match filled {
+        Ok(answer) => answer,
+        Err(error) => {
+            folder.remove(beside)?;
+            return Err(error);
+        }
+    };
+    match answer {
+        Replaced::Done => put(folder, place, beside, name),
+        Replaced::Refused => {
+            folder.remove(beside)?;
+            Ok(Replaced::Refused)
+        }
+    }
+}
+
+/// Puts a new file in its place or removes it, if its name still leads to it. What somebody else put
+/// there is neither renamed nor removed.
 fn finish<F: Folder>(
     folder: &mut F,
     place: &F::Place,
@@ -127,20 +155,7 @@ fn finish<F: Folder>(
     if !has_name(folder, file, beside)? {
         return Err(Error::from(ErrorKind::Other));
     }
-    let answer = match filled {
-        Ok(answer) => answer,
-        Err(error) => {
-            folder.remove(beside)?;
-            return Err(error);
-        }
-    };
-    match answer {
-        Replaced::Done => put(folder, place, beside, name),
-        Replaced::Refused => {
-            folder.remove(beside)?;
-            Ok(Replaced::Refused)
-        }
-    }
+    put_or_remove(folder, place, beside, name, filled)
 }
 
 /// Fills a new file and puts it in the place of the one of this name.

@@ -1,8 +1,9 @@
 //! How the bytes of a save come to a name.
-ghost use Rattle.std.specs.Prelude.{◌≡◌, Some};
+ghost use Rattle.std.specs.Prelude.{◌≡◌, ◌≢◌, ℕ, List, Some, Ok};
+ghost use Rattle.durable_folder.specs.Calls.{Opens};
 ghost use Rattle.durable_folder.specs.Causes.{AllTaken, AtNow, HasCause, HasFault, IsLater};
 ghost use Rattle.durable_folder.specs.FolderState.{IsFree, target};
-ghost use Rattle.durable_folder.specs.Ways.{Chooses, SavesAt, Looks, WasFound, WritesNew, SyncsFolderOf, MakesThrough, Saves, is_link};
+ghost use Rattle.durable_folder.specs.Ways.{Chooses, LeadsTo, SavesAt, SavesKnowing, Looks, WasFound, WritesNew, SyncsFolderOf, MakesThrough, Saves, is_link};
 
 use crate::answers::{Replaced, late};
 use crate::beside::folder_of;
@@ -40,7 +41,7 @@ fn way_of(found: Found) -> Way
 }
 
 /// What stands at a name, if anything does.
-fn look<F: Folder>(folder: &mut F, name: &str) -> io::Result<Option<Found>>
+pub fn look<F: Folder>(folder: &mut F, name: &str) -> io::Result<Option<Found>>
     ensures looks { Looks name.now result (F.told folder.old) (F.told folder.new) }
     ensures fault { HasFault result (F.told folder.old) (F.told folder.new) }
 {
@@ -68,25 +69,55 @@ pub fn save<F: Folder>(folder: &mut F, alloc: Global, name: &str, bytes: &[u8]) 
     ensures cause { HasCause (AtNow (λ s. AllTaken (target s name.now) s) (F.told folder.old)) result (F.told folder.old) (F.told folder.new) }
 {
     let found = look(folder, name)?;
-    if !is_link(&found) {
-        return save_at(folder, alloc, name, found, bytes);
+    if is_link(&found) {
+        return save_through(folder, alloc, name, bytes);
     }
-    // Who may not write through a link may not replace what it leads to.
-    let file = match folder.open(name) {
-        Ok(file) => file,
-        Err(error) if error.kind() == ErrorKind::NotFound => {
-            return make_through(folder, name, bytes);
-        }
-        Err(error) => return Err(error),
-    };
+    save_at(folder, alloc, name, found, bytes)
+}
+
+/// Saves at the end of a link. Who may not write through it may not replace what it leads to.
+fn save_through<F: Folder>(
+    folder: &mut F,
+    alloc: Global,
+    name: &str,
+    bytes: &[u8],
+) -> io::Result<()>
+    ensures saves { SavesKnowing (λ s. target s name.now ≢ name.now) name.now bytes.now result (F.told folder.old) (F.told folder.new) }
+    ensures cause { HasCause (AtNow (λ s. AllTaken (target s name.now) s) (F.told folder.old)) result (F.told folder.old) (F.told folder.new) }
+{
+    match folder.open(name) {
+        Ok(file) => save_opened(folder, alloc, name, file, bytes),
+        Err(error) if error.kind() == ErrorKind::NotFound => make_through(folder, name, bytes),
+        Err(error) => Err(error),
+    }
+}
+
+/// Saves at the end of a link that was opened. Where that can't be told, it is written to what is open.
+fn save_opened<F: Folder>(
+    folder: &mut F,
+    alloc: Global,
+    name: &str,
+    file: F::File,
+    bytes: &[u8],
+) -> io::Result<()>
+    ensures saves { (F.handle file).offset ≡ 0 →
+        SavesKnowing (λ s. Opens F.handle name.now (Ok file) s s) name.now bytes.now result (F.told folder.old) (F.told folder.new) }
+    ensures cause { HasCause (AtNow (λ s. AllTaken (target s name.now) s) (F.told folder.old)) result (F.told folder.old) (F.told folder.new) }
+{
     match folder.resolve(name) {
-        Ok(target) => {
-            let found = look(folder, target.as_str())?;
-            save_at(folder, alloc, target.as_str(), found, bytes)
-        }
+        Ok(target) => save_target(folder, alloc, target.as_str(), bytes),
         Err(error) if error.kind() == ErrorKind::OutOfMemory => Err(error),
         Err(_) => write_through(folder, file, bytes),
     }
+}
+
+/// Saves at the name to which a link leads.
+fn save_target<F: Folder>(folder: &mut F, alloc: Global, at: &str, bytes: &[u8]) -> io::Result<()>
+    ensures saves { (name : List ℕ) → SavesKnowing (LeadsTo name at.now) name bytes.now result (F.told folder.old) (F.told folder.new) }
+    ensures cause { HasCause (AtNow (AllTaken at.now) (F.told folder.old)) result (F.told folder.old) (F.told folder.new) }
+{
+    let found = look(folder, at)?;
+    save_at(folder, alloc, at, found, bytes)
 }
 
 /// Writes to the file of this name, or to the one that a link of this name leads to. Where there is none

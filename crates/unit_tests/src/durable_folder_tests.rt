@@ -1,5 +1,5 @@
 //! What a loss of power leaves of a save, in a folder in memory.
-use durable_folder::save;
+use durable_folder::{Found, load, save, save_held};
 use std::alloc::{AllocError, Global};
 use std::io::ErrorKind;
 
@@ -189,5 +189,95 @@ fn each_call_may_fail_or_lose_power(rt: HostRuntime) {
             "setting {}",
             setting as u8
         );
+    }
+}
+
+/// A folder of this kind in which the file `f` is, and no call fails.
+fn folder_of(alloc: Global, setting: Setting) -> Result<LosingFolder, AllocError> {
+    let mut folder = LosingFolder::new(alloc, setting, 0, ErrorKind::Other, false);
+    prepare(&mut folder, true)?;
+    Ok(folder)
+}
+
+/// Whether a save that claims the file first answers Ok and keeps it open.
+fn is_saved(folder: &mut LosingFolder, alloc: Global, name: &str, loaded: &Option<Found>) -> bool {
+    let mut held = None;
+    save_held(folder, alloc, name, &NEW, loaded, &mut held).is_ok() && held.is_some()
+}
+
+/// What is found of a file that is loaded whole.
+fn loaded_from(folder: &mut LosingFolder, name: &str) -> Option<Found> {
+    let loaded = load(folder, name, 1000).ok()?;
+    if loaded.bytes.as_slice() == OLD.as_slice() {
+        Some(loaded.found)
+    } else {
+        None
+    }
+}
+
+/// Whether a file is not saved that another program holds.
+fn is_refused_where_taken(alloc: Global, name: &str) -> bool {
+    match folder_of(alloc, Setting::LockedElsewhere) {
+        Ok(folder) => {
+            let mut folder = folder;
+            !is_saved(&mut folder, alloc, name, &None) && stays(&folder, "f", &OLD)
+        }
+        Err(_) => false,
+    }
+}
+
+/// What is done to a file once it was loaded.
+#[derive(Clone, Copy, PartialEq, Eq)]
+enum Since {
+    Nothing,
+    Replaced,
+    Rewritten,
+}
+
+/// Whether a file that was loaded is saved, where nothing was done to it since, and only there.
+fn is_saved_if_unchanged(
+    folder: &mut LosingFolder,
+    alloc: Global,
+    name: &str,
+    since: Since,
+) -> bool {
+    let found = loaded_from(folder, name);
+    let done = match since {
+        Since::Nothing => Ok(()),
+        Since::Replaced => folder.replace("f", &OLD),
+        Since::Rewritten => folder.rewrite("f", b"since"),
+    };
+    found.is_some()
+        && done.is_ok()
+        && is_saved(folder, alloc, name, &found) == (since == Since::Nothing)
+}
+
+/// The same, in a folder of its own.
+fn is_saved_only_if_unchanged(alloc: Global, name: &str, since: Since) -> bool {
+    match folder_of(alloc, Setting::Plain) {
+        Ok(folder) => {
+            let mut folder = folder;
+            is_saved_if_unchanged(&mut folder, alloc, name, since)
+        }
+        Err(_) => false,
+    }
+}
+
+#[test]
+fn what_another_program_holds_is_not_saved(rt: HostRuntime) {
+    for name in ["f", "link"] {
+        assert!(rt; is_refused_where_taken(rt.alloc(), name), "{name}");
+    }
+}
+
+#[test]
+fn what_was_written_since_it_was_loaded_is_not_saved(rt: HostRuntime) {
+    for since in [Since::Nothing, Since::Replaced, Since::Rewritten] {
+        for name in ["f", "link"] {
+            assert!(rt;
+                is_saved_only_if_unchanged(rt.alloc(), name, since),
+                "{name}"
+            );
+        }
     }
 }

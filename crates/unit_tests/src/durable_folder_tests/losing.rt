@@ -39,6 +39,8 @@ pub enum Setting {
     NoFolderSync,
     /// Where a link leads can't be told.
     Unresolved,
+    /// Another program holds the lock of each file.
+    LockedElsewhere,
 }
 
 /// A folder in memory that loses power. It keeps what each name and each file had since they were
@@ -110,6 +112,20 @@ impl LosingFolder {
         self.files.push(Vec::new(self.alloc))?;
         self.change(file, bytes.to_vec(self.alloc)?, true)?;
         Ok(file)
+    }
+
+    /// Gives a name another file of these bytes.
+    pub fn replace(&mut self, name: &str, bytes: &[u8]) -> Result<(), AllocError> {
+        let file = self.add_file(bytes)?;
+        self.set(name, Some(file))
+    }
+
+    /// Gives the file of a name these bytes.
+    pub fn rewrite(&mut self, name: &str, bytes: &[u8]) -> Result<(), AllocError> {
+        match self.file(name) {
+            Some(file) => self.change(file, bytes.to_vec(self.alloc)?, true),
+            None => Ok(()),
+        }
     }
 
     /// Counts a call, and fails where it is to fail.
@@ -186,6 +202,9 @@ impl LosingFolder {
             user: 0,
             group: 0,
             permissions: Permissions::from_mode(0o644),
+            size: self.seen(file).len() as u64,
+            seconds: 0,
+            billionths: 0,
         }
     }
 

@@ -1,7 +1,7 @@
 //! The calls of a folder that loses power.
 use super::mixes::mixed;
 use super::{LosingFolder, Opened, Setting};
-use durable_folder::{Folder, Found};
+use durable_folder::{Folder, Found, Lock};
 use std::alloc::{AllocError, Global};
 use std::fs::Permissions;
 use std::io;
@@ -63,7 +63,7 @@ impl LosingFolder {
 }
 
 impl Folder for LosingFolder {
-    ghost use Rattle.std.specs.Prelude.{[], None};
+    ghost use Rattle.std.specs.Prelude.{[], None, true};
 
     type File = Opened;
 
@@ -71,7 +71,7 @@ impl Folder for LosingFolder {
 
     ghost told = { λ _. None };
 
-    ghost handle = { λ _. record { file = None; offset = 0 } };
+    ghost handle = { λ _. record { file = None; offset = 0; is_held = true } };
 
     ghost place = { λ _. [] };
 
@@ -121,6 +121,25 @@ impl Folder for LosingFolder {
             Some(file) => Ok(Opened { file, offset: 0 }),
             None => Err(Error::from(ErrorKind::NotFound)),
         }
+    }
+
+    fn open_to_read(&mut self, name: &str) -> io::Result<Opened> {
+        self.open(name)
+    }
+
+    fn read(&mut self, file: &mut Opened, most: usize) -> io::Result<Vec<u8>> {
+        self.call()?;
+        let seen = self.seen(file.file);
+        let rest = seen.get(file.offset..).unwrap_or(&[]);
+        Ok(rest.get(..most).unwrap_or(rest).to_vec(self.alloc)?)
+    }
+
+    fn try_lock(&mut self, _file: &mut Opened) -> io::Result<Lock> {
+        self.call()?;
+        if self.setting == Setting::LockedElsewhere {
+            return Ok(Lock::Elsewhere);
+        }
+        Ok(Lock::Held)
     }
 
     fn open_or_create(&mut self, name: &str) -> io::Result<Opened> {

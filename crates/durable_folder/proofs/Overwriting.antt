@@ -5,9 +5,9 @@ use Rattle.std.specs.declared.io.Error.{Error}
 use Rattle.durable_folder.specs.declared.folder.Found.{Found}
 use Rattle.durable_folder.specs.FolderState.{FolderState}
 use Rattle.durable_folder.specs.Calls.{Handle, OfFile, FindsOpen, Written, Writes, Synced, SyncsFile}
-use Rattle.durable_folder.specs.Histories.{History, Turns, Runs, Answer}
+use Rattle.durable_folder.specs.Histories.{History, Turns, Answer}
 use Rattle.durable_folder.specs.InPlace.{AfterOk, OneSuch, MayTear, AllTorn, WholeOrTorn, Overwrites, IsCleared, IsHeadless, FileRuns, ClearsHead, WritesRest}
-use Rattle.durable_folder.specs.InPlace.{WritesHead, WritesOver}
+use Rattle.durable_folder.specs.InPlace.{IsNoFile, WritesHead, WritesOver}
 use Rattle.durable_folder.proofs.Heads.{after_err}
 use Rattle.durable_folder.proofs.Passing.{runs_of, runs_weaker, runs_then}
 use Rattle.durable_folder.proofs.Writing.{Change, of_file_stays, file_stays, file_weaker, file_then}
@@ -28,9 +28,6 @@ not_found handle n bytes found result a b err turn =
     (still bytes) (λ s t x vs. (still bytes vs, after_err result (vs ≡ bytes ∷ []) err))
 
 -- what is no plain file has no bytes
-abbrev pub NoFile : Option ℕ → Option History → Option History → Type 0
-NoFile file = Runs (λ s t. t ≡ s) (λ h k. (k.now ≡ h.now) × (file ≡ None))
-
 found_none : (handle : Handle) (result : Result Found Error) (found : Found) (s t : FolderState) → FindsOpen handle result s t → result ≡ Ok found →
     found.is_file ≡ false → handle.file ≡ None
 found_none handle (Ok other) found s t x ok no_file = let same : other ≡ found = cc in x.1 (ap (λ f. f.is_file) same ∙ no_file)
@@ -38,7 +35,7 @@ found_none handle (Err error) found s t x ok no_file = absurd (cc)
 
 pub no_file_found : (handle : Handle) (n : Answer) (result : Result Found Error) (found : Found) (a b : Option History) → result ≡ Ok found →
     found.is_file ≡ false →
-    Turns (FindsOpen handle result) n a b → NoFile handle.file a b
+    Turns (FindsOpen handle result) n a b → IsNoFile handle.file a b
 no_file_found handle n result found a b ok no_file turn =
     runs_weaker a b (runs_of (FindsOpen handle result) n a b turn) (finds_stays handle result)
     (λ h k x. (finds_stays handle result h.now k.now x.0, found_none handle result found h.now k.now x.0 ok no_file))
@@ -51,14 +48,14 @@ of_none : (P : Change) (file : Option ℕ) (s t : FolderState) → file ≡ None
 of_none P None s t none x = x
 of_none P (Some f) s t none x = absurd (cc)
 
-no_file_then : (P : Change) (file other : Option ℕ) (n : Answer) (a b c : Option History) → other ≡ file → NoFile file a b →
-    Turns (OfFile P other) n b c → NoFile file a c
+no_file_then : (P : Change) (file other : Option ℕ) (n : Answer) (a b c : Option History) → other ≡ file → IsNoFile file a b →
+    Turns (OfFile P other) n b c → IsNoFile file a c
 no_file_then P file other n a b c same run turn =
     runs_then a b c run (runs_of (OfFile P other) n b c turn) (λ s t x. x)
     (λ h k u x y. none_of P other k.now u (same ∙ x.1) y ∙ x.0)
     (λ h k l x y. (none_of P other k.now l.now (same ∙ x.1) y.0 ∙ x.0, x.1))
 
-pub no_file_over : (handle : Handle) (bytes : List ℕ) (result : Result (Unit {0}) Error) (a b : Option History) → NoFile handle.file a b →
+pub no_file_over : (handle : Handle) (bytes : List ℕ) (result : Result (Unit {0}) Error) (a b : Option History) → IsNoFile handle.file a b →
     WritesOver handle bytes result a b
 no_file_over handle bytes result a b run = record {
   run = runs_weaker a b run (λ s t x. of_file_stays (Overwrites bytes) handle.file s t x (still bytes))
@@ -78,15 +75,18 @@ torn_over bytes vs ws torn c h = inr (inl (torn c h))
 whole_over : (bytes : List ℕ) (vs ws : List (List ℕ)) → WholeOrTorn bytes ws → Overwrites bytes vs ws
 whole_over bytes vs ws whole c h = elim (whole c h) [ inl is ↦ inr (inr is) | inr torn ↦ inr (inl torn) ]
 
-pub found_and_cleared : (handle : Handle) (n : Answer) (bytes : List ℕ) (found : Result Found Error) (cleared : Result (Unit {0}) Error)
-    (a b c : Option History) →
-    Turns (FindsOpen handle found) n a b → ClearsHead handle cleared b c → FileRuns handle.file (Overwrites bytes) (Cleared bytes cleared) a c
-found_and_cleared handle n bytes found cleared a b c turn clears =
+pub head_cleared : (handle : Handle) (bytes : List ℕ) (cleared : Result (Unit {0}) Error) (a b : Option History) → ClearsHead handle cleared a b →
+    FileRuns handle.file (Overwrites bytes) (Cleared bytes cleared) a b
+head_cleared handle bytes cleared a b clears = file_weaker a b clears (tears_over bytes) (λ vs ws x. (tears_over bytes vs ws x.0, x.1))
+
+-- what is written once it was looked at
+pub over_after : (handle : Handle) (n : Answer) (bytes : List ℕ) (found : Result Found Error) (result : Result (Unit {0}) Error) (a b c : Option History) →
+    Turns (FindsOpen handle found) n a b → WritesOver handle bytes result b c → WritesOver handle bytes result a c
+over_after handle n bytes found result a b c turn writes =
     file_then a b c
     (file_stays (FindsOpen handle found) (λ vs ws. ws ≡ vs) (λ vs ws. ws ≡ vs) handle.file n a b turn (finds_stays handle found) (λ vs. refl)
-    (λ s t x vs. refl)) clears
-    (λ vs ws same. rw same (still bytes vs)) (λ vs ws us same tears. tears_over bytes vs us (rw same at tears))
-    (λ vs ws us same x. (tears_over bytes vs us (rw same at x.0), x.1))
+    (λ s t x vs. refl)) writes
+    (λ vs ws same. rw same (still bytes vs)) (λ vs ws us same over. rw same at over) (λ vs ws us same x. rw same at x)
 
 pub not_cleared : (handle : Handle) (bytes : List ℕ) (cleared result : Result (Unit {0}) Error) (a c : Option History) → IsErr result →
     FileRuns handle.file (Overwrites bytes) (Cleared bytes cleared) a c → WritesOver handle bytes result a c
@@ -127,12 +127,12 @@ head_put handle mid head bytes rested result a d e same ok runs heads =
     (λ vs ws us x y. let last = y (after_ok rested (OneSuch (IsHeadless head bytes) ws) ok x.1) in (whole_over bytes vs us last.0, last.1))
 
 pub no_file_written : (file : Option ℕ) (handle : Handle) (bytes : List ℕ) (wrote : Result (Unit {0}) Error) (n : Answer) (a b c : Option History) →
-    handle.file ≡ file → NoFile file a b →
-    Turns (Writes handle bytes wrote) n b c → NoFile file a c
+    handle.file ≡ file → IsNoFile file a b →
+    Turns (Writes handle bytes wrote) n b c → IsNoFile file a c
 no_file_written file handle bytes wrote n a b c same run turn = no_file_then (Written handle.offset bytes wrote) file handle.file n a b c same run
     turn
 
 pub no_file_synced : (file : Option ℕ) (handle : Handle) (result : Result (Unit {0}) Error) (n : Answer) (a b c : Option History) → handle.file ≡ file →
-    NoFile file a b →
-    Turns (SyncsFile handle.file result) n b c → NoFile file a c
+    IsNoFile file a b →
+    Turns (SyncsFile handle.file result) n b c → IsNoFile file a c
 no_file_synced file handle result n a b c same run turn = no_file_then (λ old new. Synced old result new) file handle.file n a b c same run turn

@@ -1,0 +1,91 @@
+use Rattle.std.proofs.Common.{inr, true, false, Ok}
+use Rattle.durable_folder.specs.Counting.{quiet}
+use Rattle.durable_folder.specs.Locking.{Compares}
+use Rattle.durable_folder.proofs.Causing.{turn_later, later_then}
+use Rattle.durable_folder.proofs.Claiming.{asks_rests, compares_rests, holds_failed, holds_after, special_held, plain_held, plain_stale}
+use Rattle.durable_folder.proofs.Learning.{finds_rests, rests_then}
+use Rattle.durable_folder.proofs.locking.hold.Goals as goal
+
+pub returns-in_err-find_open-clause-holds : goal.returns-in_err-find_open-clause-holds
+returns-in_err-find_open-clause-holds g c =
+    let file = g.F.Folder.handle c.args.file.now in
+    let before = g.F.Folder.told c.args.folder.now in
+    let found = g.F.Folder.told c.find_open.new.self in
+    holds_failed file file c.args.loaded.now c.args.name.now c.from_residual.result before found c.from_residual.ensures.0
+    (finds_rests file c.find_open.result _ before found c.find_open.ensures)
+
+pub returns-then-not-branch-clause-holds : goal.returns-then-not-branch-clause-holds
+returns-then-not-branch-clause-holds g c =
+    special_held (g.F.Folder.handle c.args.file.now) c.in_ok-find_open.field-0 c.args.loaded.now c.args.name.now quiet
+    (g.F.Folder.told c.args.folder.now) (g.F.Folder.told c.find_open.new.self) c.if-not-branch.true c.in_ok-find_open.ensures
+
+pub returns-in_err-lock-clause-holds : goal.returns-in_err-lock-clause-holds
+returns-in_err-lock-clause-holds g c =
+    let file = g.F.Folder.handle c.args.file.now in
+    let after = g.F.Folder.handle c.lock.new.file in
+    let before = g.F.Folder.told c.args.folder.now in
+    let found = g.F.Folder.told c.find_open.new.self in
+    let locked = g.F.Folder.told c.lock.new.folder in
+    holds_failed file after c.args.loaded.now c.args.name.now c.from_residual-in_err-lock.result before locked c.from_residual-in_err-lock.ensures.0
+    (rests_then before found locked (finds_rests file c.find_open.result _ before found c.find_open.ensures)
+    (asks_rests file after c.lock.result found locked c.lock.ensures.asks))
+
+pub returns-in_err-is_current-clause-holds : goal.returns-in_err-is_current-clause-holds
+returns-in_err-is_current-clause-holds g c =
+    let file = g.F.Folder.handle c.args.file.now in
+    let after = g.F.Folder.handle c.lock.new.file in
+    let before = g.F.Folder.told c.args.folder.now in
+    let found = g.F.Folder.told c.find_open.new.self in
+    let locked = g.F.Folder.told c.lock.new.folder in
+    let last = g.F.Folder.told c.is_current.new.folder in
+    holds_failed file after c.args.loaded.now c.args.name.now c.from_residual-in_err-is_current.result before last
+    c.from_residual-in_err-is_current.ensures.0
+    (rests_then before locked last
+    (rests_then before found locked (finds_rests file c.find_open.result _ before found c.find_open.ensures)
+    (asks_rests file after c.lock.result found locked c.lock.ensures.asks))
+    (compares_rests after c.args.loaded.now c.args.name.now c.is_current.result locked last c.is_current.ensures.compares))
+
+pub returns-then-branch-clause-holds : goal.returns-then-branch-clause-holds
+returns-then-branch-clause-holds g c =
+    let file = g.F.Folder.handle c.args.file.now in
+    let after = g.F.Folder.handle c.lock.new.file in
+    let before = g.F.Folder.told c.args.folder.now in
+    let found = g.F.Folder.told c.find_open.new.self in
+    let locked = g.F.Folder.told c.lock.new.folder in
+    let last = g.F.Folder.told c.is_current.new.folder in
+    let yes : Compares after c.args.loaded.now c.args.name.now (Ok true) locked last = rw c.if-branch.true at c.in_ok-is_current.ensures.compares in
+    holds_after file after c.args.loaded.now c.args.name.now (Ok tt) before found last
+    (finds_rests file c.find_open.result _ before found c.find_open.ensures)
+    (plain_held file after c.args.loaded.now c.args.name.now found locked last c.in_ok-lock.ensures.asks yes)
+
+pub returns-else-branch-clause-holds : goal.returns-else-branch-clause-holds
+returns-else-branch-clause-holds g c =
+    let file = g.F.Folder.handle c.args.file.now in
+    let after = g.F.Folder.handle c.lock.new.file in
+    let before = g.F.Folder.told c.args.folder.now in
+    let found = g.F.Folder.told c.find_open.new.self in
+    let locked = g.F.Folder.told c.lock.new.folder in
+    let last = g.F.Folder.told c.is_current.new.folder in
+    rests_then before locked last
+    (rests_then before found locked (finds_rests file c.find_open.result _ before found c.find_open.ensures)
+    (asks_rests file after c.lock.result found locked c.lock.ensures.asks))
+    (compares_rests after c.args.loaded.now c.args.name.now c.is_current.result locked last c.is_current.ensures.compares)
+
+pub returns-else-branch-clause-cause : goal.returns-else-branch-clause-cause
+returns-else-branch-clause-cause g c =
+    let file = g.F.Folder.handle c.args.file.now in
+    let after = g.F.Folder.handle c.lock.new.file in
+    let before = g.F.Folder.told c.args.folder.now in
+    let found = g.F.Folder.told c.find_open.new.self in
+    let locked = g.F.Folder.told c.lock.new.folder in
+    let last = g.F.Folder.told c.is_current.new.folder in
+    let no : Compares after c.args.loaded.now c.args.name.now (Ok false) locked last = rw c.if-branch.false at c.in_ok-is_current.ensures.compares in (
+      later_then before locked last
+          (later_then before found locked (turn_later _ quiet before found c.in_ok-find_open.ensures) c.lock.ensures.fault.0)
+          c.is_current.ensures.fault.0,
+      inr (
+        c.from.ensures,
+        plain_stale file after c.in_ok-find_open.field-0 c.args.loaded.now c.args.name.now quiet before found locked last c.if-not-branch.false
+            c.in_ok-find_open.ensures c.in_ok-lock.ensures.asks no,
+      ),
+    )
