@@ -13,7 +13,7 @@ use Rattle.durable_folder.specs.Histories.{History, Turns, Runs, Answer, IsSaved
 use Rattle.durable_folder.specs.InPlace.{AfterOk, Overwrites, WritesOver}
 use Rattle.durable_folder.specs.Places.{folder_of}
 use Rattle.durable_folder.specs.Saving.{IsOther, KeepsOrReplaces, Prepares, ReplaceOrNotEnds, ReplacesOrNot}
-use Rattle.durable_folder.specs.Ways.{IsTornLeft, KeepsOrTears, IsSpecial, MustBeInPlace, IsInPlace, SavesAt, WasFound}
+use Rattle.durable_folder.specs.Ways.{IsTornLeft, KeepsOrTears, IsSpecial, MustBeInPlace, MustStay, IsInPlace, ReplacesFound, SavesAt, WasFound}
 use Rattle.durable_folder.proofs.Heads.{after_ok_map, after_err}
 use Rattle.durable_folder.proofs.Passing.{runs_of, runs_weaker, runs_then, runs_counted}
 use Rattle.durable_folder.proofs.Replacements.{taken_apart, prepares_keeps}
@@ -118,7 +118,7 @@ not_opened handle name Known bytes r result n a b err turn =
     (λ h k x. after_err result (IsSaved name bytes k) err))
 
 -- a replacement that comes to an end
-pub by_new : {X : Type 0} (handle : X → Handle) (name : List ℕ) (Known : FolderState → Type 0) (bytes : List ℕ) (r : Result X Error)
+by_new : {X : Type 0} (handle : X → Handle) (name : List ℕ) (Known : FolderState → Type 0) (bytes : List ℕ) (r : Result X Error)
     (owner : Option Owner) (replaced : Result Replaced Error) (result : Result (Unit {0}) Error)
     (n : Answer) (a b c : Option History) →
     ((h k : History) → ReplaceOrNotEnds name owner bytes replaced h k → AfterOk result (IsSaved name bytes k)) →
@@ -128,12 +128,27 @@ by_new handle name Known bytes r owner replaced result n a b c ends turn replace
     (λ h k u x y. let at : KeepsOrReplaces name bytes h.now u = rw (opens_stays handle name r h.now k.now x.0) at y in at)
     (λ h k l x y. ends k l y))
 
-pub ends_done : (name : List ℕ) (owner : Option Owner) (bytes : List ℕ) (r : Result Replaced Error) (answer : Replaced) → r ≡ Ok answer →
-    answer ≡ replaced.Done → (h k : History) →
-    ReplaceOrNotEnds name owner bytes r h k → IsSaved name bytes k
-ends_done name owner bytes (Ok replaced.Done) answer is done h k x = x
-ends_done name owner bytes (Ok replaced.Refused) answer is done h k x = absurd (cc)
-ends_done name owner bytes (Err e) answer is done h k x = absurd (cc)
+-- what was found was replaced, or is not to be
+over_new : {X : Type 0} (handle : X → Handle) (name : List ℕ) (Known : FolderState → Type 0) (old : Found) (bytes : List ℕ) (r : Result X Error)
+    (outcome : Result Replaced Error) (result : Result (Unit {0}) Error) (n : Answer) (a b c : Option History) →
+    ((owner : Owner) (h k : History) → ReplaceOrNotEnds name (Some owner) bytes outcome h k → AfterOk result (IsSaved name bytes k)) →
+    (outcome ≡ Ok replaced.Refused → ⊥) → Turns (Opens handle name r) n a b → ReplacesFound name old bytes outcome b c →
+    SavesAt Known name bytes result a c
+over_new handle name Known old bytes r outcome result n a b c ends not turn (inl x) =
+    by_new handle name Known bytes r (Some x.owner) outcome result n a b c (ends x.owner) turn x.replaces
+over_new handle name Known old bytes r outcome result n a b c ends not turn (inr x) = absurd (not x.1)
+
+pub over_done : {X : Type 0} (handle : X → Handle) (name : List ℕ) (Known : FolderState → Type 0) (old : Found) (bytes : List ℕ) (r : Result X Error)
+    (n : Answer) (a b c : Option History) → Turns (Opens handle name r) n a b → ReplacesFound name old bytes (Ok replaced.Done) b c →
+    SavesAt Known name bytes (Ok tt) a c
+over_done handle name Known old bytes r n a b c =
+    over_new handle name Known old bytes r (Ok replaced.Done) (Ok tt) n a b c (λ owner h k x. x) (λ is. absurd (cc))
+
+pub over_failed : {X : Type 0} (handle : X → Handle) (name : List ℕ) (Known : FolderState → Type 0) (old : Found) (bytes : List ℕ) (r : Result X Error)
+    (e : Error) (n : Answer) (a b c : Option History) → Turns (Opens handle name r) n a b → ReplacesFound name old bytes (Err e) b c →
+    SavesAt Known name bytes (Err e) a c
+over_failed handle name Known old bytes r e n a b c =
+    over_new handle name Known old bytes r (Err e) (Err e) n a b c (λ owner h k x. tt) (λ is. absurd (cc))
 
 -- the file that was opened
 plain_is : (b : Bool) (f g : ℕ) → if_plain b f ≡ Some g → f ≡ g
@@ -200,14 +215,14 @@ found_shared name old s file found true is several = inr (found.shared is severa
 found_shared name old s file found false is several = inl (found_special name old s file found is)
 
 found_reason : (name : List ℕ) (old : Found) (h k : History) (file : ℕ) → IsFound h.now name file old →
-    (old.is_file ≡ false) ⊎ (1 < old.names) → MustBeInPlace name h k
+    MustStay old → MustBeInPlace name h k
 found_reason name old h k file found (inl is) = inl (found_special name old h.now file found is)
 found_reason name old h k file found (inr several) =
     elim (found_shared name old h.now file found old.is_file refl several) [ inl special ↦ inl special | inr shared ↦ inr (inl shared) ]
 
-pub in_place : {X : Type 0} (handle : X → Handle) (name : List ℕ) (old : Found) (bytes : List ℕ) (opened : X) (result : Result (Unit {0}) Error)
+in_place : {X : Type 0} (handle : X → Handle) (name : List ℕ) (old : Found) (bytes : List ℕ) (opened : X) (result : Result (Unit {0}) Error)
     (n : Answer) (a b c : Option History) →
-    (old.is_file ≡ false) ⊎ (1 < old.names) → Turns (Opens handle name (Ok opened)) n a b → WritesOver (handle opened) bytes result b c →
+    MustStay old → Turns (Opens handle name (Ok opened)) n a b → WritesOver (handle opened) bytes result b c →
     SavesAt (WasFound name (Some old)) name bytes result a c
 in_place handle name old bytes opened result n a b c why turn writes =
     inr (runs_then a b c (runs_counted a b (runs_of (Opens handle name (Ok opened)) n a b turn)) writes.run
@@ -253,7 +268,7 @@ mount_reason name old owner h k l file found device later (inl other) =
     inr (inr (inl (file, found.there, λ same. other (device ∙ found.device ∙ same))))
 mount_reason name old owner h k l file found device later (inr more) = inr (inr (inr (omega (arith, more, later))))
 
-pub after_refusal : {X : Type 0} (handle : X → Handle) (name : List ℕ) (old : Found) (bytes : List ℕ) (opened : X) (owner : Owner)
+after_refusal : {X : Type 0} (handle : X → Handle) (name : List ℕ) (old : Found) (bytes : List ℕ) (opened : X) (owner : Owner)
     (r : Result Replaced Error) (answer : Replaced)
     (result : Result (Unit {0}) Error) (n : Answer) (a b c d : Option History) → owner.device ≡ old.device → r ≡ Ok answer → answer ≡ replaced.Refused →
     Turns (Opens handle name (Ok opened)) n a b →
@@ -269,3 +284,12 @@ after_refusal handle name old bytes opened owner r answer result n a b c d devic
       mount_reason name old owner h k l known.seen.0 known.seen.1 device y.0 x.1,
       rw known.no_link at (over_arrived handle name opened bytes result h k l (x.0 known.no_link) y.1),
     )))
+
+-- a replacement of what was found that was refused, and then the file in place
+pub over_refused : {X : Type 0} (handle : X → Handle) (name : List ℕ) (old : Found) (bytes : List ℕ) (opened : X) (result : Result (Unit {0}) Error)
+    (n : Answer) (a b c d : Option History) → Turns (Opens handle name (Ok opened)) n a b → ReplacesFound name old bytes (Ok replaced.Refused) b c →
+    WritesOver (handle opened) bytes result c d → SavesAt (WasFound name (Some old)) name bytes result a d
+over_refused handle name old bytes opened result n a b c d turn (inl x) writes =
+    after_refusal handle name old bytes opened x.owner (Ok replaced.Refused) replaced.Refused result n a b c d x.device refl refl turn x.replaces writes
+over_refused handle name old bytes opened result n a b c d turn (inr x) writes =
+    in_place handle name old bytes opened result n a b d x.0 turn (rw x.2 at writes)

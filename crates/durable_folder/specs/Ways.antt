@@ -6,21 +6,31 @@ use Rattle.durable_folder.specs.Calls.{Spares, SparesFiles, IsFound}
 use Rattle.durable_folder.specs.Histories.{History, Runs, Learns, HasFile, IsSaved}
 use Rattle.durable_folder.specs.InPlace.{IsTorn, AfterOk, Overwrites}
 use Rattle.durable_folder.specs.Places.{folder_of}
-use Rattle.durable_folder.specs.Saving.{KeepsOrReplaces, IsOther}
+use Rattle.durable_folder.specs.Saving.{KeepsOrReplaces, IsOther, ReplacesOrNot}
+use Rattle.durable_folder.specs.declared.answers.Replaced.{Replaced}
+use Rattle.durable_folder.specs.declared.answers.Replaced.TheVariants as replaced
 use Rattle.durable_folder.specs.declared.folder.Found.{Found}
-use Rattle.durable_folder.specs.declared.saving.Way.{Way}
-use Rattle.durable_folder.specs.declared.saving.Way.TheVariants as way
+use Rattle.durable_folder.specs.declared.replacing.Owner.{Owner}
 
--- A plain file with one name is replaced, by a file of its owner and mode. All else is written in place.
-pub record IsReplaceable (found : Found) : Type 0 where
+-- what has to be written in place: a file with several names, or what is no plain file
+abbrev pub MustStay : Found → Type 0
+MustStay found = (found.is_file ≡ false) ⊎ (1 < found.names)
+
+-- a plain file with one name is replaced by a file of its owner and mode
+pub record ReplacesOwned (name : List ℕ) (found : Found) (bytes : List ℕ) (result : Result Replaced Error) (a b : Option History) : Type 0 where
   pub is_file : found.is_file ≡ true
   pub one_name : found.names ≤ 1
+  pub owner : Owner
+  pub user : owner.user ≡ found.user
+  pub group : owner.group ≡ found.group
+  pub permissions : owner.permissions ≡ found.permissions
+  pub device : owner.device ≡ found.device
+  pub replaces : ReplacesOrNot name (Some owner) bytes result a b
 
-abbrev pub Chooses : Found → Way → Type 0
-Chooses found (way.Replace owner) =
-    IsReplaceable found × (owner.user ≡ found.user) × (owner.group ≡ found.group) ×
-    (owner.permissions ≡ found.permissions) × (owner.device ≡ found.device)
-Chooses found way.InPlace = (found.is_file ≡ false) ⊎ (1 < found.names)
+-- What was found is replaced, if it may be, and else nothing is done.
+abbrev pub ReplacesFound : List ℕ → Found → List ℕ → Result Replaced Error → Option History → Option History → Type 0
+ReplacesFound name found bytes result a b =
+    ReplacesOwned name found bytes result a b ⊎ (MustStay found × (result ≡ Ok replaced.Refused) × (b ≡ a))
 
 -- what is torn
 abbrev pub IsTornLeft : Option (List ℕ) → Type 0

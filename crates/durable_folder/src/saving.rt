@@ -3,7 +3,7 @@ ghost use Rattle.std.specs.Prelude.{◌≡◌, ◌≢◌, ℕ, List, Some, Ok};
 ghost use Rattle.durable_folder.specs.Calls.{Opens};
 ghost use Rattle.durable_folder.specs.Causes.{AllTaken, AtNow, HasCause, HasFault, IsLater};
 ghost use Rattle.durable_folder.specs.FolderState.{IsFree, target};
-ghost use Rattle.durable_folder.specs.Ways.{Chooses, LeadsTo, SavesAt, SavesKnowing, Looks, WasFound, WritesNew, SyncsFolderOf, MakesThrough, Saves, is_link};
+ghost use Rattle.durable_folder.specs.Ways.{LeadsTo, ReplacesFound, SavesAt, SavesKnowing, Looks, WasFound, WritesNew, SyncsFolderOf, MakesThrough, Saves, is_link};
 
 use crate::answers::{Replaced, late};
 use crate::beside::folder_of;
@@ -14,31 +14,6 @@ use crate::{Folder, Found};
 use std::alloc::Global;
 use std::io;
 use std::io::ErrorKind;
-
-/// How bytes come to what is found at a name.
-#[derive(Drop)]
-enum Way {
-    /// By a new file that is put in the place of the old one, with the same owner and mode.
-    Replace(Owner),
-    /// By writing to what is there: to a file with several names, or to what is no plain file.
-    InPlace,
-}
-
-/// How bytes come to a name, by what is there and how many names it has.
-fn way_of(found: Found) -> Way
-    ensures { Chooses found result }
-{
-    if found.is_file && found.names <= 1 {
-        Way::Replace(Owner {
-            user: found.user,
-            group: found.group,
-            permissions: found.permissions,
-            device: found.device,
-        })
-    } else {
-        Way::InPlace
-    }
-}
 
 /// What stands at a name, if anything does.
 pub fn look<F: Folder>(folder: &mut F, name: &str) -> io::Result<Option<Found>>
@@ -185,12 +160,35 @@ fn save_over<F: Folder>(
 {
     // Who may not write a file may not replace it.
     let file = folder.open(name)?;
-    match way_of(old) {
-        Way::Replace(owner) => match replace(folder, alloc, name, Some(owner), bytes)? {
-            Replaced::Done => Ok(()),
-            Replaced::Refused => write_through(folder, file, bytes),
-        },
-        Way::InPlace => write_through(folder, file, bytes),
+    match replace_found(folder, alloc, name, old, bytes) {
+        Ok(Replaced::Done) => Ok(()),
+        Ok(Replaced::Refused) => write_through(folder, file, bytes),
+        Err(error) => Err(error),
+    }
+}
+
+/// Replaces a plain file with one name, by a new file of its owner and mode. All else is refused: a file with
+/// several names, and what is no plain file.
+fn replace_found<F: Folder>(
+    folder: &mut F,
+    alloc: Global,
+    name: &str,
+    found: Found,
+    bytes: &[u8],
+) -> io::Result<Replaced>
+    ensures replaces { ReplacesFound name.now found bytes.now result (F.told folder.old) (F.told folder.new) }
+    ensures cause { HasCause (AtNow (AllTaken name.now) (F.told folder.old)) result (F.told folder.old) (F.told folder.new) }
+{
+    if found.is_file && found.names <= 1 {
+        let owner = Owner {
+            user: found.user,
+            group: found.group,
+            permissions: found.permissions,
+            device: found.device,
+        };
+        replace(folder, alloc, name, Some(owner), bytes)
+    } else {
+        Ok(Replaced::Refused)
     }
 }
 

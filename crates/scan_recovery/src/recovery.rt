@@ -114,8 +114,13 @@ fn sound_scan_by<F: Flash>(
     let scanned = scan(alloc, flash, config, one)?;
     let Scanned { seen, list } = scanned;
     let charted = Chart::of_own(alloc, list, config.protocol)?;
-    try_law_two(flash, &charted, one, two)?;
-    Ok((seen, charted))
+    match try_law_two(flash, &charted, one, two) {
+        Ok(()) => Ok((seen, charted)),
+        Err(error) => {
+            drop(charted);
+            Err(error)
+        }
+    }
 }
 
 /// Tries law 2 of records that were scanned and charted.

@@ -203,11 +203,16 @@ impl Filling {
     pub fn finish(self, alloc: Global) -> Result<Tables, AllocError>
         ensures { IfOk result (λ t. t ≡ self) }
     {
-        let needs = self.given.find_needs(alloc)?;
-        Ok(Tables {
-            given: self.given,
-            blanks: self.blanks,
-            needs,
-        })
+        match self.given.find_needs(alloc) {
+            Ok(needs) => Ok(Tables {
+                given: self.given,
+                blanks: self.blanks,
+                needs,
+            }),
+            Err(error) => {
+                drop(self);
+                Err(error)
+            }
+        }
     }
 }

@@ -42,8 +42,13 @@ pub fn filled(
     ensures filled { IfOk result (AreFilled standing.now.protocol standing.now.list shape logical) }
 {
     let mut filling = Filling::new(alloc, shape, logical)?;
-    fill(alloc, &mut filling, logical, seen, standing)?;
-    Ok(filling)
+    match fill(alloc, &mut filling, logical, seen, standing) {
+        Ok(()) => Ok(filling),
+        Err(error) => {
+            drop(filling);
+            Err(error)
+        }
+    }
 }
 
 /// Fills tables of blank slots with slots that read so and hold the records of a list, in the order of their slots.
