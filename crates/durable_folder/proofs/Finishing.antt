@@ -10,12 +10,12 @@ use Rattle.durable_folder.specs.FolderState.{FolderState, SomeOf, file_of, newes
 use Rattle.durable_folder.specs.Calls.{Handle, SparesNames, SparesFiles, OfFile, Removes, OpensFolder, FindsFolder}
 use Rattle.durable_folder.specs.Counting.{is_refusal, if_so}
 use Rattle.durable_folder.specs.Answers.{refusal_of}
-use Rattle.durable_folder.specs.Histories.{History, Turns, Runs, IsTold, Answer, Rests, HasFile}
+use Rattle.durable_folder.specs.Histories.{History, IsPlaceOf, Turns, Runs, IsTold, Answer, Rests, HasFile}
 use Rattle.durable_folder.specs.Places.{folder_of}
 use Rattle.durable_folder.specs.declared.folder.Found.{Found}
 use Rattle.durable_folder.specs.declared.replacing.Owner.{Owner}
 use Rattle.durable_folder.specs.Saving.{KeepsOrReplaces, IsNew, IsMade, Prepares, WasRefused, FillEnds, Fills, Shifts, PutEnds, Puts, Aside, FinishSteps}
-use Rattle.durable_folder.specs.Saving.{FinishEnds, Ends, ReplaceEnds, ReplacesBy, Replaces, IsMounted, Mounted, ReplaceOrNotEnds, ReplacesOrNot}
+use Rattle.durable_folder.specs.Saving.{FinishEnds, Ends, ReplaceEnds, ReplacesBy, Replaces, Mounted, ReplaceOrNotEnds, ReplacesOrNot}
 use Rattle.durable_folder.proofs.Passing.{runs_of, runs_weaker, runs_then, runs_counted, runs_ended}
 use Rattle.durable_folder.proofs.Putting.{put_err}
 use Rattle.durable_folder.proofs.Replacements.{prepares_keeps, shifts_keeps, saved_file, aside_prepares, new_filled, differs}
@@ -252,13 +252,30 @@ not_opened place folder name owner bytes e n a b counts turn =
     runs_weaker a b (runs_of (OpensFolder place folder (Err e)) n a b turn) (no_change_keeps name bytes)
     (λ h k x. by_refusal name owner bytes (is_refusal (error_kind e)) e h k x.0 (x.1 ∙ ap (λ i. h.refusals + i) counts))
 
--- whether it is mounted is told, and nothing changes
-pub opened_mounted : {X : Type 0} (place : X → List ℕ) (folder : List ℕ) (opened : X) (owner : Option Owner) (r : Result Bool Error) (n : Answer)
-    (a b c : Option History) →
-    Turns (OpensFolder place folder (Ok opened)) n a b → Mounted (place opened) owner r b c → Mounted folder owner r a c
-opened_mounted place folder opened owner r n a b c turn mounted =
-    runs_then a b c (runs_of (OpensFolder place folder (Ok opened)) n a b turn) mounted (λ s t x. x.0) (λ h k u x y. y ∙ x.0.0)
-    (λ h k l x y. (y.0 ∙ x.0.0, λ is. let at : IsMounted folder owner k.now = rw x.0.1 at (y.1 is) in rw x.0.0 at at))
+-- a folder of the name, of which it is told whether the file is mounted
+pub mounted_at : (place name : List ℕ) (owner : Option Owner) (r : Result Bool Error) (a b : Option History) → IsPlaceOf place name a →
+    Mounted place owner r a b → Mounted (folder_of name) owner r a b
+mounted_at place name owner r None None at mounted = record { run = tt }
+mounted_at place name owner r None (Some k) at mounted = absurd mounted.run
+mounted_at place name owner r (Some h) b at mounted = rw (at.is tt) at mounted
+
+or_not_from : (name : List ℕ) (owner : Option Owner) (bytes : List ℕ) (result : Result Replaced Error) (h k l : History) → h.refusals ≤ k.refusals →
+    k.now ≡ h.now → ReplaceOrNotEnds name owner bytes result k l → ReplaceOrNotEnds name owner bytes result h l
+or_not_from name owner bytes (Ok replaced.Done) h k l more same x = x
+or_not_from name owner bytes (Ok replaced.Refused) h k l more same x = (
+  rw same at x.0,
+  elim x.1 [ inl mounted ↦ inl (rw same at mounted) | inr again ↦ inr (omega (arith, again, more)) ],
+)
+or_not_from name owner bytes (Err e) h k l more same x = tt
+
+-- a replacement in a folder that was opened
+pub opened_replaced : {X : Type 0} (place : X → List ℕ) (folder : List ℕ) (opened : X) (name : List ℕ) (owner : Option Owner) (bytes : List ℕ)
+    (result : Result Replaced Error) (n : Answer) (a b c : Option History) → Turns (OpensFolder place folder (Ok opened)) n a b →
+    ReplacesOrNot name owner bytes result b c → ReplacesOrNot name owner bytes result a c
+opened_replaced place folder opened name owner bytes result n a b c turn replaces =
+    runs_then a b c (runs_counted a b (runs_of (OpensFolder place folder (Ok opened)) n a b turn)) replaces
+    (λ s t x. no_change_keeps name bytes s t x.0) (λ h k u x y. rw x.1.0.0 at y)
+    (λ h k l x y. or_not_from name owner bytes result h k l x.0 x.1.0.0 y)
 
 not_or_ends : (name : List ℕ) (owner : Option Owner) (bytes : List ℕ) (result : Result Replaced Error) (h k l : History) → h.refusals ≤ k.refusals →
     k.now ≡ h.now →

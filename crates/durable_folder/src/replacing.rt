@@ -3,7 +3,7 @@ ghost use Rattle.std.specs.Prelude.{◌≡◌, ◌≢◌, ◌⊎◌, ◌↔◌, 
 ghost use Rattle.durable_folder.specs.NewFiles.{beside_of, handle_of};
 ghost use Rattle.durable_folder.specs.Causes.{AllTaken, AtNow, HasCause, HasFailed, HasFault, IsLater, IsNamed};
 ghost use Rattle.durable_folder.specs.Histories.{IsPlaceOf, Rests};
-ghost use Rattle.durable_folder.specs.Saving.{Gives, WritesWhole, Fills, Puts, Ends, ReplacesBy, Replaces, Mounted, ReplacesOrNot};
+ghost use Rattle.durable_folder.specs.Saving.{Gives, WritesWhole, Fills, Puts, Ends, ReplacesBy, Mounted, ReplacesOrNot};
 
 use crate::answers::{Replaced, refused};
 use crate::beside::folder_of;
@@ -178,7 +178,7 @@ fn replace_by<F: Folder>(
     finish(folder, place, &file, beside.as_str(), name, filled)
 }
 
-/// Makes a new file, and puts it in the place of the one of this name.
+/// Makes a new file in this folder, and puts it in the place of the one of this name. A mount point is not replaced.
 fn replace_in<F: Folder>(
     folder: &mut F,
     alloc: Global,
@@ -187,9 +187,12 @@ fn replace_in<F: Folder>(
     owner: Option<Owner>,
     bytes: &[u8],
 ) -> io::Result<Replaced>
-    ensures replaces { IsPlaceOf (F.place place.now) name.now (F.told folder.old) → Replaces name.now bytes.now result (F.told folder.old) (F.told folder.new) }
+    ensures replaces { IsPlaceOf (F.place place.now) name.now (F.told folder.old) → ReplacesOrNot name.now owner bytes.now result (F.told folder.old) (F.told folder.new) }
     ensures cause { HasCause (AtNow (AllTaken name.now) (F.told folder.old)) result (F.told folder.old) (F.told folder.new) }
 {
+    if is_mounted(folder, place, &owner)? {
+        return Ok(Replaced::Refused);
+    }
     match new_file(folder, alloc, name, owner.is_some()) {
         Ok(new) => replace_by(folder, place, new, name, owner, bytes),
         Err(error) => refused(error),
@@ -225,12 +228,8 @@ pub fn replace<F: Folder>(
     ensures replaces { ReplacesOrNot name.now owner bytes.now result (F.told folder.old) (F.told folder.new) }
     ensures cause { HasCause (AtNow (AllTaken name.now) (F.told folder.old)) result (F.told folder.old) (F.told folder.new) }
 {
-    let place = match folder.open_folder(folder_of(name)) {
-        Ok(place) => place,
-        Err(error) => return refused(error),
-    };
-    if is_mounted(folder, &place, &owner)? {
-        return Ok(Replaced::Refused);
+    match folder.open_folder(folder_of(name)) {
+        Ok(place) => replace_in(folder, alloc, &place, name, owner, bytes),
+        Err(closed) => refused(closed),
     }
-    replace_in(folder, alloc, &place, name, owner, bytes)
 }

@@ -1,31 +1,56 @@
+use Rattle.std.proofs.Common.{◌∙◌, ap, Ok}
+use Rattle.durable_folder.specs.Causes.{AtNow, AllTaken}
 use Rattle.durable_folder.specs.NewFiles.{beside_of, handle_of}
-use Rattle.durable_folder.proofs.Causing.{later_then, then_failed, fault_cause, refused_cause, made_named}
+use Rattle.durable_folder.proofs.Causing.{later_then, then_failed, now_back, cause_later, fault_cause, refused_cause, made_named}
 use Rattle.durable_folder.proofs.Passing.{told_before}
-use Rattle.durable_folder.proofs.Finishing.{replaced_in, not_made}
+use Rattle.durable_folder.proofs.Finishing.{mounted_at, mounted_refused, not_looked, not_made, replaced_in, then_replaced}
 use Rattle.durable_folder.proofs.replacing.replace_in.Goals as goal
 
+pub returns-in_err-is_mounted-clause-replaces : goal.returns-in_err-is_mounted-clause-replaces
+returns-in_err-is_mounted-clause-replaces g c at =
+    let before = g.F.Folder.told c.args.folder.now in
+    let looked = g.F.Folder.told c.is_mounted.new.folder in
+    not_looked c.args.name.now c.args.owner c.args.bytes.now c.is_mounted.result c.from_residual.result before looked c.from_residual.ensures.0
+    (mounted_at (g.F.Folder.place c.args.place.now) c.args.name.now c.args.owner c.is_mounted.result before looked at c.is_mounted.ensures.mounted)
+
+pub returns-then-branch-clause-replaces : goal.returns-then-branch-clause-replaces
+returns-then-branch-clause-replaces g c at =
+    let before = g.F.Folder.told c.args.folder.now in
+    let looked = g.F.Folder.told c.is_mounted.new.folder in
+    mounted_refused c.args.name.now c.args.owner c.args.bytes.now c.is_mounted.result before looked (c.in_ok-is_mounted.was ∙ ap Ok c.if-branch.true)
+    (mounted_at (g.F.Folder.place c.args.place.now) c.args.name.now c.args.owner c.is_mounted.result before looked at c.is_mounted.ensures.mounted)
+
 pub returns-in-Ok-clause-replaces : goal.returns-in-Ok-clause-replaces
-returns-in-Ok-clause-replaces g c is =
-    replaced_in (handle_of g.F.Folder.handle c.in-Ok.new) c.args.name.now (beside_of c.in-Ok.new) c.args.bytes.now c.replace_by.result
-    (g.F.Folder.told c.args.folder.now)
-    (g.F.Folder.told c.new_file.new.folder) (g.F.Folder.told c.replace_by.new.folder) c.in-Ok.ensures.makes
+returns-in-Ok-clause-replaces g c at =
+    let before = g.F.Folder.told c.args.folder.now in
+    let looked = g.F.Folder.told c.is_mounted.new.folder in
+    let made = g.F.Folder.told c.new_file.new.folder in
+    let last = g.F.Folder.told c.replace_by.new.folder in
+    then_replaced c.args.name.now c.args.owner c.args.bytes.now c.is_mounted.result c.replace_by.result before looked last
+    (mounted_at (g.F.Folder.place c.args.place.now) c.args.name.now c.args.owner c.is_mounted.result before looked at c.is_mounted.ensures.mounted)
+    (replaced_in (handle_of g.F.Folder.handle c.in-Ok.new) c.args.name.now (beside_of c.in-Ok.new) c.args.bytes.now c.replace_by.result looked made last
+    c.in-Ok.ensures.makes
     (c.replace_by.ensures.replaces c.in-Ok.ensures.apart (record {
-      is = λ told. is.is (told_before (g.F.Folder.told c.args.folder.now)
-          (g.F.Folder.told c.new_file.new.folder) c.in-Ok.ensures.makes told);
-    }))
+      is = λ told. at.is (told_before before looked c.is_mounted.ensures.mounted (told_before looked made c.in-Ok.ensures.makes told));
+    })))
 
 pub returns-in-Err-clause-replaces : goal.returns-in-Err-clause-replaces
-returns-in-Err-clause-replaces g c is =
-    rw c.refused.ensures (not_made c.args.name.now c.args.bytes.now c.in-Err.error (g.F.Folder.told c.args.folder.now)
-    (g.F.Folder.told c.new_file.new.folder) c.in-Err.ensures.makes)
+returns-in-Err-clause-replaces g c at =
+    let before = g.F.Folder.told c.args.folder.now in
+    let looked = g.F.Folder.told c.is_mounted.new.folder in
+    let made = g.F.Folder.told c.new_file.new.folder in
+    then_replaced c.args.name.now c.args.owner c.args.bytes.now c.is_mounted.result c.refused.result before looked made
+    (mounted_at (g.F.Folder.place c.args.place.now) c.args.name.now c.args.owner c.is_mounted.result before looked at c.is_mounted.ensures.mounted)
+    (rw c.refused.ensures (not_made c.args.name.now c.args.bytes.now c.in-Err.error looked made c.in-Err.ensures.makes))
 
 pub returns-in-Ok-clause-cause : goal.returns-in-Ok-clause-cause
 returns-in-Ok-clause-cause g c =
     let before = g.F.Folder.told c.args.folder.now in
+    let looked = g.F.Folder.told c.is_mounted.new.folder in
     let made = g.F.Folder.told c.new_file.new.folder in
     let last = g.F.Folder.told c.replace_by.new.folder in
-    let first = c.in-Ok.ensures.cause.0 in
-    let named = made_named (handle_of g.F.Folder.handle c.in-Ok.new) c.args.name.now (beside_of c.in-Ok.new) before made c.in-Ok.ensures.makes in
+    let first = later_then before looked made c.is_mounted.ensures.fault.0 c.in-Ok.ensures.cause.0 in
+    let named = made_named (handle_of g.F.Folder.handle c.in-Ok.new) c.args.name.now (beside_of c.in-Ok.new) looked made c.in-Ok.ensures.makes in
     fault_cause _ c.replace_by.result before last (
       later_then before made last first c.replace_by.ensures.later,
       λ err. then_failed before made last first (c.replace_by.ensures.fault named err),
@@ -33,4 +58,10 @@ returns-in-Ok-clause-cause g c =
 
 pub returns-in-Err-clause-cause : goal.returns-in-Err-clause-cause
 returns-in-Err-clause-cause g c =
-    rw c.refused.ensures (refused_cause _ c.in-Err.error (g.F.Folder.told c.args.folder.now) (g.F.Folder.told c.new_file.new.folder) c.in-Err.ensures.cause)
+    let before = g.F.Folder.told c.args.folder.now in
+    let looked = g.F.Folder.told c.is_mounted.new.folder in
+    let made = g.F.Folder.told c.new_file.new.folder in
+    let taken = AllTaken c.args.name.now in
+    cause_later (AtNow taken looked) (AtNow taken before) c.refused.result before looked made c.is_mounted.ensures.fault.0
+    (λ at. now_back taken before looked c.is_mounted.ensures.mounted at)
+    (rw c.refused.ensures (refused_cause _ c.in-Err.error looked made c.in-Err.ensures.cause))
