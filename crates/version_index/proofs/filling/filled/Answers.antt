@@ -16,7 +16,7 @@ pub fill-requires-clause-few : goal.fill-requires-clause-few
 fill-requires-clause-few c =
     subst (λ (k : Kept). length c.args.standing.now.list ≤ slots_of k.shape) (sym c.in_ok-filling.ensures) c.requires.few
 
-pub returns-clause-found : goal.returns-clause-found
-returns-clause-found c list can =
-    c.in_ok-fill.ensures.found list
+pub returns-in-Ok-clause-found : goal.returns-in-Ok-clause-found
+returns-in-Ok-clause-found c list can =
+    c.in-Ok.ensures.found list
     (subst (λ (k : Kept). CanFill c.args.logical c.args.seen.now list c.args.standing.now.list k) (sym c.in_ok-filling.ensures) can)
