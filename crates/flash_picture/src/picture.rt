@@ -60,13 +60,22 @@ fn write_picture(
     ensures { OnOk result (text.new.items ≡ text.old.items ++ picture config notes.now marks) }
 {
     let standing = standing_of(alloc, config, notes)?;
-    let cells = cells(alloc, &standing, notes)?;
-    let map = Map {
-        shape: shape(config),
-        cells: &cells,
-        marks,
-    };
-    write_parts(alloc, config, standing.chart(), &map, text)
+    match cells(alloc, &standing, notes) {
+        Ok(cells) => {
+            let map = Map {
+                shape: shape(config),
+                cells: &cells,
+                marks,
+            };
+            let outcome = write_parts(alloc, config, standing.chart(), &map, text);
+            drop(standing);
+            outcome
+        }
+        Err(error) => {
+            drop(standing);
+            Err(error)
+        }
+    }
 }
 
 /// Appends the picture of records with these cells.

@@ -52,13 +52,22 @@ fn write_svg(
     ensures { OnOk result (text.new.items ≡ text.old.items ++ svg config notes.now marks) }
 {
     let standing = standing_of(alloc, config, notes)?;
-    let cells = cells(alloc, &standing, notes)?;
-    let map = Map {
-        shape: shape(config),
-        cells: &cells,
-        marks,
-    };
-    write_map(alloc, config, &map, standing.chart(), text)
+    match cells(alloc, &standing, notes) {
+        Ok(cells) => {
+            let map = Map {
+                shape: shape(config),
+                cells: &cells,
+                marks,
+            };
+            let outcome = write_map(alloc, config, &map, standing.chart(), text);
+            drop(standing);
+            outcome
+        }
+        Err(error) => {
+            drop(standing);
+            Err(error)
+        }
+    }
 }
 
 /// Appends the picture of records with the cells of a map.
