@@ -1,5 +1,4 @@
 use Rattle.std.proofs.Common.{◌≡◌, ℕ, ◌<◌, List, length, All, sym, subst}
-use Rattle.std.proofs.lemmas.Result.{err_from_is_err_and}
 use Rattle.tx_types.specs.declared.config.Protocol.{Protocol}
 use Rattle.tx_types.specs.Config.{slots_of}
 use Rattle.flash_model.specs.declared.flash.Seen.{Seen}
@@ -34,25 +33,23 @@ try_law_two-requires-clause-exist g c =
     (scan_exists c.args.config.protocol c.args.config.logical a b c.in_ok-scanned.scanned.seen.items c.in_ok-scanned.scanned.list.items
     c.in_ok-scanned.ensures.scan c.in_ok-scanned.ensures.reads c.requires.whole)
 
-pub returns-clause-copies : goal.returns-clause-copies
-returns-clause-copies g c =
+pub returns-in-Ok-clause-copies : goal.returns-in-Ok-clause-copies
+returns-in-Ok-clause-copies g c =
     let a = g.F.Flash.state c.args.flash.now in
     let b = g.F.Flash.state c.scan.new.flash in
-    c.in_ok-try_law_two.ensures.copies c.args.config.protocol c.args.config.logical a
+    c.in-Ok.ensures.copies c.args.config.protocol c.args.config.logical a
     (was_scanned _ _ a b _ _ _ c.in_ok-charted.ensures.list c.in_ok-scanned.ensures.scan c.in_ok-scanned.ensures.reads)
 
-pub returns-clause-reads : goal.returns-clause-reads
-returns-clause-reads g c =
+pub returns-in-Ok-clause-reads : goal.returns-in-Ok-clause-reads
+returns-in-Ok-clause-reads g c =
     let a = g.F.Flash.state c.args.flash.now in
     let b = g.F.Flash.state c.scan.new.flash in
-    c.in_ok-try_law_two.ensures.reads c.args.config.protocol c.args.config.logical a
+    c.in-Ok.ensures.reads c.args.config.protocol c.args.config.logical a
     (was_scanned _ _ a b _ _ _ c.in_ok-charted.ensures.list c.in_ok-scanned.ensures.scan c.in_ok-scanned.ensures.reads)
 
-pub returns-in_err-try_law_two-clause-reads : goal.returns-in_err-try_law_two-clause-reads
-returns-in_err-try_law_two-clause-reads g c =
+pub returns-in-Err-clause-reads : goal.returns-in-Err-clause-reads
+returns-in-Err-clause-reads g c =
     let a = g.F.Flash.state c.args.flash.now in
     let b = g.F.Flash.state c.scan.new.flash in
-    let p = err_from_is_err_and c.from_residual-in_err-try_law_two.result c.from_residual-in_err-try_law_two.ensures.1 in
-    rw (p.1, p.2)
-    (c.in_err-try_law_two.ensures.reads c.args.config.protocol c.args.config.logical a
-    (was_scanned _ _ a b _ _ _ c.in_ok-charted.ensures.list c.in_ok-scanned.ensures.scan c.in_ok-scanned.ensures.reads))
+    c.in-Err.ensures.reads c.args.config.protocol c.args.config.logical a
+    (was_scanned _ _ a b _ _ _ c.in_ok-charted.ensures.list c.in_ok-scanned.ensures.scan c.in_ok-scanned.ensures.reads)
