@@ -86,17 +86,23 @@ fn nothing_given(alloc: Global, shape: Shape, logical: u32) -> Result<Given, All
 {
     let count = shape.slots();
     let (pins, answers, waits) = answer_tables(alloc, logical, count)?;
-    let (current, slots, records) = record_tables(alloc, logical, count)?;
-    Ok(Given {
-        shape,
-        slots,
-        records,
-        current,
-        answers,
-        waits,
-        pins,
-        spare: None,
-    })
+    match record_tables(alloc, logical, count) {
+        Ok((current, slots, records)) => Ok(Given {
+            shape,
+            slots,
+            records,
+            current,
+            answers,
+            waits,
+            pins,
+            spare: None,
+        }),
+        Err(error) => {
+            drop(answers);
+            drop(waits);
+            Err(error)
+        }
+    }
 }
 
 impl Filling {
