@@ -2,6 +2,7 @@
 #![tactic(auto)]
 
 mod arms;
+mod cached;
 mod flash;
 mod laws;
 mod outcome;
@@ -9,6 +10,7 @@ mod retire;
 mod wide;
 
 pub use arms::{Arms, Power};
+pub use cached::{Cached, NotDurable};
 pub use flash::{Broken, Flash, SPARE_BYTES, Seen};
 pub use laws::{
     calls_compose, fires_are_programs, images_stay, loads_come_in_order, operations_move,

@@ -1,9 +1,9 @@
-ghost use Rattle.std.specs.Prelude.{◌≡◌, ◌<◌, ◌≤◌, ◌+◌, ◌*◌, length, drop, Some, true, is_some, IfOk, OnErr};
+ghost use Rattle.std.specs.Prelude.{◌≡◌, ◌<◌, ◌≤◌, ◌+◌, ◌*◌, length, drop, Some, true, false, is_some, IfOk, OnErr};
 ghost use Rattle.std.specs.List.{flat_map};
 ghost use Rattle.std.specs.Result.{is_err};
 ghost use Rattle.tx_types.specs.Config.{IsShape, slots_of, blocks_of};
 ghost use Rattle.tx_types.specs.Limits.{spare_bytes};
-ghost use Rattle.flash_model.specs.Flash.{slot_at, IsFlash};
+ghost use Rattle.flash_model.specs.Flash.{slot_at, IsFlash, counted};
 ghost use Rattle.flash_model.specs.Operations.{CanProgram, program, erase};
 ghost use Rattle.flash_model.specs.Calls.{Carries, Reads, ReadsSpareArea, Programs, Erases, seen_of};
 ghost use Rattle.flash_model.specs.Arms.{TurnsOn, ArmsCut, ArmsFault, ArmsBadRead};
@@ -171,6 +171,22 @@ impl MemFlash {
         ensures { result ≡ self.now.faults }
     {
         self.faults
+    }
+
+    /// Turns power off in the call that was just made, which counts as a fault. What it did stays in its slots, but
+    /// neither a program nor an erase of it is counted: the counts are those from before it.
+    pub fn lose_power(&mut self, programs: u64, erases: u64)
+        ensures { self.new ≡ record self.old {
+          live = false;
+          faults = counted self.old.faults;
+          programs = programs;
+          erases = erases;
+        } }
+    {
+        self.live = false;
+        self.faults = self.faults.saturating_add(1);
+        self.programs = programs;
+        self.erases = erases;
     }
 
     /// The arms count a program, an erase, a retirement or a fire. Gives the outcome with which it is broken, if it is.

@@ -9,3 +9,7 @@ pub mod CopyLaw
 pub mod Counting
 pub mod Partial
 pub mod Completing
+pub mod Spared
+pub mod SlotLosses
+pub mod LostWrites
+pub mod LostTransactions

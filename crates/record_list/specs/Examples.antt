@@ -1,5 +1,5 @@
 -- Lists of a few records, and what the definitions say of them.
-use Rattle.std.specs.Prelude.{◌≡◌, ℕ, true, false, Some, None, List, [], ◌∷◌}
+use Rattle.std.specs.Prelude.{◌≡◌, ℕ, ◌==◌, ◌||◌, Bool, true, false, not, Some, None, List, [], ◌∷◌}
 use Rattle.tx_types.specs.declared.record.Link.{Link}
 use Rattle.tx_types.specs.declared.config.Shape.{Shape}
 use Rattle.tx_types.specs.declared.config.Protocol.TheVariants.{Scc, Bpcc}
@@ -8,7 +8,9 @@ use Rattle.record_list.specs.declared.found.Why.TheVariants.{Passed, Straddled}
 use Rattle.record_list.specs.Verdict.{why}
 use Rattle.record_list.specs.Current.{cur, responsible, is_held, must_go}
 use Rattle.record_list.specs.SoundList.{LooseIsShown, LooseEnds}
+use Rattle.record_list.specs.Changes.{IsWrite, left, KeepsCounted}
 use Rattle.record_list.specs.Written.{home, is_needed}
+use Rattle.record_list.specs.Losses.{IsSpared}
 
 abbrev pub name : ℕ → ℕ → Link
 name page version = record { page = page; version = version }
@@ -98,3 +100,66 @@ ClosedBreaks =
 -- a record that mentions its page at two versions must go before either is passed
 abbrev pub TwiceMentioned : Type 0
 TwiceMentioned = must_go Scc (found 0 3 3 3 9 0 ∷ []) 20 3 5 (found 0 3 3 3 9 0).rec ≡ true
+
+-- a record of a transaction of two pages
+abbrev pub of_two : Found → Found
+of_two f = record f { rec = record f.rec { count = 2 } }
+
+-- a record of page 0 with a copy in the next block, and the first of two records of a transaction
+abbrev pub begun : List Found
+begun = found 0 0 1 0 1 0 ∷ found 4 0 1 0 1 0 ∷ of_two (found 5 1 1 2 1 0) ∷ []
+
+-- the slot of that record alone
+abbrev pub first_alone : ℕ → Bool
+first_alone slot = slot == 0
+
+-- the copy and the first of the two records may go, but not the record with its copy
+abbrev pub CopyMayGo : Type 0
+CopyMayGo =
+    IsSpared Scc begun 3 shape first_alone
+    × (cur Scc begun 3 0 ≡ 1) × (cur Scc (left first_alone begun) 3 0 ≡ 1)
+    × (KeepsCounted Scc begun 3 (λ slot. slot == 5) → ⊥)
+
+-- the transaction, and its second record
+abbrev pub pair : List Link
+pair = name 1 1 ∷ name 2 1 ∷ []
+
+abbrev pub second : Found
+second = of_two (found 6 2 1 1 1 0)
+
+-- all slots but that of its first record
+abbrev pub without_first : ℕ → Bool
+without_first slot = not (slot == 5)
+
+abbrev pub ended : List Found
+ended = found 0 0 1 0 1 0 ∷ found 4 0 1 0 1 0 ∷ of_two (found 5 1 1 2 1 0) ∷ second ∷ []
+
+-- the transaction asks for its second record also where the first was lost
+abbrev pub AskedAfterLoss : Type 0
+AskedAfterLoss =
+    IsWrite Scc begun ended 3 pair second
+    × IsWrite Scc (left without_first begun) (left without_first ended) 3 pair second
+
+-- with both records it is whole, and with the second alone it is absent, under either protocol
+abbrev pub WholeOrAbsent : Type 0
+WholeOrAbsent =
+    (cur Scc ended 3 1 ≡ 1) × (cur Scc ended 3 2 ≡ 1)
+    × (cur Scc (left without_first ended) 3 1 ≡ 0) × (cur Scc (left without_first ended) 3 2 ≡ 0)
+    × (cur Bpcc ended 3 1 ≡ 1) × (cur Bpcc ended 3 2 ≡ 1)
+    × (cur Bpcc (left without_first ended) 3 1 ≡ 0) × (cur Bpcc (left without_first ended) 3 2 ≡ 0)
+
+-- a whole transaction of three pages, and a later one of page 1
+abbrev pub overtaken : List Found
+overtaken = found 0 0 1 1 1 0 ∷ found 1 1 1 2 1 0 ∷ found 2 2 1 0 1 0 ∷ found 3 1 2 1 2 1 ∷ []
+
+abbrev pub first_and_last : ℕ → Bool
+first_and_last slot = (slot == 0) || (slot == 3)
+
+-- a current record may not go: without the records of pages 1 and 2 the transaction would be torn, since the link of
+-- page 0 is passed
+abbrev pub TornWithoutCurrent : Type 0
+TornWithoutCurrent =
+    (cur Scc overtaken 3 0 ≡ 1) × (cur Scc overtaken 3 1 ≡ 2) × (cur Scc overtaken 3 2 ≡ 1)
+    × (cur Scc (left first_and_last overtaken) 3 0 ≡ 1)
+    × (cur Scc (left first_and_last overtaken) 3 2 ≡ 0)
+    × (KeepsCounted Scc overtaken 3 first_and_last → ⊥)

@@ -7,6 +7,7 @@ pub mod Changes
 pub mod Written
 pub mod WrittenChanges
 pub mod ArrayChanges
+pub mod Losses
 pub mod Search
 pub mod Counts
 pub mod Examples

@@ -19,6 +19,7 @@ pub use laws::{
 pub use plain::{mention, newest, next_older, present};
 pub use rule::CommitRule;
 pub use theorems::{
-    array_changes, counts_stay, current_is_present, flags_stay, walk_ends, worked_examples,
+    array_changes, counts_stay, current_is_present, flags_stay, lost_transactions, slots_may_go,
+    walk_ends, worked_examples, writes_outlive_losses,
 };
 pub use walks::{current_version, link_of, reason, straddling};

@@ -8,8 +8,10 @@ ghost use Rattle.record_list.specs.Verdict.{newest_name, link_of, walk, why};
 ghost use Rattle.record_list.specs.SoundList.{CurrentIsPresent, IsSoundList};
 ghost use Rattle.record_list.specs.Changes.{PartialWriteLaw, CompletingWriteLaw, CopyLaw, LossLaw};
 ghost use Rattle.record_list.specs.ArrayChanges.{PartialWriteLeavesArray, CompletingWriteTakesTransaction, CopyLeavesArray, BlockLossLeavesArray};
+ghost use Rattle.record_list.specs.Losses.{WrittenSlotLossLaw, WriteAfterLossLaw, LostTransactionLaw};
 ghost use Rattle.record_list.specs.Counts.{WriteKeepsCounts, CopyKeepsCounts, LossKeepsCounts, WriteKeepsFlags, OthersKeepFlags, CopyKeepsFlags, LossKeepsFlags};
 ghost use Rattle.record_list.specs.Examples.{StraddledVerdict, StraddledIsHeld, NamesakeIsHeld, CopiedHome, UnansweredBreaks, MisledBreaks, ClosedBreaks, TwiceMentioned};
+ghost use Rattle.record_list.specs.Examples.{CopyMayGo, AskedAfterLoss, WholeOrAbsent, TornWithoutCurrent};
 
 /// On a sound list as many links as there are pages decide a verdict: a walk that may look at more of
 /// them ends alike.
@@ -36,6 +38,26 @@ pub fn array_changes()
         CompletingWriteTakesTransaction protocol }
     ensures copy { (protocol : Protocol) → CopyLaw protocol → CopyLeavesArray protocol }
     ensures block_loss { (protocol : Protocol) → LossLaw protocol → BlockLossLeavesArray protocol }
+{}
+
+/// Whichever protocol has the commit laws, any slots may go from a list, as long as each current and each held
+/// record has a slot that stays, outside some block. The nine laws stay then, every current version, each
+/// transaction in progress, and the array.
+pub fn slots_may_go()
+    ensures { (protocol : Protocol) → LossLaw protocol → WrittenSlotLossLaw protocol }
+{}
+
+/// Whichever protocol has the commit laws, a record that a transaction writes is a write of it also where records
+/// were lost before of which none was current or held.
+pub fn writes_outlive_losses()
+    ensures { (protocol : Protocol) → LossLaw protocol → WriteAfterLossLaw protocol }
+{}
+
+/// Whichever protocol has the commit laws, a transaction of which any records were lost is whole or absent: its next
+/// record is a partial write where a name of it is absent, and else a completing write. The nine laws stay.
+pub fn lost_transactions()
+    ensures { (protocol : Protocol) → LossLaw protocol → PartialWriteLaw protocol →
+        CompletingWriteLaw protocol → LostTransactionLaw protocol }
 {}
 
 /// Law 9 stays where a record of a transaction is written, where a record is copied, and where records
@@ -65,4 +87,8 @@ pub fn worked_examples()
     ensures misled { MisledBreaks }
     ensures closed { ClosedBreaks }
     ensures twice_mentioned { TwiceMentioned }
+    ensures copy_may_go { CopyMayGo }
+    ensures asked_after_loss { AskedAfterLoss }
+    ensures whole_or_absent { WholeOrAbsent }
+    ensures torn { TornWithoutCurrent }
 {}

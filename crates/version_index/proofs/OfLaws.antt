@@ -4,3 +4,4 @@ pub mod ImageScans
 pub mod Mirror
 pub mod NotedImages
 pub mod FirstRecord
+pub mod SlotLosses

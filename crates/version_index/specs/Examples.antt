@@ -1,5 +1,5 @@
 -- A few slots, and what the definitions say of them.
-use Rattle.std.specs.Prelude.{◌≡◌, ℕ, true, false, Some, None, List, [], ◌∷◌}
+use Rattle.std.specs.Prelude.{◌≡◌, ℕ, ◌==◌, Bool, true, false, Some, None, List, [], ◌∷◌}
 use Rattle.tx_types.specs.declared.record.Link.{Link}
 use Rattle.tx_types.specs.declared.record.Rec.{Rec}
 use Rattle.tx_types.specs.declared.config.Config.{Config}
@@ -10,7 +10,9 @@ use Rattle.flash_model.specs.Flash.{Contents, blank, damaged, complete}
 use Rattle.page_record.specs.Spelling.{spelling}
 use Rattle.record_list.specs.declared.found.Breach.{Breach}
 use Rattle.version_index.specs.declared.note.Note.TheVariants.{Blank, Damaged, Holds}
-use Rattle.version_index.specs.Images.{array_in, IsLeastImageBreach}
+use Rattle.record_list.specs.Losses.{IsSpared}
+use Rattle.version_index.specs.Images.{records_in, array_in, IsLeastImageBreach}
+use Rattle.version_index.specs.SlotLosses.{LosesSlots}
 use Rattle.version_index.specs.Noted.{Noted, current_of, home_of, slot_off, needed_of, block_to_go, garbage_of, pinned_names, raised}
 
 abbrev pub name : ℕ → ℕ → Link
@@ -110,3 +112,22 @@ written =
 
 abbrev pub WrittenArray : Type 0
 WrittenArray = array_in Scc 3 written ≡ Some (7 ∷ []) ∷ None ∷ None ∷ []
+
+-- the image without the aborted record, whose slot is damaged, and without the other one
+abbrev pub without_aborted : List Contents
+without_aborted = complete (7 ∷ []) (spelling Scc (rec 0 1 0 1 0)) ∷ damaged ∷ blank ∷ []
+
+abbrev pub without_current : List Contents
+without_current = blank ∷ complete (8 ∷ []) (spelling Scc (rec 1 3 2 7 0)) ∷ blank ∷ []
+
+-- the slot of page 0 alone
+abbrev pub page_0_stays : ℕ → Bool
+page_0_stays slot = slot == 0
+
+-- the aborted record may go, and the array stays; without its current record page 0 is blank
+abbrev pub AbortedMayGo : Type 0
+AbortedMayGo =
+    LosesSlots page_0_stays written without_aborted
+    × IsSpared Scc (records_in Scc written) 3 (shape_of (config Scc)) page_0_stays
+    × (array_in Scc 3 without_aborted ≡ Some (7 ∷ []) ∷ None ∷ None ∷ [])
+    × (array_in Scc 3 without_current ≡ None ∷ None ∷ None ∷ [])

@@ -81,7 +81,7 @@ pub record KeepsCopied (protocol : Protocol) (logical : ℕ) (shape : Shape)
   pub array : array_in protocol logical image' ≡ array_in protocol logical image
   pub texts : TextsStay protocol image image'
 
--- what the image without the records of a block keeps
+-- what an image without some of its records keeps
 pub record KeepsLost (protocol : Protocol) (logical : ℕ) (shape : Shape)
     (image image' : List Contents) : Type 0 where
   pub sound : IsSoundImage protocol logical shape image'

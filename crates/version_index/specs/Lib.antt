@@ -4,6 +4,7 @@ pub mod Noted
 pub mod Tables
 pub mod ImageChanges
 pub mod ImageLaws
+pub mod SlotLosses
 pub mod Examples
 pub mod Judged
 pub mod JudgedChanges

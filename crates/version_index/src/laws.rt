@@ -1,5 +1,6 @@
 //! The commit laws stated of images. The functions do nothing: each is there for what it ensures.
 ghost use Rattle.version_index.specs.ImageLaws.{ImagePartialLaw, ImageCompletingLaw, ImageCopyLaw, ImageLossLaw, ImageDamageLaw};
+ghost use Rattle.version_index.specs.SlotLosses.{ImageSlotLossLaw, AsksAfterLossLaw};
 ghost use Rattle.tx_types.specs.declared.config.Protocol.{Protocol};
 
 use record_list::CommitRule;
@@ -27,4 +28,16 @@ pub fn copy<R: CommitRule>()
 /// A block without its records.
 pub fn block_loss<R: CommitRule>()
     ensures { ImageLossLaw R.protocol }
+{}
+
+/// Any slots without their records, as long as each current and each held record has a slot that stays, outside some
+/// block: they are blank or damaged.
+pub fn slots_lost<R: CommitRule>()
+    ensures { ImageSlotLossLaw R.protocol }
+{}
+
+/// A transaction asks for its next record also where slots were lost. So this is a partial or a completing write to
+/// what is left.
+pub fn asks_after_loss<R: CommitRule>()
+    ensures { AsksAfterLossLaw R.protocol }
 {}

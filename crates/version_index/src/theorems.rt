@@ -12,7 +12,7 @@ ghost use Rattle.version_index.specs.declared.note.Note.TheVariants as note;
 ghost use Rattle.version_index.specs.Images.{records_in, SlotReads};
 ghost use Rattle.version_index.specs.Notes.{note_at, found_in, notes_of};
 ghost use Rattle.version_index.specs.Noted.{Noted, IsNoted, IsNotedFrom, IsNextRecord, IsCompleteCycle, raised, programmed};
-ghost use Rattle.version_index.specs.Examples.{DoubledHomes, DoubledGoes, DoubledGarbage, DoubledPinned, MentionsRaised, LeastSlots, WrittenArray};
+ghost use Rattle.version_index.specs.Examples.{DoubledHomes, DoubledGoes, DoubledGarbage, DoubledPinned, MentionsRaised, LeastSlots, WrittenArray, AbortedMayGo};
 
 /// The noted records of an image are its records, and where each slot keeps law 1 a scan of the image
 /// gives its notes.
@@ -54,4 +54,5 @@ pub fn worked_examples()
     ensures mentions { MentionsRaised }
     ensures least { LeastSlots }
     ensures array { WrittenArray }
+    ensures aborted { AbortedMayGo }
 {}

@@ -1,5 +1,5 @@
 -- What the four changes do to the array that a list with bytes stands for, from what they keep of its records.
-use Rattle.std.proofs.Common.{◌≡◌, ℕ, ◌<◌, ◌≤◌, ◌⊎◌, true, false, Some, None, List, [], ◌∷◌, All, refl, sym, ap, ◌∙◌, subst, inl, inr, arith, Contains}
+use Rattle.std.proofs.Common.{◌≡◌, ℕ, ◌<◌, ◌≤◌, ◌⊎◌, Bool, true, false, Some, None, List, [], ◌∷◌, All, refl, sym, ap, ◌∙◌, subst, inl, inr, arith, Contains}
 use Rattle.std.specs.Prelude.{find, option_and_then}
 use Rattle.std.specs.Option.{option_map}
 use Rattle.std.proofs.lemmas.Bool.{cases_Bool, cases_lt, cond-true, cond-false, or_from, both_ways}
@@ -8,16 +8,14 @@ use Rattle.list_facts.proofs.Membership.{all_from, from_filter, Contains-first, 
 use Rattle.list_facts.proofs.Ranges.{map_range}
 use Rattle.tx_types.specs.declared.record.Link.{Link}
 use Rattle.tx_types.specs.declared.config.Protocol.{Protocol}
-use Rattle.tx_types.specs.declared.config.Shape.{Shape}
 use Rattle.record_list.specs.declared.found.Found.{Found}
 use Rattle.record_list.specs.Records.{name_of, has_name, is_present, IsScanned}
 use Rattle.record_list.specs.Current.{cur, IsCurrent, is_held}
 use Rattle.record_list.specs.SoundList.{current_name, IsSoundList}
-use Rattle.record_list.specs.Changes.{IsInserted, IsWrite, SameCurrent, left, PartialWriteLaw, CompletingWriteLaw, CopyLaw, LossLaw}
+use Rattle.record_list.specs.Changes.{IsInserted, IsWrite, SameCurrent, left, KeepsCounted, PartialWriteLaw, CompletingWriteLaw, CopyLaw, LossLaw}
 use Rattle.record_list.specs.ArrayChanges.{PartialWriteLeavesArray, CompletingWriteTakesTransaction, CopyLeavesArray, BlockLossLeavesArray}
 use Rattle.record_list.specs.Written.{Written, found_of, records_of, text_of, text_at, value_of, value_at, page_at, array_of, BytesAgree, is_outside}
-use Rattle.record_list.specs.Written.{IsRemovable}
-use Rattle.record_list.specs.WrittenChanges.{left_outside}
+use Rattle.record_list.specs.Losses.{left_written}
 use Rattle.record_list.proofs.OfFacts.Names.{has_name_true, found_named, present_as}
 use Rattle.record_list.proofs.OfFacts.SoundNames.{sound_map}
 use Rattle.record_list.proofs.OfLosses.LossCounted.{counted_present}
@@ -137,26 +135,27 @@ array_grows p l m n w sound scanned scanned' text added same =
     same_array p l m n (λ page within.
     page_grows p l m n page sound scanned scanned' text (in_inserted l m w added) (same page within))
 
--- and at the loss of a block
-pub array_left : (p : Protocol) (l : List Written) (n : ℕ) (shape : Shape) (block : ℕ) → IsSoundList p (records_of l) n → IsScanned (records_of l) →
-    IsScanned (records_of (left_outside shape block l)) → All (BytesAgree l) l → IsRemovable p (records_of l) n shape block →
-    SameCurrent p (records_of l) (records_of (left_outside shape block l)) n → array_of p (left_outside shape block l) n ≡ array_of p l n
-array_left p l n shape block sound scanned scanned' bytes removable same =
-    let m = left_outside shape block l in
+-- and at a loss
+pub array_left : (p : Protocol) (l : List Written) (n : ℕ) (keep : ℕ → Bool) → IsSoundList p (records_of l) n → IsScanned (records_of l) →
+    All (BytesAgree l) l → KeepsCounted p (records_of l) n keep → SameCurrent p (records_of l) (records_of (left_written keep l)) n →
+    array_of p (left_written keep l) n ≡ array_of p l n
+array_left p l n keep sound scanned bytes counted same =
+    let m = left_written keep l in
+    let is : left keep (records_of l) ≡ records_of m = sym (records_left keep l) in
     same_array p l m n (λ page within.
-    page_left p l m n page sound scanned scanned' (one_text p l n sound scanned bytes) (λ v c. (from_filter (λ w. is_outside shape block w.slot.0) v l c).0)
+    page_left p l m n page sound scanned (subst IsScanned is (left_scanned keep (records_of l) scanned)) (one_text p l n sound scanned bytes)
+    (λ v c. (from_filter (λ w. keep w.slot.0) v l c).0)
     (λ some.
     let name = current_name p (records_of l) n page in
     let f = found_named (records_of l) name (current_present p (records_of l) n page sound scanned some) in
     let at_page : f.0.rec.page ≡ page = ap (λ (y : Link). y.page) f.2 in
     let version : f.0.rec.version ≡ cur p (records_of l) n page = ap (λ (y : Link). y.version) f.2 in
     let current : f.0.rec.version ≡ cur p (records_of l) n f.0.rec.page = version ∙ ap (cur p (records_of l) n) (sym at_page) in
-    let kept : is_present (left (is_outside shape block) (records_of l)) (name_of f.0.rec) ≡ true =
+    let kept : is_present (left keep (records_of l)) (name_of f.0.rec) ≡ true =
     All-contains (λ g. IsCurrent p (records_of l) n g.rec ⊎ (is_held p (records_of l) n g.rec ≡ true) →
-    is_present (left (is_outside shape block) (records_of l)) (name_of g.rec) ≡ true)
-    (records_of l) f.0 removable f.1 (inl current) in
-    subst (λ fs. is_present fs name ≡ true) (sym (records_left (is_outside shape block) l))
-    (subst (λ u. is_present (left (is_outside shape block) (records_of l)) u ≡ true) f.2 kept))
+    is_present (left keep (records_of l)) (name_of g.rec) ≡ true)
+    (records_of l) f.0 counted f.1 (inl current) in
+    subst (λ fs. is_present fs name ≡ true) is (subst (λ u. is_present (left keep (records_of l)) u ≡ true) f.2 kept))
     (same page within))
 
 -- at a completing write the pages of the transaction hold what its records say, and every other page what it held
@@ -210,7 +209,6 @@ copy_leaves_array p law l m n w sound bytes added scanned scanned' source =
 
 pub block_loss_leaves_array : (p : Protocol) → LossLaw p → BlockLossLeavesArray p
 block_loss_leaves_array p law l n shape block sound bytes scanned removable =
-    let keeps = law (records_of l) n (is_outside shape block) sound scanned removable in
-    let is = sym (records_left (is_outside shape block) l) in
-    array_left p l n shape block sound scanned (subst IsScanned is (left_scanned (is_outside shape block) (records_of l) scanned)) bytes removable
-    (subst (λ fs. SameCurrent p (records_of l) fs n) is keeps.same_current)
+    let keep : ℕ → Bool = is_outside shape block in
+    let keeps = law (records_of l) n keep sound scanned removable in
+    array_left p l n keep sound scanned bytes removable (subst (λ fs. SameCurrent p (records_of l) fs n) (sym (records_left keep l)) keeps.same_current)

@@ -1,9 +1,9 @@
 -- One record more in a list, under a name that was absent.
 use Rattle.std.proofs.Common.{◌≡◌, ℕ, ◌<◌, ◌≤◌, max, Bool, true, false, cond, ◌&&◌, ◌||◌, eqb, ltb, ◌⊎◌, List, [], ◌∷◌, ◌++◌, All, refl, sym, ap, ◌∙◌, subst}
-use Rattle.std.proofs.Common.{inl, inr, arith, if◌then◌else◌, ne_eqb, eq-eqb, le-ltb, Contains}
+use Rattle.std.proofs.Common.{filter, inl, inr, arith, if◌then◌else◌, ne_eqb, eq-eqb, le-ltb, Contains}
 use Rattle.std.specs.List.{list_any}
 use Rattle.std.proofs.lemmas.Bool.{false≢true, cases_Bool, cases_lt, cond-true, cond-false, or_cases, or_left, or_right, or_parts, and_left}
-use Rattle.std.proofs.lemmas.List.Elements.{All-contains, Contains-append_right}
+use Rattle.std.proofs.lemmas.List.Elements.{All-contains, Contains-append_right, filter-append}
 use Rattle.list_facts.proofs.Membership.{from_more, in_more, all_from, Contains-first}
 use Rattle.list_facts.proofs.Tests.{any_more}
 use Rattle.tx_types.specs.declared.record.Link.{Link}
@@ -77,6 +77,16 @@ module _ {X : Type 0} where
   -- and the new one is there
   pub new_in : (l l' : List X) (x : X) → IsInserted l x l' → Contains l' x
   new_in l l' x ins = subst (λ zs. Contains zs x) (sym ins.now) (Contains-append_right ins.before (x ∷ ins.after) x (Contains-first x ins.after))
+
+  -- where it passes a test, it is one more of those that pass
+  pub inserted_filter : (test : X → Bool) (l l' : List X) (x : X) → IsInserted l x l' → test x ≡ true → IsInserted (filter test l) x (filter test l')
+  inserted_filter test l l' x ins passes = record {
+    before = filter test ins.before;
+    after = filter test ins.after;
+    was = ap (filter test) ins.was ∙ filter-append test ins.before ins.after;
+    now = ap (filter test) ins.now ∙ (filter-append test ins.before (x ∷ ins.after)
+        ∙ ap (λ b. filter test ins.before ++ cond b (x ∷ filter test ins.after) (filter test ins.after)) passes);
+  }
 
 -- what is so of all and of the new record is so of all
 pub inserted_all : (P : Found → Type 0) (l l' : List Found) (f : Found) → IsInserted l f l' → All P l → P f → All P l'

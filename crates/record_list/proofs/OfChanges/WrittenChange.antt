@@ -3,9 +3,10 @@
 use Rattle.std.proofs.Common.{◌≡◌, ◌≢◌, ℕ, ◌<◌, ◌⊎◌, Bool, true, false, List, All, Any, Contains, sym, ap, ◌∙◌, subst, inl, inr, ⊎_elim}
 use Rattle.std.proofs.lemmas.Bool.{both_ways}
 use Rattle.std.proofs.lemmas.List.Elements.{All-contains}
-use Rattle.list_facts.proofs.Membership.{all_from, from_filter}
+use Rattle.list_facts.proofs.Membership.{all_from}
 use Rattle.tx_types.specs.declared.record.Link.{Link}
 use Rattle.tx_types.specs.declared.config.Protocol.{Protocol}
+use Rattle.tx_types.specs.declared.config.Shape.{Shape}
 use Rattle.record_list.specs.declared.found.Found.{Found}
 use Rattle.record_list.specs.Records.{name_of, is_present, IsScanned}
 use Rattle.record_list.specs.Verdict.{record_named}
@@ -14,15 +15,15 @@ use Rattle.record_list.specs.SoundList.{Copies, IsSoundList}
 use Rattle.record_list.specs.Changes.{IsInserted, IsCopy, left, KeepsCounted, PartialWriteLaw, PartialWriteKeeps, CompletingWriteLaw, CompletingWriteKeeps}
 use Rattle.record_list.specs.Changes.{CopyLaw, CopyKeeps, LossLaw, LossKeeps}
 use Rattle.record_list.specs.Counts.{HasCounts}
-use Rattle.record_list.specs.Written.{Written, found_of, records_of, BytesAgree, is_outside}
-use Rattle.record_list.specs.WrittenChanges.{WrittenPartialWriteLaw, WrittenCompletingWriteLaw, WrittenCopyLaw, left_outside, WrittenLossLaw}
+use Rattle.record_list.specs.Written.{Written, found_of, records_of, BytesAgree, is_outside, IsSoundWritten}
+use Rattle.record_list.specs.WrittenChanges.{WrittenPartialWriteLaw, WrittenCompletingWriteLaw, WrittenCopyLaw, WrittenLossLaw}
+use Rattle.record_list.specs.Losses.{left_written, IsSpared}
 use Rattle.record_list.proofs.OfChanges.OneMore.{in_inserted}
+use Rattle.record_list.proofs.OfChanges.Spared.{counted_twice, counted_first, counted_second}
 use Rattle.record_list.proofs.OfChanges.Counting.{write_keeps_counts, copy_keeps_counts, loss_keeps_counts}
 use Rattle.record_list.proofs.OfLosses.LossAmong.{among_of, among_present, among_record, one_each}
-use Rattle.record_list.proofs.OfLosses.LossCurrent.{left_scanned}
 use Rattle.record_list.proofs.OfLosses.LossCounted.{IsCounted, IsCountedKept, counted_names, counted_records, held_present}
 use Rattle.record_list.proofs.OfChanges.WrittenLists.{in_records, inserted_records, same_bytes, bytes_inserted, bytes_filtered, records_left, left_more}
-use Rattle.record_list.proofs.OfChanges.WrittenLists.{left_twice}
 use Rattle.record_list.proofs.OfFacts.SoundNames.{IsSoundMap, sound_map}
 use Rattle.record_list.proofs.OfWalks.Rounds.{cases_page}
 use Rattle.record_list.proofs.OfFacts.Names.{same_name, present_as, named_name}
@@ -151,33 +152,35 @@ written_copy p law l m n shape w sound i scanned scanned' source =
       k,
     )
 
--- the loss of a block: the block itself is removable
-pub written_loss : (p : Protocol) → LossLaw p → WrittenLossLaw p
-written_loss p law l n shape block sound scanned exists removable =
-    let keep : ℕ → Bool = is_outside shape block in
+-- a loss of any slots: the block outside which the list is spared is removable
+pub written_left : (p : Protocol) → LossLaw p → (l : List Written) (n : ℕ) (shape : Shape) (keep : ℕ → Bool) → IsSoundWritten p l n shape →
+    IsScanned (records_of l) → IsSpared p (records_of l) n shape keep →
+    IsSoundWritten p (left_written keep l) n shape × LossKeeps p (records_of l) (records_of (left_written keep l)) n
+written_left p law l n shape keep sound scanned spared =
+    let out : ℕ → Bool = is_outside shape spared.block in
     let fewer : List Found = left keep (records_of l) in
-    let is : records_of (left_outside shape block l) ≡ fewer = records_left keep l in
-    let k : LossKeeps p (records_of l) fewer n = law (records_of l) n keep sound.records scanned removable in
-    let k' : LossKeeps p (records_of l) (records_of (left_outside shape block l)) n = subst (λ z. LossKeeps p (records_of l) z n) (sym is) k in
-    let whole : IsSoundMap p (records_of l) n = sound_map p (records_of l) n sound.records scanned in
-    let b : IsCountedKept p (records_of l) n keep = counted_names p (records_of l) n keep whole removable in
-    let scanned_left : IsScanned fewer = left_scanned keep (records_of l) scanned in
-    let same : (name : Link) → is_present fewer name ≡ true → record_named fewer name ≡ record_named (records_of l) name =
-    among_record fewer (records_of l) (among_of fewer (records_of l) (λ f i. (from_filter (λ g. keep g.slot.0) f (records_of l) i).0))
-    (one_each p (records_of l) n whole) in
-    let r : KeepsCounted p fewer n keep = counted_records p fewer n keep scanned_left k.sound
-    (record {
-      kept = λ name low h c. among_present fewer (left keep fewer) (among_of fewer (left keep fewer) (left_twice keep (records_of l))) name
-          (b.kept name low h (⊎_elim (λ e. inl (e ∙ k.same_current name.page low))
-          (λ held. inr (subst (λ x. is_held p (records_of l) n x ≡ true)
-          (same name (subst (λ u. is_present fewer u ≡ true) (named_name fewer name) (held_present p fewer n (record_named fewer name) held)))
-          (k.held (record_named fewer name) held))) c));
-    }) in (
+    let is : fewer ≡ records_of (left_written keep l) = sym (records_left keep l) in
+    let k : LossKeeps p (records_of l) fewer n =
+    law (records_of l) n keep sound.records scanned (counted_first p (records_of l) n keep out spared.counted) in
+    let k' : LossKeeps p (records_of l) (records_of (left_written keep l)) n = subst (λ z. LossKeeps p (records_of l) z n) is k in (
       record {
         records = k'.sound;
         bytes = bytes_filtered (λ w. keep w.slot.0) l sound.bytes;
-        counts = subst HasCounts (sym is) (loss_keeps_counts (records_of l) keep (sound.records Copies) scanned sound.counts);
-        removable = record { block = block; exists = exists; removable = subst (λ z. KeepsCounted p z n keep) (sym is) r };
+        counts = subst HasCounts is (loss_keeps_counts (records_of l) keep (sound.records Copies) scanned sound.counts);
+        removable = record {
+          block = spared.block;
+          exists = spared.exists;
+          removable = subst (λ z. KeepsCounted p z n out) is (counted_second p (records_of l) n keep out spared.counted k);
+        };
       },
       k',
     )
+
+-- the loss of a block: the block itself is removable
+pub written_loss : (p : Protocol) → LossLaw p → WrittenLossLaw p
+written_loss p law l n shape block sound scanned exists removable =
+    written_left p law l n shape (is_outside shape block) sound scanned (record {
+      block = block;
+      exists = exists;
+      counted = counted_twice p (records_of l) n (is_outside shape block) removable;
+    })

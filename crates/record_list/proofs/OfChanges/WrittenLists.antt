@@ -1,6 +1,7 @@
--- Lists of records with bytes: their records, one item more, and the slots outside a block.
+-- Lists of records with bytes: their records, one item more, and the slots that a loss leaves.
 use Rattle.std.proofs.Common.{◌≡◌, ℕ, ◌<◌, Bool, true, false, cond, List, [], ◌∷◌, length, filter, All, AllPairs, inl, inr, sym, refl, ap, ◌∙◌, subst, subst₂}
-use Rattle.std.proofs.Common.{arith, Contains}
+use Rattle.std.proofs.Common.{◌&&◌, arith, Contains}
+use Rattle.std.proofs.lemmas.Bool.{and_parts}
 use Rattle.std.proofs.lemmas.List.{map-append, get_or-map, length-map}
 use Rattle.std.proofs.lemmas.List.Elements.{All-contains}
 use Rattle.list_facts.proofs.Membership.{all_from, in_filter, from_filter, map_in}
@@ -110,3 +111,10 @@ left_more keep l m sub f c = let k = from_filter (λ f. keep f.slot.0) f l c in 
 
 pub left_twice : (keep : ℕ → Bool) (l : List Found) (f : Found) → Contains (left keep l) f → Contains (left keep (left keep l)) f
 left_twice keep l f c = in_filter (λ f. keep f.slot.0) f (left keep l) c (from_filter (λ f. keep f.slot.0) f l c).1
+
+-- and what two tests leave together, the second leaves of what the first does
+pub left_both : (keep out : ℕ → Bool) (l : List Found) (f : Found) → Contains (left (λ s. keep s && out s) l) f → Contains (left out (left keep l)) f
+left_both keep out l f c =
+    let k = from_filter (λ g. keep g.slot.0 && out g.slot.0) f l c in
+    let b = and_parts (keep f.slot.0) (out f.slot.0) k.1 in
+    in_filter (λ g. out g.slot.0) f (left keep l) (in_filter (λ g. keep g.slot.0) f l k.0 b.0) b.1

@@ -1,9 +1,9 @@
 -- The records of a list by their names: greatest numbers, and what a present name says.
 use Rattle.std.proofs.Common.{◌≡◌, ℕ, ◌<◌, ◌≤◌, Bool, true, false, ◌&&◌, ◌||◌, eqb, ltb, List, [], ◌∷◌, refl, sym, ap, ap₂, ◌∙◌, subst, inl, inr, arith, cond}
-use Rattle.std.proofs.Common.{eqb-true, eq-eqb, lt-ltb, ltb-true, le_trans, Contains}
+use Rattle.std.proofs.Common.{◌⊎◌, All, Any, eqb-true, eq-eqb, lt-ltb, ltb-true, le_trans, Contains}
 use Rattle.std.proofs.Math.Nat.{le-max_left, le-max_right, max-le, max-eq_left, max-eq_right}
 use Rattle.std.proofs.lemmas.Bool.{false≢true, cases_Bool, cases_lt, cond-true, cond-false, and_parts, and_from, or_left, or_right, or_parts}
-use Rattle.list_facts.proofs.Membership.{Contains-cases, Contains-first, Contains-nil, Contains-rest}
+use Rattle.list_facts.proofs.Membership.{Contains-cases, Contains-first, Contains-nil, Contains-rest, all_from, any_in}
 use Rattle.list_facts.proofs.Values.{if_positive}
 use Rattle.tx_types.specs.declared.record.Link.{Link}
 use Rattle.tx_types.specs.declared.record.Rec.{Rec}
@@ -182,3 +182,24 @@ older_name l page below h =
     let name : name_of f.0.rec ≡ named page (next_older l page below) = same_name (name_of f.0.rec) (named page (next_older l page below))
     (eqb-true f.0.rec.page page tests.0) version in
     (subst (λ u. is_present l u ≡ true) name (present_in l f.0 f.1), omega arith)
+
+-- a name of a list is absent, or all are present
+pub cases_present : (list : List Found) (names : List Link) → Any (λ name. is_present list name ≡ false) names ⊎ All (λ name. is_present list name ≡ true) names
+cases_present list names = elim (cases_names names) [
+  | inl gone ↦ inl (any_in (λ name. is_present list name ≡ false) names gone.0 gone.1 gone.2)
+  | inr here ↦ inr (all_from (λ name. is_present list name ≡ true) names here)
+]
+  where
+    cases_names : (all : List Link) → ((name : Link) × Contains all name × (is_present list name ≡ false)) ⊎
+        ((name : Link) → Contains all name → is_present list name ≡ true)
+    cases_names [] = inr (λ name i. absurd (Contains-nil name i))
+    cases_names (name ∷ rest) = elim (cases_Bool (is_present list name)) [
+      | inl here ↦ elim (cases_names rest) [
+        | inl gone ↦ inl (gone.0, Contains-rest name rest gone.0 gone.1, gone.2)
+        | inr others ↦ inr (λ other i. elim (Contains-cases name rest other i) [
+          | inl same ↦ subst (λ u. is_present list u ≡ true) same here
+          | inr later ↦ others other later
+        ])
+      ]
+      | inr absent ↦ inl (name, Contains-first name rest, absent)
+    ]

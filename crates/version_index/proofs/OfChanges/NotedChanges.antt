@@ -1,11 +1,11 @@
 -- Each change of what was noted leaves what a device can have noted.
-use Rattle.std.proofs.Common.{◌≡◌, ℕ, ◌+◌, ◌*◌, ◌<◌, ◌≤◌, ◌^◌, true, false, ◌⊎◌, List, [], ◌∷◌, length, get_or, set, zip, All, Any, None, IsSome, IfSome, Ok}
+use Rattle.std.proofs.Common.{◌≡◌, ℕ, ◌+◌, ◌*◌, ◌<◌, ◌≤◌, ◌^◌, List, length, get_or, set, zip, All, None, IsSome, IfSome, Ok}
 use Rattle.std.proofs.Common.{refl, sym, ap, ◌∙◌, subst, inl, inr, arith, Contains}
-use Rattle.std.proofs.lemmas.Bool.{false≢true, cases_Bool}
+use Rattle.std.proofs.lemmas.Bool.{false≢true}
 use Rattle.std.proofs.lemmas.List.{length-set, length-map, length-replicate}
 use Rattle.std.proofs.lemmas.List.FromFn.{length-map-range_with_len, get_or-map-range_with_len}
 use Rattle.std.proofs.lemmas.List.Elements.{All-filter, All-contains}
-use Rattle.list_facts.proofs.Membership.{all_from, from_filter, Contains-cases, Contains-first, Contains-nil, Contains-rest, any_in}
+use Rattle.list_facts.proofs.Membership.{from_filter}
 use Rattle.tx_types.specs.declared.record.Link.{Link}
 use Rattle.tx_types.specs.declared.record.Rec.{Rec}
 use Rattle.tx_types.specs.declared.config.Config.{Config}
@@ -14,12 +14,12 @@ use Rattle.tx_types.specs.Config.{IsConfig, checked, shape_of, slots_of, blocks_
 use Rattle.flash_model.proofs.ImageLemmas.{block_within}
 use Rattle.flash_model.specs.declared.flash.Seen.{Seen}
 use Rattle.record_list.specs.declared.found.Found.{Found}
-use Rattle.record_list.specs.Records.{mention, mentioned_at, name_of, is_present, IsScanned}
+use Rattle.record_list.specs.Records.{mention, mentioned_at, name_of, IsScanned}
 use Rattle.record_list.specs.SoundList.{IsSoundList}
 use Rattle.record_list.specs.Transaction.{next_names, IsAskedAt}
 use Rattle.record_list.specs.Changes.{IsWrite, PartialWriteLaw, CompletingWriteLaw, CopyLaw, LossLaw, left}
 use Rattle.record_list.specs.Written.{is_outside, IsRemovable}
-use Rattle.record_list.proofs.OfFacts.Names.{greatest_bound, greatest_least}
+use Rattle.record_list.proofs.OfFacts.Names.{greatest_bound, greatest_least, cases_present}
 use Rattle.record_list.proofs.OfChanges.OneMore.{inserted_in, inserted_all}
 use Rattle.record_list.proofs.OfWalks.Rounds.{Follows, follows_of, follows_in}
 use Rattle.version_index.specs.declared.note.Note.{Note}
@@ -29,28 +29,6 @@ use Rattle.version_index.specs.Noted.{Noted, IsNoted, IsNotedFrom, IsNextRecord,
 use Rattle.version_index.proofs.OfTables.FoundIn.{found, found_in_programmed, found_in_damaged, found_in_block, found_in_ascending, noted_in, holds_within}
 use Rattle.version_index.proofs.OfTables.Blocks.{length-with_item}
 use Rattle.version_index.proofs.OfChanges.Mentions.{length-raised, raised_bounds}
-
--- a name of a list is absent, or all are present
-pub cases_present : (list : List Found) (names : List Link) → Any (λ name. is_present list name ≡ false) names ⊎ All (λ name. is_present list name ≡ true) names
-cases_present list names = elim (cases_names names) [
-  | inl gone ↦ inl (any_in (λ name. is_present list name ≡ false) names gone.0 gone.1 gone.2)
-  | inr here ↦ inr (all_from (λ name. is_present list name ≡ true) names here)
-]
-  where
-    cases_names : (all : List Link) → ((name : Link) × Contains all name × (is_present list name ≡ false)) ⊎
-        ((name : Link) → Contains all name → is_present list name ≡ true)
-    cases_names [] = inr (λ name i. absurd (Contains-nil name i))
-    cases_names (name ∷ rest) = elim (cases_Bool (is_present list name)) [
-      | inl here ↦ elim (cases_names rest) [
-        | inl gone ↦ inl (gone.0, Contains-rest name rest gone.0 gone.1, gone.2)
-        | inr others ↦ inr (λ other i. elim (Contains-cases name rest other i) [
-          | inl same ↦ subst
-              (λ u. is_present list u ≡ true) same here
-          | inr later ↦ others other later
-        ])
-      ]
-      | inr absent ↦ inl (name, Contains-first name rest, absent)
-    ]
 
 -- each page and link page of a name's record exists, and no version is 0
 pub record IsSpelledOut (logical : ℕ) (rec : Rec) : Type 0 where

@@ -14,7 +14,7 @@ use Rattle.record_list.specs.declared.found.Why.TheVariants.{Cycle, Absent}
 use Rattle.record_list.specs.Records.{newest, name_of, is_present, is_same}
 use Rattle.record_list.specs.Verdict.{newest_name, link_of, passed, is_ahead, is_behind, walk, is_committed}
 use Rattle.record_list.specs.Transaction.{next_names}
-use Rattle.record_list.proofs.OfFacts.Names.{same_name}
+use Rattle.record_list.proofs.OfFacts.Names.{same_name, cases_present}
 use Rattle.record_list.proofs.OfWalks.Rounds.{follows_in, follows_of}
 use Rattle.record_list.proofs.OfFacts.Safe.{IsLinked, turn_closes}
 use Rattle.record_list.proofs.OfChanges.Progress.{IsUnderway, name_newest, name_uncounted, absent_name}
@@ -26,7 +26,7 @@ use Rattle.version_index.specs.Noted.{Noted, IsNoted, IsNextRecord, programmed}
 use Rattle.version_index.specs.JudgedChanges.{comes_back, completes, IsRound}
 use Rattle.version_index.proofs.OfTables.FoundIn.{found}
 use Rattle.version_index.proofs.OfTables.NotedFacts.{noted_map}
-use Rattle.version_index.proofs.OfChanges.NotedChanges.{next_write, cases_present}
+use Rattle.version_index.proofs.OfChanges.NotedChanges.{next_write}
 use Rattle.version_index.proofs.OfCommit.CycleOrder.{turned, few_names}
 use Rattle.version_index.proofs.OfCommit.Cycles.{cycle_written}
 

@@ -1,6 +1,6 @@
 -- The commit laws of images, from those of lists.
-use Rattle.std.proofs.Common.{◌≡◌, ℕ, ◌+◌, ◌*◌, ◌^◌, ◌++◌, ◌<◌, ◌≤◌, true, List, set, take, drop, replicate, Option, None, Some, refl, sym, ap, ◌∙◌, subst, inl}
-use Rattle.std.proofs.Common.{inr, arith, Contains}
+use Rattle.std.proofs.Common.{◌≡◌, ℕ, ◌+◌, ◌*◌, ◌^◌, ◌++◌, ◌<◌, ◌≤◌, Bool, true, List, set, take, drop, replicate, Option, None, Some, refl, sym, ap, ◌∙◌, subst}
+use Rattle.std.proofs.Common.{inl, inr, arith, All, Contains}
 use Rattle.std.specs.Prelude.{slice_index_or, IsSomeAnd}
 use Rattle.std.proofs.lemmas.List.FromFn.{get_or-map-range_with_len}
 use Rattle.std.proofs.lemmas.List.Elements.{All-append, All-take, All-drop, All-replicate, All-set, All-contains}
@@ -13,13 +13,14 @@ use Rattle.page_record.specs.Rules.{record_of}
 use Rattle.page_record.specs.Spelling.{spelling}
 use Rattle.page_record.proofs.Spellings.{record_of-spelling}
 use Rattle.record_list.specs.declared.found.Found.{Found}
-use Rattle.record_list.specs.Records.{name_of, is_present, IsScanned}
+use Rattle.record_list.specs.Records.{name_of, is_present}
 use Rattle.record_list.specs.SoundList.{Pages, PagesExist, IsSoundList}
 use Rattle.record_list.specs.Changes.{IsInserted, IsWrite, SameCurrent, LossKeeps}
 use Rattle.record_list.specs.Written.{found_of, page_at, text_at, value_at, is_outside, IsRemovable}
 use Rattle.record_list.specs.Current.{cur}
 use Rattle.tx_types.specs.Config.{blocks_of}
-use Rattle.record_list.specs.WrittenChanges.{WrittenPartialWriteLaw, WrittenCompletingWriteLaw, WrittenCopyLaw, WrittenLossLaw, left_outside}
+use Rattle.record_list.specs.WrittenChanges.{WrittenPartialWriteLaw, WrittenCompletingWriteLaw, WrittenCopyLaw, WrittenLossLaw}
+use Rattle.record_list.specs.Losses.{left_written, WrittenLossKeeps}
 use Rattle.record_list.proofs.OfFacts.Names.{found_named, present_as}
 use Rattle.record_list.proofs.OfChanges.OneMore.{new_in, inserted_in}
 use Rattle.record_list.proofs.OfChanges.WrittenLists.{in_records, inserted_records, IsOneText, one_text}
@@ -72,12 +73,12 @@ grown p logical image image' w sound text added same =
     array_grows p (written_in p image) (written_in p image') logical w sound (records_scanned p image) (records_scanned p image') text added same
 
 -- a record that is asked for, in its slot
-record Writes (p : Protocol) (logical : ℕ) (image : List Contents) (names : List Link) (at : ℕ) (bytes : List ℕ) (rec : Rec) : Type 0 where
+pub record Writes (p : Protocol) (logical : ℕ) (image : List Contents) (names : List Link) (at : ℕ) (bytes : List ℕ) (rec : Rec) : Type 0 where
   pub spells : record_of p (spelling p rec) ≡ Some rec
   pub added : IsInserted (written_in p image) (written at rec bytes) (written_in p (image_with p image at bytes rec))
   pub write : IsWrite p (records_in p image) (records_in p (image_with p image at bytes rec)) logical names (found_of (written at rec bytes))
 
-writes : (p : Protocol) (logical : ℕ) (shape : Shape) (image : List Contents) (names : List Link) (at : ℕ) (bytes : List ℕ) (rec : Rec) →
+pub writes : (p : Protocol) (logical : ℕ) (shape : Shape) (image : List Contents) (names : List Link) (at : ℕ) (bytes : List ℕ) (rec : Rec) →
     AsksFor p logical shape image names at rec → Writes p logical image names at bytes rec
 writes p logical shape image names at bytes rec a =
     let spells = record_of-spelling p rec a.spelled in
@@ -199,35 +200,45 @@ image_copy_law p law logical shape image from to bytes spare sound from_within t
       texts = λ name h. text_old l m w name text added h;
     }
 
+-- an image whose records are those of the slots that pass a test keeps what the loss of the others keeps
+pub less_written : (p : Protocol) (logical : ℕ) (shape : Shape) (image image' : List Contents) (keep : ℕ → Bool) → IsSoundImage p logical shape image →
+    written_in p image' ≡ left_written keep (written_in p image) → All (SlotReads p logical) image' →
+    WrittenLossKeeps p (written_in p image) (left_written keep (written_in p image)) logical shape → KeepsLost p logical shape image image'
+unfolding array_in
+less_written p logical shape image image' keep sound is reads kept =
+    let l = written_in p image in
+    let m = left_written keep l in
+    record {
+      sound = record { reads = reads; written = subst (λ x. IsSoundWritten p x logical shape) (sym is) kept.sound };
+      records = subst (λ x. LossKeeps p (records_of l) (records_of x) logical) (sym is) kept.records;
+      array = ap (λ x. array_of p x logical) is ∙ kept.array;
+      texts = λ name h.
+          text_grows m l name (image_text p logical shape image sound.written) (λ v i. (from_filter (λ w. keep w.slot.0) v l i).0)
+          (subst (λ x. is_present (records_of x) name ≡ true) is h)
+          ∙ sym (ap (λ x. text_at x name) is);
+    }
+
 -- the block may hold anything without a record
 lost : (p : Protocol) → WrittenLossLaw p → (logical : ℕ) (shape : Shape) (image : List Contents) (block : ℕ) (contents : Contents) →
     IsSoundImage p logical shape image → IsImage shape image → block < blocks_of shape → IsRemovable p (records_in p image) logical shape block →
     HasNone p contents → SlotReads p logical contents → KeepsLost p logical shape image (with_block shape image block contents)
-unfolding array_in
 lost p law logical shape image block contents sound whole below removable none reads =
     let l = written_in p image in
-    let m = left_outside shape block l in
-    let is : written_in p (with_block shape image block contents) ≡ m = written_left p shape image whole block below contents none in
     let kept = law l logical shape block sound.written (records_scanned p image) below removable in
-    let scanned' = subst (λ x. IsScanned (records_of x)) is (records_scanned p (with_block shape image block contents)) in
-    record {
-      sound = record {
-        reads = All-append (SlotReads p logical) (take (block * shape.pages_per_block) image ++ replicate shape.pages_per_block contents)
-            (drop ((block + 1) * shape.pages_per_block) image)
-            (All-append (SlotReads p logical) (take (block * shape.pages_per_block) image) (replicate shape.pages_per_block contents)
-            (All-take (SlotReads p logical) (block * shape.pages_per_block) image sound.reads)
-            (All-replicate (SlotReads p logical) shape.pages_per_block contents reads))
-            (All-drop (SlotReads p logical) ((block + 1) * shape.pages_per_block) image sound.reads);
-        written = subst (λ x. IsSoundWritten p x logical shape) (sym is) kept.0;
-      };
-      records = subst (λ x. LossKeeps p (records_of l) (records_of x) logical) (sym is) kept.1;
-      array = ap (λ x. array_of p x logical) is
-          ∙ array_left p l logical shape block sound.written.records (records_scanned p image) scanned' sound.written.bytes removable (kept.1).same_current;
-      texts = λ name h.
-          text_grows m l name (image_text p logical shape image sound.written) (λ v i. (from_filter (λ w. is_outside shape block w.slot.0) v l i).0)
-          (subst (λ x. is_present (records_of x) name ≡ true) is h)
-          ∙ sym (ap (λ x. text_at x name) is);
-    }
+    less_written p logical shape image (with_block shape image block contents) (is_outside shape block) sound
+    (written_left p shape image whole block below contents none)
+    (All-append (SlotReads p logical) (take (block * shape.pages_per_block) image ++ replicate shape.pages_per_block contents)
+    (drop ((block + 1) * shape.pages_per_block) image)
+    (All-append (SlotReads p logical) (take (block * shape.pages_per_block) image) (replicate shape.pages_per_block contents)
+    (All-take (SlotReads p logical) (block * shape.pages_per_block) image sound.reads)
+    (All-replicate (SlotReads p logical) shape.pages_per_block contents reads))
+    (All-drop (SlotReads p logical) ((block + 1) * shape.pages_per_block) image sound.reads))
+    (record {
+      sound = kept.0;
+      records = kept.1;
+      array = array_left p l logical (is_outside shape block) sound.written.records (records_scanned p image) sound.written.bytes removable
+          (kept.1).same_current;
+    })
 
 pub image_loss_law : (p : Protocol) → WrittenLossLaw p → ImageLossLaw p
 image_loss_law p law logical shape image block sound whole below removable = (

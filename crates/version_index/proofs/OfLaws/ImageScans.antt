@@ -1,5 +1,6 @@
 -- The records of an image as its slots change.
-use Rattle.std.proofs.Common.{◌≡◌, ℕ, ◌+◌, ◌*◌, ◌<◌, ◌≤◌, List, length, get_or, set, AllPairs, Option, Some, None, refl, sym, ap, ◌∙◌, subst, arith, Contains}
+use Rattle.std.proofs.Common.{◌≡◌, ℕ, ◌+◌, ◌*◌, ◌<◌, ◌≤◌, Bool, true, false, List, length, get_or, set, AllPairs, Option, Some, None}
+use Rattle.std.proofs.Common.{refl, sym, ap, ◌∙◌, subst, arith, Contains, if◌then◌else◌}
 use Rattle.std.specs.Option.{option_map}
 use Rattle.std.proofs.lemmas.Option.{none-some, same_Some}
 use Rattle.std.proofs.lemmas.List.Elements.{All-map}
@@ -19,8 +20,9 @@ use Rattle.record_list.specs.Records.{IsScanned}
 use Rattle.record_list.specs.Changes.{IsInserted}
 use Rattle.record_list.specs.Written.{Written, found_of}
 use Rattle.record_list.specs.WrittenChanges.{left_outside}
+use Rattle.record_list.specs.Losses.{left_written}
 use Rattle.version_index.specs.Images.{written_at, written_in, records_in}
-use Rattle.version_index.proofs.OfTables.Given.{given, given-inserted, given-unchanged, given_from, given_in, given_ascending}
+use Rattle.version_index.proofs.OfTables.Given.{given, given-inserted, given-unchanged, given_from, given_in, given_ascending, given_same, chosen, given-chosen}
 
 -- a numbered slot with its record
 abbrev pub read_at : Protocol → ℕ × Contents → Option Written
@@ -149,3 +151,25 @@ written_left p shape image whole block below contents none =
     written_in_is p (with_block shape image block contents)
     ∙ given-with_item shape some image block contents blank fits (read_at p) (λ w. w.slot.0) (placed p) none
     ∙ ap (left_outside shape block) (sym (written_in_is p image))
+
+-- where slots are lost, the records of those that stay are left
+pub written_lost : (p : Protocol) (keep : ℕ → Bool) (image image' : List Contents) → length image' ≡ length image →
+    ((slot : ℕ) → keep slot ≡ true → slot_at image' slot ≡ slot_at image slot) → ((slot : ℕ) → keep slot ≡ false → HasNone p (slot_at image' slot)) →
+    written_in p image' ≡ left_written keep (written_in p image)
+written_lost p keep image image' long kept none =
+    written_in_is p image'
+    ∙ given_same (read_at p) (chosen (read_at p) (λ w. w.slot.0) (placed p) keep) 0 image' image blank blank long (λ slot within. same_at slot (keep slot) refl)
+    ∙ sym (given-chosen (read_at p) (λ w. w.slot.0) (placed p) keep 0 image)
+    ∙ ap (left_written keep) (sym (written_in_is p image))
+  where
+    at_each : (slot : ℕ) (b : Bool) → keep slot ≡ b →
+        read_at p (0 + slot, slot_at image' slot) ≡ (if b then read_at p (0 + slot, slot_at image slot) else None)
+    at_each slot true e = ap (written_at p (0 + slot)) (kept slot e)
+    at_each slot false e = none slot e (0 + slot)
+
+    same_at : (slot : ℕ) (b : Bool) → keep slot ≡ b →
+        read_at p (0 + slot, slot_at image' slot) ≡ chosen (read_at p) (λ w. w.slot.0) (placed p) keep (0 + slot, slot_at image slot)
+    same_at slot b e =
+        let at : 0 + slot ≡ slot = omega arith in
+        let whole : keep (0 + slot) ≡ b = ap keep at ∙ e in
+        at_each slot b e ∙ ap (λ t. if t then read_at p (0 + slot, slot_at image slot) else None) (sym whole)

@@ -1,7 +1,7 @@
 mod Examples
 use Rattle.record_list.proofs.theorems.worked_examples.Answers.Examples.{straddled_verdict, straddled_is_held, namesake_is_held, copied_home, unanswered_breaks}
-use Rattle.record_list.proofs.theorems.worked_examples.Answers.Examples.{misled_breaks}
-use Rattle.record_list.proofs.theorems.worked_examples.Answers.Examples.{closed_breaks, twice_mentioned}
+use Rattle.record_list.proofs.theorems.worked_examples.Answers.Examples.{misled_breaks, copy_may_go, asked_after_loss, whole_or_absent}
+use Rattle.record_list.proofs.theorems.worked_examples.Answers.Examples.{closed_breaks, twice_mentioned, torn_without_current}
 use Rattle.record_list.proofs.theorems.worked_examples.Goals as goal
 
 pub returns-clause-straddled_verdict : goal.returns-clause-straddled_verdict
@@ -27,3 +27,15 @@ returns-clause-closed c = closed_breaks
 
 pub returns-clause-twice_mentioned : goal.returns-clause-twice_mentioned
 returns-clause-twice_mentioned c = twice_mentioned
+
+pub returns-clause-copy_may_go : goal.returns-clause-copy_may_go
+returns-clause-copy_may_go c = copy_may_go
+
+pub returns-clause-asked_after_loss : goal.returns-clause-asked_after_loss
+returns-clause-asked_after_loss c = asked_after_loss
+
+pub returns-clause-whole_or_absent : goal.returns-clause-whole_or_absent
+returns-clause-whole_or_absent c = whole_or_absent
+
+pub returns-clause-torn : goal.returns-clause-torn
+returns-clause-torn c = torn_without_current

@@ -1,6 +1,6 @@
 mod Examples
 use Rattle.version_index.proofs.theorems.worked_examples.Answers.Examples.{doubled_homes, doubled_goes, doubled_garbage, doubled_pinned, mentions_raised}
-use Rattle.version_index.proofs.theorems.worked_examples.Answers.Examples.{least_slots, written_array}
+use Rattle.version_index.proofs.theorems.worked_examples.Answers.Examples.{least_slots, written_array, aborted_may_go}
 use Rattle.version_index.proofs.theorems.worked_examples.Goals as goal
 
 pub returns : goal.returns
@@ -12,4 +12,5 @@ returns c = record {
   mentions = mentions_raised;
   least = least_slots;
   array = written_array;
+  aborted = aborted_may_go;
 }

@@ -1,14 +1,26 @@
 -- What the definitions say of a few slots, and of images of a few slots.
-use Rattle.std.proofs.Common.{ℕ, zero, suc, ◌<◌, IsSomeAnd, [], refl, subst, inl, arith}
+use Rattle.std.proofs.Common.{◌≡◌, ◌⊎◌, ℕ, zero, suc, ◌<◌, true, false, ◌&&◌, IsSomeAnd, List, [], ◌∷◌, refl, sym, subst, inl, inr, arith, eqb-true}
+use Rattle.std.proofs.lemmas.Bool.{false≢true}
+use Rattle.std.proofs.lemmas.List.Elements.{All-from_recursion}
+use Rattle.tx_types.specs.Config.{shape_of}
 use Rattle.tx_types.specs.declared.config.Protocol.TheVariants.{Scc}
-use Rattle.flash_model.specs.Flash.{complete, slot_at}
+use Rattle.flash_model.specs.Flash.{blank, damaged, complete, slot_at}
 use Rattle.page_record.specs.Spelling.{spelling, CanBeSpelled}
 use Rattle.page_record.specs.Rules.{number_at, first_broken, record_of}
 use Rattle.page_record.proofs.Spellings.{record_of-spelling}
-use Rattle.version_index.specs.Images.{written_in, array_in, SlotReads}
+use Rattle.record_list.specs.declared.found.Found.{Found}
+use Rattle.record_list.specs.Records.{name_of, is_present}
+use Rattle.record_list.specs.Current.{IsCurrent, is_held}
+use Rattle.record_list.specs.Changes.{left, KeepsCounted}
+use Rattle.record_list.specs.Written.{is_outside}
+use Rattle.record_list.specs.Losses.{IsSpared}
+use Rattle.version_index.specs.Images.{written_in, records_in, array_in, SlotReads}
 use Rattle.version_index.specs.Notes.{found_in}
 use Rattle.version_index.specs.Noted.{current_of, home_of, slot_off, needed_of, block_to_go, garbage_of}
+use Rattle.version_index.specs.SlotLosses.{LosesSlots}
 use Rattle.version_index.specs.Examples.{DoubledHomes, DoubledGoes, DoubledGarbage, DoubledPinned, MentionsRaised, rec, unread, LeastSlots, WrittenArray}
+use Rattle.version_index.specs.Examples.{config, written, without_aborted, page_0_stays, AbortedMayGo}
+use Rattle.version_index.proofs.OfTables.FoundIn.{found}
 
 pub doubled_homes : DoubledHomes
 unfolding found_in current_of home_of slot_off
@@ -67,3 +79,47 @@ least_slots = (
 pub written_array : WrittenArray
 unfolding array_in written_in record_of spelling first_broken number_at
 written_array = refl
+
+-- the records of the image
+written_records : records_in Scc written ≡ found 0 (rec 0 1 0 1 0) ∷ found 1 (rec 1 3 2 7 0) ∷ []
+unfolding written_in record_of spelling first_broken number_at
+written_records = refl
+
+aborted_lost : LosesSlots page_0_stays written without_aborted
+aborted_lost = record { slots = refl; kept = kept; lost = lost }
+  where
+    kept : (slot : ℕ) → page_0_stays slot ≡ true → slot_at without_aborted slot ≡ slot_at written slot
+    kept zero e = refl
+    kept (suc slot) e = let is = eqb-true (suc slot) 0 e in absurd (omega arith)
+
+    lost : (slot : ℕ) → page_0_stays slot ≡ false → (slot_at without_aborted slot ≡ blank) ⊎ (slot_at without_aborted slot ≡ damaged)
+    lost zero e = absurd (false≢true (sym e))
+    lost (suc zero) e = inr refl
+    lost (suc (suc zero)) e = inl refl
+    lost (suc (suc (suc slot))) e = inl refl
+
+-- only the record of page 0 counts
+written_spared : IsSpared Scc (found 0 (rec 0 1 0 1 0) ∷ found 1 (rec 1 3 2 7 0) ∷ []) 3 (shape_of (config Scc)) page_0_stays
+written_spared = record { block = 1; exists = omega arith; counted = counted }
+  where
+    list : List Found
+    list = found 0 (rec 0 1 0 1 0) ∷ found 1 (rec 1 3 2 7 0) ∷ []
+
+    uncounted : (◌≡◌ {A = ℕ} 3 0) ⊎ (false ≡ true) → false ≡ true
+    uncounted (inl current) = absurd (omega arith)
+    uncounted (inr held) = held
+
+    counted : KeepsCounted Scc list 3 (λ slot. page_0_stays slot && is_outside (shape_of (config Scc)) 1 slot)
+    counted =
+        All-from_recursion (λ f. IsCurrent Scc list 3 f.rec ⊎ (is_held Scc list 3 f.rec ≡ true) →
+        is_present (left (λ slot. page_0_stays slot && is_outside (shape_of (config Scc)) 1 slot) list) (name_of f.rec) ≡ true) list
+        (λ h. refl, (uncounted, tt))
+
+pub aborted_may_go : AbortedMayGo
+unfolding array_in written_in record_of spelling first_broken number_at
+aborted_may_go = (
+  aborted_lost,
+  subst (λ l. IsSpared Scc l 3 (shape_of (config Scc)) page_0_stays) (sym written_records) written_spared,
+  refl,
+  refl,
+)

@@ -1,0 +1,15 @@
+ghost use Rattle.std.specs.Prelude.{◌≡◌};
+
+use crate::Flash;
+
+/// What was done may not be durable: what is to keep it failed, in this flush or before.
+#[derive(Clone, Copy, PartialEq, Eq)]
+pub struct NotDurable;
+
+/// A flash whose programs wait to be made durable. A loss of power leaves any part of those that wait.
+pub trait Cached: Flash {
+    /// Makes durable all that was done. What the flash shows is as before, also where this fails: then a loss of
+    /// power may still take what waits, nothing may be answered that rests on it, and each later flush fails too.
+    fn flush(&mut self) -> Result<(), NotDurable>
+        ensures { Self.state self.new ≡ Self.state self.old };
+}
