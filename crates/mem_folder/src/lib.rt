@@ -1,0 +1,10 @@
+//! A folder in memory that tells through which states it goes.
+#![tactic(auto)]
+
+mod change;
+mod log;
+mod note;
+mod reading;
+
+pub use change::Change;
+pub use log::Log;
