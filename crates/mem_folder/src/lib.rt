@@ -2,6 +2,7 @@
 #![tactic(auto)]
 
 mod change;
+mod files;
 mod log;
 mod note;
 mod reading;

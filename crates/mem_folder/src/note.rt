@@ -1,8 +1,13 @@
 //! What the answers of a folder count as.
-ghost use Rattle.std.specs.Prelude.{◌≡◌};
-ghost use Rattle.durable_folder.specs.Counting.{is_refusal, is_absence, is_presence, is_unable, is_denied};
-ghost use Rattle.mem_folder.specs.declared.note.Note.{Note};
+ghost use Rattle.std.specs.Prelude.{◌≡◌, ◌≢◌, Ok, Result};
+ghost use Rattle.std.specs.declared.io.Error.{Error};
+ghost use Rattle.durable_folder.specs.declared.folder.Lock.{Lock};
+ghost use Rattle.durable_folder.specs.declared.folder.Lock.TheVariants as lock;
+ghost use Rattle.durable_folder.specs.Counting.{answer_to, answer_to_create, answer_to_find, answer_to_give, answer_to_lock, answer_to_rename, is_refusal};
+ghost use Rattle.mem_folder.specs.Telling.{IsNoteOf};
 
+use durable_folder::Lock;
+use std::io;
 use std::io::ErrorKind;
 
 /// What an answer counts as.
@@ -14,8 +19,14 @@ pub struct Note {
     pub is_excused: bool,
 }
 
+/// An answer that is no error.
+const QUIET: Note = Note {
+    is_refusal: false,
+    is_excused: true,
+};
+
 /// Whether an error of this kind gives no leave for a call.
-pub fn is_refusal(kind: ErrorKind) -> bool
+fn is_refusal(kind: ErrorKind) -> bool
     ensures { result ≡ is_refusal kind }
 {
     match kind {
@@ -28,42 +39,78 @@ pub fn is_refusal(kind: ErrorKind) -> bool
     }
 }
 
-/// Whether it says that there is nothing of a name.
-pub fn is_absence(kind: ErrorKind) -> bool
-    ensures { result ≡ is_absence kind }
+/// What an answer counts as where each error is a fault.
+pub fn note_of<T>(answer: &io::Result<T>) -> Note
+    ensures { IsNoteOf (answer_to answer.now) result }
 {
-    match kind {
-        ErrorKind::NotFound => true,
-        _ => false,
+    match answer {
+        Ok(_) => QUIET,
+        Err(error) => Note {
+            is_refusal: is_refusal(error.kind()),
+            is_excused: false,
+        },
     }
 }
 
-/// Whether it says that there is something of a name.
-pub fn is_presence(kind: ErrorKind) -> bool
-    ensures { result ≡ is_presence kind }
+/// What an answer counts as where it may say that there is nothing of a name.
+pub fn note_of_find<T>(answer: &io::Result<T>) -> Note
+    ensures { IsNoteOf (answer_to_find answer.now) result }
 {
-    match kind {
-        ErrorKind::AlreadyExists => true,
-        _ => false,
+    match answer {
+        Ok(_) => QUIET,
+        Err(error) => match error.kind() {
+            ErrorKind::NotFound => QUIET,
+            kind => Note {
+                is_refusal: is_refusal(kind),
+                is_excused: false,
+            },
+        },
     }
 }
 
-/// Whether it says that a folder cannot be synced.
-pub fn is_unable(kind: ErrorKind) -> bool
-    ensures { result ≡ is_unable kind }
+/// What the answer of making a new file counts as.
+pub fn note_of_create<T>(answer: &io::Result<T>) -> Note
+    ensures { IsNoteOf (answer_to_create answer.now) result }
 {
-    match kind {
-        ErrorKind::InvalidInput => true,
-        _ => false,
+    match answer {
+        Ok(_) => QUIET,
+        Err(error) => match error.kind() {
+            ErrorKind::AlreadyExists => QUIET,
+            kind => Note {
+                is_refusal: is_refusal(kind),
+                is_excused: is_refusal(kind),
+            },
+        },
     }
 }
 
-/// Whether it gives no leave to open a folder.
-pub fn is_denied(kind: ErrorKind) -> bool
-    ensures { result ≡ is_denied kind }
+/// What the answer of putting a file at another name counts as.
+pub fn note_of_rename<T>(answer: &io::Result<T>) -> Note
+    ensures { IsNoteOf (answer_to_rename answer.now) result }
 {
-    match kind {
-        ErrorKind::PermissionDenied => true,
-        _ => false,
+    match answer {
+        Ok(_) => QUIET,
+        Err(error) => Note {
+            is_refusal: is_refusal(error.kind()),
+            is_excused: is_refusal(error.kind()),
+        },
     }
+}
+
+/// What the answer of a call counts as that only makes a file what it is to be, or tells where a link
+/// leads.
+pub fn note_of_give<T>(answer: &io::Result<T>) -> Note
+    ensures { IsNoteOf (answer_to_give answer.now) result }
+{
+    Note {
+        is_refusal: answer.is_err(),
+        is_excused: true,
+    }
+}
+
+/// What an answer counts as that no other program holds the lock.
+pub fn note_of_lock() -> Note
+    ensures { (answer : Result Lock Error) → answer ≢ Ok lock.Elsewhere → IsNoteOf (answer_to_lock answer) result }
+{
+    QUIET
 }

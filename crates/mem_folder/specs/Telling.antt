@@ -1,0 +1,46 @@
+-- What a folder in memory tells of the calls that were made.
+use Rattle.std.specs.Prelude.{◌≡◌, ◌⊎◌, ℕ, ◌+◌, List, [], ◌∷◌, map, Option, Some, Vec}
+use Rattle.std.specs.Global.{Global}
+use Rattle.std.specs.IoError.{error_kind}
+use Rattle.std.specs.declared.io.Error.{Error}
+use Rattle.std.specs.declared.io.ErrorKind.TheVariants as kind
+use Rattle.durable_folder.specs.Calls.{Handle}
+use Rattle.durable_folder.specs.Counting.{if_so, unless_so}
+use Rattle.durable_folder.specs.Histories.{Answer, History}
+use Rattle.mem_folder.specs.Changes.{state_of}
+use Rattle.mem_folder.specs.declared.change.Change.{Change}
+use Rattle.mem_folder.specs.declared.note.Note.{Note}
+use Rattle.mem_folder.specs.declared.files.MemFile.{MemFile}
+
+-- how many of these give no leave, and how many are faults
+abbrev pub refusals_in : List Note → ℕ
+refusals_in [] = 0
+refusals_in (note ∷ notes) = refusals_in notes + if_so note.is_refusal
+
+abbrev pub failures_in : List Note → ℕ
+failures_in [] = 0
+failures_in (note ∷ notes) = failures_in notes + unless_so note.is_excused
+
+-- The history of a folder, by the changes until now, those before each call, the newest first, and what was answered.
+abbrev pub history_of : List Change → List (Vec Change Global) → List Note → History
+history_of changes befores notes = record {
+  now = state_of changes;
+  before = map (λ before. state_of before.items) befores;
+  refusals = refusals_in notes;
+  failures = failures_in notes;
+  unsynced = [];
+}
+
+-- the note says what this answer counts as
+pub record IsNoteOf (answer : Answer) (note : Note) : Type 0 where
+  pub refusals : answer.refusals ≡ if_so note.is_refusal
+  pub failures : answer.failures ≡ unless_so note.is_excused
+  pub unsynced : answer.unsynced ≡ []
+
+-- an error that comes by itself, whatever is there
+abbrev pub IsFault : Error → Type 0
+IsFault error = (error_kind error ≡ kind.Other) ⊎ (error_kind error ≡ kind.ReadOnlyFilesystem)
+
+-- an open file, as a handle
+abbrev pub handle_of : MemFile → Handle
+handle_of file = record { file = Some file.number; offset = file.offset; is_held = file.is_held }
