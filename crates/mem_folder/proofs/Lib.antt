@@ -1,2 +1,4 @@
+pub mod Laying
 pub mod Seeing
+pub mod Steps
 mod Walks

@@ -4,6 +4,7 @@
 mod change;
 mod files;
 mod log;
+mod naming;
 mod note;
 mod reading;
 

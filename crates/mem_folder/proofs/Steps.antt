@@ -1,0 +1,143 @@
+-- What each change does to the state of a folder.
+use Rattle.std.proofs.Common.{◌≡◌, ◌≢◌, ℕ, ◌==◌, Bool, true, false, List, [], ◌∷◌, ◌++◌, Option, None, Some, String, Vec, bytes_eq, string_bytes, if◌then◌else◌, refl, sym, ap, ◌∙◌, inl, inr}
+use Rattle.std.specs.Bool.{Decides}
+use Rattle.std.specs.Global.{Global}
+use Rattle.std.proofs.lemmas.Slice.Eq.{bytes_eq-Decides}
+use Rattle.std.proofs.lemmas.Bool.Decides.{Decides-eqb}
+use Rattle.durable_folder.specs.FolderState.{SomeOf, newest}
+use Rattle.durable_folder.specs.Calls.{Makes, Moves, Drops, SettlesNames, SparesNames, SparesFiles}
+use Rattle.mem_folder.specs.Changes.{IsFresh, alone, last_alone, named_after, named_from, named, held_after, held_from, held, state_of}
+use Rattle.mem_folder.specs.declared.change.Change.{Change}
+use Rattle.mem_folder.specs.declared.change.Change.TheVariants as change
+use Rattle.mem_folder.proofs.Seeing.{named_from-append, held_from-append}
+
+-- one change more
+pub named-append : (cs : List Change) (c : Change) (name : List ℕ) → named (cs ++ c ∷ []) name ≡ named_after name c (named cs name)
+named-append cs c name = named_from-append name (None ∷ []) cs c
+
+pub held-append : (cs : List Change) (c : Change) (file : ℕ) → held (cs ++ c ∷ []) file ≡ held_after file c (held cs file)
+held-append cs c file = held_from-append file ([] ∷ []) cs c
+
+no_answer : {P : Type 0} (b : Bool) → Decides b P → (P → ⊥) → b ≡ false
+no_answer true d wrong = absurd (wrong (d.0 refl))
+no_answer false d wrong = refl
+
+same_text : (name : List ℕ) → bytes_eq name name ≡ true
+same_text name = (bytes_eq-Decides name name).1 refl
+
+other_text : (a b : List ℕ) → a ≢ b → bytes_eq a b ≡ false
+other_text a b apart = no_answer (bytes_eq a b) (bytes_eq-Decides a b) apart
+
+same_number : (n : ℕ) → (n == n) ≡ true
+same_number n = (Decides-eqb n n).1 refl
+
+other_number : (a b : ℕ) → a ≢ b → (a == b) ≡ false
+other_number a b apart = no_answer (a == b) (Decides-eqb a b) apart
+
+pub makes : (cs : List Change) (it : String Global) (file : ℕ) → newest None (named cs (string_bytes it)) ≡ None → IsFresh cs file →
+    Makes file (string_bytes it) (state_of cs) (state_of (cs ++ change.Made it file ∷ []))
+makes cs it file free fresh = record {
+  is_free = free;
+  is_fresh = fresh;
+  is_plain = refl;
+  named = rw (named-append cs (change.Made it file) (string_bytes it), same_text (string_bytes it)) refl;
+  empty = rw (held-append cs (change.Made it file) file, same_number file) refl;
+  spares = record {
+    names = λ n apart. rw (named-append cs (change.Made it file) n, other_text (string_bytes it) n (λ e. apart (sym e))) refl;
+    files = λ f apart. rw (held-append cs (change.Made it file) f, other_number file f (λ e. apart (sym e))) refl;
+    fixed = refl;
+  };
+}
+
+pub moves : (cs : List Change) (from to : String Global) (file : ℕ) → newest None (named cs (string_bytes from)) ≡ Some file →
+    string_bytes from ≢ string_bytes to →
+    Moves (string_bytes from) (string_bytes to) (state_of cs) (state_of (cs ++ change.Moved from to file ∷ []))
+moves cs from to file there apart = record {
+  arrives = rw (
+    named-append cs (change.Moved from to file) (string_bytes to), other_text (string_bytes from) (string_bytes to) apart,
+    same_text (string_bytes to), there,
+  ) refl;
+  leaves = rw (named-append cs (change.Moved from to file) (string_bytes from), same_text (string_bytes from)) refl;
+  others = λ n not_from not_to. rw (
+    named-append cs (change.Moved from to file) n, other_text (string_bytes from) n (λ e. not_from (sym e)),
+    other_text (string_bytes to) n (λ e. not_to (sym e)),
+  ) refl;
+  files = record { files = λ f. held-append cs (change.Moved from to file) f; fixed = refl };
+}
+
+pub drops : (cs : List Change) (it : String Global) → Drops (string_bytes it) (state_of cs) (state_of (cs ++ change.Removed it ∷ []))
+drops cs it = record {
+  gone = rw (named-append cs (change.Removed it) (string_bytes it), same_text (string_bytes it)) refl;
+  others = λ n apart. rw (named-append cs (change.Removed it) n, other_text (string_bytes it) n (λ e. apart (sym e))) refl;
+  files = record { files = λ f. held-append cs (change.Removed it) f; fixed = refl };
+}
+
+-- a version there is
+abbrev IsFilled : {A : Type 0} → List A → Type 0
+IsFilled [] = ⊥
+IsFilled (x ∷ xs) = Unit {0}
+
+filled_if : {A : Type 0} (b : Bool) (xs ys : List A) → IsFilled xs → IsFilled ys → IsFilled (if b then xs else ys)
+filled_if true xs ys h k = h
+filled_if false xs ys h k = k
+
+filled_last : {A : Type 0} (x : A) (xs : List A) → IsFilled (last_alone x xs)
+filled_last x [] = tt
+filled_last x (y ∷ ys) = filled_last y ys
+
+filled_alone : {A : Type 0} (newest : Bool) (xs : List A) → IsFilled xs → IsFilled (alone newest xs)
+filled_alone newest [] h = absurd h
+filled_alone true (x ∷ xs) h = tt
+filled_alone false (x ∷ xs) h = filled_last x xs
+
+filled_after : (name : List ℕ) (c : Change) (had : List (Option ℕ)) → IsFilled had → IsFilled (named_after name c had)
+filled_after name (change.Made it file) had h = filled_if (bytes_eq (string_bytes it) name) (Some file ∷ had) had tt h
+filled_after name (change.Removed it) had h = filled_if (bytes_eq (string_bytes it) name) (None ∷ had) had tt h
+filled_after name (change.Moved from to file) had h =
+    filled_if (bytes_eq (string_bytes from) name) (None ∷ had) (if bytes_eq (string_bytes to) name then Some file ∷ had else had) tt
+    (filled_if (bytes_eq (string_bytes to) name) (Some file ∷ had) had tt h)
+filled_after name (change.Wrote file bytes) had h = h
+filled_after name (change.Synced file) had h = h
+filled_after name change.Settled had h = tt
+filled_after name (change.Lost names bytes) had h = filled_alone names had h
+
+filled_from : (name : List ℕ) (had : List (Option ℕ)) (cs : List Change) → IsFilled had → IsFilled (named_from name had cs)
+filled_from name had [] h = h
+filled_from name had (c ∷ cs) h = filled_from name (named_after name c had) cs (filled_after name c had h)
+
+newest_is_one : (f : Option ℕ) (xs : List (Option ℕ)) → IsFilled xs → SomeOf (λ g. g ≡ f) (newest None xs ∷ []) → SomeOf (λ g. g ≡ f) xs
+newest_is_one f [] h one = absurd h
+newest_is_one f (x ∷ xs) h (inl is) = inl is
+newest_is_one f (x ∷ xs) h (inr none) = absurd none
+
+pub settles : (cs : List Change) (place : List ℕ) → SettlesNames place (state_of cs) (state_of (cs ++ change.Settled ∷ []))
+settles cs place = record {
+  here = λ n _. named-append cs change.Settled n;
+  others = λ n f one. newest_is_one f (named cs n) (filled_from n (None ∷ []) cs tt) (rw (named-append cs change.Settled n) at one);
+  files = record { files = λ f. held-append cs change.Settled f; fixed = refl };
+}
+
+-- the bytes of one file change
+pub wrote : (cs : List Change) (file : ℕ) (bytes : Vec ℕ Global) →
+    SparesNames file (state_of cs) (state_of (cs ++ change.Wrote file bytes ∷ [])) ×
+    (held (cs ++ change.Wrote file bytes ∷ []) file ≡ bytes.items ∷ held cs file)
+wrote cs file bytes = (
+  record {
+    names = λ n. named-append cs (change.Wrote file bytes) n;
+    files = λ f apart. rw (held-append cs (change.Wrote file bytes) f, other_number file f (λ e. apart (sym e))) refl;
+    fixed = refl;
+  },
+  rw (held-append cs (change.Wrote file bytes) file, same_number file) refl,
+)
+
+pub synced : (cs : List Change) (file : ℕ) →
+    SparesNames file (state_of cs) (state_of (cs ++ change.Synced file ∷ [])) ×
+    (held (cs ++ change.Synced file ∷ []) file ≡ newest [] (held cs file) ∷ [])
+synced cs file = (
+  record {
+    names = λ n. named-append cs (change.Synced file) n;
+    files = λ f apart. rw (held-append cs (change.Synced file) f, other_number file f (λ e. apart (sym e))) refl;
+    fixed = refl;
+  },
+  rw (held-append cs (change.Synced file) file, same_number file) refl,
+)
