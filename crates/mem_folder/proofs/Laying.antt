@@ -1,5 +1,5 @@
 -- What is written over the bytes of a file.
-use Rattle.std.proofs.Common.{◌≡◌, ◌⊎◌, inl, inr, ℕ, ◌+◌, ◌-◌, ◌<◌, ◌≤◌, min, max, List, ◌∷◌, ◌++◌, length, take, drop, replicate, refl, sym, ap, ◌∙◌, arith, Err}
+use Rattle.std.proofs.Common.{◌≡◌, ◌⊎◌, inl, inr, ℕ, ◌+◌, ◌-◌, ◌<◌, ◌≤◌, min, max, List, [], ◌∷◌, ◌++◌, length, take, drop, replicate, refl, sym, ap, ◌∙◌, arith, Err}
 use Rattle.std.proofs.Math.ListN.{get_or-eq_default}
 use Rattle.std.proofs.lemmas.List.{get_or-take, get_or-drop, get_or_append_left, get_or-append_right, get_or-replicate, length-append, length-drop, length-take, length-replicate}
 use Rattle.std.proofs.lemmas.Bool.{cases_lt}
@@ -10,13 +10,13 @@ use Rattle.mem_folder.specs.Bytes.{filled, overlay}
 
 filled-length : (size : ℕ) (old : List ℕ) → length (filled size old) ≡ size
 filled-length size old =
-    let front = length-take size old in
-    let rest = length-replicate (size - length old) 0 in
+    let front : length (take size old) ≡ min size (length old) = length-take size old in
+    let rest : length (replicate {A = ℕ} (size - length old) 0) ≡ size - length old = length-replicate (size - length old) 0 in
     length-append (take size old) (replicate (size - length old) 0) ∙ omega arith
 
 filled-byte : (size : ℕ) (old : List ℕ) (i : ℕ) → i < size → byte_at (filled size old) i ≡ byte_at old i
 filled-byte size old i below =
-    let front = length-take size old in
+    let front : length (take size old) ≡ min size (length old) = length-take size old in
     elim (cases_lt i (length old)) [
       | inl within ↦ get_or_append_left (take size old) (replicate (size - length old) 0) 0 i (omega arith) ∙ get_or-take size old i 0 below
       | inr past ↦
@@ -33,7 +33,7 @@ is_overlaid offset bytes old =
     let rest = drop (offset + length bytes) old in
     let front_length : length front ≡ offset = filled-length offset old in
     let both_length : length (front ++ bytes) ≡ offset + length bytes = length-append front bytes ∙ omega arith in
-    let rest_length = length-drop (offset + length bytes) old in
+    let rest_length : length rest ≡ length old - (offset + length bytes) = length-drop (offset + length bytes) old in
     record {
       size = λ _. length-append (front ++ bytes) rest ∙ omega arith;
       within = λ i below.

@@ -1,4 +1,5 @@
 pub mod Laying
+pub mod Numbers
 pub mod Seeing
 pub mod Steps
 mod Walks

@@ -1,12 +1,14 @@
 -- What each change does to the state of a folder.
-use Rattle.std.proofs.Common.{◌≡◌, ◌≢◌, ℕ, ◌==◌, Bool, true, false, List, [], ◌∷◌, ◌++◌, Option, None, Some, String, Vec, bytes_eq, string_bytes, if◌then◌else◌, refl, sym, ap, ◌∙◌, inl, inr}
+use Rattle.std.proofs.Common.{◌≡◌, ◌≢◌, ℕ, ◌==◌, Bool, true, false, List, [], ◌∷◌, ◌++◌, Option, None, Some, String, Vec, bytes_eq, string_bytes, if◌then◌else◌, refl, sym, ap, ◌∙◌, inl, inr, Result, Ok, Err, IfErr, OnOk}
 use Rattle.std.specs.Bool.{Decides}
 use Rattle.std.specs.Global.{Global}
 use Rattle.std.proofs.lemmas.Slice.Eq.{bytes_eq-Decides}
 use Rattle.std.proofs.lemmas.Bool.Decides.{Decides-eqb}
 use Rattle.durable_folder.specs.FolderState.{SomeOf, newest}
-use Rattle.durable_folder.specs.Calls.{Makes, Moves, Drops, SettlesNames, SparesNames, SparesFiles}
+use Rattle.std.specs.declared.io.Error.{Error}
+use Rattle.durable_folder.specs.Calls.{Makes, Moves, Drops, SettlesNames, SparesNames, Renames, Removes, SyncsFolder, Creates, Handle, opened_at}
 use Rattle.mem_folder.specs.Changes.{IsFresh, alone, last_alone, named_after, named_from, named, held_after, held_from, held, state_of}
+use Rattle.mem_folder.specs.Telling.{IsStarved}
 use Rattle.mem_folder.specs.declared.change.Change.{Change}
 use Rattle.mem_folder.specs.declared.change.Change.TheVariants as change
 use Rattle.mem_folder.proofs.Seeing.{named_from-append, held_from-append}
@@ -72,6 +74,25 @@ drops cs it = record {
   files = record { files = λ f. held-append cs (change.Removed it) f; fixed = refl };
 }
 
+-- The answer of noting a change: it is noted, or there is no memory.
+pub record IsNoted (cs : List Change) (c : Change) (result : Result (Unit {0}) Error) (ds : List Change) : Type 0 where
+  pub ok : OnOk result (ds ≡ cs ++ c ∷ [])
+  pub err : IfErr result (λ error. (ds ≡ cs) × IsStarved error)
+
+pub renames : (cs ds : List Change) (from to : String Global) (file : ℕ) (result : Result (Unit {0}) Error) →
+    newest None (named cs (string_bytes from)) ≡ Some file → newest None (named cs (string_bytes to)) ≢ Some file →
+    IsNoted cs (change.Moved from to file) result ds → Renames (string_bytes from) (string_bytes to) result (state_of cs) (state_of ds)
+renames cs ds from to file (Ok done) there other noted = (
+  λ _. rw noted.ok (moves cs from to file there (λ same. other (ap (λ name. newest None (named cs name)) (sym same) ∙ there))),
+  λ same. absurd (other (sym same ∙ there)),
+)
+renames cs ds from to file (Err error) there other noted = ap state_of noted.err.0
+
+pub removes : (cs ds : List Change) (it : String Global) (result : Result (Unit {0}) Error) → IsNoted cs (change.Removed it) result ds →
+    Removes (string_bytes it) result (state_of cs) (state_of ds)
+removes cs ds it (Ok done) noted = rw noted.ok (drops cs it)
+removes cs ds it (Err error) noted = ap state_of noted.err.0
+
 -- a version there is
 abbrev IsFilled : {A : Type 0} → List A → Type 0
 IsFilled [] = ⊥
@@ -116,6 +137,11 @@ settles cs place = record {
   others = λ n f one. newest_is_one f (named cs n) (filled_from n (None ∷ []) cs tt) (rw (named-append cs change.Settled n) at one);
   files = record { files = λ f. held-append cs change.Settled f; fixed = refl };
 }
+
+pub syncs_folder : (cs ds : List Change) (place : List ℕ) (result : Result (Unit {0}) Error) → IsNoted cs change.Settled result ds →
+    SyncsFolder place result (state_of cs) (state_of ds)
+syncs_folder cs ds place (Ok done) noted = rw noted.ok (settles cs place)
+syncs_folder cs ds place (Err error) noted = ap state_of noted.err.0
 
 -- the bytes of one file change
 pub wrote : (cs : List Change) (file : ℕ) (bytes : Vec ℕ Global) →

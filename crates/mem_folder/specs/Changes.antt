@@ -1,5 +1,5 @@
 -- The state of a folder, by the changes that were made to it.
-use Rattle.std.specs.Prelude.{◌≡◌, ℕ, pos, ◌==◌, Bool, true, false, List, [], ◌∷◌, Option, None, Some, bytes_eq, string_bytes, if◌then◌else◌}
+use Rattle.std.specs.Prelude.{◌≡◌, ℕ, ◌<◌, ◌≤◌, pos, ◌==◌, Bool, true, false, List, [], ◌∷◌, Option, None, Some, bytes_eq, string_bytes, if◌then◌else◌}
 use Rattle.durable_folder.specs.FolderState.{FolderState, Fixed, SomeOf, newest}
 use Rattle.mem_folder.specs.declared.change.Change.{Change}
 use Rattle.mem_folder.specs.declared.change.Change.TheVariants as change
@@ -81,3 +81,18 @@ pub record IsSeen {A : Type 0} (versions : List A) (now kept : A) : Type 0 where
 -- no name had this file
 abbrev pub IsFresh : List Change → ℕ → Type 0
 IsFresh changes file = (name : List ℕ) → SomeOf (λ f. f ≡ Some file) (named changes name) → ⊥
+
+-- these files are numbered below this
+abbrev pub AllBelow : List Change → ℕ → Type 0
+AllBelow changes next = (name : List ℕ) (file : ℕ) → SomeOf (λ f. f ≡ Some file) (named changes name) → file < next
+
+-- the number that a change gives to a name
+abbrev pub number_of : Change → Option ℕ
+number_of (change.Made it file) = Some file
+number_of (change.Moved from to file) = Some file
+number_of _ = None
+
+-- it is no less than the first number, and above the second one if there is one
+pub record IsAbove (next : ℕ) (number : Option ℕ) (above : ℕ) : Type 0 where
+  pub least : next ≤ above
+  pub over : (file : ℕ) → number ≡ Some file → file < above

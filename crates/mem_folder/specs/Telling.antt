@@ -41,6 +41,10 @@ pub record IsNoteOf (answer : Answer) (note : Note) : Type 0 where
 abbrev pub IsFault : Error → Type 0
 IsFault error = (error_kind error ≡ kind.Other) ⊎ (error_kind error ≡ kind.ReadOnlyFilesystem)
 
+-- there is no memory
+abbrev pub IsStarved : Error → Type 0
+IsStarved error = error_kind error ≡ kind.OutOfMemory
+
 -- an open file, as a handle
 abbrev pub handle_of : MemFile → Handle
 handle_of file = record { file = Some file.number; offset = file.offset; is_held = file.is_held }

@@ -3,10 +3,12 @@
 
 mod change;
 mod files;
+mod finding;
 mod log;
 mod naming;
 mod note;
 mod reading;
+mod writing;
 
 pub use change::Change;
 pub use log::Log;
