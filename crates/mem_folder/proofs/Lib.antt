@@ -1,3 +1,4 @@
+pub mod Holding
 pub mod Laying
 pub mod Numbers
 pub mod Seeing
