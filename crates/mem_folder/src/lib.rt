@@ -2,13 +2,17 @@
 #![tactic(auto)]
 
 mod change;
+mod fault;
 mod files;
 mod finding;
 mod log;
 mod naming;
 mod note;
 mod reading;
+mod settling;
 mod writing;
 
 pub use change::Change;
+pub use fault::Fault;
+pub use files::{MemFile, MemPlace};
 pub use log::Log;

@@ -24,7 +24,7 @@ pub fn add(changes: &mut Vec<Change>, change: Change) -> io::Result<()>
 }
 
 /// A copy of a text.
-fn copy(alloc: Global, text: &str) -> io::Result<String>
+pub fn copy(alloc: Global, text: &str) -> io::Result<String>
     ensures ok { IfOk result (λ copy. string_bytes copy ≡ text.now) }
     ensures err { IfErr result IsStarved }
 {

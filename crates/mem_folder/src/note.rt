@@ -1,10 +1,7 @@
 //! What the answers of a folder count as.
-ghost use Rattle.std.specs.Prelude.{◌≡◌, ◌≢◌, Ok, Result};
-ghost use Rattle.std.specs.declared.io.Error.{Error};
-ghost use Rattle.durable_folder.specs.declared.folder.Lock.{Lock};
-ghost use Rattle.durable_folder.specs.declared.folder.Lock.TheVariants as lock;
-ghost use Rattle.durable_folder.specs.Counting.{answer_to, answer_to_create, answer_to_find, answer_to_give, answer_to_lock, answer_to_rename, is_refusal};
-ghost use Rattle.mem_folder.specs.Telling.{IsNoteOf};
+ghost use Rattle.std.specs.Prelude.{◌≡◌, ℕ, List};
+ghost use Rattle.durable_folder.specs.Counting.{answer_to, answer_to_create, answer_to_find, answer_to_give, answer_to_lock, answer_to_open_folder, answer_to_rename, answer_to_sync_folder, is_denied, is_refusal, is_unable};
+ghost use Rattle.mem_folder.specs.Telling.{IsCountOf, IsNoteOf};
 
 use durable_folder::Lock;
 use std::io;
@@ -108,9 +105,61 @@ pub fn note_of_give<T>(answer: &io::Result<T>) -> Note
     }
 }
 
-/// What an answer counts as that no other program holds the lock.
-pub fn note_of_lock() -> Note
-    ensures { (answer : Result Lock Error) → answer ≢ Ok lock.Elsewhere → IsNoteOf (answer_to_lock answer) result }
+/// What the answer of asking for a lock counts as.
+pub fn note_of_lock(answer: &io::Result<Lock>) -> Note
+    ensures { IsNoteOf (answer_to_lock answer.now) result }
 {
-    QUIET
+    match answer {
+        Ok(Lock::Elsewhere) => Note {
+            is_refusal: false,
+            is_excused: false,
+        },
+        _ => QUIET,
+    }
+}
+
+/// Whether an error of this kind gives no leave to open a folder.
+pub fn is_denied(kind: ErrorKind) -> bool
+    ensures { result ≡ is_denied kind }
+{
+    match kind {
+        ErrorKind::PermissionDenied => true,
+        _ => false,
+    }
+}
+
+/// Whether an error of this kind says that a folder cannot be synced.
+pub fn is_unable(kind: ErrorKind) -> bool
+    ensures { result ≡ is_unable kind }
+{
+    match kind {
+        ErrorKind::InvalidInput => true,
+        _ => false,
+    }
+}
+
+/// What the answer of opening a folder counts as.
+pub fn note_of_open_folder<T>(answer: &io::Result<T>) -> Note
+    ensures { (folder : List ℕ) → IsCountOf (answer_to_open_folder folder answer.now) result }
+{
+    match answer {
+        Ok(_) => QUIET,
+        Err(error) => Note {
+            is_refusal: is_refusal(error.kind()),
+            is_excused: is_denied(error.kind()),
+        },
+    }
+}
+
+/// What the answer of syncing a folder counts as.
+pub fn note_of_sync_folder<T>(answer: &io::Result<T>) -> Note
+    ensures { (folder : List ℕ) → IsCountOf (answer_to_sync_folder folder answer.now) result }
+{
+    match answer {
+        Ok(_) => QUIET,
+        Err(error) => Note {
+            is_refusal: is_refusal(error.kind()),
+            is_excused: is_unable(error.kind()),
+        },
+    }
 }
