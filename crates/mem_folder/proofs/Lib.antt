@@ -3,4 +3,5 @@ pub mod Laying
 pub mod Numbers
 pub mod Seeing
 pub mod Steps
+pub mod Turning
 mod Walks
