@@ -1,5 +1,6 @@
 pub mod Holding
 pub mod Laying
+pub mod Noting
 pub mod Numbers
 pub mod Seeing
 pub mod Steps

@@ -1,10 +1,10 @@
 -- One call more in what a folder in memory tells.
-use Rattle.std.proofs.Common.{◌≡◌, ℕ, ◌+◌, List, [], ◌∷◌, ◌++◌, map, Option, Some, Vec, refl, sym, ap}
+use Rattle.std.proofs.Common.{◌≡◌, ℕ, ◌+◌, List, [], ◌∷◌, ◌++◌, Option, Some, Vec, refl, sym, ap}
 use Rattle.std.specs.Global.{Global}
 use Rattle.durable_folder.specs.FolderState.{FolderState}
 use Rattle.durable_folder.specs.Histories.{Answer, Turns}
 use Rattle.mem_folder.specs.Changes.{state_of}
-use Rattle.mem_folder.specs.Telling.{AreNoted, IsCountOf, IsNoteOf, failures_in, history_of, place_of, refusals_in}
+use Rattle.mem_folder.specs.Telling.{AreNoted, IsCountOf, IsNoteOf, failures_in, history_of, refusals_in, unsynced_of}
 use Rattle.mem_folder.specs.declared.change.Change.{Change}
 use Rattle.mem_folder.specs.declared.files.MemPlace.{MemPlace}
 use Rattle.mem_folder.specs.declared.note.Note.{Note}
@@ -22,4 +22,4 @@ pub turned : (step : FolderState → FolderState → Type 0) (answer : Answer) (
     (notes : List Note) (places : List MemPlace) (changes : List Change) → step (state_of before.items) (state_of changes) → IsNoteOf answer note →
     Turns step answer (Some (history_of before.items befores notes places)) (Some (history_of changes (before ∷ befores) (note ∷ notes) places))
 turned step answer note before befores notes places changes goes is =
-    turned_noting step answer note before befores notes places places changes goes is.count (ap (λ noted. noted ++ map place_of places) (sym is.unsynced))
+    turned_noting step answer note before befores notes places places changes goes is.count (ap (λ noted. noted ++ unsynced_of places) (sym is.unsynced))

@@ -1,5 +1,5 @@
 -- What a folder in memory tells of the calls that were made.
-use Rattle.std.specs.Prelude.{◌≡◌, ◌⊎◌, ℕ, ◌+◌, List, [], ◌∷◌, ◌++◌, map, Option, Some, Vec, string_bytes}
+use Rattle.std.specs.Prelude.{◌≡◌, ◌⊎◌, ℕ, ◌+◌, List, [], ◌∷◌, ◌++◌, map, reverse, Option, Some, Vec, string_bytes}
 use Rattle.std.specs.Global.{Global}
 use Rattle.std.specs.IoError.{error_kind}
 use Rattle.std.specs.declared.io.Error.{Error}
@@ -26,16 +26,24 @@ failures_in (note ∷ notes) = failures_in notes + unless_so note.is_excused
 abbrev pub place_of : MemPlace → List ℕ
 place_of place = string_bytes place.name
 
+-- the names of the folders that were noted, the newest first
+abbrev pub unsynced_of : List MemPlace → List (List ℕ)
+unsynced_of noted = map place_of (reverse noted)
+
 -- The history of a folder, by the changes until now, those before each call, the newest first, what was answered, and the
 -- folders of which it was said that they cannot be synced, or may not be opened.
 abbrev pub history_of : List Change → List (Vec Change Global) → List Note → List MemPlace → History
-history_of changes befores notes places = record {
+history_of changes befores notes noted = record {
   now = state_of changes;
   before = map (λ before. state_of before.items) befores;
   refusals = refusals_in notes;
   failures = failures_in notes;
-  unsynced = map place_of places;
+  unsynced = unsynced_of noted;
 }
+
+-- there is no memory
+abbrev pub IsStarved : Error → Type 0
+IsStarved error = error_kind error ≡ kind.OutOfMemory
 
 -- The note says what this answer counts as.
 pub record IsCountOf (answer : Answer) (note : Note) : Type 0 where
@@ -49,17 +57,18 @@ pub record IsNoteOf (answer : Answer) (note : Note) : Type 0 where
 
 -- the folders that were noted, and those that the answer notes
 abbrev pub AreNoted : Answer → List MemPlace → List MemPlace → Type 0
-AreNoted answer old new = map place_of new ≡ answer.unsynced ++ map place_of old
+AreNoted answer old new = unsynced_of new ≡ answer.unsynced ++ unsynced_of old
+
+-- the folder was noted and this is the error that it gave, or there is no memory
+abbrev pub Notes : List ℕ → Error → Error → List MemPlace → List MemPlace → Type 0
+Notes place error result old new =
+    ((result ≡ error) × (unsynced_of new ≡ place ∷ unsynced_of old)) ⊎ (IsStarved result × (new ≡ old))
 
 -- an error that comes by itself, whatever is there
 abbrev pub IsFault : Error → Type 0
 IsFault error =
     (error_kind error ≡ kind.Other) ⊎ ((error_kind error ≡ kind.ReadOnlyFilesystem) ⊎
     ((error_kind error ≡ kind.PermissionDenied) ⊎ (error_kind error ≡ kind.InvalidInput)))
-
--- there is no memory
-abbrev pub IsStarved : Error → Type 0
-IsStarved error = error_kind error ≡ kind.OutOfMemory
 
 -- an open file, as a handle
 abbrev pub handle_of : MemFile → Handle

@@ -1,5 +1,5 @@
 //! The folder in memory.
-ghost use Rattle.std.specs.Prelude.{◌≡◌, [], ◌∷◌, IfErr};
+ghost use Rattle.std.specs.Prelude.{◌≡◌, [], ◌∷◌, false, IfErr};
 ghost use Rattle.mem_folder.specs.Telling.{IsFault, handle_of, history_of, place_of};
 
 use crate::change::Change;
@@ -22,15 +22,15 @@ use std::path::PathBuf;
 pub struct MemFolder {
     alloc: Global,
     /// What was done, the last of it last.
-    pub changes: Vec<Change>,
+    changes: Vec<Change>,
     /// How the next calls fail that do: the last of these is for the next call.
     faults: Vec<Option<Fault>>,
     /// What had been done before each call.
-    pub befores: Log<Vec<Change>>,
+    befores: Log<Vec<Change>>,
     /// What each answer counted as.
-    pub notes: Log<Note>,
-    /// The folders of which it was said that they cannot be synced, or may not be opened.
-    pub noted: Log<MemPlace>,
+    notes: Log<Note>,
+    /// Of which folders it was said that they cannot be synced, or may not be opened.
+    noted: Vec<MemPlace>,
 }
 
 impl MemFolder {
@@ -47,8 +47,15 @@ impl MemFolder {
             faults,
             befores: Log::new(),
             notes: Log::new(),
-            noted: Log::new(),
+            noted: Vec::new(alloc),
         }
+    }
+
+    /// Whether it was said of a folder that it cannot be synced, or may not be opened.
+    pub fn has_noted(&self) -> bool
+        ensures { result ≡ false → self.now.noted.items ≡ [] }
+    {
+        !self.noted.is_empty()
     }
 
     /// A call begins, which may fail by itself.
@@ -217,7 +224,7 @@ impl Folder for MemFolder {
 
     fn sync_folder(&mut self, folder: &MemPlace) -> io::Result<()> {
         let fault = self.begin();
-        let done = settling::sync_folder(fault, &mut self.changes, &mut self.noted, folder);
+        let done = settling::sync_folder(fault, self.alloc, &mut self.changes, &mut self.noted, folder);
         self.end(note_of_sync_folder(&done));
         done
     }
