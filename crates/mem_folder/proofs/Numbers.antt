@@ -2,6 +2,8 @@
 use Rattle.std.proofs.Common.{◌≡◌, ◌⊎◌, inl, inr, ℕ, ◌+◌, ◌<◌, ◌≤◌, Bool, true, false, List, [], ◌∷◌, Option, None, Some, length, take, get_or, bytes_eq, string_bytes, if◌then◌else◌, refl, arith}
 use Rattle.durable_folder.specs.FolderState.{SomeOf, newest}
 use Rattle.mem_folder.specs.Changes.{AllBelow, IsAbove, IsFresh, alone, last_alone, named, named_after, number_of}
+use Rattle.mem_folder.specs.declared.change.Left.{Left}
+use Rattle.mem_folder.specs.declared.change.Left.TheVariants as left
 use Rattle.mem_folder.specs.declared.change.Change.{Change}
 use Rattle.mem_folder.specs.declared.change.Change.TheVariants as change
 use Rattle.mem_folder.proofs.Seeing.{named-more}
@@ -11,15 +13,15 @@ abbrev Has : List (Option ℕ) → ℕ → Type 0
 Has had file = SomeOf (λ f. f ≡ Some file) had
 
 -- what holds of the one that is left holds of one of them
-pub of_last : {A : Type 0} (P : A → Type 0) (x : A) (xs : List A) → SomeOf P (last_alone x xs) → SomeOf P (x ∷ xs)
+of_last : {A : Type 0} (P : A → Type 0) (x : A) (xs : List A) → SomeOf P (last_alone x xs) → SomeOf P (x ∷ xs)
 of_last P x [] h = h
 of_last P x (y ∷ ys) h = inr (of_last P y ys h)
 
-pub of_alone : {A : Type 0} (P : A → Type 0) (newest : Bool) (xs : List A) → SomeOf P (alone newest xs) → SomeOf P xs
-of_alone P newest [] h = h
-of_alone P true (x ∷ xs) (inl h) = inl h
-of_alone P true (x ∷ xs) (inr h) = absurd h
-of_alone P false (x ∷ xs) h = of_last P x xs h
+pub of_alone : {A : Type 0} (P : A → Type 0) (which : Left) (xs : List A) → SomeOf P (alone which xs) → SomeOf P xs
+of_alone P which [] h = h
+of_alone P left.Newest (x ∷ xs) (inl h) = inl h
+of_alone P left.Newest (x ∷ xs) (inr h) = absurd h
+of_alone P left.Synced (x ∷ xs) h = of_last P x xs h
 
 no_file : (file : ℕ) → None ≡ Some file → ⊥
 no_file file e = grind arith

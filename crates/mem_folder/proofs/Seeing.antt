@@ -1,23 +1,8 @@
--- What a reader that goes over the changes knows of a name or a file.
-use Rattle.std.proofs.Common.{◌≡◌, ℕ, ◌+◌, ◌<◌, true, false, List, [], ◌∷◌, ◌++◌, Option, None, length, take, get_or, refl, ap, ◌∙◌}
+-- What a name and a file had after one change more.
+use Rattle.std.proofs.Common.{◌≡◌, ℕ, ◌+◌, ◌<◌, List, [], ◌∷◌, ◌++◌, Option, None, length, take, get_or, refl, ap, ◌∙◌}
 use Rattle.std.proofs.lemmas.List.{take_more}
-use Rattle.mem_folder.specs.Changes.{IsSeen, alone, last_alone, named_after, named_from, named, held_after, held_from, held}
+use Rattle.mem_folder.specs.Changes.{named_after, named_from, named, held_after, held_from, held}
 use Rattle.mem_folder.specs.declared.change.Change.{Change}
-
--- a version more
-pub seen_more : {A : Type 0} (had : List A) (now kept x : A) → IsSeen had now kept → IsSeen (x ∷ had) x kept
-seen_more had now kept x s = record { rest = had; newest = refl; oldest = ap (λ vs. last_alone x vs) s.newest ∙ s.oldest }
-
--- one version
-pub seen_one : {A : Type 0} (x : A) → IsSeen (x ∷ []) x x
-seen_one x = record { rest = []; newest = refl; oldest = refl }
-
--- the newest alone is left, or the oldest
-pub seen_newest : {A : Type 0} (had : List A) (now kept : A) → IsSeen had now kept → IsSeen (alone true had) now now
-seen_newest had now kept s = rw s.newest (seen_one now)
-
-pub seen_oldest : {A : Type 0} (had : List A) (now kept : A) → IsSeen had now kept → IsSeen (alone false had) kept kept
-seen_oldest had now kept s = rw (s.newest, s.oldest) (seen_one kept)
 
 -- one change more
 pub named_from-append : (name : List ℕ) (had : List (Option ℕ)) (cs : List Change) (c : Change) →

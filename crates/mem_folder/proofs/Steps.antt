@@ -7,10 +7,11 @@ use Rattle.std.proofs.lemmas.Bool.Decides.{Decides-eqb}
 use Rattle.durable_folder.specs.FolderState.{SomeOf, newest}
 use Rattle.std.specs.declared.io.Error.{Error}
 use Rattle.durable_folder.specs.Calls.{Makes, Moves, Drops, SettlesNames, SparesNames, Renames, Removes, SyncsFolder, Creates, Handle, opened_at}
-use Rattle.mem_folder.specs.Changes.{IsFresh, alone, last_alone, named_after, named_from, named, held_after, held_from, held, state_of}
+use Rattle.mem_folder.specs.Changes.{IsFresh, named_after, named, held_after, held, state_of}
 use Rattle.mem_folder.specs.Telling.{IsStarved}
 use Rattle.mem_folder.specs.declared.change.Change.{Change}
 use Rattle.mem_folder.specs.declared.change.Change.TheVariants as change
+use Rattle.mem_folder.proofs.Filled.{IsFilled, named_filled}
 use Rattle.mem_folder.proofs.Seeing.{named_from-append, held_from-append}
 
 -- one change more
@@ -93,39 +94,6 @@ pub removes : (cs ds : List Change) (it : String Global) (result : Result (Unit 
 removes cs ds it (Ok done) noted = rw noted.ok (drops cs it)
 removes cs ds it (Err error) noted = ap state_of noted.err.0
 
--- a version there is
-abbrev IsFilled : {A : Type 0} → List A → Type 0
-IsFilled [] = ⊥
-IsFilled (x ∷ xs) = Unit {0}
-
-filled_if : {A : Type 0} (b : Bool) (xs ys : List A) → IsFilled xs → IsFilled ys → IsFilled (if b then xs else ys)
-filled_if true xs ys h k = h
-filled_if false xs ys h k = k
-
-filled_last : {A : Type 0} (x : A) (xs : List A) → IsFilled (last_alone x xs)
-filled_last x [] = tt
-filled_last x (y ∷ ys) = filled_last y ys
-
-filled_alone : {A : Type 0} (newest : Bool) (xs : List A) → IsFilled xs → IsFilled (alone newest xs)
-filled_alone newest [] h = absurd h
-filled_alone true (x ∷ xs) h = tt
-filled_alone false (x ∷ xs) h = filled_last x xs
-
-filled_after : (name : List ℕ) (c : Change) (had : List (Option ℕ)) → IsFilled had → IsFilled (named_after name c had)
-filled_after name (change.Made it file) had h = filled_if (bytes_eq (string_bytes it) name) (Some file ∷ had) had tt h
-filled_after name (change.Removed it) had h = filled_if (bytes_eq (string_bytes it) name) (None ∷ had) had tt h
-filled_after name (change.Moved from to file) had h =
-    filled_if (bytes_eq (string_bytes from) name) (None ∷ had) (if bytes_eq (string_bytes to) name then Some file ∷ had else had) tt
-    (filled_if (bytes_eq (string_bytes to) name) (Some file ∷ had) had tt h)
-filled_after name (change.Wrote file bytes) had h = h
-filled_after name (change.Synced file) had h = h
-filled_after name change.Settled had h = tt
-filled_after name (change.Lost names bytes) had h = filled_alone names had h
-
-filled_from : (name : List ℕ) (had : List (Option ℕ)) (cs : List Change) → IsFilled had → IsFilled (named_from name had cs)
-filled_from name had [] h = h
-filled_from name had (c ∷ cs) h = filled_from name (named_after name c had) cs (filled_after name c had h)
-
 newest_is_one : (f : Option ℕ) (xs : List (Option ℕ)) → IsFilled xs → SomeOf (λ g. g ≡ f) (newest None xs ∷ []) → SomeOf (λ g. g ≡ f) xs
 newest_is_one f [] h one = absurd h
 newest_is_one f (x ∷ xs) h (inl is) = inl is
@@ -134,7 +102,7 @@ newest_is_one f (x ∷ xs) h (inr none) = absurd none
 pub settles : (cs : List Change) (place : List ℕ) → SettlesNames place (state_of cs) (state_of (cs ++ change.Settled ∷ []))
 settles cs place = record {
   here = λ n _. named-append cs change.Settled n;
-  others = λ n f one. newest_is_one f (named cs n) (filled_from n (None ∷ []) cs tt) (rw (named-append cs change.Settled n) at one);
+  others = λ n f one. newest_is_one f (named cs n) (named_filled cs n) (rw (named-append cs change.Settled n) at one);
   files = record { files = λ f. held-append cs change.Settled f; fixed = refl };
 }
 

@@ -1,6 +1,8 @@
 -- The state of a folder, by the changes that were made to it.
 use Rattle.std.specs.Prelude.{◌≡◌, ℕ, ◌<◌, ◌≤◌, pos, ◌==◌, Bool, true, false, List, [], ◌∷◌, Option, None, Some, bytes_eq, string_bytes, if◌then◌else◌}
 use Rattle.durable_folder.specs.FolderState.{FolderState, Fixed, SomeOf, newest}
+use Rattle.mem_folder.specs.declared.change.Left.{Left}
+use Rattle.mem_folder.specs.declared.change.Left.TheVariants as left
 use Rattle.mem_folder.specs.declared.change.Change.{Change}
 use Rattle.mem_folder.specs.declared.change.Change.TheVariants as change
 
@@ -10,10 +12,10 @@ last_alone x [] = x ∷ []
 last_alone x (y ∷ ys) = last_alone y ys
 
 -- Of the versions, the newest first, the newest alone is left, or the oldest.
-abbrev pub alone : {A : Type 0} → Bool → List A → List A
-alone newest [] = []
-alone true (v ∷ vs) = v ∷ []
-alone false (v ∷ vs) = last_alone v vs
+abbrev pub alone : {A : Type 0} → Left → List A → List A
+alone which [] = []
+alone left.Newest (v ∷ vs) = v ∷ []
+alone left.Synced (v ∷ vs) = last_alone v vs
 
 -- the files that a name had since the names were synced, after a change, where it had these before
 abbrev pub named_after : List ℕ → Change → List (Option ℕ) → List (Option ℕ)

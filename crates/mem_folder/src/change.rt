@@ -1,5 +1,14 @@
 //! What can be done to a folder.
 
+/// Which of the versions a loss of power leaves that there were since the last sync.
+#[derive(Clone, Copy)]
+pub enum Left {
+    /// The newest of them.
+    Newest,
+    /// The one that was synced.
+    Synced,
+}
+
 /// One change of a folder. Files are numbered, and a number is never used again.
 #[derive(Drop)]
 pub enum Change {
@@ -15,7 +24,6 @@ pub enum Change {
     Synced(u64),
     /// The names were synced.
     Settled,
-    /// Power was lost: of the names, and then of the bytes, the newest are left, or those that were
-    /// synced.
-    Lost(bool, bool),
+    /// Power was lost. This is left of the names, and that of the bytes.
+    Lost(Left, Left),
 }

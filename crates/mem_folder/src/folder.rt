@@ -1,8 +1,10 @@
 //! The folder in memory.
-ghost use Rattle.std.specs.Prelude.{◌≡◌, [], ◌∷◌, false, IfErr};
+ghost use Rattle.std.specs.Prelude.{◌≡◌, [], ◌∷◌, false, IfErr, OnErr, OnOk};
+ghost use Rattle.mem_folder.specs.Changes.{state_of};
+ghost use Rattle.mem_folder.specs.Losing.{IsLeft};
 ghost use Rattle.mem_folder.specs.Telling.{IsFault, handle_of, history_of, place_of};
 
-use crate::change::Change;
+use crate::change::{Change, Left};
 use crate::fault::Fault;
 use crate::files::{MemFile, MemPlace};
 use crate::log::Log;
@@ -56,6 +58,16 @@ impl MemFolder {
         ensures { result ≡ false → self.now.noted.items ≡ [] }
     {
         !self.noted.is_empty()
+    }
+
+    /// Power is lost. This is left of the names, and that of the bytes.
+    #[tactic(auto, using(crate::proofs::Losing::is_left))]
+    pub fn lose_power(&mut self, names: Left, bytes: Left) -> io::Result<()>
+        ensures left { OnOk result (IsLeft (state_of self.old.changes.items) (state_of self.new.changes.items)) }
+        ensures err { OnErr result (self.new.changes.items ≡ self.old.changes.items) }
+        ensures noted { self.new.noted.items ≡ self.old.noted.items }
+    {
+        naming::add(&mut self.changes, Change::Lost(names, bytes))
     }
 
     /// A call begins, which may fail by itself.

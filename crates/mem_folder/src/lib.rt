@@ -11,10 +11,12 @@ mod naming;
 mod note;
 mod reading;
 mod settling;
+mod surviving;
 mod writing;
 
-pub use change::Change;
+pub use change::{Change, Left};
 pub use fault::Fault;
 pub use files::{MemFile, MemPlace};
 pub use folder::MemFolder;
 pub use log::Log;
+pub use surviving::load_after_loss;

@@ -1,11 +1,11 @@
 //! What a folder holds, by the changes that were made to it.
-ghost use Rattle.std.specs.Prelude.{◌≡◌, ℕ, List, [], ◌∷◌, Option, None, IfSome};
+ghost use Rattle.std.specs.Prelude.{◌≡◌, ℕ, List, [], ◌∷◌, Option, None};
 ghost use Rattle.durable_folder.specs.FolderState.{newest};
-ghost use Rattle.mem_folder.specs.Changes.{IsFresh, IsSeen, held, held_after, named, named_after};
+ghost use Rattle.mem_folder.specs.Changes.{IsSeen, held, held_after, named, named_after};
 
-use crate::change::Change;
+use crate::change::{Change, Left};
 
-/// What there is now, and what is left if power is lost and nothing more than what was synced stays.
+/// What there is now, and what a loss of power leaves if it leaves no more than what was synced.
 #[derive(Drop)]
 pub struct Seen<T> {
     pub now: T,
@@ -34,11 +34,11 @@ fn named_after(seen: Seen<Option<u64>>, change: &Change, name: &str) -> Seen<Opt
             now: Some(*file),
             kept: seen.kept,
         },
-        Change::Settled | Change::Lost(true, _) => Seen {
+        Change::Settled | Change::Lost(Left::Newest, _) => Seen {
             now: seen.now,
             kept: seen.now,
         },
-        Change::Lost(false, _) => Seen {
+        Change::Lost(Left::Synced, _) => Seen {
             now: seen.kept,
             kept: seen.kept,
         },
@@ -78,11 +78,11 @@ fn held_after<'a>(seen: Seen<&'a [u8]>, change: &'a Change, file: u64) -> Seen<&
             now: seen.now,
             kept: seen.now,
         },
-        Change::Lost(_, true) => Seen {
+        Change::Lost(_, Left::Newest) => Seen {
             now: seen.now,
             kept: seen.now,
         },
-        Change::Lost(_, false) => Seen {
+        Change::Lost(_, Left::Synced) => Seen {
             now: seen.kept,
             kept: seen.kept,
         },
