@@ -40,6 +40,7 @@ pub fn load_after_loss(
 {
     save_synced(folder, alloc, name, bytes)?;
     folder.lose_power(left_names, left_bytes)?;
-    let loaded = load(folder, name, usize::MAX)?;
+    let most = bytes.len().saturating_add(1);
+    let loaded = load(folder, name, most)?;
     Ok(loaded.bytes)
 }
