@@ -1,9 +1,9 @@
 -- What was saved in a folder in memory is there after a loss of power.
-use Rattle.std.proofs.Common.{◌≡◌, ◌⊎◌, inl, inr, ℕ, ◌≤◌, List, [], ◌∷◌, Option, None, Some, Ok, Vec, length, take, refl, sym, ap, ◌∙◌, arith}
+use Rattle.std.proofs.Common.{◌≡◌, inl, inr, ℕ, ◌≤◌, List, [], ◌∷◌, None, Some, Ok, Vec, length, take, refl, sym, ap, ◌∙◌, arith}
 use Rattle.std.proofs.lemmas.List.{take_all}
 use Rattle.std.specs.Global.{Global}
 use Rattle.durable_folder.specs.FolderState.{FolderState, IsDurable, Leaves, LeavesOf, MayHold, SomeOf, file_of, newest}
-use Rattle.durable_folder.specs.Histories.{CannotSync, IsSaved}
+use Rattle.durable_folder.specs.Histories.{IsSaved}
 use Rattle.durable_folder.specs.Locking.{IsLoaded, Loads}
 use Rattle.durable_folder.specs.Places.{folder_of}
 use Rattle.durable_folder.specs.Ways.{Saves}

@@ -8,7 +8,7 @@ use Rattle.mem_folder.specs.Bytes.{filled, overlay}
 use Rattle.mem_folder.specs.Changes.{held, state_of}
 use Rattle.mem_folder.specs.declared.change.Change.{Change}
 use Rattle.mem_folder.specs.declared.change.Change.TheVariants as change
-use Rattle.mem_folder.proofs.Laying.{holds_more, is_overlaid, is_resized, not_written, not_lengthened}
+use Rattle.mem_folder.proofs.Laying.{is_overlaid, is_resized, not_written, not_lengthened}
 use Rattle.mem_folder.proofs.Steps.{IsNoted, wrote, synced}
 
 same_names : (cs : List Change) (file : ℕ) → SparesNames file (state_of cs) (state_of cs)

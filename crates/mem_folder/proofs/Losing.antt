@@ -1,5 +1,5 @@
 -- What a loss of power leaves of a folder in memory.
-use Rattle.std.proofs.Common.{◌≡◌, inl, inr, ℕ, ◌≤◌, List, [], ◌∷◌, ◌++◌, Option, None, Some, length, sym, ◌∙◌}
+use Rattle.std.proofs.Common.{inl, inr, ℕ, ◌≤◌, List, [], ◌∷◌, ◌++◌, Option, None, Some, length, ◌∙◌}
 use Rattle.durable_folder.specs.FolderState.{FolderState, HasBlock, LeavesOf, MayHold, SomeOf}
 use Rattle.mem_folder.specs.Changes.{alone, held, named, state_of}
 use Rattle.mem_folder.specs.Losing.{IsLeft}

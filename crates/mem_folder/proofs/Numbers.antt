@@ -1,6 +1,6 @@
 -- The numbers of files.
-use Rattle.std.proofs.Common.{◌≡◌, ◌⊎◌, inl, inr, ℕ, ◌+◌, ◌<◌, ◌≤◌, Bool, true, false, List, [], ◌∷◌, Option, None, Some, length, take, get_or, bytes_eq, string_bytes, if◌then◌else◌, refl, arith}
-use Rattle.durable_folder.specs.FolderState.{SomeOf, newest}
+use Rattle.std.proofs.Common.{◌≡◌, ◌⊎◌, inl, inr, ℕ, ◌+◌, ◌<◌, Bool, true, false, List, [], ◌∷◌, Option, None, Some, length, take, get_or, bytes_eq, string_bytes, if◌then◌else◌, arith}
+use Rattle.durable_folder.specs.FolderState.{SomeOf}
 use Rattle.mem_folder.specs.Changes.{AllBelow, IsAbove, IsFresh, alone, last_alone, named, named_after, number_of}
 use Rattle.mem_folder.specs.declared.change.Left.{Left}
 use Rattle.mem_folder.specs.declared.change.Left.TheVariants as left

@@ -1,12 +1,12 @@
 -- What each change does to the state of a folder.
-use Rattle.std.proofs.Common.{◌≡◌, ◌≢◌, ℕ, ◌==◌, Bool, true, false, List, [], ◌∷◌, ◌++◌, Option, None, Some, String, Vec, bytes_eq, string_bytes, if◌then◌else◌, refl, sym, ap, ◌∙◌, inl, inr, Result, Ok, Err, IfErr, OnOk}
+use Rattle.std.proofs.Common.{◌≡◌, ◌≢◌, ℕ, ◌==◌, Bool, true, false, List, [], ◌∷◌, ◌++◌, Option, None, Some, String, Vec, bytes_eq, string_bytes, refl, sym, ap, ◌∙◌, inl, inr, Result, Ok, Err, IfErr, OnOk}
 use Rattle.std.specs.Bool.{Decides}
 use Rattle.std.specs.Global.{Global}
 use Rattle.std.proofs.lemmas.Slice.Eq.{bytes_eq-Decides}
 use Rattle.std.proofs.lemmas.Bool.Decides.{Decides-eqb}
 use Rattle.durable_folder.specs.FolderState.{SomeOf, newest}
 use Rattle.std.specs.declared.io.Error.{Error}
-use Rattle.durable_folder.specs.Calls.{Makes, Moves, Drops, SettlesNames, SparesNames, Renames, Removes, SyncsFolder, Creates, Handle, opened_at}
+use Rattle.durable_folder.specs.Calls.{Makes, Moves, Drops, SettlesNames, SparesNames, Renames, Removes, SyncsFolder}
 use Rattle.mem_folder.specs.Changes.{IsFresh, named_after, named, held_after, held, state_of}
 use Rattle.mem_folder.specs.Telling.{IsStarved}
 use Rattle.mem_folder.specs.declared.change.Change.{Change}

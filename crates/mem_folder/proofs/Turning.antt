@@ -1,5 +1,5 @@
 -- One call more in what a folder in memory tells.
-use Rattle.std.proofs.Common.{◌≡◌, ℕ, ◌+◌, List, [], ◌∷◌, ◌++◌, Option, Some, Vec, refl, sym, ap}
+use Rattle.std.proofs.Common.{◌+◌, List, ◌∷◌, ◌++◌, Some, Vec, refl, sym, ap}
 use Rattle.std.specs.Global.{Global}
 use Rattle.durable_folder.specs.FolderState.{FolderState}
 use Rattle.durable_folder.specs.Histories.{Answer, Turns}

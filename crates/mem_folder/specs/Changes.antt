@@ -1,5 +1,5 @@
 -- The state of a folder, by the changes that were made to it.
-use Rattle.std.specs.Prelude.{◌≡◌, ℕ, ◌<◌, ◌≤◌, pos, ◌==◌, Bool, true, false, List, [], ◌∷◌, Option, None, Some, bytes_eq, string_bytes, if◌then◌else◌}
+use Rattle.std.specs.Prelude.{◌≡◌, ℕ, ◌<◌, ◌≤◌, pos, ◌==◌, true, false, List, [], ◌∷◌, Option, None, Some, bytes_eq, string_bytes, if◌then◌else◌}
 use Rattle.durable_folder.specs.FolderState.{FolderState, Fixed, SomeOf, newest}
 use Rattle.mem_folder.specs.declared.change.Left.{Left}
 use Rattle.mem_folder.specs.declared.change.Left.TheVariants as left

@@ -14,9 +14,8 @@ mod settling;
 mod surviving;
 mod writing;
 
-pub use change::{Change, Left};
+pub use change::Left;
 pub use fault::Fault;
 pub use files::{MemFile, MemPlace};
 pub use folder::MemFolder;
-pub use log::Log;
 pub use surviving::load_after_loss;

@@ -1,4 +1,4 @@
-use Rattle.std.proofs.Common.{take, [], ◌∷◌, None}
+use Rattle.std.proofs.Common.{take}
 use Rattle.mem_folder.specs.Changes.{IsSeen, named}
 use Rattle.mem_folder.proofs.reading.file_of.Given as goal
 
