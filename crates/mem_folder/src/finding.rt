@@ -23,7 +23,7 @@ use std::path::PathBuf;
 const MODE: u32 = 0o644;
 
 /// What is told of a file.
-pub fn found(changes: &[Change], file: u64) -> Found
+fn facts_of(changes: &[Change], file: u64) -> Found
     ensures { IsOf changes.now file result }
 {
     Found {
@@ -50,7 +50,7 @@ pub fn find(fault: io::Result<()>, changes: &[Change], name: &str) -> io::Result
         return Err(error);
     }
     match file_of(changes, name) {
-        Some(file) => Ok(found(changes, file)),
+        Some(file) => Ok(facts_of(changes, file)),
         None => Err(Error::from(ErrorKind::NotFound)),
     }
 }
@@ -109,7 +109,7 @@ pub fn find_open(fault: io::Result<()>, changes: &[Change], file: &MemFile) -> i
     if let Err(error) = fault {
         return Err(error);
     }
-    Ok(found(changes, file.number))
+    Ok(facts_of(changes, file.number))
 }
 
 /// What is told of an open folder.
@@ -119,7 +119,7 @@ pub fn find_folder(fault: io::Result<()>) -> io::Result<Found>
     if let Err(error) = fault {
         return Err(error);
     }
-    Ok(found(&[], 0))
+    Ok(facts_of(&[], 0))
 }
 
 /// Where a name leads: to itself.

@@ -13,7 +13,7 @@ pub struct Seen<T> {
 }
 
 /// What a name has after a change.
-fn named_after(seen: Seen<Option<u64>>, change: &Change, name: &str) -> Seen<Option<u64>>
+fn name_after(seen: Seen<Option<u64>>, change: &Change, name: &str) -> Seen<Option<u64>>
     ensures { (had : List (Option ℕ)) → IsSeen had seen.now seen.kept →
         IsSeen (named_after name.now change.now had) result.now result.kept }
 {
@@ -55,13 +55,13 @@ pub fn file_of(changes: &[Change], name: &str) -> Option<u64>
         kept: None,
     };
     for change in changes {
-        seen = named_after(seen, change, name);
+        seen = name_after(seen, change, name);
     }
     seen.now
 }
 
 /// What a file holds after a change.
-fn held_after<'a>(seen: Seen<&'a [u8]>, change: &'a Change, file: u64) -> Seen<&'a [u8]>
+fn bytes_after<'a>(seen: Seen<&'a [u8]>, change: &'a Change, file: u64) -> Seen<&'a [u8]>
     ensures { (had : List (List ℕ)) → IsSeen had seen.entry.now.now seen.entry.kept.now →
         IsSeen (held_after file change.now had) result.now.now result.kept.now }
 {
@@ -99,7 +99,7 @@ pub fn bytes_of(changes: &[Change], file: u64) -> &[u8]
         kept: &[],
     };
     for change in changes {
-        seen = held_after(seen, change, file);
+        seen = bytes_after(seen, change, file);
     }
     seen.now
 }

@@ -14,7 +14,7 @@ use std::io;
 use std::io::{Error, ErrorKind};
 
 /// So many bytes of these, with zeros behind their end.
-fn filled(alloc: Global, bytes: &[u8], size: usize) -> Result<Vec<u8>, AllocError>
+fn fill(alloc: Global, bytes: &[u8], size: usize) -> Result<Vec<u8>, AllocError>
     ensures { IfOk result (λ v. v.items ≡ filled size bytes.now) }
 {
     let mut kept = Vec::from_slice(alloc, &bytes[..size.min(bytes.len())])?;
@@ -23,7 +23,7 @@ fn filled(alloc: Global, bytes: &[u8], size: usize) -> Result<Vec<u8>, AllocErro
 }
 
 /// The bytes of a file once others are written at an offset.
-fn overlaid(
+fn lay_over(
     alloc: Global,
     old: &[u8],
     offset: usize,
@@ -31,7 +31,7 @@ fn overlaid(
 ) -> Result<Vec<u8>, AllocError>
     ensures { IfOk result (λ v. v.items ≡ overlay offset bytes.now old.now) }
 {
-    let mut written = filled(alloc, old, offset)?;
+    let mut written = fill(alloc, old, offset)?;
     written.extend_from_slice(bytes)?;
     let end = written.len();
     if end < old.len() {
@@ -58,7 +58,7 @@ pub fn write(
         return Err(Error::from(ErrorKind::Other));
     };
     let old = bytes_of(changes.as_slice(), file.number);
-    let Ok(written) = overlaid(alloc, old, file.offset as usize, bytes) else {
+    let Ok(written) = lay_over(alloc, old, file.offset as usize, bytes) else {
         return Err(Error::from(ErrorKind::OutOfMemory));
     };
     file.offset = end;
@@ -79,7 +79,7 @@ pub fn resize(
         return Err(error);
     }
     let old = bytes_of(changes.as_slice(), file.number);
-    let Ok(resized) = filled(alloc, old, length as usize) else {
+    let Ok(resized) = fill(alloc, old, length as usize) else {
         return Err(Error::from(ErrorKind::OutOfMemory));
     };
     add(changes, Change::Wrote(file.number, resized))

@@ -8,8 +8,8 @@ use Rattle.mem_folder.proofs.writing.resize.Goals as goal
 pub returns-in-Err : goal.returns-in-Err
 returns-in-Err c = resize_fails c.args.changes.now.items c.args.file.now.number c.args.length c.in-Err.error
 
-pub returns-in_default-filled : goal.returns-in_default-filled
-returns-in_default-filled c = resize_fails c.args.changes.now.items c.args.file.now.number c.args.length c.from.result
+pub returns-in_default-fill : goal.returns-in_default-fill
+returns-in_default-fill c = resize_fails c.args.changes.now.items c.args.file.now.number c.args.length c.from.result
 
 pub returns : goal.returns
 returns c =

@@ -13,9 +13,9 @@ pub returns-in_default-checked_add-clause-writes : goal.returns-in_default-check
 returns-in_default-checked_add-clause-writes c =
     write_fails c.args.changes.now.items c.args.file.now.number c.args.file.now.offset c.args.bytes.now c.from.result
 
-pub returns-in_default-overlaid-clause-writes : goal.returns-in_default-overlaid-clause-writes
-returns-in_default-overlaid-clause-writes c =
-    write_fails c.args.changes.now.items c.args.file.now.number c.args.file.now.offset c.args.bytes.now c.from-in_default-overlaid.result
+pub returns-in_default-lay_over-clause-writes : goal.returns-in_default-lay_over-clause-writes
+returns-in_default-lay_over-clause-writes c =
+    write_fails c.args.changes.now.items c.args.file.now.number c.args.file.now.offset c.args.bytes.now c.from-in_default-lay_over.result
 
 pub returns-clause-writes : goal.returns-clause-writes
 returns-clause-writes c =
