@@ -57,12 +57,15 @@ pub moves : (cs : List Change) (from to : String Global) (file : ℕ) → newest
     Moves (string_bytes from) (string_bytes to) (state_of cs) (state_of (cs ++ change.Moved from to file ∷ []))
 moves cs from to file there apart = record {
   arrives = rw (
-    named-append cs (change.Moved from to file) (string_bytes to), other_text (string_bytes from) (string_bytes to) apart,
-    same_text (string_bytes to), there,
+    named-append cs (change.Moved from to file) (string_bytes to),
+    other_text (string_bytes from) (string_bytes to) apart,
+    same_text (string_bytes to),
+    there,
   ) refl;
   leaves = rw (named-append cs (change.Moved from to file) (string_bytes from), same_text (string_bytes from)) refl;
   others = λ n not_from not_to. rw (
-    named-append cs (change.Moved from to file) n, other_text (string_bytes from) n (λ e. not_from (sym e)),
+    named-append cs (change.Moved from to file) n,
+    other_text (string_bytes from) n (λ e. not_from (sym e)),
     other_text (string_bytes to) n (λ e. not_to (sym e)),
   ) refl;
   files = record { files = λ f. held-append cs (change.Moved from to file) f; fixed = refl };

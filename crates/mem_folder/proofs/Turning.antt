@@ -15,7 +15,11 @@ pub turned_noting : (step : FolderState → FolderState → Type 0) (answer : An
     IsCountOf answer note → AreNoted answer old new →
     Turns step answer (Some (history_of before.items befores notes old)) (Some (history_of changes (before ∷ befores) (note ∷ notes) new))
 turned_noting step answer note before befores notes old new changes goes count noted = (
-  goes, refl, ap (λ k. refusals_in notes + k) (sym count.refusals), ap (λ k. failures_in notes + k) (sym count.failures), noted,
+  goes,
+  refl,
+  ap (λ k. refusals_in notes + k) (sym count.refusals),
+  ap (λ k. failures_in notes + k) (sym count.failures),
+  noted,
 )
 
 pub turned : (step : FolderState → FolderState → Type 0) (answer : Answer) (note : Note) (before : Vec Change Global) (befores : List (Vec Change Global))

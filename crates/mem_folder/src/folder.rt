@@ -236,7 +236,13 @@ impl Folder for MemFolder {
 
     fn sync_folder(&mut self, folder: &MemPlace) -> io::Result<()> {
         let fault = self.begin();
-        let done = settling::sync_folder(fault, self.alloc, &mut self.changes, &mut self.noted, folder);
+        let done = settling::sync_folder(
+            fault,
+            self.alloc,
+            &mut self.changes,
+            &mut self.noted,
+            folder,
+        );
         self.end(note_of_sync_folder(&done));
         done
     }

@@ -11,12 +11,7 @@ use std::io;
 use std::io::{Error, ErrorKind};
 
 /// Saves bytes at a name. A folder that cannot be synced is an error.
-fn save_synced(
-    folder: &mut MemFolder,
-    alloc: Global,
-    name: &str,
-    bytes: &[u8],
-) -> io::Result<()>
+fn save_synced(folder: &mut MemFolder, alloc: Global, name: &str, bytes: &[u8]) -> io::Result<()>
     ensures { file_of (state_of folder.old.changes.items) name.now ≡ None →
         OnOk result (IsDurable (state_of folder.new.changes.items) name.now bytes.now) }
 {

@@ -23,12 +23,7 @@ fn fill(alloc: Global, bytes: &[u8], size: usize) -> Result<Vec<u8>, AllocError>
 }
 
 /// The bytes of a file once others are written at an offset.
-fn lay_over(
-    alloc: Global,
-    old: &[u8],
-    offset: usize,
-    bytes: &[u8],
-) -> Result<Vec<u8>, AllocError>
+fn lay_over(alloc: Global, old: &[u8], offset: usize, bytes: &[u8]) -> Result<Vec<u8>, AllocError>
     ensures { IfOk result (λ v. v.items ≡ overlay offset bytes.now old.now) }
 {
     let mut written = fill(alloc, old, offset)?;

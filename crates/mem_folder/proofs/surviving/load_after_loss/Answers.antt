@@ -14,7 +14,7 @@ returns c nothing =
     let read = c.load.new.folder in
     let is : IsLeft (state_of saved.changes.items) (state_of left.changes.items) = c.in_ok-lose_power.ensures.left in
     let durable : IsDurable (state_of left.changes.items) name bytes =
-        durable_left name bytes (state_of saved.changes.items) (state_of left.changes.items) (c.in_ok-save_synced.ensures nothing) is
+    durable_left name bytes (state_of saved.changes.items) (state_of left.changes.items) (c.in_ok-save_synced.ensures nothing) is
     in
     let fits : length bytes ≤ c.saturating_add-most.result = search rules in
     loaded_left name bytes (state_of saved.changes.items) left.changes.items read.changes.items left.befores.items read.befores.items left.notes.items

@@ -8,8 +8,14 @@ pub returns : goal.returns
 returns c =
     let self = c.args.self.now in
     rw (
-      c.end.ensures.changes, c.end.ensures.befores, c.end.ensures.notes, c.end.ensures.noted,
-      c.begin-fault.ensures.changes, c.begin-fault.ensures.befores, c.begin-fault.ensures.notes, c.begin-fault.ensures.noted,
+      c.end.ensures.changes,
+      c.end.ensures.befores,
+      c.end.ensures.notes,
+      c.end.ensures.noted,
+      c.begin-fault.ensures.changes,
+      c.begin-fault.ensures.befores,
+      c.begin-fault.ensures.notes,
+      c.begin-fault.ensures.noted,
     )
     (turned (Locks (handle_of c.args.file.now) (handle_of c.lock-lock.new.file) c.lock-lock.result) (answer_to_lock c.lock-lock.result)
     c.note_of_lock.result self.changes self.befores.items self.notes.items self.noted.items self.changes.items
