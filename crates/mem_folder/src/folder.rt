@@ -1,5 +1,5 @@
 //! The folder in memory.
-ghost use Rattle.std.specs.Prelude.{◌≡◌, [], ◌∷◌, false, IfErr, OnErr, OnOk};
+ghost use Rattle.std.specs.Prelude.{◌≡◌, ◌≢◌, [], ◌∷◌, false, true, IfErr, OnErr, OnOk};
 ghost use Rattle.mem_folder.specs.Changes.{state_of};
 ghost use Rattle.mem_folder.specs.Losing.{IsLeft};
 ghost use Rattle.mem_folder.specs.Telling.{IsFault, handle_of, history_of, place_of};
@@ -55,7 +55,8 @@ impl MemFolder {
 
     /// Whether it was said of a folder that it cannot be synced, or may not be opened.
     pub fn has_noted(&self) -> bool
-        ensures { result ≡ false → self.now.noted.items ≡ [] }
+        ensures some { result ≡ true → self.now.noted.items ≢ [] }
+        ensures none { result ≡ false → self.now.noted.items ≡ [] }
     {
         !self.noted.is_empty()
     }

@@ -18,4 +18,4 @@ pub use change::Left;
 pub use fault::Fault;
 pub use files::{MemFile, MemPlace};
 pub use folder::MemFolder;
-pub use surviving::load_after_loss;
+pub use surviving::{load_after_loss, save_durably};

@@ -10,8 +10,13 @@ use std::alloc::Global;
 use std::io;
 use std::io::{Error, ErrorKind};
 
-/// Saves bytes at a name. A folder that cannot be synced is an error.
-fn save_synced(folder: &mut MemFolder, alloc: Global, name: &str, bytes: &[u8]) -> io::Result<()>
+/// Saves bytes at a name. It is an error if a folder could not be synced, now or before.
+pub fn save_durably(
+    folder: &mut MemFolder,
+    alloc: Global,
+    name: &str,
+    bytes: &[u8],
+) -> io::Result<()>
     ensures { file_of (state_of folder.old.changes.items) name.now ≡ None →
         OnOk result (IsDurable (state_of folder.new.changes.items) name.now bytes.now) }
 {
@@ -33,7 +38,7 @@ pub fn load_after_loss(
 ) -> io::Result<Vec<u8>>
     ensures { file_of (state_of folder.old.changes.items) name.now ≡ None → IfOk result (λ loaded. loaded.items ≡ bytes.now) }
 {
-    save_synced(folder, alloc, name, bytes)?;
+    save_durably(folder, alloc, name, bytes)?;
     folder.lose_power(left_names, left_bytes)?;
     let most = bytes.len().saturating_add(1);
     let loaded = load(folder, name, most)?;
