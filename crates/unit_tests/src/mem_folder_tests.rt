@@ -80,7 +80,9 @@ fn is_done(folder: &mut MemFolder, alloc: Global, step: &str) -> bool {
 /// Whether all steps of a line are done, one after the other, in a new folder.
 fn is_line_right(alloc: Global, line: &str) -> bool {
     let mut folder = MemFolder::new(alloc, Vec::new(alloc));
-    line.split("; ").all(|step| is_done(&mut folder, alloc, step))
+    let is_right = line.split("; ").all(|step| is_done(&mut folder, alloc, step));
+    drop(folder);
+    is_right
 }
 
 /// What is lost is what was not synced: of the bytes of a file, and of the names. `lose` says of the names, and then of
@@ -121,8 +123,9 @@ fn is_loaded(alloc: Global, line: &str) -> bool {
     let mut folder = MemFolder::new(alloc, Vec::new(alloc));
     let bytes = word(line, 2).as_bytes();
     let (names, held) = (left(word(line, 0)), left(word(line, 1)));
-    load_after_loss(&mut folder, alloc, "image", bytes, names, held)
-        .is_ok_and(|loaded| loaded.as_slice() == bytes)
+    let loaded = load_after_loss(&mut folder, alloc, "image", bytes, names, held);
+    drop(folder);
+    loaded.is_ok_and(|loaded| loaded.as_slice() == bytes)
 }
 
 /// What is left of names and bytes, and what is saved.
@@ -185,7 +188,9 @@ fn is_swept(alloc: Global, line: &str) -> bool {
             return false;
         };
         let mut folder = MemFolder::new(alloc, faults);
-        if !is_whole(&mut folder, alloc) {
+        let is_right = is_whole(&mut folder, alloc);
+        drop(folder);
+        if !is_right {
             return false;
         }
     }
