@@ -32,7 +32,11 @@ fn settle(folder: &mut MemFolder) -> io::Result<()> {
 
 /// What a word says is left.
 fn left(word: &str) -> Left {
-    if word == "new" { Left::Newest } else { Left::Synced }
+    if word == "new" {
+        Left::Newest
+    } else {
+        Left::Synced
+    }
 }
 
 /// Whether these bytes are read at a name.
@@ -80,7 +84,9 @@ fn is_done(folder: &mut MemFolder, alloc: Global, step: &str) -> bool {
 /// Whether all steps of a line are done, one after the other, in a new folder.
 fn is_line_right(alloc: Global, line: &str) -> bool {
     let mut folder = MemFolder::new(alloc, Vec::new(alloc));
-    let is_right = line.split("; ").all(|step| is_done(&mut folder, alloc, step));
+    let is_right = line
+        .split("; ")
+        .all(|step| is_done(&mut folder, alloc, step));
     drop(folder);
     is_right
 }
@@ -154,11 +160,7 @@ fn fault(name: &str) -> Fault {
 }
 
 /// How the calls of a folder fail of which one fails, after so many others.
-fn one_fault(
-    alloc: Global,
-    fault: Fault,
-    calls: usize,
-) -> Result<Vec<Option<Fault>>, AllocError> {
+fn one_fault(alloc: Global, fault: Fault, calls: usize) -> Result<Vec<Option<Fault>>, AllocError> {
     let mut faults = vec![in alloc; Some(fault)]?;
     faults.resize(calls.saturating_add(1), None)?;
     Ok(faults)
