@@ -28,6 +28,8 @@ mod mem_flash_rows;
 #[cfg(test)]
 mod mem_flash_tests;
 #[cfg(test)]
+mod mem_folder_tests;
+#[cfg(test)]
 mod page_cache_tests;
 #[cfg(test)]
 mod page_keys_tests;

@@ -1,0 +1,22 @@
+use Rattle.durable_folder.specs.Calls.{Locks}
+use Rattle.durable_folder.specs.Counting.{answer_to_lock}
+use Rattle.mem_folder.specs.Telling.{handle_of}
+use Rattle.mem_folder.proofs.Turning.{turned}
+use Rattle.mem_folder.proofs.folder.MemFolderFolder.try_lock.Goals as goal
+
+pub returns : goal.returns
+returns c =
+    let self = c.args.self.now in
+    rw (
+      c.end.ensures.changes,
+      c.end.ensures.befores,
+      c.end.ensures.notes,
+      c.end.ensures.noted,
+      c.begin-fault.ensures.changes,
+      c.begin-fault.ensures.befores,
+      c.begin-fault.ensures.notes,
+      c.begin-fault.ensures.noted,
+    )
+    (turned (Locks (handle_of c.args.file.now) (handle_of c.lock-lock.new.file) c.lock-lock.result) (answer_to_lock c.lock-lock.result)
+    c.note_of_lock.result self.changes self.befores.items self.notes.items self.noted.items self.changes.items
+    (c.lock-lock.ensures self.changes.items) c.note_of_lock.ensures)

@@ -1,0 +1,6 @@
+use Rattle.std.proofs.Common.{take}
+use Rattle.mem_folder.specs.Changes.{AllBelow}
+use Rattle.mem_folder.proofs.naming.next_number.Given as goal
+
+abbrev pub invariant-loop-change : goal.invariant-loop-change
+invariant-loop-change l = AllBelow (take l.change-index l.changes) l.next

@@ -1,0 +1,75 @@
+-- What a folder in memory tells of the calls that were made.
+use Rattle.std.specs.Prelude.{◌≡◌, ◌⊎◌, ℕ, ◌+◌, List, [], ◌∷◌, ◌++◌, map, reverse, Some, Vec, string_bytes}
+use Rattle.std.specs.Global.{Global}
+use Rattle.std.specs.IoError.{error_kind}
+use Rattle.std.specs.declared.io.Error.{Error}
+use Rattle.std.specs.declared.io.ErrorKind.TheVariants as kind
+use Rattle.durable_folder.specs.Calls.{Handle}
+use Rattle.durable_folder.specs.Counting.{if_so, unless_so}
+use Rattle.durable_folder.specs.Histories.{Answer, History}
+use Rattle.mem_folder.specs.Changes.{state_of}
+use Rattle.mem_folder.specs.declared.change.Change.{Change}
+use Rattle.mem_folder.specs.declared.note.Note.{Note}
+use Rattle.mem_folder.specs.declared.files.MemFile.{MemFile}
+use Rattle.mem_folder.specs.declared.files.MemPlace.{MemPlace}
+
+-- how many of these give no leave, and how many are faults
+abbrev pub refusals_in : List Note → ℕ
+refusals_in [] = 0
+refusals_in (note ∷ notes) = refusals_in notes + if_so note.is_refusal
+
+abbrev pub failures_in : List Note → ℕ
+failures_in [] = 0
+failures_in (note ∷ notes) = failures_in notes + unless_so note.is_excused
+
+-- the name of an open folder
+abbrev pub place_of : MemPlace → List ℕ
+place_of place = string_bytes place.name
+
+-- the names of the folders that were noted, the newest first
+abbrev pub unsynced_of : List MemPlace → List (List ℕ)
+unsynced_of noted = map place_of (reverse noted)
+
+-- The history of a folder, by the changes until now, those before each call, the newest first, what was answered, and the
+-- folders of which it was said that they cannot be synced, or may not be opened.
+abbrev pub history_of : List Change → List (Vec Change Global) → List Note → List MemPlace → History
+history_of changes befores notes noted = record {
+  now = state_of changes;
+  before = map (λ before. state_of before.items) befores;
+  refusals = refusals_in notes;
+  failures = failures_in notes;
+  unsynced = unsynced_of noted;
+}
+
+-- there is no memory
+abbrev pub IsStarved : Error → Type 0
+IsStarved error = error_kind error ≡ kind.OutOfMemory
+
+-- The note says what this answer counts as.
+pub record IsCountOf (answer : Answer) (note : Note) : Type 0 where
+  pub refusals : answer.refusals ≡ if_so note.is_refusal
+  pub failures : answer.failures ≡ unless_so note.is_excused
+
+-- the same of an answer that notes no folder
+pub record IsNoteOf (answer : Answer) (note : Note) : Type 0 where
+  pub count : IsCountOf answer note
+  pub unsynced : answer.unsynced ≡ []
+
+-- the folders that were noted, and those that the answer notes
+abbrev pub AreNoted : Answer → List MemPlace → List MemPlace → Type 0
+AreNoted answer old new = unsynced_of new ≡ answer.unsynced ++ unsynced_of old
+
+-- the folder was noted and this is the error that it gave, or there is no memory
+abbrev pub Notes : List ℕ → Error → Error → List MemPlace → List MemPlace → Type 0
+Notes place error result old new =
+    ((result ≡ error) × (unsynced_of new ≡ place ∷ unsynced_of old)) ⊎ (IsStarved result × (new ≡ old))
+
+-- an error that comes by itself, whatever is there
+abbrev pub IsFault : Error → Type 0
+IsFault error =
+    (error_kind error ≡ kind.Other) ⊎ ((error_kind error ≡ kind.ReadOnlyFilesystem) ⊎
+    ((error_kind error ≡ kind.PermissionDenied) ⊎ (error_kind error ≡ kind.InvalidInput)))
+
+-- an open file, as a handle
+abbrev pub handle_of : MemFile → Handle
+handle_of file = record { file = Some file.number; offset = file.offset; is_held = file.is_held }
