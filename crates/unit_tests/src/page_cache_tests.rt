@@ -1,8 +1,9 @@
 //! Which pages a cache holds.
 ghost use Rattle.std.specs.Prelude.{◌≡◌};
 
-use crate::samples::{link, number};
+use crate::samples::{halves, link};
 use page_cache::PageCache;
+use std::alloc::Global;
 use tx_types::Link;
 
 /// Whether the pages below this one are kept at version 1, the bytes of each its number.
@@ -46,7 +47,7 @@ fn is_missed(cache: &mut PageCache, at: Link) -> bool
 
 /// The byte of a text.
 fn byte_of(text: &str) -> Option<u8> {
-    u8::try_from(number(text)?).ok()
+    text.parse::<u8>().ok()
 }
 
 /// Whether a step is done that names no page: `below N` keeps the pages below N, and `clear` none.
@@ -69,8 +70,8 @@ fn is_done(cache: &mut PageCache, line: &str) -> bool
     requires { cache.old.page_bytes ≡ 4 }
     ensures { cache.new.page_bytes ≡ 4 }
 {
-    let (verb, rest) = line.split_once(' ').unwrap_or((line, ""));
-    let (page, byte) = rest.split_once(' ').unwrap_or((rest, ""));
+    let (verb, rest) = halves(line, " ");
+    let (page, byte) = halves(rest, " ");
     if !page.contains('.') {
         return is_general_step(cache, verb, page);
     }
@@ -137,10 +138,15 @@ fn are_done(cache: &mut PageCache, steps: &str) -> bool
     true
 }
 
+/// Whether the steps of both texts are done by a new cache.
+fn is_held(alloc: Global) -> bool {
+    match PageCache::new(alloc, 4) {
+        Ok(mut cache) => are_done(&mut cache, NAMES) && are_done(&mut cache, ORDER),
+        Err(_) => false,
+    }
+}
+
 #[test]
 fn the_pages_that_were_used_last_are_held(rt: HostRuntime) {
-    let made = PageCache::new(rt.alloc(), 4);
-    assert!(rt;
-        made.is_ok_and(|mut cache| are_done(&mut cache, NAMES) && are_done(&mut cache, ORDER))
-    );
+    assert!(rt; is_held(rt.alloc()));
 }
