@@ -20,7 +20,10 @@ fn long_name(alloc: Global) -> Result<String, AllocError> {
 
 /// Whether a file of a long name is saved twice.
 fn is_long_name_saved<D: Desk>(desk: &mut D, alloc: Global) -> bool {
-    long_name(alloc).is_ok_and(|name| { is_kept(desk, &name, OLD) && is_kept(desk, &name, NEW) })
+    match long_name(alloc) {
+        Ok(name) => is_kept(desk, &name, OLD) && is_kept(desk, &name, NEW),
+        Err(_) => false,
+    }
 }
 
 /// Whether a file may be opened for writing.
@@ -57,14 +60,20 @@ fn is_loaded_with_leave<R: Files + AllocGlobal, D: Desk>(rt: &R, desk: &mut D) -
 
 /// Whether a file is left at one of the names that a new file may have.
 fn is_left<R: Files + AllocGlobal>(rt: &R, number: u32) -> bool {
-    format!(in rt.alloc(); "leave/f.saving{number}").is_ok_and(|name| is_written(
-        rt, &name, b"left",
-    ))
+    match format!(in rt.alloc(); "leave/f.saving{number}") {
+        Ok(name) => is_written(rt, &name, b"left"),
+        Err(_) => false,
+    }
 }
 
 /// Whether files are left at all 99 names that a new file may have.
 fn are_names_taken<R: Files + AllocGlobal>(rt: &R) -> bool {
-    is_written(rt, "leave/f.saving", b"left") && (2..100).all(|number| is_left(rt, number))
+    for number in 2..100 {
+        if !is_left(rt, number) {
+            return false;
+        }
+    }
+    is_written(rt, "leave/f.saving", b"left")
 }
 
 /// Whether a save fails where these names are taken, and nothing changes.

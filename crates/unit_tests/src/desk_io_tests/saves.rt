@@ -1,6 +1,7 @@
 //! How files are saved, and what is left where a call of the system fails.
 use super::recording::{Log, Recorder};
 use super::{is_absent, is_made, is_removed};
+use crate::samples::{word, word_count};
 use desk_io::{Desk, RealDesk};
 use std::fs;
 use std::fs::Permissions;
@@ -29,12 +30,18 @@ pub const NEW: &[u8] = b"new";
 
 /// Whether the file has these bytes.
 pub fn has<R: Files + AllocGlobal>(rt: &R, name: &str, bytes: &[u8]) -> bool {
-    fs::read(rt, name).is_ok_and(|found| found.as_slice() == bytes)
+    match fs::read(rt, name) {
+        Ok(found) => found.as_slice() == bytes,
+        Err(_) => false,
+    }
 }
 
 /// Whether the file may be read and written by those of this mode.
 pub fn has_mode<R: Files + AllocGlobal>(rt: &R, name: &str, mode: u32) -> bool {
-    fs::metadata(rt, name).is_ok_and(|found| found.permissions().mode() & 0o777 == mode)
+    match fs::metadata(rt, name) {
+        Ok(found) => found.permissions().mode() & 0o777 == mode,
+        Err(_) => false,
+    }
 }
 
 /// Whether these are written to a file.
@@ -69,7 +76,12 @@ impl<'a> Case<'a> {
 
     /// Whether this stands there before.
     fn had(&self, name: &str) -> bool {
-        self.before.split(' ').any(|word| word == name)
+        for at in 0..word_count(self.before) {
+            if word(self.before, at) == name {
+                return true;
+            }
+        }
+        false
     }
 
     /// The path that is saved.
@@ -149,12 +161,18 @@ fn save<R: Files + Print + AllocGlobal>(
 
 /// Whether a file has two names.
 fn has_two_names<R: Files + AllocGlobal>(rt: &R, name: &str) -> bool {
-    fs::metadata(rt, name).is_ok_and(|found| found.nlink() == 2)
+    match fs::metadata(rt, name) {
+        Ok(found) => found.nlink() == 2,
+        Err(_) => false,
+    }
 }
 
 /// Whether there is a link.
 fn is_linked<R: Files + AllocGlobal>(rt: &R) -> bool {
-    fs::symlink_metadata(rt, "saves/link").is_ok_and(|found| found.is_symlink())
+    match fs::symlink_metadata(rt, "saves/link") {
+        Ok(found) => found.is_symlink(),
+        Err(_) => false,
+    }
 }
 
 /// Whether that stays as it is which no save changes: links, second names, and what a killed run left.
