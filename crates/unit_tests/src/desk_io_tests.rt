@@ -5,7 +5,6 @@ ghost use Rattle.desk_io.specs.Desk.{after_fault, as_before, file_at};
 use desk_io::{Desk, LoadError, MemDesk, RealDesk, SinkError};
 use std::alloc::Global;
 use std::fs;
-use std::rt::Files;
 
 mod leave;
 mod recording;
@@ -164,7 +163,7 @@ fn do_faults_come<D: Desk>(desk: &mut D) -> bool {
 }
 
 /// Whether nothing stands at a name.
-pub fn is_absent<R: Files + AllocGlobal>(rt: &R, name: &str) -> bool {
+pub fn is_absent(rt: &HostRuntime, name: &str) -> bool {
     match fs::exists(rt, name) {
         Ok(is_there) => !is_there,
         Err(_) => false,
@@ -172,18 +171,18 @@ pub fn is_absent<R: Files + AllocGlobal>(rt: &R, name: &str) -> bool {
 }
 
 /// Whether a folder of the tests' own is there, empty.
-pub fn is_made<R: Files + AllocGlobal>(rt: &R, name: &str) -> bool {
+pub fn is_made(rt: &HostRuntime, name: &str) -> bool {
     let _ = fs::remove_dir_all(rt, name);
     fs::create_dir(rt, name).is_ok()
 }
 
 /// Whether such a folder is removed.
-pub fn is_removed<R: Files + AllocGlobal>(rt: &R, name: &str) -> bool {
+pub fn is_removed(rt: &HostRuntime, name: &str) -> bool {
     fs::remove_dir_all(rt, name).is_ok()
 }
 
 /// Whether the files of the system are those of a desk, and nothing is left beside them.
-fn are_files_kept<R: Files + AllocGlobal, D: Desk>(rt: &R, desk: &mut D) -> bool {
+fn are_files_kept<D: Desk>(rt: &HostRuntime, desk: &mut D) -> bool {
     is_kept_twice(desk)
         && is_absent(rt, "folder_of_the_desk_test/file.saving")
         && do_faults_come(desk)

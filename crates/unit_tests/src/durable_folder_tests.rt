@@ -92,12 +92,7 @@ fn bytes_of(left: &Option<Vec<u8>>) -> Option<&[u8]> {
 }
 
 /// Whether each that may be left may be so: the new bytes alone, where it must be new.
-fn are_whole(
-    all: &[Option<Vec<u8>>],
-    it: &Case,
-    is_in_place: bool,
-    must_be_new: bool,
-) -> bool {
+fn are_whole(all: &[Option<Vec<u8>>], it: &Case, is_in_place: bool, must_be_new: bool) -> bool {
     for each in all {
         let left = bytes_of(each);
         let is_new = left == Some(NEW.as_slice());

@@ -64,13 +64,7 @@ fn breach(law: u8, slot: u32) -> Marks {
 }
 
 /// Whether the picture can be drawn behind a byte that was there before.
-fn draws(
-    alloc: Global,
-    protocol: Protocol,
-    notes: &str,
-    marks: Marks,
-    out: &mut Vec<u8>,
-) -> bool {
+fn draws(alloc: Global, protocol: Protocol, notes: &str, marks: Marks, out: &mut Vec<u8>) -> bool {
     out.push(b'>').is_ok() && draw(alloc, device(protocol), &notes_of(notes), marks, out).is_ok()
 }
 
@@ -200,7 +194,14 @@ height='436'
 /// Whether they stand there, with three arrows.
 fn is_copy_drawn(alloc: Global) -> bool {
     let mut out = Vec::new(alloc);
-    draw_svg(alloc, device(Protocol::Scc), &notes_of(COPIED), SPARE, &mut out).is_ok()
+    draw_svg(
+        alloc,
+        device(Protocol::Scc),
+        &notes_of(COPIED),
+        SPARE,
+        &mut out,
+    )
+    .is_ok()
         && has_pieces(alloc, PIECES, &out)
         && path_count(&out) == 3
 }

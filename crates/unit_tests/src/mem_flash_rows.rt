@@ -4,9 +4,7 @@ ghost use Rattle.std.specs.Prelude.{◌≡◌};
 ghost use Rattle.flash_model.specs.Firing.{no_loads};
 
 use crate::mem_flash_tests::{PAGE, SHAPE, SPARE_AREA};
-use crate::samples::{
-    LineTest, assert_lines, has_number, has_version, number_at, sides, word,
-};
+use crate::samples::{LineTest, assert_lines, has_number, has_version, number_at, sides, word};
 use flash_model::{Arms, Flash, Outcome, Power, Retire, Seen, Wide};
 use mem_flash::MemFlash;
 use std::alloc::Global;

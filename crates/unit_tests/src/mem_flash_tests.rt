@@ -100,9 +100,7 @@ fn has_last(flash: &MemFlash, last: u32, size: usize) -> bool
     requires { last < slots_of flash.now.shape }
 {
     let cell = flash.cell(Slot(last));
-    flash.seen(Slot(last)) == Seen::Complete
-        && cell.len() == size
-        && are_all(cell, last)
+    flash.seen(Slot(last)) == Seen::Complete && cell.len() == size && are_all(cell, last)
 }
 
 /// Whether the last slot came back as it was given, and block 0 is blank when it is erased.

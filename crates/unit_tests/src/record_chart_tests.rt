@@ -12,9 +12,8 @@ use crate::verdicts::tells;
 use record_chart::{Chart, Orbit, Orbits, Standing, counts, name_orbits};
 use record_list::{Found, first_contradiction};
 use std::alloc::{AllocError, Global};
-use tx_types::Link;
-use tx_types::Protocol;
 use tx_types::Protocol::{Bpcc, Scc};
+use tx_types::{Link, Protocol};
 
 /// The orbits of the nodes of a graph: 0 leads to 1, 1 to 2 and back to 1; 3 to 4, which is the end; 5 to itself; 6
 /// to 3.

@@ -131,8 +131,13 @@ impl ListTest for Lawless {
     fn is_right(_: Global, list: &[Found], want: &str) -> bool {
         match number_at(want, 0) {
             Some(logical) => {
-                says(word(want, 1), first_without_current(Protocol::Bpcc, list, logical))
-                    && says(word(want, 2), first_early_link(Protocol::Bpcc, list, logical))
+                says(
+                    word(want, 1),
+                    first_without_current(Protocol::Bpcc, list, logical),
+                ) && says(
+                    word(want, 2),
+                    first_early_link(Protocol::Bpcc, list, logical),
+                )
             }
             None => false,
         }

@@ -1,8 +1,6 @@
 ghost use Rattle.std.specs.Prelude.{◌≡◌};
 
-use crate::samples::{
-    LineTest, assert_lines, is_number, number_at, protocol_of, sides, word,
-};
+use crate::samples::{LineTest, assert_lines, is_number, number_at, protocol_of, sides, word};
 use std::alloc::Global;
 use tx_types::Protocol::Scc;
 use tx_types::{Batch, Bytes, Config, ConfigError, Shape};

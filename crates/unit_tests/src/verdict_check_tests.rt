@@ -1,7 +1,8 @@
 //! Texts that are checked against small lists of records.
 use crate::cycles::cycle_of;
 use crate::samples::{
-    LineTest, assert_lines, halves, has_its_pages, is_scanned, number_at, protocol_of, records, word,
+    LineTest, assert_lines, halves, has_its_pages, is_scanned, number_at, protocol_of, records,
+    word,
 };
 use crate::texts::bytes_of;
 use record_list::Found;

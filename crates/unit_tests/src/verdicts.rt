@@ -32,7 +32,9 @@ pub fn tells_verdict<R: CommitRule>(text: &str, list: &[Found], logical: u32, pa
         return text == "-";
     }
     let (verdict, why) = R::verdict(list, logical, page);
-    tells(text, why) && verdict == why.verdict() && matches!(verdict, Verdict::Committed) == counts(text)
+    tells(text, why)
+        && verdict == why.verdict()
+        && matches!(verdict, Verdict::Committed) == counts(text)
 }
 
 /// Whether the text is the current version of a page.
