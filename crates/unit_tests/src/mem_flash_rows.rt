@@ -237,14 +237,14 @@ fn told(flash: &mut MemFlash, step: &str) -> &'static str
 }
 
 /// Whether this is told of the steps of a text, with nothing behind it.
-fn are_told(flash: &mut MemFlash, steps: &str, want: &str) -> bool
+fn are_told(flash: &mut MemFlash, steps: &str, want: &[u8]) -> bool
     requires shape { flash.old.shape ≡ SHAPE }
     requires loads { flash.old.registers ≡ no_loads SHAPE }
     ensures { flash.new.shape ≡ SHAPE }
 {
     let mut rest = want;
     for step in steps.split(", ") {
-        match rest.strip_prefix(told(flash, step)) {
+        match rest.strip_prefix(told(flash, step).as_bytes()) {
             Some(behind) => rest = behind,
             None => return false,
         }
@@ -306,7 +306,7 @@ fn comes_to(flash: &mut MemFlash, steps: &str, want: &str) -> bool
     requires loads { flash.old.registers ≡ no_loads SHAPE }
 {
     is_ready(flash)
-        && are_told(flash, steps, word(want, 0))
+        && are_told(flash, steps, word(want, 0).as_bytes())
         && are_seen(flash, word(want, 1).as_bytes())
         && counts(flash, want)
 }
