@@ -4,7 +4,9 @@ ghost use Rattle.std.specs.Prelude.{◌≡◌};
 ghost use Rattle.flash_model.specs.Firing.{no_loads};
 
 use crate::mem_flash_tests::{PAGE, SHAPE, SPARE_AREA};
-use crate::samples::{LineTest, assert_lines, has_number, has_version, number_at, sides, word};
+use crate::samples::{
+    LineTest, assert_lines, has_number, has_version, has_word, number_at, sides, word,
+};
 use flash_model::{Arms, Flash, Outcome, Power, Retire, Seen, Wide};
 use mem_flash::MemFlash;
 use std::alloc::Global;
@@ -88,19 +90,13 @@ fn arms(flash: &mut MemFlash, step: &str) -> bool
     ensures shape { flash.new.shape ≡ SHAPE }
     ensures loads { flash.new.registers ≡ no_loads SHAPE }
 {
-    if step == "on" {
-        flash.power_on();
-        return true;
-    }
     let count = number_at(step, 1).unwrap_or(0);
-    if count == 0 {
-        return false;
-    }
     let outcome = outcome(word(step, 2));
     match word(step, 0) {
-        "cut" => flash.arm_cut(count, outcome),
-        "fault" => flash.arm_fault(count, outcome),
-        "badread" => flash.arm_bad_read(count),
+        "on" => flash.power_on(),
+        "cut" if count > 0 => flash.arm_cut(count, outcome),
+        "fault" if count > 0 => flash.arm_fault(count, outcome),
+        "badread" if count > 0 => flash.arm_bad_read(count),
         _ => return false,
     }
     true
@@ -265,13 +261,16 @@ fn sign(seen: Seen) -> (u8, u8) {
 fn are_seen(flash: &MemFlash, signs: &[u8]) -> bool
     requires { flash.now.shape ≡ SHAPE }
 {
+    if signs.len() != 8 {
+        return false;
+    }
     for at in 0..8 {
         let (sign, first) = sign(flash.seen(Slot(at)));
-        if signs.get(at as usize) != Some(&sign) || flash.cell(Slot(at)).first() != Some(&first) {
+        if signs[at as usize] != sign || !flash.cell(Slot(at)).starts_with(&[first]) {
             return false;
         }
     }
-    signs.len() == 8
+    true
 }
 
 /// The word for whether power is on.
@@ -281,7 +280,7 @@ fn power(flash: &MemFlash) -> &'static str {
 
 /// Whether the counts of a flash are those of the text.
 fn counts(flash: &MemFlash, want: &str) -> bool {
-    word(want, 2) == power(flash)
+    has_word(want, 2, power(flash))
         && has_version(want, 3, flash.programs())
         && has_version(want, 4, flash.erases())
         && has_version(want, 5, flash.reads())

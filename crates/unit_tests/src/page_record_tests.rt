@@ -1,6 +1,8 @@
 ghost use Rattle.page_record.specs.Spelling.{CanBeSpelled};
 
-use crate::samples::{LineTest, assert_lines, change, halves, protocol_of, rec, sides, word};
+use crate::samples::{
+    LineTest, assert_lines, change, halves, has_word, protocol_of, rec, sides, word,
+};
 use page_record::{SpareError, read_spare, write_spare};
 use std::alloc::Global;
 use tx_types::Protocol::{Bpcc, Scc};
@@ -206,7 +208,7 @@ fn name(rule: SpareError) -> &'static str {
 
 /// Whether the text is a record, with `discard` behind it where it is one.
 fn is_record(text: &str, read: Rec) -> bool {
-    let discard = word(text, 1) == "discard";
+    let discard = has_word(text, 1, "discard");
     match rec(word(text, 0)) {
         Some(rec) => read == Rec { discard, ..rec },
         None => false,

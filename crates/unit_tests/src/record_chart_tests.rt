@@ -5,8 +5,8 @@ ghost use Rattle.record_chart.specs.Charts.{Sorts};
 
 use crate::record_list_tests::COUNTS;
 use crate::samples::{
-    ListTest, assert_lists, has_number, has_version, is_scanned, link, names_breach, protocol_of,
-    rec, word, word_count,
+    ListTest, assert_lists, has_number, has_version, has_word, is_scanned, link, names_breach,
+    protocol_of, rec, word, word_count,
 };
 use crate::verdicts::tells;
 use record_chart::{Chart, Orbit, Orbits, Standing, counts, name_orbits};
@@ -21,10 +21,10 @@ const ORBITS: &str = "aside, round 2, round 2, ends 1 4, ends 0 4, round 1, ends
 
 fn tells_orbit(text: &str, orbit: Orbit) -> bool {
     match orbit {
-        Orbit::Aside => text == "aside",
-        Orbit::Round { length } => word(text, 0) == "round" && has_number(text, 1, length),
+        Orbit::Aside => has_word(text, 0, "aside"),
+        Orbit::Round { length } => has_word(text, 0, "round") && has_number(text, 1, length),
         Orbit::Ends { after, at } => {
-            word(text, 0) == "ends" && has_number(text, 1, after) && has_number(text, 2, at)
+            has_word(text, 0, "ends") && has_number(text, 1, after) && has_number(text, 2, at)
         }
     }
 }
@@ -75,11 +75,7 @@ struct Ordered;
 impl ListTest for Ordered {
     fn is_right(alloc: Global, list: &[Found], want: &str) -> bool {
         match Chart::of(alloc, list) {
-            Ok(chart) => {
-                let is_right = are_slots(chart.records(), want);
-                drop(chart);
-                is_right
-            }
+            Ok(chart) => are_slots(chart.records(), want),
             Err(_) => false,
         }
     }
@@ -143,11 +139,7 @@ struct Few;
 impl ListTest for Few {
     fn is_right(alloc: Global, list: &[Found], _: &str) -> bool {
         match Chart::of(alloc, list) {
-            Ok(chart) => {
-                let is_right = finds(&chart) && leads(&chart);
-                drop(chart);
-                is_right
-            }
+            Ok(chart) => finds(&chart) && leads(&chart),
             Err(_) => false,
         }
     }
@@ -159,11 +151,7 @@ struct Straddlers;
 impl ListTest for Straddlers {
     fn is_right(alloc: Global, list: &[Found], _: &str) -> bool {
         match Chart::of(alloc, list) {
-            Ok(chart) => {
-                let is_right = straddles(&chart);
-                drop(chart);
-                is_right
-            }
+            Ok(chart) => straddles(&chart),
             Err(_) => false,
         }
     }
@@ -206,11 +194,7 @@ struct Standings;
 impl ListTest for Standings {
     fn is_right(alloc: Global, list: &[Found], want: &str) -> bool {
         match standing(alloc, list, protocol_of(word(want, 0))) {
-            Ok(standing) => {
-                let is_right = stands(&standing, want);
-                drop(standing);
-                is_right
-            }
+            Ok(standing) => stands(&standing, want),
             Err(_) => false,
         }
     }
@@ -239,11 +223,7 @@ fn charts_breach(alloc: Global, list: &[Found], breach: &str) -> bool
     requires copies { All (CopiesAgree list.now) list.now }
 {
     match Chart::of(alloc, list) {
-        Ok(chart) => {
-            let is_right = orbits_breach(alloc, &chart, list, breach);
-            drop(chart);
-            is_right
-        }
+        Ok(chart) => orbits_breach(alloc, &chart, list, breach),
         Err(_) => false,
     }
 }

@@ -1,6 +1,6 @@
 use crate::samples::{
-    ListTest, assert_lists, has_version, is_scanned, link, names_breach, number_at, protocol_of,
-    says, word,
+    ListTest, assert_lists, has_version, has_word, is_scanned, link, names_breach, number_at,
+    protocol_of, says, word,
 };
 use crate::verdicts::tells;
 use record_list::{
@@ -82,7 +82,7 @@ struct Names;
 impl ListTest for Names {
     fn is_right(_: Global, list: &[Found], want: &str) -> bool {
         match link(word(want, 0)) {
-            Some(name) => present(list, name) == (word(want, 1) == "present"),
+            Some(name) => present(list, name) == has_word(want, 1, "present"),
             None => false,
         }
     }

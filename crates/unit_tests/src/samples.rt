@@ -77,6 +77,11 @@ pub fn word(text: &str, at: usize) -> &str {
     text.split(' ').nth(at).unwrap_or("")
 }
 
+/// Whether this word stands at a place of a text.
+pub fn has_word(text: &str, at: usize, wanted: &str) -> bool {
+    word(text, at) == wanted
+}
+
 /// A number.
 pub fn number(text: &str) -> Option<u32> {
     text.parse::<u32>().ok()

@@ -3,7 +3,8 @@ ghost use Rattle.record_list.specs.Records.{IsScanned};
 ghost use Rattle.record_list.specs.SoundList.{OwnPageExists};
 
 use crate::samples::{
-    ListTest, assert_lists, has_its_pages, is_scanned, names_breach, number_at, three, word,
+    ListTest, assert_lists, has_its_pages, has_word, is_scanned, names_breach, number_at, three,
+    word,
 };
 use crate::verdicts::{tells_current, tells_verdict};
 use record_list::{CommitRule, Found, newest};
@@ -89,7 +90,7 @@ struct Going;
 
 impl ListTest for Going {
     fn is_right(_: Global, list: &[Found], want: &str) -> bool {
-        let goes = word(want, 3) == "goes";
+        let goes = has_word(want, 3, "goes");
         match three(want) {
             Some((at, page, below)) => {
                 is_scanned(list)

@@ -308,11 +308,7 @@ fn are_changed(tables: &mut Tables) -> bool
 /// Whether new tables are right.
 fn is_history(alloc: Global) -> bool {
     match Tables::new(alloc, SHAPE, PAGES) {
-        Ok(mut tables) => {
-            let is_right = are_changed(&mut tables);
-            drop(tables);
-            is_right
-        }
+        Ok(mut tables) => are_changed(&mut tables),
         Err(_) => false,
     }
 }

@@ -1,6 +1,6 @@
 use crate::samples::{
-    LineTest, ListTest, assert_lines, assert_lists, has_version, link, number_at, rec, says, sides,
-    version, word, word_count,
+    LineTest, ListTest, assert_lines, assert_lists, has_version, has_word, link, number_at, rec,
+    says, sides, version, word, word_count,
 };
 use record_list::{Found, straddling};
 use std::alloc::Global;
@@ -22,7 +22,7 @@ impl LineTest for Straddling {
     fn is_right(_: Global, line: &str) -> bool {
         let (left, want) = sides(line);
         match (rec(word(left, 0)), version(word(left, 1))) {
-            (Some(rec), Some(version)) => straddles(rec, version) == (want == "yes"),
+            (Some(rec), Some(version)) => straddles(rec, version) == has_word(want, 0, "yes"),
             _ => false,
         }
     }
@@ -103,7 +103,7 @@ impl ListTest for Answering {
     fn is_right(_: Global, list: &[Found], want: &str) -> bool {
         match (number_at(want, 0), number_at(want, 1)) {
             (Some(one), Some(other)) => {
-                answers(list, one as usize, other as usize) == Some(word(want, 2) == "yes")
+                answers(list, one as usize, other as usize) == Some(has_word(want, 2, "yes"))
             }
             _ => false,
         }

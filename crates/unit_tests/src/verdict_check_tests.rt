@@ -1,8 +1,8 @@
 //! Texts that are checked against small lists of records.
 use crate::cycles::cycle_of;
 use crate::samples::{
-    LineTest, assert_lines, halves, has_its_pages, is_scanned, number_at, protocol_of, records,
-    word,
+    LineTest, assert_lines, halves, has_its_pages, has_number, has_word, is_scanned, protocol_of,
+    records,
 };
 use crate::texts::bytes_of;
 use record_list::Found;
@@ -10,18 +10,19 @@ use std::alloc::{AllocError, Global};
 use tx_types::Protocol;
 use verdict_check::check_report;
 
-/// Whether the check of a text against a list, of a device of 20 pages, ends so.
-fn is_checked(list: &[Found], protocol: Protocol, text: &[u8], want: Result<u32, u32>) -> bool {
-    is_scanned(list) && has_its_pages(list, 20) && check_report(list, protocol, 20, text) == want
+/// Whether the text is the answer of a check, as `2 pages` or `1 wrong`, by its number and its word.
+fn is_answer(checked: Result<u32, u32>, answer: &str) -> bool {
+    match checked {
+        Ok(pages) => has_number(answer, 0, pages) && has_word(answer, 1, "pages"),
+        Err(line) => has_number(answer, 0, line) && has_word(answer, 1, "wrong"),
+    }
 }
 
-/// The answer of a check, as `2 pages` or `1 wrong`, by its number and its word.
-fn answer_of(text: &str) -> Option<Result<u32, u32>> {
-    match number_at(text, 0) {
-        Some(number) if word(text, 1) == "pages" => Some(Ok(number)),
-        Some(number) => Some(Err(number)),
-        None => None,
-    }
+/// Whether the check of a text against a list, of a device of 20 pages, ends so.
+fn is_checked(list: &[Found], protocol: Protocol, text: &[u8], answer: &str) -> bool {
+    is_scanned(list)
+        && has_its_pages(list, 20)
+        && is_answer(check_report(list, protocol, 20, text), answer)
 }
 
 /// Whether bytes are checked so against the records of a text.
@@ -32,9 +33,9 @@ fn are_bytes_checked(
     bytes: &[u8],
     answer: &str,
 ) -> bool {
-    match (records(alloc, list), answer_of(answer)) {
-        (Some(list), Some(want)) => is_checked(&list, protocol, bytes, want),
-        _ => false,
+    match records(alloc, list) {
+        Some(list) => is_checked(&list, protocol, bytes, answer),
+        None => false,
     }
 }
 
@@ -135,21 +136,21 @@ fn add_cycle_text(text: &mut String, more: u32) -> bool {
 }
 
 /// Whether the check of such a text against a list ends so.
-fn is_cycle_text_checked(alloc: Global, list: &[Found], more: u32, want: Result<u32, u32>) -> bool {
+fn is_cycle_text_checked(alloc: Global, list: &[Found], more: u32, answer: &str) -> bool {
     let mut text = String::new(alloc);
-    add_cycle_text(&mut text, more) && is_checked(list, Protocol::Scc, text.as_bytes(), want)
+    add_cycle_text(&mut text, more) && is_checked(list, Protocol::Scc, text.as_bytes(), answer)
 }
 
 /// Whether the check of such a text ends so.
-fn is_cycle_checked(alloc: Global, more: u32, want: Result<u32, u32>) -> bool {
+fn is_cycle_checked(alloc: Global, more: u32, answer: &str) -> bool {
     match cycle_of(alloc, 17) {
-        Ok(list) => is_cycle_text_checked(alloc, &list, more, want),
+        Ok(list) => is_cycle_text_checked(alloc, &list, more, answer),
         Err(_) => false,
     }
 }
 
 #[test]
 fn links_that_are_not_named_are_counted(rt: HostRuntime) {
-    assert!(rt; is_cycle_checked(rt.alloc(), 1, Ok(17)));
-    assert!(rt; is_cycle_checked(rt.alloc(), 2, Err(1)));
+    assert!(rt; is_cycle_checked(rt.alloc(), 1, "17 pages"));
+    assert!(rt; is_cycle_checked(rt.alloc(), 2, "1 wrong"));
 }

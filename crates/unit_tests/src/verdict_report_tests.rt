@@ -41,9 +41,10 @@ fn is_report<R: CommitRule>(
 fn is_explained<R: CommitRule>(alloc: Global, line: &str) -> bool {
     let (list, rest) = halves(line, " => ");
     let (pages, text) = halves(rest, " ");
-    match (records(alloc, list), number(pages)) {
-        (Some(list), Some(pages)) => is_report::<R>(alloc, &list, 20, pages, text),
-        _ => false,
+    let pages = number(pages).unwrap_or(u32::MAX);
+    match records(alloc, list) {
+        Some(list) => is_report::<R>(alloc, &list, 20, pages, text),
+        None => false,
     }
 }
 
