@@ -1,5 +1,6 @@
 ghost use Rattle.std.specs.Prelude.{◌≡◌, ◌<◌};
 ghost use Rattle.tx_types.specs.Config.{blocks_of};
+ghost use Rattle.die_alloc.specs.BlockTable.{fresh_table};
 
 use crate::samples::{says, word, word_count};
 use die_alloc::Blocks;
@@ -61,7 +62,7 @@ fn finds(blocks: &mut Blocks, die: u32, slot: u32) -> bool
 /// Whether a table gives its slots of which in die 0 block 2 has one used slot and block 1 has three, and in die 1
 /// block 4 is shut. The search in one die takes nothing.
 fn gives_rest(blocks: &mut Blocks) -> bool
-    requires { blocks.old.shape ≡ WIDE }
+    requires { blocks.old ≡ fresh_table WIDE }
 {
     blocks.set(Block(2), Part, 1);
     blocks.set(Block(1), Part, 3);
