@@ -2,10 +2,14 @@ ghost use Rattle.std.specs.Prelude.{All};
 ghost use Rattle.record_list.specs.Records.{IsScanned};
 ghost use Rattle.record_list.specs.SoundList.{OwnPageExists};
 
-use crate::samples::{assert_lists, has_its_pages, is_scanned, names_breach, says, version, word};
+use crate::samples::{
+    ListTest, assert_lists, halves, has_its_pages, has_version, is_scanned, names_breach, says,
+    word, word_count,
+};
 use crate::verdicts::{tells_current, tells_verdict};
 use bpcc_commit::Bpcc;
 use record_list::{CommitRule, Found, first_misplaced, next_older};
+use std::alloc::Global;
 use straddle_sets::responsible;
 use tx_types::Protocol;
 
@@ -60,14 +64,23 @@ fn are_verdicts<R: CommitRule>(list: &[Found], text: &str) -> bool
     true
 }
 
+/// Whether this index is a word of the text.
+fn names_index(text: &str, index: usize) -> bool {
+    for at in 0..word_count(text) {
+        if has_version(text, at, index as u64) {
+            return true;
+        }
+    }
+    false
+}
+
 /// Whether the records at the indices of the text are held, and none must go.
 fn are_held<R: CommitRule>(list: &[Found], text: &str) -> bool
     requires scanned { IsScanned list.now }
     requires pages { All (OwnPageExists LOGICAL) list.now }
 {
     for at in 0..list.len() {
-        let is_held = text.split(' ').any(|index| says(index, Some(at)));
-        if R::held(list, LOGICAL, at) != is_held
+        if R::held(list, LOGICAL, at) != names_index(text, at)
             || R::must_go(list, LOGICAL, at, list[at].rec.page, 9)
         {
             return false;
@@ -76,21 +89,34 @@ fn are_held<R: CommitRule>(list: &[Found], text: &str) -> bool
     true
 }
 
-/// Whether a rule makes of a list what the text says.
-fn judges<R: CommitRule>(list: &[Found], want: &str) -> bool {
-    let mut parts = want.split("; ");
-    is_scanned(list)
-        && has_its_pages(list, LOGICAL)
-        && first_misplaced(list, LOGICAL).is_none()
-        && are_verdicts::<R>(list, parts.next().unwrap_or(""))
-        && are_held::<R>(list, parts.next().unwrap_or(""))
-        && names_breach(parts.next().unwrap_or(""), R::audit(list, LOGICAL))
+/// Whether the verdicts, the held records and the broken law are those of the text.
+fn is_judged<R: CommitRule>(list: &[Found], text: &str) -> bool
+    requires scanned { IsScanned list.now }
+    requires pages { All (OwnPageExists LOGICAL) list.now }
+{
+    let (verdicts, rest) = halves(text, "; ");
+    let (held, breach) = halves(rest, "; ");
+    are_verdicts::<R>(list, verdicts)
+        && are_held::<R>(list, held)
+        && names_breach(breach, R::audit(list, LOGICAL))
+}
+
+/// What the rule makes of a list.
+struct Judged;
+
+impl ListTest for Judged {
+    fn is_right(_: Global, list: &[Found], want: &str) -> bool {
+        is_scanned(list)
+            && has_its_pages(list, LOGICAL)
+            && first_misplaced(list, LOGICAL).is_none()
+            && is_judged::<Bpcc>(list, want)
+    }
 }
 
 #[test]
 fn aborted_records_and_those_that_answer(rt: HostRuntime) {
     assert!(rt; Bpcc::protocol() == Protocol::Bpcc);
-    assert_lists(&rt, rt.alloc(), JUDGED, judges::<Bpcc>);
+    assert_lists::<Judged>(&rt, rt.alloc(), JUDGED);
 }
 
 /// A list, and the index of the record that is responsible for the first one; and a list, and the next version of page
@@ -99,15 +125,20 @@ const OLDER: &str = "\
     0:0.1>1.1 1:1.2>1.2 2:1.3>1.3/2 => 1 2\n\
     0:1.2>0.1 1:1.3>0.2 => - 2";
 
-fn has_older(list: &[Found], want: &str) -> bool {
-    !list.is_empty()
-        && says(word(want, 0), responsible(list, LOGICAL, 0))
-        && version(word(want, 1)) == Some(next_older(list, 1, 3))
+/// Who answers for the first record, and what is older than version 3.
+struct Older;
+
+impl ListTest for Older {
+    fn is_right(_: Global, list: &[Found], want: &str) -> bool {
+        !list.is_empty()
+            && says(word(want, 0), responsible(list, LOGICAL, 0))
+            && has_version(want, 1, next_older(list, 1, 3))
+    }
 }
 
 #[test]
 fn the_superseded_record_answers(rt: HostRuntime) {
-    assert_lists(&rt, rt.alloc(), OLDER, has_older);
+    assert_lists::<Older>(&rt, rt.alloc(), OLDER);
 }
 
 /// Lists, and the law that is broken.
@@ -121,11 +152,16 @@ const AUDITS: &str = "\
     0:0.1>0.1 1:0.2>0.2/1 2:0.3>1.9/1 => 7:1 -- one whose links lead back to it\n\
     0:1.2>1.2 1:1.3>0.1 => 7:0";
 
-fn breaks_laws(list: &[Found], breach: &str) -> bool {
-    is_scanned(list) && names_breach(breach, Bpcc::audit(list, LOGICAL))
+/// The law that a list breaks.
+struct Audited;
+
+impl ListTest for Audited {
+    fn is_right(_: Global, list: &[Found], breach: &str) -> bool {
+        is_scanned(list) && names_breach(breach, Bpcc::audit(list, LOGICAL))
+    }
 }
 
 #[test]
 fn breaches_of_the_laws(rt: HostRuntime) {
-    assert_lists(&rt, rt.alloc(), AUDITS, breaks_laws);
+    assert_lists::<Audited>(&rt, rt.alloc(), AUDITS);
 }

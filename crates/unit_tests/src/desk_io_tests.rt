@@ -5,7 +5,6 @@ ghost use Rattle.desk_io.specs.Desk.{after_fault, as_before, file_at};
 use desk_io::{Desk, LoadError, MemDesk, RealDesk, SinkError};
 use std::alloc::Global;
 use std::fs;
-use std::rt::Files;
 
 mod leave;
 mod recording;
@@ -124,15 +123,16 @@ fn do_chosen_calls_fail(desk: &mut MemDesk) -> bool {
 }
 
 /// Whether these calls of a desk fail, and no others.
-fn are_chosen_calls_failed(alloc: Global, fails: Vec<u32>) -> bool {
-    let mut desk = MemDesk::new(alloc, fails);
-    do_chosen_calls_fail(&mut desk)
+fn are_chosen_calls_failed(alloc: Global) -> bool {
+    match vec![in alloc; 2, 4, 6] {
+        Ok(fails) => do_chosen_calls_fail(&mut MemDesk::new(alloc, fails)),
+        Err(_) => false,
+    }
 }
 
 #[test]
 fn chosen_calls_fail_in_memory(rt: HostRuntime) {
-    let chosen = vec![in rt.alloc(); 2, 4, 6];
-    assert!(rt; chosen.is_ok_and(|fails| are_chosen_calls_failed(rt.alloc(), fails)));
+    assert!(rt; are_chosen_calls_failed(rt.alloc()));
 }
 
 const FOLDER: &str = "folder_of_the_desk_test";
@@ -163,23 +163,26 @@ fn do_faults_come<D: Desk>(desk: &mut D) -> bool {
 }
 
 /// Whether nothing stands at a name.
-pub fn is_absent<R: Files + AllocGlobal>(rt: &R, name: &str) -> bool {
-    fs::exists(rt, name).is_ok_and(|is_there| !is_there)
+pub fn is_absent(rt: &HostRuntime, name: &str) -> bool {
+    match fs::exists(rt, name) {
+        Ok(is_there) => !is_there,
+        Err(_) => false,
+    }
 }
 
 /// Whether a folder of the tests' own is there, empty.
-pub fn is_made<R: Files + AllocGlobal>(rt: &R, name: &str) -> bool {
+pub fn is_made(rt: &HostRuntime, name: &str) -> bool {
     let _ = fs::remove_dir_all(rt, name);
     fs::create_dir(rt, name).is_ok()
 }
 
 /// Whether such a folder is removed.
-pub fn is_removed<R: Files + AllocGlobal>(rt: &R, name: &str) -> bool {
+pub fn is_removed(rt: &HostRuntime, name: &str) -> bool {
     fs::remove_dir_all(rt, name).is_ok()
 }
 
 /// Whether the files of the system are those of a desk, and nothing is left beside them.
-fn are_files_kept<R: Files + AllocGlobal, D: Desk>(rt: &R, desk: &mut D) -> bool {
+fn are_files_kept<D: Desk>(rt: &HostRuntime, desk: &mut D) -> bool {
     is_kept_twice(desk)
         && is_absent(rt, "folder_of_the_desk_test/file.saving")
         && do_faults_come(desk)

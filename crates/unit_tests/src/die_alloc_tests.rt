@@ -1,27 +1,32 @@
 ghost use Rattle.std.specs.Prelude.{◌≡◌, ◌<◌};
 ghost use Rattle.tx_types.specs.Config.{blocks_of};
+ghost use Rattle.die_alloc.specs.BlockTable.{fresh_table};
 
-use crate::samples::says;
+use crate::samples::{says, word, word_count};
 use die_alloc::Blocks;
 use std::alloc::Global;
 use tx_types::BlockState::{Clean, Part, Shut, Spare};
-use tx_types::{Block, BlockState, Memory, Shape, Slot};
+use tx_types::{Block, BlockState, Shape, Slot};
 
 /// The number of the next slot, which is used from then on.
 fn take(blocks: &mut Blocks) -> Option<usize>
     ensures { blocks.new.shape ≡ blocks.old.shape }
 {
-    let at = blocks.next_slot()?;
-    blocks.note_used(at);
-    Some(at.0 as usize)
+    match blocks.next_slot() {
+        Some(at) => {
+            blocks.note_used(at);
+            Some(at.0 as usize)
+        }
+        None => None,
+    }
 }
 
 /// Whether these slots are taken, one after the other; `-` where there is none.
 fn gives(blocks: &mut Blocks, slots: &str) -> bool
     ensures { blocks.new.shape ≡ blocks.old.shape }
 {
-    for slot in slots.split(' ') {
-        if !says(slot, take(blocks)) {
+    for at in 0..word_count(slots) {
+        if !says(word(slots, at), take(blocks)) {
             return false;
         }
     }
@@ -37,13 +42,13 @@ const WIDE: Shape = Shape {
 };
 
 /// Whether a new table gives its slots. Die 0 has the slots 0 to 15, and die 1 those from 16 to 27 beside the spare.
-fn gives_all(alloc: Global) -> Result<bool, Memory> {
-    let mut blocks = Blocks::new(alloc, WIDE)?;
-    let is_given = gives(
-        &mut blocks,
+fn gives_all(blocks: &mut Blocks) -> bool
+    ensures { blocks.new.shape ≡ blocks.old.shape }
+{
+    gives(
+        blocks,
         "0 16 1 17 2 18 3 19 4 20 5 21 6 22 7 23 8 24 9 25 10 26 11 27 12 13 14 15 -",
-    );
-    Ok(is_given)
+    )
 }
 
 /// Whether the search in one die finds this slot.
@@ -56,23 +61,38 @@ fn finds(blocks: &mut Blocks, die: u32, slot: u32) -> bool
 
 /// Whether a table gives its slots of which in die 0 block 2 has one used slot and block 1 has three, and in die 1
 /// block 4 is shut. The search in one die takes nothing.
-fn gives_rest(alloc: Global) -> Result<bool, Memory> {
-    let mut blocks = Blocks::new(alloc, WIDE)?;
+fn gives_rest(blocks: &mut Blocks) -> bool
+    requires { blocks.old ≡ fresh_table WIDE }
+{
     blocks.set(Block(2), Part, 1);
     blocks.set(Block(1), Part, 3);
     blocks.set(Block(4), Shut, 0);
-    Ok(
-        finds(&mut blocks, 0, 7)
-            && finds(&mut blocks, 1, 20)
-            && finds(&mut blocks, 0, 7)
-            && gives(&mut blocks, "7 20 9 21 10 22 11 23 0"),
-    )
+    finds(blocks, 0, 7)
+        && finds(blocks, 1, 20)
+        && finds(blocks, 0, 7)
+        && gives(blocks, "7 20 9 21 10 22 11 23 0")
+}
+
+/// Whether a new table gives all its slots.
+fn is_new_given(alloc: Global) -> bool {
+    match Blocks::new(alloc, WIDE) {
+        Ok(mut blocks) => gives_all(&mut blocks),
+        Err(_) => false,
+    }
+}
+
+/// Whether a table of used slots gives the rest.
+fn is_rest_given(alloc: Global) -> bool {
+    match Blocks::new(alloc, WIDE) {
+        Ok(mut blocks) => gives_rest(&mut blocks),
+        Err(_) => false,
+    }
 }
 
 #[test]
 fn slots_are_taken_die_after_die(rt: HostRuntime) {
-    assert!(rt; gives_all(rt.alloc()).unwrap_or(false));
-    assert!(rt; gives_rest(rt.alloc()).unwrap_or(false));
+    assert!(rt; is_new_given(rt.alloc()));
+    assert!(rt; is_rest_given(rt.alloc()));
 }
 
 /// Two dies of two blocks of two slots.
@@ -124,12 +144,22 @@ fn goes_on(blocks: &mut Blocks) -> bool
         && gives(blocks, "6 2 7 3 -")
 }
 
-fn changes_spares(alloc: Global) -> Result<bool, Memory> {
-    let mut blocks = Blocks::new(alloc, SMALL)?;
-    Ok(fills_up(&mut blocks) && is_full(&mut blocks) && goes_on(&mut blocks))
+/// Whether the table fills up, and then goes on with another spare.
+fn changes_spares(blocks: &mut Blocks) -> bool
+    requires { blocks.old.shape ≡ SMALL }
+{
+    fills_up(blocks) && is_full(blocks) && goes_on(blocks)
+}
+
+/// Whether a new table does so.
+fn is_spare_changed(alloc: Global) -> bool {
+    match Blocks::new(alloc, SMALL) {
+        Ok(mut blocks) => changes_spares(&mut blocks),
+        Err(_) => false,
+    }
 }
 
 #[test]
 fn a_full_table_goes_on_with_another_spare(rt: HostRuntime) {
-    assert!(rt; changes_spares(rt.alloc()).unwrap_or(false));
+    assert!(rt; is_spare_changed(rt.alloc()));
 }

@@ -78,24 +78,44 @@ read 0
 /// Whether the commands from the 41st to the 54th have these lines.
 fn is_first(alloc: Global, list: &[Command]) -> bool {
     match list.get(40..54) {
-        Some(part) => lines_of(alloc, part).is_ok_and(|lines| lines.as_str() == FIRST),
+        Some(part) => has_lines(alloc, part, FIRST),
         None => false,
+    }
+}
+
+/// Whether commands have these lines.
+fn has_lines(alloc: Global, list: &[Command], want: &str) -> bool {
+    match lines_of(alloc, list) {
+        Ok(lines) => lines.as_str() == want,
+        Err(_) => false,
+    }
+}
+
+/// Whether the first list of the usual device has them.
+fn is_first_known(alloc: Global) -> bool {
+    match list(alloc, 1, 6, USUAL) {
+        Ok(made) => is_first(alloc, &made),
+        Err(_) => false,
     }
 }
 
 #[test]
 fn the_first_transactions_are_known(rt: HostRuntime) {
-    let made = list(rt.alloc(), 1, 6, USUAL);
-    assert!(rt; made.is_ok_and(|list| is_first(rt.alloc(), &list)));
+    assert!(rt; is_first_known(rt.alloc()));
 }
 
 /// Whether a list has so many commands, and their lines this digest.
 fn is_made(alloc: Global, made: Result<Vec<Command>, Memory>, length: usize, want: u64) -> bool {
     match made {
-        Ok(list) => {
-            list.len() == length
-                && lines_of(alloc, &list).is_ok_and(|lines| digest(lines.as_str()) == want)
-        }
+        Ok(list) => list.len() == length && has_digest(alloc, &list, want),
+        Err(_) => false,
+    }
+}
+
+/// Whether the lines of commands have this digest.
+fn has_digest(alloc: Global, list: &[Command], want: u64) -> bool {
+    match lines_of(alloc, list) {
+        Ok(lines) => digest(lines.as_str()) == want,
         Err(_) => false,
     }
 }
@@ -142,31 +162,41 @@ fn lists_are_as_a_second_program_makes_them(rt: HostRuntime) {
     );
 }
 
-/// Appends the text of a reply.
-fn add(alloc: Global, reply: Reply, all: &mut Vec<u8>) -> Result<(), Memory> {
-    reply_text(alloc, &reply, all)
+/// Appends the text of a reply. Tells whether there is memory.
+fn add(alloc: Global, reply: Reply, all: &mut Vec<u8>) -> bool {
+    reply_text(alloc, &reply, all).is_ok()
 }
 
 /// Appends the replies to a write of every page.
-fn add_writes(alloc: Global, all: &mut Vec<u8>) -> Result<(), Memory> {
+fn add_writes(alloc: Global, all: &mut Vec<u8>) -> bool {
     for _ in 0..20 {
-        add(alloc, Reply::Opened(0, 1), all)?;
-        add(alloc, Reply::Done(0), all)?;
+        if !add(alloc, Reply::Opened(0, 1), all) || !add(alloc, Reply::Done(0), all) {
+            return false;
+        }
     }
-    Ok(())
+    true
 }
 
 /// Appends the reply to a read of a page whose first byte is this one.
-fn add_page(alloc: Global, page: u8, first: u8, all: &mut Vec<u8>) -> Result<(), Memory> {
+fn add_page(alloc: Global, page: u8, first: u8, all: &mut Vec<u8>) -> bool {
     let mut contents = [0; 16];
     contents[0] = first;
     let mut bytes = Bytes::new(alloc);
-    bytes.extend(&contents)?;
-    add(alloc, Reply::Page(u32::from(page), bytes), all)
+    bytes.extend(&contents).is_ok() && add(alloc, Reply::Page(u32::from(page), bytes), all)
+}
+
+/// Appends the replies to a read of every page.
+fn add_pages(alloc: Global, all: &mut Vec<u8>) -> bool {
+    for page in 0..20_u8 {
+        if !add_page(alloc, page, page + 1, all) {
+            return false;
+        }
+    }
+    true
 }
 
 /// Appends the reply to the last question for the numbers.
-fn add_stats(alloc: Global, all: &mut Vec<u8>) -> Result<(), Memory> {
+fn add_stats(alloc: Global, all: &mut Vec<u8>) -> bool {
     let stats = Stats {
         written: 20,
         tags: 0,
@@ -178,31 +208,28 @@ fn add_stats(alloc: Global, all: &mut Vec<u8>) -> Result<(), Memory> {
     add(alloc, Reply::Stats(stats), all)
 }
 
-/// Appends the replies to a write of every page, a read of every page and a last question for the numbers.
-fn add_replies(alloc: Global, all: &mut Vec<u8>) -> Result<(), Memory> {
-    add_writes(alloc, all)?;
-    for page in 0..20_u8 {
-        add_page(alloc, page, page + 1, all)?;
-    }
-    add_stats(alloc, all)
-}
-
 const FILLED: &str = "drive scc start 1 count 0 commands 61 \
 done 20 aborted 0 cut 0 refused 0 unknown 0 programs 20 erases 0 sum 210
 ";
 
-/// Whether those replies are summed up so, to a list.
+/// Whether the replies to a write of every page, a read of every page and a last question for the numbers are summed up
+/// so, to a list.
 fn are_summed_up(alloc: Global, list: &[Command]) -> bool {
     let mut replies = Vec::new(alloc);
     let mut out = Vec::new(alloc);
-    add_replies(alloc, &mut replies).is_ok()
+    add_writes(alloc, &mut replies)
+        && add_pages(alloc, &mut replies)
+        && add_stats(alloc, &mut replies)
         && summary(alloc, 1, 0, Protocol::Scc, list, &replies, &mut out).is_ok()
         && out.as_slice() == FILLED.as_bytes()
 }
 
 /// Whether they are summed up so, to the list that has no transactions.
 fn is_filling_summed_up(alloc: Global) -> bool {
-    list(alloc, 1, 0, USUAL).is_ok_and(|list| are_summed_up(alloc, &list))
+    match list(alloc, 1, 0, USUAL) {
+        Ok(list) => are_summed_up(alloc, &list),
+        Err(_) => false,
+    }
 }
 
 const MIXED: &[u8] = b"stats written 1 open 0 pending 0 programs 7 erases 8 garbage 9\n\

@@ -83,26 +83,50 @@ fn prepare(folder: &mut LosingFolder, is_there: bool) -> Result<(), AllocError> 
     folder.put("f.saving", b"left")
 }
 
+/// The bytes that a loss of power leaves of a file, where it leaves one.
+fn bytes_of(left: &Option<Vec<u8>>) -> Option<&[u8]> {
+    match left {
+        Some(bytes) => Some(bytes.as_slice()),
+        None => None,
+    }
+}
+
+/// Whether each that may be left may be so: the new bytes alone, where it must be new.
+fn are_whole(all: &[Option<Vec<u8>>], it: &Case, is_in_place: bool, must_be_new: bool) -> bool {
+    for each in all {
+        let left = bytes_of(each);
+        let is_new = left == Some(NEW.as_slice());
+        if !it.may_be_left(is_in_place, left) || (must_be_new && !is_new) {
+            return false;
+        }
+    }
+    true
+}
+
 /// Whether all that a loss of power may leave of `f` may be so: the new bytes alone, where a save that could sync
 /// answered Ok.
 fn is_left_whole(folder: &LosingFolder, it: &Case, is_ok: bool) -> bool {
     let must_be_new = is_ok && !folder.is_unsynced;
     match folder.left("f") {
-        Ok(all) => all.iter().all(|each| {
-            let left = each.as_ref().map(|bytes| bytes.as_slice());
-            let is_new = left.is_some_and(|bytes| bytes == NEW.as_slice());
-            it.may_be_left(folder.is_in_place, left) && (is_new || !must_be_new)
-        }),
+        Ok(all) => are_whole(&all, it, folder.is_in_place, must_be_new),
         Err(_) => false,
     }
+}
+
+/// Whether each that may be left has these bytes.
+fn are_all(all: &[Option<Vec<u8>>], bytes: &[u8]) -> bool {
+    for each in all {
+        if bytes_of(each) != Some(bytes) {
+            return false;
+        }
+    }
+    true
 }
 
 /// Whether a file stays as it is, whatever a loss of power leaves.
 fn stays(folder: &LosingFolder, name: &str, bytes: &[u8]) -> bool {
     match folder.left(name) {
-        Ok(all) => all.iter().all(|each| each
-            .as_ref()
-            .is_some_and(|left| left.as_slice() == bytes)),
+        Ok(all) => are_all(&all, bytes),
         Err(_) => false,
     }
 }
@@ -124,7 +148,9 @@ fn is_sound(folder: &LosingFolder, it: &Case, is_ok: bool) -> bool {
 
 /// The number of calls of a save, where all that a loss of power may leave is as it should be.
 fn saved_in(folder: &mut LosingFolder, alloc: Global, it: &Case) -> Option<u32> {
-    prepare(folder, it.is_there).ok()?;
+    if prepare(folder, it.is_there).is_err() {
+        return None;
+    }
     let is_ok = save(folder, alloc, it.name, &NEW).is_ok();
     if is_sound(folder, it, is_ok) {
         Some(folder.calls)
@@ -141,15 +167,17 @@ fn saved(alloc: Global, it: &Case) -> Option<u32> {
 
 /// Whether all is well where a call of a save fails, or loses power.
 fn may_call_fail(alloc: Global, it: &Case, fails: u32, kind: ErrorKind) -> bool {
-    [false, true].iter().all(|is_cut| {
-        let failing = Case {
-            fails,
-            kind,
-            is_cut: *is_cut,
-            ..*it
-        };
-        saved(alloc, &failing).is_some()
-    })
+    let failing = Case {
+        fails,
+        kind,
+        is_cut: false,
+        ..*it
+    };
+    let cut = Case {
+        is_cut: true,
+        ..failing
+    };
+    saved(alloc, &failing).is_some() && saved(alloc, &cut).is_some()
 }
 
 /// Whether all is well without a failing call, of which there are more than seven, and then where each fails or
@@ -170,10 +198,8 @@ fn may_each_call_fail(alloc: Global, it: &Case) -> bool {
 
 /// Whether all is well with the saves at a name, whether or not a file is there.
 fn are_saves_well(alloc: Global, setting: Setting, name: &'static str) -> bool {
-    [false, true].iter().all(|is_there| may_each_call_fail(
-        alloc,
-        &Case::new(setting, *is_there, name),
-    ))
+    may_each_call_fail(alloc, &Case::new(setting, false, name))
+        && may_each_call_fail(alloc, &Case::new(setting, true, name))
 }
 
 /// Whether all is well with the saves to a file, and with those through a link.

@@ -2,11 +2,11 @@
 ghost use Rattle.std.specs.Prelude.{◌≡◌, Ok, length};
 ghost use Rattle.tx_types.specs.Config.{checked, shape_of, slots_of};
 
-use crate::samples::rec;
+use crate::samples::{rec, word};
 use crate::texts::stands_in;
 use flash_picture::{Marks, draw, draw_svg};
 use record_list::Breach;
-use std::alloc::{AllocError, Global};
+use std::alloc::Global;
 use tx_types::{Block, Config, Link, Protocol, Rec, Slot};
 use version_index::Note;
 
@@ -28,20 +28,20 @@ fn device(protocol: Protocol) -> Config
 
 /// What is noted of a slot: a record, `damaged`, or nothing.
 fn note_of(word: &str) -> Note {
-    match rec(word) {
-        Some(rec) => Note::Holds(rec),
-        None if word == "damaged" => Note::Damaged,
-        None => Note::Blank,
+    match word {
+        "damaged" => Note::Damaged,
+        _ => match rec(word) {
+            Some(rec) => Note::Holds(rec),
+            None => Note::Blank,
+        },
     }
 }
 
 /// What is noted of eight slots.
 fn notes_of(text: &str) -> [Note; 8] {
     let mut notes = [Note::Blank; 8];
-    for (slot, word) in text.split(' ').enumerate() {
-        if let Some(note) = notes.get_mut(slot) {
-            *note = note_of(word);
-        }
+    for slot in 0..8 {
+        notes[slot] = note_of(word(text, slot));
     }
     notes
 }
@@ -63,23 +63,15 @@ fn breach(law: u8, slot: u32) -> Marks {
     }
 }
 
-/// The picture behind a byte that was there before.
-fn picture(
-    alloc: Global,
-    protocol: Protocol,
-    notes: &str,
-    marks: Marks,
-) -> Result<Vec<u8>, AllocError> {
-    let mut out = [b'>'].to_vec(alloc)?;
-    match draw(alloc, device(protocol), &notes_of(notes), marks, &mut out) {
-        Ok(()) => Ok(out),
-        Err(_) => Err(AllocError),
-    }
+/// Whether the picture can be drawn behind a byte that was there before.
+fn draws(alloc: Global, protocol: Protocol, notes: &str, marks: Marks, out: &mut Vec<u8>) -> bool {
+    out.push(b'>').is_ok() && draw(alloc, device(protocol), &notes_of(notes), marks, out).is_ok()
 }
 
 /// Whether this is the picture.
 fn is_drawn(alloc: Global, protocol: Protocol, notes: &str, marks: Marks, want: &str) -> bool {
-    picture(alloc, protocol, notes, marks).is_ok_and(|out| out.as_slice() == want.as_bytes())
+    let mut out = Vec::new(alloc);
+    draws(alloc, protocol, notes, marks, &mut out) && out.as_slice() == want.as_bytes()
 }
 
 /// Page 0 was written again with page 1, and power was cut between the two.
@@ -136,9 +128,8 @@ const RING_END: &str = "walk 0.1 -> 1.1 -> 1.1 -> 1.1 -> 1.1 too long\nunsound l
 
 /// Whether the picture ends with the walk around the ring.
 fn is_ring_drawn(alloc: Global) -> bool {
-    picture(alloc, Protocol::Scc, RING, breach(3, 1)).is_ok_and(|out| out.ends_with(
-        RING_END.as_bytes(),
-    ))
+    let mut out = Vec::new(alloc);
+    draws(alloc, Protocol::Scc, RING, breach(3, 1), &mut out) && out.ends_with(RING_END.as_bytes())
 }
 
 #[test]
@@ -154,11 +145,9 @@ const NAMESAKE_LINES: &str = "block 0    |0.1 loose       |1.2 stale       |;\
 
 /// Whether the second of the two is held.
 fn is_namesake_held(alloc: Global) -> bool {
-    picture(alloc, Protocol::Bpcc, NAMESAKES, breach(2, 2)).is_ok_and(|out| stands_in(
-        alloc,
-        NAMESAKE_LINES,
-        &out,
-    ))
+    let mut out = Vec::new(alloc);
+    draws(alloc, Protocol::Bpcc, NAMESAKES, breach(2, 2), &mut out)
+        && stands_in(alloc, NAMESAKE_LINES, &out)
 }
 
 #[test]
@@ -166,28 +155,25 @@ fn finds_held_records_among_namesakes(rt: HostRuntime) {
     assert!(rt; is_namesake_held(rt.alloc()));
 }
 
-/// The picture in SVG.
-fn svg(alloc: Global, config: Config, notes: &[Note]) -> Result<Vec<u8>, AllocError>
-    requires check { checked config ≡ Ok (shape_of config) }
-    requires whole { length notes.now ≡ slots_of (shape_of config) }
-{
-    let mut out = Vec::new(alloc);
-    match draw_svg(alloc, config, notes, SPARE, &mut out) {
-        Ok(()) => Ok(out),
-        Err(_) => Err(AllocError),
-    }
-}
-
 /// Whether each line of a text stands in a picture.
 fn has_pieces(alloc: Global, pieces: &str, out: &[u8]) -> bool {
-    pieces.split('\n').all(|piece| stands_in(alloc, piece, out))
+    for piece in pieces.split('\n') {
+        if !stands_in(alloc, piece, out) {
+            return false;
+        }
+    }
+    true
 }
 
 /// How many paths a picture has.
 fn path_count(svg: &[u8]) -> usize {
-    svg.windows(5)
-        .filter(|part| *part == b"<path".as_slice())
-        .count()
+    let mut count: usize = 0;
+    for at in 0..svg.len() {
+        if svg[at..].starts_with(b"<path") {
+            count = count.wrapping_add(1);
+        }
+    }
+    count
 }
 
 /// Pages 0 and 1 were written together, the record of page 1 was copied, and a write of page 0 was cut.
@@ -207,9 +193,17 @@ height='436'
 
 /// Whether they stand there, with three arrows.
 fn is_copy_drawn(alloc: Global) -> bool {
-    svg(alloc, device(Protocol::Scc), &notes_of(COPIED)).is_ok_and(|out| has_pieces(
-        alloc, PIECES, &out,
-    ) && path_count(&out) == 3)
+    let mut out = Vec::new(alloc);
+    draw_svg(
+        alloc,
+        device(Protocol::Scc),
+        &notes_of(COPIED),
+        SPARE,
+        &mut out,
+    )
+    .is_ok()
+        && has_pieces(alloc, PIECES, &out)
+        && path_count(&out) == 3
 }
 
 #[test]
@@ -236,12 +230,12 @@ fn wide_device() -> Config
 /// What is noted of a flash on which each page but the last was written with the next one.
 fn chained() -> [Note; 64] {
     let mut notes = [Note::Blank; 64];
-    for (page, note) in (0..18u32).zip(notes.iter_mut()) {
+    for page in 0..18 {
         let next = Link {
-            page: page.saturating_add(1),
+            page: page + 1,
             version: 1,
         };
-        *note = Note::Holds(Rec {
+        notes[page as usize] = Note::Holds(Rec {
             page,
             version: 1,
             next,
@@ -272,7 +266,9 @@ fn are_long_walks_drawn(alloc: Global) -> bool {
 
 /// Whether the picture in SVG has its pieces.
 fn are_long_walks_drawn_in_svg(alloc: Global) -> bool {
-    svg(alloc, wide_device(), &chained()).is_ok_and(|out| has_pieces(alloc, LONG_SVG, &out))
+    let mut out = Vec::new(alloc);
+    draw_svg(alloc, wide_device(), &chained(), SPARE, &mut out).is_ok()
+        && has_pieces(alloc, LONG_SVG, &out)
 }
 
 #[test]

@@ -1,5 +1,6 @@
 //! Command files and replies as text.
 use crate::command_lines::lines_of;
+use crate::samples::{LineTest, assert_lines, halves};
 use crate::texts::{are_bytes_of, bytes_of, names_bad_line};
 use host_protocol::{Command, MAX_FILE_BYTES, Reply, TextError, parse, reply_text};
 use std::alloc::{AllocError, Global};
@@ -22,19 +23,31 @@ fn spells(alloc: Global, text: &str, list: &[Command]) -> bool {
     if list.is_empty() {
         return text == "nothing";
     }
-    lines_of(alloc, list).is_ok_and(|lines| are_bytes_of(alloc, text, lines.as_bytes()))
+    match lines_of(alloc, list) {
+        Ok(lines) => are_bytes_of(alloc, text, lines.as_bytes()),
+        Err(_) => false,
+    }
 }
 
-/// Whether the line has a file, and its commands or its first bad line.
-fn is_read(alloc: Global, line: &str) -> bool {
-    let (text, want) = line.split_once(" => ").unwrap_or((line, ""));
-    let Ok(bytes) = bytes_of(alloc, text) else {
-        return false;
-    };
-    match read(alloc, &bytes) {
+/// Whether a file has the commands of the text, or its first bad line.
+fn is_read(alloc: Global, file: &[u8], want: &str) -> bool {
+    match read(alloc, file) {
         Ok(Ok(list)) => spells(alloc, want, &list),
         Ok(Err(number)) => names_bad_line(want, number),
         Err(_) => false,
+    }
+}
+
+/// The commands of a file, or its first bad line.
+struct Files;
+
+impl LineTest for Files {
+    fn is_right(alloc: Global, line: &str) -> bool {
+        let (text, want) = halves(line, " => ");
+        match bytes_of(alloc, text) {
+            Ok(file) => is_read(alloc, &file, want),
+            Err(_) => false,
+        }
     }
 }
 
@@ -75,9 +88,7 @@ badread 1 x => bad line 1";
 
 #[test]
 fn lines_are_commands(rt: HostRuntime) {
-    for line in LINES.split('\n') {
-        assert!(rt; is_read(rt.alloc(), line), "{line}");
-    }
+    assert_lines::<Files>(&rt, rt.alloc(), LINES);
 }
 
 const WRITES: &str = "\
@@ -107,9 +118,7 @@ write 1 4294967296=41 => bad line 1";
 
 #[test]
 fn writes_have_entries(rt: HostRuntime) {
-    for line in WRITES.split('\n') {
-        assert!(rt; is_read(rt.alloc(), line), "{line}");
-    }
+    assert_lines::<Files>(&rt, rt.alloc(), WRITES);
 }
 
 /// A line, and then so many times a piece of text.
@@ -125,53 +134,65 @@ fn repeated(alloc: Global, line: &[u8], piece: &[u8], times: usize) -> Result<Ve
 /// Whether a file has so many commands, or this first bad line.
 fn has(alloc: Global, text: &[u8], want: Result<usize, u32>) -> bool {
     match read(alloc, text) {
-        Ok(Ok(list)) => Ok(list.len()) == want,
-        Ok(Err(number)) => Err(number) == want,
+        Ok(Ok(list)) => want == Ok(list.len()),
+        Ok(Err(number)) => want == Err(number),
         Err(_) => false,
     }
 }
 
+/// Whether a file that has more text at its end has so many commands, or this first bad line.
+fn has_more(alloc: Global, file: &mut Vec<u8>, more: &[u8], want: Result<usize, u32>) -> bool {
+    file.extend_from_slice(more).is_ok() && has(alloc, file, want)
+}
+
 /// Whether a file has at most 65536 commands.
-fn are_commands_limited(alloc: Global) -> Result<bool, AllocError> {
-    let mut file = repeated(alloc, b"# one\n\n", b"stats\n", 65536)?;
-    let is_full = has(alloc, &file, Ok(65536));
-    file.extend_from_slice(b"\n# two\n")?;
-    let is_still_full = has(alloc, &file, Ok(65536));
-    file.extend_from_slice(b"stats")?;
-    Ok(is_full && is_still_full && has(alloc, &file, Err(65541)))
+fn are_commands_limited(alloc: Global) -> bool {
+    match repeated(alloc, b"# one\n\n", b"stats\n", 65536) {
+        Ok(mut file) => {
+            has(alloc, &file, Ok(65536))
+                && has_more(alloc, &mut file, b"\n# two\n", Ok(65536))
+                && has_more(alloc, &mut file, b"stats", Err(65541))
+        }
+        Err(_) => false,
+    }
 }
 
 /// Whether the writes of a file have at most 262144 entries.
-fn are_entries_limited(alloc: Global) -> Result<bool, AllocError> {
-    let mut file = repeated(alloc, b"write 1", b" 0=-", 262144)?;
-    file.extend_from_slice(b"\nwrite 2\n")?;
-    let is_full = has(alloc, &file, Ok(2));
-    file.extend_from_slice(b"write 3 1=-")?;
-    Ok(is_full && has(alloc, &file, Err(3)))
+fn are_entries_limited(alloc: Global) -> bool {
+    match repeated(alloc, b"write 1", b" 0=-", 262144) {
+        Ok(mut file) => {
+            has_more(alloc, &mut file, b"\nwrite 2\n", Ok(2))
+                && has_more(alloc, &mut file, b"write 3 1=-", Err(3))
+        }
+        Err(_) => false,
+    }
 }
 
 /// Whether one write has at most 262144 entries.
 fn is_write_limited(alloc: Global) -> bool {
-    repeated(alloc, b"write 1", b" 0=-", 262145).is_ok_and(|file| has(alloc, &file, Err(1)))
+    match repeated(alloc, b"write 1", b" 0=-", 262145) {
+        Ok(file) => has(alloc, &file, Err(1)),
+        Err(_) => false,
+    }
 }
 
 #[test]
 fn a_file_has_a_limit_of_commands(rt: HostRuntime) {
-    assert!(rt; are_commands_limited(rt.alloc()).is_ok_and(|is_so| is_so));
+    assert!(rt; are_commands_limited(rt.alloc()));
 }
 
 #[test]
 fn a_file_has_a_limit_of_entries(rt: HostRuntime) {
-    assert!(rt; are_entries_limited(rt.alloc()).is_ok_and(|is_so| is_so));
+    assert!(rt; are_entries_limited(rt.alloc()));
     assert!(rt; is_write_limited(rt.alloc()));
 }
 
 /// Whether a reply has this text, behind a byte that was there before.
 fn is_said(alloc: Global, reply: Reply, text: &str) -> bool {
-    let Ok(mut out) = [b'>'].to_vec(alloc) else {
-        return false;
-    };
-    reply_text(alloc, &reply, &mut out).is_ok() && are_bytes_of(alloc, text, &out)
+    let mut out = Vec::new(alloc);
+    out.push(b'>').is_ok()
+        && reply_text(alloc, &reply, &mut out).is_ok()
+        && are_bytes_of(alloc, text, &out)
 }
 
 /// Whether the replies to reads, writes and transactions are said.

@@ -1,6 +1,6 @@
 ghost use Rattle.std.specs.Prelude.{◌<◌, ◌≤◌};
 
-use crate::samples::{assert_lines, number, word};
+use crate::samples::{LineTest, assert_lines, number_at};
 use lane_scan::{all_equal, first_difference};
 use std::alloc::Global;
 
@@ -67,12 +67,17 @@ const PLACES: &str = "\
     100 128\n\
     127 128";
 
-fn is_found(_: Global, line: &str) -> bool {
-    match (number(word(line, 0)), number(word(line, 1))) {
-        (Some(least), Some(other)) => {
-            least < 129 && other < 129 && finds(least as usize, other as usize)
+/// The lesser of the two places.
+struct Differing;
+
+impl LineTest for Differing {
+    fn is_right(_: Global, line: &str) -> bool {
+        match (number_at(line, 0), number_at(line, 1)) {
+            (Some(least), Some(other)) => {
+                least < 129 && other < 129 && finds(least as usize, other as usize)
+            }
+            _ => false,
         }
-        _ => false,
     }
 }
 
@@ -86,5 +91,5 @@ fn finds_last() -> bool {
 #[test]
 fn the_least_difference_is_found(rt: HostRuntime) {
     assert!(rt; finds_last());
-    assert_lines(&rt, rt.alloc(), PLACES, is_found);
+    assert_lines::<Differing>(&rt, rt.alloc(), PLACES);
 }

@@ -20,6 +20,8 @@ mod flash_picture_tests;
 #[cfg(test)]
 mod host_protocol_tests;
 #[cfg(test)]
+mod image_file_rows;
+#[cfg(test)]
 mod image_file_tests;
 #[cfg(test)]
 mod lane_scan_tests;

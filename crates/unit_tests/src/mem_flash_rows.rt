@@ -4,11 +4,13 @@ ghost use Rattle.std.specs.Prelude.{◌≡◌};
 ghost use Rattle.flash_model.specs.Firing.{no_loads};
 
 use crate::mem_flash_tests::{PAGE, SHAPE, SPARE_AREA};
-use crate::samples::{assert_lines, number, sides, version, word};
+use crate::samples::{
+    LineTest, assert_lines, has_number, has_version, has_word, number_at, sides, word,
+};
 use flash_model::{Arms, Flash, Outcome, Power, Retire, Seen, Wide};
 use mem_flash::MemFlash;
-use std::alloc::{AllocError, Global};
-use tx_types::{Block, Memory, Slot};
+use std::alloc::Global;
+use tx_types::{Block, Slot};
 
 /// Steps on a flash of which two blocks may be retired and whose slots 0, 2 and 3 were programmed. Then for each call
 /// whether it was answered (`+`) or broken (`-`), each slot (`.` blank, `C` complete, `X` damaged), whether power is
@@ -88,19 +90,13 @@ fn arms(flash: &mut MemFlash, step: &str) -> bool
     ensures shape { flash.new.shape ≡ SHAPE }
     ensures loads { flash.new.registers ≡ no_loads SHAPE }
 {
-    if step == "on" {
-        flash.power_on();
-        return true;
-    }
-    let count = number(word(step, 1)).unwrap_or(0);
-    if count == 0 {
-        return false;
-    }
+    let count = number_at(step, 1).unwrap_or(0);
     let outcome = outcome(word(step, 2));
     match word(step, 0) {
-        "cut" => flash.arm_cut(count, outcome),
-        "fault" => flash.arm_fault(count, outcome),
-        "badread" => flash.arm_bad_read(count),
+        "on" => flash.power_on(),
+        "cut" if count > 0 => flash.arm_cut(count, outcome),
+        "fault" if count > 0 => flash.arm_fault(count, outcome),
+        "badread" if count > 0 => flash.arm_bad_read(count),
         _ => return false,
     }
     true
@@ -205,7 +201,7 @@ fn call(flash: &mut MemFlash, step: &str) -> Option<bool>
     ensures shape { flash.new.shape ≡ SHAPE }
     ensures loads { flash.new.registers ≡ no_loads SHAPE }
 {
-    let at = number(word(step, 1)).unwrap_or(u32::MAX);
+    let at = number_at(step, 1).unwrap_or(u32::MAX);
     match word(step, 0) {
         "program" => program(flash, at),
         "erase" => clear(flash, false, at),
@@ -236,17 +232,20 @@ fn told(flash: &mut MemFlash, step: &str) -> &'static str
     }
 }
 
-/// What is told of all steps of a text.
-fn answers(alloc: Global, flash: &mut MemFlash, steps: &str) -> Result<String, AllocError>
+/// Whether this is told of the steps of a text, with nothing behind it.
+fn are_told(flash: &mut MemFlash, steps: &str, want: &[u8]) -> bool
     requires shape { flash.old.shape ≡ SHAPE }
     requires loads { flash.old.registers ≡ no_loads SHAPE }
     ensures { flash.new.shape ≡ SHAPE }
 {
-    let mut all = String::new(alloc);
+    let mut rest = want;
     for step in steps.split(", ") {
-        all.push_str(told(flash, step))?;
+        match rest.strip_prefix(told(flash, step).as_bytes()) {
+            Some(behind) => rest = behind,
+            None => return false,
+        }
     }
-    Ok(all)
+    rest.is_empty()
 }
 
 /// The sign of how a slot reads, and the byte that such a slot begins with.
@@ -262,51 +261,72 @@ fn sign(seen: Seen) -> (u8, u8) {
 fn are_seen(flash: &MemFlash, signs: &[u8]) -> bool
     requires { flash.now.shape ≡ SHAPE }
 {
+    if signs.len() != 8 {
+        return false;
+    }
     for at in 0..8 {
         let (sign, first) = sign(flash.seen(Slot(at)));
-        if signs.get(at as usize) != Some(&sign) || flash.cell(Slot(at)).first() != Some(&first) {
+        if signs[at as usize] != sign || !flash.cell(Slot(at)).starts_with(&[first]) {
             return false;
         }
     }
-    signs.len() == 8
+    true
+}
+
+/// The word for whether power is on.
+fn power(flash: &MemFlash) -> &'static str {
+    if flash.live() { "on" } else { "off" }
 }
 
 /// Whether the counts of a flash are those of the text.
 fn counts(flash: &MemFlash, want: &str) -> bool {
-    word(want, 2) == (if flash.live() { "on" } else { "off" })
-        && version(word(want, 3)) == Some(flash.programs())
-        && version(word(want, 4)) == Some(flash.erases())
-        && version(word(want, 5)) == Some(flash.reads())
-        && version(word(want, 6)) == Some(flash.faults())
-        && number(word(want, 7)) == Some(flash.retired())
+    has_word(want, 2, power(flash))
+        && has_version(want, 3, flash.programs())
+        && has_version(want, 4, flash.erases())
+        && has_version(want, 5, flash.reads())
+        && has_version(want, 6, flash.faults())
+        && has_number(want, 7, flash.retired())
+}
+
+/// Whether three slots of a new flash are programmed.
+fn is_ready(flash: &mut MemFlash) -> bool
+    requires { flash.old.shape ≡ SHAPE }
+    ensures shape { flash.new.shape ≡ SHAPE }
+    ensures loads { flash.new.registers ≡ flash.old.registers }
+{
+    program(flash, 0) == Some(true)
+        && program(flash, 2) == Some(true)
+        && program(flash, 3) == Some(true)
 }
 
 /// Whether the steps come to what the text says, on a flash with three slots that are programmed before.
-fn comes_to(alloc: Global, flash: &mut MemFlash, steps: &str, want: &str) -> bool
+fn comes_to(flash: &mut MemFlash, steps: &str, want: &str) -> bool
     requires shape { flash.old.shape ≡ SHAPE }
     requires loads { flash.old.registers ≡ no_loads SHAPE }
 {
-    let is_ready = program(flash, 0) == Some(true)
-        && program(flash, 2) == Some(true)
-        && program(flash, 3) == Some(true);
-    let is_told = match answers(alloc, flash, steps) {
-        Ok(answers) => answers.as_str() == word(want, 0),
-        Err(_) => false,
-    };
-    is_ready && is_told && are_seen(flash, word(want, 1).as_bytes()) && counts(flash, want)
+    is_ready(flash)
+        && are_told(flash, steps, word(want, 0).as_bytes())
+        && are_seen(flash, word(want, 1).as_bytes())
+        && counts(flash, want)
 }
 
-/// Whether a row is right on a new flash.
-fn is_row(alloc: Global, row: &str) -> Result<bool, Memory> {
-    let (steps, want) = sides(row);
-    let mut flash = MemFlash::new(alloc, SHAPE)?;
-    flash.set_extras(2, 0);
-    Ok(comes_to(alloc, &mut flash, steps, want))
+/// What steps on a new flash come to, of which two blocks may be retired.
+struct Steps;
+
+impl LineTest for Steps {
+    fn is_right(alloc: Global, line: &str) -> bool {
+        let (steps, want) = sides(line);
+        match MemFlash::new(alloc, SHAPE) {
+            Ok(mut flash) => {
+                flash.set_extras(2, 0);
+                comes_to(&mut flash, steps, want)
+            }
+            Err(_) => false,
+        }
+    }
 }
 
 #[test]
 fn calls_break_where_an_arm_comes_due(rt: HostRuntime) {
-    assert_lines(&rt, rt.alloc(), ROWS, |alloc: Global, row: &str| {
-        is_row(alloc, row).unwrap_or(false)
-    });
+    assert_lines::<Steps>(&rt, rt.alloc(), ROWS);
 }

@@ -1,8 +1,9 @@
 //! Which pages a cache holds.
 ghost use Rattle.std.specs.Prelude.{◌≡◌};
 
-use crate::samples::{link, number};
+use crate::samples::{link, word};
 use page_cache::PageCache;
+use std::alloc::Global;
 use tx_types::Link;
 
 /// Whether the pages below this one are kept at version 1, the bytes of each its number.
@@ -44,41 +45,28 @@ fn is_missed(cache: &mut PageCache, at: Link) -> bool
     !cache.find(at.page, at.version, &mut into) && into == [0xee; 4]
 }
 
-/// The byte of a text.
-fn byte_of(text: &str) -> Option<u8> {
-    u8::try_from(number(text)?).ok()
+/// The byte at a place of a text, 0 where there is none.
+fn byte_at(text: &str, at: usize) -> u8 {
+    word(text, at).parse::<u8>().unwrap_or(0)
 }
 
-/// Whether a step is done that names no page: `below N` keeps the pages below N, and `clear` none.
-fn is_general_step(cache: &mut PageCache, verb: &str, pages: &str) -> bool
-    requires { cache.old.page_bytes ≡ 4 }
-    ensures { cache.new.page_bytes ≡ 4 }
-{
-    match byte_of(pages) {
-        Some(pages) => verb == "below" && are_kept(cache, pages),
-        None => {
-            cache.clear();
-            verb == "clear"
-        }
-    }
-}
-
-/// Whether the step of a line is done: `keep`, `find` or `miss` with a page, its version and each of its bytes, or one
-/// that names no page.
+/// Whether the step of a line is done: `keep`, `find` or `miss` with a page, its version and each of its bytes,
+/// `below N`, which keeps the pages below N, or `clear`.
 fn is_done(cache: &mut PageCache, line: &str) -> bool
     requires { cache.old.page_bytes ≡ 4 }
     ensures { cache.new.page_bytes ≡ 4 }
 {
-    let (verb, rest) = line.split_once(' ').unwrap_or((line, ""));
-    let (page, byte) = rest.split_once(' ').unwrap_or((rest, ""));
-    if !page.contains('.') {
-        return is_general_step(cache, verb, page);
-    }
-    match (link(page), byte_of(byte)) {
-        (Some(at), Some(byte)) if verb == "keep" => is_kept(cache, at, byte),
-        (Some(at), Some(byte)) => verb == "find" && is_found(cache, at, byte),
-        (Some(at), None) => verb == "miss" && is_missed(cache, at),
-        (None, _) => false,
+    let byte = byte_at(line, 2);
+    match (word(line, 0), link(word(line, 1))) {
+        ("keep", Some(at)) => is_kept(cache, at, byte),
+        ("find", Some(at)) => is_found(cache, at, byte),
+        ("miss", Some(at)) => is_missed(cache, at),
+        ("below", _) => are_kept(cache, byte_at(line, 1)),
+        ("clear", _) => {
+            cache.clear();
+            true
+        }
+        _ => false,
     }
 }
 
@@ -137,10 +125,15 @@ fn are_done(cache: &mut PageCache, steps: &str) -> bool
     true
 }
 
+/// Whether the steps of both texts are done by a new cache.
+fn is_held(alloc: Global) -> bool {
+    match PageCache::new(alloc, 4) {
+        Ok(mut cache) => are_done(&mut cache, NAMES) && are_done(&mut cache, ORDER),
+        Err(_) => false,
+    }
+}
+
 #[test]
 fn the_pages_that_were_used_last_are_held(rt: HostRuntime) {
-    let made = PageCache::new(rt.alloc(), 4);
-    assert!(rt;
-        made.is_ok_and(|mut cache| are_done(&mut cache, NAMES) && are_done(&mut cache, ORDER))
-    );
+    assert!(rt; is_held(rt.alloc()));
 }

@@ -1,5 +1,5 @@
 //! Scripts of keys, and the buckets of keys.
-use crate::samples::number;
+use crate::samples::{LineTest, assert_lines, halves, is_version};
 use crate::texts::{bytes_of, names_bad_line};
 use page_keys::{KeyTextError, bucket, parse_keys};
 use std::alloc::Global;
@@ -17,16 +17,23 @@ fn tells(alloc: Global, text: &str, script: &[u8]) -> bool {
         return false;
     }
     match parse_keys(alloc, script) {
-        Ok(list) => number(text).is_some_and(|count| count as usize == list.len()),
+        Ok(list) => is_version(text, list.len() as u64),
         Err(KeyTextError::Line(line)) => names_bad_line(text, line),
         Err(KeyTextError::Memory) => false,
     }
 }
 
-/// Whether the line has a script, and how many commands it has or its first bad line.
-fn is_read(alloc: Global, line: &str) -> bool {
-    let (script, want) = line.split_once(" => ").unwrap_or((line, ""));
-    bytes_of(alloc, script).is_ok_and(|bytes| tells(alloc, want, &bytes))
+/// How many commands a script has, or its first bad line.
+struct Scripts;
+
+impl LineTest for Scripts {
+    fn is_right(alloc: Global, line: &str) -> bool {
+        let (script, want) = halves(line, " => ");
+        match bytes_of(alloc, script) {
+            Ok(bytes) => tells(alloc, want, &bytes),
+            Err(_) => false,
+        }
+    }
 }
 
 const SCRIPTS: &str = "\
@@ -49,7 +56,5 @@ fault 1 all => bad line 1";
 
 #[test]
 fn scripts_are_read(rt: HostRuntime) {
-    for line in SCRIPTS.split('\n') {
-        assert!(rt; is_read(rt.alloc(), line), "{line}");
-    }
+    assert_lines::<Scripts>(&rt, rt.alloc(), SCRIPTS);
 }

@@ -1,6 +1,8 @@
 ghost use Rattle.page_record.specs.Spelling.{CanBeSpelled};
 
-use crate::samples::{assert_lines, change, rec, sides, word};
+use crate::samples::{
+    LineTest, assert_lines, change, halves, has_word, protocol_of, rec, sides, word,
+};
 use page_record::{SpareError, read_spare, write_spare};
 use std::alloc::Global;
 use tx_types::Protocol::{Bpcc, Scc};
@@ -182,16 +184,12 @@ const READ: &str = "\
 
 /// The spare area of a name.
 fn area(name: &str) -> [u8; 64] {
-    if name == "scc" {
-        return SCC;
+    match name {
+        "scc" => SCC,
+        "bpcc" => BPCC,
+        "wide" => WIDE,
+        _ => DISCARD,
     }
-    if name == "bpcc" {
-        return BPCC;
-    }
-    if name == "wide" {
-        return WIDE;
-    }
-    DISCARD
 }
 
 /// The name of a rule.
@@ -210,11 +208,11 @@ fn name(rule: SpareError) -> &'static str {
 
 /// Whether the text is a record, with `discard` behind it where it is one.
 fn is_record(text: &str, read: Rec) -> bool {
-    let Some(rec) = rec(word(text, 0)) else {
-        return false;
-    };
-    let discard = word(text, 1) == "discard";
-    read == Rec { discard, ..rec }
+    let discard = has_word(text, 1, "discard");
+    match rec(word(text, 0)) {
+        Some(rec) => read == Rec { discard, ..rec },
+        None => false,
+    }
 }
 
 /// Whether this is the record of a text, or the rule that it names.
@@ -225,23 +223,27 @@ fn is_answer(read: Result<Rec, SpareError>, want: &str) -> bool {
     }
 }
 
-/// Whether the area of a line is read as its record, or breaks its rule.
-fn is_read(_: Global, line: &str) -> bool {
-    let (left, want) = sides(line);
-    let mut area = area(word(left, 0));
-    let protocol = if word(left, 1) == "scc" { Scc } else { Bpcc };
-    let changes = left.splitn(3, ' ').nth(2).unwrap_or("");
-    change(&mut area, changes) && is_answer(read_spare(&area, protocol), want)
+/// The record that is read of the area of a line, or the rule that it breaks.
+struct Areas;
+
+impl LineTest for Areas {
+    fn is_right(_: Global, line: &str) -> bool {
+        let (left, want) = sides(line);
+        let (name, rest) = halves(left, " ");
+        let (protocol, changes) = halves(rest, " ");
+        let mut area = area(name);
+        change(&mut area, changes) && is_answer(read_spare(&area, protocol_of(protocol)), want)
+    }
 }
 
 #[test]
 fn names_the_first_broken_rule(rt: HostRuntime) {
-    assert_lines(&rt, rt.alloc(), BROKEN, is_read);
+    assert_lines::<Areas>(&rt, rt.alloc(), BROKEN);
 }
 
 #[test]
 fn reads_the_record(rt: HostRuntime) {
-    assert_lines(&rt, rt.alloc(), READ, is_read);
+    assert_lines::<Areas>(&rt, rt.alloc(), READ);
 }
 
 /// Whether a rule is printed as its name.

@@ -2,7 +2,7 @@ ghost use Rattle.std.specs.Prelude.{◌≡◌, ℕ, ◌<◌, ◌≤◌, length, 
 ghost use Rattle.std.specs.List.{Contains};
 ghost use Rattle.plain_tables.specs.ChainLists.{IsListed, list_of};
 
-use crate::samples::{assert_lines, numbers, sides, three};
+use crate::samples::{LineTest, assert_lines, has_number, sides, three, word_count};
 use plain_tables::{Chains, Divisor, Peaks};
 use std::alloc::{AllocError, Global};
 
@@ -25,77 +25,102 @@ fn listed(alloc: Global, chains: &Chains, key: u32) -> Result<Vec<u32>, AllocErr
     Ok(list)
 }
 
+/// Whether a place is in the list of a key.
+fn has(alloc: Global, chains: &Chains, key: u32, at: u32) -> Result<bool, AllocError>
+    requires { key < length chains.now.lists }
+    ensures there { IfOk result (λ has. IsTrue has → Contains (list_of chains.now key) at) }
+    ensures free { IfOk result (λ has. Contains (list_of chains.now key) at → IsTrue has) }
+{
+    let list = listed(alloc, chains, key)?;
+    Ok(list.contains(&at))
+}
+
 /// Whether a place is in no list.
 fn is_free(alloc: Global, chains: &Chains, at: u32) -> Result<bool, AllocError>
     requires { length chains.now.lists ≡ KEYS }
     ensures { IfOk result (λ free. IsTrue free → IsListed chains.now at → ⊥) }
 {
     for key in 0..KEYS {
-        if listed(alloc, chains, key)?.contains(&at) {
+        if has(alloc, chains, key, at)? {
             return Ok(false);
         }
     }
     Ok(true)
 }
 
+/// Where a number stands in a list; the length of the list where it is not there.
+fn place_of(list: &[u32], number: u32) -> usize
+    ensures { result ≤ length list.now }
+{
+    for at in 0..list.len() {
+        if list[at] == number {
+            return at;
+        }
+    }
+    list.len()
+}
+
+/// Takes a number out of a list.
+fn take_out(list: &mut Vec<u32>, number: u32) {
+    let at = place_of(list, number);
+    if at < list.len() {
+        list.remove(at);
+    }
+}
+
+/// Puts a number behind another one, or in front where that is not there. Tells whether there is memory.
+fn put_behind(list: &mut Vec<u32>, prev: u32, number: u32) -> bool {
+    let at = place_of(list, prev);
+    let behind = if at < list.len() { at + 1 } else { 0 };
+    list.insert(behind, number).is_ok()
+}
+
 /// Takes `at` out of the list of a key where it is there. Else, where it is in no list, puts it behind
-/// `prev`, or in front where `prev` is not there. The lists beside do the same.
-fn step(
-    alloc: Global,
-    chains: &mut Chains,
-    lists: &mut Vec<Vec<u32>>,
-    key: u32,
-    prev: u32,
-    at: u32,
-) -> Result<(), AllocError>
+/// `prev`, or in front where `prev` is not there.
+fn step(alloc: Global, chains: &mut Chains, key: u32, prev: u32, at: u32) -> Result<(), AllocError>
     requires keys { length chains.old.lists ≡ KEYS }
     requires places { chains.old.places ≡ PLACES }
-    requires lists { vec_len lists.old ≡ KEYS }
     requires key { key < KEYS }
     requires place { at < PLACES }
     ensures keys { length chains.new.lists ≡ KEYS }
     ensures places { chains.new.places ≡ PLACES }
-    ensures lists { vec_len lists.new ≡ KEYS }
 {
-    let before = listed(alloc, chains, key)?;
-    let list = &mut lists[key as usize];
-    if before.contains(&at) {
+    if has(alloc, chains, key, at)? {
         chains.remove(key, at);
-        list.retain(|x| *x != at);
-        return Ok(());
-    }
-    if !is_free(alloc, chains, at)? {
-        return Ok(());
-    }
-    if before.contains(&prev) {
-        chains.insert_after(key, prev, at);
-        let index = list.iter().take_while(|x| **x != prev).count();
-        list.insert((index + 1).min(list.len()), at)?;
-    } else {
-        chains.push(key, at);
-        list.insert(0, at)?;
+    } else if is_free(alloc, chains, at)? {
+        if has(alloc, chains, key, prev)? {
+            chains.insert_after(key, prev, at);
+        } else {
+            chains.push(key, at);
+        }
     }
     Ok(())
 }
 
-/// Whether the lists are those beside.
-fn are_same(alloc: Global, chains: &Chains, lists: &[Vec<u32>]) -> Result<bool, AllocError>
-    requires chains { length chains.now.lists ≡ KEYS }
-    requires lists { length lists.now ≡ KEYS }
-{
-    for (key, list) in lists.iter().enumerate() {
-        if listed(alloc, chains, key as u32)? != *list {
-            return Ok(false);
+/// Whether a number is in no list.
+fn is_in_none(lists: &[Vec<u32>], number: u32) -> bool {
+    for list in lists {
+        if list.contains(&number) {
+            return false;
         }
     }
-    Ok(true)
+    true
 }
 
-/// Lists with nothing in them.
-fn no_lists(alloc: Global) -> Result<Vec<Vec<u32>>, AllocError>
-    ensures { IfOk result (λ v. vec_len v ≡ KEYS) }
+/// Does the same with plain lists. Tells whether there is memory.
+fn plain_step(lists: &mut Vec<Vec<u32>>, key: u32, prev: u32, at: u32) -> bool
+    requires lists { vec_len lists.old ≡ KEYS }
+    requires key { key < KEYS }
+    ensures { vec_len lists.new ≡ KEYS }
 {
-    Ok(vec![in alloc; vec![in alloc; 0; 0]?; KEYS as usize]?)
+    let is_free = is_in_none(lists, at);
+    let list = &mut lists[key as usize];
+    if list.contains(&at) {
+        take_out(list, at);
+    } else if is_free {
+        return put_behind(list, prev, at);
+    }
+    true
 }
 
 /// The key, the place that is looked for, the place that moves, and the list of the key after that.
@@ -113,50 +138,125 @@ const STEPS: &str = "\
     1 7 3 => 3\n\
     2 7 0 => 7 0";
 
-/// Takes the step of a line. Tells whether the list of its key is as the line says.
-fn is_linked(alloc: Global, chains: &mut Chains, lists: &mut Vec<Vec<u32>>, line: &str) -> bool
-    requires keys { length chains.old.lists ≡ KEYS }
-    requires places { chains.old.places ≡ PLACES }
-    requires lists { vec_len lists.old ≡ KEYS }
-    ensures keys { length chains.new.lists ≡ KEYS }
-    ensures places { chains.new.places ≡ PLACES }
-    ensures lists { vec_len lists.new ≡ KEYS }
-{
-    let (left, want) = sides(line);
-    let Some((key, prev, at)) = three(left) else {
-        return false;
-    };
-    key < KEYS
-        && at < PLACES
-        && step(alloc, chains, lists, key, prev, at).is_ok()
-        && is_list(alloc, chains, key, want)
+/// Whether these are the numbers of a text, which is `-` where there are none.
+fn are_numbers(list: &[u32], text: &str) -> bool {
+    if list.is_empty() {
+        return text == "-";
+    }
+    for at in 0..list.len() {
+        if !has_number(text, at, list[at]) {
+            return false;
+        }
+    }
+    word_count(text) == list.len()
 }
 
-/// Whether the list of a key is this one.
-fn is_list(alloc: Global, chains: &Chains, key: u32, want: &str) -> bool
+/// Whether the list of a key has the numbers of a text.
+fn has_numbers(alloc: Global, chains: &Chains, key: u32, text: &str) -> bool
     requires { key < length chains.now.lists }
 {
     match listed(alloc, chains, key) {
-        Ok(list) => numbers(alloc, want) == Some(list),
+        Ok(list) => are_numbers(&list, text),
         Err(_) => false,
     }
 }
 
+/// Takes the step of a line. Tells whether the list of its key is as the line says.
+fn is_linked(alloc: Global, chains: &mut Chains, line: &str) -> bool
+    requires keys { length chains.old.lists ≡ KEYS }
+    requires places { chains.old.places ≡ PLACES }
+    ensures keys { length chains.new.lists ≡ KEYS }
+    ensures places { chains.new.places ≡ PLACES }
+{
+    let (left, want) = sides(line);
+    match three(left) {
+        Some((key, prev, at)) => {
+            key < KEYS
+                && at < PLACES
+                && step(alloc, chains, key, prev, at).is_ok()
+                && has_numbers(alloc, chains, key, want)
+        }
+        None => false,
+    }
+}
+
 /// Whether each step of the lines leaves the list that it should.
-fn are_linked(alloc: Global) -> Result<bool, AllocError> {
-    let mut chains = Chains::new(alloc, KEYS, PLACES)?;
-    let mut lists = no_lists(alloc)?;
+fn are_linked(alloc: Global, chains: &mut Chains) -> bool
+    requires keys { length chains.old.lists ≡ KEYS }
+    requires places { chains.old.places ≡ PLACES }
+{
     for line in STEPS.split('\n') {
-        if !is_linked(alloc, &mut chains, &mut lists, line) {
-            return Ok(false);
+        if !is_linked(alloc, chains, line) {
+            return false;
         }
     }
-    Ok(true)
+    true
+}
+
+/// Whether they do so on new chains.
+fn are_new_linked(alloc: Global) -> bool {
+    match Chains::new(alloc, KEYS, PLACES) {
+        Ok(mut chains) => are_linked(alloc, &mut chains),
+        Err(_) => false,
+    }
 }
 
 #[test]
 fn lists_are_linked_anew(rt: HostRuntime) {
-    assert!(rt; are_linked(rt.alloc()).unwrap_or(false));
+    assert!(rt; are_new_linked(rt.alloc()));
+}
+
+/// Lists with nothing in them.
+fn no_lists(alloc: Global) -> Result<Vec<Vec<u32>>, AllocError>
+    ensures { IfOk result (λ v. vec_len v ≡ KEYS) }
+{
+    Ok(vec![in alloc; vec![in alloc; 0; 0]?; KEYS as usize]?)
+}
+
+/// Whether the list of a key is this one.
+fn is_list(alloc: Global, chains: &Chains, key: u32, want: &[u32]) -> bool
+    requires { key < length chains.now.lists }
+{
+    match listed(alloc, chains, key) {
+        Ok(list) => list.as_slice() == want,
+        Err(_) => false,
+    }
+}
+
+/// Whether the lists of all keys are the plain ones.
+fn are_same(alloc: Global, chains: &Chains, lists: &Vec<Vec<u32>>) -> bool
+    requires chains { length chains.now.lists ≡ KEYS }
+    requires lists { vec_len lists.now ≡ KEYS }
+{
+    for key in 0..KEYS {
+        if !is_list(alloc, chains, key, &lists[key as usize]) {
+            return false;
+        }
+    }
+    true
+}
+
+/// Whether a step leaves chains that are the same as the plain lists.
+fn stay_same(
+    alloc: Global,
+    chains: &mut Chains,
+    lists: &mut Vec<Vec<u32>>,
+    key: u32,
+    prev: u32,
+    at: u32,
+) -> bool
+    requires keys { length chains.old.lists ≡ KEYS }
+    requires places { chains.old.places ≡ PLACES }
+    requires lists { vec_len lists.old ≡ KEYS }
+    requires key { key < KEYS }
+    requires place { at < PLACES }
+    ensures keys { length chains.new.lists ≡ KEYS }
+    ensures places { chains.new.places ≡ PLACES }
+    ensures lists { vec_len lists.new ≡ KEYS }
+{
+    step(alloc, chains, key, prev, at).is_ok()
+        && plain_step(lists, key, prev, at)
+        && are_same(alloc, chains, lists)
 }
 
 /// The next of some numbers that look like random ones.
@@ -164,12 +264,8 @@ fn next(random: u32) -> u32 {
     random.wrapping_mul(1664525).wrapping_add(1013904223)
 }
 
-/// Whether the lists beside stay the same in 2000 steps.
-fn stay_same(
-    alloc: Global,
-    chains: &mut Chains,
-    lists: &mut Vec<Vec<u32>>,
-) -> Result<bool, AllocError>
+/// Whether they stay the same in 2000 steps.
+fn follow_lists(alloc: Global, chains: &mut Chains, lists: &mut Vec<Vec<u32>>) -> bool
     requires keys { length chains.old.lists ≡ KEYS }
     requires places { chains.old.places ≡ PLACES }
     requires lists { vec_len lists.old ≡ KEYS }
@@ -177,28 +273,37 @@ fn stay_same(
     let mut random: u32 = 1;
     for _ in 0..2000 {
         random = next(random);
-        let (key, prev, at) = (
-            (random >> 8) % KEYS,
-            (random >> 16) % PLACES,
-            (random >> 24) % PLACES,
-        );
-        step(alloc, chains, lists, key, prev, at)?;
-        if !are_same(alloc, chains, lists)? {
-            return Ok(false);
+        let key = (random >> 8) % KEYS;
+        let prev = (random >> 16) % PLACES;
+        let at = (random >> 24) % PLACES;
+        if !stay_same(alloc, chains, lists, key, prev, at) {
+            return false;
         }
     }
-    Ok(true)
+    true
 }
 
-fn is_history(alloc: Global) -> Result<bool, AllocError> {
-    let mut chains = Chains::new(alloc, KEYS, PLACES)?;
-    let mut lists = no_lists(alloc)?;
-    stay_same(alloc, &mut chains, &mut lists)
+/// Whether they do so from empty lists on.
+fn follow_new_lists(alloc: Global, chains: &mut Chains) -> bool
+    requires keys { length chains.old.lists ≡ KEYS }
+    requires places { chains.old.places ≡ PLACES }
+{
+    match no_lists(alloc) {
+        Ok(mut lists) => follow_lists(alloc, chains, &mut lists),
+        Err(_) => false,
+    }
+}
+
+fn is_history(alloc: Global) -> bool {
+    match Chains::new(alloc, KEYS, PLACES) {
+        Ok(mut chains) => follow_new_lists(alloc, &mut chains),
+        Err(_) => false,
+    }
 }
 
 #[test]
 fn a_random_history_is_that_of_plain_lists(rt: HostRuntime) {
-    assert!(rt; is_history(rt.alloc()).unwrap_or(false));
+    assert!(rt; is_history(rt.alloc()));
 }
 
 /// How many numbers the test of `Peaks` has: the single cell, two levels of cells, and some of the third.
@@ -208,9 +313,9 @@ const COUNT: usize = 300;
 fn plain_greatest(numbers: &[u32]) -> Option<usize> {
     let mut best = None;
     let mut most = 0;
-    for (at, number) in numbers.iter().enumerate() {
-        if *number > most {
-            most = *number;
+    for at in 0..numbers.len() {
+        if numbers[at] > most {
+            most = numbers[at];
             best = Some(at);
         }
     }
@@ -218,8 +323,12 @@ fn plain_greatest(numbers: &[u32]) -> Option<usize> {
 }
 
 /// The greatest of so many numbers from a place on.
-fn plain_most(numbers: &[u32], from: usize, count: usize) -> Option<u32> {
-    numbers.iter().skip(from).take(count).copied().max()
+fn plain_most(numbers: &[u32], from: usize, count: usize) -> u32 {
+    let mut most = 0;
+    for at in from..from.saturating_add(count).min(numbers.len()) {
+        most = most.max(numbers[at]);
+    }
+    most
 }
 
 /// Sets a number. Tells whether the peaks say of the numbers what plain loops do.
@@ -234,8 +343,8 @@ fn is_peak(peaks: &mut Peaks, numbers: &mut [u32], at: usize, to: u32) -> bool
     let (sixteen, group) = (at / 16, at / 256);
     peaks.get(at) == to
         && peaks.first_greatest() == plain_greatest(numbers)
-        && Some(peaks.greatest_of(sixteen)) == plain_most(numbers, 16 * sixteen, 16)
-        && Some(peaks.greatest_of_256(group)) == plain_most(numbers, 256 * group, 256)
+        && peaks.greatest_of(sixteen) == plain_most(numbers, 16 * sixteen, 16)
+        && peaks.greatest_of_256(group) == plain_most(numbers, 256 * group, 256)
 }
 
 /// Whether the peaks, which are 0, say the same as plain loops in 2000 changes.
@@ -257,18 +366,31 @@ fn follow(peaks: &mut Peaks, numbers: &mut [u32]) -> bool
     true
 }
 
-/// Whether peaks that are made in either way follow.
-fn both_follow(alloc: Global) -> Result<bool, AllocError> {
-    let mut peaks = Peaks::new(alloc, COUNT)?;
-    let mut changing = Peaks::for_changes(alloc, COUNT)?;
-    let mut numbers = vec![in alloc; 0; COUNT]?;
-    let mut others = vec![in alloc; 0; COUNT]?;
-    Ok(follow(&mut peaks, &mut numbers) && follow(&mut changing, &mut others))
+/// Whether peaks, which are 0, follow numbers that are 0.
+fn follow_zeros(alloc: Global, peaks: &mut Peaks) -> bool
+    requires { length peaks.old ≡ COUNT }
+{
+    match vec![in alloc; 0; COUNT] {
+        Ok(mut numbers) => follow(peaks, &mut numbers),
+        Err(_) => false,
+    }
+}
+
+/// Whether peaks that were made follow.
+fn are_followed(alloc: Global, made: Result<Peaks, AllocError>) -> bool
+    requires { IfOk made (λ peaks. length peaks ≡ COUNT) }
+{
+    match made {
+        Ok(mut peaks) => follow_zeros(alloc, &mut peaks),
+        Err(_) => false,
+    }
 }
 
 #[test]
 fn the_first_greatest_number_is_known(rt: HostRuntime) {
-    assert!(rt; both_follow(rt.alloc()).unwrap_or(false));
+    let alloc = rt.alloc();
+    assert!(rt; are_followed(alloc, Peaks::new(alloc, COUNT)));
+    assert!(rt; are_followed(alloc, Peaks::for_changes(alloc, COUNT)));
 }
 
 /// Divisors, numbers below 65536, and how many times the one goes into the other.
@@ -281,14 +403,19 @@ const QUOTIENTS: &str = "\
     65536 65535 0\n\
     65537 65535 0";
 
-fn is_quotient(_: Global, line: &str) -> bool {
-    match three(line) {
-        Some((by, of, want)) => by > 0 && of < 65536 && Divisor::new(by).quotient(of) == want,
-        None => false,
+/// How many times a divisor goes into a number.
+struct Quotients;
+
+impl LineTest for Quotients {
+    fn is_right(_: Global, line: &str) -> bool {
+        match three(line) {
+            Some((by, of, want)) => by > 0 && of < 65536 && Divisor::new(by).quotient(of) == want,
+            None => false,
+        }
     }
 }
 
 #[test]
 fn a_number_is_divided_by_the_reciprocal(rt: HostRuntime) {
-    assert_lines(&rt, rt.alloc(), QUOTIENTS, is_quotient);
+    assert_lines::<Quotients>(&rt, rt.alloc(), QUOTIENTS);
 }

@@ -5,14 +5,15 @@ ghost use Rattle.record_chart.specs.Charts.{Sorts};
 
 use crate::record_list_tests::COUNTS;
 use crate::samples::{
-    assert_lists, is_scanned, link, names_breach, number, rec, records, version, word,
+    ListTest, assert_lists, has_number, has_version, has_word, is_scanned, link, names_breach,
+    protocol_of, rec, word, word_count,
 };
 use crate::verdicts::tells;
 use record_chart::{Chart, Orbit, Orbits, Standing, counts, name_orbits};
 use record_list::{Found, first_contradiction};
 use std::alloc::{AllocError, Global};
-use tx_types::Link;
 use tx_types::Protocol::{Bpcc, Scc};
+use tx_types::{Link, Protocol};
 
 /// The orbits of the nodes of a graph: 0 leads to 1, 1 to 2 and back to 1; 3 to 4, which is the end; 5 to itself; 6
 /// to 3.
@@ -20,14 +21,10 @@ const ORBITS: &str = "aside, round 2, round 2, ends 1 4, ends 0 4, round 1, ends
 
 fn tells_orbit(text: &str, orbit: Orbit) -> bool {
     match orbit {
-        Orbit::Aside => text == "aside",
-        Orbit::Round { length } => {
-            word(text, 0) == "round" && number(word(text, 1)) == Some(length)
-        }
+        Orbit::Aside => has_word(text, 0, "aside"),
+        Orbit::Round { length } => has_word(text, 0, "round") && has_number(text, 1, length),
         Orbit::Ends { after, at } => {
-            word(text, 0) == "ends"
-                && number(word(text, 1)) == Some(after)
-                && number(word(text, 2)) == Some(at)
+            has_word(text, 0, "ends") && has_number(text, 1, after) && has_number(text, 2, at)
         }
     }
 }
@@ -44,15 +41,17 @@ fn are_orbits(orbits: &Orbits) -> bool
     true
 }
 
-fn has_orbits(alloc: Global) -> Result<bool, AllocError> {
+fn has_orbits(alloc: Global) -> bool {
     let graph = [Some(1), Some(2), Some(1), Some(4), None, Some(5), Some(3)];
-    let orbits = Orbits::new(alloc, &graph)?;
-    Ok(are_orbits(&orbits))
+    match Orbits::new(alloc, &graph) {
+        Ok(orbits) => are_orbits(&orbits),
+        Err(_) => false,
+    }
 }
 
 #[test]
 fn orbits_of_a_graph(rt: HostRuntime) {
-    assert!(rt; has_orbits(rt.alloc()).unwrap_or(false));
+    assert!(rt; has_orbits(rt.alloc()));
 }
 
 /// Lists, and the slots of their records in order of their names: one record in two slots, three versions of a page,
@@ -62,31 +61,29 @@ const ORDERS: &str = "\
     0:2.3>2.3 1:4000000000.1>4000000000.1 2:2.1>2.1 3:1.5>1.5 4:2.3>2.3 5:2.2>2.2 => 3 2 5 0 4 1";
 
 fn are_slots(list: &[Found], want: &str) -> bool {
-    for (at, found) in list.iter().enumerate() {
-        if number(word(want, at)) != Some(found.slot.0) {
+    for at in 0..list.len() {
+        if !has_number(want, at, list[at].slot.0) {
             return false;
         }
     }
-    want.split(' ').count() == list.len()
+    word_count(want) == list.len()
 }
 
-#[test]
-fn records_out_of_order(rt: HostRuntime) {
-    let alloc = rt.alloc();
-    assert_lists(&rt, alloc, ORDERS, |list: &[Found], want: &str| {
+/// The order of the records of a chart.
+struct Ordered;
+
+impl ListTest for Ordered {
+    fn is_right(alloc: Global, list: &[Found], want: &str) -> bool {
         match Chart::of(alloc, list) {
             Ok(chart) => are_slots(chart.records(), want),
             Err(_) => false,
         }
-    });
+    }
 }
 
-/// The chart of a list.
-fn chart(alloc: Global, list: &str) -> Option<Chart> {
-    match records(alloc, list) {
-        Some(list) => Chart::of(alloc, &list).ok(),
-        None => None,
-    }
+#[test]
+fn records_out_of_order(rt: HostRuntime) {
+    assert_lists::<Ordered>(&rt, rt.alloc(), ORDERS);
 }
 
 /// Pages 0 and 1 stand in one cycle; page 2 links to an aborted version of page 1, which is straddled.
@@ -96,10 +93,17 @@ fn name(page: u32, version: u64) -> Link {
     Link { page, version }
 }
 
+/// Whether the first record of a list stands in this slot, and is that of the text.
+fn begins(list: &[Found], slot: u32, text: &str) -> bool {
+    match (list.first(), rec(text)) {
+        (Some(found), Some(rec)) => found.slot.0 == slot && found.rec == rec,
+        _ => false,
+    }
+}
+
 /// Whether the records of the chart of `FEW` are found.
 fn finds(chart: &Chart) -> bool {
-    chart.records().first().is_some_and(|found| found.slot.0 == 2
-        && Some(found.rec) == rec("0.2>1.4"))
+    begins(chart.records(), 2, "0.2>1.4")
         && chart.newest(1) == 4
         && chart.next_older(1, 4) == 1
         && chart.find(name(1, 4)) == Some(2)
@@ -129,13 +133,34 @@ fn straddles(chart: &Chart) -> bool {
         && chart.straddling_up_to(name(1, 4), 5) == 0
 }
 
+/// A chart whose records are found, with links that lead where they should.
+struct Few;
+
+impl ListTest for Few {
+    fn is_right(alloc: Global, list: &[Found], _: &str) -> bool {
+        match Chart::of(alloc, list) {
+            Ok(chart) => finds(&chart) && leads(&chart),
+            Err(_) => false,
+        }
+    }
+}
+
+/// A chart whose records straddle.
+struct Straddlers;
+
+impl ListTest for Straddlers {
+    fn is_right(alloc: Global, list: &[Found], _: &str) -> bool {
+        match Chart::of(alloc, list) {
+            Ok(chart) => straddles(&chart),
+            Err(_) => false,
+        }
+    }
+}
+
 #[test]
 fn chart_of_a_few_records(rt: HostRuntime) {
-    let few = chart(rt.alloc(), FEW).expect(&rt, "memory");
-    assert!(rt; finds(&few));
-    assert!(rt; leads(&few));
-    let straddlers = chart(rt.alloc(), STRADDLERS).expect(&rt, "memory");
-    assert!(rt; straddles(&straddlers));
+    assert_lists::<Few>(&rt, rt.alloc(), FEW);
+    assert_lists::<Straddlers>(&rt, rt.alloc(), STRADDLERS);
 }
 
 /// Lists under a protocol, the current versions of the pages 0, 1 and 2, and a name with the version that is
@@ -147,65 +172,74 @@ const STANDINGS: &str = "\
     -- two records of page 0 are loose, of which one goes further back than the current one";
 
 fn stands(standing: &Standing, want: &str) -> bool {
-    let Some(name) = link(word(want, 4)) else {
-        return false;
-    };
-    version(word(want, 1)) == Some(standing.current(0))
-        && version(word(want, 2)) == Some(standing.current(1))
-        && version(word(want, 3)) == Some(standing.current(2))
-        && version(word(want, 5)) == Some(standing.responsible(name))
+    match link(word(want, 4)) {
+        Some(name) => {
+            has_version(want, 1, standing.current(0))
+                && has_version(want, 2, standing.current(1))
+                && has_version(want, 3, standing.current(2))
+                && has_version(want, 5, standing.responsible(name))
+        }
+        None => false,
+    }
 }
 
-/// Whether a list of five pages stands as the text says.
-fn is_standing(alloc: Global, list: &[Found], want: &str) -> Result<bool, AllocError> {
-    let protocol = if word(want, 0) == "scc" { Scc } else { Bpcc };
-    let chart = Chart::of(alloc, list)?;
-    let standing = Standing::new(alloc, chart, protocol, 5)?;
-    Ok(stands(&standing, want))
+/// The standing of the records of a list of five pages.
+fn standing(alloc: Global, list: &[Found], protocol: Protocol) -> Result<Standing, AllocError> {
+    Standing::new(alloc, Chart::of(alloc, list)?, protocol, 5)
+}
+
+/// How a list of five pages stands.
+struct Standings;
+
+impl ListTest for Standings {
+    fn is_right(alloc: Global, list: &[Found], want: &str) -> bool {
+        match standing(alloc, list, protocol_of(word(want, 0))) {
+            Ok(standing) => stands(&standing, want),
+            Err(_) => false,
+        }
+    }
 }
 
 #[test]
 fn standings_of_a_few_records(rt: HostRuntime) {
-    let alloc = rt.alloc();
-    assert_lists(&rt, alloc, STANDINGS, |list: &[Found], want: &str| {
-        is_standing(alloc, list, want).unwrap_or(false)
-    });
+    assert_lists::<Standings>(&rt, rt.alloc(), STANDINGS);
 }
 
 /// Whether the orbits of the links name this breach of law 9.
-fn orbits_breach(
-    alloc: Global,
-    chart: &Chart,
-    list: &[Found],
-    breach: &str,
-) -> Result<bool, AllocError>
+fn orbits_breach(alloc: Global, chart: &Chart, list: &[Found], breach: &str) -> bool
     requires scanned { IsScanned list.now }
     requires sorts { Sorts list.now chart.now }
     requires copies { All (CopiesAgree list.now) list.now }
 {
-    let orbits = name_orbits(alloc, chart)?;
-    Ok(names_breach(breach, counts(chart, &orbits, list)))
+    match name_orbits(alloc, chart) {
+        Ok(orbits) => names_breach(breach, counts(chart, &orbits, list)),
+        Err(_) => false,
+    }
 }
 
 /// The same of the chart of a list.
-fn charts_breach(alloc: Global, list: &[Found], breach: &str) -> Result<bool, AllocError>
+fn charts_breach(alloc: Global, list: &[Found], breach: &str) -> bool
     requires scanned { IsScanned list.now }
     requires copies { All (CopiesAgree list.now) list.now }
 {
-    let chart = Chart::of(alloc, list)?;
-    orbits_breach(alloc, &chart, list, breach)
+    match Chart::of(alloc, list) {
+        Ok(chart) => orbits_breach(alloc, &chart, list, breach),
+        Err(_) => false,
+    }
 }
 
-fn breaks_counts(alloc: Global, list: &[Found], breach: &str) -> bool {
-    is_scanned(list)
-        && first_contradiction(list).is_none()
-        && charts_breach(alloc, list, breach).unwrap_or(false)
+/// The slot that law 9 names.
+struct Counted;
+
+impl ListTest for Counted {
+    fn is_right(alloc: Global, list: &[Found], breach: &str) -> bool {
+        is_scanned(list)
+            && first_contradiction(list).is_none()
+            && charts_breach(alloc, list, breach)
+    }
 }
 
 #[test]
 fn counts_of_cycles(rt: HostRuntime) {
-    let alloc = rt.alloc();
-    assert_lists(&rt, alloc, COUNTS, |list: &[Found], breach: &str| {
-        breaks_counts(alloc, list, breach)
-    });
+    assert_lists::<Counted>(&rt, rt.alloc(), COUNTS);
 }

@@ -1,10 +1,14 @@
-use crate::samples::{assert_lists, is_scanned, link, names_breach, number, says, version, word};
+use crate::samples::{
+    ListTest, assert_lists, has_version, has_word, is_scanned, link, names_breach, number_at,
+    protocol_of, says, word,
+};
 use crate::verdicts::tells;
 use record_list::{
     Found, counts, current_version, first_early_link, first_without_current, mention, newest,
     next_older, present, reason,
 };
-use tx_types::Protocol::{Bpcc, Scc};
+use std::alloc::Global;
+use tx_types::Protocol;
 
 /// Lists, and the slot that law 9 names in each.
 pub const COUNTS: &str = "\
@@ -30,13 +34,18 @@ pub const COUNTS: &str = "\
     0:4.1>4.1#2 1:1.1>2.1#1 2:2.1>9.1#3 => 9:0\n\
     0:0.1>0.1#1 1:3.1>0.1#1 => - -- a record that links into a cycle from outside";
 
-fn breaks_counts(list: &[Found], breach: &str) -> bool {
-    is_scanned(list) && names_breach(breach, counts(list))
+/// The slot that law 9 names.
+struct Counted;
+
+impl ListTest for Counted {
+    fn is_right(_: Global, list: &[Found], breach: &str) -> bool {
+        is_scanned(list) && names_breach(breach, counts(list))
+    }
 }
 
 #[test]
 fn counts_of_cycles(rt: HostRuntime) {
-    assert_lists(&rt, rt.alloc(), COUNTS, breaks_counts);
+    assert_lists::<Counted>(&rt, rt.alloc(), COUNTS);
 }
 
 /// Lists, and of a page the newest version, its greatest mention, and its next version below 4.
@@ -46,13 +55,20 @@ const PAGES: &str = "\
     0:0.1>1.7 1:0.4>0.4 2:0.3>2.1 => 2 0 1 0\n\
     0:0.1>1.7 1:0.4>0.4 2:0.3>2.1 => 3 0 0 0";
 
-fn has_versions(list: &[Found], want: &str) -> bool {
-    let Some(page) = number(word(want, 0)) else {
-        return false;
-    };
-    version(word(want, 1)) == Some(newest(list, page))
-        && version(word(want, 2)) == Some(mention(list, page))
-        && version(word(want, 3)) == Some(next_older(list, page, 4))
+/// The versions of a page.
+struct Versions;
+
+impl ListTest for Versions {
+    fn is_right(_: Global, list: &[Found], want: &str) -> bool {
+        match number_at(want, 0) {
+            Some(page) => {
+                has_version(want, 1, newest(list, page))
+                    && has_version(want, 2, mention(list, page))
+                    && has_version(want, 3, next_older(list, page, 4))
+            }
+            None => false,
+        }
+    }
 }
 
 /// A list, and whether some record has a name.
@@ -60,22 +76,22 @@ const NAMES: &str = "\
     0:0.1>1.7 1:0.4>0.4 2:0.3>2.1 => 0.3 present\n\
     0:0.1>1.7 1:0.4>0.4 2:0.3>2.1 => 1.7 absent";
 
-fn has_name(list: &[Found], want: &str) -> bool {
-    let Some(name) = link(word(want, 0)) else {
-        return false;
-    };
-    word(want, 1)
-        == if present(list, name) {
-            "present"
-        } else {
-            "absent"
+/// Whether a name is present.
+struct Names;
+
+impl ListTest for Names {
+    fn is_right(_: Global, list: &[Found], want: &str) -> bool {
+        match link(word(want, 0)) {
+            Some(name) => present(list, name) == has_word(want, 1, "present"),
+            None => false,
         }
+    }
 }
 
 #[test]
 fn pages_of_a_list(rt: HostRuntime) {
-    assert_lists(&rt, rt.alloc(), PAGES, has_versions);
-    assert_lists(&rt, rt.alloc(), NAMES, has_name);
+    assert_lists::<Versions>(&rt, rt.alloc(), PAGES);
+    assert_lists::<Names>(&rt, rt.alloc(), NAMES);
 }
 
 /// Lists of three pages, and of a page under a protocol the reason of its verdict and its current version. The list has
@@ -85,13 +101,20 @@ const WALKS: &str = "\
     0:0.1>1.1 1:1.2>1.2 2:1.3>1.3/2 => bpcc 1 cycle 3\n\
     0:0.1>1.1 1:1.2>1.2 2:1.3>1.3/2 => scc 0 passed 1";
 
-fn walks(list: &[Found], want: &str) -> bool {
-    let protocol = if word(want, 0) == "scc" { Scc } else { Bpcc };
-    let Some(page) = number(word(want, 1)) else {
-        return false;
-    };
-    tells(word(want, 2), reason(protocol, list, 3, page))
-        && version(word(want, 3)) == Some(current_version(protocol, list, 3, page))
+/// The reason of the verdict on a page, and its current version.
+struct Walks;
+
+impl ListTest for Walks {
+    fn is_right(_: Global, list: &[Found], want: &str) -> bool {
+        let protocol = protocol_of(word(want, 0));
+        match number_at(want, 1) {
+            Some(page) => {
+                tells(word(want, 2), reason(protocol, list, 3, page))
+                    && has_version(want, 3, current_version(protocol, list, 3, page))
+            }
+            None => false,
+        }
+    }
 }
 
 /// Lists under Back Pointer Cyclic Commit, their number of pages, and the first record that has no current version of
@@ -101,16 +124,28 @@ const LAWS: &str = "\
     0:0.1>1.1 1:0.2>2.9/1 2:1.2>1.2 => 20 - 0 -- a current record whose link is straddled\n\
     0:0.1>1.1 1:1.2>1.2 2:1.3>1.3/2 => 3 - -";
 
-fn breaks_laws(list: &[Found], want: &str) -> bool {
-    let Some(logical) = number(word(want, 0)) else {
-        return false;
-    };
-    says(word(want, 1), first_without_current(Bpcc, list, logical))
-        && says(word(want, 2), first_early_link(Bpcc, list, logical))
+/// The records that break a law.
+struct Lawless;
+
+impl ListTest for Lawless {
+    fn is_right(_: Global, list: &[Found], want: &str) -> bool {
+        match number_at(want, 0) {
+            Some(logical) => {
+                says(
+                    word(want, 1),
+                    first_without_current(Protocol::Bpcc, list, logical),
+                ) && says(
+                    word(want, 2),
+                    first_early_link(Protocol::Bpcc, list, logical),
+                )
+            }
+            None => false,
+        }
+    }
 }
 
 #[test]
 fn lists_of_the_other_protocol(rt: HostRuntime) {
-    assert_lists(&rt, rt.alloc(), WALKS, walks);
-    assert_lists(&rt, rt.alloc(), LAWS, breaks_laws);
+    assert_lists::<Walks>(&rt, rt.alloc(), WALKS);
+    assert_lists::<Lawless>(&rt, rt.alloc(), LAWS);
 }

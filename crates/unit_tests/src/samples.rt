@@ -9,48 +9,67 @@ ghost use Rattle.record_list.specs.SoundList.{OwnPageExists};
 use record_list::{Breach, Found};
 use std::alloc::Global;
 use std::process::Abort;
-use tx_types::{Link, Rec, Slot};
+use tx_types::{Link, Protocol, Rec, Slot};
+
+/// What is asked of each line of a text.
+pub trait LineTest {
+    /// Whether a line is right.
+    fn is_right(alloc: Global, line: &str) -> bool;
+}
+
+/// What is asked of each list of a text.
+pub trait ListTest {
+    /// Whether the right side of a line is right of the list on its left side.
+    fn is_right(alloc: Global, list: &[Found], want: &str) -> bool;
+}
 
 /// Asserts that each line of a text is right.
-pub fn assert_lines<R: Abort, F: Fn(Global, &str) -> bool>(
-    rt: &R,
-    alloc: Global,
-    text: &str,
-    is_right: F,
-)
-    requires { F.IsAlwaysCallable is_right }
-{
+pub fn assert_lines<T: LineTest>(rt: &impl Abort, alloc: Global, text: &str) {
     for line in text.split('\n') {
-        assert_line(rt, line, is_right(alloc, line));
+        assert_line(rt, line, T::is_right(alloc, line));
     }
 }
 
 /// Asserts that a line is right.
-fn assert_line<R: Abort>(rt: &R, line: &str, is_right: bool) {
+fn assert_line(rt: &impl Abort, line: &str, is_right: bool) {
     assert!(rt; is_right, "{line}");
 }
 
 /// Asserts that the right side of each line is right of the list on its left side.
-pub fn assert_lists<R: Abort, F: Fn(&[Found], &str) -> bool>(
-    rt: &R,
-    alloc: Global,
-    text: &str,
-    is_right: F,
-)
-    requires { F.IsAlwaysCallable is_right }
-{
+pub fn assert_lists<T: ListTest>(rt: &impl Abort, alloc: Global, text: &str) {
     for line in text.split('\n') {
-        let (list, want) = sides(line);
-        let list = records(alloc, list).expect(rt, line);
-        assert_line(rt, line, is_right(&list, want));
+        assert_line(rt, line, is_list_right::<T>(alloc, line));
     }
+}
+
+/// Whether the right side of a line is right of the list on its left side.
+fn is_list_right<T: ListTest>(alloc: Global, line: &str) -> bool {
+    let (list, want) = sides(line);
+    match records(alloc, list) {
+        Some(list) => T::is_right(alloc, &list, want),
+        None => false,
+    }
+}
+
+/// The text before the first place of a sign and the one behind it, which is empty where the sign is not there.
+pub fn halves<'a>(text: &'a str, sign: &str) -> (&'a str, &'a str) {
+    text.split_once(sign).unwrap_or((text, ""))
 }
 
 /// The two sides of a line, of which the left one may be empty.
 pub fn sides(line: &str) -> (&str, &str) {
-    let (line, _) = line.split_once(" -- ").unwrap_or((line, ""));
-    let (left, right) = line.split_once("=>").unwrap_or((line, ""));
+    let (line, _) = halves(line, " -- ");
+    let (left, right) = halves(line, "=>");
     (left.trim(), right.trim())
+}
+
+/// How many words a text has.
+pub fn word_count(text: &str) -> usize {
+    if text.is_empty() {
+        0
+    } else {
+        text.split(' ').count()
+    }
 }
 
 /// The word at a place of a text.
@@ -58,9 +77,32 @@ pub fn word(text: &str, at: usize) -> &str {
     text.split(' ').nth(at).unwrap_or("")
 }
 
+/// Whether this word stands at a place of a text.
+pub fn has_word(text: &str, at: usize, wanted: &str) -> bool {
+    word(text, at) == wanted
+}
+
 /// A number.
 pub fn number(text: &str) -> Option<u32> {
     text.parse::<u32>().ok()
+}
+
+/// The number at a place of a text.
+pub fn number_at(text: &str, at: usize) -> Option<u32> {
+    number(word(text, at))
+}
+
+/// Whether the text is this number.
+pub fn is_number(text: &str, wanted: u32) -> bool {
+    match number(text) {
+        Some(found) => found == wanted,
+        None => false,
+    }
+}
+
+/// Whether this number stands at a place of a text.
+pub fn has_number(text: &str, at: usize, wanted: u32) -> bool {
+    is_number(word(text, at), wanted)
 }
 
 /// A version.
@@ -68,44 +110,40 @@ pub fn version(text: &str) -> Option<u64> {
     text.parse::<u64>().ok()
 }
 
+/// Whether the text is this version.
+pub fn is_version(text: &str, wanted: u64) -> bool {
+    match version(text) {
+        Some(found) => found == wanted,
+        None => false,
+    }
+}
+
+/// Whether this version stands at a place of a text.
+pub fn has_version(text: &str, at: usize, wanted: u64) -> bool {
+    is_version(word(text, at), wanted)
+}
+
 /// Whether the text is this index, or `-` where there is none.
 pub fn says(text: &str, index: Option<usize>) -> bool {
     match index {
         None => text == "-",
-        Some(index) => version(text) == Some(index as u64),
+        Some(index) => is_version(text, index as u64),
     }
 }
 
 /// The three numbers that a text begins with.
 pub fn three(text: &str) -> Option<(u32, u32, u32)> {
-    let (first, second) = (number(word(text, 0))?, number(word(text, 1))?);
-    Some((first, second, number(word(text, 2))?))
-}
-
-/// The numbers of a text, which may be `-` where there are none.
-pub fn numbers(alloc: Global, text: &str) -> Option<Vec<u32>> {
-    let mut all = Vec::new(alloc);
-    if add_numbers(&mut all, text) {
-        Some(all)
-    } else {
-        None
+    match (number_at(text, 0), number_at(text, 1), number_at(text, 2)) {
+        (Some(first), Some(second), Some(third)) => Some((first, second, third)),
+        _ => None,
     }
 }
 
-fn add_numbers(all: &mut Vec<u32>, text: &str) -> bool {
-    for word in text.split(' ') {
-        if word != "-" && !add(all, number(word)) {
-            return false;
-        }
-    }
-    true
-}
-
-/// Adds a value, where it is there and there is memory.
-fn add<T: Drop>(all: &mut Vec<T>, value: Option<T>) -> bool {
-    match value {
-        None => false,
-        Some(value) => all.push(value).is_ok(),
+/// The protocol of a word.
+pub fn protocol_of(word: &str) -> Protocol {
+    match word {
+        "scc" => Protocol::Scc,
+        _ => Protocol::Bpcc,
     }
 }
 
@@ -116,8 +154,8 @@ fn parts(text: &str, sign: char) -> (&str, &str) {
 
 /// Makes the changes of a text, as `PLACE=BYTE` with the byte in hex. Tells whether each could be made.
 pub fn change(bytes: &mut [u8], text: &str) -> bool {
-    for word in text.split(' ') {
-        if !word.is_empty() && !change_one(bytes, word) {
+    for at in 0..word_count(text) {
+        if !change_one(bytes, word(text, at)) {
             return false;
         }
     }
@@ -126,16 +164,19 @@ pub fn change(bytes: &mut [u8], text: &str) -> bool {
 
 fn change_one(bytes: &mut [u8], text: &str) -> bool {
     let (place, byte) = parts(text, '=');
-    let (Some(place), Ok(byte)) = (number(place), u8::from_str_radix(byte, 16)) else {
-        return false;
-    };
-    match bytes.get_mut(place as usize) {
-        Some(at) => {
-            *at = byte;
-            true
-        }
-        None => false,
+    match (number(place), u8::from_str_radix(byte, 16)) {
+        (Some(place), Ok(byte)) => set(bytes, place as usize, byte),
+        _ => false,
     }
+}
+
+/// Sets the byte at a place, where there is one.
+fn set(bytes: &mut [u8], at: usize, byte: u8) -> bool {
+    if at >= bytes.len() {
+        return false;
+    }
+    bytes[at] = byte;
+    true
 }
 
 /// A page and a version, as `1.5`.
@@ -193,21 +234,31 @@ pub fn records(alloc: Global, text: &str) -> Option<Vec<Found>> {
 }
 
 fn add_records(list: &mut Vec<Found>, text: &str) -> bool {
-    for word in text.split(' ') {
-        if !word.is_empty() && !add(list, found(word)) {
+    for at in 0..word_count(text) {
+        if !add(list, found(word(text, at))) {
             return false;
         }
     }
     true
 }
 
+/// Adds a record, where it is there and there is memory.
+fn add(list: &mut Vec<Found>, found: Option<Found>) -> bool {
+    match found {
+        Some(found) => list.push(found).is_ok(),
+        None => false,
+    }
+}
+
 /// Whether the text is a law and the slot that it names, as `4:0`, or `-` where no law is broken.
 pub fn names_breach(text: &str, breach: Option<Breach>) -> bool {
-    let Some(breach) = breach else {
-        return text == "-";
-    };
-    let (law, slot) = parts(text, ':');
-    number(law) == Some(u32::from(breach.law)) && number(slot) == Some(breach.slot.0)
+    match breach {
+        None => text == "-",
+        Some(breach) => {
+            let (law, slot) = parts(text, ':');
+            is_number(law, u32::from(breach.law)) && is_number(slot, breach.slot.0)
+        }
+    }
 }
 
 /// Whether a list stands in ascending order of slots and has no version 0.

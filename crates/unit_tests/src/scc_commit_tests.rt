@@ -2,10 +2,14 @@ ghost use Rattle.std.specs.Prelude.{All};
 ghost use Rattle.record_list.specs.Records.{IsScanned};
 ghost use Rattle.record_list.specs.SoundList.{OwnPageExists};
 
-use crate::samples::{assert_lists, has_its_pages, is_scanned, names_breach, number, three, word};
+use crate::samples::{
+    ListTest, assert_lists, has_its_pages, has_word, is_scanned, names_breach, number_at, three,
+    word,
+};
 use crate::verdicts::{tells_current, tells_verdict};
 use record_list::{CommitRule, Found, newest};
 use scc_commit::Scc;
+use std::alloc::Global;
 
 /// Lists of 20 pages, and of a page the reason of its verdict and its current version.
 const VERDICTS: &str = "\
@@ -20,20 +24,27 @@ const VERDICTS: &str = "\
     0:4.1>25.1 1:5.1>5.1 => 4 absent 0 -- a link to a page that does not exist leads to an absent record\n\
     0:4.1>25.1 1:5.1>5.1 => 5 cycle 1";
 
-fn judges(list: &[Found], want: &str) -> bool {
-    let Some(page) = number(word(want, 0)) else {
-        return false;
-    };
-    is_scanned(list)
-        && has_its_pages(list, 20)
-        && newest(list, page) > 0
-        && tells_verdict::<Scc>(word(want, 1), list, 20, page)
-        && tells_current::<Scc>(word(want, 2), list, 20, page)
+/// What the rule makes of a page.
+struct Judged;
+
+impl ListTest for Judged {
+    fn is_right(_: Global, list: &[Found], want: &str) -> bool {
+        match number_at(want, 0) {
+            Some(page) => {
+                is_scanned(list)
+                    && has_its_pages(list, 20)
+                    && newest(list, page) > 0
+                    && tells_verdict::<Scc>(word(want, 1), list, 20, page)
+                    && tells_current::<Scc>(word(want, 2), list, 20, page)
+            }
+            None => false,
+        }
+    }
 }
 
 #[test]
 fn verdicts_of_a_cycle(rt: HostRuntime) {
-    assert_lists(&rt, rt.alloc(), VERDICTS, judges);
+    assert_lists::<Judged>(&rt, rt.alloc(), VERDICTS);
 }
 
 /// Lists of 20 pages, and the law that is broken.
@@ -47,13 +58,18 @@ const AUDITS: &str = "\
     0:0.1>1.1 4:2.1>1.1 => 3:4 -- two names with one link\n\
     0:0.1>1.2 1:1.3>2.1 => 5:0 -- a current record with a link above the current version of its page";
 
-fn breaks_laws(list: &[Found], breach: &str) -> bool {
-    is_scanned(list) && names_breach(breach, Scc::audit(list, 20))
+/// The law that a list breaks.
+struct Audited;
+
+impl ListTest for Audited {
+    fn is_right(_: Global, list: &[Found], breach: &str) -> bool {
+        is_scanned(list) && names_breach(breach, Scc::audit(list, 20))
+    }
 }
 
 #[test]
 fn breaches_of_the_laws(rt: HostRuntime) {
-    assert_lists(&rt, rt.alloc(), AUDITS, breaks_laws);
+    assert_lists::<Audited>(&rt, rt.alloc(), AUDITS);
 }
 
 /// Lists of 20 pages, and whether the record at an index must go before a page has a version. The first list has an
@@ -69,13 +85,21 @@ const GOING: &str = "\
     0:3.3>3.9 => 0 3 5 goes";
 
 /// Whether the record goes or stays, as the text says. None is held.
-fn goes(list: &[Found], want: &str) -> bool {
-    let Some((at, page, below)) = three(want) else {
-        return false;
-    };
-    is_scanned(list)
-        && has_its_pages(list, 20)
-        && must_go(list, at as usize, page, u64::from(below)) == Some(word(want, 3) == "goes")
+/// Whether a record must go.
+struct Going;
+
+impl ListTest for Going {
+    fn is_right(_: Global, list: &[Found], want: &str) -> bool {
+        let goes = has_word(want, 3, "goes");
+        match three(want) {
+            Some((at, page, below)) => {
+                is_scanned(list)
+                    && has_its_pages(list, 20)
+                    && must_go(list, at as usize, page, u64::from(below)) == Some(goes)
+            }
+            None => false,
+        }
+    }
 }
 
 /// Whether the record at an index, which is not held, must go before a page has a version.
@@ -91,5 +115,5 @@ fn must_go(list: &[Found], at: usize, page: u32, below: u64) -> Option<bool>
 
 #[test]
 fn records_that_must_go(rt: HostRuntime) {
-    assert_lists(&rt, rt.alloc(), GOING, goes);
+    assert_lists::<Going>(&rt, rt.alloc(), GOING);
 }

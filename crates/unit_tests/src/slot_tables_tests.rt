@@ -6,7 +6,7 @@ ghost use Rattle.slot_tables.specs.Kept.{record_at, copies_of, IsNewest};
 ghost use Rattle.slot_tables.specs.Versions.{HasFree};
 
 use slot_tables::{SlotUse, Tables};
-use std::alloc::{AllocError, Global};
+use std::alloc::Global;
 use tx_types::{Block, Link, Rec, Shape, Slot};
 
 /// Two dies of three blocks of four slots.
@@ -95,14 +95,6 @@ fn may_give_up(tables: &Tables, page: u32, number: u32) -> bool
     is_of && tables.first_copy(number).is_none()
 }
 
-/// What is counted in a block.
-#[derive(Clone, Copy, PartialEq, Eq)]
-struct Counted {
-    blanks: u32,
-    part: u32,
-    shut: u32,
-}
-
 /// The home of the record of a number: its lowest slot outside the spare, or else in it.
 fn home(tables: &Tables, number: u32) -> Option<u32> {
     let shape = tables.shape();
@@ -159,43 +151,32 @@ fn is_needed(tables: &Tables, at: u32) -> bool
     }
 }
 
-/// What a block has, slot by slot; none where the tables say otherwise of a slot of it.
-fn count(tables: &Tables, block: u32) -> Option<Counted>
+/// Whether the tables say of a block, and of each slot of it, what is counted slot by slot.
+fn is_counted(tables: &Tables, block: u32) -> bool
     requires shape { tables.now.shape ≡ SHAPE }
     requires pages { length tables.now.pages ≡ PAGES }
+    requires block { block < BLOCKS }
 {
     let is_spare = tables.spare() == Some(Block(block));
-    let mut count = Counted {
-        blanks: 0,
-        part: 0,
-        shut: 0,
-    };
+    let mut blanks: u32 = 0;
+    let mut part: u32 = 0;
+    let mut shut: u32 = 0;
     for at in 0..SLOTS {
         if at / SHAPE.pages_per_block == block {
             let is_blank = tables.slot(Slot(at)) == SlotUse::Blank;
             let is_needed = is_needed(tables, at);
             if tables.needed(Slot(at)) != is_needed {
-                return None;
+                return false;
             }
             let is_garbage = !is_needed && !is_spare;
-            count.blanks = count.blanks.wrapping_add(u32::from(is_blank));
-            count.shut = count.shut.wrapping_add(u32::from(is_garbage));
-            count.part = count.part.wrapping_add(u32::from(is_garbage && !is_blank));
+            blanks = blanks.wrapping_add(u32::from(is_blank));
+            shut = shut.wrapping_add(u32::from(is_garbage));
+            part = part.wrapping_add(u32::from(is_garbage && !is_blank));
         }
     }
-    Some(count)
-}
-
-/// What the tables say of a block.
-fn said(tables: &Tables, block: u32) -> Counted
-    requires shape { tables.now.shape ≡ SHAPE }
-    requires block { block < BLOCKS }
-{
-    Counted {
-        blanks: tables.blanks(Block(block)),
-        part: tables.garbage(Block(block), false),
-        shut: tables.garbage(Block(block), true),
-    }
+    blanks == tables.blanks(Block(block))
+        && part == tables.garbage(Block(block), false)
+        && shut == tables.garbage(Block(block), true)
 }
 
 /// Whether the tables say of each block, and of the block with the greatest number, what the slots say.
@@ -206,12 +187,12 @@ fn is_recounted(tables: &Tables) -> bool
     let mut most = 0;
     let mut place = None;
     for block in 0..BLOCKS {
-        let said = said(tables, block);
-        if count(tables, block) != Some(said) {
+        if !is_counted(tables, block) {
             return false;
         }
-        if said.shut > most {
-            most = said.shut;
+        let shut = tables.garbage(Block(block), true);
+        if shut > most {
+            most = shut;
             place = Some(Block(block));
         }
     }
@@ -324,12 +305,15 @@ fn are_changed(tables: &mut Tables) -> bool
     true
 }
 
-fn is_history(alloc: Global) -> Result<bool, AllocError> {
-    let mut tables = Tables::new(alloc, SHAPE, PAGES)?;
-    Ok(are_changed(&mut tables))
+/// Whether new tables are right.
+fn is_history(alloc: Global) -> bool {
+    match Tables::new(alloc, SHAPE, PAGES) {
+        Ok(mut tables) => are_changed(&mut tables),
+        Err(_) => false,
+    }
 }
 
 #[test]
 fn a_random_history_is_recounted(rt: HostRuntime) {
-    assert!(rt; is_history(rt.alloc()).unwrap_or(false));
+    assert!(rt; is_history(rt.alloc()));
 }

@@ -1,5 +1,5 @@
 //! Texts in which single characters stand for bytes that a line of a text can't have.
-use crate::samples::number;
+use crate::samples::is_number;
 use std::alloc::{AllocError, Global};
 
 /// The byte that a byte of a text stands for.
@@ -26,23 +26,34 @@ pub fn bytes_of(alloc: Global, text: &str) -> Result<Vec<u8>, AllocError> {
 
 /// Whether these are the bytes of the text.
 pub fn are_bytes_of(alloc: Global, text: &str, bytes: &[u8]) -> bool {
-    bytes_of(alloc, text).is_ok_and(|wanted| wanted.as_slice() == bytes)
+    match bytes_of(alloc, text) {
+        Ok(wanted) => wanted.as_slice() == bytes,
+        Err(_) => false,
+    }
 }
 
 /// Whether the bytes of the text stand somewhere in these.
 pub fn stands_in(alloc: Global, text: &str, bytes: &[u8]) -> bool {
     match bytes_of(alloc, text) {
-        Ok(wanted) => bytes
-            .windows(wanted.len().max(1))
-            .any(|part| part == wanted.as_slice()),
+        Ok(wanted) => is_part(&wanted, bytes),
         Err(_) => false,
     }
+}
+
+/// Whether a part of some bytes is this one.
+fn is_part(part: &[u8], bytes: &[u8]) -> bool {
+    for at in 0..bytes.len() {
+        if bytes[at..].starts_with(part) {
+            return true;
+        }
+    }
+    false
 }
 
 /// Whether the text is `bad line N` for this N.
 pub fn names_bad_line(text: &str, line: u32) -> bool {
     match text.strip_prefix("bad line ") {
-        Some(digits) => number(digits) == Some(line),
+        Some(digits) => is_number(digits, line),
         None => false,
     }
 }

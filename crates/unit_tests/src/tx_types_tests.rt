@@ -1,9 +1,9 @@
 ghost use Rattle.std.specs.Prelude.{◌≡◌};
 
-use crate::samples::{assert_lines, number, numbers, sides};
+use crate::samples::{LineTest, assert_lines, is_number, number_at, protocol_of, sides, word};
 use std::alloc::Global;
-use tx_types::Protocol::{Bpcc, Scc};
-use tx_types::{Batch, Bytes, Config, ConfigError, Memory, Protocol, Shape};
+use tx_types::Protocol::Scc;
+use tx_types::{Batch, Bytes, Config, ConfigError, Shape};
 
 /// Configurations, each with the slots of its flash or the rule that it breaks.
 const CONFIGURATIONS: &str = "\
@@ -57,34 +57,24 @@ const CONFIGURATIONS: &str = "\
     scc 16 256 1 1 1 1 => space\n\
     scc 4294967295 4294967295 4294967295 4294967295 4294967295 4294967295 => page";
 
-/// The configuration of these numbers, in the order of its fields.
-fn config(protocol: Protocol, numbers: &[u32]) -> Option<Config> {
-    match numbers {
-        [
-            page_bytes,
-            pages_per_block,
-            blocks_per_die,
-            dies,
-            logical,
-            pending,
-        ] => Some(Config {
-            protocol,
-            page_bytes: *page_bytes,
-            pages_per_block: *pages_per_block,
-            blocks_per_die: *blocks_per_die,
-            dies: *dies,
-            logical: *logical,
-            pending: *pending,
-        }),
-        _ => None,
+/// The configuration of a text: its protocol, and its numbers in the order of its fields.
+fn config(text: &str) -> Option<Config> {
+    let mut numbers = [0; 6];
+    for at in 0..6 {
+        match number_at(text, at + 1) {
+            Some(number) => numbers[at] = number,
+            None => return None,
+        }
     }
-}
-
-/// The configuration of a text.
-fn read_config(alloc: Global, text: &str) -> Option<Config> {
-    let (protocol, rest) = text.split_once(' ')?;
-    let protocol = if protocol == "scc" { Scc } else { Bpcc };
-    config(protocol, &numbers(alloc, rest)?)
+    Some(Config {
+        protocol: protocol_of(word(text, 0)),
+        page_bytes: numbers[0],
+        pages_per_block: numbers[1],
+        blocks_per_die: numbers[2],
+        dies: numbers[3],
+        logical: numbers[4],
+        pending: numbers[5],
+    })
 }
 
 /// The name of a rule.
@@ -101,33 +91,60 @@ pub fn name(rule: ConfigError) -> &'static str {
     }
 }
 
-/// Whether a configuration has as many slots as the line says, or breaks the rule that it names.
-fn is_checked(alloc: Global, line: &str) -> bool {
-    let (config, want) = sides(line);
-    match read_config(alloc, config).map(Config::check) {
-        Some(Ok(shape)) => number(want) == Some(shape.slots()),
-        Some(Err(rule)) => want == name(rule),
-        None => false,
+/// Whether a configuration has as many slots as the text says, or breaks the rule that it names.
+fn is_checked(config: Config, want: &str) -> bool {
+    match config.check() {
+        Ok(shape) => is_number(want, shape.slots()),
+        Err(rule) => want == name(rule),
+    }
+}
+
+/// The slots of a configuration, or the rule that it breaks.
+struct Checked;
+
+impl LineTest for Checked {
+    fn is_right(_: Global, line: &str) -> bool {
+        let (text, want) = sides(line);
+        match config(text) {
+            Some(config) => is_checked(config, want),
+            None => false,
+        }
     }
 }
 
 #[test]
 fn a_configuration_has_slots_or_breaks_a_rule(rt: HostRuntime) {
-    assert_lines(&rt, rt.alloc(), CONFIGURATIONS, is_checked);
+    assert_lines::<Checked>(&rt, rt.alloc(), CONFIGURATIONS);
 }
 
-#[test]
-fn a_shape_has_the_numbers_of_its_configuration(rt: HostRuntime) {
+/// A configuration whose numbers all differ.
+const APART: Config = Config {
+    protocol: Scc,
+    page_bytes: 32,
+    pages_per_block: 5,
+    blocks_per_die: 7,
+    dies: 3,
+    logical: 20,
+    pending: 7,
+};
+
+/// Whether its shape has its numbers.
+fn has_shape() -> bool {
     let want = Shape {
         page_bytes: 32,
         pages_per_block: 5,
         blocks_per_die: 7,
         dies: 3,
     };
-    let config = config(Scc, &[32, 5, 7, 3, 20, 7]);
-    let shape = config.and_then(|config| config.check().ok());
-    assert!(rt; shape == Some(want));
-    assert!(rt; shape.is_some_and(|shape| shape.blocks() == 21 && shape.slots() == 105));
+    match APART.check() {
+        Ok(shape) => shape == want && shape.blocks() == 21 && shape.slots() == 105,
+        Err(_) => false,
+    }
+}
+
+#[test]
+fn a_shape_has_the_numbers_of_its_configuration(rt: HostRuntime) {
+    assert!(rt; has_shape());
 }
 
 /// Whether a rule is printed as its name.
@@ -154,29 +171,29 @@ fn rules_are_named(rt: HostRuntime) {
     }
 }
 
-/// Bytes that are added in three parts, of which the second is empty.
-fn added(alloc: Global) -> Result<Bytes, Memory> {
-    let mut bytes = Bytes::new(alloc);
-    bytes.extend(b"open 1")?;
-    bytes.extend(b"")?;
-    bytes.extend(b" 2")?;
-    Ok(bytes)
+/// Whether bytes that are added in three parts, of which the second is empty, stand one behind the other.
+fn are_added(bytes: &mut Bytes) -> bool {
+    bytes.as_slice().is_empty()
+        && bytes.extend(b"open 1").is_ok()
+        && bytes.extend(b"").is_ok()
+        && bytes.extend(b" 2").is_ok()
+        && bytes.as_slice() == b"open 1 2".as_slice()
 }
 
 #[test]
 fn bytes_are_added_at_the_end(rt: HostRuntime) {
-    assert!(rt; Bytes::new(rt.alloc()).as_slice().is_empty());
-    assert!(rt; added(rt.alloc()).is_ok_and(|bytes| bytes.as_slice() == b"open 1 2".as_slice()));
+    let mut bytes = Bytes::new(rt.alloc());
+    assert!(rt; are_added(&mut bytes));
 }
 
-/// Adds three pages of four bytes, two of them not full, and a discard.
-fn fill(batch: &mut Batch) -> Result<(), Memory>
+/// Adds three pages of four bytes, two of them not full, and a discard. Tells whether there is memory.
+fn fill(batch: &mut Batch) -> bool
     requires { batch.old.page_bytes ≡ 4 }
 {
-    batch.add(7, &[1, 2])?;
-    batch.add(0, &[])?;
-    batch.add(7, &[3, 4, 5, 6])?;
-    batch.add_discard(2)
+    batch.add(7, &[1, 2]).is_ok()
+        && batch.add(0, &[]).is_ok()
+        && batch.add(7, &[3, 4, 5, 6]).is_ok()
+        && batch.add_discard(2).is_ok()
 }
 
 /// Whether the batch is what `fill` makes of an empty one.
@@ -198,9 +215,15 @@ fn has_entry(batch: &Batch, at: usize, page: u32, discards: bool, bytes: &[u8]) 
         && batch.bytes(at) == bytes
 }
 
+/// Whether an empty batch is filled.
+fn fills_up(batch: &mut Batch) -> bool
+    requires { batch.old.page_bytes ≡ 4 }
+{
+    batch.is_empty() && fill(batch) && is_filled(batch)
+}
+
 #[test]
 fn a_batch_fills_its_pages_up(rt: HostRuntime) {
     let mut batch = Batch::new(rt.alloc(), 4);
-    assert!(rt; batch.is_empty());
-    assert!(rt; fill(&mut batch).is_ok() && is_filled(&batch));
+    assert!(rt; fills_up(&mut batch));
 }

@@ -1,54 +1,57 @@
 //! Texts that are checked against small lists of records.
 use crate::cycles::cycle_of;
-use crate::samples::{has_its_pages, is_scanned, number, records};
+use crate::samples::{
+    LineTest, assert_lines, halves, has_its_pages, has_number, has_word, is_scanned, protocol_of,
+    records,
+};
 use crate::texts::bytes_of;
 use record_list::Found;
 use std::alloc::{AllocError, Global};
 use tx_types::Protocol;
 use verdict_check::check_report;
 
-/// Whether the check of a text against a list, of a device of 20 pages, ends so.
-fn is_checked(list: &[Found], protocol: Protocol, text: &[u8], want: Result<u32, u32>) -> bool {
-    is_scanned(list) && has_its_pages(list, 20) && check_report(list, protocol, 20, text) == want
-}
-
-/// The protocol of a word.
-fn protocol_of(word: &str) -> Protocol {
-    if word == "scc" {
-        Protocol::Scc
-    } else {
-        Protocol::Bpcc
+/// Whether the text is the answer of a check, as `2 pages` or `1 wrong`, by its number and its word.
+fn is_answer(checked: Result<u32, u32>, answer: &str) -> bool {
+    match checked {
+        Ok(pages) => has_number(answer, 0, pages) && has_word(answer, 1, "pages"),
+        Err(line) => has_number(answer, 0, line) && has_word(answer, 1, "wrong"),
     }
 }
 
-/// The answer of a check, as `2 pages` or `1 wrong`, by its number and its word.
-fn answer_of(text: &str) -> Option<Result<u32, u32>> {
-    let (digits, word) = text.split_once(' ')?;
-    let number = number(digits)?;
-    Some(if word == "pages" {
-        Ok(number)
-    } else {
-        Err(number)
-    })
+/// Whether the check of a text against a list, of a device of 20 pages, ends so.
+fn is_checked(list: &[Found], protocol: Protocol, text: &[u8], answer: &str) -> bool {
+    is_scanned(list)
+        && has_its_pages(list, 20)
+        && is_answer(check_report(list, protocol, 20, text), answer)
 }
 
-/// Whether a text is checked so against the records.
-fn is_text_checked(alloc: Global, protocol: &str, list: &str, text: &str, answer: &str) -> bool {
-    let (Some(list), Ok(bytes)) = (records(alloc, list), bytes_of(alloc, text)) else {
-        return false;
-    };
-    match answer_of(answer) {
-        Some(want) => is_checked(&list, protocol_of(protocol), &bytes, want),
+/// Whether bytes are checked so against the records of a text.
+fn are_bytes_checked(
+    alloc: Global,
+    protocol: Protocol,
+    list: &str,
+    bytes: &[u8],
+    answer: &str,
+) -> bool {
+    match records(alloc, list) {
+        Some(list) => is_checked(&list, protocol, bytes, answer),
         None => false,
     }
 }
 
-/// Whether the line has a protocol, a list of records, a text, and the answer of its check.
-fn is_line_checked(alloc: Global, line: &str) -> bool {
-    let (given, answer) = line.split_once(" => ").unwrap_or((line, ""));
-    let (list, text) = given.split_once(" | ").unwrap_or((given, ""));
-    let (protocol, list) = list.split_once(' ').unwrap_or((list, ""));
-    is_text_checked(alloc, protocol, list, text, answer)
+/// A protocol, a list of records, a text, and the answer of its check.
+struct Checks;
+
+impl LineTest for Checks {
+    fn is_right(alloc: Global, line: &str) -> bool {
+        let (given, answer) = halves(line, " => ");
+        let (list, text) = halves(given, " | ");
+        let (protocol, list) = halves(list, " ");
+        match bytes_of(alloc, text) {
+            Ok(bytes) => are_bytes_checked(alloc, protocol_of(protocol), list, &bytes, answer),
+            Err(_) => false,
+        }
+    }
 }
 
 /// Reports, and texts that are none: with another word, without the last line or the last line feed, with nothing at
@@ -101,9 +104,7 @@ explained 4; => 4 pages";
 
 #[test]
 fn a_text_is_checked_against_a_list(rt: HostRuntime) {
-    for line in CHECKS.split('\n') {
-        assert!(rt; is_line_checked(rt.alloc(), line), "{line}");
-    }
+    assert_lines::<Checks>(&rt, rt.alloc(), CHECKS);
 }
 
 /// Appends the links of a walk from a page of a cycle of 17 pages: 16 links are named.
@@ -124,26 +125,32 @@ fn add_cycle_line(text: &mut String, page: u32, more: u32) -> Result<(), AllocEr
     writeln!(text, " more {more}")
 }
 
-/// A text on a cycle of 17 pages, in which so many links are not named.
-fn cycle_text(alloc: Global, more: u32) -> Result<String, AllocError> {
-    let mut text = String::new(alloc);
+/// Appends a text on a cycle of 17 pages, in which so many links are not named. Tells whether there is memory.
+fn add_cycle_text(text: &mut String, more: u32) -> bool {
     for page in 0..17 {
-        add_cycle_line(&mut text, page, more)?;
+        if add_cycle_line(text, page, more).is_err() {
+            return false;
+        }
     }
-    text.push_str("explained 17\n")?;
-    Ok(text)
+    text.push_str("explained 17\n").is_ok()
+}
+
+/// Whether the check of such a text against a list ends so.
+fn is_cycle_text_checked(alloc: Global, list: &[Found], more: u32, answer: &str) -> bool {
+    let mut text = String::new(alloc);
+    add_cycle_text(&mut text, more) && is_checked(list, Protocol::Scc, text.as_bytes(), answer)
 }
 
 /// Whether the check of such a text ends so.
-fn is_cycle_checked(alloc: Global, more: u32, want: Result<u32, u32>) -> bool {
-    match (cycle_of(alloc, 17), cycle_text(alloc, more)) {
-        (Ok(list), Ok(text)) => is_checked(&list, Protocol::Scc, text.as_bytes(), want),
-        _ => false,
+fn is_cycle_checked(alloc: Global, more: u32, answer: &str) -> bool {
+    match cycle_of(alloc, 17) {
+        Ok(list) => is_cycle_text_checked(alloc, &list, more, answer),
+        Err(_) => false,
     }
 }
 
 #[test]
 fn links_that_are_not_named_are_counted(rt: HostRuntime) {
-    assert!(rt; is_cycle_checked(rt.alloc(), 1, Ok(17)));
-    assert!(rt; is_cycle_checked(rt.alloc(), 2, Err(1)));
+    assert!(rt; is_cycle_checked(rt.alloc(), 1, "17 pages"));
+    assert!(rt; is_cycle_checked(rt.alloc(), 2, "1 wrong"));
 }

@@ -1,41 +1,68 @@
 //! Reports on small lists of records.
 use crate::cycles::cycle_of;
-use crate::samples::{number, records};
+use crate::samples::{LineTest, assert_lines, halves, number, records};
 use crate::texts::are_bytes_of;
 use bpcc_commit::Bpcc;
 use record_list::{CommitRule, Found};
 use scc_commit::Scc;
-use std::alloc::{AllocError, Global};
+use std::alloc::Global;
 use verdict_report::explain;
 
-/// The number of pages that a report explains, and its text behind a byte that was there before.
-fn report<R: CommitRule>(
+/// Whether a report explains so many of `logical` pages, and is written behind a byte that was there before.
+fn explains<R: CommitRule>(
     alloc: Global,
     list: &[Found],
     logical: u32,
-) -> Result<(u32, Vec<u8>), AllocError> {
-    let mut out = [b'>'].to_vec(alloc)?;
-    match explain::<R>(alloc, list, logical, &mut out) {
-        Ok(count) => Ok((count, out)),
-        Err(_) => Err(AllocError),
+    pages: u32,
+    out: &mut Vec<u8>,
+) -> bool {
+    if out.push(b'>').is_err() {
+        return false;
     }
-}
-
-/// Whether the report on a list explains so many pages, by this text.
-fn is_report<R: CommitRule>(alloc: Global, list: &[Found], pages: u32, text: &str) -> bool {
-    match report::<R>(alloc, list, 20) {
-        Ok((count, out)) => count == pages && are_bytes_of(alloc, text, &out),
+    match explain::<R>(alloc, list, logical, out) {
+        Ok(count) => count == pages,
         Err(_) => false,
     }
 }
 
+/// Whether the report on a list explains so many of `logical` pages, by this text.
+fn is_report<R: CommitRule>(
+    alloc: Global,
+    list: &[Found],
+    logical: u32,
+    pages: u32,
+    text: &str,
+) -> bool {
+    let mut out = Vec::new(alloc);
+    explains::<R>(alloc, list, logical, pages, &mut out) && are_bytes_of(alloc, text, &out)
+}
+
 /// Whether the line has a list of records, the number of pages that its report explains, and that report.
 fn is_explained<R: CommitRule>(alloc: Global, line: &str) -> bool {
-    let (list, rest) = line.split_once(" => ").unwrap_or((line, ""));
-    let (pages, text) = rest.split_once(' ').unwrap_or((rest, ""));
-    match (records(alloc, list), number(pages)) {
-        (Some(list), Some(pages)) => is_report::<R>(alloc, &list, pages, text),
-        _ => false,
+    let (list, rest) = halves(line, " => ");
+    let (pages, text) = halves(rest, " ");
+    let pages = number(pages).unwrap_or(u32::MAX);
+    match records(alloc, list) {
+        Some(list) => is_report::<R>(alloc, &list, 20, pages, text),
+        None => false,
+    }
+}
+
+/// A list and the report on it under Simple Cyclic Commit.
+struct SimpleReports;
+
+impl LineTest for SimpleReports {
+    fn is_right(alloc: Global, line: &str) -> bool {
+        is_explained::<Scc>(alloc, line)
+    }
+}
+
+/// The same under Back Pointer Cyclic Commit.
+struct BackPointerReports;
+
+impl LineTest for BackPointerReports {
+    fn is_right(alloc: Global, line: &str) -> bool {
+        is_explained::<Bpcc>(alloc, line)
     }
 }
 
@@ -79,47 +106,45 @@ explained 3;";
 
 #[test]
 fn reports_under_simple_cyclic_commit(rt: HostRuntime) {
-    for line in SIMPLE.split('\n') {
-        assert!(rt; is_explained::<Scc>(rt.alloc(), line), "{line}");
-    }
+    assert_lines::<SimpleReports>(&rt, rt.alloc(), SIMPLE);
 }
 
 #[test]
 fn reports_under_back_pointer_cyclic_commit(rt: HostRuntime) {
-    for line in BACK_POINTER.split('\n') {
-        assert!(rt; is_explained::<Bpcc>(rt.alloc(), line), "{line}");
-    }
+    assert_lines::<BackPointerReports>(&rt, rt.alloc(), BACK_POINTER);
 }
 
 /// The first line of a report on a cycle, to the fifteenth link.
 const FRONT: &str = ">verdict 0 newest 1 committed cycle current 1 \
     walk 1:1 2:1 3:1 4:1 5:1 6:1 7:1 8:1 9:1 10:1 11:1 12:1 13:1 14:1 15:1";
 
-/// Whether a text begins with the front of the first line and with its rest, and ends with the number of pages.
-fn has_ends(alloc: Global, out: &[u8], rest: &str, pages: u32) -> Result<bool, AllocError> {
-    let first = format!(in alloc; "{FRONT}{rest}\n")?;
-    let last = format!(in alloc; "\nexplained {pages}\n")?;
-    Ok(out.starts_with(first.as_bytes()) && out.ends_with(last.as_bytes()))
+/// Whether a report begins with `FRONT` and this rest of its first line, and ends with this last line.
+fn has_ends(report: &[u8], rest: &str, last: &str) -> bool {
+    match report.strip_prefix(FRONT.as_bytes()) {
+        Some(behind) => behind.starts_with(rest.as_bytes()) && behind.ends_with(last.as_bytes()),
+        None => false,
+    }
 }
 
-/// Whether the report on a cycle of so many pages begins with a line of this rest.
-fn is_walk_cut(alloc: Global, pages: u32, rest: &str) -> bool {
-    let Ok(list) = cycle_of(alloc, pages) else {
-        return false;
-    };
-    match report::<Scc>(alloc, &list, pages) {
-        Ok((count, out)) => {
-            count == pages && has_ends(alloc, &out, rest, pages).is_ok_and(|is_so| is_so)
-        }
+/// Whether the report on a list of a cycle has these ends.
+fn is_walk_told(alloc: Global, list: &[Found], pages: u32, rest: &str, last: &str) -> bool {
+    let mut out = Vec::new(alloc);
+    explains::<Scc>(alloc, list, pages, pages, &mut out) && has_ends(&out, rest, last)
+}
+
+/// Whether the report on a cycle of so many pages has a first line of this rest, and this last line.
+fn is_walk_cut(alloc: Global, pages: u32, rest: &str, last: &str) -> bool {
+    match cycle_of(alloc, pages) {
+        Ok(list) => is_walk_told(alloc, &list, pages, rest, last),
         Err(_) => false,
     }
 }
 
 #[test]
 fn walks_of_many_links(rt: HostRuntime) {
-    assert!(rt; is_walk_cut(rt.alloc(), 16, " 0:1"));
-    assert!(rt; is_walk_cut(rt.alloc(), 17, " 16:1 more 1"));
-    assert!(rt; is_walk_cut(rt.alloc(), 300, " 16:1 more 284"));
+    assert!(rt; is_walk_cut(rt.alloc(), 16, " 0:1\n", "\nexplained 16\n"));
+    assert!(rt; is_walk_cut(rt.alloc(), 17, " 16:1 more 1\n", "\nexplained 17\n"));
+    assert!(rt; is_walk_cut(rt.alloc(), 300, " 16:1 more 284\n", "\nexplained 300\n"));
 }
 
 /// The report on a list in which page 0 leads to a cycle of others, of a device of three pages: its walk takes one
@@ -132,12 +157,9 @@ explained 3;";
 
 /// Whether that is the report.
 fn is_walk_ended(alloc: Global) -> bool {
-    let Some(list) = records(alloc, "0:0.1>1.1 1:1.1>2.1 2:2.1>1.1") else {
-        return false;
-    };
-    match report::<Scc>(alloc, &list, 3) {
-        Ok((count, out)) => count == 3 && are_bytes_of(alloc, ASIDE, &out),
-        Err(_) => false,
+    match records(alloc, "0:0.1>1.1 1:1.1>2.1 2:2.1>1.1") {
+        Some(list) => is_report::<Scc>(alloc, &list, 3, 3, ASIDE),
+        None => false,
     }
 }
 

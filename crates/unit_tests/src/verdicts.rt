@@ -4,22 +4,23 @@ ghost use Rattle.std.specs.Prelude.{All};
 ghost use Rattle.record_list.specs.Records.{IsScanned};
 ghost use Rattle.record_list.specs.SoundList.{OwnPageExists};
 
-use crate::samples::version;
+use crate::samples::is_version;
 use record_list::{CommitRule, Found, Verdict, Why, newest};
 
 /// Whether the text tells this reason.
 pub fn tells(text: &str, why: Why) -> bool {
-    match why {
-        Why::Cycle => text == "cycle",
-        Why::Passed => text == "passed",
-        Why::Absent => text == "absent",
-        Why::Straddled(by) => version(text) == Some(by),
-    }
+    let word = match why {
+        Why::Cycle => "cycle",
+        Why::Passed => "passed",
+        Why::Absent => "absent",
+        Why::Straddled(by) => return is_version(text, by),
+    };
+    text == word
 }
 
 /// Whether the newest record of a page counts for this reason.
 fn counts(text: &str) -> bool {
-    text == "cycle" || text == "passed"
+    matches!(text, "cycle" | "passed")
 }
 
 /// Whether the text tells what decides the verdict on a page, or is `-` where the page has no record.
@@ -31,7 +32,9 @@ pub fn tells_verdict<R: CommitRule>(text: &str, list: &[Found], logical: u32, pa
         return text == "-";
     }
     let (verdict, why) = R::verdict(list, logical, page);
-    tells(text, why) && verdict == why.verdict() && (verdict == Verdict::Committed) == counts(text)
+    tells(text, why)
+        && verdict == why.verdict()
+        && matches!(verdict, Verdict::Committed) == counts(text)
 }
 
 /// Whether the text is the current version of a page.
@@ -39,5 +42,5 @@ pub fn tells_current<R: CommitRule>(text: &str, list: &[Found], logical: u32, pa
     requires scanned { IsScanned list.now }
     requires pages { All (OwnPageExists logical) list.now }
 {
-    version(text) == Some(R::current(list, logical, page))
+    is_version(text, R::current(list, logical, page))
 }

@@ -5,7 +5,6 @@ use super::{is_kept, is_made, is_removed, is_saved, loads, save_fails};
 use desk_io::{Desk, RealDesk};
 use std::alloc::{AllocError, Global};
 use std::fs::OpenOptions;
-use std::rt::Files;
 
 const FILE: &str = "leave/f";
 
@@ -20,11 +19,14 @@ fn long_name(alloc: Global) -> Result<String, AllocError> {
 
 /// Whether a file of a long name is saved twice.
 fn is_long_name_saved<D: Desk>(desk: &mut D, alloc: Global) -> bool {
-    long_name(alloc).is_ok_and(|name| { is_kept(desk, &name, OLD) && is_kept(desk, &name, NEW) })
+    match long_name(alloc) {
+        Ok(name) => is_kept(desk, &name, OLD) && is_kept(desk, &name, NEW),
+        Err(_) => false,
+    }
 }
 
 /// Whether a file may be opened for writing.
-fn may_write<R: Files + AllocGlobal>(rt: &R) -> bool {
+fn may_write(rt: &HostRuntime) -> bool {
     OpenOptions::new().write(true).open(rt, FILE).is_ok()
 }
 
@@ -35,7 +37,7 @@ fn is_saved_by_leave<D: Desk>(desk: &mut D, may_write: bool) -> bool {
 }
 
 /// Whether a file that is read only is saved by those alone who may write it, as the superuser may.
-fn is_read_only_kept<R: Files + AllocGlobal, D: Desk>(rt: &R, desk: &mut D) -> bool {
+fn is_read_only_kept<D: Desk>(rt: &HostRuntime, desk: &mut D) -> bool {
     is_written(rt, FILE, OLD)
         && sets_mode(rt, FILE, 0o444)
         && is_saved_by_leave(desk, may_write(rt))
@@ -43,7 +45,7 @@ fn is_read_only_kept<R: Files + AllocGlobal, D: Desk>(rt: &R, desk: &mut D) -> b
 }
 
 /// Whether a file is saved in a folder that may not be written, in place.
-fn is_saved_in_place<R: Files + AllocGlobal, D: Desk>(rt: &R, desk: &mut D) -> bool {
+fn is_saved_in_place<D: Desk>(rt: &HostRuntime, desk: &mut D) -> bool {
     sets_mode(rt, FILE, 0o644)
         && sets_mode(rt, "leave", 0o555)
         && is_saved(desk, FILE, NEW)
@@ -51,20 +53,26 @@ fn is_saved_in_place<R: Files + AllocGlobal, D: Desk>(rt: &R, desk: &mut D) -> b
 }
 
 /// Whether the new bytes are loaded from a folder that may be written again.
-fn is_loaded_with_leave<R: Files + AllocGlobal, D: Desk>(rt: &R, desk: &mut D) -> bool {
+fn is_loaded_with_leave<D: Desk>(rt: &HostRuntime, desk: &mut D) -> bool {
     sets_mode(rt, "leave", 0o755) && loads(desk, FILE, NEW)
 }
 
 /// Whether a file is left at one of the names that a new file may have.
-fn is_left<R: Files + AllocGlobal>(rt: &R, number: u32) -> bool {
-    format!(in rt.alloc(); "leave/f.saving{number}").is_ok_and(|name| is_written(
-        rt, &name, b"left",
-    ))
+fn is_left(rt: &HostRuntime, number: u32) -> bool {
+    match format!(in rt.alloc(); "leave/f.saving{number}") {
+        Ok(name) => is_written(rt, &name, b"left"),
+        Err(_) => false,
+    }
 }
 
 /// Whether files are left at all 99 names that a new file may have.
-fn are_names_taken<R: Files + AllocGlobal>(rt: &R) -> bool {
-    is_written(rt, "leave/f.saving", b"left") && (2..100).all(|number| is_left(rt, number))
+fn are_names_taken(rt: &HostRuntime) -> bool {
+    for number in 2..100 {
+        if !is_left(rt, number) {
+            return false;
+        }
+    }
+    is_written(rt, "leave/f.saving", b"left")
 }
 
 /// Whether a save fails where these names are taken, and nothing changes.
@@ -75,7 +83,7 @@ fn is_save_refused<D: Desk>(desk: &mut D) -> bool {
 }
 
 /// Whether the saves of a desk ask for leave.
-fn do_saves_ask<R: Files + AllocGlobal, D: Desk>(rt: &R, desk: &mut D) -> bool {
+fn do_saves_ask<D: Desk>(rt: &HostRuntime, desk: &mut D) -> bool {
     is_long_name_saved(desk, rt.alloc())
         && is_read_only_kept(rt, desk)
         && is_saved_in_place(rt, desk)

@@ -84,10 +84,10 @@ pub struct Recorded<'a, F> {
 impl<'a, R: AllocGlobal> Recorder<'a, R> {
     /// A file of this name, once it was opened.
     fn recorded<F: Drop>(&self, opened: io::Result<F>, name: &str) -> io::Result<Recorded<'a, F>> {
-        let name = String::from_str(self.rt.alloc(), name)?;
-        opened.map(|file| Recorded {
+        let file = opened?;
+        Ok(Recorded {
             file,
-            name,
+            name: String::from_str(self.rt.alloc(), name)?,
             log: self.log,
         })
     }
@@ -237,5 +237,8 @@ impl<'a, R: Files + AllocGlobal> Files for Recorder<'a, R> {
 
 /// Whether only its owner may open a file.
 fn is_private(found: io::Result<Metadata>) -> bool {
-    found.is_ok_and(|found| found.permissions().mode() & 0o777 == 0o600)
+    match found {
+        Ok(found) => found.permissions().mode() & 0o777 == 0o600,
+        Err(_) => false,
+    }
 }

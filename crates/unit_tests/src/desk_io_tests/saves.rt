@@ -1,12 +1,12 @@
 //! How files are saved, and what is left where a call of the system fails.
 use super::recording::{Log, Recorder};
 use super::{is_absent, is_made, is_removed};
+use crate::samples::{word, word_count};
 use desk_io::{Desk, RealDesk};
 use std::fs;
 use std::fs::Permissions;
 use std::io::ErrorKind;
 use std::os::unix::fs::{MetadataExt, PermissionsExt, symlink};
-use std::rt::Files;
 
 /// What stands in the folder before a save, the name that is saved, and the calls that the save makes. Before a save
 /// there may be a file f, a link to it, other as its second name, and f.saving, which a killed run left beside it.
@@ -28,22 +28,28 @@ pub const OLD: &[u8] = b"the old bytes";
 pub const NEW: &[u8] = b"new";
 
 /// Whether the file has these bytes.
-pub fn has<R: Files + AllocGlobal>(rt: &R, name: &str, bytes: &[u8]) -> bool {
-    fs::read(rt, name).is_ok_and(|found| found.as_slice() == bytes)
+pub fn has(rt: &HostRuntime, name: &str, bytes: &[u8]) -> bool {
+    match fs::read(rt, name) {
+        Ok(found) => found.as_slice() == bytes,
+        Err(_) => false,
+    }
 }
 
 /// Whether the file may be read and written by those of this mode.
-pub fn has_mode<R: Files + AllocGlobal>(rt: &R, name: &str, mode: u32) -> bool {
-    fs::metadata(rt, name).is_ok_and(|found| found.permissions().mode() & 0o777 == mode)
+pub fn has_mode(rt: &HostRuntime, name: &str, mode: u32) -> bool {
+    match fs::metadata(rt, name) {
+        Ok(found) => found.permissions().mode() & 0o777 == mode,
+        Err(_) => false,
+    }
 }
 
 /// Whether these are written to a file.
-pub fn is_written<R: Files + AllocGlobal>(rt: &R, name: &str, bytes: &[u8]) -> bool {
+pub fn is_written(rt: &HostRuntime, name: &str, bytes: &[u8]) -> bool {
     fs::write(rt, name, bytes).is_ok()
 }
 
 /// Whether the mode of a file or a folder is set.
-pub fn sets_mode<R: Files + AllocGlobal>(rt: &R, name: &str, mode: u32) -> bool {
+pub fn sets_mode(rt: &HostRuntime, name: &str, mode: u32) -> bool {
     fs::set_permissions(rt, name, Permissions::from_mode(mode)).is_ok()
 }
 
@@ -69,7 +75,12 @@ impl<'a> Case<'a> {
 
     /// Whether this stands there before.
     fn had(&self, name: &str) -> bool {
-        self.before.split(' ').any(|word| word == name)
+        for at in 0..word_count(self.before) {
+            if word(self.before, at) == name {
+                return true;
+            }
+        }
+        false
     }
 
     /// The path that is saved.
@@ -83,12 +94,12 @@ impl<'a> Case<'a> {
 }
 
 /// Whether the file has a second name, where it is to have one.
-fn is_named_twice<R: Files + AllocGlobal>(rt: &R, it: &Case) -> bool {
+fn is_named_twice(rt: &HostRuntime, it: &Case) -> bool {
     !it.had("other") || fs::hard_link(rt, "saves/f", "saves/other").is_ok()
 }
 
 /// Whether the file stands there as before a save, with the names that it has, where there is one.
-fn is_file_there<R: Files + AllocGlobal>(rt: &R, it: &Case) -> bool {
+fn is_file_there(rt: &HostRuntime, it: &Case) -> bool {
     if !it.had("f") {
         return true;
     }
@@ -96,12 +107,12 @@ fn is_file_there<R: Files + AllocGlobal>(rt: &R, it: &Case) -> bool {
 }
 
 /// Whether the link is made, where there is one.
-fn is_link_there<R: Files + AllocGlobal>(rt: &R, it: &Case) -> bool {
+fn is_link_there(rt: &HostRuntime, it: &Case) -> bool {
     !it.had("link") || symlink(rt, "f", "saves/link").is_ok()
 }
 
 /// Whether that is made which stands there before a save.
-fn is_prepared<R: Files + AllocGlobal>(rt: &R, it: &Case) -> bool {
+fn is_prepared(rt: &HostRuntime, it: &Case) -> bool {
     is_made(rt, "saves")
         && is_link_there(rt, it)
         && (!it.had("f.saving") || is_written(rt, "saves/f.saving", b"left"))
@@ -117,13 +128,13 @@ struct Saved {
 }
 
 /// Whether a save answers Ok whose calls are noted.
-fn is_saved<R: Files + Print + AllocGlobal>(rt: &R, name: &str, log: &Log) -> bool {
+fn is_saved(rt: &HostRuntime, name: &str, log: &Log) -> bool {
     let system = Recorder { rt, log };
     RealDesk::new(&system).save(name, NEW).is_ok()
 }
 
 /// Saves once with this log.
-fn save_with<R: Files + Print + AllocGlobal>(rt: &R, it: &Case, log: &Log) -> Option<Saved> {
+fn save_with(rt: &HostRuntime, it: &Case, log: &Log) -> Option<Saved> {
     if !is_prepared(rt, it) {
         return None;
     }
@@ -137,42 +148,43 @@ fn save_with<R: Files + Print + AllocGlobal>(rt: &R, it: &Case, log: &Log) -> Op
 }
 
 /// Saves once, where the call of this number fails in this way, or none for 0.
-fn save<R: Files + Print + AllocGlobal>(
-    rt: &R,
-    it: &Case,
-    fails: u32,
-    kind: ErrorKind,
-) -> Option<Saved> {
+fn save(rt: &HostRuntime, it: &Case, fails: u32, kind: ErrorKind) -> Option<Saved> {
     let log = Log::new(rt.alloc(), fails, kind);
     save_with(rt, it, &log)
 }
 
 /// Whether a file has two names.
-fn has_two_names<R: Files + AllocGlobal>(rt: &R, name: &str) -> bool {
-    fs::metadata(rt, name).is_ok_and(|found| found.nlink() == 2)
+fn has_two_names(rt: &HostRuntime, name: &str) -> bool {
+    match fs::metadata(rt, name) {
+        Ok(found) => found.nlink() == 2,
+        Err(_) => false,
+    }
 }
 
 /// Whether there is a link.
-fn is_linked<R: Files + AllocGlobal>(rt: &R) -> bool {
-    fs::symlink_metadata(rt, "saves/link").is_ok_and(|found| found.is_symlink())
+fn is_linked(rt: &HostRuntime) -> bool {
+    match fs::symlink_metadata(rt, "saves/link") {
+        Ok(found) => found.is_symlink(),
+        Err(_) => false,
+    }
 }
 
 /// Whether that stays as it is which no save changes: links, second names, and what a killed run left.
-fn stay_others<R: Files + AllocGlobal>(rt: &R, it: &Case) -> bool {
+fn stay_others(rt: &HostRuntime, it: &Case) -> bool {
     is_linked(rt) == it.had("link")
         && (!it.had("f.saving") || has(rt, "saves/f.saving", b"left"))
         && (!it.had("other") || has_two_names(rt, "saves/f"))
 }
 
 /// Whether a save that answers Ok leaves the new bytes, with the mode of the old file.
-fn is_new<R: Files + AllocGlobal>(rt: &R, it: &Case) -> bool {
+fn is_new(rt: &HostRuntime, it: &Case) -> bool {
     has(rt, "saves/f", NEW)
         && (!it.had("f") || has_mode(rt, "saves/f", 0o640))
         && stay_others(rt, it)
 }
 
 /// Whether a save answers Ok and makes the calls that it should.
-fn makes_calls<R: Files + Print + AllocGlobal>(rt: &R, it: &Case) -> bool {
+fn makes_calls(rt: &HostRuntime, it: &Case) -> bool {
     match save(rt, it, 0, ErrorKind::Other) {
         Some(saved) => saved.is_ok && saved.calls.as_str().trim_ascii_end() == it.calls,
         None => false,
@@ -180,7 +192,7 @@ fn makes_calls<R: Files + Print + AllocGlobal>(rt: &R, it: &Case) -> bool {
 }
 
 /// Whether a save makes the calls of the line, and leaves the new bytes.
-fn is_line_saved<R: Files + Print + AllocGlobal>(rt: &R, line: &str) -> bool {
+fn is_line_saved(rt: &HostRuntime, line: &str) -> bool {
     match Case::of(line) {
         Some(it) => makes_calls(rt, &it) && is_new(rt, &it) && is_removed(rt, "saves"),
         None => false,
@@ -195,7 +207,7 @@ fn saves_call_the_system_in_order(rt: HostRuntime) {
 }
 
 /// Whether the new file is there or gone, as it should be. One of which it can't be told whose it is stays.
-fn is_new_file_gone<R: Files + AllocGlobal>(rt: &R, it: &Case, calls: &str) -> bool {
+fn is_new_file_gone(rt: &HostRuntime, it: &Case, calls: &str) -> bool {
     let stays = calls.ends_with("stat f.saving; ") || calls.ends_with("stat f.saving2; ");
     let is_first_gone = is_absent(rt, "saves/f.saving");
     (it.had("f.saving") || is_first_gone != stays) && (stays || is_absent(rt, "saves/f.saving2"))
@@ -208,25 +220,20 @@ fn is_in_place(saved: &Saved) -> bool {
 }
 
 /// Whether a save that was not in place left the old file or the new one, and the new one where it answered Ok.
-fn is_file_whole<R: Files + AllocGlobal>(rt: &R, it: &Case, saved: &Saved) -> bool {
+fn is_file_whole(rt: &HostRuntime, it: &Case, saved: &Saved) -> bool {
     has(rt, "saves/f", NEW)
         || (!saved.is_ok && (is_in_place(saved) || !it.had("f") || has(rt, "saves/f", OLD)))
 }
 
 /// Whether all is well with the files after a save.
-fn is_well<R: Files + AllocGlobal>(rt: &R, it: &Case, saved: &Saved) -> bool {
+fn is_well(rt: &HostRuntime, it: &Case, saved: &Saved) -> bool {
     stay_others(rt, it)
         && is_file_whole(rt, it, saved)
         && is_new_file_gone(rt, it, saved.calls.as_str())
 }
 
 /// Whether the call of this number of a save may fail; nothing, where the save has fewer calls.
-fn may_fail<R: Files + Print + AllocGlobal>(
-    rt: &R,
-    it: &Case,
-    fails: u32,
-    kind: ErrorKind,
-) -> Option<bool> {
+fn may_fail(rt: &HostRuntime, it: &Case, fails: u32, kind: ErrorKind) -> Option<bool> {
     match save(rt, it, fails, kind) {
         Some(saved) if !saved.has_failed => None,
         Some(saved) => Some(is_well(rt, it, &saved)),
@@ -235,7 +242,7 @@ fn may_fail<R: Files + Print + AllocGlobal>(
 }
 
 /// Whether each call of a save may fail in this way.
-fn may_each_call_fail<R: Files + Print + AllocGlobal>(rt: &R, it: &Case, kind: ErrorKind) -> bool {
+fn may_each_call_fail(rt: &HostRuntime, it: &Case, kind: ErrorKind) -> bool {
     for fails in 1..30 {
         match may_fail(rt, it, fails, kind) {
             Some(true) => {}
@@ -247,7 +254,7 @@ fn may_each_call_fail<R: Files + Print + AllocGlobal>(rt: &R, it: &Case, kind: E
 }
 
 /// Whether all is well where the calls of the line fail in turn, in two ways.
-fn may_calls_of_line_fail<R: Files + Print + AllocGlobal>(rt: &R, line: &str) -> bool {
+fn may_calls_of_line_fail(rt: &HostRuntime, line: &str) -> bool {
     match Case::of(line) {
         Some(it) => {
             may_each_call_fail(rt, &it, ErrorKind::Other)

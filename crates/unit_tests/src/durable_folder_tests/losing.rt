@@ -137,10 +137,22 @@ impl LosingFolder {
         Ok(())
     }
 
+    /// A name that has or had files.
+    fn find_name(&self, name: &str) -> Option<&Name> {
+        for it in &self.names {
+            if it.text.as_str() == name {
+                return Some(it);
+            }
+        }
+        None
+    }
+
     /// The file that a name has now.
     fn file(&self, name: &str) -> Option<usize> {
-        let found = self.names.iter().find(|it| it.text.as_str() == name)?;
-        *found.files.last()?
+        match self.find_name(name) {
+            Some(found) => found.files.last().copied().unwrap_or(None),
+            None => None,
+        }
     }
 
     /// Gives a name another file.
@@ -226,7 +238,7 @@ impl LosingFolder {
 
     /// Adds all that a loss of power may leave at a name.
     fn add_all_left(&self, name: &str, all: &mut Vec<Option<Vec<u8>>>) -> Result<(), AllocError> {
-        match self.names.iter().find(|it| it.text.as_str() == name) {
+        match self.find_name(name) {
             Some(found) => {
                 for file in &found.files {
                     self.add_left(*file, all)?;
