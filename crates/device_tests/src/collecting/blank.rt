@@ -1,6 +1,7 @@
 //! Broken erases on a blank flash.
 
-use super::rows::is_right;
+use super::rows::wrong_line;
+use crate::texts::assert_none;
 use tx_types::{Config, Protocol};
 
 /// Four blocks of two slots.
@@ -56,9 +57,7 @@ const READS: &str = "\
 #[test]
 fn what_broken_erases_leave(rt: HostRuntime) {
     for rows in [ROWS, ERASES, SECOND_ERASES, READS] {
-        for line in rows.split('\n') {
-            assert!(rt; is_right(rt.alloc(), SCC, "nothing", line), "{line}");
-            assert!(rt; is_right(rt.alloc(), BPCC, "nothing", line), "{line}");
-        }
+        assert_none(&rt, wrong_line(rt.alloc(), SCC, "nothing", rows));
+        assert_none(&rt, wrong_line(rt.alloc(), BPCC, "nothing", rows));
     }
 }

@@ -6,7 +6,7 @@ ghost use Rattle.mem_flash.specs.Memory.{state_of};
 ghost use Rattle.collector.specs.Matches.{Matches};
 
 use super::pictures::{write_array, write_picture};
-use super::steps::{Kept, opened, step_of, take};
+use super::steps::{Kept, opened, take};
 use crate::building::written;
 use crate::texts::is_like;
 use bpcc_commit::Bpcc;
@@ -39,15 +39,7 @@ fn is_taken<R: CommitRule>(
     ensures config { kept.new.index.config ≡ kept.old.index.config }
     ensures room { length kept.new.room.items ≡ kept.old.index.config.page_bytes }
 {
-    let Some(step) = step_of(step) else {
-        return false;
-    };
-    if let Some(answer) = take(alloc, kept, step)
-        && text.push(answer).is_err()
-    {
-        return false;
-    }
-    reads_as(alloc, kept, before)
+    take(alloc, kept, step, text) && reads_as(alloc, kept, before)
 }
 
 /// Takes steps one after another, and says how each was answered. Tells whether the pages read the same all the
@@ -125,15 +117,31 @@ fn is_so<R: CommitRule>(
 
 /// Whether the steps of a line, on a flash with these items, come to what it says behind `=>`: how they are answered,
 /// and how the flash is then.
-pub fn is_right(alloc: Global, config: Config, items: &str, line: &str) -> bool
+fn is_right(alloc: Global, config: Config, items: &str, line: &str) -> bool
     requires check { checked config ≡ Ok (shape_of config) }
     requires page { config.page_bytes ≡ 16 }
 {
-    let Some((steps, wanted)) = line.split_once(" => ") else {
-        return false;
-    };
+    let (steps, wanted) = line.split_once(" => ").unwrap_or((line, ""));
     match config.protocol {
         Protocol::Scc => is_so::<Scc>(alloc, config, items, steps, wanted),
         Protocol::Bpcc => is_so::<Bpcc>(alloc, config, items, steps, wanted),
     }
+}
+
+/// The first of the lines that is not right on a flash with these items, or nothing.
+pub fn wrong_line(
+    alloc: Global,
+    config: Config,
+    items: &str,
+    lines: &'static str,
+) -> &'static str
+    requires check { checked config ≡ Ok (shape_of config) }
+    requires page { config.page_bytes ≡ 16 }
+{
+    for line in lines.split('\n') {
+        if !is_right(alloc, config, items, line) {
+            return line;
+        }
+    }
+    ""
 }

@@ -9,10 +9,10 @@ ghost use Rattle.collector.specs.Collecting.{HasUnneeded};
 ghost use Rattle.collector.specs.Matches.{Matches, CanTake};
 
 use crate::building::has_block;
-use crate::texts::{number, outcome, word};
+use crate::texts::{number, number_or_zero, outcome, word};
 use collector::{Settled, Unsure, clean_spare, collect, laws, settle, victim};
 use die_alloc::Blocks;
-use flash_model::{Arms, Flash, Outcome, Power};
+use flash_model::{Arms, Flash, Power};
 use mem_flash::MemFlash;
 use record_list::CommitRule;
 use scan_recovery::recover;
@@ -28,49 +28,6 @@ pub struct Kept<R: CommitRule> {
     pub blocks: Blocks,
     pub unsure: Unsure,
     pub room: Vec<u8>,
-}
-
-/// A step.
-#[derive(Clone, Copy)]
-pub enum Step {
-    Fault(u32, Outcome),
-    Cut(u32, Outcome),
-    BadRead(u32),
-    Clean,
-    /// A block, and which of its slots is not needed.
-    Collect(u32, u32),
-    Settle,
-    /// Asks which block is to be collected.
-    Choose,
-    /// Power comes back, and the tables are made from the flash alone.
-    Reopen,
-}
-
-use Step::{BadRead, Choose, Clean, Collect, Cut, Fault, Reopen, Settle};
-
-/// The step that a text says.
-pub fn step_of(text: &str) -> Option<Step> {
-    match text {
-        "clean" => Some(Clean),
-        "settle" => Some(Settle),
-        "choose" => Some(Choose),
-        "reopen" => Some(Reopen),
-        _ => {
-            let (name, first) = (word(text, 0)?, number(word(text, 1))?);
-            step_with(name, first, word(text, 2))
-        }
-    }
-}
-
-/// The step that words say of which the second is a number.
-fn step_with(name: &str, first: u32, second: Option<&str>) -> Option<Step> {
-    match name {
-        "badread" => Some(BadRead(first)),
-        "fault" => Some(Fault(first, outcome(second)?)),
-        "cut" => Some(Cut(first, outcome(second)?)),
-        "collect" => Some(Collect(first, number(second)?)),
-        _ => None,
-    }
 }
 
 /// The tables of a flash, from what it holds.
@@ -136,8 +93,29 @@ fn told(answered: bool) -> char {
     if answered { '+' } else { '-' }
 }
 
-/// Takes one step. Tells of a call whether it was answered, and what, and of one that can't be made that it can't.
-pub fn take<R: CommitRule>(alloc: Global, kept: &mut Kept<R>, step: Step) -> Option<char>
+/// Sets the arm that a step says, with its count from 1: `cut 1 bad`, `fault 2 all`, `badread 1`. Tells whether it
+/// says one.
+fn is_armed(flash: &mut MemFlash, step: &str) -> bool
+    ensures shape { flash.new.shape ≡ flash.old.shape }
+    ensures image { flash.new.image ≡ flash.old.image }
+{
+    let count = number_or_zero(step, 1);
+    if count == 0 {
+        return false;
+    }
+    match word(step, 0) {
+        "cut" => flash.arm_cut(count, outcome(step, 2)),
+        "fault" => flash.arm_fault(count, outcome(step, 2)),
+        "badread" => flash.arm_bad_read(count),
+        _ => return false,
+    }
+    true
+}
+
+/// Makes the call that a step says: `clean` makes the spare blank, `collect 0 1` collects a block of which a slot is
+/// not needed, `settle` finds out what a broken operation left, `choose` asks which block is to be collected, and
+/// after `reopen` power is back and the tables are made from the flash alone.
+fn answer<R: CommitRule>(alloc: Global, kept: &mut Kept<R>, step: &str) -> char
     requires matches { Matches (state_of kept.old.flash)
         kept.old.index kept.old.blocks kept.old.unsure }
     requires rule { kept.old.index.config.protocol ≡ R.protocol }
@@ -147,26 +125,34 @@ pub fn take<R: CommitRule>(alloc: Global, kept: &mut Kept<R>, step: Step) -> Opt
     ensures config { kept.new.index.config ≡ kept.old.index.config }
     ensures room { length kept.new.room.items ≡ kept.old.index.config.page_bytes }
 {
-    match step {
-        Fault(0, _) | Cut(0, _) | BadRead(0) => Some(IMPOSSIBLE),
-        Fault(count, outcome) => {
-            kept.flash.arm_fault(count, outcome);
-            None
-        }
-        Cut(count, outcome) => {
-            kept.flash.arm_cut(count, outcome);
-            None
-        }
-        BadRead(count) => {
-            kept.flash.arm_bad_read(count);
-            None
-        }
-        Clean => Some(clean(kept)),
-        Collect(block, at) => Some(collect_block(kept, Block(block), at)),
-        Settle => Some(settle_it(kept)),
-        Choose => Some(choose(kept)),
-        Reopen => Some(reopen(alloc, kept)),
+    match word(step, 0) {
+        "clean" => clean(kept),
+        "collect" => collect_block(kept, Block(number(step, 1)), number(step, 2)),
+        "settle" => settle_it(kept),
+        "choose" => choose(kept),
+        "reopen" => reopen(alloc, kept),
+        _ => IMPOSSIBLE,
     }
+}
+
+/// Takes one step. Says of a call whether it was answered (`+`) or broken (`-`), or what, and of one that can't be
+/// made that it can't. Tells whether there was memory.
+pub fn take<R: CommitRule>(
+    alloc: Global,
+    kept: &mut Kept<R>,
+    step: &str,
+    text: &mut String,
+) -> bool
+    requires matches { Matches (state_of kept.old.flash)
+        kept.old.index kept.old.blocks kept.old.unsure }
+    requires rule { kept.old.index.config.protocol ≡ R.protocol }
+    requires room { length kept.old.room.items ≡ kept.old.index.config.page_bytes }
+    ensures matches { Matches (state_of kept.new.flash)
+        kept.new.index kept.new.blocks kept.new.unsure }
+    ensures config { kept.new.index.config ≡ kept.old.index.config }
+    ensures room { length kept.new.room.items ≡ kept.old.index.config.page_bytes }
+{
+    is_armed(&mut kept.flash, step) || text.push(answer(alloc, kept, step)).is_ok()
 }
 
 /// Makes the spare blank.

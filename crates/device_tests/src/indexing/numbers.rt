@@ -2,6 +2,7 @@
 
 use super::lines::wrong_line;
 use super::tables::{opened, wrong_in_doubled};
+use crate::texts::assert_none;
 use flash_model::Seen::Blank;
 use scc_commit::Scc;
 use std::alloc::Global;
@@ -24,8 +25,7 @@ const CHANGES: &str = "\
 
 #[test]
 fn numbers_of_blocks(rt: HostRuntime) {
-    let wrong = wrong_in_doubled(rt.alloc(), CHANGES);
-    assert!(rt; wrong.is_empty(), "{wrong}");
+    assert_none(&rt, wrong_in_doubled(rt.alloc(), CHANGES));
 }
 
 /// Seventeen blocks: one of them is alone in the second sixteen.
@@ -55,6 +55,5 @@ fn wrong_in_seventeen(alloc: Global, lines: &'static str) -> &'static str {
 
 #[test]
 fn most_garbage_of_sixteens(rt: HostRuntime) {
-    let wrong = wrong_in_seventeen(rt.alloc(), SIXTEENS);
-    assert!(rt; wrong.is_empty(), "{wrong}");
+    assert_none(&rt, wrong_in_seventeen(rt.alloc(), SIXTEENS));
 }

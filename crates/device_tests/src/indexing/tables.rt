@@ -8,6 +8,7 @@ ghost use Rattle.version_index.specs.Noted.{IsNextRecord, IsCompleteCycle};
 
 use super::lines::wrong_line;
 use crate::building::{BACK_POINTER, found, has_slot, is_scanned, rec, slot_count};
+use crate::texts::assert_none;
 use bpcc_commit::Bpcc;
 use flash_model::Seen;
 use flash_model::Seen::{Blank, Complete, Damaged};
@@ -160,8 +161,7 @@ const DOUBLED: &str = "\
 
 #[test]
 fn a_doubled_record(rt: HostRuntime) {
-    let wrong = wrong_in_doubled(rt.alloc(), DOUBLED);
-    assert!(rt; wrong.is_empty(), "{wrong}");
+    assert_none(&rt, wrong_in_doubled(rt.alloc(), DOUBLED));
 }
 
 /// While it is pinned the aborted record is needed. A copy of it raises no mention, and is garbage like the slot that
@@ -175,8 +175,7 @@ const CHANGED: &str = "\
 
 #[test]
 fn changes_beside_it(rt: HostRuntime) {
-    let wrong = wrong_in_doubled(rt.alloc(), CHANGED);
-    assert!(rt; wrong.is_empty(), "{wrong}");
+    assert_none(&rt, wrong_in_doubled(rt.alloc(), CHANGED));
 }
 
 /// Takes a record into the array that is the only one. Tells whether that could be.
@@ -244,14 +243,12 @@ fn wrong_in_first(alloc: Global, discard: bool, lines: &'static str) -> &'static
 
 #[test]
 fn a_first_record(rt: HostRuntime) {
-    let wrong = wrong_in_first(rt.alloc(), false, FIRST);
-    assert!(rt; wrong.is_empty(), "{wrong}");
+    assert_none(&rt, wrong_in_first(rt.alloc(), false, FIRST));
 }
 
 #[test]
 fn a_first_discard(rt: HostRuntime) {
-    let wrong = wrong_in_first(rt.alloc(), true, FIRST_DISCARD);
-    assert!(rt; wrong.is_empty(), "{wrong}");
+    assert_none(&rt, wrong_in_first(rt.alloc(), true, FIRST_DISCARD));
 }
 
 /// Under Back Pointer Cyclic Commit: an aborted record of page 0, a superseded one of page 1 that
@@ -293,6 +290,5 @@ fn wrong_in_held(alloc: Global, lines: &'static str) -> &'static str {
 
 #[test]
 fn a_held_record(rt: HostRuntime) {
-    let wrong = wrong_in_held(rt.alloc(), HELD);
-    assert!(rt; wrong.is_empty(), "{wrong}");
+    assert_none(&rt, wrong_in_held(rt.alloc(), HELD));
 }

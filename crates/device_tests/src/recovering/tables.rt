@@ -5,7 +5,7 @@ ghost use Rattle.tx_types.specs.Config.{shape_of};
 
 use crate::building::{BACK_POINTER, SIMPLE, written};
 use crate::indexing::lines::wrong_line;
-use crate::texts::number;
+use crate::texts::{assert_none, number, word};
 use bpcc_commit::Bpcc;
 use die_alloc::Blocks;
 use flash_model::Flash;
@@ -34,14 +34,13 @@ const TABLES: &str = "\
 /// Of each block its state and how many slots are used.
 const BLOCKS: &str = "shut 2; shut 1; shut 4; clean 0; clean 0; clean 0; spare 0; shut 1";
 
-/// The state that a word says.
-fn state(word: &str) -> Option<BlockState> {
+/// Whether a state is the one that a word says.
+fn is_state(state: BlockState, word: &str) -> bool {
     match word {
-        "spare" => Some(BlockState::Spare),
-        "clean" => Some(BlockState::Clean),
-        "part" => Some(BlockState::Part),
-        "shut" => Some(BlockState::Shut),
-        _ => None,
+        "spare" => state == BlockState::Spare,
+        "clean" => state == BlockState::Clean,
+        "shut" => state == BlockState::Shut,
+        _ => false,
     }
 }
 
@@ -49,14 +48,9 @@ fn state(word: &str) -> Option<BlockState> {
 fn is_block_right(blocks: &Blocks, block: u32, words: &str) -> bool
     requires { blocks.now.shape ≡ shape_of BACK_POINTER }
 {
-    if block >= 8 {
-        return false;
-    }
-    let Some((name, used)) = words.split_once(' ') else {
-        return false;
-    };
-    state(name) == Some(blocks.state(Block(block)))
-        && number(Some(used)) == Some(blocks.used(Block(block)))
+    block < 8
+        && is_state(blocks.state(Block(block)), word(words, 0))
+        && blocks.used(Block(block)) == number(words, 1)
 }
 
 /// Whether the blocks are as they are to be, and programs go to the dies in turn.
@@ -102,8 +96,7 @@ fn wrong_in_kept(alloc: Global) -> &'static str {
 
 #[test]
 fn a_sound_flash_gives_its_tables(rt: HostRuntime) {
-    let wrong = wrong_in_kept(rt.alloc());
-    assert!(rt; wrong.is_empty(), "{wrong}");
+    assert_none(&rt, wrong_in_kept(rt.alloc()));
 }
 
 /// A page at version 1; its version 2 in two slots, and a page at version 1, whose transactions did not
@@ -127,6 +120,5 @@ fn wrong_in_loose(alloc: Global) -> &'static str {
 
 #[test]
 fn loose_records_must_go(rt: HostRuntime) {
-    let wrong = wrong_in_loose(rt.alloc());
-    assert!(rt; wrong.is_empty(), "{wrong}");
+    assert_none(&rt, wrong_in_loose(rt.alloc()));
 }
