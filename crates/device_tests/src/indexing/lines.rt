@@ -9,7 +9,7 @@ use crate::texts::{is_slot, link, number, word};
 use flash_model::Seen;
 use record_list::CommitRule;
 use std::alloc::Global;
-use tx_types::{Block, Slot};
+use tx_types::{Block, Rec, Slot};
 use version_index::Index;
 
 /// The version that the word at a place says.
@@ -34,23 +34,29 @@ fn off_is<R: CommitRule>(index: &Index<R>, words: &str) -> bool {
         && is_slot(index.locate_off(page, block), words, 2)
 }
 
+/// Whether a slot that reads so is one as a word says.
+fn is_seen(seen: Seen, word: &str) -> bool {
+    match word {
+        "blank" => seen == Seen::Blank,
+        "damaged" => seen == Seen::Damaged,
+        "holds" => seen == Seen::Complete,
+        _ => false,
+    }
+}
+
+/// Whether the record that is held is the one that words say, or there is none where they say none.
+fn is_held(held: Option<Rec>, words: &str) -> bool {
+    match held {
+        Some(held) => held == rec(link(words, 2), link(words, 3), version(words, 4)),
+        None => word(words, 2).is_empty(),
+    }
+}
+
 /// Of a slot how it reads and which record it holds, by its name, its link and its back version: `slot 2 blank`,
 /// `slot 3 damaged`, `slot 4 holds 1.1 1.1 0`.
 fn slot_is<R: CommitRule>(index: &Index<R>, words: &str) -> bool {
     let at = Slot(number(words, 0));
-    if !has_slot(index, at) {
-        return false;
-    }
-    let (seen, held) = (index.seen(at), index.rec(at));
-    match word(words, 1) {
-        "blank" => seen == Seen::Blank && held.is_none(),
-        "damaged" => seen == Seen::Damaged && held.is_none(),
-        "holds" => {
-            let wanted = rec(link(words, 2), link(words, 3), version(words, 4));
-            seen == Seen::Complete && held == Some(wanted)
-        }
-        _ => false,
-    }
+    has_slot(index, at) && is_seen(index.seen(at), word(words, 1)) && is_held(index.rec(at), words)
 }
 
 /// Whether a number is among words.

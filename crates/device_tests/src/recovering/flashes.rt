@@ -23,7 +23,10 @@ fn refusal<R: CommitRule>(
     requires rule { config.protocol ≡ R.protocol }
 {
     match recover::<MemFlash, R>(alloc, flash, config) {
-        Ok(_) => None,
+        Ok(tables) => {
+            drop(tables);
+            None
+        }
         Err(error) => Some(error),
     }
 }

@@ -104,14 +104,12 @@ fn place_full(
         if draw(seed, 24) != 0 {
             items.push(current(4 * block, block + 3))?;
         }
-        match draw(seed, 48) {
-            0 => items.push(current(4 * block + 1, 3))?,
-            1 => {
-                let item = any_placed(seed, protocol, 4 * block + 1, items.last());
-                items.push(item)?;
-            }
-            _ => {}
-        }
+        let second = match draw(seed, 48) {
+            0 => current(4 * block + 1, 3),
+            1 => any_placed(seed, protocol, 4 * block + 1, items.last()),
+            _ => continue,
+        };
+        items.push(second)?;
     }
     Ok(())
 }
@@ -250,6 +248,11 @@ struct Refusals {
 }
 
 impl Refusals {
+    /// Whether there were sound flashes, flashes without a removable block, and others.
+    fn are_varied(&self) -> bool {
+        50 < self.full && self.full.saturating_add(50) < self.all && self.all < 390
+    }
+
     /// Counts one more flash.
     fn count(&mut self, refusal: Option<RecoverError>) {
         if refusal.is_some() {
@@ -293,12 +296,7 @@ fn is_judged(
 }
 
 /// Places records: as they come, or in blocks that are mostly full. Tells whether there was memory.
-fn are_placed(
-    seed: &mut u64,
-    protocol: Protocol,
-    is_full: bool,
-    items: &mut Vec<Placed>,
-) -> bool {
+fn are_placed(seed: &mut u64, protocol: Protocol, is_full: bool, items: &mut Vec<Placed>) -> bool {
     if is_full {
         place_full(seed, protocol, items).is_ok()
     } else {
@@ -347,10 +345,10 @@ fn recovery_agrees_with_the_plain_audit(rt: HostRuntime) {
     let mut refusals = Refusals { all: 0, full: 0 };
     let rounds = right_rounds(rt.alloc(), &mut refusals);
     assert!(rt; rounds == 200, "round {rounds}");
-    // sound lists are among them, lists without a removable block, and others
-    let Refusals { all, full } = refusals;
     assert!(rt;
-        50 < full && full.saturating_add(50) < all && all < 390,
-        "{full} of {all}"
+        refusals.are_varied(),
+        "{} of {}",
+        refusals.full,
+        refusals.all
     );
 }
