@@ -1,6 +1,6 @@
 //! Devices that are mounted, and mounted again after a power cut or a fault.
 
-ghost use Rattle.std.specs.Prelude.{◌≡◌, ◌×◌, false, IfSome, IsTrue, Ok};
+ghost use Rattle.std.specs.Prelude.{◌≡◌, false, IfSome, IsTrue, Ok};
 ghost use Rattle.tx_types.specs.Config.{checked};
 
 use super::calls::answer;
