@@ -17,7 +17,6 @@ use mem_flash::MemFlash;
 use record_list::CommitRule;
 use scan_recovery::recover;
 use std::alloc::Global;
-use std::mem::replace;
 use tx_types::{Block, Config, Slot};
 use version_index::Index;
 
@@ -249,8 +248,8 @@ fn reopen<R: CommitRule>(alloc: Global, kept: &mut Kept<R>) -> char
     let Ok((index, blocks)) = recover::<MemFlash, R>(alloc, &mut kept.flash, config) else {
         return IMPOSSIBLE;
     };
-    drop(replace(&mut kept.index, index));
-    drop(replace(&mut kept.blocks, blocks));
+    kept.index = index;
+    kept.blocks = blocks;
     kept.unsure = Unsure::Nothing;
     'o'
 }
